@@ -1,0 +1,73 @@
+-- Key words: the routing prefix, the rest and the hashed part are cuts of one list of bytes.
+use Rattle.std.specs.Prelude.{◌≡◌, ◌≢◌, ◌<◌, ◌≤◌, ℕ, ◌+◌, Bool, true, false, ◌&&◌, not, nat_le, nat_lt, ◌==◌, List, [], ◌∷◌, ◌++◌, length, take, drop, codes, if◌then◌else◌}
+use Rattle.std.specs.List.{list_all, starts_with}
+use Rattle.std.specs.Prelude.{nat_eq}
+use Rattle.mcv_base.specs.declared.key.KeyFault.{KeyFault}
+use Rattle.mcv_base.specs.declared.key.KeyFault.TheVariants.{Empty, TooLong, BadByte, NoRest}
+
+-- a byte of a key word: 33 to 126, or 128 to 255 (protocol.txt: no control characters and no white space)
+abbrev pub is_key_byte : ℕ → Bool
+is_key_byte b = nat_le 33 b && not (b == 127)
+
+-- 1 to 250 such bytes (protocol.txt)
+abbrev pub is_key_word : List ℕ → Bool
+is_key_word word = nat_lt 0 (length word) && (nat_le (length word) 250 && list_all is_key_byte word)
+
+-- the byte is not in the list
+abbrev pub lacks : ℕ → List ℕ → Bool
+lacks c bytes = list_all (λ b. not (b == c)) bytes
+
+abbrev pub slash : ℕ
+slash = 47
+
+-- what stands between two slashes of a routing prefix
+pub record IsName (name : List ℕ) : Type 0 where
+  pub some : name ≢ []
+  pub no_slash : lacks slash name ≡ true
+
+-- `/x/y/`: three slashes with a name between neighbours (mcrouter wiki, Routing Prefix; the shape is own)
+pub record IsRoutingPrefix (prefix : List ℕ) : Type 0 where
+  pub first : List ℕ
+  pub second : List ℕ
+  pub first_is : IsName first
+  pub second_is : IsName second
+  pub is : prefix ≡ slash ∷ first ++ slash ∷ second ++ slash ∷ []
+
+-- the prefix of key words that have none (own)
+abbrev pub default_prefix : List ℕ
+default_prefix = codes "/././"
+
+-- the word begins with no routing prefix
+abbrev pub IsUnrouted : List ℕ → Type 0
+IsUnrouted word = (prefix rest : List ℕ) → IsRoutingPrefix prefix → word ≢ prefix ++ rest
+
+-- the word is its routing prefix and then its rest; one without a routing prefix is its own rest, and belongs to the default prefix
+pub data IsCut (word prefix rest : List ℕ) : Type 0 where
+  routed : IsRoutingPrefix prefix → word ≡ prefix ++ rest → IsCut word prefix rest
+  unrouted : IsUnrouted word → prefix ≡ default_prefix → rest ≡ word → IsCut word prefix rest
+
+-- the word is no key, for this reason
+abbrev pub IsKeyFault : List ℕ → KeyFault → Type 0
+IsKeyFault word Empty = word ≡ []
+IsKeyFault word TooLong = 250 < length word
+IsKeyFault word BadByte = (word ≢ []) × (length word ≤ 250) × (list_all is_key_byte word ≡ false)
+IsKeyFault word NoRest = (is_key_word word ≡ true) × IsRoutingPrefix word
+
+-- `|#|` (mcrouter wiki: only what stands before it is hashed)
+abbrev pub separator : List ℕ
+separator = codes "|#|"
+
+-- what stands before the first `|#|`, or all where there is none
+abbrev pub hashed_part : List ℕ → List ℕ
+hashed_part [] = []
+hashed_part (b ∷ bytes) = if starts_with nat_eq (b ∷ bytes) separator then [] else b ∷ hashed_part bytes
+
+-- the bytes begin with a name and a slash, n bytes in all
+pub record IsNamed (bytes : List ℕ) (n : ℕ) : Type 0 where
+  pub name : List ℕ
+  pub name_is : IsName name
+  pub is : bytes ≡ name ++ slash ∷ drop n bytes
+  pub len : n ≡ length name + 1
+
+abbrev pub IsUnnamed : List ℕ → Type 0
+IsUnnamed bytes = (name more : List ℕ) → IsName name → bytes ≢ name ++ slash ∷ more

@@ -1,0 +1,217 @@
+//! Key words: the routing prefix, the rest and the hashed part.
+
+ghost use Rattle.std.specs.Prelude.{◌≡◌, ◌≤◌, ℕ, List, [], IfOk, OnOk, IfErr, IsTrue, MatchOption, false, true, ⊤, length, take};
+ghost use Rattle.std.specs.List.{list_all};
+ghost use Rattle.mcv_base.specs.Key.{IsCut, IsKeyFault, IsNamed, IsRoutingPrefix, IsUnnamed, IsUnrouted, hashed_part, is_key_byte, is_key_word};
+
+use arrayvec::ArrayVec;
+use memchr::{memchr, memmem};
+use std::marker::Model;
+use thiserror::Error;
+
+/// The most bytes of a key word.
+const KEY_LIMIT: usize = 250;
+
+/// The prefix of key words that name none.
+const DEFAULT_PREFIX: &[u8] = b"/././";
+
+/// Why a word is no key, in the order in which they are looked for.
+#[derive(Clone, Copy, Debug, PartialEq, Eq, Error)]
+pub enum KeyFault {
+    #[error("empty")]
+    Empty,
+    #[error("more than 250 bytes")]
+    TooLong,
+    #[error("a byte that no key has")]
+    BadByte,
+    #[error("nothing behind the routing prefix")]
+    NoRest,
+}
+
+impl KeyFault {
+    /// The number of the fault, from 1.
+    pub fn number(self) -> u8 {
+        match self {
+            KeyFault::Empty => 1,
+            KeyFault::TooLong => 2,
+            KeyFault::BadByte => 3,
+            KeyFault::NoRest => 4,
+        }
+    }
+}
+
+/// A routing prefix, `/x/y/`, held in place. Clauses see its bytes.
+#[derive(Debug, Drop)]
+pub struct Prefix {
+    bytes: ArrayVec<u8, 250>,
+}
+
+impl Model for Prefix {
+    ghost use Rattle.std.specs.Prelude.{List, ℕ};
+    ghost use Rattle.std.specs.Coded.{coded_ℕ, coded_list};
+
+    ghost Value = { List ℕ };
+
+    ghost coded = { coded_list coded_ℕ };
+
+    ghost view = { λ p. p.bytes.items };
+}
+
+/// What follows the routing prefix: 1 to 250 key bytes, held in place. Clauses see its bytes.
+#[derive(Debug, Drop)]
+pub struct Rest {
+    bytes: ArrayVec<u8, 250>,
+}
+
+impl Model for Rest {
+    ghost use Rattle.std.specs.Prelude.{List, ℕ, IsTrue};
+    ghost use Rattle.std.specs.Coded.{coded_ℕ, coded_list};
+    ghost use Rattle.mcv_base.specs.Key.{is_key_word};
+
+    ghost Value = { List ℕ };
+
+    ghost coded = { coded_list coded_ℕ };
+
+    ghost view = { λ r. r.bytes.items };
+
+    ghost invariant = { λ r. IsTrue (is_key_word r.bytes.items) };
+}
+
+impl Prefix {
+    /// The prefix of these bytes, at most 250.
+    pub fn of(bytes: &[u8]) -> Prefix
+        requires { length bytes.now ≤ 250 }
+        ensures { result ≡ bytes.now }
+    {
+        Prefix {
+            bytes: held(bytes),
+        }
+    }
+
+    /// Its bytes.
+    pub fn as_bytes(&self) -> &[u8]
+        ensures { result.now ≡ self.now }
+    {
+        self.bytes.as_slice()
+    }
+}
+
+impl Rest {
+    /// The rest of these bytes, if they are 1 to 250 key bytes.
+    pub fn of(bytes: &[u8]) -> Option<Rest>
+        ensures { MatchOption result (is_key_word bytes.now ≡ false) (λ rest. rest ≡ bytes.now) }
+    {
+        if is_key_word(bytes) {
+            Some(Rest {
+                bytes: held(bytes),
+            })
+        } else {
+            None
+        }
+    }
+
+    /// Its bytes.
+    pub fn as_bytes(&self) -> &[u8]
+        ensures value { result.now ≡ self.now }
+        ensures valid { IsTrue (is_key_word self.now) }
+    {
+        self.bytes.as_slice()
+    }
+}
+
+fn held(bytes: &[u8]) -> ArrayVec<u8, 250>
+    requires { length bytes.now ≤ 250 }
+    ensures { result.items ≡ bytes.now }
+{
+    let mut held = ArrayVec::new();
+    match held.try_extend_from_slice(bytes) {
+        Ok(()) => held,
+        Err(_) => unreachable!(),
+    }
+}
+
+/// The bytes up to and with the first slash, where something stands before it.
+fn name_len(bytes: &[u8]) -> Option<usize>
+    ensures named { MatchOption result (IsUnnamed bytes.now) (λ n. IsNamed bytes.now n) }
+    ensures within { MatchOption result ⊤ (λ n. n ≤ length bytes.now) }
+{
+    match memchr(b'/', bytes) {
+        None => None,
+        Some(0) => None,
+        Some(place) => Some(place + 1),
+    }
+}
+
+/// The number of bytes of the routing prefix, if the word has one.
+fn prefix_len(word: &[u8]) -> Option<usize>
+    ensures routed { MatchOption result (IsUnrouted word.now) (λ n. IsRoutingPrefix (take n word.now)) }
+    ensures within { MatchOption result ⊤ (λ n. n ≤ length word.now) }
+{
+    match word {
+        [b'/', bytes @ ..] => {
+            let first = name_len(bytes)?;
+            let second = name_len(&bytes[first..])?;
+            Some(1 + first + second)
+        }
+        _ => None,
+    }
+}
+
+fn has_key_bytes(word: &[u8]) -> bool
+    ensures { result ≡ list_all is_key_byte word.now }
+{
+    word.iter().all(|byte| *byte >= 33 && *byte != 127)
+}
+
+/// Whether the word has 1 to 250 key bytes.
+fn is_key_word(word: &[u8]) -> bool
+    ensures { result ≡ is_key_word word.now }
+{
+    !word.is_empty() && word.len() <= KEY_LIMIT && has_key_bytes(word)
+}
+
+/// The routing prefix and the rest of a key word. It takes no memory.
+pub fn split_key(word: &[u8]) -> Result<(Prefix, Rest), KeyFault>
+    ensures cut { IfOk result (λ key. IsCut word.now key.0 key.1) }
+    ensures word { OnOk result (is_key_word word.now ≡ true) }
+    ensures fault { IfErr result (IsKeyFault word.now) }
+{
+    if word.is_empty() {
+        return Err(KeyFault::Empty);
+    }
+    if word.len() > KEY_LIMIT {
+        return Err(KeyFault::TooLong);
+    }
+    if !has_key_bytes(word) {
+        return Err(KeyFault::BadByte);
+    }
+    let cut = prefix_len(word).unwrap_or(0);
+    let prefix = if cut == 0 { DEFAULT_PREFIX } else { &word[..cut] };
+    match Rest::of(&word[cut..]) {
+        Some(rest) => Ok((Prefix::of(prefix), rest)),
+        None => Err(KeyFault::NoRest),
+    }
+}
+
+/// What of a rest is hashed: that before the first `|#|`, or all. It takes no memory.
+pub fn hashed_part(rest: &Rest) -> &[u8]
+    ensures { result.now ≡ hashed_part rest.now }
+{
+    part_before(rest.as_bytes())
+}
+
+fn part_before(rest: &[u8]) -> &[u8]
+    ensures { result.now ≡ hashed_part rest.now }
+{
+    match memmem::find(rest, b"|#|") {
+        Some(place) => &rest[..place],
+        None => rest,
+    }
+}
+
+/// A key word has one routing prefix and one rest, and one that has no rest has no other reading.
+pub fn key_words_have_one_reading()
+    ensures one { (word prefix rest other more : List ℕ) → IsCut word prefix rest → IsCut word other more → (prefix ≡ other) × (rest ≡ more) }
+    ensures no_rest { (word prefix rest : List ℕ) → IsKeyFault word KeyFault.NoRest → IsCut word prefix rest → rest ≡ [] }
+{
+}

@@ -1,0 +1,85 @@
+//! The operations of memcached's classic text protocol, and the marks of legs.
+
+ghost use Rattle.std.specs.Prelude.{◌≡◌, ◌≢◌, MatchOption};
+ghost use Rattle.mcv_base.specs.Operation.{is_reading, is_same_op, op_name};
+
+/// An operation of the classic text protocol (memcached's `protocol.txt`) that routes know.
+#[derive(Clone, Copy, Debug, PartialEq, Eq)]
+pub enum Op {
+    Get,
+    Gets,
+    Set,
+    Add,
+    Replace,
+    Append,
+    Prepend,
+    Cas,
+    Delete,
+    Touch,
+}
+
+/// Why a leg is sent: all but `Shadow` are counted when deletes are acknowledged.
+#[derive(Clone, Copy, Debug, PartialEq, Eq)]
+pub enum Mark {
+    /// Its reply may be waited for.
+    Plain,
+    /// No reply waits for it.
+    Async,
+    /// A copy for a shadow pool. It is not counted.
+    Shadow,
+    /// The add by which a warm-up fills its cold side.
+    Add,
+}
+
+impl Op {
+    /// The first word of its request line.
+    pub fn name(self) -> &'static str
+        ensures { result.now ≡ op_name self }
+    {
+        match self {
+            Op::Get => "get",
+            Op::Gets => "gets",
+            Op::Set => "set",
+            Op::Add => "add",
+            Op::Replace => "replace",
+            Op::Append => "append",
+            Op::Prepend => "prepend",
+            Op::Cas => "cas",
+            Op::Delete => "delete",
+            Op::Touch => "touch",
+        }
+    }
+
+    /// The operation with this name, if there is one.
+    pub fn named(name: &[u8]) -> Option<Op>
+        ensures { MatchOption result ((op : Op) → op_name op ≢ name.now) (λ op. op_name op ≡ name.now) }
+    {
+        match name {
+            b"get" => Some(Op::Get),
+            b"gets" => Some(Op::Gets),
+            b"set" => Some(Op::Set),
+            b"add" => Some(Op::Add),
+            b"replace" => Some(Op::Replace),
+            b"append" => Some(Op::Append),
+            b"prepend" => Some(Op::Prepend),
+            b"cas" => Some(Op::Cas),
+            b"delete" => Some(Op::Delete),
+            b"touch" => Some(Op::Touch),
+            _ => None,
+        }
+    }
+
+    /// Whether the two are one operation.
+    pub fn is(self, other: Op) -> bool
+        ensures { result ≡ is_same_op self other }
+    {
+        self == other
+    }
+
+    /// Whether it reads a value: get and gets.
+    pub fn is_reading(self) -> bool
+        ensures { result ≡ is_reading self }
+    {
+        matches!(self, Op::Get | Op::Gets)
+    }
+}

@@ -1,0 +1,54 @@
+//! Requests of clients and of legs, and the numbers that name what they touch.
+
+use crate::key::Rest;
+use crate::operation::Op;
+use std::sync::Arc;
+
+/// The number of a call, rising from 0.
+#[derive(Clone, Copy, Debug, PartialEq, Eq, PartialOrd, Ord)]
+pub struct CallId(pub u64);
+
+/// The number of a leg, rising from 0.
+#[derive(Clone, Copy, Debug, PartialEq, Eq, PartialOrd, Ord)]
+pub struct LegId(pub u64);
+
+/// The number of a server in the table of servers.
+#[derive(Clone, Copy, Debug, PartialEq, Eq, PartialOrd, Ord)]
+pub struct ServerId(pub u32);
+
+/// A moment, in seconds.
+#[derive(Clone, Copy, Debug, PartialEq, Eq, PartialOrd, Ord)]
+pub struct Moment(pub u64);
+
+/// What a client asks servers. Fields that the operation hasn't are 0, empty or None.
+#[derive(Debug, Drop)]
+pub struct Ask {
+    pub op: Op,
+    /// The key words, as the client wrote them: one, or for get and gets one or more.
+    pub keys: Vec<Vec<u8>>,
+    pub flags: u32,
+    /// Seconds, or a moment, as memcached takes it; negative is at once.
+    pub exptime: i64,
+    pub body: Arc<Vec<u8>>,
+    pub cas: Option<u64>,
+    pub noreply: bool,
+}
+
+/// A request of a client.
+#[derive(Debug, Drop)]
+pub enum Request {
+    Ask(Ask),
+    Version,
+    Quit,
+}
+
+/// What one leg asks its server. Fields that the operation hasn't are 0, empty or None.
+#[derive(Debug, Drop)]
+pub struct LegRequest {
+    pub op: Op,
+    pub rest: Arc<Rest>,
+    pub flags: u32,
+    pub exptime: i64,
+    pub body: Arc<Vec<u8>>,
+    pub cas: Option<u64>,
+}
