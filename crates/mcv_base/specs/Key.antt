@@ -1,7 +1,6 @@
 -- Key words: the routing prefix, the rest and the hashed part are cuts of one list of bytes.
 use Rattle.std.specs.Prelude.{◌≡◌, ◌≢◌, ◌<◌, ◌≤◌, ℕ, ◌+◌, Bool, true, false, ◌&&◌, not, nat_le, nat_lt, ◌==◌, List, [], ◌∷◌, ◌++◌, length, take, drop, codes, if◌then◌else◌}
-use Rattle.std.specs.List.{list_all, starts_with}
-use Rattle.std.specs.Prelude.{nat_eq}
+use Rattle.std.specs.List.{list_all}
 use Rattle.mcv_base.specs.declared.key.KeyFault.{KeyFault}
 use Rattle.mcv_base.specs.declared.key.KeyFault.TheVariants.{Empty, TooLong, BadByte, NoRest}
 
@@ -57,10 +56,16 @@ IsKeyFault word NoRest = (is_key_word word ≡ true) × IsRoutingPrefix word
 abbrev pub separator : List ℕ
 separator = codes "|#|"
 
+-- the word begins with this prefix
+abbrev pub begins_with : List ℕ → List ℕ → Bool
+begins_with word [] = true
+begins_with [] (p ∷ prefix) = false
+begins_with (w ∷ word) (p ∷ prefix) = (w == p) && begins_with word prefix
+
 -- what stands before the first `|#|`, or all where there is none
 abbrev pub hashed_part : List ℕ → List ℕ
 hashed_part [] = []
-hashed_part (b ∷ bytes) = if starts_with nat_eq (b ∷ bytes) separator then [] else b ∷ hashed_part bytes
+hashed_part (b ∷ bytes) = if begins_with (b ∷ bytes) separator then [] else b ∷ hashed_part bytes
 
 -- the bytes begin with a name and a slash, n bytes in all
 pub record IsNamed (bytes : List ℕ) (n : ℕ) : Type 0 where

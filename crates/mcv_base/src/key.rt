@@ -83,9 +83,7 @@ impl Prefix {
         requires { length bytes.now ≤ 250 }
         ensures { result ≡ bytes.now }
     {
-        Prefix {
-            bytes: held(bytes),
-        }
+        Prefix { bytes: held(bytes) }
     }
 
     /// Its bytes.
@@ -102,9 +100,7 @@ impl Rest {
         ensures { MatchOption result (is_key_word bytes.now ≡ false) (λ rest. rest ≡ bytes.now) }
     {
         if is_key_word(bytes) {
-            Some(Rest {
-                bytes: held(bytes),
-            })
+            Some(Rest { bytes: held(bytes) })
         } else {
             None
         }
@@ -147,14 +143,13 @@ fn prefix_len(word: &[u8]) -> Option<usize>
     ensures routed { MatchOption result (IsUnrouted word.now) (λ n. IsRoutingPrefix (take n word.now)) }
     ensures within { MatchOption result ⊤ (λ n. n ≤ length word.now) }
 {
-    match word {
-        [b'/', bytes @ ..] => {
-            let first = name_len(bytes)?;
-            let second = name_len(&bytes[first..])?;
-            Some(1 + first + second)
-        }
-        _ => None,
+    let (byte, bytes) = word.split_first()?;
+    if *byte != b'/' {
+        return None;
     }
+    let first = name_len(bytes)?;
+    let second = name_len(&bytes[first..])?;
+    Some(1 + first + second)
 }
 
 fn has_key_bytes(word: &[u8]) -> bool
@@ -186,7 +181,11 @@ pub fn split_key(word: &[u8]) -> Result<(Prefix, Rest), KeyFault>
         return Err(KeyFault::BadByte);
     }
     let cut = prefix_len(word).unwrap_or(0);
-    let prefix = if cut == 0 { DEFAULT_PREFIX } else { &word[..cut] };
+    let prefix = if cut == 0 {
+        DEFAULT_PREFIX
+    } else {
+        &word[..cut]
+    };
     match Rest::of(&word[cut..]) {
         Some(rest) => Ok((Prefix::of(prefix), rest)),
         None => Err(KeyFault::NoRest),
@@ -213,5 +212,4 @@ fn part_before(rest: &[u8]) -> &[u8]
 pub fn key_words_have_one_reading()
     ensures one { (word prefix rest other more : List ℕ) → IsCut word prefix rest → IsCut word other more → (prefix ≡ other) × (rest ≡ more) }
     ensures no_rest { (word prefix rest : List ℕ) → IsKeyFault word KeyFault.NoRest → IsCut word prefix rest → rest ≡ [] }
-{
-}
+{}

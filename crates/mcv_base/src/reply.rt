@@ -3,8 +3,7 @@
 ghost use Rattle.std.specs.Prelude.{◌≡◌, IfOk, IsOk, IsTrue};
 ghost use Rattle.mcv_base.specs.Reply.{fixed_value, is_small, outcome_of, part_value, reply_value};
 
-use std::alloc::AllocError;
-use std::alloc::Global;
+use std::alloc::{AllocError, Global};
 use std::sync::Arc;
 
 /// What a reply amounts to for the handles of a route.
@@ -89,9 +88,8 @@ impl FixedReply {
     {
         match self {
             FixedReply::Stored | FixedReply::Deleted | FixedReply::Touched => Outcome::Good,
-            FixedReply::Miss | FixedReply::NotFound | FixedReply::NotStored | FixedReply::Exists => {
-                Outcome::Soft
-            }
+            FixedReply::Miss | FixedReply::NotFound | FixedReply::NotStored | FixedReply::Exists =>
+                { Outcome::Soft }
             FixedReply::ErrorRoute | FixedReply::Lost => Outcome::Error,
         }
     }
@@ -125,7 +123,10 @@ impl Parts {
             Reply::NotFound => Ok(Parts::fixed(FixedReply::NotFound)),
             Reply::Deleted => Ok(Parts::fixed(FixedReply::Deleted)),
             Reply::Touched => Ok(Parts::fixed(FixedReply::Touched)),
-            Reply::Hit { flags, cas, body } => Parts::shared(alloc, Reply::Hit { flags, cas, body }),
+            Reply::Hit { flags, cas, body } => Parts::shared(
+                alloc,
+                Reply::Hit { flags, cas, body },
+            ),
             Reply::Fault(line) => Parts::shared(alloc, Reply::Fault(line)),
         }
     }
