@@ -1,0 +1,109 @@
+-- The definitions at small trees.
+use Rattle.std.proofs.Common.{◌≡◌, ℕ, List, [], ◌∷◌, Some, None, refl}
+use Rattle.mcv_base.specs.declared.operation.Op.TheVariants.{Get, Set, Add, Delete}
+use Rattle.mcv_base.specs.declared.operation.Op.{Op}
+use Rattle.mcv_base.specs.declared.operation.Mark.{Mark}
+use Rattle.mcv_base.specs.declared.operation.Mark.TheVariants.{Plain, Async, Shadow}
+use Rattle.mcv_base.specs.declared.operation.Mark.TheVariants.{Add as Added}
+use Rattle.mcv_base.specs.declared.reply.Outcome.TheVariants.{Good, Soft, Error}
+use Rattle.mcv_route.specs.Outcomes.{Choice, outcomes}
+use Rattle.mcv_route.specs.Tree.{Tree, Trees, pool, null, all_sync, all_initial, all_async, failover, warm_up, migrate, prefix_selector, operation_selector, none, child}
+use Rattle.mcv_route.specs.Situation.{Situation, asked}
+use Rattle.mcv_route.specs.Replies.{leg, fixed, refusal, replies}
+use Rattle.mcv_route.specs.declared.launch.Launch.{Launch}
+use Rattle.mcv_route.specs.Launched.{launched}
+use Rattle.mcv_route.specs.Reply.{reply}
+
+-- a pool of one server
+abbrev one : ℕ → Tree
+one n = pool (record { symbol = 0; servers = n ∷ [] }) [] none
+
+abbrev two : Tree → Tree → Trees
+two t u = child t (child u none)
+
+abbrev first : Choice
+first s = 0
+
+abbrev at : List ℕ → ℕ → Op → Mark → Launch
+at p x op m = record { position = p; server = record { 0 = x }; op = op; mark = m }
+
+abbrev delete : Situation
+delete = asked Delete (97 ∷ []) None
+
+abbrev get : Situation
+get = asked Get (97 ∷ []) None
+
+failover_first : launched (failover (two (one 7) (one 8))) delete first (outcomes []) ≡ at (0 ∷ []) 7 Delete Plain ∷ []
+failover_first = refl
+
+failover_second : launched (failover (two (one 7) (one 8))) delete first (outcomes ((0 ∷ [], Error) ∷ [])) ≡ at (0 ∷ []) 7 Delete Plain ∷ at (1 ∷ []) 8 Delete Plain ∷ []
+failover_second = refl
+
+failover_soft : launched (failover (two (one 7) (one 8))) delete first (outcomes ((0 ∷ [], Soft) ∷ [])) ≡ at (0 ∷ []) 7 Delete Plain ∷ []
+failover_soft = refl
+
+initial_marks : launched (all_initial (two (one 7) (all_initial (two (one 8) (one 9))))) delete first (outcomes []) ≡ at (0 ∷ []) 7 Delete Plain ∷ at (1 ∷ 0 ∷ []) 8 Delete Async ∷ at (1 ∷ 1 ∷ []) 9 Delete Async ∷ []
+initial_marks = refl
+
+initial_reply : replies (all_initial (two (one 7) (one 8))) delete (outcomes ((1 ∷ [], Good) ∷ [])) ≡ []
+initial_reply = refl
+
+async_reply : replies (all_async (two (one 7) (one 8))) delete (outcomes []) ≡ record { outcome = Soft; source = fixed } ∷ []
+async_reply = refl
+
+shadow_inside : launched (pool (record { symbol = 0; servers = 7 ∷ 8 ∷ [] }) (record { first = 0; last = 0 } ∷ []) (child (one 9) none)) delete first (outcomes []) ≡ at [] 7 Delete Plain ∷ at (0 ∷ []) 9 Delete Shadow ∷ []
+shadow_inside = refl
+
+shadow_outside : launched (pool (record { symbol = 0; servers = 7 ∷ 8 ∷ [] }) (record { first = 0; last = 0 } ∷ []) (child (one 9) none)) delete (λ s. 1) (outcomes []) ≡ at [] 8 Delete Plain ∷ []
+shadow_outside = refl
+
+warm_up_all : launched (warm_up (one 7) (one 8) 60) get first (outcomes ((1 ∷ [], Good) ∷ (0 ∷ [], Soft) ∷ [])) ≡ at (0 ∷ []) 7 Get Plain ∷ at (1 ∷ []) 8 Get Plain ∷ at (2 ∷ []) 7 Add Added ∷ []
+warm_up_all = refl
+
+warm_up_set : launched (warm_up (one 7) (one 8) 60) (asked Set [] None) first (outcomes []) ≡ at (0 ∷ []) 7 Set Plain ∷ []
+warm_up_set = refl
+
+migrate_both : launched (migrate (one 7) (one 8) 100 10) (asked Delete [] (Some 100)) first (outcomes []) ≡ at (0 ∷ []) 7 Delete Plain ∷ at (1 ∷ []) 8 Delete Plain ∷ []
+migrate_both = refl
+
+migrate_before : launched (migrate (one 7) (one 8) 100 10) (asked Delete [] (Some 99)) first (outcomes []) ≡ at (0 ∷ []) 7 Delete Plain ∷ []
+migrate_before = refl
+
+migrate_get_from : launched (migrate (one 7) (one 8) 100 10) (asked Get [] (Some 109)) first (outcomes []) ≡ at (0 ∷ []) 7 Get Plain ∷ []
+migrate_get_from = refl
+
+migrate_get_to : launched (migrate (one 7) (one 8) 100 10) (asked Get [] (Some 110)) first (outcomes []) ≡ at (1 ∷ []) 8 Get Plain ∷ []
+migrate_get_to = refl
+
+migrate_all_to : launched (migrate (one 7) (one 8) 100 10) (asked Delete [] (Some 120)) first (outcomes []) ≡ at (1 ∷ []) 8 Delete Plain ∷ []
+migrate_all_to = refl
+
+longest_prefix : launched (prefix_selector ((97 ∷ []) ∷ (97 ∷ 98 ∷ []) ∷ []) (child (one 7) (child (one 8) (child (one 9) none)))) (asked Get (97 ∷ 98 ∷ 99 ∷ []) None) first (outcomes []) ≡ at (1 ∷ []) 8 Get Plain ∷ []
+longest_prefix = refl
+
+wildcard : launched (prefix_selector ((97 ∷ []) ∷ []) (two (one 7) (one 8))) (asked Get (98 ∷ []) None) first (outcomes []) ≡ at (1 ∷ []) 8 Get Plain ∷ []
+wildcard = refl
+
+no_wildcard : replies (prefix_selector ((97 ∷ []) ∷ []) (child (one 7) none)) (asked Get (98 ∷ []) None) (outcomes []) ≡ record { outcome = Error; source = refusal } ∷ []
+no_wildcard = refl
+
+operation : launched (operation_selector (Some Delete ∷ []) (two (one 7) (one 8))) delete first (outcomes []) ≡ at (0 ∷ []) 7 Delete Plain ∷ []
+operation = refl
+
+-- an inner AllSyncRoute comes when it is complete, though its answer came first of all
+inner_is_last : reply (all_sync (two (all_sync (two (one 7) (one 8))) (one 9))) delete ((0 ∷ 1 ∷ [], Good) ∷ (1 ∷ [], Soft) ∷ (0 ∷ 0 ∷ [], Soft) ∷ []) ≡ Some (record { outcome = Soft; source = leg (0 ∷ 0 ∷ []) })
+inner_is_last = refl
+
+inner_is_first : reply (all_sync (two (all_sync (two (one 7) (one 8))) (one 9))) delete ((1 ∷ [], Soft) ∷ (0 ∷ 1 ∷ [], Good) ∷ (0 ∷ 0 ∷ [], Soft) ∷ []) ≡ Some (record { outcome = Soft; source = leg (1 ∷ []) })
+inner_is_first = refl
+
+-- of three, the first came last among the worst
+three : reply (all_sync (child (one 7) (two (one 8) (one 9)))) delete ((0 ∷ [], Soft) ∷ (2 ∷ [], Good) ∷ (1 ∷ [], Soft) ∷ []) ≡ Some (record { outcome = Soft; source = leg (0 ∷ []) })
+three = refl
+
+not_yet : reply (all_sync (child (one 7) (two (one 8) (one 9)))) delete ((2 ∷ [], Error) ∷ (1 ∷ [], Soft) ∷ []) ≡ None
+not_yet = refl
+
+-- replies at once count as coming in the order of the children
+at_once : reply (all_sync (two (all_async none) null)) delete [] ≡ Some (record { outcome = Soft; source = fixed })
+at_once = refl

@@ -1,0 +1,9 @@
+pub mod Outcomes
+pub mod Tree
+pub mod WellFormed
+pub mod Situation
+pub mod Children
+pub mod Replies
+pub mod Launched
+pub mod Reply
+pub mod Verdict

@@ -1,0 +1,6 @@
+//! The tree of a route.
+#![tactic(auto)]
+
+mod launch;
+
+pub use launch::{Answered, Launch};
