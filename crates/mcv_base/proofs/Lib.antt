@@ -1,3 +1,4 @@
 pub mod Cuts
 pub mod Prefixes
 pub mod Hashed
+pub mod Texts

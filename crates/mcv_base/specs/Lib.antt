@@ -1,3 +1,4 @@
 pub mod Operation
 pub mod Reply
 pub mod Key
+pub mod Position

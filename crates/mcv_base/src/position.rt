@@ -1,8 +1,10 @@
 //! Places in the tree of a route.
 
-ghost use Rattle.std.specs.Prelude.{◌≡◌, ◌++◌, ◌∷◌, [], IfOk};
+ghost use Rattle.std.specs.Prelude.{◌≡◌, ◌++◌, ◌∷◌, [], IfOk, OnOk};
 ghost use Rattle.std.specs.Str.{bytes_eq};
+ghost use Rattle.mcv_base.specs.Position.{position_text};
 
+use itoa::Buffer;
 use std::alloc::{AllocError, Global};
 use std::marker::Model;
 
@@ -72,4 +74,28 @@ impl Position {
     {
         self.steps.as_slice() == other.steps.as_slice()
     }
+
+    /// Adds its text: the child numbers joined with dots, `-` for the root. On an error part of it may be there.
+    pub fn push_text(&self, text: &mut Vec<u8>) -> Result<(), AllocError>
+        ensures { OnOk result (text.new.items ≡ text.old.items ++ position_text self.now) }
+    {
+        push_steps(text, self.steps.as_slice())
+    }
+}
+
+#[tactic(auto, using(crate::proofs::Texts::flat_map_step))]
+fn push_steps(text: &mut Vec<u8>, steps: &[usize]) -> Result<(), AllocError>
+    ensures { OnOk result (text.new.items ≡ text.old.items ++ position_text steps.now) }
+{
+    let mut buffer = Buffer::new();
+    let Some((first, others)) = steps.split_first() else {
+        text.extend_from_slice(b"-")?;
+        return Ok(());
+    };
+    text.extend_from_slice(buffer.format(*first).as_bytes())?;
+    for child in others {
+        text.extend_from_slice(b".")?;
+        text.extend_from_slice(buffer.format(*child).as_bytes())?;
+    }
+    Ok(())
 }
