@@ -52,6 +52,12 @@ IsKeyFault word TooLong = 250 < length word
 IsKeyFault word BadByte = (word ≢ []) × (length word ≤ 250) × (list_all is_key_byte word ≡ false)
 IsKeyFault word NoRest = (is_key_word word ≡ true) × IsRoutingPrefix word
 
+abbrev pub key_fault_number : KeyFault → ℕ
+key_fault_number Empty = 1
+key_fault_number TooLong = 2
+key_fault_number BadByte = 3
+key_fault_number NoRest = 4
+
 -- `|#|` (mcrouter wiki: only what stands before it is hashed)
 abbrev pub separator : List ℕ
 separator = codes "|#|"

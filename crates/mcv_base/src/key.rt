@@ -2,7 +2,7 @@
 
 ghost use Rattle.std.specs.Prelude.{◌≡◌, ◌≤◌, ℕ, List, [], IfOk, OnOk, IfErr, IsTrue, MatchOption, false, true, ⊤, length, take};
 ghost use Rattle.std.specs.List.{list_all};
-ghost use Rattle.mcv_base.specs.Key.{IsCut, IsKeyFault, IsNamed, IsRoutingPrefix, IsUnnamed, IsUnrouted, hashed_part, is_key_byte, is_key_word};
+ghost use Rattle.mcv_base.specs.Key.{IsCut, IsKeyFault, IsNamed, IsRoutingPrefix, IsUnnamed, IsUnrouted, hashed_part, is_key_byte, is_key_word, key_fault_number};
 
 use arrayvec::ArrayVec;
 use memchr::{memchr, memmem};
@@ -19,24 +19,21 @@ const DEFAULT_PREFIX: &[u8] = b"/././";
 #[derive(Clone, Copy, Debug, PartialEq, Eq, Error)]
 pub enum KeyFault {
     #[error("empty")]
-    Empty,
+    Empty = 1,
     #[error("more than 250 bytes")]
-    TooLong,
+    TooLong = 2,
     #[error("a byte that no key has")]
-    BadByte,
+    BadByte = 3,
     #[error("nothing behind the routing prefix")]
-    NoRest,
+    NoRest = 4,
 }
 
 impl KeyFault {
     /// The number of the fault, from 1.
-    pub fn number(self) -> u8 {
-        match self {
-            KeyFault::Empty => 1,
-            KeyFault::TooLong => 2,
-            KeyFault::BadByte => 3,
-            KeyFault::NoRest => 4,
-        }
+    pub fn number(self) -> u8
+        ensures { result ≡ key_fault_number self }
+    {
+        self as u8
     }
 }
 
@@ -60,7 +57,7 @@ impl Model for Prefix {
 /// What follows the routing prefix: 1 to 250 key bytes, held in place. Clauses see its bytes.
 #[derive(Debug, Drop)]
 pub struct Rest {
-    bytes: ArrayVec<u8, 250>,
+    word: ArrayVec<u8, 250>,
 }
 
 impl Model for Rest {
@@ -72,9 +69,9 @@ impl Model for Rest {
 
     ghost coded = { coded_list coded_ℕ };
 
-    ghost view = { λ r. r.bytes.items };
+    ghost view = { λ r. r.word.items };
 
-    ghost invariant = { λ r. IsTrue (is_key_word r.bytes.items) };
+    ghost invariant = { λ r. IsTrue (is_key_word r.word.items) };
 }
 
 impl Prefix {
@@ -100,7 +97,7 @@ impl Rest {
         ensures { MatchOption result (is_key_word bytes.now ≡ false) (λ rest. rest ≡ bytes.now) }
     {
         if is_key_word(bytes) {
-            Some(Rest { bytes: held(bytes) })
+            Some(Rest { word: held(bytes) })
         } else {
             None
         }
@@ -111,7 +108,7 @@ impl Rest {
         ensures value { result.now ≡ self.now }
         ensures valid { IsTrue (is_key_word self.now) }
     {
-        self.bytes.as_slice()
+        self.word.as_slice()
     }
 }
 

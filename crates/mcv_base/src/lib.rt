@@ -15,3 +15,6 @@ pub use operation::{Mark, Op};
 pub use position::Position;
 pub use reply::{FixedReply, Outcome, Part, Parts, Reply};
 pub use request::{Ask, CallId, LegId, LegRequest, Moment, Request, ServerId};
+
+#[cfg(test)]
+mod tests;

@@ -1,0 +1,43 @@
+-- The definitions at small words.
+use Rattle.std.proofs.Common.{◌≡◌, ◌≢◌, ◌++◌, ℕ, List, [], ◌∷◌, true, false, refl, codes}
+use Rattle.mcv_base.specs.Key.{IsCut, IsName, IsRoutingPrefix, IsKeyFault, default_prefix, hashed_part, is_key_word}
+use Rattle.mcv_base.specs.Position.{position_text}
+use Rattle.mcv_base.specs.declared.key.KeyFault.TheVariants.{NoRest}
+use Rattle.mcv_base.proofs.Prefixes.{unrouted_by_byte, one_reading}
+
+a_name : IsName (codes "a")
+a_name = record { some = λ e. cc; no_slash = refl }
+
+b_name : IsName (codes "b")
+b_name = record { some = λ e. cc; no_slash = refl }
+
+a_and_b : IsRoutingPrefix (codes "/a/b/")
+a_and_b = record { first = codes "a"; second = codes "b"; first_is = a_name; second_is = b_name; is = refl }
+
+-- what follows the third slash is the rest, further slashes too
+routed : IsCut (codes "/a/b/c/d") (codes "/a/b/") (codes "c/d")
+routed = IsCut.routed a_and_b refl
+
+plain : IsCut (codes "a") default_prefix (codes "a")
+plain = IsCut.unrouted (unrouted_by_byte 97 [] (λ e. cc)) refl refl
+
+nothing_behind_the_prefix : IsKeyFault (codes "/a/b/") NoRest
+nothing_behind_the_prefix = (refl, a_and_b)
+
+before_the_separator : hashed_part (codes "ab|#|c") ≡ codes "ab"
+before_the_separator = refl
+
+separator_in_front : hashed_part (codes "|#|c") ≡ []
+separator_in_front = refl
+
+first_of_two : hashed_part (codes "a|#|b|#|c") ≡ codes "a"
+first_of_two = refl
+
+no_separator : hashed_part (codes "ab|#c") ≡ codes "ab|#c"
+no_separator = refl
+
+a_blank_is_no_key_byte : is_key_word (codes "a b") ≡ false
+a_blank_is_no_key_byte = refl
+
+root : position_text [] ≡ codes "-"
+root = refl
