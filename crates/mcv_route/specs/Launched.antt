@@ -46,8 +46,8 @@ abbrev mutual
   launched (warm_up cold warm exptime) s c o =
       if is_reading s.op
       then launched cold (under 0 s) c o
-        ++ once is_missed (replies cold (under 0 s) o) (launched warm (under 1 s) c o
-        ++ once is_good (replies warm (under 1 s) o) (launched cold (under 2 (adding s)) c o))
+      ++ once is_missed (replies cold (under 0 s) o) (launched warm (under 1 s) c o
+      ++ once is_good (replies warm (under 1 s) o) (launched cold (under 2 (adding s)) c o))
       else launched cold (under 0 s) c o
   launched (migrate from to start interval) s c o =
       by_way (way_of s start interval) (launched from (under 0 s) c o) (launched to (under 1 s) c o)
