@@ -1,0 +1,4 @@
+//! The program `mcv`.
+#![tactic(auto)]
+
+fn main(_rt: HostRuntime) {}

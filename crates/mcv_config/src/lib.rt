@@ -1,0 +1,2 @@
+//! The configuration text, and the routes that it names.
+#![tactic(auto)]

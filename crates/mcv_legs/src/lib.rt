@@ -1,0 +1,2 @@
+//! A request line and a configuration in, legs out.
+#![tactic(auto)]

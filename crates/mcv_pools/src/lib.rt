@@ -1,0 +1,2 @@
+//! Servers, symbols, hashes and the choices that a hash makes.
+#![tactic(auto)]

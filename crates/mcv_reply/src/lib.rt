@@ -1,0 +1,2 @@
+//! What a server says to a leg.
+#![tactic(auto)]

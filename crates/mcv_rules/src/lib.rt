@@ -1,0 +1,2 @@
+//! What a call has sent, and what it replies.
+#![tactic(auto)]

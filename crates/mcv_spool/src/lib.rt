@@ -1,0 +1,2 @@
+//! The spool file.
+#![tactic(auto)]

@@ -1,0 +1,2 @@
+//! The requests of the classic text protocol.
+#![tactic(auto)]
