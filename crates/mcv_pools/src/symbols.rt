@@ -40,7 +40,6 @@ impl Symbols {
         ensures number { IfOk result (λ i. number_in same_symbol self.new symbol ≡ Some i) }
         ensures place { IfOk result (λ i. slice_get self.new i ≡ Some symbol) }
         ensures unchanged { OnErr result (self.new ≡ self.old) }
-        ensures one_to_one { IsOneToOne self.new }
     {
         let (number, _) = self.symbols.insert_full(symbol)?;
         Ok(number)
