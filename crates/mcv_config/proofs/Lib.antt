@@ -1,0 +1,5 @@
+pub mod Faults
+pub mod Levels
+pub mod Turns
+pub mod Lists
+pub mod Colon

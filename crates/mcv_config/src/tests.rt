@@ -1,0 +1,6 @@
+use super::*;
+use std::alloc::Global;
+use std::test::Fail;
+
+#[test]
+fn stub() {}
