@@ -40,6 +40,7 @@ pub(crate) fn fault(alloc: Global, kind: FaultKind, trail: &Trail<'_>) -> Config
         Err(_) => ConfigFault::Memory,
     }
 }
+
 fn push_trail(text: &mut String, trail: &Trail<'_>) -> Result<(), AllocError>
     ensures { OnOk result (string_bytes text.new ≡ string_bytes text.old ++ path_of trail.now) }
 {
