@@ -1,5 +1,5 @@
 -- What holds of all that reading can give.
-use Rattle.std.proofs.Common.{◌≡◌, Bool, true, false, cond, refl, rules}
+use Rattle.std.proofs.Common.{◌≡◌, Bool, true, false, cond, refl}
 use Rattle.mcv_config.specs.Fault.{Read, good, bad, ◌>>=◌, also}
 
 abbrev pub Holds : {A : Type 0} → (A → Type 0) → Read A → Type 0

@@ -1,7 +1,6 @@
 -- The items of an array as a list.
 use Rattle.std.proofs.Common.{◌≡◌, ℕ, ◌<◌, ◌≤◌, lt-ltb, le-ltb, ltb, true, false, List, [], ◌∷◌, map, length, refl, ap, ◌∙◌, arith}
 use Rattle.std.proofs.lemmas.List.{length-map}
-use Rattle.serde_json.specs.Data.{Data}
 use Rattle.serde_json.specs.declared.value.Value.{Value}
 use Rattle.serde_json.specs.View.{view, items_view}
 use Rattle.mcv_config.specs.declared.fault.FaultKind.TheVariants.{Empty, Limit}

@@ -1,5 +1,5 @@
 -- Every plan that a value names is sound.
-use Rattle.std.proofs.Common.{◌≡◌, ℕ, zero, suc, ◌<◌, List, [], ◌∷◌, length, get_or, Option, Some, None, Ok, Err, Result, IfOk, bytes_eq, codes, refl, subst, arith, rules}
+use Rattle.std.proofs.Common.{ℕ, zero, suc, List, Option, Some, None, Ok, Err, Result, IfOk, bytes_eq, codes, subst, arith}
 use Rattle.std.specs.List.{All}
 use Rattle.std.specs.Cmp.Lexicographic.{bytes_decides}
 use Rattle.serde_json.specs.Data.{Data, Members}
@@ -9,7 +9,7 @@ use Rattle.mcv_config.specs.declared.config.Config.{Config}
 use Rattle.mcv_config.specs.declared.fault.ConfigFault.{ConfigFault}
 use Rattle.mcv_config.specs.declared.handle.Object.TheVariants as objects
 use Rattle.mcv_config.specs.Config.{depth_limit, node_limit, plan_of_members, plan_read, plan_with, root}
-use Rattle.mcv_config.specs.Fault.{Read, good, Gives}
+use Rattle.mcv_config.specs.Fault.{Gives}
 use Rattle.mcv_config.specs.Handles.{key_fault, keys_read}
 use Rattle.mcv_config.specs.Lists.{required}
 use Rattle.mcv_config.specs.Path.{key_step}

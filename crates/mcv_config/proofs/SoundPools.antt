@@ -1,5 +1,5 @@
 -- The pools that are read are sound, and so is the table of their servers.
-use Rattle.std.proofs.Common.{◌≡◌, ℕ, zero, suc, ◌+◌, ◌<◌, ◌≤◌, ◌==◌, ◌&&◌, not, nat_lt, Bool, true, false, cond, List, [], ◌∷◌, ◌++◌, length, get_or, Option, Some, None, unwrap_or, fold, bytes_eq, codes, refl, sym, ap, ◌∙◌, true≢false, arith, rules, length-append, ⊤}
+use Rattle.std.proofs.Common.{◌≡◌, ℕ, zero, suc, ◌+◌, ◌<◌, ◌≤◌, nat_lt, Bool, true, false, cond, List, [], ◌∷◌, ◌++◌, length, get_or, Option, Some, None, fold, bytes_eq, codes, refl, sym, ap, ◌∙◌, true≢false, arith, length-append, ◌||◌}
 use Rattle.std.specs.List.{All, AllByRecursion, IsDistinct, list_any}
 use Rattle.std.specs.Cmp.Lexicographic.{bytes_decides}
 use Rattle.std.proofs.lemmas.List.Quantifiers.{position-Some}
@@ -8,7 +8,7 @@ use Rattle.serde_json.specs.Find.{get, as_str, as_array, as_object}
 use Rattle.mcv_pools.specs.Table.{is_in, number_in, numbered, with_entry}
 use Rattle.mcv_pools.proofs.Tables.{kept, new, grown, numbered_last}
 use Rattle.mcv_config.specs.declared.handle.Object.TheVariants as objects
-use Rattle.mcv_config.specs.Fault.{Read, good, bad, ◌>>=◌}
+use Rattle.mcv_config.specs.Fault.{Read}
 use Rattle.mcv_config.specs.Handles.{key_fault, keys_read}
 use Rattle.mcv_config.specs.Lists.{each, each_member, items_list, member_names, required, text_read}
 use Rattle.mcv_config.specs.Path.{key_step, item_step}
@@ -30,11 +30,11 @@ other_way x y e = by (bytes_eq y x) refl
     by true t = absurd (true≢false (sym ((bytes_decides x y).1 (sym ((bytes_decides y x).0 t))) ∙ e))
     by false t = refl
 
-or_first : (a b : Bool) → cond a true b ≡ false → a ≡ false
+or_first : (a b : Bool) → (a || b) ≡ false → a ≡ false
 or_first true b h = h
 or_first false b h = refl
 
-or_second : (a b : Bool) → cond a true b ≡ false → b ≡ false
+or_second : (a b : Bool) → (a || b) ≡ false → b ≡ false
 or_second true b h = absurd (true≢false h)
 or_second false b h = h
 

@@ -1,10 +1,9 @@
 -- The routes that are read are sound.
-use Rattle.std.proofs.Common.{◌≡◌, ◌≢◌, ℕ, zero, suc, ◌+◌, ◌<◌, ◌≤◌, ◌==◌, nat_lt, Bool, true, false, List, [], ◌∷◌, ◌++◌, map, length, get_or, drop, Option, Some, None, Ok, Err, Result, bytes_eq, codes, refl, sym, ap, ◌∙◌, take, arith, rules, if◌then◌else◌}
+use Rattle.std.proofs.Common.{◌≡◌, ◌≢◌, ℕ, zero, suc, ◌+◌, ◌<◌, ◌≤◌, ◌==◌, nat_lt, List, [], ◌∷◌, ◌++◌, map, length, get_or, drop, Option, Some, None, Ok, Err, Result, bytes_eq, codes, refl, take, arith}
 use Rattle.std.specs.List.{range_with_len}
 use Rattle.std.proofs.lemmas.List.Quantifiers.{position-Some}
 use Rattle.serde_json.specs.Data.{Data, string, Items, Members, no_members, member}
 use Rattle.serde_json.specs.Find.{get, as_str, as_array, as_object}
-use Rattle.mcv_base.specs.declared.operation.Op.{Op}
 use Rattle.mcv_pools.specs.Table.{number_in}
 use Rattle.mcv_config.specs.declared.fault.FaultKind.{FaultKind}
 use Rattle.mcv_config.specs.declared.handle.Handle.{Handle}
@@ -14,11 +13,11 @@ use Rattle.mcv_config.specs.declared.handle.Many.TheVariants as many_handles
 use Rattle.mcv_config.specs.declared.handle.Object.TheVariants as objects
 use Rattle.mcv_config.specs.Fault.{Read, good, bad, ◌>>=◌}
 use Rattle.mcv_config.specs.Handles.{is_elsewhere, key_fault, keys_read, op_read, stray_fault, handle_named}
-use Rattle.mcv_config.specs.Lists.{each, each_member, items_list, required, text_read}
+use Rattle.mcv_config.specs.Lists.{each, each_member, items_list, required}
 use Rattle.mcv_config.specs.Path.{key_step, item_step}
-use Rattle.mcv_config.specs.Plan.{Named, Nameds, no_named, PolicyPlan, pool, server, null, nameds_of, last_of, IsSoundRoute, AreSoundRoutes}
+use Rattle.mcv_config.specs.Plan.{Named, no_named, PolicyPlan, server, nameds_of, last_of, IsSoundRoute, AreSoundRoutes}
 use Rattle.mcv_config.specs.Pools.{Pools, number_read, pool_named}
-use Rattle.mcv_config.specs.Routes.{Reader, listed, servers, only_child, cut, pool_prefix, text_children, branch, with_children, of_name, of_name_and_text, of_cut, text_route, type_read, pool_value, pool_field, children_value, children_field, policy_read, policies_of_members, policies_read, default_read, selector_fields, fields, of_type, object_route, handle_of, route}
+use Rattle.mcv_config.specs.Routes.{Reader, listed, servers, only_child, cut, pool_prefix, text_children, with_children, of_name, of_name_and_text, of_cut, text_route, type_read, pool_value, pool_field, children_value, children_field, policy_read, policies_of_members, policies_read, default_read, selector_fields, fields, of_type, object_route, handle_of, route}
 use Rattle.mcv_config.proofs.Holds.{Holds, holds_bind, holds_then, holds_also, holds_if}
 
 module _ (ps : Pools) (fits : length ps.names ≤ length ps.servers) (some : (i : ℕ) → i < length ps.servers → 0 < length (get_or ps.servers i [])) where

@@ -1,12 +1,11 @@
 -- The names of handles, keys and operations.
-use Rattle.std.specs.Prelude.{ℕ, Bool, true, false, ◌==◌, ◌||◌, List, [], ◌∷◌, ◌++◌, ⊤, Option, Some, None, Result, Ok, Err, if◌then◌else◌, slice_index, codes, bytes_eq}
-use Rattle.serde_json.specs.Data.{Data, Members, no_members, member}
+use Rattle.std.specs.Prelude.{ℕ, Bool, true, false, ◌==◌, ◌||◌, List, [], ◌∷◌, ⊤, Option, Some, None, Result, Ok, Err, if◌then◌else◌, slice_index, codes, bytes_eq}
+use Rattle.serde_json.specs.Data.{Members, no_members, member}
 use Rattle.mcv_base.specs.declared.operation.Op.{Op}
 use Rattle.mcv_base.specs.declared.operation.Op.TheVariants.{Get, Gets, Set, Add, Replace, Append, Prepend, Cas, Delete, Touch}
 use Rattle.mcv_base.specs.Operation.{op_name}
 use Rattle.mcv_config.specs.declared.fault.FaultKind.{FaultKind}
 use Rattle.mcv_config.specs.declared.fault.FaultKind.TheVariants.{UnknownKey, UnknownHandle, LeftOut}
-use Rattle.mcv_config.specs.declared.handle.Many.{Many}
 use Rattle.mcv_config.specs.declared.handle.Many.TheVariants as many_handles
 use Rattle.mcv_config.specs.declared.handle.Handle.{Handle}
 use Rattle.mcv_config.specs.declared.handle.Handle.TheVariants as handles

@@ -1,5 +1,5 @@
 -- The pools that a JSON value names, and their servers.
-use Rattle.std.specs.Prelude.{ℕ, ◌==◌, ◌&&◌, not, nat_lt, Bool, List, [], ◌∷◌, length, Option, Some, None, if◌then◌else◌, cond, codes, bytes_eq, position, unwrap_or}
+use Rattle.std.specs.Prelude.{ℕ, ◌==◌, ◌&&◌, not, nat_lt, Bool, List, [], ◌∷◌, length, Option, Some, None, if◌then◌else◌, codes, bytes_eq, unwrap_or}
 use Rattle.serde_json.specs.Data.{Data, Items, Members}
 use Rattle.serde_json.specs.Find.{get, as_str, as_array, as_object}
 use Rattle.mcv_pools.specs.Table.{is_in, number_in, numbered, server_limit, with_entry}
@@ -8,7 +8,7 @@ use Rattle.mcv_config.specs.declared.handle.Object.TheVariants as objects
 use Rattle.mcv_config.specs.Fault.{Read, good, refused, ◌>>=◌, also}
 use Rattle.mcv_config.specs.Handles.{is_elsewhere, key_fault, keys_read}
 use Rattle.mcv_config.specs.Lists.{each, each_member, items_list, member_names, required, text_read}
-use Rattle.mcv_config.specs.Path.{key_step, item_step}
+use Rattle.mcv_config.specs.Path.{key_step}
 use Rattle.mcv_config.specs.Server.{is_server}
 
 -- the texts of the servers, in the order of their numbers

@@ -1,5 +1,5 @@
 -- The handles that a JSON value names.
-use Rattle.std.specs.Prelude.{◌≡◌, ℕ, zero, suc, ◌+◌, ◌-◌, ◌==◌, nat_lt, Bool, true, false, List, [], ◌∷◌, ◌++◌, length, map, take, drop, position, slice_index_or, ⊤, Option, Some, None, option_map, Result, Ok, Err, Vec, if◌then◌else◌, codes, bytes_eq}
+use Rattle.std.specs.Prelude.{◌≡◌, ℕ, zero, suc, ◌+◌, ◌-◌, ◌==◌, nat_lt, List, [], ◌∷◌, length, map, take, drop, position, slice_index_or, Option, Some, None, Result, Ok, Err, Vec, if◌then◌else◌, codes, bytes_eq}
 use Rattle.std.specs.List.{range_with_len}
 use Rattle.std.specs.declared.alloc.Global.{Global}
 use Rattle.serde_json.specs.Data.{Data, string, Items, Members}
@@ -19,7 +19,7 @@ use Rattle.mcv_config.specs.Fault.{Read, good, bad, refused, ◌>>=◌, also}
 use Rattle.mcv_config.specs.Handles.{handle_named, is_elsewhere, key_fault, keys_read, op_read, stray_fault}
 use Rattle.mcv_config.specs.Lists.{each, each_member, items_list, required, text_read}
 use Rattle.mcv_config.specs.Path.{key_step}
-use Rattle.mcv_config.specs.Plan.{Named, Nameds, PolicyPlan, pool, server, null, all_sync, nameds_of, selector}
+use Rattle.mcv_config.specs.Plan.{Named, PolicyPlan, pool, server, null, all_sync, nameds_of, selector}
 use Rattle.mcv_config.specs.Pools.{Pools, pool_named}
 
 -- the room for further nodes, the path and the value; what is read, and the room that is left
