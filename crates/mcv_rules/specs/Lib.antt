@@ -1,0 +1,5 @@
+pub mod Plan
+pub mod Sound
+pub mod Plans
+pub mod Times
+pub mod Laws
