@@ -7,3 +7,4 @@ pub mod Replies
 pub mod Launched
 pub mod Reply
 pub mod Verdict
+pub mod View
