@@ -8,3 +8,4 @@ pub mod Launched
 pub mod Reply
 pub mod Verdict
 pub mod View
+pub mod TreeCode
