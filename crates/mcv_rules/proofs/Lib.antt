@@ -13,3 +13,6 @@ pub mod Sound
 pub mod One
 pub mod Last
 pub mod Times
+pub mod Own
+pub mod Plans
+pub mod Serving

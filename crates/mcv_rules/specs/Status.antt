@@ -1,5 +1,5 @@
 -- Whether a call has its reply, and by which reply.
-use Rattle.std.specs.Prelude.{ℕ, List, Option, Some, None, slice_get, option_map}
+use Rattle.std.specs.Prelude.{List, Option, Some, None, slice_get, option_map}
 use Rattle.mcv_base.specs.declared.operation.Op.{Op}
 use Rattle.mcv_base.specs.declared.operation.Op.TheVariants.{Get, Gets, Set, Add, Replace, Append, Prepend, Cas, Delete, Touch}
 use Rattle.mcv_base.specs.declared.reply.Outcome.{Outcome}

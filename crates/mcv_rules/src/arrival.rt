@@ -1,8 +1,8 @@
 //! When a route first had an answer, and which.
 
-ghost use Rattle.std.specs.Prelude.{◌≡◌};
-ghost use Rattle.mcv_rules.specs.Arrivals.{arrived_at_once, later, own_arrived, weight};
-ghost use Rattle.mcv_rules.specs.History.{history_of};
+ghost use Rattle.std.specs.Prelude.{◌≡◌, ◌<◌};
+ghost use Rattle.mcv_rules.specs.Arrivals.{arrived_at_once, later, own_arrived, own_next, weight};
+ghost use Rattle.mcv_rules.specs.History.{entry_of, history_of};
 
 use crate::status::Source;
 use mcv_base::{FixedReply, Outcome, Position};
@@ -47,17 +47,30 @@ impl Arrival {
             came: 0,
         };
         for (place, answered) in outcomes.iter().enumerate() {
-            if own.answer.is_none() {
-                own.came = place + 1;
-            }
-            if answered.position.is(position) {
-                own.answer = Some(Answer {
-                    outcome: answered.reply.outcome(),
-                    source: Source::Outcome(place),
-                });
-            }
+            own = own.next(place, answered, position);
         }
         own
+    }
+
+    /// That of the leg at a position, once the entry with this place in the list has come.
+    fn next(self, place: usize, entry: &Answered, position: &Position) -> Self
+        requires { place < usize.MAX }
+        ensures { result ≡ own_next position.now place (entry_of entry.now) self }
+    {
+        let came = if self.answer.is_none() {
+            place + 1
+        } else {
+            self.came
+        };
+        let answer = if entry.position.is(position) {
+            Some(Answer {
+                outcome: entry.reply.outcome(),
+                source: Source::Outcome(place),
+            })
+        } else {
+            self.answer
+        };
+        Arrival { answer, came }
     }
 
     /// The worse of the two, and of two that are as bad the one that came later. One that is missing is worst of all.

@@ -1,9 +1,9 @@
 //! The plan of a call: the legs and replies of its route for one operation, rest and era, laid out once.
 
 ghost use Rattle.std.specs.Prelude.{◌≡◌, ◌++◌, IfOk, OnOk, map, slice_index};
-ghost use Rattle.mcv_route.specs.Children.{policy_of};
+ghost use Rattle.mcv_route.specs.Children.{is_policy_for, policy_of};
 ghost use Rattle.mcv_route.specs.Tree.{all_sync};
-ghost use Rattle.mcv_route.specs.View.{view};
+ghost use Rattle.mcv_route.specs.View.{operation_view, view};
 ghost use Rattle.mcv_rules.specs.Arrivals.{all_arrived};
 ghost use Rattle.mcv_rules.specs.History.{history_of};
 ghost use Rattle.mcv_rules.specs.Laid.{Serves, arrived, children_of, launch_of, legs_of, operations_of, situation_at};
@@ -111,13 +111,20 @@ fn policy_number(policies: &[OperationPolicy], op: Op) -> usize
     ensures { result ≡ policy_of op (operations_of policies.now) }
 {
     for (number, policy) in policies.iter().enumerate() {
-        if let Some(named) = policy.op {
-            if named.is(op) {
-                return number;
-            }
+        if is_policy_for(policy, op) {
+            return number;
         }
     }
     policies.len()
+}
+
+fn is_policy_for(policy: &OperationPolicy, op: Op) -> bool
+    ensures { result ≡ is_policy_for op (operation_view policy.now).0 }
+{
+    match policy.op {
+        Some(named) => named.is(op),
+        None => false,
+    }
 }
 
 impl PlannedLeg {
