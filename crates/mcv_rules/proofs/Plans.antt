@@ -1,5 +1,5 @@
 -- A plan in memory, one level at a time.
-use Rattle.std.proofs.Common.{◌≡◌, List, [], ◌∷◌, map, Vec, Global, rules}
+use Rattle.std.proofs.Common.{◌≡◌, [], ◌∷◌, map, Vec, Global, rules}
 use Rattle.mcv_base.specs.declared.reply.FixedReply.{FixedReply}
 use Rattle.mcv_route.specs.Outcomes.{Choice, History}
 use Rattle.mcv_route.specs.Children.{joined}

@@ -1,20 +1,19 @@
 -- Each handle's plan serves it.
-use Rattle.std.proofs.Common.{◌≡◌, ◌<◌, Box, take, ◌≤◌, ◌+◌, ◌&&◌, ◌||◌, cond, ℕ, zero, suc, max, Bool, true, false, nat_lt, nat_le, List, [], ◌∷◌, ◌++◌, length, map, get_or, Vec, Global, Option, Some, None, option_map, refl, sym, ap, ap₂, ◌∙◌, subst, rules, arith, add-one}
+use Rattle.std.proofs.Common.{◌≡◌, ◌<◌, Box, take, ◌≤◌, ◌+◌, ◌&&◌, ◌||◌, cond, ℕ, zero, suc, Bool, true, false, nat_lt, nat_le, List, [], ◌∷◌, ◌++◌, length, map, get_or, Vec, Global, Option, Some, None, option_map, refl, sym, ap, ap₂, ◌∙◌, arith, add-one}
 use Rattle.std.proofs.Math.Seq.{take-suc}
 use Rattle.std.proofs.lemmas.List.{length-take-le, length-map, map-append}
 use Rattle.std.specs.declared.alloc.AllocError.{AllocError}
-use Rattle.std.specs.Prelude.{IfOk, Result, Ok, Err, fold, ◌==◌, if◌then◌else◌}
+use Rattle.std.specs.Prelude.{IfOk, Result, Ok, Err, fold, ◌==◌}
 use Rattle.mcv_base.specs.declared.operation.Op.{Op}
 use Rattle.mcv_base.specs.declared.operation.Op.TheVariants.{Get, Gets, Set, Add, Replace, Append, Prepend, Cas, Delete, Touch}
-use Rattle.mcv_base.specs.declared.reply.Outcome.TheVariants.{Good, Soft, Error}
+use Rattle.mcv_base.specs.declared.reply.Outcome.TheVariants.{Soft}
 use Rattle.mcv_base.specs.declared.reply.FixedReply.{FixedReply}
 use Rattle.mcv_base.specs.declared.reply.FixedReply.TheVariants.{ErrorRoute}
 use Rattle.mcv_base.specs.Reply.{outcome_of, fixed_value}
-use Rattle.mcv_route.specs.declared.launch.Launch.{Launch}
 use Rattle.mcv_route.specs.Outcomes.{Outcomes, Choice, History, outcomes}
 use Rattle.mcv_route.specs.Tree.{Pool, Tree, Trees, pool, null, error, all_sync, operation_selector, none, child}
 use Rattle.mcv_route.specs.Situation.{Situation, under}
-use Rattle.mcv_route.specs.Children.{joined, child_or, together, policy_of, is_policy_for}
+use Rattle.mcv_route.specs.Children.{child_or, policy_of, is_policy_for}
 use Rattle.mcv_route.specs.Replies as replies
 use Rattle.mcv_route.specs.declared.tree.Route.{Route, OperationSelector}
 use Rattle.mcv_route.specs.declared.tree.OperationPolicy.{OperationPolicy, out-OperationPolicy}
@@ -26,9 +25,8 @@ use Rattle.mcv_route.specs.Reply as definition
 use Rattle.mcv_route.specs.Reply.{reply, came, arrival, arrivals, answers_of, last_worse, is_waiting}
 use Rattle.mcv_rules.specs.Times.{came_each}
 use Rattle.mcv_rules.specs.Status.{default_reply}
-use Rattle.mcv_rules.specs.Arrivals.{seen, seen_answer, arrived_at_once, weight, later, all_arrived}
-use Rattle.mcv_rules.specs.Laid.{operations_of, launch_of, legs_of, arrived, Serves}
-use Rattle.mcv_rules.specs.declared.arrival.Arrival.{Arrival}
+use Rattle.mcv_rules.specs.Arrivals.{seen, seen_answer, weight, later, all_arrived}
+use Rattle.mcv_rules.specs.Laid.{operations_of, legs_of, arrived, Serves}
 use Rattle.mcv_rules.specs.declared.plan.PlannedLeg.{PlannedLeg}
 use Rattle.mcv_rules.specs.declared.plan.Plan.{Plan, Send, Reply, All}
 use Rattle.mcv_rules.proofs.Times as times

@@ -1,10 +1,9 @@
-use Rattle.std.proofs.Common.{rules, arith, ◌≡◌, ◌<◌, ◌≤◌, ◌++◌, ◌∷◌, [], length, map, take, refl, sym, ap, subst, ◌∙◌}
+use Rattle.std.proofs.Common.{rules, arith, ◌≡◌, ◌<◌, ◌≤◌, length, map, refl}
 use Rattle.std.proofs.lemmas.List.{take_all}
-use Rattle.mcv_route.specs.Situation.{Situation}
 use Rattle.mcv_route.specs.Children.{policy_of}
 use Rattle.mcv_route.specs.View.{pool_view, view}
-use Rattle.mcv_route.proofs.Views.{view-Pool, view-Null, view-AllSync}
-use Rattle.mcv_rules.specs.Laid.{Serves, operations_of, situation_at}
+use Rattle.mcv_route.proofs.Views.{view-Pool, view-Null}
+use Rattle.mcv_rules.specs.Laid.{operations_of, situation_at}
 use Rattle.mcv_rules.proofs.Serving.{served, serves-pool, serves-null, serves-policy, serves-default, serves-no_default, serves-all, all-grows}
 use Rattle.mcv_rules.proofs.plan.+planning.Goals as goal
 

@@ -1,4 +1,4 @@
-use Rattle.std.proofs.Common.{◌≡◌, map, take}
+use Rattle.std.proofs.Common.{map, take}
 use Rattle.mcv_route.specs.View.{view}
 use Rattle.mcv_rules.specs.Laid.{situation_at}
 use Rattle.mcv_rules.proofs.Serving.{AllServe}
