@@ -16,3 +16,5 @@ pub mod Times
 pub mod Own
 pub mod Plans
 pub mod Serving
+pub mod True
+pub mod Told

@@ -53,7 +53,7 @@ at_once : (t : Tree) (s : Situation) → ((o : Outcomes) → is_waiting (replies
 at_once t s h [] = refl
 at_once t s h (e ∷ es) = rw (h (outcomes es)) (at_once t s h es)
 
-default_is_soft : (op : Op) → outcome_of (fixed_value (default_reply op)) ≡ Soft
+pub default_is_soft : (op : Op) → outcome_of (fixed_value (default_reply op)) ≡ Soft
 default_is_soft Get = refl
 default_is_soft Gets = refl
 default_is_soft Set = refl

@@ -3,13 +3,14 @@ use Rattle.std.specs.Prelude.{◌≡◌, ◌⊎◌, ◌↔◌, ◌<◌, ◌≤�
 use Rattle.mcv_base.specs.declared.operation.Op.{Op}
 use Rattle.mcv_base.specs.declared.operation.Op.TheVariants.{Delete}
 use Rattle.mcv_base.specs.declared.reply.Outcome.{Outcome}
+use Rattle.mcv_base.specs.declared.reply.Outcome.TheVariants.{Soft, Error}
 use Rattle.mcv_route.specs.declared.launch.Launch.{Launch}
 use Rattle.mcv_route.specs.Outcomes.{Outcomes, Choice, History, outcomes}
 use Rattle.mcv_route.specs.Tree.{Tree}
 use Rattle.mcv_route.specs.WellFormed.{IsWellFormed}
 use Rattle.mcv_route.specs.Situation.{Situation, asked}
 use Rattle.mcv_route.specs.Children.{together}
-use Rattle.mcv_route.specs.Replies.{Answer, outcome_of, replies}
+use Rattle.mcv_route.specs.Replies.{Answer, Source, leg, fixed, refusal, outcome_of, replies}
 use Rattle.mcv_route.specs.Launched.{launched}
 use Rattle.mcv_route.specs.Reply as one
 use Rattle.mcv_route.specs.Verdict.{Has, IsReachable, IsClosed, IsHit}
@@ -49,6 +50,16 @@ ReplyStays = (t : Tree) (s : Situation) (o o2 : Outcomes) → Extends o o2 → (
 
 abbrev pub SentStays : Type 0
 SentStays = (t : Tree) (s : Situation) (c : Choice) (o o2 : Outcomes) (l : Launch) → Extends o o2 → Has (launched t s c o) (λ m. m ≡ l) → Has (launched t s c o2) (λ m. m ≡ l)
+
+-- what the outcomes say of whose reply it is
+abbrev pub outcome_at : Outcomes → Source → Option Outcome
+outcome_at o (leg p) = o p
+outcome_at o fixed = Some Soft
+outcome_at o refusal = Some Error
+
+-- an answer has the outcome of whose reply it is
+abbrev pub AnswersAreTrue : Type 0
+AnswersAreTrue = (t : Tree) (s : Situation) (o : Outcomes) (a : Answer) → Has (replies t s o) (λ b. b ≡ a) → outcome_at o a.source ≡ Some a.outcome
 
 abbrev pub ReachableIsClosed : Type 0
 ReachableIsClosed = (t : Tree) (s : Situation) (c : Choice) (o : Outcomes) → IsReachable t s c o ↔ IsClosed t s c o

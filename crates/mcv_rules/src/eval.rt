@@ -7,7 +7,7 @@ ghost use Rattle.mcv_route.specs.Reply.{reply};
 ghost use Rattle.mcv_route.specs.View.{view};
 ghost use Rattle.mcv_rules.specs.Called.{situation_of};
 ghost use Rattle.mcv_rules.specs.History.{history_of};
-ghost use Rattle.mcv_rules.specs.Status.{status_of};
+ghost use Rattle.mcv_rules.specs.Status.{status_of, status_outcome};
 
 use crate::plan::{Asked, Plan, arrive, laid_out, send};
 use crate::status::Status;
@@ -81,9 +81,11 @@ impl<'a> Eval<'a> {
         Ok(found)
     }
 
-    /// Whether the route has replied once these outcomes have come, and by which reply.
+    /// Whether the route has replied once these outcomes have come, and by which reply: of the replies that could be
+    /// it, the one that came last.
     pub fn status(&self, outcomes: &[Answered]) -> Status
-        ensures { result ≡ status_of self.now.op (history_of outcomes.now) (reply self.now.tree (situation_of self.now) (history_of outcomes.now)) }
+        ensures status { result ≡ status_of self.now.op (history_of outcomes.now) (reply self.now.tree (situation_of self.now) (history_of outcomes.now)) }
+        ensures outcome { status_outcome outcomes.now result ≡ option_map (λ a. a.outcome) (reply self.now.tree (situation_of self.now) (history_of outcomes.now)) }
     {
         match arrive(&self.plan, outcomes).answer {
             None => Status::Waits,

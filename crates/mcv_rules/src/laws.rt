@@ -1,6 +1,6 @@
 //! The laws of routes: what holds of the definitions alone, and so of all code that meets them.
 
-ghost use Rattle.mcv_rules.specs.Laws.{DeletesSearchOnErrors, HitIsPlanned, LaunchedIsPlanned, OneReplyStays, PlansAreSound, ReachableIsClosed, RepliesAreAlike, ReplyIsOneOf, ReplyIsPlanned, ReplyStays, SentStays, TheLastOfTheWorst};
+ghost use Rattle.mcv_rules.specs.Laws.{AnswersAreTrue, DeletesSearchOnErrors, HitIsPlanned, LaunchedIsPlanned, OneReplyStays, PlansAreSound, ReachableIsClosed, RepliesAreAlike, ReplyIsOneOf, ReplyIsPlanned, ReplyStays, SentStays, TheLastOfTheWorst};
 ghost use Rattle.mcv_rules.specs.Times.{RepliesAreStable, TimeAfterError, TimeAfterMiss, TimeOfAllSync};
 
 /// The plan of a route sends the legs and gives the replies that its handles say.
@@ -22,6 +22,11 @@ pub fn plans_are_sound()
 pub fn later_outcomes_only_add()
     ensures reply { ReplyStays }
     ensures sent { SentStays }
+{}
+
+/// An answer has the outcome of the leg whose reply it is; the default reply is Soft, and ErrorRoute's an Error.
+pub fn answers_are_true()
+    ensures { AnswersAreTrue }
 {}
 
 /// Outcomes are reachable just where each is of a leg that is sent at them.

@@ -13,8 +13,8 @@ mod status;
 
 pub use eval::Eval;
 pub use laws::{
-    answers_come_with_children, later_outcomes_only_add, plans_are_exact, plans_are_sound,
-    reachable_is_closed, the_last_reply_is_one,
+    answers_are_true, answers_come_with_children, later_outcomes_only_add, plans_are_exact,
+    plans_are_sound, reachable_is_closed, the_last_reply_is_one,
 };
 pub use status::{Source, Status, default_reply};
 
