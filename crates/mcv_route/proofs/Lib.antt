@@ -1,2 +1,4 @@
 mod Examples
 pub mod Views
+pub mod Nameds
+pub mod Numbers
