@@ -100,13 +100,13 @@ fn push_hit(text: &mut Vec<u8>, op: Op, key: &[u8], part: &Part) -> Result<(), A
 fn push_hits(text: &mut Vec<u8>, op: Op, keys: &[Vec<u8>], parts: &[Part]) -> Result<(), AllocError>
     ensures { OnOk result (text.new.items ≡ text.old.items ++ hits_text op (map (λ key. key.items) keys.now) (map part_value parts.now)) }
 {
-    let mut keys = keys;
+    let mut left = keys;
     for part in parts {
-        let Some((key, more)) = keys.split_first() else {
+        let Some((key, more)) = left.split_first() else {
             return Ok(());
         };
         push_hit(text, op, key.as_slice(), part)?;
-        keys = more;
+        left = more;
     }
     Ok(())
 }

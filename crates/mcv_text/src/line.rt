@@ -1,7 +1,8 @@
 //! What one line says: a request, a request whose value follows, or a refusal.
 
-ghost use Rattle.std.specs.Prelude.{◌≡◌, ◌∷◌, [], IfOk, map};
+ghost use Rattle.std.specs.Prelude.{◌≡◌, ◌≢◌, ◌∷◌, [], IfOk, map};
 ghost use Rattle.std.specs.Option.{option_map};
+ghost use Rattle.mcv_base.specs.Operation.{op_name};
 ghost use Rattle.mcv_text.specs.Line.{IsSmall, KeysRead, alone_said, cas_said, delete_said, line_value, meaning, plain, reading_said, said, storing, storing_said, touch_said};
 ghost use Rattle.mcv_text.specs.Request.{request_value};
 
@@ -209,6 +210,35 @@ fn alone_of(request: Request, arguments: &[&[u8]]) -> Meaning
     }
 }
 
+/// A line that names an operation.
+fn operation_of(alloc: Global, op: Op, arguments: &[&[u8]]) -> Result<Meaning, AllocError>
+    ensures means { IfOk result (λ m. line_value m ≡ said (op_name op ∷ map (λ word. word.now) arguments.now)) }
+    ensures fits { IfOk result (λ m. IsSmall m) }
+{
+    match op {
+        Op::Get | Op::Gets => reading_of(alloc, op, arguments),
+        Op::Set | Op::Add | Op::Replace | Op::Append | Op::Prepend => storing_of(alloc, op, arguments),
+        Op::Cas => cas_of(alloc, arguments),
+        Op::Delete => delete_of(alloc, arguments),
+        Op::Touch => touch_of(alloc, arguments),
+    }
+}
+
+/// A line that names none.
+fn other_of(command: &[u8], arguments: &[&[u8]]) -> Meaning
+    requires { (op : Op) → op_name op ≢ command.now }
+    ensures means { line_value result ≡ said (command.now ∷ map (λ word. word.now) arguments.now) }
+    ensures fits { IsSmall result }
+{
+    if command == b"version".as_slice() {
+        alone_of(Request::Version, arguments)
+    } else if command == b"quit".as_slice() {
+        alone_of(Request::Quit, arguments)
+    } else {
+        Meaning::Unknown
+    }
+}
+
 fn said_by(alloc: Global, words: &[&[u8]]) -> Result<Meaning, AllocError>
     ensures means { IfOk result (λ m. line_value m ≡ said (map (λ word. word.now) words.now)) }
     ensures fits { IfOk result (λ m. IsSmall m) }
@@ -216,20 +246,9 @@ fn said_by(alloc: Global, words: &[&[u8]]) -> Result<Meaning, AllocError>
     let Some((command, arguments)) = words.split_first() else {
         return Ok(Meaning::Unknown);
     };
-    match *command {
-        b"get" => reading_of(alloc, Op::Get, arguments),
-        b"gets" => reading_of(alloc, Op::Gets, arguments),
-        b"set" => storing_of(alloc, Op::Set, arguments),
-        b"add" => storing_of(alloc, Op::Add, arguments),
-        b"replace" => storing_of(alloc, Op::Replace, arguments),
-        b"append" => storing_of(alloc, Op::Append, arguments),
-        b"prepend" => storing_of(alloc, Op::Prepend, arguments),
-        b"cas" => cas_of(alloc, arguments),
-        b"delete" => delete_of(alloc, arguments),
-        b"touch" => touch_of(alloc, arguments),
-        b"version" => Ok(alone_of(Request::Version, arguments)),
-        b"quit" => Ok(alone_of(Request::Quit, arguments)),
-        _ => Ok(Meaning::Unknown),
+    match Op::named(command) {
+        Some(op) => operation_of(alloc, op, arguments),
+        None => Ok(other_of(command, arguments)),
     }
 }
 
