@@ -1,10 +1,10 @@
 -- More bytes change no item that has ended.
-use Rattle.std.proofs.Common.{◌≡◌, ◌≢◌, ℕ, suc, zero, ◌+◌, ◌-◌, ◌<◌, ◌≤◌, Bool, true, false, cond, ltb, List, [], ◌∷◌, ◌++◌, length, get_or, take, drop, refl, sym, ap, subst, ◌∙◌, arith, inl, inr, ◌⊎◌, append_assoc}
+use Rattle.std.proofs.Common.{◌≡◌, ◌≢◌, ℕ, suc, zero, ◌+◌, ◌-◌, ◌<◌, ◌≤◌, cond, List, [], ◌∷◌, ◌++◌, length, drop, refl, sym, ap, subst, ◌∙◌, arith, inl, inr, append_assoc}
 use Rattle.std.specs.List.{All}
 use Rattle.std.proofs.lemmas.Bool.{lt-ltb, le-ltb, cases_lt}
-use Rattle.std.proofs.lemmas.List.{length-append, take-append-le, drop-append-le, drop-drop, drop_all, append-nil}
-use Rattle.mcv_text.specs.Request.{with_body, AskValue, RequestValue, asking, ItemValue, asked, refused}
-use Rattle.mcv_text.specs.Stream.{Stands, Held, Skips, Failed, followed, IsLine, Begins, by_line, too_long, AfterLine, AfterValue, stored, no_cr, no_lf, First, Reads}
+use Rattle.std.proofs.lemmas.List.{length-append, take-append-le, drop-append-le}
+use Rattle.mcv_text.specs.Request.{AskValue, ItemValue}
+use Rattle.mcv_text.specs.Stream.{Stands, Held, Skips, Failed, followed, Begins, by_line, too_long, AfterLine, AfterValue, stored, no_cr, no_lf, First, Reads}
 use Rattle.mcv_text.specs.Line.{LineValue, whole, stores, unknown, bad, too_large, meaning}
 
 skips_short : (n : ℕ) (a : List ℕ) → length a < n → followed (Skips n) a ≡ Skips (n - length a)
@@ -47,7 +47,7 @@ begins_more : (bytes piece : List ℕ) (i : ItemValue) (r : Stands) → Begins b
 begins_more bytes piece i r (by_line l x il el al) = by_line l (x ++ piece) il (ap (λ t. t ++ piece) el ∙ append_assoc l (10 ∷ x) piece) (after_more (meaning l) x piece i r al)
 begins_more bytes piece i r (too_long big none ei er) =
     too_long (omega (arith, length-append bytes piece))
-      (subst (λ (t : List ℕ). All (λ b. b ≢ 10) t) (sym (take-append-le 65537 bytes piece (omega arith))) none) ei (ap (λ t. followed t piece) er)
+    (subst (λ (t : List ℕ). All (λ b. b ≢ 10) t) (sym (take-append-le 65537 bytes piece (omega arith))) none) ei (ap (λ t. followed t piece) er)
 
 first_more : (from : Stands) (piece : List ℕ) (i : ItemValue) (r : Stands) → First from i r → First (followed from piece) i (followed r piece)
 first_more (Held bytes) piece i r a = begins_more bytes piece i r a

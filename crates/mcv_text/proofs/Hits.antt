@@ -1,5 +1,5 @@
 -- The text of an answer, once the replies are used up.
-use Rattle.std.proofs.Common.{◌≡◌, List, ℕ, [], ◌∷◌, ◌++◌, refl}
+use Rattle.std.proofs.Common.{◌≡◌, List, ℕ, [], ◌∷◌, refl}
 use Rattle.mcv_base.specs.declared.operation.Op.{Op}
 use Rattle.mcv_text.specs.Answer.{hits_text}
 

@@ -1,12 +1,11 @@
 -- What a reader stands for when its piece is used up.
-use Rattle.std.proofs.Common.{◌≡◌, ℕ, ◌-◌, ◌<◌, List, [], ◌∷◌, ◌++◌, length, refl, sym, ap, subst, ◌∙◌, arith, cond, ltb, drop}
+use Rattle.std.proofs.Common.{◌≡◌, ℕ, ◌-◌, List, [], refl, sym, ap, subst, ◌∙◌, arith, cond, drop}
 use Rattle.std.proofs.lemmas.List.{append-nil}
 use Rattle.std.proofs.lemmas.Bool.{lt-ltb}
 use Rattle.mcv_text.specs.declared.reader.State.{State}
 use Rattle.mcv_text.specs.declared.reader.State.TheVariants as states
-use Rattle.mcv_text.specs.Request.{header_value}
-use Rattle.mcv_text.specs.Line.{LineValue, stores, meaning}
-use Rattle.mcv_text.specs.Stream.{Stands, Held, Skips, Failed, followed, Rests, Reads, IsUnfinished, in_line, in_value, WaitsForValue}
+use Rattle.mcv_text.specs.Line.{LineValue}
+use Rattle.mcv_text.specs.Stream.{Stands, Held, Skips, Failed, followed, Rests, Reads, in_line, in_value, WaitsForValue}
 use Rattle.mcv_text.specs.Reader.{stands, IsKept}
 
 pub kept_rests : (line : List ℕ) (state : State) → IsKept line state → Rests (stands line state)

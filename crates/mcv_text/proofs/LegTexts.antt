@@ -1,15 +1,14 @@
 -- What a leg sends is read as its request.
-use Rattle.std.proofs.Common.{◌≡◌, ◌≢◌, ℕ, suc, zero, ◌+◌, ◌-◌, ◌*◌, ◌<◌, ◌≤◌, ◌^◌, Bool, true, false, cond, not, nat_eq, ◌&&◌, List, [], ◌∷◌, ◌++◌, length, get_or, take, drop, refl, sym, ap, subst, ◌∙◌, arith, append_assoc, Option, Some, None, ltb, leb, codes, decimal}
+use Rattle.std.proofs.Common.{◌≡◌, ◌≢◌, ℕ, suc, ◌+◌, ◌-◌, ◌*◌, ◌<◌, ◌≤◌, ◌^◌, true, false, cond, not, nat_eq, ◌&&◌, List, [], ◌∷◌, ◌++◌, length, get_or, take, refl, sym, ap, subst, ◌∙◌, arith, append_assoc, Option, Some, None, ltb, leb, codes, decimal}
 use Rattle.std.specs.Prelude.{ℤ, pos, negsuc, neg_ℤ}
 use Rattle.std.specs.Fmt.{signed_decimal}
-use Rattle.std.specs.Char.{digit_value}
 use Rattle.std.specs.List.{All, AllByRecursion, filter, slice_split, list_all}
 use Rattle.std.specs.Option.{option_map}
-use Rattle.std.specs.Str.Parse.{AllDigits, IsNumeral, digits_value}
+use Rattle.std.specs.Str.Parse.{IsNumeral}
 use Rattle.std.specs.Str.Lines.{strip_carriage_return}
-use Rattle.std.proofs.lemmas.Bool.{ne_eqb, cases_eq, le-ltb, ltb-true, leb-true, and_parts}
+use Rattle.std.proofs.lemmas.Bool.{ne_eqb, le-ltb, ltb-true, leb-true, and_parts}
 use Rattle.std.proofs.lemmas.List.{get_or_at, take_at, length-append, append-nil}
-use Rattle.std.proofs.lemmas.List.Elements.{All-get_or, All-from_get_or, All-weaker, All-from_recursion, All-append, All-head, All-tail}
+use Rattle.std.proofs.lemmas.List.Elements.{All-from_get_or, All-weaker, All-from_recursion, All-append}
 use Rattle.std.proofs.lemmas.List.Splits.{slice_split_none, slice_split_at}
 use Rattle.std.proofs.lemmas.Str.Parse.{digit_at}
 use Rattle.std.proofs.lemmas.Fmt.{decimal_is_IsNumeral, length-decimal-le}
@@ -17,12 +16,12 @@ use Rattle.mcv_base.specs.declared.operation.Op.{Op}
 use Rattle.mcv_base.specs.declared.operation.Op.TheVariants as ops
 use Rattle.mcv_base.specs.Operation.{op_name}
 use Rattle.mcv_base.specs.Key.{is_key_word, is_key_byte}
-use Rattle.mcv_text.specs.Request.{AskValue, RequestValue, asking, ItemValue, asked, with_body}
-use Rattle.mcv_text.specs.Words.{is_space, words, line_words, number_said, number32_said, number64_said, signed_said, noreply_said, IsNumber}
-use Rattle.mcv_text.specs.Line.{LineValue, whole, stores, bad, too_large, value_limit, reads, plain, storing, storing_said, cas_said, touch_said, reading_said, delete_said, said, meaning}
-use Rattle.mcv_text.specs.Stream.{Stands, Held, IsLine, Begins, by_line, AfterLine, AfterValue, stored, IsUnfinished, in_line, Reads}
+use Rattle.mcv_text.specs.Request.{AskValue, asking, ItemValue, asked, with_body}
+use Rattle.mcv_text.specs.Words.{is_space, words, number_said, number32_said, number64_said, signed_said, IsNumber}
+use Rattle.mcv_text.specs.Line.{LineValue, whole, stores, bad, too_large, value_limit, reads, plain, storing, storing_said, cas_said, said, meaning}
+use Rattle.mcv_text.specs.Stream.{Held, IsLine, by_line, AfterLine, stored, in_line, Reads}
 use Rattle.mcv_text.specs.Answer.{line_end}
-use Rattle.mcv_text.specs.Leg.{LegValue, leg_text, leg_ask, IsWholeLeg, IsBare, IsStoring, IsCas, IsTouch, IsSigned64, HasFields, more_words, value_block}
+use Rattle.mcv_text.specs.Leg.{LegValue, leg_text, leg_ask, IsWholeLeg, IsBare, IsStoring, IsCas, IsTouch, IsSigned64, HasFields}
 use Rattle.mcv_text.proofs.Numbers.{number_is}
 
 -- a word of a leg: 1 to 250 bytes, none of them a space or below
@@ -213,13 +212,13 @@ bare_reads : (op : Op) (rest : List ℕ) → is_key_word rest ≡ true → said 
     → Reads (Held (spelled (op_name op) rest [] [])) (asked (asking (ask_of op rest 0 (pos 0) [] None)) ∷ []) (Held [])
 bare_reads op rest key says =
     line_reads (op_name op) (rest ∷ []) [] (whole (asking (ask_of op rest 0 (pos 0) [] None))) _ _ (name_word op) (key_word rest key, tt) (omega arith)
-      (says ∙ plain_key op rest (pos 0) key) (refl, refl) (two_words (op_name op) rest (32 ∷ []) (13 ∷ []) (10 ∷ []) [])
+    (says ∙ plain_key op rest (pos 0) key) (refl, refl) (two_words (op_name op) rest (32 ∷ []) (13 ∷ []) (10 ∷ []) [])
 
 touch_reads : (rest : List ℕ) (e : ℤ) → is_key_word rest ≡ true → IsSigned64 e
     → Reads (Held (spelled (codes "touch") rest (codes " " ++ signed_decimal e) [])) (asked (asking (ask_of ops.Touch rest 0 e [] None)) ∷ []) (Held [])
 touch_reads rest e key l =
     line_reads (codes "touch") (rest ∷ signed_decimal e ∷ []) [] (whole (asking (ask_of ops.Touch rest 0 e [] None))) _ _ (name_word ops.Touch) (key_word rest key, (signed_word e l, tt)) (omega arith)
-      (ap (λ o. reads o (λ e. plain ops.Touch (rest ∷ []) e false)) (signed_reads e l) ∙ plain_key ops.Touch rest e key) (refl, refl) (three_words (codes "touch") rest (signed_decimal e) (32 ∷ []) (13 ∷ []) (10 ∷ []) [])
+    (ap (λ o. reads o (λ e. plain ops.Touch (rest ∷ []) e false)) (signed_reads e l) ∙ plain_key ops.Touch rest e key) (refl, refl) (three_words (codes "touch") rest (signed_decimal e) (32 ∷ []) (13 ∷ []) (10 ∷ []) [])
 
 value_reads : (ask : AskValue) (body : List ℕ) → AfterLine (stores ask (length body)) (body ++ 13 ∷ 10 ∷ []) (asked (asking (with_body ask body))) (Held [])
 value_reads ask body = stored body [] refl refl
@@ -230,21 +229,21 @@ storing_reads : (op : Op) (rest : List ℕ) (f : ℕ) (e : ℤ) (body : List ℕ
 storing_reads op rest f e body key small signed short says =
     let n : ℕ = length body in
     line_reads (op_name op) (rest ∷ decimal f ∷ signed_decimal e ∷ decimal n ∷ []) (body ++ 13 ∷ 10 ∷ []) (stores (ask_of op rest f e [] None) n) _ _
-      (name_word op) (key_word rest key, (decimal_word f (omega arith), (signed_word e signed, (decimal_word n (omega arith), tt)))) (omega arith)
-      (says (rest ∷ decimal f ∷ signed_decimal e ∷ decimal n ∷ [])
-        ∙ storing_words op rest (decimal f) (signed_decimal e) (decimal n) f e n (number_reads (2 ^ 32 - 1) f (omega arith) (omega arith)) (signed_reads e signed) (number_reads (2 ^ 32 - 1) n (omega arith) (omega arith))
-        ∙ storing_key op rest f e n None key short)
-      (value_reads (ask_of op rest f e [] None) body) (five_words (op_name op) rest (decimal f) (signed_decimal e) (decimal n) (32 ∷ []) (13 ∷ []) (10 ∷ []) (body ++ 13 ∷ 10 ∷ []))
+    (name_word op) (key_word rest key, (decimal_word f (omega arith), (signed_word e signed, (decimal_word n (omega arith), tt)))) (omega arith)
+    (says (rest ∷ decimal f ∷ signed_decimal e ∷ decimal n ∷ [])
+    ∙ storing_words op rest (decimal f) (signed_decimal e) (decimal n) f e n (number_reads (2 ^ 32 - 1) f (omega arith) (omega arith)) (signed_reads e signed) (number_reads (2 ^ 32 - 1) n (omega arith) (omega arith))
+    ∙ storing_key op rest f e n None key short)
+    (value_reads (ask_of op rest f e [] None) body) (five_words (op_name op) rest (decimal f) (signed_decimal e) (decimal n) (32 ∷ []) (13 ∷ []) (10 ∷ []) (body ++ 13 ∷ 10 ∷ []))
 
 cas_reads : (rest : List ℕ) (f : ℕ) (e : ℤ) (body : List ℕ) (c : ℕ) → is_key_word rest ≡ true → f < 2 ^ 32 → IsSigned64 e → length body ≤ 1048576 → c < 2 ^ 64
     → Reads (Held (spelled (codes "cas") rest (codes " " ++ decimal f ++ codes " " ++ signed_decimal e ++ codes " " ++ decimal (length body) ++ codes " " ++ decimal c) (body ++ line_end))) (asked (asking (ask_of ops.Cas rest f e body (Some c))) ∷ []) (Held [])
 cas_reads rest f e body c key small signed short unique =
     let n : ℕ = length body in
     line_reads (codes "cas") (rest ∷ decimal f ∷ signed_decimal e ∷ decimal n ∷ decimal c ∷ []) (body ++ 13 ∷ 10 ∷ []) (stores (ask_of ops.Cas rest f e [] (Some c)) n) _ _
-      (name_word ops.Cas) (key_word rest key, (decimal_word f (omega arith), (signed_word e signed, (decimal_word n (omega arith), (decimal_word c unique, tt))))) (omega arith)
-      (cas_words rest (decimal f) (signed_decimal e) (decimal n) (decimal c) f e n c (number_reads (2 ^ 32 - 1) f (omega arith) (omega arith)) (signed_reads e signed) (number_reads (2 ^ 32 - 1) n (omega arith) (omega arith)) (number_reads (2 ^ 64 - 1) c (omega arith) unique)
-        ∙ storing_key ops.Cas rest f e n (Some c) key short)
-      (value_reads (ask_of ops.Cas rest f e [] (Some c)) body) (six_words (codes "cas") rest (decimal f) (signed_decimal e) (decimal n) (decimal c) (32 ∷ []) (13 ∷ []) (10 ∷ []) (body ++ 13 ∷ 10 ∷ []))
+    (name_word ops.Cas) (key_word rest key, (decimal_word f (omega arith), (signed_word e signed, (decimal_word n (omega arith), (decimal_word c unique, tt))))) (omega arith)
+    (cas_words rest (decimal f) (signed_decimal e) (decimal n) (decimal c) f e n c (number_reads (2 ^ 32 - 1) f (omega arith) (omega arith)) (signed_reads e signed) (number_reads (2 ^ 32 - 1) n (omega arith) (omega arith)) (number_reads (2 ^ 64 - 1) c (omega arith) unique)
+    ∙ storing_key ops.Cas rest f e n (Some c) key short)
+    (value_reads (ask_of ops.Cas rest f e [] (Some c)) body) (six_words (codes "cas") rest (decimal f) (signed_decimal e) (decimal n) (decimal c) (32 ∷ []) (13 ∷ []) (10 ∷ []) (body ++ 13 ∷ 10 ∷ []))
 
 -- with the fields that the operation hasn't
 
@@ -271,7 +270,7 @@ storing_leg op leg key is says = cas_free op leg _ is.cas (storing_reads op leg.
 cas_leg : (leg : LegValue) → is_key_word leg.rest ≡ true → IsCas leg → ReadsAsked (leg_text (record leg { op = ops.Cas })) (ask_of ops.Cas leg.rest leg.flags leg.exptime leg.body leg.cas)
 cas_leg leg key is =
     subst (λ (cas : Option ℕ). ReadsAsked (leg_text (leg_of ops.Cas leg.rest leg.flags leg.exptime leg.body cas)) (ask_of ops.Cas leg.rest leg.flags leg.exptime leg.body cas)) (sym is.cas)
-      (cas_reads leg.rest leg.flags leg.exptime leg.body is.number key is.flags is.exptime is.body is.small)
+    (cas_reads leg.rest leg.flags leg.exptime leg.body is.number key is.flags is.exptime is.body is.small)
 
 by_op : (op : Op) (leg : LegValue) → is_key_word leg.rest ≡ true → HasFields op leg → ReadsAsked (leg_text (record leg { op = op })) (ask_of op leg.rest leg.flags leg.exptime leg.body leg.cas)
 by_op ops.Get leg key is = bare_leg ops.Get leg _ is (bare_reads ops.Get leg.rest key refl)

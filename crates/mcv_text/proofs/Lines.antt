@@ -38,5 +38,5 @@ pub unknown_said : (command : List ℕ) (arguments : List (List ℕ)) → ((op :
 unknown_said command arguments none version quit =
     let other : (op : Op) → bytes_eq command (op_name op) ≡ false = λ op. other_name command (op_name op) (none op) in
     sym (passed_over _ _ _ (other ops.Get) ∙ passed_over _ _ _ (other ops.Gets) ∙ passed_over _ _ _ (other ops.Set) ∙ passed_over _ _ _ (other ops.Add)
-      ∙ passed_over _ _ _ (other ops.Replace) ∙ passed_over _ _ _ (other ops.Append) ∙ passed_over _ _ _ (other ops.Prepend) ∙ passed_over _ _ _ (other ops.Cas)
-      ∙ passed_over _ _ _ (other ops.Delete) ∙ passed_over _ _ _ (other ops.Touch) ∙ passed_over _ _ _ version ∙ passed_over _ _ _ quit)
+    ∙ passed_over _ _ _ (other ops.Replace) ∙ passed_over _ _ _ (other ops.Append) ∙ passed_over _ _ _ (other ops.Prepend) ∙ passed_over _ _ _ (other ops.Cas)
+    ∙ passed_over _ _ _ (other ops.Delete) ∙ passed_over _ _ _ (other ops.Touch) ∙ passed_over _ _ _ version ∙ passed_over _ _ _ quit)

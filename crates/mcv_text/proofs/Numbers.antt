@@ -1,7 +1,7 @@
 -- The value of digits, one after the other.
-use Rattle.std.proofs.Common.{◌≡◌, ℕ, suc, zero, ◌+◌, ◌-◌, ◌*◌, ◌<◌, ◌≤◌, List, [], ◌∷◌, ◌++◌, length, get_or, take, drop, refl, sym, ap, subst, ◌∙◌, arith}
+use Rattle.std.proofs.Common.{◌≡◌, ℕ, suc, zero, ◌+◌, ◌*◌, ◌<◌, ◌≤◌, List, [], ◌∷◌, ◌++◌, length, get_or, take, drop, refl, sym, ap, ◌∙◌, arith}
 use Rattle.std.specs.Char.{digit_value}
-use Rattle.std.specs.Str.Parse.{AllDigits, IsNumeral, digits_value, digits_value_after}
+use Rattle.std.specs.Str.Parse.{AllDigits, digits_value, digits_value_after}
 use Rattle.std.proofs.lemmas.List.{take-append-drop}
 use Rattle.std.proofs.lemmas.Int.Digits.{digits_value_more}
 use Rattle.std.proofs.Common.{Bool, true, false, cond, ◌&&◌, ltb, leb, Option, Some, None, MatchOption}
@@ -64,5 +64,5 @@ number_is word limit None h = not_a_number word limit h (ltb 0 (length word)) (l
 number_is word limit (Some n) h =
     ap Some (sym h.0.1)
     ∙ sym (ap (λ b. cond (b && (list_all is_digit word && leb (digits_value 10 word) limit)) (Some (digits_value 10 word)) None) (lt-ltb 0 (length word) h.0.0.0)
-      ∙ ap (λ b. cond (b && leb (digits_value 10 word) limit) (Some (digits_value 10 word)) None) (digits_pass word h.0.0.1)
-      ∙ ap (λ b. cond b (Some (digits_value 10 word)) None) (le-leb (digits_value 10 word) limit (omega (arith, h.0.1, h.1))))
+    ∙ ap (λ b. cond (b && leb (digits_value 10 word) limit) (Some (digits_value 10 word)) None) (digits_pass word h.0.0.1)
+    ∙ ap (λ b. cond b (Some (digits_value 10 word)) None) (le-leb (digits_value 10 word) limit (omega (arith, h.0.1, h.1))))

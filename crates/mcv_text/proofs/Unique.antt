@@ -1,10 +1,10 @@
 -- A stream has one reading.
-use Rattle.std.proofs.Common.{◌≡◌, ◌≢◌, ℕ, suc, zero, ◌+◌, ◌-◌, ◌<◌, ◌≤◌, List, [], ◌∷◌, ◌++◌, length, get_or, take, drop, refl, sym, ap, subst, ◌∙◌, arith, inl, inr, ◌⊎◌}
+use Rattle.std.proofs.Common.{◌≡◌, ◌≢◌, ℕ, suc, ◌+◌, ◌≤◌, List, [], ◌∷◌, ◌++◌, length, get_or, take, drop, refl, sym, ap, subst, ◌∙◌, arith, inl, inr}
 use Rattle.std.specs.List.{All}
 use Rattle.std.proofs.lemmas.List.{take_at, drop_at, length-append, length-take, get_or-take, get_or_at}
-use Rattle.std.proofs.lemmas.List.Elements.{All-head, All-tail, All-get_or}
-use Rattle.mcv_text.specs.Request.{with_body, AskValue, RequestValue, asking, ItemValue, asked, refused}
-use Rattle.mcv_text.specs.Stream.{Stands, Held, Skips, Failed, followed, IsLine, Begins, by_line, too_long, IsUnfinished, in_line, in_value, AfterLine, AfterValue, stored, no_cr, no_lf, IsValuePart, WaitsForValue, Rests, First, Reads}
+use Rattle.std.proofs.lemmas.List.Elements.{All-head, All-tail}
+use Rattle.mcv_text.specs.Request.{with_body, AskValue, asking, ItemValue, asked}
+use Rattle.mcv_text.specs.Stream.{Stands, Held, Skips, Failed, IsLine, Begins, by_line, too_long, IsUnfinished, in_line, in_value, AfterLine, AfterValue, stored, no_cr, no_lf, IsValuePart, WaitsForValue, Rests, First, Reads}
 use Rattle.mcv_text.specs.Line.{LineValue, whole, stores, unknown, bad, too_large, meaning}
 
 -- the first LF stands at one place

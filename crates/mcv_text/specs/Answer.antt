@@ -1,5 +1,5 @@
 -- What a client is answered (memcached, protocol.txt; that an error stands alone in place of all hits is own).
-use Rattle.std.specs.Prelude.{ℕ, List, [], ◌∷◌, ◌++◌, length, map, Option, Some, None, Bool, codes, decimal, if◌then◌else◌}
+use Rattle.std.specs.Prelude.{ℕ, List, [], ◌∷◌, ◌++◌, length, Option, Some, None, Bool, codes, decimal, if◌then◌else◌}
 use Rattle.std.specs.List.{find, flat_map}
 use Rattle.mcv_base.specs.declared.operation.Op.{Op}
 use Rattle.mcv_base.specs.declared.operation.Op.TheVariants.{Gets}

@@ -11,11 +11,11 @@ use Rattle.mcv_text.specs.Request.{AskValue, RequestValue, asking, version, quit
 use Rattle.mcv_text.specs.Words.{line_words, number32_said, number64_said, signed_said, noreply_said, delete_options_said}
 
 pub data LineValue : Type 0 where
-  whole : RequestValue → LineValue       -- a request
-  stores : AskValue → ℕ → LineValue       -- a request whose value of so many bytes follows
-  unknown : LineValue       -- no first word, or one that names no request
-  bad : LineValue       -- a first word that names a request, and the rest doesn't read
-  too_large : ℕ → LineValue       -- a request whose value of so many bytes is over the limit
+  whole : RequestValue → LineValue  -- a request
+  stores : AskValue → ℕ → LineValue  -- a request whose value of so many bytes follows
+  unknown : LineValue  -- no first word, or one that names no request
+  bad : LineValue  -- a first word that names a request, and the rest doesn't read
+  too_large : ℕ → LineValue  -- a request whose value of so many bytes is over the limit
 
 -- the most bytes of a value
 abbrev pub value_limit : ℕ
@@ -36,8 +36,8 @@ plain op keys exptime noreply =
 abbrev pub storing : Op → List ℕ → ℕ → ℤ → ℕ → Option ℕ → Bool → LineValue
 storing op key flags exptime n cas noreply =
     if is_key_word key then
-      (if nat_lt value_limit n then too_large n
-      else stores (record { op = op; keys = key ∷ []; flags = flags; exptime = exptime; body = []; cas = cas; noreply = noreply }) n)
+    (if nat_lt value_limit n then too_large n
+    else stores (record { op = op; keys = key ∷ []; flags = flags; exptime = exptime; body = []; cas = cas; noreply = noreply }) n)
     else bad
 
 -- <key>+
@@ -49,14 +49,14 @@ reading_said op (key ∷ keys) = plain op (key ∷ keys) (pos 0) false
 abbrev pub storing_said : Op → List (List ℕ) → LineValue
 storing_said op (key ∷ flags ∷ exptime ∷ size ∷ options) =
     reads (number32_said flags) (λ f. reads (signed_said exptime) (λ e. reads (number32_said size) (λ n. reads (noreply_said options) (λ noreply.
-      storing op key f e n None noreply))))
+    storing op key f e n None noreply))))
 storing_said op other = bad
 
 -- <key> <flags> <exptime> <bytes> <cas> [noreply]
 abbrev pub cas_said : List (List ℕ) → LineValue
 cas_said (key ∷ flags ∷ exptime ∷ size ∷ cas ∷ options) =
     reads (number32_said flags) (λ f. reads (signed_said exptime) (λ e. reads (number32_said size) (λ n. reads (number64_said cas) (λ c. reads (noreply_said options) (λ noreply.
-      storing ops.Cas key f e n (Some c) noreply)))))
+    storing ops.Cas key f e n (Some c) noreply)))))
 cas_said other = bad
 
 -- <key> [0] [noreply]

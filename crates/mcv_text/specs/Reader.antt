@@ -1,5 +1,5 @@
 -- What the fields of a reader stand for, and what one step of it does.
-use Rattle.std.specs.Prelude.{◌≡◌, ◌≢◌, ℕ, ◌+◌, ◌<◌, ◌≤◌, length, List, [], ◌∷◌, ◌++◌, take, Option, MatchOption, Vec, slice_index}
+use Rattle.std.specs.Prelude.{◌≡◌, ◌≢◌, ℕ, ◌<◌, ◌≤◌, length, List, [], ◌∷◌, ◌++◌, take, Option, MatchOption, slice_index}
 use Rattle.std.specs.List.{All}
 use Rattle.mcv_text.specs.declared.item.Item.{Item}
 use Rattle.mcv_text.specs.declared.item.Refusal.TheVariants as refusals

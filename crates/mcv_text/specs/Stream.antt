@@ -2,7 +2,7 @@
 use Rattle.std.specs.Prelude.{◌≡◌, ◌≢◌, ℕ, ◌+◌, ◌-◌, ◌<◌, ◌≤◌, List, [], ◌∷◌, ◌++◌, length, take, drop, nat_lt, if◌then◌else◌, ◌⊎◌}
 use Rattle.std.specs.List.{All}
 use Rattle.mcv_text.specs.declared.item.Refusal.TheVariants as refusals
-use Rattle.mcv_text.specs.Request.{AskValue, RequestValue, asking, ItemValue, asked, refused, with_body}
+use Rattle.mcv_text.specs.Request.{AskValue, asking, ItemValue, asked, refused, with_body}
 use Rattle.mcv_text.specs.Line.{LineValue, meaning, whole, stores, unknown, bad, too_large}
 
 -- what a reader stands for: the bytes of the item that hasn't ended, a number of bytes still to skip, or having failed

@@ -18,3 +18,6 @@ pub use item::{Item, Refusal, TextFault};
 pub use laws::{any_pieces, leg_texts_are_read, one_reading};
 pub use leg::leg_text;
 pub use reader::RequestReader;
+
+#[cfg(test)]
+mod tests;

@@ -165,7 +165,14 @@ fn cas_of(alloc: Global, arguments: &[&[u8]]) -> Result<Meaning, AllocError>
     let Some(noreply) = noreply(options) else {
         return Ok(Meaning::Bad);
     };
-    storing_with(alloc, Op::Cas, key, (flags, exptime, size), Some(cas), noreply)
+    storing_with(
+        alloc,
+        Op::Cas,
+        key,
+        (flags, exptime, size),
+        Some(cas),
+        noreply,
+    )
 }
 
 /// `<key> [0] [noreply]`
@@ -217,7 +224,9 @@ fn operation_of(alloc: Global, op: Op, arguments: &[&[u8]]) -> Result<Meaning, A
 {
     match op {
         Op::Get | Op::Gets => reading_of(alloc, op, arguments),
-        Op::Set | Op::Add | Op::Replace | Op::Append | Op::Prepend => storing_of(alloc, op, arguments),
+        Op::Set | Op::Add | Op::Replace | Op::Append | Op::Prepend => storing_of(
+            alloc, op, arguments,
+        ),
         Op::Cas => cas_of(alloc, arguments),
         Op::Delete => delete_of(alloc, arguments),
         Op::Touch => touch_of(alloc, arguments),

@@ -59,20 +59,40 @@ fn after_line(alloc: Global, line: &mut Vec<u8>, used: usize) -> Result<Step, Al
         Meaning::Stores(header, size) => {
             let body = Vec::with_capacity(alloc, size + 2)?;
             let state = State::Value(Value { header, size, body });
-            Ok(Step { state, item: None, used })
+            Ok(Step {
+                state,
+                item: None,
+                used,
+            })
         }
         Meaning::Whole(request) => {
             line.clear();
-            Ok(Step { state: State::Line, item: Some(Item::Asked(request)), used })
+            Ok(Step {
+                state: State::Line,
+                item: Some(Item::Asked(request)),
+                used,
+            })
         }
         Meaning::Unknown => {
             line.clear();
-            Ok(Step { state: State::Line, item: Some(Item::Refused(Refusal::UnknownCommand)), used })
+            Ok(Step {
+                state: State::Line,
+                item: Some(Item::Refused(Refusal::UnknownCommand)),
+                used,
+            })
         }
-        Meaning::Bad => Ok(Step { state: State::Failed, item: Some(Item::Refused(Refusal::BadLine)), used }),
+        Meaning::Bad => Ok(Step {
+            state: State::Failed,
+            item: Some(Item::Refused(Refusal::BadLine)),
+            used,
+        }),
         Meaning::TooLarge(size) => {
             line.clear();
-            Ok(Step { state: State::Skip(size + 2), item: Some(Item::Refused(Refusal::ValueTooLarge)), used })
+            Ok(Step {
+                state: State::Skip(size + 2),
+                item: Some(Item::Refused(Refusal::ValueTooLarge)),
+                used,
+            })
         }
     }
 }
@@ -87,14 +107,27 @@ fn line_goes_on(line: &mut Vec<u8>, piece: &[u8]) -> Result<Step, AllocError>
 {
     let used = piece.len();
     if used > LINE_LIMIT - line.len() {
-        return Ok(Step { state: State::Failed, item: Some(Item::Refused(Refusal::BadLine)), used });
+        return Ok(Step {
+            state: State::Failed,
+            item: Some(Item::Refused(Refusal::BadLine)),
+            used,
+        });
     }
     line.extend_from_slice(piece)?;
-    Ok(Step { state: State::Line, item: None, used })
+    Ok(Step {
+        state: State::Line,
+        item: None,
+        used,
+    })
 }
 
 /// A piece in which the line ends.
-fn line_ends(alloc: Global, line: &mut Vec<u8>, piece: &[u8], end: usize) -> Result<Step, AllocError>
+fn line_ends(
+    alloc: Global,
+    line: &mut Vec<u8>,
+    piece: &[u8],
+    end: usize,
+) -> Result<Step, AllocError>
     requires line { IsLine line.old.items }
     requires ends { EndsAt piece.now end }
     ensures used { IfOk result (λ s. (0 < s.used) × (s.used ≤ length piece.now)) }
@@ -102,7 +135,11 @@ fn line_ends(alloc: Global, line: &mut Vec<u8>, piece: &[u8], end: usize) -> Res
     ensures steps { IfOk result (λ s. Steps (Held line.old.items) piece.now s.item (stands line.new.items s.state) (drop s.used piece.now)) }
 {
     if end > LINE_LIMIT - line.len() {
-        return Ok(Step { state: State::Failed, item: Some(Item::Refused(Refusal::BadLine)), used: piece.len() });
+        return Ok(Step {
+            state: State::Failed,
+            item: Some(Item::Refused(Refusal::BadLine)),
+            used: piece.len(),
+        });
     }
     line.extend_from_slice(&piece[..end])?;
     after_line(alloc, line, end + 1)
@@ -154,30 +191,66 @@ fn value_end(bytes: &[u8], size: usize) -> ValueEnd
 fn stored(alloc: Global, header: Header, body: Vec<u8>) -> Result<Request, AllocError>
     ensures { IfOk result (λ r. request_value r ≡ asking (with_body (header_value header) body.items)) }
 {
-    let Header { op, keys, flags, exptime, cas, noreply } = header;
+    let Header {
+        op,
+        keys,
+        flags,
+        exptime,
+        cas,
+        noreply,
+    } = header;
     let body = Arc::new(alloc, body)?;
-    Ok(Request::Ask(Ask { op, keys, flags, exptime, body, cas, noreply }))
+    Ok(Request::Ask(Ask {
+        op,
+        keys,
+        flags,
+        exptime,
+        body,
+        cas,
+        noreply,
+    }))
 }
 
 /// A piece that comes while a value is read.
-fn value_step(alloc: Global, line: &mut Vec<u8>, value: Value, piece: &[u8]) -> Result<Step, AllocError>
+fn value_step(
+    alloc: Global,
+    line: &mut Vec<u8>,
+    value: Value,
+    piece: &[u8],
+) -> Result<Step, AllocError>
     requires kept { IsKept line.old.items (State.Value value) }
     requires some { 0 < length piece.now }
     ensures used { IfOk result (λ s. (0 < s.used) × (s.used ≤ length piece.now)) }
     ensures kept { IfOk result (λ s. IsKept line.new.items s.state) }
     ensures steps { IfOk result (λ s. Steps (stands line.old.items (State.Value value)) piece.now s.item (stands line.new.items s.state) (drop s.used piece.now)) }
 {
-    let Value { header, size, mut body } = value;
+    let Value {
+        header,
+        size,
+        mut body,
+    } = value;
     let used = (size + 2 - body.len()).min(piece.len());
     body.extend_from_slice(&piece[..used])?;
     match value_end(body.as_slice(), size) {
-        ValueEnd::Part => Ok(Step { state: State::Value(Value { header, size, body }), item: None, used }),
-        ValueEnd::Wrong => Ok(Step { state: State::Failed, item: Some(Item::Refused(Refusal::BadDataChunk)), used: piece.len() }),
+        ValueEnd::Part => Ok(Step {
+            state: State::Value(Value { header, size, body }),
+            item: None,
+            used,
+        }),
+        ValueEnd::Wrong => Ok(Step {
+            state: State::Failed,
+            item: Some(Item::Refused(Refusal::BadDataChunk)),
+            used: piece.len(),
+        }),
         ValueEnd::Whole => {
             body.truncate(size);
             let request = stored(alloc, header, body)?;
             line.clear();
-            Ok(Step { state: State::Line, item: Some(Item::Asked(request)), used })
+            Ok(Step {
+                state: State::Line,
+                item: Some(Item::Asked(request)),
+                used,
+            })
         }
     }
 }
@@ -191,12 +264,25 @@ fn skip_step(count: usize, piece: &[u8]) -> Step
     ensures steps { Steps (Skips count) piece.now result.item (stands [] result.state) (drop result.used piece.now) }
 {
     if piece.len() < count {
-        return Step { state: State::Skip(count - piece.len()), item: None, used: piece.len() };
+        return Step {
+            state: State::Skip(count - piece.len()),
+            item: None,
+            used: piece.len(),
+        };
     }
-    Step { state: State::Line, item: None, used: count }
+    Step {
+        state: State::Line,
+        item: None,
+        used: count,
+    }
 }
 
-fn take_step(alloc: Global, line: &mut Vec<u8>, state: State, piece: &[u8]) -> Result<Step, AllocError>
+fn take_step(
+    alloc: Global,
+    line: &mut Vec<u8>,
+    state: State,
+    piece: &[u8],
+) -> Result<Step, AllocError>
     requires kept { IsKept line.old.items state }
     requires some { 0 < length piece.now }
     ensures used { IfOk result (λ s. (0 < s.used) × (s.used ≤ length piece.now)) }
@@ -207,12 +293,21 @@ fn take_step(alloc: Global, line: &mut Vec<u8>, state: State, piece: &[u8]) -> R
         State::Line => line_step(alloc, line, piece),
         State::Value(value) => value_step(alloc, line, value, piece),
         State::Skip(count) => Ok(skip_step(count, piece)),
-        State::Failed => Ok(Step { state: State::Failed, item: None, used: piece.len() }),
+        State::Failed => Ok(Step {
+            state: State::Failed,
+            item: None,
+            used: piece.len(),
+        }),
     }
 }
 
 /// Reads a piece whole. Where memory runs out, the state is Failed.
-fn read(alloc: Global, line: &mut Vec<u8>, state: &mut State, piece: &[u8]) -> Result<Vec<Item>, AllocError>
+fn read(
+    alloc: Global,
+    line: &mut Vec<u8>,
+    state: &mut State,
+    piece: &[u8],
+) -> Result<Vec<Item>, AllocError>
     requires { IsKept line.old.items state.old }
     ensures kept { IsKept line.new.items state.new }
     ensures items { IfOk result (λ v. Reads (followed (stands line.old.items state.old) piece.now) (map item_value v.items) (stands line.new.items state.new)) }
@@ -222,7 +317,11 @@ fn read(alloc: Global, line: &mut Vec<u8>, state: &mut State, piece: &[u8]) -> R
     let mut rest = piece;
     while !rest.is_empty() {
         let current = mem::replace(state, State::Failed);
-        let Step { state: next, item, used } = take_step(alloc, line, current, rest)?;
+        let Step {
+            state: next,
+            item,
+            used,
+        } = take_step(alloc, line, current, rest)?;
         if let Some(item) = item {
             items.push(item)?;
         }
@@ -257,7 +356,11 @@ impl RequestReader {
         ensures { result ≡ Held [] }
     {
         let line = Vec::new(alloc);
-        RequestReader { alloc, line, state: State::Line }
+        RequestReader {
+            alloc,
+            line,
+            state: State::Line,
+        }
     }
 
     /// The items that end in the next piece. Behind BadLine and BadDataChunk, and after a fault, the reader has

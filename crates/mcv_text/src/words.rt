@@ -14,6 +14,7 @@ const KEY_LIMIT: usize = 250;
 
 /// The greatest i64, and the magnitude of the least.
 const GREATEST: u64 = 0x7fff_ffff_ffff_ffff;
+
 const LEAST: u64 = 0x8000_0000_0000_0000;
 
 /// The line without a CR at its end.
@@ -31,7 +32,9 @@ fn content(line: &[u8]) -> &[u8]
 fn words_of(alloc: Global, line: &[u8]) -> Result<Vec<&[u8]>, AllocError>
     ensures { IfOk result (λ v. map (λ word. word.now) v.items ≡ words line.now) }
 {
-    line.split(|b| *b == b' ').filter(|word| word.len() != 0).collect(alloc)
+    line.split(|b| *b == b' ')
+        .filter(|word| word.len() != 0)
+        .collect(alloc)
 }
 
 /// The words of a line that stands before its LF.

@@ -1,6 +1,6 @@
-use Rattle.std.proofs.Common.{◌≡◌, ap, sym, arith, ◌∙◌, ◌++◌, List, ℕ, map, [], drop}
+use Rattle.std.proofs.Common.{◌≡◌, ap, sym, arith, ◌∙◌, ◌++◌, map, [], drop}
 use Rattle.std.proofs.lemmas.List.{drop_all, append-nil}
-use Rattle.mcv_base.specs.Reply.{ReplyValue, part_value}
+use Rattle.mcv_base.specs.Reply.{part_value}
 use Rattle.mcv_text.specs.Answer.{hits_text}
 use Rattle.mcv_text.proofs.Hits.{hits_none}
 use Rattle.mcv_text.proofs.answer.push_hits.Goals as goal

@@ -1,4 +1,4 @@
-use Rattle.std.proofs.Common.{◌≡◌, List, ℕ, true, map, take}
+use Rattle.std.proofs.Common.{◌≡◌, true, map, take}
 use Rattle.std.specs.List.{list_all}
 use Rattle.mcv_base.specs.Key.{is_key_word}
 use Rattle.mcv_text.proofs.line.keys_of.Given as goal

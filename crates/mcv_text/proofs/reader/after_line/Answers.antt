@@ -1,6 +1,6 @@
-use Rattle.std.proofs.Common.{◌≡◌, ℕ, ◌++◌, ◌∷◌, [], List, refl, ap, sym, ◌∙◌, rules}
+use Rattle.std.proofs.Common.{refl, ap, sym, ◌∙◌}
 use Rattle.mcv_text.specs.Line.{line_value, meaning}
-use Rattle.mcv_text.specs.Stream.{Held, Skips, followed}
+use Rattle.mcv_text.specs.Stream.{Held}
 use Rattle.mcv_text.proofs.Ends.{line_item, nil_front}
 use Rattle.mcv_text.proofs.reader.after_line.Goals as goal
 

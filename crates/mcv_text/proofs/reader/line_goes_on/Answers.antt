@@ -1,4 +1,4 @@
-use Rattle.std.proofs.Common.{◌≡◌, ◌<◌, ℕ, length, ◌++◌, ◌∷◌, [], List, refl, ap, sym, subst, ◌∙◌, arith}
+use Rattle.std.proofs.Common.{ℕ, ◌++◌, [], List, subst, arith}
 use Rattle.std.proofs.lemmas.List.{append-nil}
 use Rattle.mcv_text.specs.Request.{refused}
 use Rattle.mcv_text.specs.declared.item.Refusal.TheVariants as refusals
@@ -10,4 +10,4 @@ pub returns-then-used-len-clause-steps : goal.returns-then-used-len-clause-steps
 returns-then-used-len-clause-steps c =
     let piece = c.args.piece.now in
     subst (λ (t : List ℕ). Begins (c.args.line.now.items ++ t) (refused refusals.BadLine) Failed) (append-nil piece)
-      (too_long_begins c.args.line.now.items piece [] c.requires.line c.requires.no_end (omega arith))
+    (too_long_begins c.args.line.now.items piece [] c.requires.line c.requires.no_end (omega arith))

@@ -1,4 +1,4 @@
-use Rattle.std.proofs.Common.{◌≡◌, List, [], map, length, subst, rules, arith}
+use Rattle.std.proofs.Common.{◌≡◌, List, [], map, length, subst, rules}
 use Rattle.std.proofs.lemmas.List.{append-nil, nil_from_length}
 use Rattle.mcv_text.specs.Request.{ItemValue, item_value}
 use Rattle.mcv_text.specs.Stream.{Reads, followed}
@@ -11,5 +11,5 @@ returns-clause-items c =
     let none : length c.loop-rest.rest.now ≡ 0 = search rules in
     let here = rests_here (stands c.loop-rest.line.items c.loop-rest.state) c.loop-rest.rest.now (kept_rests c.loop-rest.line.items c.loop-rest.state c.loop-rest.invariant.kept) (nil_from_length c.loop-rest.rest.now none) in
     subst (λ (v : List ItemValue). Reads (followed (stands c.args.line.now.items c.args.state.now) c.args.piece.now) v (stands c.loop-rest.line.items c.loop-rest.state))
-      (append-nil (map item_value c.loop-rest.items.items))
-      (c.loop-rest.invariant.so_far [] (stands c.loop-rest.line.items c.loop-rest.state) here)
+    (append-nil (map item_value c.loop-rest.items.items))
+    (c.loop-rest.invariant.so_far [] (stands c.loop-rest.line.items c.loop-rest.state) here)

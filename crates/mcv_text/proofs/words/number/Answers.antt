@@ -1,4 +1,4 @@
-use Rattle.std.proofs.Common.{ℕ, ◌≡◌, ◌+◌, ◌*◌, ◌<◌, ◌≤◌, arith, rules, refl, get_or, length}
+use Rattle.std.proofs.Common.{◌<◌, arith, refl, get_or, length}
 use Rattle.std.proofs.lemmas.Int.Digits.{digits_more, digits_value_more}
 use Rattle.std.specs.Char.{digit_value}
 use Rattle.mcv_text.proofs.Numbers.{not_number, over}
