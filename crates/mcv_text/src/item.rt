@@ -53,9 +53,9 @@ impl Refusal {
 #[derive(Clone, Copy, Debug, PartialEq, Eq, Error)]
 pub enum TextFault {
     #[error("the reader has failed before")]
-    Failed = 1,
+    Failed,
     #[error("out of memory")]
-    Memory = 2,
+    Memory,
 }
 
 impl TextFault {
@@ -63,6 +63,9 @@ impl TextFault {
     pub fn number(self) -> u8
         ensures { result ≡ fault_number self }
     {
-        self as u8
+        match self {
+            TextFault::Failed => 1,
+            TextFault::Memory => 2,
+        }
     }
 }

@@ -356,11 +356,8 @@ impl RequestReader {
         ensures { result ≡ Held [] }
     {
         let line = Vec::new(alloc);
-        RequestReader {
-            alloc,
-            line,
-            state: State::Line,
-        }
+        let state = State::Line;
+        RequestReader { alloc, line, state }
     }
 
     /// The items that end in the next piece. Behind BadLine and BadDataChunk, and after a fault, the reader has
