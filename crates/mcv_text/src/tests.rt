@@ -164,12 +164,10 @@ fn read_long(alloc: Global, front: &[u8], letters: usize, back: &[u8]) -> Result
     let mut reader = RequestReader::new(alloc);
     let piece = [b'k'; 4096];
     push_items(&mut text, reader.feed(front))?;
-    let mut left = letters;
-    while left > 0 {
-        let count = left.min(4096);
-        push_items(&mut text, reader.feed(&piece[..count]))?;
-        left -= count;
+    for _ in 0..letters / 4096 {
+        push_items(&mut text, reader.feed(&piece))?;
     }
+    push_items(&mut text, reader.feed(&piece[..letters % 4096]))?;
     match reader.feed(back) {
         Err(TextFault::Failed) => Ok(text),
         fed => {
