@@ -7,10 +7,10 @@ use Rattle.mcv_text.specs.Request.{AskValue, ItemValue}
 use Rattle.mcv_text.specs.Stream.{Stands, Held, Skips, Failed, followed, Begins, by_line, too_long, AfterLine, AfterValue, stored, no_cr, no_lf, First, Reads}
 use Rattle.mcv_text.specs.Line.{LineValue, whole, stores, unknown, bad, too_large, meaning}
 
-skips_short : (n : ℕ) (a : List ℕ) → length a < n → followed (Skips n) a ≡ Skips (n - length a)
+pub skips_short : (n : ℕ) (a : List ℕ) → length a < n → followed (Skips n) a ≡ Skips (n - length a)
 skips_short n a l = ap (λ b. cond b (Skips (n - length a)) (Held (drop n a))) (lt-ltb (length a) n l)
 
-skips_long : (n : ℕ) (a : List ℕ) → n ≤ length a → followed (Skips n) a ≡ Held (drop n a)
+pub skips_long : (n : ℕ) (a : List ℕ) → n ≤ length a → followed (Skips n) a ≡ Held (drop n a)
 skips_long n a l = ap (λ b. cond b (Skips (n - length a)) (Held (drop n a))) (le-ltb (length a) n l)
 
 drop_past : (n : ℕ) (a b : List ℕ) → length a ≤ n → drop n (a ++ b) ≡ drop (n - length a) b

@@ -71,3 +71,13 @@ First Failed item rest = ⊥
 abbrev pub Reads : Stands → List ItemValue → Stands → Type 0
 Reads from [] rest = Rests from × (rest ≡ from)
 Reads from (item ∷ items) rest = (next : Stands) × First from item next × Reads next items rest
+
+-- refusals 2 and 3, behind which nothing is read
+abbrev pub IsEnding : ItemValue → Type 0
+IsEnding item = (item ≡ refused refusals.BadLine) ⊎ (item ≡ refused refusals.BadDataChunk)
+
+-- the last item is one of them
+abbrev pub EndsRefused : List ItemValue → Type 0
+EndsRefused [] = ⊥
+EndsRefused (item ∷ []) = IsEnding item
+EndsRefused (item ∷ next ∷ items) = EndsRefused (next ∷ items)

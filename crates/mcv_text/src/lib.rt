@@ -15,7 +15,7 @@ mod words;
 
 pub use answer::reply_text;
 pub use item::{Item, Refusal, TextFault};
-pub use laws::{any_pieces, leg_texts_are_read, one_reading};
+pub use laws::{any_pieces, failing_is_refused, leg_texts_are_read, one_reading};
 pub use leg::leg_text;
 pub use reader::RequestReader;
 
