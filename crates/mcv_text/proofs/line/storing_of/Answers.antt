@@ -1,0 +1,10 @@
+use Rattle.std.proofs.Common.{◌<◌, arith, map, length, Bor, List, ℕ}
+use Rattle.std.proofs.lemmas.List.{length-map}
+use Rattle.mcv_text.proofs.Lines.{storing_short}
+use Rattle.mcv_text.proofs.line.storing_of.Goals as goal
+
+pub returns-in_default-clause-means : goal.returns-in_default-clause-means
+returns-in_default-clause-means c =
+    let words : List (List ℕ) = map (λ (word : Bor (List ℕ)). word.now) c.args.arguments.now in
+    let short : length words < 4 = omega (arith, c.in_default.len_below, length-map c.args.arguments.now (λ (word : Bor (List ℕ)). word.now)) in
+    storing_short c.args.op words short
