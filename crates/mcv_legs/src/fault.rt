@@ -1,6 +1,7 @@
 //! Why no legs were written.
 
 ghost use Rattle.std.specs.Prelude.{◌≡◌};
+ghost use Rattle.mcv_legs.specs.Fault.{run_fault_number, run_fault_status};
 ghost use Rattle.mcv_legs.specs.declared.fault.RunFault.TheVariants.{Memory as out_of_memory};
 
 use std::alloc::AllocError;
@@ -33,7 +34,9 @@ impl From<AllocError> for RunFault {
 
 impl RunFault {
     /// The number of the fault: 1, 2, 3, 6 or 7.
-    pub fn number(&self) -> u8 {
+    pub fn number(&self) -> u8
+        ensures { result ≡ run_fault_number self.now }
+    {
         match self {
             RunFault::Line => 1,
             RunFault::NoRoute => 2,
@@ -43,7 +46,9 @@ impl RunFault {
     }
 
     /// The exit status of the program: 1, 2 or 4.
-    pub fn status(&self) -> u8 {
+    pub fn status(&self) -> u8
+        ensures { result ≡ run_fault_status self.now }
+    {
         match self {
             RunFault::Line => 1,
             RunFault::NoRoute => 2,
