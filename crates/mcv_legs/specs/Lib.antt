@@ -1,3 +1,4 @@
 pub mod Fault
 pub mod Request
 pub mod Text
+pub mod Answer
