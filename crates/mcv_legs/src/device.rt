@@ -2,7 +2,7 @@
 
 ghost use Rattle.std.specs.Prelude.{◌≡◌, IfSome, IfOk, OnOk, IfErr, take};
 ghost use Rattle.std.specs.Io.KnownBytes.{Appends};
-ghost use Rattle.mcv_legs.specs.Answer.{input_limit};
+ghost use Rattle.mcv_legs.specs.Limits.{input_limit};
 ghost use Rattle.mcv_legs.specs.Fault.{IsOutside};
 
 use crate::fault::RunFault;
