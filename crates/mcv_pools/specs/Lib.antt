@@ -1,0 +1,4 @@
+pub mod Symbol
+pub mod Table
+pub mod Hash
+pub mod Choice

@@ -7,3 +7,5 @@ pub mod Replies
 pub mod Launched
 pub mod Reply
 pub mod Verdict
+pub mod View
+pub mod TreeCode

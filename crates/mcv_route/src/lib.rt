@@ -2,5 +2,7 @@
 #![tactic(auto)]
 
 mod launch;
+mod tree;
 
 pub use launch::{Answered, Launch};
+pub use tree::{Leaf, OperationPolicy, Route};
