@@ -45,3 +45,6 @@ fn run<R: Env + AllocGlobal + Input + Print>(rt: &R) -> Result<(), Stop> {
         &mut io::writer(rt),
     )
 }
+
+#[cfg(test)]
+mod tests;

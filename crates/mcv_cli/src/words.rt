@@ -12,25 +12,36 @@ use clap::{Command, Error as ClapError};
 use std::alloc::{AllocError, Global};
 use thiserror::Error;
 
-const ABOUT: &str = "Verifies configurations of mcrouter, the routing proxy for memcached.";
+const ABOUT: &str =
+    "Verifies configurations of mcrouter, the routing proxy for memcached: `legs` shows to which
+servers a configuration sends a request.";
 
-const EXIT_STATUSES: &str = "Exit status:
+const EXAMPLE: &str = "Example: a delete of the key `a`, and behind it the configuration
+
+  mcv legs <<'END'
+  delete a
+  {\"pools\": {\"A\": {\"servers\": [\"a:11211\"]}}, \"route\": \"PoolRoute|A\"}
+  END
+
+Exit status:
   0  done, or help was asked for
   1  bad command line, or bad request line
   2  the configuration is refused, or has no route for the key
-  4  out of memory, or standard input or output failed";
+  4  out of memory, or reading or writing failed";
 
-const LEGS_ABOUT: &str = "Shows to which servers a configuration sends a request, and what the \
-client is told before any of them has answered";
+const LEGS_ABOUT: &str = "Shows to which servers a request is sent, and what is replied by then";
 
-const LEGS_INPUT: &str =
-    "Standard input is the request, in one line, and then the configuration, as JSON:
+const LEGS_FORM: &str =
+    "The first line of standard input is the request, an operation and a key. What follows is the
+configuration, as JSON:
+
   delete a
   {\"pools\": {\"A\": {\"servers\": [\"a:11211\"]}}, \"route\": \"PoolRoute|A\"}
 
-Standard output has a line for each leg, a request to one server: its place in the
-route, the server, and whether the client's reply may wait for it. The last line is
-the reply, or `none` while it waits for a leg:
+Each line of standard output is a leg: its place in the route (`-` is the top, `0.1` the second
+child of the first), the server, and its mark. The last line is the reply to the client before
+any server has answered, `none` while that waits for a leg:
+
   leg - a:11211 plain
   reply none";
 
@@ -81,7 +92,7 @@ fn legs_command<'a>(alloc: Global) -> Command<'a>
     Command::new(alloc, "legs")
         .about(LEGS_ABOUT)
         .override_usage("mcv legs < FILE")
-        .after_help(LEGS_INPUT)
+        .after_help(LEGS_FORM)
 }
 
 fn command<'a>(alloc: Global) -> Result<Command<'a>, AllocError>
@@ -90,7 +101,7 @@ fn command<'a>(alloc: Global) -> Result<Command<'a>, AllocError>
     let legs = legs_command(alloc);
     Command::new(alloc, "mcv")
         .about(ABOUT)
-        .after_help(EXIT_STATUSES)
+        .after_help(EXAMPLE)
         .subcommand_required(true)
         .bin_name("mcv")?
         .subcommand(legs)
