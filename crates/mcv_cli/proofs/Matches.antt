@@ -1,5 +1,5 @@
 -- What clap's matches and errors say of the words.
-use Rattle.std.proofs.Common.{◌≡◌, ◌≢◌, ◌∙◌, ◌⊎◌, inl, inr, List, Option, Some, None, refl, ap₂, subst, sym}
+use Rattle.std.proofs.Common.{◌≡◌, ◌≢◌, ◌∙◌, ◌⊎◌, inl, inr, List, Option, Some, None, refl, ap, ap₂, subst, sym}
 use Rattle.std.specs.Prelude.{Box, option_map}
 use Rattle.std.specs.Box.{box_value}
 use Rattle.clap.specs.Words.{IsAmong, Row, Text, rows_of, subcommand_rows_of, subcommand_name_of}
@@ -32,11 +32,14 @@ pub named_rows : (m : ArgMatches) (name : Text) (rows : List Row) → subcommand
     → subcommand_rows_of m ≡ Some (name, rows)
 named_rows m name rows is at = some_pair (subcommand_rows_of m) name rows (name_part (out-ArgMatches m).subcommand ∙ is) at
 
+pub name_of_rows : (m : ArgMatches) (name : Text) (rows : List Row) → subcommand_rows_of m ≡ Some (name, rows) → subcommand_name_of m ≡ Some name
+name_of_rows m name rows is = sym (name_part (out-ArgMatches m).subcommand) ∙ ap (λ (o : Option (Text × List Row)). option_map (λ p. p.0) o) is
+
 -- a fault by clap's kind is one of the words, where that kind stands among theirs
 pub fault_of_kind : (words : List Text) (kind : ErrorKind) (fault : LineFault) → (kind ≡ OutOfMemory) ⊎ IsAmong kind (faults words) → IsFaultOfKind kind fault
     → IsLineFault words fault
 fault_of_kind words kind BadLine (inl memory) by = absurd (by.0 memory)
-fault_of_kind words kind BadLine (inr among) by = inl (kind, by.1, among)
+fault_of_kind words kind BadLine (inr among) by = (kind, by.1, among)
 fault_of_kind words kind Memory among by = tt
 fault_of_kind words kind (Help text) (inl memory) by = absurd (cc)
 fault_of_kind words kind (Help text) (inr among) by = subst (λ (k : ErrorKind). IsAmong k (faults words)) by among

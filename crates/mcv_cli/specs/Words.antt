@@ -1,7 +1,7 @@
 -- What the words of a command line ask for. The words are those of the shell, the program's name
 -- first; how they are read is clap's: `fault_of` lists the kinds of fault that it finds with words,
 -- and `subcommand_of` the subcommand that they name.
-use Rattle.std.specs.Prelude.{◌≡◌, ◌≢◌, ◌⊎◌, ⊤, ℕ, true, List, [], Option, Some, codes}
+use Rattle.std.specs.Prelude.{◌≡◌, ◌≢◌, ⊤, ℕ, true, List, [], Option, Some, codes}
 use Rattle.clap.specs.Words.{App, IsAmong, Kinds, Row, Text, fault_of, new_app, subcommand_of, with_subcommand}
 use Rattle.clap.specs.declared.error.kind.ErrorKind.{ErrorKind}
 use Rattle.clap.specs.declared.error.kind.ErrorKind.TheVariants.{DisplayHelp, OutOfMemory}
@@ -40,10 +40,10 @@ NamesLegs words = (rows : List Row) × (named words ≡ Some (codes "legs", rows
 abbrev pub IsJobOf : List Text → Job → Type 0
 IsJobOf words Legs = (faults words ≡ []) × NamesLegs words
 
--- why words ask for no job: clap finds a fault with them that isn't the wish for help, or they name
--- no command; memory ran out; they ask for help
+-- why words ask for no job: clap finds a fault with them that isn't the wish for help; memory ran
+-- out; they ask for help
 abbrev pub IsLineFault : List Text → LineFault → Type 0
-IsLineFault words BadLine = ((kind : ErrorKind) × (kind ≢ DisplayHelp) × IsAmong kind (faults words)) ⊎ (¬ NamesLegs words)
+IsLineFault words BadLine = (kind : ErrorKind) × (kind ≢ DisplayHelp) × IsAmong kind (faults words)
 IsLineFault words Memory = ⊤
 IsLineFault words (Help text) = IsAmong DisplayHelp (faults words)
 

@@ -33,7 +33,7 @@ pub fn run_words<'a, R: Read, W: Write>(
 ) -> Result<(), Stop>
     ensures done { OnOk result (IsDone (map (λ w. w.now) words.entry.now) (R.remaining reader.old)
         (W.contents writer.old) (W.contents writer.new)) }
-    ensures stop { IfErr result (IsStop (map (λ w. w.now) words.entry.now)) }
+    ensures stop { IfErr result (IsStop (map (λ w. w.now) words.entry.now) (R.remaining reader.old)) }
     ensures silent { IfErr result (λ stop. stop ≢ stopped_run Device → W.contents writer.new ≡ W.contents writer.old) }
 {
     match read_words(alloc, words) {
