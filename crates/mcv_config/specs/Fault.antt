@@ -1,5 +1,5 @@
 -- What reading a value gives: what it names, or the faults that stand in it.
-use Rattle.std.specs.Prelude.{◌≡◌, ℕ, List, [], ◌∷◌, ◌++◌, ⊤, ◌⊎◌, Result, Ok, Err, string_bytes}
+use Rattle.std.specs.Prelude.{◌≡◌, ℕ, List, [], ◌∷◌, ◌++◌, ◌⊎◌, Result, Ok, Err, string_bytes}
 use Rattle.mcv_config.specs.declared.fault.FaultKind.{FaultKind}
 use Rattle.mcv_config.specs.declared.fault.FaultKind.TheVariants.{NotJson, UnknownKey, WrongKind, UnknownHandle, UnknownPool, Empty, Limit, BadServer, AliasTwice, LeftOut}
 use Rattle.mcv_config.specs.declared.fault.ConfigFault.{ConfigFault}

@@ -50,7 +50,7 @@ name_lacks_space Delete = refl
 name_lacks_space Touch = refl
 
 -- the bytes of a key word, and how many there are
-key_bytes : (key : List ℕ) → is_key_word key ≡ true → (nat_lt 0 (length key) ≡ true) × (nat_le (length key) 250 ≡ true) × (list_all is_key_byte key ≡ true)
+pub key_bytes : (key : List ℕ) → is_key_word key ≡ true → (nat_lt 0 (length key) ≡ true) × (nat_le (length key) 250 ≡ true) × (list_all is_key_byte key ≡ true)
 key_bytes key is =
     let h = both (nat_lt 0 (length key)) (nat_le (length key) 250 && list_all is_key_byte key) is in
     let k = both (nat_le (length key) 250) (list_all is_key_byte key) h.1 in

@@ -1,9 +1,10 @@
 //! Why no legs were written.
 
 ghost use Rattle.std.specs.Prelude.{◌≡◌};
-ghost use Rattle.mcv_legs.specs.Fault.{run_fault_number, run_fault_status};
+ghost use Rattle.mcv_legs.specs.Fault.{of_configuration, run_fault_number, run_fault_status};
 ghost use Rattle.mcv_legs.specs.declared.fault.RunFault.TheVariants.{Memory as out_of_memory};
 
+use mcv_config::ConfigFault;
 use std::alloc::AllocError;
 use thiserror::Error;
 
@@ -13,9 +14,12 @@ pub enum RunFault {
     /// The input begins with no request line.
     #[error("bad request line")]
     Line,
-    /// No alias of the configuration is the request's prefix.
+    /// The request's prefix is an alias of no route.
     #[error("no route")]
     NoRoute,
+    /// A fault that stands in the configuration; want of memory isn't one.
+    #[error(transparent)]
+    Config(ConfigFault),
     /// Memory ran out, in whatever part.
     #[error("out of memory")]
     Memory,
@@ -32,6 +36,17 @@ impl From<AllocError> for RunFault {
     }
 }
 
+impl From<ConfigFault> for RunFault {
+    ghost from_gives = { λ fault e. e ≡ of_configuration fault };
+
+    fn from(fault: ConfigFault) -> RunFault {
+        match fault {
+            ConfigFault::Memory => RunFault::Memory,
+            ConfigFault::At { kind, path } => RunFault::Config(ConfigFault::At { kind, path }),
+        }
+    }
+}
+
 impl RunFault {
     /// The number of the fault: 1, 2, 3, 6 or 7.
     pub fn number(&self) -> u8
@@ -40,6 +55,7 @@ impl RunFault {
         match self {
             RunFault::Line => 1,
             RunFault::NoRoute => 2,
+            RunFault::Config(_) => 3,
             RunFault::Memory => 6,
             RunFault::Device => 7,
         }
@@ -51,7 +67,7 @@ impl RunFault {
     {
         match self {
             RunFault::Line => 1,
-            RunFault::NoRoute => 2,
+            RunFault::NoRoute | RunFault::Config(_) => 2,
             RunFault::Memory | RunFault::Device => 4,
         }
     }

@@ -5,6 +5,7 @@
 //! reply there is by then (`specs/Answer.antt`), and their text (`specs/Text.antt`).
 #![tactic(auto)]
 
+mod device;
 mod fault;
 mod legs;
 mod request;

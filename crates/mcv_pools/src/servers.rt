@@ -4,11 +4,12 @@
 ghost use Rattle.std.specs.Prelude.{◌≡◌, ◌≤◌, ◌↔◌, [], length, IfOk, OnOk, OnErr, IsOk, IsErrOf, true, false, slice_get};
 ghost use Rattle.std.specs.Option.{option_map};
 ghost use Rattle.std.specs.Str.{bytes_eq};
+ghost use Rattle.mcv_pools.specs.declared.servers.ServersFault.TheVariants.{Memory};
 ghost use Rattle.mcv_pools.specs.Table.{IsOneToOne, is_in, number_in, server_limit, with_entry};
 
 use indexmap::IndexSet;
 use mcv_base::ServerId;
-use std::alloc::Global;
+use std::alloc::{AllocError, AllocFailed, Global};
 use std::marker::Model;
 use thiserror::Error;
 
@@ -22,6 +23,22 @@ pub enum ServersFault {
     Full,
     #[error("out of memory")]
     Memory,
+}
+
+impl From<AllocError> for ServersFault {
+    ghost from_gives = { λ _ e. e ≡ Memory };
+
+    fn from(_fault: AllocError) -> ServersFault {
+        ServersFault::Memory
+    }
+}
+
+impl<T: Drop> From<AllocFailed<T>> for ServersFault {
+    ghost from_gives = { λ _ e. e ≡ Memory };
+
+    fn from(_fault: AllocFailed<T>) -> ServersFault {
+        ServersFault::Memory
+    }
 }
 
 /// Servers' texts, none twice, at most 65,536. Clauses see the list of them, in the order of their numbers.
@@ -63,7 +80,6 @@ impl Servers {
         ensures known { is_in bytes_eq self.old text.now ≡ true → IsOk result }
         ensures full { IsErrOf result ServersFault.Full ↔ ((length self.old ≡ server_limit) × (is_in bytes_eq self.old text.now ≡ false)) }
         ensures unchanged { OnErr result (self.new ≡ self.old) }
-        ensures one_to_one { IsOneToOne self.new }
     {
         if let Some(id) = self.find(text) {
             return Ok(id);
@@ -72,16 +88,14 @@ impl Servers {
         if number >= SERVER_LIMIT {
             return Err(ServersFault::Full);
         }
-        let owned = String::from_str(*self.texts.allocator(), text).map_err(
-            |_| ServersFault::Memory,
-        )?;
-        self.texts.insert(owned).map_err(|_| ServersFault::Memory)?;
+        let owned = String::from_str(*self.texts.allocator(), text)?;
+        self.texts.insert(owned)?;
         Ok(ServerId(number as u32))
     }
 
     /// The number of a server, if it is there.
     pub fn find(&self, text: &str) -> Option<ServerId>
-        ensures number { option_map (λ id. id.0) result ≡ number_in bytes_eq self.now text.now }
+        ensures { option_map (λ id. id.0) result ≡ number_in bytes_eq self.now text.now }
     {
         let number = self.texts.get_index_of(text)?;
         Some(ServerId(number as u32))

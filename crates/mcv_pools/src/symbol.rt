@@ -11,7 +11,7 @@ use std::hash::{Hash, Hasher};
 use std::marker::Model;
 
 /// A hash function of mcrouter's, by its label.
-#[derive(Clone, Copy, Debug)]
+#[derive(Clone, Copy, Debug, PartialEq, Eq)]
 pub enum HashFunc {
     Ch3,
     Crc32,

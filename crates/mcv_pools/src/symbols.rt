@@ -1,8 +1,8 @@
 //! The table of symbols: each with its number, in the order in which they first came.
 
-ghost use Rattle.std.specs.Prelude.{◌≡◌, [], length, IfOk, OnOk, OnErr, Some, slice_get, option_copied};
+ghost use Rattle.std.specs.Prelude.{◌≡◌, [], length, IfOk, OnOk, OnErr, IsOk, true, Some, slice_get, option_copied};
 ghost use Rattle.mcv_pools.specs.Symbol.{same_symbol};
-ghost use Rattle.mcv_pools.specs.Table.{IsOneToOne, number_in, with_entry};
+ghost use Rattle.mcv_pools.specs.Table.{IsOneToOne, is_in, number_in, with_entry};
 
 use crate::symbol::Symbol;
 use indexmap::IndexSet;
@@ -34,13 +34,14 @@ impl Symbols {
         }
     }
 
-    /// The number of a symbol, which goes last where it isn't there yet. An error leaves the table as it was.
+    /// The number of a symbol, which goes last where it isn't there yet. A symbol that is there needs no memory,
+    /// and an error leaves the table as it was.
     pub fn insert(&mut self, symbol: Symbol) -> Result<usize, AllocError>
         ensures table { OnOk result (self.new ≡ with_entry same_symbol self.old symbol) }
         ensures number { IfOk result (λ i. number_in same_symbol self.new symbol ≡ Some i) }
         ensures place { IfOk result (λ i. slice_get self.new i ≡ Some symbol) }
+        ensures known { is_in same_symbol self.old symbol ≡ true → IsOk result }
         ensures unchanged { OnErr result (self.new ≡ self.old) }
-        ensures one_to_one { IsOneToOne self.new }
     {
         let (number, _) = self.symbols.insert_full(symbol)?;
         Ok(number)

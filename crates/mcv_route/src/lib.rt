@@ -1,8 +1,13 @@
-//! The tree of a route.
+//! The routes of a configuration: their trees, their leaves with the tables of servers and symbols, and their eras.
+//!
+//! What each handle sends and replies is defined over these trees (`specs/Launched.antt`, `specs/Replies.antt`).
 #![tactic(auto)]
 
+mod build;
 mod launch;
+mod routes;
 mod tree;
 
 pub use launch::{Answered, Launch};
+pub use routes::Routes;
 pub use tree::{Leaf, OperationPolicy, Route};

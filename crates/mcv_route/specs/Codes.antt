@@ -1,10 +1,13 @@
--- That a tree can be told from another: by which values that hold trees may stand in clauses. It says nothing of what a tree means.
+-- That a tree can be told from another, by which values that hold trees may stand in clauses. It says nothing of what a tree means.
 use Rattle.std.specs.Prelude.{◌≡◌, ℕ, ◌==◌, List, [], ◌∷◌, Option, if◌then◌else◌, refl}
 use Rattle.std.specs.Coded.{Coded, code_by, coded×, coded_ℕ, coded_list, coded_option}
 use base.Stored.{Gv, gnil, gnum, gcons}
 use Rattle.std.proofs.Common.{ap, subst, sym}
 use Rattle.mcv_base.specs.declared.operation.Op.{Op}
 use Rattle.mcv_base.specs.contracts.operation.Op.{the_row}
+use Rattle.mcv_pools.specs.Symbol.{SymbolValue}
+use Rattle.mcv_pools.specs.contracts.symbol.Symbol.{the_row as symbol_row}
+use Rattle.mcv_route.specs.Routes.{RouteEntry, RoutesValue}
 use Rattle.mcv_route.specs.Tree.{Pool, Range, Tree, Trees, pool, null, error, all_sync, all_initial, all_async, failover, miss_failover, warm_up, migrate, prefix_selector, operation_selector, none, child}
 
 -- what a handle is, but for its children
@@ -153,3 +156,14 @@ node_code = record { code = code_of; inj = code_of-inj }
 
 abbrev pub tree_code : Coded Tree
 tree_code = code_by Node node_code node_of tree_of tree_of-node_of
+
+abbrev pub entry_code : Coded RouteEntry
+entry_code =
+    code_by (List (List ℕ) × Tree) (coded× (coded_list (coded_list coded_ℕ)) tree_code) (λ e. (e.aliases, e.tree))
+    (λ p. record { aliases = p.0; tree = p.1 }) (λ _. refl)
+
+abbrev pub routes_code : Coded RoutesValue
+routes_code =
+    code_by (List (List ℕ) × (List SymbolValue × List RouteEntry))
+    (coded× (coded_list (coded_list coded_ℕ)) (coded× (coded_list symbol_row.coded) (coded_list entry_code)))
+    (λ r. (r.servers, (r.symbols, r.entries))) (λ p. record { servers = p.0; symbols = p.1.0; entries = p.1.1 }) (λ _. refl)

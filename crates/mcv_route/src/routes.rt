@@ -1,0 +1,159 @@
+//! All routes of a configuration, with the tables of servers and symbols that their leaves name.
+
+ghost use Rattle.std.specs.Prelude.{◌≡◌, Some, None, IfOk, option_map, slice_get};
+ghost use Rattle.mcv_config.specs.Plan.{IsSound, plan_of};
+ghost use Rattle.mcv_route.specs.Built.{routes_named};
+ghost use Rattle.mcv_route.specs.Eras.{breaks_of, since_at};
+ghost use Rattle.mcv_route.specs.Places.{children_of, child_at, is_alias, leaf_in, route_of_prefix};
+ghost use Rattle.mcv_route.specs.Routes.{IsSoundRoutes};
+ghost use Rattle.mcv_route.specs.RoutesView.{entry_view};
+ghost use Rattle.mcv_route.specs.View.{pool_view, view};
+
+use crate::build::{build_route, shared_lists};
+use crate::tree::{Leaf, Route};
+use mcv_base::{Moment, Position, Prefix};
+use mcv_config::{Config, Entry};
+use mcv_pools::{Servers, Symbols};
+use std::alloc::{AllocError, Global};
+use std::marker::Model;
+
+/// A route with the routing prefixes that select it.
+#[derive(Drop)]
+struct AliasedRoute {
+    aliases: Vec<Prefix>,
+    route: Route,
+}
+
+/// The routes of a configuration, by their numbers from 0. Clauses see a `RoutesValue`.
+#[derive(Drop)]
+pub struct Routes {
+    servers: Servers,
+    symbols: Symbols,
+    entries: Vec<AliasedRoute>,
+}
+
+impl Model for Routes {
+    ghost use Rattle.mcv_route.specs.Routes.{RoutesValue};
+    ghost use Rattle.mcv_route.specs.Codes.{routes_code};
+
+    ghost Value = { RoutesValue };
+
+    ghost coded = { routes_code };
+
+    ghost use Rattle.mcv_route.specs.RoutesView.{routes_view, AreSound};
+
+    ghost view = { routes_view };
+
+    ghost invariant = { AreSound };
+}
+
+impl Routes {
+    /// The routes that a configuration names, its symbols numbered in the order in which the walk of the
+    /// routes meets them. An error where memory runs out.
+    pub fn build(alloc: Global, config: Config) -> Result<Routes, AllocError>
+        requires { IsSound (plan_of config) }
+        ensures { IfOk result (λ r. r ≡ routes_named (plan_of config)) }
+    {
+        let Config {
+            servers,
+            pools,
+            entries,
+        } = config;
+        let lists = shared_lists(alloc, pools)?;
+        let mut symbols = Symbols::new(alloc);
+        let mut built = Vec::with_capacity(alloc, entries.len())?;
+        for Entry { aliases, route } in entries {
+            let route = build_route(alloc, &route, lists.as_slice(), &mut symbols)?;
+            built.push(AliasedRoute { aliases, route })?;
+        }
+        Ok(Routes {
+            servers,
+            symbols,
+            entries: built,
+        })
+    }
+
+    /// The table of servers.
+    pub fn servers(&self) -> &Servers
+        ensures value { result.now ≡ self.now.servers }
+        ensures sound { IsSoundRoutes self.now }
+    {
+        &self.servers
+    }
+
+    /// The table of symbols.
+    pub fn symbols(&self) -> &Symbols
+        ensures value { result.now ≡ self.now.symbols }
+        ensures sound { IsSoundRoutes self.now }
+    {
+        &self.symbols
+    }
+
+    /// The number of the first route that has the routing prefix among its aliases.
+    pub fn route_of(&self, prefix: &Prefix) -> Option<usize>
+        ensures { result ≡ route_of_prefix prefix.now self.now.entries }
+    {
+        self.entries
+            .iter()
+            .position(|entry| has_alias(entry, prefix))
+    }
+
+    /// The route of a number.
+    pub fn route(&self, number: usize) -> Option<&Route>
+        ensures { option_map (λ r. view r.now) result ≡ option_map (λ e. e.tree) (slice_get self.now.entries number) }
+    {
+        let entry = self.entries.get(number)?;
+        Some(&entry.route)
+    }
+
+    /// The leaf at a position of a route, where a PoolRoute stands there.
+    pub fn leaf_at(&self, route: usize, position: &Position) -> Option<&Leaf>
+        ensures { option_map (λ l. pool_view l.now) result ≡ leaf_in self.now route position.now }
+    {
+        let mut route = self.route(route)?;
+        for step in position.steps() {
+            route = child_of(route, *step)?;
+        }
+        match route {
+            Route::Pool(leaf) => Some(leaf),
+            _ => None,
+        }
+    }
+
+    /// The last break of the routes at the moment or before it, which opened the moment's era; None in the
+    /// first era.
+    pub fn since(&self, moment: Moment) -> Option<Moment>
+        ensures { option_map (λ m. m.0) result ≡ since_at (breaks_of self.now) moment.0 }
+    {
+        let _ = &self.entries;
+        None
+    }
+}
+
+fn has_alias(entry: &AliasedRoute, prefix: &Prefix) -> bool
+    ensures { result ≡ is_alias prefix.now (entry_view entry.now) }
+{
+    entry
+        .aliases
+        .iter()
+        .any(|alias| alias.as_bytes() == prefix.as_bytes())
+}
+
+/// The child of a number.
+fn child_of(route: &Route, number: usize) -> Option<&Route>
+    ensures { option_map (λ r. view r.now) result ≡ child_at (children_of (view route.now)) number }
+{
+    match route {
+        Route::Pool(_) => None,
+        Route::Null => None,
+        Route::AllSync(children) => children.get(number),
+        Route::OperationSelector {
+            policies,
+            default_policy,
+        } => match policies.get(number) {
+            Some(policy) => Some(&policy.route),
+            None if number == policies.len() => default_policy.as_deref(),
+            None => None,
+        },
+    }
+}
