@@ -9,3 +9,4 @@ pub mod Holds
 pub mod SoundRoutes
 pub mod SoundPools
 pub mod Sound
+mod Examples

@@ -1,4 +1,4 @@
--- The configuration that a text names, and the faults that stand in it.
+-- The configuration that a text names, and the faults that stand in it (mcrouter wiki, Config Files; faults and limits are own).
 use Rattle.std.specs.Prelude.{◌≡◌, ℕ, ◌≤◌, ◌<◌, ◌⊎◌, List, [], ◌∷◌, length, Option, Some, None, codes, IsUtf8}
 use Rattle.serde_json.specs.Data.{Data, Members}
 use Rattle.serde_json.specs.Find.{get, as_object}

@@ -1,4 +1,4 @@
--- What reading a value gives: what it names, or the faults that stand in it.
+-- What reading a value gives: what it names, or the faults that stand in it (own).
 use Rattle.std.specs.Prelude.{◌≡◌, ℕ, List, [], ◌∷◌, ◌++◌, ◌⊎◌, Result, Ok, Err, string_bytes}
 use Rattle.mcv_config.specs.declared.fault.FaultKind.{FaultKind}
 use Rattle.mcv_config.specs.declared.fault.FaultKind.TheVariants.{NotJson, UnknownKey, WrongKind, UnknownHandle, UnknownPool, Empty, Limit, BadServer, AliasTwice, LeftOut}

@@ -1,4 +1,4 @@
--- The names of handles, keys and operations.
+-- The names of handles, keys and operations (mcrouter wiki, List of Route Handles; what is left out is own).
 use Rattle.std.specs.Prelude.{ℕ, Bool, true, false, ◌==◌, ◌||◌, List, [], ◌∷◌, ⊤, Option, Some, None, Result, Ok, Err, if◌then◌else◌, slice_index, codes, bytes_eq}
 use Rattle.serde_json.specs.Data.{Members, no_members, member}
 use Rattle.mcv_base.specs.declared.operation.Op.{Op}

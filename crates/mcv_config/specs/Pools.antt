@@ -1,4 +1,4 @@
--- The pools that a JSON value names, and their servers.
+-- The pools that a JSON value names, and their servers (mcrouter wiki, Config Files; numbers and limits are own).
 use Rattle.std.specs.Prelude.{ℕ, ◌==◌, ◌&&◌, not, nat_lt, Bool, List, [], ◌∷◌, length, Option, Some, None, if◌then◌else◌, codes, bytes_eq, unwrap_or}
 use Rattle.serde_json.specs.Data.{Data, Items, Members}
 use Rattle.serde_json.specs.Find.{get, as_str, as_array, as_object}

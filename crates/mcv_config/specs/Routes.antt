@@ -1,4 +1,4 @@
--- The handles that a JSON value names.
+-- The handles that a JSON value names (mcrouter wiki, Config Files and List of Route Handles; limits are own).
 use Rattle.std.specs.Prelude.{◌≡◌, ℕ, zero, suc, ◌+◌, ◌-◌, ◌==◌, nat_lt, List, [], ◌∷◌, length, map, take, drop, position, slice_index_or, Option, Some, None, Result, Ok, Err, Vec, if◌then◌else◌, codes, bytes_eq}
 use Rattle.std.specs.List.{range_with_len}
 use Rattle.std.specs.declared.alloc.Global.{Global}
