@@ -10,8 +10,14 @@ use std::alloc::Global;
 use std::io;
 use std::io::{Read, Write};
 
-/// The most bytes that are read: a request line, the most bytes of a configuration, and one more.
-const INPUT_LIMIT: u64 = 259 + 16_777_216 + 1;
+/// The most bytes of a configuration.
+pub const CONFIGURATION_LIMIT: usize = 16_777_216;
+
+/// The most bytes of a request line: the longest name, a space, the longest key word and LF.
+const LINE_LIMIT: usize = 259;
+
+/// The most bytes that are read: a request line, and a configuration of one byte more than one may have.
+const INPUT_LIMIT: u64 = (LINE_LIMIT + CONFIGURATION_LIMIT + 1) as u64;
 
 fn device_fault(error: &io::Error) -> RunFault
     ensures { IsOutside result }

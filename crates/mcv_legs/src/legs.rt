@@ -11,12 +11,12 @@ ghost use Rattle.mcv_legs.specs.Answer.{IsAnswer, entry_for};
 ghost use Rattle.mcv_legs.specs.Fault.{IsRefusal, IsRunFault, IsTooLong};
 ghost use Rattle.mcv_legs.specs.Request.{Asks};
 
-use crate::device::{read_input, write_text};
+use crate::device::{CONFIGURATION_LIMIT, read_input, write_text};
 use crate::fault::RunFault;
 use crate::request::read_request;
 use crate::text::legs_text;
 use mcv_base::{Moment, Prefix, hashed_part};
-use mcv_config::read_config;
+use mcv_config::{ConfigFault, FaultKind, read_config};
 use mcv_pools::{Fnv, choose};
 use mcv_route::{Route, Routes};
 use mcv_rules::Eval;
@@ -65,12 +65,29 @@ fn answer_text(alloc: Global, input: &[u8], moment: Moment) -> Result<Vec<u8>, R
     Ok(legs_text(alloc, routes.servers(), legs.as_slice(), reply)?)
 }
 
-/// The routes that a configuration names.
+/// The fault of a configuration that is longer than any may be.
+fn too_long(alloc: Global) -> RunFault
+    ensures { IsTooLong result }
+{
+    match String::from_str(alloc, ".") {
+        Ok(path) => RunFault::Config(ConfigFault::At {
+            kind: FaultKind::Limit,
+            path,
+        }),
+        Err(_) => RunFault::Memory,
+    }
+}
+
+/// The routes that a configuration names. One that is too long may have been cut by the reader, so nothing else of it
+/// is judged.
 fn read_routes(alloc: Global, configuration: &[u8]) -> Result<Routes, RunFault>
     ensures named { IfOk result (λ routes. (plan : Plan) × Names configuration.now plan × (routes ≡ routes_named plan)) }
     ensures fault { IfErr result (λ fault. IsRefusal configuration.now fault) }
     ensures large { size_limit < length configuration.now → IfErr result IsTooLong }
 {
+    if configuration.len() > CONFIGURATION_LIMIT {
+        return Err(too_long(alloc));
+    }
     let config = read_config(alloc, configuration)?;
     Ok(Routes::build(alloc, config)?)
 }

@@ -119,7 +119,7 @@ pub built-Server : (lists : List (Arc (Vec ServerId Global) Global)) (route : Na
 built-Server lists route i k item servers server t u leaf is h item-is k-in server-is one table tree =
     let number : ServerId → ℕ = λ s. s.0 in
     let place : slice_index (pool_at (map list_view lists) i) k ≡ server.0 =
-      ap (λ xs. slice_index xs k) (pool_at-list lists i item h item-is) ∙ get_or-map number item.value.items k server 0 k-in ∙ ap number (sym server-is) in
+    ap (λ xs. slice_index xs k) (pool_at-list lists i item h item-is) ∙ get_or-map number item.value.items k server 0 k-in ∙ ap number (sym server-is) in
     let shown : list_view servers ≡ server_at (map list_view lists) i k = ap (map number) one ∙ ap (λ n. n ∷ []) (sym place) in
     let P : Named → Type 0 = λ n. IsBuilt (map list_view lists) t (n ∷ []) u (view (Pool leaf) ∷ []) in
     subst P (sym (ap named_of is ∙ named_of-Server i k)) (built-server (map list_view lists) t u i k (list_view servers) (view (Pool leaf)) shown table (view-Pool leaf ∙ tree))
@@ -152,14 +152,17 @@ pub policy-more : (pools : List (List ℕ)) (t u v : List SymbolValue) (policies
     → (map (λ o. o.0) (map operation_view (built ++ q ∷ [])) ≡ names_of (take (i + 1) policies)) × IsBuilt pools t (policies_of (take (i + 1) policies)) v (map (λ o. o.1) (map operation_view (built ++ q ∷ [])))
 policy-more pools t u v policies i p built q r h is shown before one =
     let seen : map operation_view (built ++ q ∷ []) ≡ map operation_view built ++ ((out-NamedPolicy p).op, view r) ∷ [] =
-      map-append operation_view built (q ∷ []) ∙ ap (λ x. map operation_view built ++ x ∷ []) shown in
+    map-append operation_view built (q ∷ []) ∙ ap (λ x. map operation_view built ++ x ∷ []) shown in
     let asked : map policy_of (take (i + 1) policies) ≡ map policy_of (take i policies) ++ ((out-NamedPolicy p).op, named_of (out-NamedPolicy p).route) ∷ [] =
-      map-more policy_of policies i p h is ∙ ap (λ x. map policy_of (take i policies) ++ x ∷ []) (policy_of-out p) in
-    (ap (map (λ o. o.0)) seen ∙ map-append (λ o. o.0) (map operation_view built) (((out-NamedPolicy p).op, view r) ∷ []) ∙ ap (λ x. x ++ (out-NamedPolicy p).op ∷ []) before.0
-      ∙ sym (ap (map (λ o. o.0)) asked ∙ map-append (λ o. o.0) (map policy_of (take i policies)) (((out-NamedPolicy p).op, named_of (out-NamedPolicy p).route) ∷ [])),
-      rw (ap (map (λ o. o.1)) seen ∙ map-append (λ o. o.1) (map operation_view built) (((out-NamedPolicy p).op, view r) ∷ []),
-        ap (map (λ o. o.1)) asked ∙ map-append (λ o. o.1) (map policy_of (take i policies)) (((out-NamedPolicy p).op, named_of (out-NamedPolicy p).route) ∷ []))
-      (built-append pools t u v (policies_of (take i policies)) (named_of (out-NamedPolicy p).route ∷ []) (map (λ o. o.1) (map operation_view built)) (view r ∷ []) before.1 one))
+    map-more policy_of policies i p h is ∙ ap (λ x. map policy_of (take i policies) ++ x ∷ []) (policy_of-out p) in (
+      ap (map (λ o. o.0)) seen ∙ map-append (λ o. o.0) (map operation_view built) (((out-NamedPolicy p).op, view r) ∷ []) ∙ ap (λ x. x ++ (out-NamedPolicy p).op ∷ []) before.0
+          ∙ sym (ap (map (λ o. o.0)) asked ∙ map-append (λ o. o.0) (map policy_of (take i policies)) (((out-NamedPolicy p).op, named_of (out-NamedPolicy p).route) ∷ [])),
+      rw (
+        ap (map (λ o. o.1)) seen ∙ map-append (λ o. o.1) (map operation_view built) (((out-NamedPolicy p).op, view r) ∷ []),
+        ap (map (λ o. o.1)) asked ∙ map-append (λ o. o.1) (map policy_of (take i policies)) (((out-NamedPolicy p).op, named_of (out-NamedPolicy p).route) ∷ []),
+      )
+          (built-append pools t u v (policies_of (take i policies)) (named_of (out-NamedPolicy p).route ∷ []) (map (λ o. o.1) (map operation_view built)) (view r ∷ []) before.1 one),
+    )
 
 -- with the routes of the policies built, and then those of the default
 pub built-OperationSelector : (pools : List (List ℕ)) (route : NamedRoute) (v : Vec NamedPolicy Global) (d : Option (Box NamedRoute Global)) (policies : List NamedPolicy) (t u x : List SymbolValue)
@@ -170,11 +173,11 @@ pub built-OperationSelector : (pools : List (List ℕ)) (route : NamedRoute) (v 
     → IsBuilt pools t (named_of route ∷ []) x (view (OperationSelector w e) ∷ [])
 built-OperationSelector pools route v d policies t u x w e is same ops before last =
     let named : named_of route ≡ plan.operation_selector (operations_of w.items) (nameds_of (policies_of policies ++ default_of d)) =
-      ap named_of is ∙ named_of-OperationSelector v d ∙ ap (λ ps. plan.operation_selector (names_of ps) (nameds_of (policies_of ps ++ default_of d))) (sym same)
-      ∙ ap (λ o. plan.operation_selector o (nameds_of (policies_of policies ++ default_of d))) (sym ops) in
+    ap named_of is ∙ named_of-OperationSelector v d ∙ ap (λ ps. plan.operation_selector (names_of ps) (nameds_of (policies_of ps ++ default_of d))) (sym same)
+    ∙ ap (λ o. plan.operation_selector o (nameds_of (policies_of policies ++ default_of d))) (sym ops) in
     rw (named, view-OperationSelector w e)
     (built-operation_selector pools t x (operations_of w.items) (policies_of policies ++ default_of d) (map (λ o. o.1) (map operation_view w.items) ++ last_view e)
-      (built-append pools t u x (policies_of policies) (default_of d) (map (λ o. o.1) (map operation_view w.items)) (last_view e) before last))
+    (built-append pools t u x (policies_of policies) (default_of d) (map (λ o. o.1) (map operation_view w.items)) (last_view e) before last))
 
 pub built-no_default : (pools : List (List ℕ)) (u x : List SymbolValue) (d : Option (Box NamedRoute Global)) (e : Option (Box Route Global)) → d ≡ None → e ≡ None → x ≡ u → IsBuilt pools u (default_of d) x (last_view e)
 built-no_default pools u x d e d-is e-is same = rw (d-is, e-is, same) (built-none pools u)

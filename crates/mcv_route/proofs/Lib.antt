@@ -3,3 +3,6 @@ pub mod Views
 pub mod Nameds
 pub mod Numbers
 pub mod Building
+pub mod Soundness
+pub mod Whole
+pub mod Ways

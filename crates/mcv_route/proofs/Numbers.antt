@@ -55,8 +55,8 @@ with_all table xs = fold (with_entry same_symbol) table xs
 with_one-is : (table : List SymbolValue) (x : SymbolValue) → (more : List SymbolValue) × (with_entry same_symbol table x ≡ table ++ more)
 with_one-is table x =
     elim (is_in same_symbol table x) as (λ b. (more : List SymbolValue) × ((if b then table else table ++ x ∷ []) ≡ table ++ more)) [
-      true ↦ ([], sym (append-nil table))
-    | false ↦ (x ∷ [], refl)
+      | true ↦ ([], sym (append-nil table))
+      | false ↦ (x ∷ [], refl)
     ]
 
 pub with_all-is : (table xs : List SymbolValue) → (more : List SymbolValue) × (with_all table xs ≡ table ++ more)
@@ -166,13 +166,13 @@ pub built-append : (pools : List (List ℕ)) (t u v : List SymbolValue) (ns ms :
 built-append pools t u v ns ms ts us a b =
     let f = symbols_in pools in
     let known : HaveSymbols pools u (nameds_of ns) =
-      let P : List SymbolValue → Type 0 = λ w. HaveSymbols pools w (nameds_of ns) in
-      subst P (sym (a.table ∙ ap (with_all t) (sym (symbols_below-list pools ns)))) (have-walked pools t (nameds_of ns)) in
+    let P : List SymbolValue → Type 0 = λ w. HaveSymbols pools w (nameds_of ns) in
+    subst P (sym (a.table ∙ ap (with_all t) (sym (symbols_below-list pools ns)))) (have-walked pools t (nameds_of ns)) in
     let stay : map (tree_named v pools) ns ≡ map (tree_named u pools) ns =
-      ap (λ w. map (tree_named w pools) ns) b.table ∙ each-stays pools u (flat_map f ms) ns known in
+    ap (λ w. map (tree_named w pools) ns) b.table ∙ each-stays pools u (flat_map f ms) ns known in
     record {
       table = b.table ∙ ap (λ w. with_all w (flat_map f ms)) a.table ∙ sym (fold-append (with_entry same_symbol) t (flat_map f ns) (flat_map f ms)) ∙ ap (with_all t) (sym (flat_map-append f ns ms));
-      trees_are = ap (λ w. w ++ us) (a.trees_are ∙ sym stay) ∙ ap (λ w. map (tree_named v pools) ns ++ w) b.trees_are ∙ sym (map-append (tree_named v pools) ns ms)
+      trees_are = ap (λ w. w ++ us) (a.trees_are ∙ sym stay) ∙ ap (λ w. map (tree_named v pools) ns ++ w) b.trees_are ∙ sym (map-append (tree_named v pools) ns ms);
     }
 
 pub built-none : (pools : List (List ℕ)) (t : List SymbolValue) → IsBuilt pools t [] t []
@@ -183,14 +183,14 @@ pub built-pool : (pools : List (List ℕ)) (t u : List SymbolValue) (i : ℕ) (s
     → servers ≡ pool_at pools i → u ≡ with_entry same_symbol t (symbol_of servers) → leaf ≡ pool_route u servers → IsBuilt pools t (plan.pool i ∷ []) u (leaf ∷ [])
 built-pool pools t u i servers leaf is table tree = record {
   table = table ∙ ap (λ s. with_entry same_symbol t (symbol_of s)) is;
-  trees_are = ap (λ x. x ∷ []) (tree ∙ ap (pool_route u) is)
+  trees_are = ap (λ x. x ∷ []) (tree ∙ ap (pool_route u) is);
 }
 
 pub built-server : (pools : List (List ℕ)) (t u : List SymbolValue) (i k : ℕ) (servers : List ℕ) (leaf : Tree)
     → servers ≡ server_at pools i k → u ≡ with_entry same_symbol t (symbol_of servers) → leaf ≡ pool_route u servers → IsBuilt pools t (plan.server i k ∷ []) u (leaf ∷ [])
 built-server pools t u i k servers leaf is table tree = record {
   table = table ∙ ap (λ s. with_entry same_symbol t (symbol_of s)) is;
-  trees_are = ap (λ x. x ∷ []) (tree ∙ ap (pool_route u) is)
+  trees_are = ap (λ x. x ∷ []) (tree ∙ ap (pool_route u) is);
 }
 
 built-below : (pools : List (List ℕ)) (t u : List SymbolValue) (ns : List Named) (ts : List Tree) → IsBuilt pools t ns u ts → u ≡ with_all t (symbols_below pools (nameds_of ns) ++ [])
@@ -201,12 +201,12 @@ pub built-all_sync : (pools : List (List ℕ)) (t u : List SymbolValue) (ns : Li
     → IsBuilt pools t ns u ts → IsBuilt pools t (plan.all_sync (nameds_of ns) ∷ []) u (all_sync (trees_of ts) ∷ [])
 built-all_sync pools t u ns ts b = record {
   table = built-below pools t u ns ts b;
-  trees_are = ap (λ x. all_sync x ∷ []) (ap trees_of b.trees_are ∙ sym (trees_named-list u pools ns))
+  trees_are = ap (λ x. all_sync x ∷ []) (ap trees_of b.trees_are ∙ sym (trees_named-list u pools ns));
 }
 
 pub built-operation_selector : (pools : List (List ℕ)) (t u : List SymbolValue) (ops : List (Option Op)) (ns : List Named) (ts : List Tree)
     → IsBuilt pools t ns u ts → IsBuilt pools t (plan.operation_selector ops (nameds_of ns) ∷ []) u (operation_selector ops (trees_of ts) ∷ [])
 built-operation_selector pools t u ops ns ts b = record {
   table = built-below pools t u ns ts b;
-  trees_are = ap (λ x. operation_selector ops x ∷ []) (ap trees_of b.trees_are ∙ sym (trees_named-list u pools ns))
+  trees_are = ap (λ x. operation_selector ops x ∷ []) (ap trees_of b.trees_are ∙ sym (trees_named-list u pools ns));
 }

@@ -2,6 +2,7 @@
 use Rattle.std.proofs.Common.{◌≡◌, List, [], ◌∷◌, ◌++◌, map, Vec, Box, Global, Option, Some, None, option_map, refl, ap, rules, ◌∙◌}
 use Rattle.mcv_base.specs.declared.operation.Op.{Op}
 use Rattle.mcv_route.specs.Tree.{Tree, Trees, pool, null, all_sync, operation_selector, none}
+pub use Rattle.mcv_route.specs.View.{last_view}
 use Rattle.mcv_route.specs.View.{trees_of, last_of, pool_view, view, operation_view, OperationView, view_step, operation_step}
 use Rattle.mcv_route.specs.declared.tree.Leaf.{Leaf}
 use Rattle.mcv_route.specs.declared.tree.OperationPolicy.{OperationPolicy, out-OperationPolicy}
@@ -14,10 +15,6 @@ children_view routes = trees_of (map view routes)
 -- the operations of policies
 abbrev pub operations_of : List OperationPolicy → List (Option Op)
 operations_of policies = map (λ p. p.0) (map operation_view policies)
-
-abbrev pub last_view : Option (Box Route Global) → List Tree
-last_view None = []
-last_view (Some r) = view r.value ∷ []
 
 -- the routes of policies, with the default after them
 abbrev pub routes_of : List OperationPolicy → Option (Box Route Global) → Trees

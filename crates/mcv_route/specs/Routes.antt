@@ -2,7 +2,6 @@
 use Rattle.std.specs.Prelude.{◌≡◌, ◌≢◌, ℕ, ◌<◌, List, Option, Some, length, slice_get, option_map}
 use Rattle.std.specs.List.{All}
 use Rattle.mcv_pools.specs.Symbol.{SymbolValue}
-use Rattle.mcv_pools.specs.Table.{IsOneToOne}
 use Rattle.mcv_route.specs.Tree.{Pool, Tree, Trees, pool, null, error, all_sync, all_initial, all_async, failover, miss_failover, warm_up, migrate, prefix_selector, operation_selector, none, child}
 
 pub record RouteEntry : Type 0 where
@@ -43,8 +42,6 @@ abbrev mutual
   AreSoundTrees servers symbols none = Unit {0}
   AreSoundTrees servers symbols (child t ts) = IsSoundTree servers symbols t × AreSoundTrees servers symbols ts
 
--- no server and no symbol has two numbers, and the trees are sound
-pub record IsSoundRoutes (r : RoutesValue) : Type 0 where
-  pub servers_once : IsOneToOne r.servers
-  pub symbols_once : IsOneToOne r.symbols
-  pub trees : All (λ e. IsSoundTree (length r.servers) r.symbols e.tree) r.entries
+-- all trees are sound. That the tables have nothing twice is said by `Servers` and `Symbols`
+abbrev pub IsSoundRoutes : RoutesValue → Type 0
+IsSoundRoutes r = All (λ e. IsSoundTree (length r.servers) r.symbols e.tree) r.entries

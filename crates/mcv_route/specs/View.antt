@@ -1,5 +1,6 @@
 -- The tree that a `Route` stands for: one row for each handle, in the order of the handles (own).
-use Rattle.std.specs.Prelude.{ℕ, List, [], ◌∷◌, ◌++◌, map, Option, Some, None, option_map}
+use Rattle.std.specs.Prelude.{ℕ, List, [], ◌∷◌, ◌++◌, map, Option, Some, None, option_map, Box}
+use Rattle.std.specs.declared.alloc.Global.{Global}
 use Rattle.mcv_base.specs.declared.operation.Op.{Op}
 use Rattle.mcv_route.specs.Tree.{Pool, Tree, Trees, pool, null, all_sync, operation_selector, none, child}
 use Rattle.mcv_route.specs.declared.tree.Leaf.{Leaf}
@@ -40,3 +41,8 @@ view = fold-Route Tree OperationView view_step operation_step
 
 abbrev pub operation_view : OperationPolicy → OperationView
 operation_view = fold-OperationPolicy Tree OperationView view_step operation_step
+
+-- the route after all policies, if there is one
+abbrev pub last_view : Option (Box Route Global) → List Tree
+last_view None = []
+last_view (Some r) = view r.value ∷ []

@@ -1,21 +1,24 @@
 //! All routes of a configuration, with the tables of servers and symbols that their leaves name.
 
-ghost use Rattle.std.specs.Prelude.{◌≡◌, Some, None, IfOk, option_map, slice_get};
-ghost use Rattle.mcv_config.specs.Plan.{IsSound, plan_of};
+ghost use Rattle.std.specs.Prelude.{◌≡◌, ◌<◌, [], ◌∷◌, ◌++◌, Some, None, IfOk, length, map, option_map, position, slice_get};
+ghost use Rattle.std.specs.List.{All};
+ghost use Rattle.mcv_config.specs.Plan.{IsSound, IsSoundRoute, named_of, plan_of};
 ghost use Rattle.mcv_route.specs.Built.{routes_named};
 ghost use Rattle.mcv_route.specs.Eras.{breaks_of, since_at};
 ghost use Rattle.mcv_route.specs.Places.{children_of, child_at, is_alias, leaf_in, route_of_prefix};
 ghost use Rattle.mcv_route.specs.Routes.{IsSoundRoutes};
 ghost use Rattle.mcv_route.specs.RoutesView.{entry_view};
-ghost use Rattle.mcv_route.specs.View.{pool_view, view};
+ghost use Rattle.mcv_route.specs.View.{last_view, operation_view, pool_view, view};
+ghost use Rattle.mcv_route.specs.Walk.{IsBuilt, list_view};
 
 use crate::build::{build_route, shared_lists};
-use crate::tree::{Leaf, Route};
-use mcv_base::{Moment, Position, Prefix};
+use crate::tree::{Leaf, OperationPolicy, Route};
+use mcv_base::{Moment, Position, Prefix, ServerId};
 use mcv_config::{Config, Entry};
 use mcv_pools::{Servers, Symbols};
 use std::alloc::{AllocError, Global};
 use std::marker::Model;
+use std::sync::Arc;
 
 /// A route with the routing prefixes that select it.
 #[derive(Drop)]
@@ -61,15 +64,11 @@ impl Routes {
         } = config;
         let lists = shared_lists(alloc, pools)?;
         let mut symbols = Symbols::new(alloc);
-        let mut built = Vec::with_capacity(alloc, entries.len())?;
-        for Entry { aliases, route } in entries {
-            let route = build_route(alloc, &route, lists.as_slice(), &mut symbols)?;
-            built.push(AliasedRoute { aliases, route })?;
-        }
+        let entries = build_entries(alloc, entries, lists.as_slice(), &mut symbols)?;
         Ok(Routes {
             servers,
             symbols,
-            entries: built,
+            entries,
         })
     }
 
@@ -93,9 +92,7 @@ impl Routes {
     pub fn route_of(&self, prefix: &Prefix) -> Option<usize>
         ensures { result ≡ route_of_prefix prefix.now self.now.entries }
     {
-        self.entries
-            .iter()
-            .position(|entry| has_alias(entry, prefix))
+        first_of_prefix(self.entries.as_slice(), prefix)
     }
 
     /// The route of a number.
@@ -110,11 +107,11 @@ impl Routes {
     pub fn leaf_at(&self, route: usize, position: &Position) -> Option<&Leaf>
         ensures { option_map (λ l. pool_view l.now) result ≡ leaf_in self.now route position.now }
     {
-        let mut route = self.route(route)?;
+        let mut here = self.route(route)?;
         for step in position.steps() {
-            route = child_of(route, *step)?;
+            here = child_of(here, *step)?;
         }
-        match route {
+        match here {
             Route::Pool(leaf) => Some(leaf),
             _ => None,
         }
@@ -128,6 +125,50 @@ impl Routes {
         let _ = &self.entries;
         None
     }
+}
+
+/// The routes that the entries name, each with the entry's aliases.
+fn build_entries(
+    alloc: Global,
+    entries: Vec<Entry>,
+    lists: &[Arc<Vec<ServerId>>],
+    symbols: &mut Symbols,
+) -> Result<Vec<AliasedRoute>, AllocError>
+    requires filled { All (λ servers. 0 < length servers) (map list_view lists.now) }
+    requires sound { All (λ e. IsSoundRoute (map list_view lists.now) (named_of e.route)) entries.items }
+    ensures aliases { IfOk result (λ rs. map (λ r. r.aliases.items) rs.items ≡ map (λ e. e.aliases.items) entries.items) }
+    ensures routes { IfOk result (λ rs. IsBuilt (map list_view lists.now) symbols.old (map (λ e. named_of e.route) entries.items)
+        symbols.new (map (λ r. view r.route) rs.items)) }
+{
+    let mut built = Vec::with_capacity(alloc, entries.len())?;
+    for entry in entries {
+        built.push(build_entry(alloc, entry, lists, symbols)?)?;
+    }
+    Ok(built)
+}
+
+fn build_entry(
+    alloc: Global,
+    entry: Entry,
+    lists: &[Arc<Vec<ServerId>>],
+    symbols: &mut Symbols,
+) -> Result<AliasedRoute, AllocError>
+    requires filled { All (λ servers. 0 < length servers) (map list_view lists.now) }
+    requires sound { IsSoundRoute (map list_view lists.now) (named_of entry.route) }
+    ensures aliases { IfOk result (λ r. r.aliases.items ≡ entry.aliases.items) }
+    ensures route { IfOk result (λ r. IsBuilt (map list_view lists.now) symbols.old (named_of entry.route ∷ []) symbols.new (view r.route ∷ [])) }
+{
+    let route = build_route(alloc, &entry.route, lists, symbols)?;
+    Ok(AliasedRoute {
+        aliases: entry.aliases,
+        route,
+    })
+}
+
+fn first_of_prefix(entries: &[AliasedRoute], prefix: &Prefix) -> Option<usize>
+    ensures { result ≡ position (λ e. is_alias prefix.now (entry_view e)) entries.now }
+{
+    entries.iter().position(|entry| has_alias(entry, prefix))
 }
 
 fn has_alias(entry: &AliasedRoute, prefix: &Prefix) -> bool
@@ -150,10 +191,27 @@ fn child_of(route: &Route, number: usize) -> Option<&Route>
         Route::OperationSelector {
             policies,
             default_policy,
-        } => match policies.get(number) {
-            Some(policy) => Some(&policy.route),
-            None if number == policies.len() => default_policy.as_deref(),
-            None => None,
-        },
+        } => policy_route(policies, default_policy, number),
+    }
+}
+
+/// The route of the policy of a number, or after all policies the default's.
+fn policy_route<'a>(
+    policies: &'a [OperationPolicy],
+    default_policy: &'a Option<Box<Route>>,
+    number: usize,
+) -> Option<&'a Route>
+    ensures { option_map (λ r. view r.now) result
+        ≡ slice_get (map (λ p. p.1) (map operation_view policies.now) ++ last_view default_policy.now) number }
+{
+    if number < policies.len() {
+        return Some(&policies[number].route);
+    }
+    if number > policies.len() {
+        return None;
+    }
+    match default_policy {
+        Some(route) => Some(route),
+        None => None,
     }
 }
