@@ -1,2 +1,0 @@
-//! The spool file.
-#![tactic(auto)]
