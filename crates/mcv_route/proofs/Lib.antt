@@ -6,3 +6,4 @@ pub mod Building
 pub mod Soundness
 pub mod Whole
 pub mod Ways
+pub mod Moments

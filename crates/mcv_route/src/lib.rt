@@ -4,12 +4,14 @@
 #![tactic(auto)]
 
 mod build;
+mod eras;
 mod launch;
 mod routes;
 #[cfg(test)]
 mod tests;
 mod tree;
 
+pub use eras::eras_are_opened_by_breaks;
 pub use launch::{Answered, Launch};
 pub use routes::Routes;
 pub use tree::{Leaf, OperationPolicy, Route};
