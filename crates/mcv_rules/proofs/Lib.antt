@@ -18,3 +18,4 @@ pub mod Plans
 pub mod Serving
 pub mod True
 pub mod Told
+mod Examples

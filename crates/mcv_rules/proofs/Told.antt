@@ -1,7 +1,7 @@
 -- What a status says of the reply.
-use Rattle.std.proofs.Common.{◌≡◌, ◌<◌, ◌+◌, cond, ℕ, suc, Bool, true, false, List, [], ◌∷◌, ◌++◌, length, Option, Some, None, refl, sym, ap, ◌∙◌, subst, arith, append_assoc, append-nil, length-append, zero}
+use Rattle.std.proofs.Common.{◌≡◌, ℕ, suc, Bool, true, false, List, [], ◌∷◌, ◌++◌, length, Option, Some, None, refl, ap, ◌∙◌, subst, arith, append_assoc, append-nil, length-append, zero}
 use Rattle.std.specs.Prelude.{fold, slice_get, option_map}
-use Rattle.mcv_base.specs.Reply.{outcome_of, fixed_value, part_value}
+use Rattle.mcv_base.specs.Reply.{outcome_of, part_value}
 use Rattle.mcv_base.specs.declared.operation.Op.{Op}
 use Rattle.mcv_base.specs.declared.reply.Outcome.{Outcome}
 use Rattle.mcv_route.specs.declared.launch.Answered.{Answered}
@@ -14,7 +14,6 @@ use Rattle.mcv_rules.specs.Laws.{outcome_at, IsOneOf}
 use Rattle.mcv_rules.specs.History.{entry_of, history_of, place_of}
 use Rattle.mcv_rules.specs.Status.{source_of, source_outcome, status_of, status_outcome}
 use Rattle.mcv_rules.proofs.One
-use Rattle.mcv_rules.proofs.Own.{length-history_of}
 use Rattle.mcv_rules.proofs.Serving.{default_is_soft}
 use Rattle.mcv_rules.proofs.True
 

@@ -1,5 +1,5 @@
 -- Each answer has the outcome of whose reply it is.
-use Rattle.std.proofs.Common.{◌≡◌, cond, ⊎_elim, ℕ, suc, Bool, true, false, List, [], ◌∷◌, ◌++◌, Option, Some, None, refl, sym, ap, ◌∙◌, subst, nat_lt}
+use Rattle.std.proofs.Common.{◌≡◌, cond, ⊎_elim, ℕ, suc, Bool, true, false, List, [], ◌∷◌, ◌++◌, Option, Some, None, refl, subst, nat_lt}
 use Rattle.mcv_base.specs.Operation.{is_reading}
 use Rattle.mcv_base.specs.Reply.{is_error, is_good}
 use Rattle.mcv_base.specs.declared.reply.Outcome.{Outcome}
