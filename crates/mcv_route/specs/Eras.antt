@@ -1,5 +1,6 @@
 -- Eras: what handles send changes at certain moments only, their breaks. An era lasts from one to the next (own).
-use Rattle.std.specs.Prelude.{◌≤◌, ◌<◌, ℕ, ◌+◌, ◌*◌, List, [], ◌∷◌, ◌++◌, Option, Some, None, nat_le, nat_eq, max, fold, filter, length}
+use Rattle.std.specs.Prelude.{◌≡◌, ◌≤◌, ◌<◌, ℕ, ◌+◌, ◌*◌, List, [], ◌∷◌, ◌++◌, Option, Some, None, nat_le, nat_eq, max, filter, length}
+use Rattle.std.specs.Option.{option_map_or}
 use Rattle.std.specs.List.{All, Contains, flat_map}
 use Rattle.mcv_pools.specs.Table.{numbered}
 use Rattle.mcv_route.specs.Tree.{Tree, Trees, pool, null, error, all_sync, all_initial, all_async, failover, miss_failover, warm_up, migrate, prefix_selector, operation_selector, none, child}
@@ -35,7 +36,7 @@ passed bs moment = filter (λ b. nat_le b moment) bs
 
 abbrev pub greatest : List ℕ → Option ℕ
 greatest [] = None
-greatest (b ∷ bs) = Some (fold max b bs)
+greatest (b ∷ bs) = Some (option_map_or (max b) (greatest bs) b)
 
 -- the break that opened the era of a moment: the last at the moment or before it, and none in the first era
 abbrev pub since_at : List ℕ → ℕ → Option ℕ
@@ -49,3 +50,11 @@ era_at bs moment = length (numbered nat_eq (passed bs moment))
 abbrev pub IsSince : List ℕ → ℕ → Option ℕ → Type 0
 IsSince bs moment None = All (λ b. moment < b) bs
 IsSince bs moment (Some s) = Contains bs s × (s ≤ moment) × All (λ b. b ≤ moment → b ≤ s) bs
+
+-- since_at is what its name says
+abbrev pub SinceIsTheLastBreak : Type 0
+SinceIsTheLastBreak = (bs : List ℕ) (moment : ℕ) → IsSince bs moment (since_at bs moment)
+
+-- moments after the same break are in one era
+abbrev pub ErasAreOpenedByBreaks : Type 0
+ErasAreOpenedByBreaks = (bs : List ℕ) (m n : ℕ) → since_at bs m ≡ since_at bs n → era_at bs m ≡ era_at bs n

@@ -6,6 +6,8 @@
 mod build;
 mod launch;
 mod routes;
+#[cfg(test)]
+mod tests;
 mod tree;
 
 pub use launch::{Answered, Launch};
