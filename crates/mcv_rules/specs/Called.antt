@@ -4,7 +4,7 @@ use Rattle.std.specs.Coded.{Coded, code_by, coded×, coded_ℕ, coded_list, code
 use Rattle.mcv_base.specs.declared.operation.Op.{Op}
 use Rattle.mcv_base.specs.contracts.operation.Op.{the_row}
 use Rattle.mcv_route.specs.Tree.{Tree}
-use Rattle.mcv_route.specs.TreeCode.{tree_code}
+use Rattle.mcv_route.specs.Codes.{tree_code}
 use Rattle.mcv_route.specs.Situation.{Situation, asked}
 
 pub record Called : Type 0 where
