@@ -76,7 +76,7 @@ line_then op key configuration = sym (append_assoc (op_name op ++ space ∷ key)
 take_behind : (n : ℕ) (xs ys : List ℕ) → length xs ≤ n → take n (xs ++ ys) ≡ xs ++ take (n - length xs) ys
 take_behind n [] ys le = simp unary_clauses
 take_behind zero (x ∷ xs) ys le = absurd (let h : ⊥ = omega arith in h)
-take_behind (suc n) (x ∷ xs) ys le = 
+take_behind (suc n) (x ∷ xs) ys le =
     let same : suc n - suc (length xs) ≡ n - length xs = omega arith in
     ap (λ (zs : List ℕ). x ∷ zs) (take_behind n xs ys (omega arith)) ∙ ap (λ (m : ℕ). x ∷ xs ++ take m ys) (sym same)
 
@@ -88,7 +88,7 @@ asks_first n input op prefix rest configuration le asks =
     record {
       key = asks.key;
       line = ap (take n) (asks.line ∙ line_then op asks.key configuration) ∙ take_behind n (line_of op asks.key) configuration short
-             ∙ sym (line_then op asks.key (take (n - length (line_of op asks.key)) configuration));
+          ∙ sym (line_then op asks.key (take (n - length (line_of op asks.key)) configuration));
       is_key = asks.is_key;
       cut = asks.cut;
       some = asks.some;
@@ -141,7 +141,7 @@ too_long_of_all bytes (config_faults.At kind path) m long is =
       rest = m.rest;
       configuration = m.configuration ++ more;
       asks = subst (λ (input : List ℕ). Asks input m.op m.prefix m.rest (m.configuration ++ more)) (take-append-drop input_limit bytes)
-             (asks_more (take input_limit bytes) more m.op m.prefix m.rest m.configuration m.asks);
+          (asks_more (take input_limit bytes) more m.op m.prefix m.rest m.configuration m.asks);
       faulty = inl (longer, ap₂ (λ k (p : List ℕ). record { kind = k; path = p }) is.0 is.1);
     }
 

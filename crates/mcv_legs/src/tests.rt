@@ -82,7 +82,11 @@ fn table_holds(rt: &(impl AllocGlobal + Abort), table: &str) -> Result<(), Fail>
         let (line, more) = case.split_once(" = ").ok_or("no case")?;
         let (configuration, want) = more.split_once(" = ").ok_or("no case")?;
         let input = format!(in alloc; "{line}\n{configuration}")?;
-        assert_eq!(rt; shown(alloc, &mut input.as_bytes())?.as_str(), want, "{line}");
+        assert_eq!(rt;
+            shown(alloc, &mut input.as_bytes())?.as_str(),
+            want,
+            "{line}"
+        );
     }
     Ok(())
 }
@@ -104,7 +108,10 @@ fn faults_are_told_in_their_order(rt: HostRuntime) -> Result<(), Fail> {
 #[test]
 fn an_input_without_end_is_too_long(rt: HostRuntime) -> Result<(), Fail> {
     let mut input = b"delete a\n".as_slice().chain(io::repeat(b' '));
-    assert_eq!(rt; shown(rt.alloc(), &mut input)?.as_str(), "3 2 configuration 7 at .");
+    assert_eq!(rt;
+        shown(rt.alloc(), &mut input)?.as_str(),
+        "3 2 configuration 7 at ."
+    );
     Ok(())
 }
 

@@ -13,9 +13,9 @@ returns-clause-ok g c =
     IfOk-weaker c.write_text.result _ _ (λ x wrote. (
       c.as_slice-2.result.now,
       IfSome_then (g.R.Read.remaining c.args.reader.now) c.in_ok-input.ensures.read (λ bytes is.
-      answer_of_all c.args.moment.0 bytes c.as_slice-2.result.now
-      (subst (λ (input : List ℕ). IsAnswer c.args.moment.0 input c.as_slice-2.result.now) (c.as_slice.ensures.value ∙ is)
-      (subst (λ (text : List ℕ). IsAnswer c.args.moment.0 c.as_slice.result.now text) (sym c.as_slice-2.ensures.value) c.in_ok-text.ensures.ok))),
+          answer_of_all c.args.moment.0 bytes c.as_slice-2.result.now
+          (subst (λ (input : List ℕ). IsAnswer c.args.moment.0 input c.as_slice-2.result.now) (c.as_slice.ensures.value ∙ is)
+          (subst (λ (text : List ℕ). IsAnswer c.args.moment.0 c.as_slice.result.now text) (sym c.as_slice-2.ensures.value) c.in_ok-text.ensures.ok))),
       wrote,
     )) c.write_text.ensures.written
 
