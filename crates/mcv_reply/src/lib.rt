@@ -1,2 +1,0 @@
-//! What a server says to a leg.
-#![tactic(auto)]
