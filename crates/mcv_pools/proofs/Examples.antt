@@ -1,11 +1,11 @@
 -- The definitions at small tables, symbols and parts.
-use Rattle.std.proofs.Common.{◌≡◌, ℕ, List, [], ◌∷◌, Bool, true, false, Some, None, refl, codes}
+use Rattle.std.proofs.Common.{◌≡◌, [], ◌∷◌, false, Some, None, refl, codes}
 use Rattle.std.specs.Str.{bytes_eq}
 use Rattle.mcv_pools.specs.declared.symbol.HashFunc.TheVariants.{Ch3, Crc32}
 use Rattle.mcv_pools.specs.Choice.{chosen_each}
 use Rattle.mcv_pools.specs.Hash.{fnv, fnv_index, listed_index}
 use Rattle.mcv_pools.specs.Symbol.{SymbolValue, same_symbol}
-use Rattle.mcv_pools.specs.Table.{number_in, numbered, with_entry}
+use Rattle.mcv_pools.specs.Table.{number_in, numbered}
 
 -- the reference vectors of FNV-1a 64
 empty : fnv [] ≡ 14695981039346656037

@@ -1,7 +1,7 @@
 -- Symbols that are the same are equal.
-use Rattle.std.proofs.Common.{◌≡◌, ℕ, Bool, true, false, List, refl, sym, ap, ◌∙◌, arith, rules, nat_eq, inl, inr}
+use Rattle.std.proofs.Common.{◌≡◌, refl, ap, arith}
 use Rattle.std.specs.Bool.{Decides}
-use Rattle.std.specs.Cmp.Lexicographic.{pointwise, bytes_decides}
+use Rattle.std.specs.Cmp.Lexicographic.{bytes_decides}
 use Rattle.std.proofs.lemmas.Bool.Decides.{Decides-and, Decides-eqb, Decides-like}
 use Rattle.mcv_pools.specs.declared.symbol.HashFunc.{HashFunc}
 use Rattle.mcv_pools.specs.declared.symbol.HashFunc.TheVariants.{Ch3, Crc32}

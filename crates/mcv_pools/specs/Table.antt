@@ -1,5 +1,5 @@
 -- Tables: lists with nothing twice, whose entries are numbered by their places, from 0.
-use Rattle.std.specs.Prelude.{◌≡◌, ◌≤◌, ℕ, Bool, List, [], ◌∷◌, ◌++◌, Option, Some, fold, position, slice_get, if◌then◌else◌}
+use Rattle.std.specs.Prelude.{◌≡◌, ℕ, Bool, List, [], ◌∷◌, ◌++◌, Option, Some, fold, position, slice_get, if◌then◌else◌}
 use Rattle.std.specs.List.{list_any}
 
 -- nothing stands at two places

@@ -1,4 +1,4 @@
-use Rattle.std.proofs.Common.{◌≡◌, drop, map, ℕ, List}
+use Rattle.std.proofs.Common.{◌≡◌, drop, map}
 use Rattle.mcv_pools.specs.Hash.{listed}
 use Rattle.mcv_pools.proofs.hash.TableHash.listed.Given as goal
 

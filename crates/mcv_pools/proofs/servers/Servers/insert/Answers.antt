@@ -1,9 +1,9 @@
-use Rattle.std.proofs.Common.{refl, sym, ap, ◌∙◌, ◌≡◌, length, map, true, false, true≢false, slice_get, List, ◌++◌, ◌∷◌, [], arith}
+use Rattle.std.proofs.Common.{refl, sym, ap, ◌∙◌, ◌≡◌, length, map, true, false, true≢false, ◌++◌, ◌∷◌, [], arith}
 use Rattle.std.proofs.lemmas.List.{length-map}
 use Rattle.std.specs.Str.{bytes_eq}
 use Rattle.std.specs.String.{string_bytes}
 use Rattle.std.specs.Cmp.Lexicographic.{bytes_decides}
-use Rattle.mcv_pools.specs.Table.{is_in, number_in}
+use Rattle.mcv_pools.specs.Table.{is_in}
 use Rattle.mcv_pools.proofs.Tables.{kept, stands, there, new, grown, inserted, numbered_last, at_end}
 use Rattle.mcv_pools.proofs.servers.Servers.insert.Goals as goal
 
