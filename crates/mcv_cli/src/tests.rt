@@ -32,11 +32,8 @@ fn asked(alloc: Global, line: &str) -> Result<&'static str, AllocError> {
 #[test]
 fn command_lines_ask_for_their_job(rt: HostRuntime) -> Result<(), Fail> {
     for case in LINES.lines() {
-        let Some((line, expected)) = case.split_once(": ") else {
-            return Err(Fail::from("a case"));
-        };
-        let found = asked(rt.alloc(), line)?;
-        assert!(rt; found == expected, "{line}: {found}");
+        let (line, expected) = case.split_once(": ").ok_or("no case")?;
+        assert!(rt; asked(rt.alloc(), line)? == expected, "{line}");
     }
     Ok(())
 }
