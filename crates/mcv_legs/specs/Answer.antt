@@ -1,7 +1,6 @@
 -- What answers an input at a moment.
 use Rattle.std.specs.Prelude.{◌≡◌, ℕ, List, [], Option, Some, None, find, option_map, slice_index}
 use Rattle.mcv_base.specs.declared.operation.Op.{Op}
-use Rattle.mcv_base.specs.declared.reply.Outcome.{Outcome}
 use Rattle.mcv_base.specs.Key.{hashed_part}
 use Rattle.mcv_pools.specs.Hash.{fnv_index}
 use Rattle.mcv_pools.specs.Choice.{chosen_each}

@@ -1,4 +1,4 @@
-use Rattle.std.proofs.Common.{◌≡◌, IfSome, take, ℕ, List, ap}
+use Rattle.std.proofs.Common.{ap}
 use Rattle.mcv_legs.specs.Limits.{input_limit}
 use Rattle.mcv_legs.proofs.Limits.{limited_first}
 use Rattle.mcv_legs.proofs.device.read_input.Goals as goal

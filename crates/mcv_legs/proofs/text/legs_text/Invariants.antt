@@ -1,4 +1,4 @@
-use Rattle.std.proofs.Common.{◌≡◌, ◌++◌, take}
+use Rattle.std.proofs.Common.{◌≡◌, take}
 use Rattle.std.specs.List.{flat_map}
 use Rattle.mcv_legs.specs.Text.{leg_line}
 use Rattle.mcv_legs.proofs.text.legs_text.Given as goal
