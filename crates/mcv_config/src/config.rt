@@ -3,12 +3,32 @@
 //! A tree names pools and servers by number, so that no tree has a copy of a list of servers.
 
 use mcv_base::{Op, Prefix, ServerId};
-use mcv_pools::Servers;
+use mcv_pools::{HashFunc, Servers};
 
 /// The servers of a pool, one or more, in the order of its list.
 #[derive(Drop)]
 pub struct Pool {
     pub servers: Vec<ServerId>,
+}
+
+/// The route of the rests that begin with a prefix.
+#[derive(Drop)]
+#[cycle(route)]
+pub struct PrefixPolicy {
+    /// At most 200 bytes.
+    pub prefix: Vec<u8>,
+    pub route: NamedRoute,
+}
+
+/// Where a pool's requests go too, when their server's index is in a range.
+#[derive(Drop)]
+#[cycle(route)]
+pub struct NamedShadow {
+    /// The least index, at most the last.
+    pub first: u64,
+    /// The greatest index, which may be past the pool.
+    pub last: u64,
+    pub target: NamedRoute,
 }
 
 /// The route of an operation.
@@ -24,15 +44,44 @@ pub struct NamedPolicy {
 #[derive(Drop)]
 #[cycle(route)]
 pub enum NamedRoute {
-    /// A pool, by its number.
-    Pool(usize),
+    Pool {
+        /// Its number.
+        pool: usize,
+        func: HashFunc,
+        /// At most 200 bytes.
+        salt: Vec<u8>,
+        shadows: Vec<NamedShadow>,
+    },
     /// One server of a pool, as a pool of its own.
     Server {
         pool: usize,
         index: usize,
     },
     Null,
+    Error,
     AllSync(Vec<NamedRoute>),
+    AllInitial(Vec<NamedRoute>),
+    AllAsync(Vec<NamedRoute>),
+    Failover(Vec<NamedRoute>),
+    MissFailover(Vec<NamedRoute>),
+    WarmUp {
+        cold: Box<NamedRoute>,
+        warm: Box<NamedRoute>,
+        /// Seconds, as an add has it.
+        exptime: u32,
+    },
+    Migrate {
+        from: Box<NamedRoute>,
+        to: Box<NamedRoute>,
+        /// Seconds since the Unix epoch.
+        start: u32,
+        /// Seconds.
+        interval: u32,
+    },
+    PrefixSelector {
+        policies: Vec<PrefixPolicy>,
+        wildcard: Option<Box<NamedRoute>>,
+    },
     OperationSelector {
         policies: Vec<NamedPolicy>,
         default_policy: Option<Box<NamedRoute>>,
@@ -49,9 +98,9 @@ pub struct Entry {
 /// What a configuration text names.
 #[derive(Drop)]
 pub struct Config {
-    /// Numbered by first appearance, in the walk of the pools.
+    /// Numbered by first appearance, in the walk of the pools and then of the routes.
     pub servers: Servers,
-    /// In the byte order of their names; a pool's number is its place.
+    /// Those of `pools` in the byte order of their names, then those that routes hold; a pool's number is its place.
     pub pools: Vec<Pool>,
     pub entries: Vec<Entry>,
 }
