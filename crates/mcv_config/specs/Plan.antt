@@ -8,11 +8,11 @@ use Rattle.mcv_config.specs.declared.config.Config.{Config}
 use Rattle.mcv_config.specs.declared.config.Entry.{Entry}
 use Rattle.mcv_config.specs.declared.config.Pool.{Pool}
 use Rattle.mcv_config.specs.declared.config.NamedRoute.{NamedRoute}
-use Rattle.mcv_config.specs.declared.config.NamedRoute.TheOpen.{NamedRoute-F, NamedPolicy-F, NamedShadow-F, PrefixPolicy-F}
-use Rattle.mcv_config.specs.declared.config.NamedRoute.TheFolds.{fold-NamedRoute, fold-NamedPolicy, fold-NamedShadow, fold-PrefixPolicy}
+use Rattle.mcv_config.specs.declared.config.NamedRoute.TheOpen.{NamedRoute-F, NamedPolicy-F, NamedPrefix-F, NamedShadow-F}
+use Rattle.mcv_config.specs.declared.config.NamedRoute.TheFolds.{fold-NamedRoute, fold-NamedPolicy, fold-NamedPrefix, fold-NamedShadow}
 use Rattle.mcv_config.specs.declared.config.NamedPolicy.{NamedPolicy}
+use Rattle.mcv_config.specs.declared.config.NamedPrefix.{NamedPrefix}
 use Rattle.mcv_config.specs.declared.config.NamedShadow.{NamedShadow}
-use Rattle.mcv_config.specs.declared.config.PrefixPolicy.{PrefixPolicy}
 
 -- the indexes from the first to the last
 pub record Range : Type 0 where
@@ -22,7 +22,7 @@ pub record Range : Type 0 where
 -- A handle with all below it, in the order of the table of handles (mcrouter wiki, List of Route Handles).
 mutual
   pub data Named : Type 0 where
-    -- a pool by its number, the function and the salt of its hash, the ranges of the shadows and their targets in the same order
+    -- a pool by its number, its hash function and salt, the ranges of the shadows, and their targets in the same order
     pool : ℕ → HashFunc → List ℕ → List Range → Nameds → Named
     -- one server of a pool, by its index in it, as a pool of its own
     server : ℕ → ℕ → Named
@@ -37,7 +37,7 @@ mutual
     warm_up : Named → Named → ℕ → Named
     -- from, to, the start and the interval
     migrate : Named → Named → ℕ → ℕ → Named
-    -- the prefixes of the policies, and their routes in the same order with the wildcard's after them
+    -- the prefixes, and their routes in the same order with the wildcard after them
     prefix_selector : List (List ℕ) → Nameds → Named
     -- the operations of the policies, and their routes in the same order with the default's after them; None is a name that no request has
     operation_selector : List (Option Op) → Nameds → Named
@@ -63,35 +63,26 @@ abbrev pub nameds_of : List Named → Nameds
 nameds_of [] = no_named
 nameds_of (t ∷ ts) = named t (nameds_of ts)
 
--- a policy of an operation, with its route seen as what it names
-abbrev pub PolicyPlan : Type 0
-PolicyPlan = Option Op × Named
+-- a shadow, with its target seen as what it names
+abbrev pub ShadowPlan : Type 0
+ShadowPlan = Range × Named
 
--- a policy of a prefix
+-- a prefix, with its route seen as what it names
 abbrev pub PrefixPlan : Type 0
 PrefixPlan = List ℕ × Named
 
--- the range of a shadow, and its target
-abbrev pub ShadowPlan : Type 0
-ShadowPlan = Range × Named
+-- a policy, with its route seen as what it names
+abbrev pub PolicyPlan : Type 0
+PolicyPlan = Option Op × Named
 
 -- the route after all policies, if there is one
 abbrev pub last_of : Option Named → List Named
 last_of None = []
 last_of (Some t) = t ∷ []
 
-abbrev pub shadowed : ℕ → HashFunc → List ℕ → List ShadowPlan → Named
-shadowed i func salt shadows = pool i func salt (map (λ s. s.0) shadows) (nameds_of (map (λ s. s.1) shadows))
-
-abbrev pub by_prefix : List PrefixPlan → Option Named → Named
-by_prefix policies wildcard = prefix_selector (map (λ p. p.0) policies) (nameds_of (map (λ p. p.1) policies ++ last_of wildcard))
-
-abbrev pub by_operation : List PolicyPlan → Option Named → Named
-by_operation policies default = operation_selector (map (λ p. p.0) policies) (nameds_of (map (λ p. p.1) policies ++ last_of default))
-
 -- one level, with each route inside already seen as what it names
-abbrev pub named_step : NamedRoute-F Named PolicyPlan ShadowPlan PrefixPlan → Named
-named_step (NamedRoute-F.Pool i func salt shadows) = shadowed i func salt.items shadows.items
+abbrev pub named_step : NamedRoute-F Named PolicyPlan PrefixPlan ShadowPlan → Named
+named_step (NamedRoute-F.Pool i func salt shadows) = pool i func salt.items (map (λ s. s.0) shadows.items) (nameds_of (map (λ s. s.1) shadows.items))
 named_step (NamedRoute-F.Server i k) = server i k
 named_step NamedRoute-F.Null = null
 named_step NamedRoute-F.Error = error
@@ -102,29 +93,31 @@ named_step (NamedRoute-F.Failover children) = failover (nameds_of children.items
 named_step (NamedRoute-F.MissFailover children) = miss_failover (nameds_of children.items)
 named_step (NamedRoute-F.WarmUp cold warm exptime) = warm_up cold.value warm.value exptime
 named_step (NamedRoute-F.Migrate from to start interval) = migrate from.value to.value start interval
-named_step (NamedRoute-F.PrefixSelector policies wildcard) = by_prefix policies.items (option_map (λ r. r.value) wildcard)
-named_step (NamedRoute-F.OperationSelector policies default) = by_operation policies.items (option_map (λ r. r.value) default)
+named_step (NamedRoute-F.PrefixSelector policies wildcard) =
+    prefix_selector (map (λ p. p.0) policies.items) (nameds_of (map (λ p. p.1) policies.items ++ last_of (option_map (λ r. r.value) wildcard)))
+named_step (NamedRoute-F.OperationSelector policies default) =
+    operation_selector (map (λ p. p.0) policies.items) (nameds_of (map (λ p. p.1) policies.items ++ last_of (option_map (λ r. r.value) default)))
 
-abbrev pub policy_step : NamedPolicy-F Named PolicyPlan ShadowPlan PrefixPlan → PolicyPlan
+abbrev pub policy_step : NamedPolicy-F Named PolicyPlan PrefixPlan ShadowPlan → PolicyPlan
 policy_step p = (p.op, p.route)
 
-abbrev pub shadow_step : NamedShadow-F Named PolicyPlan ShadowPlan PrefixPlan → ShadowPlan
-shadow_step s = (record { first = s.first; last = s.last }, s.target)
-
-abbrev pub prefix_step : PrefixPolicy-F Named PolicyPlan ShadowPlan PrefixPlan → PrefixPlan
+abbrev pub prefix_step : NamedPrefix-F Named PolicyPlan PrefixPlan ShadowPlan → PrefixPlan
 prefix_step p = (p.«prefix».items, p.route)
 
+abbrev pub shadow_step : NamedShadow-F Named PolicyPlan PrefixPlan ShadowPlan → ShadowPlan
+shadow_step s = (record { first = s.first; last = s.last }, s.target)
+
 abbrev pub named_of : NamedRoute → Named
-named_of = fold-NamedRoute Named PolicyPlan ShadowPlan PrefixPlan named_step policy_step shadow_step prefix_step
+named_of = fold-NamedRoute Named PolicyPlan PrefixPlan ShadowPlan named_step policy_step prefix_step shadow_step
 
 abbrev pub policy_of : NamedPolicy → PolicyPlan
-policy_of = fold-NamedPolicy Named PolicyPlan ShadowPlan PrefixPlan named_step policy_step shadow_step prefix_step
+policy_of = fold-NamedPolicy Named PolicyPlan PrefixPlan ShadowPlan named_step policy_step prefix_step shadow_step
+
+abbrev pub prefix_of : NamedPrefix → PrefixPlan
+prefix_of = fold-NamedPrefix Named PolicyPlan PrefixPlan ShadowPlan named_step policy_step prefix_step shadow_step
 
 abbrev pub shadow_of : NamedShadow → ShadowPlan
-shadow_of = fold-NamedShadow Named PolicyPlan ShadowPlan PrefixPlan named_step policy_step shadow_step prefix_step
-
-abbrev pub prefix_of : PrefixPolicy → PrefixPlan
-prefix_of = fold-PrefixPolicy Named PolicyPlan ShadowPlan PrefixPlan named_step policy_step shadow_step prefix_step
+shadow_of = fold-NamedShadow Named PolicyPlan PrefixPlan ShadowPlan named_step policy_step prefix_step shadow_step
 
 abbrev pub pool_plan : Pool → List ℕ
 pool_plan p = map (λ s. s.0) p.servers.items
@@ -140,7 +133,7 @@ plan_of c = record { servers = c.servers; pools = map pool_plan c.pools.items; e
 abbrev mutual
   -- each pool is there, each index is one of its servers, and each list of children has one or more
   pub IsSoundRoute : List (List ℕ) → Named → Type 0
-  IsSoundRoute pools (pool i func salt ranges ts) = (i < length pools) × AreSoundRoutes pools ts
+  IsSoundRoute pools (pool i func salt ranges targets) = (i < length pools) × AreSoundRoutes pools targets
   IsSoundRoute pools (server i k) = (i < length pools) × (k < length (slice_index_or pools i []))
   IsSoundRoute pools null = Unit {0}
   IsSoundRoute pools error = Unit {0}

@@ -11,24 +11,23 @@ pub struct Pool {
     pub servers: Vec<ServerId>,
 }
 
-/// The route of the rests that begin with a prefix.
-#[derive(Drop)]
-#[cycle(route)]
-pub struct PrefixPolicy {
-    /// At most 200 bytes.
-    pub prefix: Vec<u8>,
-    pub route: NamedRoute,
-}
-
-/// Where a pool's requests go too, when their server's index is in a range.
+/// A copy of the requests for which a pool chooses one of some servers.
 #[derive(Drop)]
 #[cycle(route)]
 pub struct NamedShadow {
-    /// The least index, at most the last.
+    /// The first of their indexes.
     pub first: u64,
-    /// The greatest index, which may be past the pool.
+    /// The last, itself one of them.
     pub last: u64,
     pub target: NamedRoute,
+}
+
+/// The route of the keys that begin with a prefix.
+#[derive(Drop)]
+#[cycle(route)]
+pub struct NamedPrefix {
+    pub prefix: Vec<u8>,
+    pub route: NamedRoute,
 }
 
 /// The route of an operation.
@@ -44,11 +43,10 @@ pub struct NamedPolicy {
 #[derive(Drop)]
 #[cycle(route)]
 pub enum NamedRoute {
+    /// A pool, by its number, under a hash function with its salt.
     Pool {
-        /// Its number.
         pool: usize,
         func: HashFunc,
-        /// At most 200 bytes.
         salt: Vec<u8>,
         shadows: Vec<NamedShadow>,
     },
@@ -67,19 +65,19 @@ pub enum NamedRoute {
     WarmUp {
         cold: Box<NamedRoute>,
         warm: Box<NamedRoute>,
-        /// Seconds, as an add has it.
+        /// Seconds, of the add.
         exptime: u32,
     },
     Migrate {
         from: Box<NamedRoute>,
         to: Box<NamedRoute>,
-        /// Seconds since the Unix epoch.
+        /// A moment, in seconds.
         start: u32,
         /// Seconds.
         interval: u32,
     },
     PrefixSelector {
-        policies: Vec<PrefixPolicy>,
+        policies: Vec<NamedPrefix>,
         wildcard: Option<Box<NamedRoute>>,
     },
     OperationSelector {
@@ -100,7 +98,7 @@ pub struct Entry {
 pub struct Config {
     /// Numbered by first appearance, in the walk of the pools and then of the routes.
     pub servers: Servers,
-    /// Those of `pools` in the byte order of their names, then those that routes hold; a pool's number is its place.
+    /// Those of `pools` in the byte order of their names, then those that routes hold. A pool's number is its place.
     pub pools: Vec<Pool>,
     pub entries: Vec<Entry>,
 }
