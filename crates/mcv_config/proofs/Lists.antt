@@ -7,21 +7,24 @@ use Rattle.mcv_config.specs.declared.fault.FaultKind.TheVariants.{Empty, Limit}
 use Rattle.mcv_config.specs.Fault.{refused}
 use Rattle.mcv_config.specs.Lists.{each, items_list}
 use Rattle.mcv_config.specs.Pools.{Table, listed_servers, server_read}
-use Rattle.mcv_config.specs.Routes.{Reader, listed}
+use Rattle.mcv_config.specs.Routes.{listed}
+use Rattle.mcv_config.specs.Walk.{SoFar, Reader}
 
 pub items_list-items_view : (vs : List Value) → items_list (items_view vs) ≡ map view vs
 items_list-items_view [] = refl
 items_list-items_view (v ∷ vs) = ap (λ ds. view v ∷ ds) (items_list-items_view vs)
 
-pub listed-none : (reader : Reader) (room : ℕ) (path : List ℕ) (vs : List Value) → length vs ≡ 0 → listed reader room path (items_list (items_view vs)) ≡ refused Empty path
-unfolding listed
-listed-none reader room path [] h = refl
-listed-none reader room path (v ∷ vs) h = absurd (omega arith)
+pub ruleset items = (items_list-items_view)
 
-pub listed-some : (reader : Reader) (room : ℕ) (path : List ℕ) (vs : List Value) → 0 < length vs → listed reader room path (items_list (items_view vs)) ≡ each reader room path 0 (map view vs)
+pub listed-none : (reader : Reader) (w : SoFar) (path : List ℕ) (vs : List Value) → length vs ≡ 0 → listed reader w path (items_list (items_view vs)) ≡ refused Empty path
 unfolding listed
-listed-some reader room path [] h = absurd (omega arith)
-listed-some reader room path (v ∷ vs) h = ap (λ ds. each reader room path 0 (view v ∷ ds)) (items_list-items_view vs)
+listed-none reader w path [] h = refl
+listed-none reader w path (v ∷ vs) h = absurd (omega arith)
+
+pub listed-some : (reader : Reader) (w : SoFar) (path : List ℕ) (vs : List Value) → 0 < length vs → listed reader w path (items_list (items_view vs)) ≡ each reader w path 0 (map view vs)
+unfolding listed
+listed-some reader w path [] h = absurd (omega arith)
+listed-some reader w path (v ∷ vs) h = ap (λ ds. each reader w path 0 (view v ∷ ds)) (items_list-items_view vs)
 
 pub ruleset lists = (listed-none, listed-some)
 
