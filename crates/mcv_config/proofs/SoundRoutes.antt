@@ -19,9 +19,9 @@ use Rattle.mcv_config.specs.Hash.{hash_read}
 use Rattle.mcv_config.specs.Lists.{each, items_list, required}
 use Rattle.mcv_config.specs.Numbers.{seconds_or}
 use Rattle.mcv_config.specs.Path.{key_step, item_step}
-use Rattle.mcv_config.specs.Plan.{Named, no_named, PrefixPlan, ShadowPlan, server, nameds_of, last_of, IsSoundRoute, AreSoundRoutes}
+use Rattle.mcv_config.specs.Plan.{Named, no_named, PrefixPlan, ShadowPlan, server, null, error, nameds_of, last_of, IsSoundRoute, AreSoundRoutes}
 use Rattle.mcv_config.specs.Pools.{Table, number_read, pool_named, pool_read}
-use Rattle.mcv_config.specs.Routes.{listed, servers, only_child, cut, pool_prefix, text_children, with_children, of_name, of_name_and_text, of_cut, text_route, type_read, pool_object, pool_value, pool_field, pool_fields, children_value, children_field, warm_up_fields, start_read, migrate_fields, fields, of_type, object_route, handle_of, in_room, route}
+use Rattle.mcv_config.specs.Routes.{listed, servers, only_child, plain_pool, cut, pool_prefix, text_children, with_children, of_name, of_name_and_text, of_cut, text_route, type_read, pool_object, pool_value, pool_field, pool_fields, children_value, children_field, warm_up_fields, start_read, migrate_fields, fields, of_type, object_route, handle_of, in_room, route}
 use Rattle.mcv_config.specs.Selectors.{policy_read, policies_of_members, policies_read, default_read, of_operation, selecting, selector_fields}
 use Rattle.mcv_config.specs.Shadows.{range_read, shadow_fields, shadow_of_members, shadow_read, shadows_of_items, shadows_read}
 use Rattle.mcv_config.specs.Walk.{SoFar, Reader, route_under, taken, with_pool}
@@ -160,8 +160,8 @@ module _ (depth : ℕ) (reader : Reader) (one : (w : SoFar) (path : List ℕ) (d
   of_name_sound : (h : Result Handle FaultKind) (path : List ℕ) (w : SoFar) → IsSoFar w → Holds (Grows IsSoundRoute w.pools.servers) (of_name h path w)
   of_name_sound (Err kind) path w s = tt
   of_name_sound (Ok handles.Pool) path w s = tt
-  of_name_sound (Ok handles.Null) path w s = still IsSoundRoute w _ s tt
-  of_name_sound (Ok handles.Error) path w s = still IsSoundRoute w _ s tt
+  of_name_sound (Ok handles.Null) path w s = still IsSoundRoute w null s tt
+  of_name_sound (Ok handles.Error) path w s = still IsSoundRoute w error s tt
   of_name_sound (Ok (handles.Many m)) path w s = tt
   of_name_sound (Ok handles.WarmUp) path w s = tt
   of_name_sound (Ok handles.Migrate) path w s = tt
@@ -170,9 +170,9 @@ module _ (depth : ℕ) (reader : Reader) (one : (w : SoFar) (path : List ℕ) (d
   of_name_and_text_sound : (w : SoFar) (path : List ℕ) (h : Result Handle FaultKind) (text : List ℕ) → IsSoFar w → Holds (Grows IsSoundRoute w.pools.servers) (of_name_and_text depth reader w path h text)
   of_name_and_text_sound w path (Err kind) text s = tt
   of_name_and_text_sound w path (Ok handles.Pool) text s =
-      holds_bind (IsNumber w.pools.servers) (Grows IsSoundRoute w.pools.servers) (pool_named w.pools path text) _ (named_sound w path text s) (λ i h. still IsSoundRoute w _ s (h, tt))
+      holds_bind (IsNumber w.pools.servers) (Grows IsSoundRoute w.pools.servers) (pool_named w.pools path text) _ (named_sound w path text s) (λ i h. still IsSoundRoute w (plain_pool i) s (h, tt))
   of_name_and_text_sound w path (Ok handles.Null) text s = tt
-  of_name_and_text_sound w path (Ok handles.Error) text s = still IsSoundRoute w _ s tt
+  of_name_and_text_sound w path (Ok handles.Error) text s = still IsSoundRoute w error s tt
   of_name_and_text_sound w path (Ok (handles.Many m)) text s =
       holds_bind (Grows AreSome w.pools.servers) (Grows IsSoundRoute w.pools.servers) (text_children depth reader w path text) _ (text_children_sound w path text s) (branch_sound w.pools.servers m)
   of_name_and_text_sound w path (Ok handles.WarmUp) text s = tt
@@ -323,8 +323,8 @@ module _ (depth : ℕ) (reader : Reader) (one : (w : SoFar) (path : List ℕ) (d
   fields_sound : (w : SoFar) (path : List ℕ) (d : Data) (handle : Handle) → IsSoFar w → Holds (Grows IsSoundRoute w.pools.servers) (fields depth reader w path d handle)
   unfolding fields
   fields_sound w path d handles.Pool s = pool_fields_sound w path d s
-  fields_sound w path d handles.Null s = still IsSoundRoute w _ s tt
-  fields_sound w path d handles.Error s = still IsSoundRoute w _ s tt
+  fields_sound w path d handles.Null s = still IsSoundRoute w null s tt
+  fields_sound w path d handles.Error s = still IsSoundRoute w error s tt
   fields_sound w path d (handles.Many m) s =
       holds_bind (Grows AreSome w.pools.servers) (Grows IsSoundRoute w.pools.servers) (children_field depth reader w path d) _ (children_field_sound w path d s) (branch_sound w.pools.servers m)
   fields_sound w path d handles.WarmUp s = warm_up_sound w path d s
