@@ -11,9 +11,9 @@ use Rattle.mcv_config.specs.Hash.{func_named, func_read, hash_fields}
 use Rattle.mcv_config.specs.Lists.{each, each_member}
 use Rattle.mcv_config.specs.Path.{key_step}
 use Rattle.mcv_config.specs.Numbers.{index_read, seconds_read}
-use Rattle.mcv_config.specs.Plan.{Named, Plan, pool, server, null, error, all_sync, failover, warm_up, migrate, prefix_selector, operation_selector, no_named, named}
+use Rattle.mcv_config.specs.Plan.{Named, Plan, pool, server, null, error, all_sync, migrate, operation_selector, no_named, named}
 use Rattle.mcv_config.specs.Pools.{listed_servers, pool_named, pool_read, server_read, servers_read}
-use Rattle.mcv_config.specs.Routes.{cut, fields, listed, migrate_fields, object_route, plain_pool, pool_field, pool_fields, pool_object, route, servers, start_read, text_children, text_route, type_read, warm_up_fields}
+use Rattle.mcv_config.specs.Routes.{cut, fields, listed, migrate_fields, object_route, plain_pool, pool_field, pool_fields, pool_object, route, servers, start_read, text_children, text_route, type_read}
 use Rattle.mcv_config.specs.Selectors.{policy_read, selector_fields}
 use Rattle.mcv_config.specs.Server.{is_host, is_port, is_server}
 use Rattle.mcv_config.specs.Shadows.{range_read, range_value, shadow_fields, shadow_read}

@@ -8,13 +8,18 @@ use Rattle.mcv_config.specs.Fault.{refused}
 use Rattle.mcv_config.specs.Lists.{each, items_list}
 use Rattle.mcv_config.specs.Pools.{Table, listed_servers, server_read}
 use Rattle.mcv_config.specs.Routes.{listed}
+use Rattle.mcv_config.specs.Shadows.{shadow_read}
 use Rattle.mcv_config.specs.Walk.{SoFar, Reader}
 
 pub items_list-items_view : (vs : List Value) → items_list (items_view vs) ≡ map view vs
 items_list-items_view [] = refl
 items_list-items_view (v ∷ vs) = ap (λ ds. view v ∷ ds) (items_list-items_view vs)
 
-pub ruleset items = (items_list-items_view)
+pub each-shadow : (reader : Reader) (w : SoFar) (path : List ℕ) (vs : List Value)
+    → each (shadow_read reader) w path 0 (items_list (items_view vs)) ≡ each (shadow_read reader) w path 0 (map view vs)
+each-shadow reader w path vs = ap (λ ds. each (shadow_read reader) w path 0 ds) (items_list-items_view vs)
+
+pub ruleset items = (each-shadow)
 
 pub listed-none : (reader : Reader) (w : SoFar) (path : List ℕ) (vs : List Value) → length vs ≡ 0 → listed reader w path (items_list (items_view vs)) ≡ refused Empty path
 unfolding listed

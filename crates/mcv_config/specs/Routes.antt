@@ -4,7 +4,6 @@ use Rattle.std.specs.List.{range_with_len}
 use Rattle.std.specs.declared.alloc.Global.{Global}
 use Rattle.serde_json.specs.Data.{Data, string, Items, Members}
 use Rattle.serde_json.specs.Find.{get, as_str, as_array, as_object}
-use Rattle.mcv_pools.specs.declared.symbol.HashFunc.{HashFunc}
 use Rattle.mcv_pools.specs.declared.symbol.HashFunc.TheVariants.{Ch3}
 use Rattle.mcv_config.specs.declared.fault.FaultKind.{FaultKind}
 use Rattle.mcv_config.specs.declared.fault.FaultKind.TheVariants.{WrongKind, Empty, Limit, LeftOut}

@@ -1,5 +1,5 @@
 -- How far the reader of routes has come: the room that is left for handles, and the pools and servers so far.
-use Rattle.std.specs.Prelude.{ℕ, ◌-◌, List, [], ◌∷◌, ◌++◌, Option}
+use Rattle.std.specs.Prelude.{ℕ, ◌-◌, List, [], ◌∷◌, ◌++◌}
 use Rattle.serde_json.specs.Data.{Data}
 use Rattle.serde_json.specs.Find.{get}
 use Rattle.mcv_config.specs.Fault.{Read, ◌>>=◌}

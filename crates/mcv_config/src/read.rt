@@ -88,7 +88,11 @@ fn read_plan(alloc: Global, trail: &Trail<'_>, value: &Value) -> Result<Config, 
     let in_route = Trail::Key(trail, "route");
     let route = read_route(alloc, DEPTH_LIMIT, &mut so_far, &in_route, route)?;
     let entries = only_entry(alloc, route)?;
-    let Progress { pools, servers, .. } = so_far;
+    let Progress {
+        room: _,
+        pools,
+        servers,
+    } = so_far;
     let NamedPools { names: _, pools } = pools;
     Ok(Config {
         servers,
