@@ -78,11 +78,7 @@ pub(crate) fn read_range(
 
 /// The two numbers of a list, the second no less than the first.
 #[tactic(auto, using(crate::proofs::Faults::faults), unfolding(crate::specs::Shadows::range_value))]
-fn read_ends(
-    alloc: Global,
-    trail: &Trail<'_>,
-    value: &Value,
-) -> Result<(u64, u64), ConfigFault>
+fn read_ends(alloc: Global, trail: &Trail<'_>, value: &Value) -> Result<(u64, u64), ConfigFault>
     ensures { Gives range_of result (range_value (path_of trail.now) (view value.now)) }
 {
     let Some(first) = value.get(0_usize) else {

@@ -42,10 +42,7 @@ pub(crate) fn named_prefix(
     Ok(NamedPrefix { prefix, route })
 }
 
-fn by_operation(
-    alloc: Global,
-    policies: Vec<NamedPrefix>,
-) -> Result<Vec<NamedPolicy>, AllocError>
+fn by_operation(alloc: Global, policies: Vec<NamedPrefix>) -> Result<Vec<NamedPolicy>, AllocError>
     ensures { IfOk result (λ v. map policy_of v.items ≡ map of_operation (map prefix_of policies.items)) }
 {
     let mut named = Vec::with_capacity(alloc, policies.len())?;
