@@ -2,7 +2,7 @@
 use Rattle.std.proofs.Common.{◌≡◌, [], ◌∷◌, true, false, Some, None, refl, codes}
 use Rattle.serde_json.specs.Data.{Data, number, unsigned, string, array, object, no_items, item, no_members, member}
 use Rattle.mcv_base.specs.declared.operation.Op.TheVariants.{Delete}
-use Rattle.mcv_pools.specs.declared.symbol.HashFunc.TheVariants.{Ch3, Crc32}
+use Rattle.mcv_pools.specs.declared.symbol.HashFunc.TheVariants.{Crc32}
 use Rattle.mcv_config.specs.declared.fault.FaultKind.TheVariants.{UnknownKey, WrongKind, UnknownPool, Empty, LeftOut}
 use Rattle.mcv_config.specs.Config.{plan_read, root}
 use Rattle.mcv_config.specs.Fault.{good, bad, refused}

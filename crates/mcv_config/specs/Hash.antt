@@ -1,5 +1,5 @@
 -- The hash of a PoolRoute: a function by its name, and a salt (mcrouter wiki, PoolRoute; the bound is own).
-use Rattle.std.specs.Prelude.{ℕ, nat_lt, List, [], ◌∷◌, length, Option, Some, None, if◌then◌else◌, codes, bytes_eq}
+use Rattle.std.specs.Prelude.{ℕ, nat_lt, List, [], length, Option, Some, None, if◌then◌else◌, codes, bytes_eq}
 use Rattle.serde_json.specs.Data.{Data, Members}
 use Rattle.serde_json.specs.Find.{get, as_str, as_object}
 use Rattle.mcv_pools.specs.declared.symbol.HashFunc.{HashFunc}

@@ -47,7 +47,11 @@ pub(crate) fn handle_named(name: &str) -> Result<Handle, FaultKind>
 
 /// The handle that the `type` of an object names.
 #[tactic(auto, using(crate::proofs::Faults::faults), unfolding(crate::specs::Routes::type_read))]
-pub(crate) fn read_type(alloc: Global, trail: &Trail<'_>, value: &Value) -> Result<Handle, ConfigFault>
+pub(crate) fn read_type(
+    alloc: Global,
+    trail: &Trail<'_>,
+    value: &Value,
+) -> Result<Handle, ConfigFault>
     ensures { Gives (λ handle. handle) result (type_read (path_of trail.now) (view value.now)) }
 {
     let Some(name) = value.get("type") else {

@@ -81,9 +81,7 @@ fn read_object(
         }
         Handle::WarmUp => read_warm_up(alloc, depth, so_far, trail, value),
         Handle::Migrate => read_migrate(alloc, depth, so_far, trail, value),
-        Handle::Selector(selector) => {
-            read_selector(alloc, depth, so_far, trail, selector, value)
-        }
+        Handle::Selector(selector) => read_selector(alloc, depth, so_far, trail, selector, value),
     }
 }
 

@@ -459,8 +459,9 @@ fn a_migration_takes_an_hour(rt: HostRuntime) -> Result<(), Fail> {
             start,
             interval,
         } => {
-            assert_eq!(rt; (*start, *interval), (1_000, 3_600));
-            assert!(rt; is_pool(to, 0));
+            assert_eq!(rt; *start, 1_000);
+            assert_eq!(rt; *interval, 3_600);
+            assert!(rt; is_pool(&**to, 0));
             assert!(rt; matches!(&**from, NamedRoute::WarmUp { exptime: 60, .. }));
             Ok(())
         }
