@@ -1,0 +1,5 @@
+pub mod Insides
+pub mod Pieces
+pub mod Found
+pub mod Unique
+mod Examples
