@@ -1,6 +1,7 @@
 -- What may stand between the quotes of a text, byte by byte.
 use Rattle.std.proofs.Common.{◌≡◌, ◌≢◌, ◌⊎◌, ℕ, ◌+◌, ◌<◌, ◌≤◌, List, [], ◌∷◌, ◌++◌, length, get_or, take, drop, refl, sym, ap, subst, ◌∙◌, append_assoc, append-nil, inl, inr, arith}
 use Rattle.std.proofs.lemmas.List.{take_more, drop_more, drop_all}
+use Rattle.std.proofs.lemmas.Bool.{cases_lt}
 use Rattle.mcv_comments.specs.Comments.{IsInside, HasNoQuote}
 
 pub inside_byte : (b : ℕ) (bytes : List ℕ) → b ≢ 34 → b ≢ 92 → IsInside bytes → IsInside (b ∷ bytes)
@@ -136,23 +137,20 @@ two_left body place l =
     ∙ ap (λ t. get_or body place 0 ∷ t) (drop_more body (place + 1) 0 l)
     ∙ ap (λ n. get_or body place 0 ∷ get_or body (place + 1) 0 ∷ drop n body) two
 
-last_left : (body : List ℕ) (place : ℕ) → place + 1 ≡ length body → drop place body ≡ get_or body place 0 ∷ []
-last_left body place l =
-    let first : place < length body = omega arith in
-    drop_more body place 0 first ∙ ap (λ t. get_or body place 0 ∷ t) (drop_all (place + 1) body (omega arith))
+last_left : (body : List ℕ) (place : ℕ) → place < length body → length body ≤ place + 1 → drop place body ≡ get_or body place 0 ∷ []
+last_left body place l last = drop_more body place 0 l ∙ ap (λ t. get_or body place 0 ∷ t) (drop_all (place + 1) body last)
 
 pub scanned_escape : (body : List ℕ) (place : ℕ) → place < length body → get_or body place 0 ≡ 92 → Scanned body place → Scanned body (place + 2)
 scanned_escape body place l backslash so_far =
     let b = get_or body place 0 in
     let c = get_or body (place + 1) 0 in
-    let which : (place + 1 < length body) ⊎ (place + 1 ≡ length body) = omega arith in
     record {
       inside = λ within more is.
           subst IsInside (sym (ap (λ t. t ++ more) (two_more body place (omega arith)) ∙ append_assoc (take place body) (b ∷ c ∷ []) more))
           (so_far.inside (omega arith) (b ∷ c ∷ more) (inside_escape b c more backslash is));
-      never = λ h. so_far.never (elim which as (λ w. HasNoQuote (drop place body)) [
+      never = λ h. so_far.never (elim (cases_lt (place + 1) (length body)) as (λ w. HasNoQuote (drop place body)) [
         inl two ↦ subst HasNoQuote (sym (two_left body place two)) (never_escape b c (drop (place + 2) body) backslash h)
-        | inr last ↦ subst HasNoQuote (sym (last_left body place last)) (never_last b backslash)
+        | inr last ↦ subst HasNoQuote (sym (last_left body place l last)) (never_last b backslash)
       ]);
     }
 
