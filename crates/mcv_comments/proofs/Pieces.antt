@@ -24,6 +24,18 @@ strips_on text mid rest out more a b = (
   ap (λ t. t ++ more) a.2 ∙ ap (λ t. flat_map kept a.0 ++ t) b.2 ∙ sym (flat_map-append kept a.0 b.0),
 )
 
+-- nothing is pushed yet
+pub strips_start : (text out : List ℕ) → out ≡ [] → StripsTo text text out
+strips_start text out none = ([], refl, none)
+
+-- what is kept of one more front is pushed
+pub strips_push : (text mid rest out more pushed : List ℕ) → StripsTo text mid out → StripsTo mid rest more → pushed ≡ out ++ more → StripsTo text rest pushed
+strips_push text mid rest out more pushed a b e = subst (λ (t : List ℕ). StripsTo text rest t) (sym e) (strips_on text mid rest out more a b)
+
+-- nothing is left
+pub strips_end : (text rest out : List ℕ) → StripsTo text rest out → rest ≡ [] → StripsTo text [] out
+strips_end text rest out a e = subst (λ (t : List ℕ). StripsTo text t out) e a
+
 abbrev pub IsRunByte : ℕ → Type 0
 IsRunByte b = (b ≢ 34) × (b ≢ 47)
 
