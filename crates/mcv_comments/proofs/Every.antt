@@ -2,7 +2,7 @@
 use Rattle.std.proofs.Common.{◌≡◌, ◌≢◌, ◌⊎◌, ℕ, zero, suc, ◌+◌, ◌<◌, ◌≤◌, List, [], ◌∷◌, ◌++◌, length, get_or, All, refl, sym, ap, subst, ◌∙◌, append-nil, length-append, inl, inr, arith}
 use Rattle.std.proofs.lemmas.Bool.{cases_eq}
 use Rattle.std.proofs.lemmas.List.Elements.{All-nil, All-cons}
-use Rattle.mcv_comments.specs.Comments.{Piece, plain, quoted, unended, block, line, kept, IsInside, HasNoQuote, HasNoEnd, Begins, StripsTo, Strips, OpensBlock, IsOpen}
+use Rattle.mcv_comments.specs.Comments.{Piece, plain, quoted, unended, block, line, remains, IsInside, HasNoQuote, HasNoEnd, Begins, StripsTo, Strips, OpensBlock, IsOpen}
 use Rattle.mcv_comments.proofs.Insides.{inside_byte, inside_escape, never_nil, never_byte, never_escape, never_last}
 use Rattle.mcv_comments.proofs.Pieces.{strips_none, strips_on, one_piece}
 
@@ -134,17 +134,24 @@ fronts b more =
     ]
 
 after_piece : (text rest : List ℕ) (p : Piece) → Begins text p rest → IsOpen rest ⊎ ((out : List ℕ) × Strips rest out) → IsOpen text ⊎ ((out : List ℕ) × Strips text out)
-after_piece text rest p begins (inl is) = inl (is.0, kept p ++ is.1, strips_on text rest is.0 (kept p) is.1 (one_piece text rest (kept p) p begins refl) is.2, is.3)
-after_piece text rest p begins (inr strips) = inr (kept p ++ strips.0, strips_on text rest [] (kept p) strips.0 (one_piece text rest (kept p) p begins refl) strips.1)
+after_piece text rest p begins (inl is) = inl (is.0, remains p ++ is.1, strips_on text rest is.0 (remains p) is.1 (one_piece text rest (remains p) p begins refl) is.2, is.3)
+after_piece text rest p begins (inr strips) = inr (remains p ++ strips.0, strips_on text rest [] (remains p) strips.0 (one_piece text rest (remains p) p begins refl) strips.1)
 
 after_front : (n : ℕ) (text : List ℕ) → length text ≤ suc n → ((rest : List ℕ) → length rest ≤ n → IsOpen rest ⊎ ((out : List ℕ) × Strips rest out)) → Fronts text → IsOpen text ⊎ ((out : List ℕ) × Strips text out)
 after_front n text short later (front_opens opens) = inl (text, [], strips_none text, opens)
 after_front n text short later (front_passes rest p begins less) = after_piece text rest p begins (later rest (omega arith))
 
+one_more : (n : ℕ) (text : List ℕ) → length text ≤ suc n → ((rest : List ℕ) → length rest ≤ n → IsOpen rest ⊎ ((out : List ℕ) × Strips rest out)) → IsOpen text ⊎ ((out : List ℕ) × Strips text out)
+one_more n [] short later = inr ([], strips_none [])
+one_more n (b ∷ more) short later = after_front n (b ∷ more) short later (fronts b more)
+
+none_left : (text : List ℕ) → length text ≤ 0 → IsOpen text ⊎ ((out : List ℕ) × Strips text out)
+none_left [] short = inr ([], strips_none [])
+none_left (b ∷ more) short = absurd (omega (arith, short))
+
 strips_or_open : (n : ℕ) (text : List ℕ) → length text ≤ n → IsOpen text ⊎ ((out : List ℕ) × Strips text out)
-strips_or_open n [] short = inr ([], strips_none [])
-strips_or_open zero (b ∷ more) short = absurd (omega arith)
-strips_or_open (suc n) (b ∷ more) short = after_front n (b ∷ more) short (strips_or_open n) (fronts b more)
+strips_or_open zero text short = none_left text short
+strips_or_open (suc n) text short = one_more n text short (λ rest less. strips_or_open n rest less)
 
 pub each_text : (text : List ℕ) → IsOpen text ⊎ ((out : List ℕ) × Strips text out)
 each_text text = strips_or_open (length text) text (omega arith)

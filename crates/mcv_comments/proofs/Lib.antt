@@ -2,4 +2,5 @@ pub mod Insides
 pub mod Pieces
 pub mod Found
 pub mod Unique
+pub mod Every
 mod Examples

@@ -4,13 +4,13 @@ use Rattle.std.specs.List.{flat_map}
 use Rattle.std.proofs.lemmas.List.{take_more, drop_more, drop_all, take_all, take-append-drop}
 use Rattle.std.proofs.lemmas.List.Elements.{All-head, All-tail}
 use Rattle.std.proofs.lemmas.Grind.{flat_map-append}
-use Rattle.mcv_comments.specs.Comments.{Piece, plain, quoted, unended, block, line, kept, IsInside, HasNoQuote, Begins, Reads, StripsTo}
+use Rattle.mcv_comments.specs.Comments.{Piece, plain, quoted, unended, block, line, remains, IsInside, HasNoQuote, Begins, Reads, StripsTo}
 
 pub strips_none : (text : List ℕ) → StripsTo text text []
 strips_none text = ([], refl, refl)
 
-pub one_piece : (text rest out : List ℕ) (p : Piece) → Begins text p rest → out ≡ kept p → StripsTo text rest out
-one_piece text rest out p begins e = (p ∷ [], (rest, begins, refl), e ∙ sym (append-nil (kept p)))
+pub one_piece : (text rest out : List ℕ) (p : Piece) → Begins text p rest → out ≡ remains p → StripsTo text rest out
+one_piece text rest out p begins e = (p ∷ [], (rest, begins, refl), e ∙ sym (append-nil (remains p)))
 
 reads_on : (ps qs : List Piece) (text mid rest : List ℕ) → Reads text ps mid → Reads mid qs rest → Reads text (ps ++ qs) rest
 reads_on [] qs text mid rest a b = subst (λ (t : List ℕ). Reads t qs rest) (sym a) b
@@ -21,7 +21,7 @@ pub strips_on : (text mid rest out more : List ℕ) → StripsTo text mid out �
 strips_on text mid rest out more a b = (
   a.0 ++ b.0,
   reads_on a.0 b.0 text mid rest a.1 b.1,
-  ap (λ t. t ++ more) a.2 ∙ ap (λ t. flat_map kept a.0 ++ t) b.2 ∙ sym (flat_map-append kept a.0 b.0),
+  ap (λ t. t ++ more) a.2 ∙ ap (λ t. flat_map remains a.0 ++ t) b.2 ∙ sym (flat_map-append remains a.0 b.0),
 )
 
 -- nothing is pushed yet

@@ -2,7 +2,7 @@
 use Rattle.std.proofs.Common.{◌≡◌, ◌≢◌, ◌⊎◌, ℕ, suc, ◌+◌, ◌<◌, ◌≤◌, List, [], ◌∷◌, ◌++◌, length, get_or, All, refl, sym, ap, subst, ◌∙◌, append-nil, inl, inr, arith}
 use Rattle.std.specs.List.{flat_map}
 use Rattle.std.proofs.lemmas.List.Elements.{All-head, All-tail}
-use Rattle.mcv_comments.specs.Comments.{Piece, plain, quoted, unended, block, line, kept, IsInside, HasNoQuote, HasNoEnd, Begins, Reads, StripsTo, Strips, IsOpen}
+use Rattle.mcv_comments.specs.Comments.{Piece, plain, quoted, unended, block, line, remains, IsInside, HasNoQuote, HasNoEnd, Begins, Reads, StripsTo, Strips, IsOpen}
 use Rattle.mcv_comments.proofs.Insides.{inside_one}
 
 -- the first `*/` stands at one place
@@ -139,7 +139,7 @@ reads_one text (p ∷ ps) (q ∷ qs) a b =
     ap (λ t. t ∷ ps) first.0 ∙ ap (λ t. q ∷ t) rest
 
 pub strips_one : (text out other : List ℕ) → Strips text out → Strips text other → out ≡ other
-strips_one text out other a b = a.2 ∙ ap (flat_map kept) (reads_one text a.0 b.0 a.1 b.1) ∙ sym b.2
+strips_one text out other a b = a.2 ∙ ap (flat_map remains) (reads_one text a.0 b.0 a.1 b.1) ∙ sym b.2
 
 open_or_reads : (text rest body : List ℕ) (ps qs : List Piece) → HasNoEnd body → rest ≡ 47 ∷ 42 ∷ body → Reads text ps rest → Reads text qs [] → ⊥
 open_or_reads text rest body [] [] no e a b = absurd (cc (a, b, e))

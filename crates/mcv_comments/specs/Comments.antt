@@ -11,12 +11,12 @@ pub data Piece : Type 0 where
   line : List ℕ → Piece
 
 -- a block leaves a space, a line nothing
-abbrev pub kept : Piece → List ℕ
-kept (plain b) = b ∷ []
-kept (quoted body) = 34 ∷ body ++ 34 ∷ []
-kept (unended body) = 34 ∷ body
-kept (block body) = 32 ∷ []
-kept (line body) = []
+abbrev pub remains : Piece → List ℕ
+remains (plain b) = b ∷ []
+remains (quoted body) = 34 ∷ body ++ 34 ∷ []
+remains (unended body) = 34 ∷ body
+remains (block body) = 32 ∷ []
+remains (line body) = []
 
 -- what may stand between the quotes of a text: each quote and each backslash is behind a backslash that escapes it
 abbrev pub IsInside : List ℕ → Type 0
@@ -45,9 +45,9 @@ abbrev pub Reads : List ℕ → List Piece → List ℕ → Type 0
 Reads text [] rest = text ≡ rest
 Reads text (p ∷ ps) rest = (after : List ℕ) × Begins text p after × Reads after ps rest
 
--- `out` is kept of the pieces that stand before `rest`
+-- `out` remains of the pieces that stand before `rest`
 abbrev pub StripsTo : List ℕ → List ℕ → List ℕ → Type 0
-StripsTo text rest out = (ps : List Piece) × Reads text ps rest × (out ≡ flat_map kept ps)
+StripsTo text rest out = (ps : List Piece) × Reads text ps rest × (out ≡ flat_map remains ps)
 
 -- `out` is the text without its comments
 abbrev pub Strips : List ℕ → List ℕ → Type 0

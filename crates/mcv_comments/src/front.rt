@@ -1,6 +1,6 @@
 //! What stands at the front of a text: a run of plain bytes, a text between quotes or a comment.
 
-ghost use Rattle.std.specs.Prelude.{◌≡◌, ◌≢◌, ◌<◌, ◌≤◌, ◌+◌, ◌∷◌, ℕ, List, length, take, drop, slice_index, MatchOption};
+ghost use Rattle.std.specs.Prelude.{◌≡◌, ◌<◌, ◌≤◌, ◌∷◌, ℕ, List, length, take, drop, slice_index, MatchOption};
 ghost use Rattle.mcv_comments.specs.Comments.{Begins, HasNoEnd, HasNoQuote, IsInside, OpensBlock, StripsTo, block, line};
 ghost use Rattle.mcv_comments.specs.Front.{Stands};
 
@@ -64,7 +64,7 @@ fn text_len(text: &[u8]) -> usize
 /// The length of a run of plain bytes, up to the next quote or slash.
 fn run_len(text: &[u8]) -> usize
     requires some { 0 < length text.now }
-    requires plain { Stands text.now Kind.Plain }
+    requires begins { Stands text.now Kind.Plain }
     ensures some { 0 < result }
     ensures within { result ≤ length text.now }
     ensures kept { StripsTo text.now (drop result text.now) (take result text.now) }

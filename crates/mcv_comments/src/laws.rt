@@ -1,6 +1,6 @@
 //! Laws of texts and their comments.
 
-ghost use Rattle.std.specs.Prelude.{◌≡◌, [], List, ℕ};
+ghost use Rattle.std.specs.Prelude.{◌≡◌, ◌⊎◌, [], List, ℕ};
 ghost use Rattle.mcv_comments.specs.Comments.{IsOpen, Piece, Reads, Strips};
 
 /// A text falls into pieces in one way.
@@ -16,4 +16,9 @@ pub fn one_stripping()
 /// A text with a comment that doesn't end has none.
 pub fn open_or_stripped()
     ensures { (text out : List ℕ) → IsOpen text → ¬ Strips text out }
+{}
+
+/// Each text has one, or a comment that doesn't end.
+pub fn stripped_or_open()
+    ensures { (text : List ℕ) → IsOpen text ⊎ ((out : List ℕ) × Strips text out) }
 {}

@@ -10,7 +10,7 @@ mod laws;
 mod strip;
 
 pub use fault::CommentFault;
-pub use laws::{one_reading, one_stripping, open_or_stripped};
+pub use laws::{one_reading, one_stripping, open_or_stripped, stripped_or_open};
 pub use strip::strip_comments;
 
 #[cfg(test)]

@@ -73,7 +73,7 @@ fn comments_without_an_end_are_refused(rt: HostRuntime) -> Result<(), Fail> {
     for row in OPEN.lines() {
         let text = unfolded(rt.alloc(), row)?;
         let kept = strip_comments(rt.alloc(), text.as_slice());
-        assert!(&rt; matches!(kept, Err(CommentFault::Open)), "{row}");
+        assert!(rt; matches!(kept, Err(CommentFault::Open)), "{row}");
     }
     Ok(())
 }
