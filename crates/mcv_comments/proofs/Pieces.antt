@@ -4,7 +4,7 @@ use Rattle.std.specs.List.{flat_map}
 use Rattle.std.proofs.lemmas.List.{take_more, drop_more, drop_all, take_all, take-append-drop}
 use Rattle.std.proofs.lemmas.List.Elements.{All-head, All-tail}
 use Rattle.std.proofs.lemmas.Grind.{flat_map-append}
-use Rattle.mcv_comments.specs.Comments.{Piece, plain, quoted, unended, block, line, remains, IsInside, HasNoQuote, Begins, Reads, StripsTo}
+use Rattle.mcv_comments.specs.Comments.{Piece, plain, quoted, unended, block, line, remains, IsInside, HasNoQuote, Begins, Reads, StripsTo, HasNoEnd, OpensBlock}
 
 pub strips_none : (text : List ℕ) → StripsTo text text []
 strips_none text = ([], refl, refl)
@@ -102,3 +102,21 @@ pub two_front : (text : List ℕ) (a b : ℕ) → get_or text 0 0 ≡ a → get_
 two_front [] a b first second some = absurd (omega (arith, second))
 two_front (x ∷ []) a b first second some = absurd (omega (arith, second))
 two_front (x ∷ y ∷ more) a b first second some = cons_both x a (y ∷ more) (b ∷ more) first (ap (λ t. t ∷ more) second)
+
+-- a front of n bytes, cut off
+pub cut_front : (text front rest : List ℕ) (n : ℕ) → StripsTo text (drop n text) (take n text) → front ≡ take n text → rest ≡ drop n text → StripsTo text rest front
+cut_front text front rest n strips front-is rest-is =
+    subst (λ (t : List ℕ). StripsTo text t front) (sym rest-is) (subst (λ (t : List ℕ). StripsTo text (drop n text) t) (sym front-is) strips)
+
+-- a block becomes a space
+pub block_front : (text body rest : List ℕ) → text ≡ 47 ∷ 42 ∷ body → (comment : List ℕ) × Begins (47 ∷ 42 ∷ body) (block comment) rest → StripsTo text rest (32 ∷ [])
+block_front text body rest e found =
+    one_piece text rest (32 ∷ []) (block found.0) (subst (λ (t : List ℕ). Begins t (block found.0) rest) (sym e) found.1) refl
+
+-- a line becomes nothing
+pub line_front : (text body rest : List ℕ) → text ≡ 47 ∷ 47 ∷ body → (comment : List ℕ) × Begins (47 ∷ 47 ∷ body) (line comment) rest → StripsTo text rest []
+line_front text body rest e found =
+    one_piece text rest [] (line found.0) (subst (λ (t : List ℕ). Begins t (line found.0) rest) (sym e) found.1) refl
+
+pub open_front : (text body : List ℕ) → text ≡ 47 ∷ 42 ∷ body → HasNoEnd body → OpensBlock text
+open_front text body e none = (body, e, none)
