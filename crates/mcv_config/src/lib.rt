@@ -16,7 +16,7 @@ mod server;
 mod texts;
 mod trail;
 
-pub use config::{Config, Entry, NamedPolicy, NamedRoute, Pool};
+pub use config::{Config, Entry, NamedPolicy, NamedPrefix, NamedRoute, NamedShadow, Pool};
 pub use fault::{ConfigFault, FaultKind};
 pub use read::read_config;
 pub use server::{is_server, server_law};
