@@ -16,6 +16,9 @@ pub mod Times
 pub mod Own
 pub mod Plans
 pub mod Serving
+pub mod Searching
+pub mod Besides
+pub mod Choosing
 pub mod True
 pub mod Told
 mod Examples

@@ -9,7 +9,11 @@ ghost use Rattle.mcv_rules.specs.Called.{situation_of};
 ghost use Rattle.mcv_rules.specs.History.{history_of};
 ghost use Rattle.mcv_rules.specs.Status.{status_of, status_outcome};
 
-use crate::plan::{Asked, Plan, arrive, laid_out, send};
+use crate::answers::arrive;
+use crate::known::Known;
+use crate::layout::{Asked, laid_out};
+use crate::legs::send;
+use crate::plan::Plan;
 use crate::status::Status;
 use mcv_base::{Mark, Moment, Op, Position, Rest};
 use mcv_pools::Choice;
@@ -76,20 +80,22 @@ impl<'a> Eval<'a> {
     pub fn launched(&self, alloc: Global, outcomes: &[Answered]) -> Result<Vec<Launch>, AllocError>
         ensures { IfOk result (λ legs. legs.items ≡ launched self.now.tree (situation_of self.now) (slice_index self.now.choice) (known (history_of outcomes.now))) }
     {
+        let known = Known::of(alloc, outcomes)?;
         let mut found = Vec::new(alloc);
-        send(alloc, &self.plan, self.choice, &mut found)?;
+        send(alloc, &self.plan, self.choice, &known, &mut found)?;
         Ok(found)
     }
 
     /// Whether the route has replied once these outcomes have come, and by which reply: of the replies that could be
     /// it, the one that came last.
-    pub fn status(&self, outcomes: &[Answered]) -> Status
-        ensures status { result ≡ status_of self.now.op (history_of outcomes.now) (reply self.now.tree (situation_of self.now) (history_of outcomes.now)) }
-        ensures outcome { status_outcome outcomes.now result ≡ option_map (λ a. a.outcome) (reply self.now.tree (situation_of self.now) (history_of outcomes.now)) }
+    pub fn status(&self, alloc: Global, outcomes: &[Answered]) -> Result<Status, AllocError>
+        ensures status { IfOk result (λ x. x ≡ status_of self.now.op outcomes.now (reply self.now.tree (situation_of self.now) (history_of outcomes.now))) }
+        ensures outcome { IfOk result (λ x. status_outcome outcomes.now x ≡ option_map (λ a. a.outcome) (reply self.now.tree (situation_of self.now) (history_of outcomes.now))) }
     {
-        match arrive(&self.plan, outcomes).answer {
-            None => Status::Waits,
-            Some(answer) => Status::Replied(answer.source),
+        let known = Known::of(alloc, outcomes)?;
+        match arrive(&self.plan, &known).answer {
+            None => Ok(Status::Waits),
+            Some(answer) => Ok(Status::Replied(answer.source)),
         }
     }
 }

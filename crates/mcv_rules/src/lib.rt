@@ -5,9 +5,13 @@
 //! alone; each is the contract of a function that does nothing.
 #![tactic(auto)]
 
+mod answers;
 mod arrival;
 mod eval;
+mod known;
 mod laws;
+mod layout;
+mod legs;
 mod plan;
 mod status;
 
