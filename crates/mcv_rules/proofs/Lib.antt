@@ -19,6 +19,7 @@ pub mod Serving
 pub mod Searching
 pub mod Besides
 pub mod Choosing
+pub mod Stopping
 pub mod True
 pub mod Told
 mod Examples

@@ -1,13 +1,13 @@
 //! The plan of a route, laid out for what it is asked at its place: one arm for each handle.
 
-ghost use Rattle.std.specs.Prelude.{◌≡◌, ℕ, IfOk, [], map, option_map};
+ghost use Rattle.std.specs.Prelude.{◌≡◌, ℕ, IfOk, [], map, option_map, true};
 ghost use Rattle.mcv_base.specs.Key.{begins_with};
-ghost use Rattle.mcv_base.specs.Operation.{is_delete};
+ghost use Rattle.mcv_base.specs.Operation.{is_delete, is_reading};
 ghost use Rattle.mcv_base.specs.declared.operation.Mark.TheVariants.{Shadow as Shadowed};
 ghost use Rattle.mcv_base.specs.declared.operation.Op.TheVariants.{Add as Adding};
 ghost use Rattle.mcv_route.specs.Children.{is_policy_for, policy_of, prefix_policy, way_of};
-ghost use Rattle.mcv_route.specs.Situation.{has_passed, marked_add, marked_async};
-ghost use Rattle.mcv_route.specs.Tree.{all_async, all_initial, migrate, miss_failover, none, pool, warm_up};
+ghost use Rattle.mcv_route.specs.Situation.{Situation, adding, has_passed, marked_add, marked_async, under};
+ghost use Rattle.mcv_route.specs.Tree.{Tree, all_async, all_initial, all_sync, child, miss_failover, none, pool, warm_up};
 ghost use Rattle.mcv_route.specs.View.{operation_view, pool_view, view};
 ghost use Rattle.mcv_rules.specs.Laid.{ServeEach, Serves, children_of, longer_of, operations_of, prefixes_of, ranges_of, situation_at, targets_of, way_seen};
 
@@ -141,13 +141,29 @@ pub fn laid_out(
             cold,
             warm,
             exptime: _,
-        } => warming(alloc, cold, warm, asked, position),
+        } => {
+            let first = laid_out(alloc, cold, asked, &position.child(alloc, 0)?)?;
+            if !asked.op.is_reading() {
+                return Ok(first);
+            }
+            let second = laid_out(alloc, warm, asked, &position.child(alloc, 1)?)?;
+            let filling = laid_out(alloc, cold, &asked.adding(), &position.child(alloc, 2)?)?;
+            filled(alloc, first, second, filling)
+        }
         Route::Migrate {
             from,
             to,
             start,
             interval,
-        } => migrating(alloc, from, to, *start, *interval, asked, position),
+        } => match asked.way(*start, *interval) {
+            Way::From => laid_out(alloc, from, asked, &position.child(alloc, 0)?),
+            Way::To => laid_out(alloc, to, asked, &position.child(alloc, 1)?),
+            Way::Both => {
+                let first = laid_out(alloc, from, asked, &position.child(alloc, 0)?)?;
+                let second = laid_out(alloc, to, asked, &position.child(alloc, 1)?)?;
+                both(alloc, first, second)
+            }
+        },
         Route::PrefixSelector { policies, wildcard } => {
             let number = prefix_number(policies, asked.rest);
             let place = position.child(alloc, number)?;
@@ -317,53 +333,30 @@ fn misses_passed_on(
     Ok(Plan::InTurn(After::Miss, plans))
 }
 
-/// Cold, and for what reads after a miss warm, and after warm's hit an add to cold.
-#[cycle(planning)]
-fn warming(
+/// Cold's plan, after a miss warm's, and after its hit the add's.
+fn filled(
     alloc: Global,
-    cold: &Route,
-    warm: &Route,
-    asked: &Asked,
-    position: &Position,
+    cold: Plan,
+    warm: Plan,
+    filling: Plan,
 ) -> Result<Plan, AllocError>
-    ensures { (exptime : ℕ) → IfOk result (λ p. Serves p (warm_up (view cold.now) (view warm.now) exptime) (situation_at asked.now position.now)) }
+    ensures { (t u : Tree) (exptime : ℕ) (s : Situation) → is_reading s.op ≡ true → Serves cold t (under 0 s) → Serves warm u (under 1 s) → Serves filling t (under 2 (adding s)) → IfOk result (λ p. Serves p (warm_up t u exptime) s) }
 {
-    let first = laid_out(alloc, cold, asked, &position.child(alloc, 0)?)?;
-    if !asked.op.is_reading() {
-        return Ok(first);
-    }
-    let second = laid_out(alloc, warm, asked, &position.child(alloc, 1)?)?;
-    let filling = laid_out(alloc, cold, &asked.adding(), &position.child(alloc, 2)?)?;
-    let filled = Plan::OnHit(Box::new(alloc, second)?, Box::new(alloc, filling)?);
+    let filled = Plan::OnHit(Box::new(alloc, warm)?, Box::new(alloc, filling)?);
     let mut plans = Vec::with_capacity(alloc, 2)?;
-    plans.push(first)?;
+    plans.push(cold)?;
     plans.push(filled)?;
     Ok(Plan::InTurn(After::Miss, plans))
 }
 
-/// The side or sides to which a migration sends.
-#[cycle(planning)]
-fn migrating(
-    alloc: Global,
-    from: &Route,
-    to: &Route,
-    start: u32,
-    interval: u32,
-    asked: &Asked,
-    position: &Position,
-) -> Result<Plan, AllocError>
-    ensures { IfOk result (λ p. Serves p (migrate (view from.now) (view to.now) start interval) (situation_at asked.now position.now)) }
+/// Two plans, both waited for.
+fn both(alloc: Global, first: Plan, second: Plan) -> Result<Plan, AllocError>
+    ensures { (t u : Tree) (s : Situation) → Serves first t (under 0 s) → Serves second u (under 1 s) → IfOk result (λ p. Serves p (all_sync (child t (child u none))) s) }
 {
-    match asked.way(start, interval) {
-        Way::From => laid_out(alloc, from, asked, &position.child(alloc, 0)?),
-        Way::To => laid_out(alloc, to, asked, &position.child(alloc, 1)?),
-        Way::Both => {
-            let mut plans = Vec::with_capacity(alloc, 2)?;
-            plans.push(laid_out(alloc, from, asked, &position.child(alloc, 0)?)?)?;
-            plans.push(laid_out(alloc, to, asked, &position.child(alloc, 1)?)?)?;
-            Ok(Plan::All(plans))
-        }
-    }
+    let mut plans = Vec::with_capacity(alloc, 2)?;
+    plans.push(first)?;
+    plans.push(second)?;
+    Ok(Plan::All(plans))
 }
 
 /// The number of the policy with the longest prefix with which the rest begins, or of the wildcard after all.
