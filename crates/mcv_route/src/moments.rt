@@ -1,8 +1,9 @@
 //! The breaks of routes: the moments at which what their handles send changes.
 
-ghost use Rattle.std.specs.Prelude.{◌≡◌, ◌≤◌, ◌++◌, length, map, take, IfOk, OnOk};
+ghost use Rattle.std.specs.Prelude.{◌≡◌, ◌<◌, ◌≤◌, ◌++◌, drop, length, map, take, IfOk, OnOk};
+ghost use Rattle.std.specs.List.{All};
 ghost use Rattle.std.specs.List.Sorted.{IsStrictlyIncreasing};
-ghost use Rattle.mcv_route.specs.Eras.{breaks, breaks_each, own_breaks, IsBreakTable, passed};
+ghost use Rattle.mcv_route.specs.Eras.{breaks, breaks_each, own_breaks, IsBreakTable};
 ghost use Rattle.mcv_route.specs.View.{last_view, operation_view, prefix_view, shadow_view, trees_of, view};
 
 use crate::tree::{OperationPolicy, PrefixPolicy, Route, Shadow};
@@ -143,7 +144,8 @@ fn moments_of(alloc: Global, moments: &[u64]) -> Result<Vec<Moment>, AllocError>
 pub fn passed_breaks(table: &[Moment], moment: Moment) -> usize
     requires { IsStrictlyIncreasing (map (λ m. m.0) table.now) }
     ensures bound { result ≤ length table.now }
-    ensures first { take result (map (λ m. m.0) table.now) ≡ passed (map (λ m. m.0) table.now) moment.0 }
+    ensures first { All (λ b. b ≤ moment.0) (take result (map (λ m. m.0) table.now)) }
+    ensures rest { All (λ b. moment.0 < b) (drop result (map (λ m. m.0) table.now)) }
 {
     table.partition_point(|at| at.0 <= moment.0)
 }
