@@ -5,6 +5,7 @@ use Rattle.std.specs.Slice.{IsItemAt}
 use Rattle.std.specs.List.{flat_map}
 use Rattle.std.proofs.lemmas.Option.{slice_get-map, slice_get-get_or, slice_get_past}
 use Rattle.std.proofs.lemmas.List.{length-map, map-append}
+use Rattle.std.proofs.lemmas.Simd.{map-map}
 use Rattle.mcv_route.specs.Eras.{breaks, breaks_each, own_breaks}
 use Rattle.mcv_route.specs.Places.{child_at, children_of}
 use Rattle.mcv_route.specs.RoutesView.{entry_view}
@@ -158,6 +159,15 @@ breaks-more tree items i item start before now h is so_far more =
     let done = breaks_each (trees_of (map tree (take i items))) in
     more ∙ ap (λ bs. bs ++ breaks (tree item)) so_far ∙ append_assoc start done (breaks (tree item))
     ∙ ap (λ bs. start ++ bs) (sym (ap (λ ts. breaks_each (trees_of ts)) (map-more tree items i item h is) ∙ breaks_each-push (map tree (take i items)) (tree item)))
+
+-- the same of an item that has its route beside something
+pub breaks-more-of : {M A : Type 0} (made : M → A × Tree) (items : List M) (i : ℕ) (item : M) (beside : A) (x : Tree) (start before now : List ℕ) → i < length items → item ≡ get_or items i item → made item ≡ (beside, x)
+    → before ≡ start ++ breaks_each (trees_of (map (λ p. p.1) (map made (take i items)))) → now ≡ before ++ breaks x → now ≡ start ++ breaks_each (trees_of (map (λ p. p.1) (map made (take (i + 1) items))))
+breaks-more-of made items i item beside x start before now h is made-is so_far more =
+    let shown : now ≡ before ++ breaks (made item).1 = more ∙ ap (λ p. before ++ breaks p.1) (sym made-is) in
+    let each : now ≡ start ++ breaks_each (trees_of (map (λ y. (made y).1) (take (i + 1) items))) =
+    breaks-more (λ y. (made y).1) items i item start before now h is (so_far ∙ ap (λ ts. start ++ breaks_each (trees_of ts)) (map-map (λ p. p.1) made (take i items))) shown in
+    each ∙ ap (λ ts. start ++ breaks_each (trees_of ts)) (sym (map-map (λ p. p.1) made (take (i + 1) items)))
 
 pub breaks-Pool : (leaf : Leaf) (v : Vec Shadow Global) → breaks (view (Pool leaf v)) ≡ breaks_each (targets_of v.items)
 breaks-Pool leaf v = ap breaks (view-Pool leaf v)

@@ -62,7 +62,8 @@ fn pool_leaf(
     ensures table { IfOk result (λ _. symbols.new ≡ with_entry same_symbol symbols.old (symbol_of func salt.now (pool_at (map list_view lists.now) number))) }
 {
     let servers = Arc::try_clone(&lists[number])?;
-    leaf_of(func, Vec::from_slice(alloc, salt)?, servers, symbols)
+    let salt = Vec::from_slice(alloc, salt)?;
+    leaf_of(func, salt, servers, symbols)
 }
 
 /// The leaf of one server of a pool, by its index there.
