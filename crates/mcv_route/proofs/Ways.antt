@@ -5,6 +5,7 @@ use Rattle.std.specs.Slice.{IsItemAt}
 use Rattle.std.specs.List.{flat_map}
 use Rattle.std.proofs.lemmas.Option.{slice_get-map, slice_get-get_or, slice_get_past}
 use Rattle.std.proofs.lemmas.List.{length-map, map-append}
+use Rattle.std.proofs.lemmas.List.Concat.{flat_map-append}
 use Rattle.std.proofs.lemmas.Simd.{map-map}
 use Rattle.mcv_route.specs.Eras.{breaks, breaks_each, own_breaks}
 use Rattle.mcv_route.specs.Places.{child_at, children_of}
@@ -206,3 +207,12 @@ breaks-PrefixSelector v d = ap breaks (view-PrefixSelector v d) ∙ breaks_each-
 pub breaks-OperationSelector : (v : Vec OperationPolicy Global) (d : Option (Box Route Global))
     → breaks (view (OperationSelector v d)) ≡ breaks_each (trees_of (map (λ p. p.1) (map operation_view v.items))) ++ breaks_each (trees_of (last_view d))
 breaks-OperationSelector v d = ap breaks (view-OperationSelector v d) ∙ breaks_each-append (map (λ p. p.1) (map operation_view v.items)) (last_view d)
+
+-- those of one more entry
+pub entry-breaks-more : (entries : List AliasedRoute) (i : ℕ) (entry : AliasedRoute) (before now : List ℕ) → i < length entries → entry ≡ get_or entries i entry
+    → before ≡ flat_map (λ e. breaks e.tree) (map entry_view (take i entries)) → now ≡ before ++ breaks (view entry.route) → now ≡ flat_map (λ e. breaks e.tree) (map entry_view (take (i + 1) entries))
+entry-breaks-more entries i entry before now h is so_far more =
+    more ∙ ap (λ bs. bs ++ breaks (view entry.route)) so_far
+    ∙ ap (λ bs. flat_map (λ e. breaks e.tree) (map entry_view (take i entries)) ++ bs) (sym (append-nil (breaks (view entry.route))))
+    ∙ sym (flat_map-append (λ e. breaks e.tree) (map entry_view (take i entries)) (entry_view entry ∷ []))
+    ∙ ap (flat_map (λ e. breaks e.tree)) (sym (map-more entry_view entries i entry h is))

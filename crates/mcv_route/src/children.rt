@@ -74,21 +74,21 @@ fn migration_side<'a>(from: &'a Route, to: &'a Route, number: usize) -> Option<&
 
 /// The route of the prefix of a number, or after all prefixes the wildcard's.
 fn prefix_route<'a>(
-    policies: &'a [PrefixPolicy],
+    prefixes: &'a [PrefixPolicy],
     wildcard: &'a Option<Box<Route>>,
     number: usize,
 ) -> Option<&'a Route>
     ensures { option_map (λ r. view r.now) result
-        ≡ slice_get (map (λ p. p.1) (map prefix_view policies.now) ++ last_view wildcard.now) number }
+        ≡ slice_get (map (λ p. p.1) (map prefix_view prefixes.now) ++ last_view wildcard.now) number }
 {
-    if number < policies.len() {
-        return Some(&policies[number].route);
+    if number < prefixes.len() {
+        return Some(&prefixes[number].route);
     }
-    if number > policies.len() {
+    if number > prefixes.len() {
         return None;
     }
     match wildcard {
-        Some(route) => Some(route),
+        Some(wildcard) => Some(wildcard),
         None => None,
     }
 }

@@ -5,21 +5,21 @@ use Rattle.mcv_route.proofs.Views.{prefix_view-out}
 use Rattle.mcv_route.proofs.Ways.{policy-at, policy-past, policy-last}
 use Rattle.mcv_route.proofs.children.prefix_route.Goals as goal
 
-pub returns-then-number-policies : goal.returns-then-number-policies
-returns-then-number-policies c =
-    let policies = c.args.policies.now in
-    let policy = get_or policies c.args.number c.index-policies-number.result in
-    policy-at prefix_view policies c.args.wildcard.now c.args.number policy _ _ c.if-number-policies.true (ap (get_or policies c.args.number) c.index-policies-number.is) (prefix_view-out policy)
+pub returns-then-number-prefixes : goal.returns-then-number-prefixes
+returns-then-number-prefixes c =
+    let prefixes = c.args.prefixes.now in
+    let policy = get_or prefixes c.args.number c.index-prefixes-number.result in
+    policy-at prefix_view prefixes c.args.wildcard.now c.args.number policy _ _ c.if-number-prefixes.true (ap (get_or prefixes c.args.number) c.index-prefixes-number.is) (prefix_view-out policy)
 
-pub returns-then-number-policies-2 : goal.returns-then-number-policies-2
-returns-then-number-policies-2 c = policy-past prefix_view c.args.policies.now c.args.wildcard.now c.args.number c.if-number-policies-2.true
+pub returns-then-number-prefixes-2 : goal.returns-then-number-prefixes-2
+returns-then-number-prefixes-2 c = policy-past prefix_view c.args.prefixes.now c.args.wildcard.now c.args.number c.if-number-prefixes-2.true
 
 pub returns-in-Some : goal.returns-in-Some
 returns-in-Some c =
-    let last : c.args.number ≡ length c.args.policies.now = omega (arith, c.if-number-policies.false, c.if-number-policies-2.false) in
-    sym (policy-last prefix_view c.args.policies.now c.args.wildcard.now c.args.number last ∙ ap (λ o. slice_get (last_view o) 0) c.in-Some.is ∙ ap (λ r. Some (view r)) (sym c.deref.ensures))
+    let last : c.args.number ≡ length c.args.prefixes.now = omega (arith, c.if-number-prefixes.false, c.if-number-prefixes-2.false) in
+    sym (policy-last prefix_view c.args.prefixes.now c.args.wildcard.now c.args.number last ∙ ap (λ o. slice_get (last_view o) 0) c.in-Some.is ∙ ap (λ r. Some (view r)) (sym c.deref.ensures))
 
 pub returns-in-None : goal.returns-in-None
 returns-in-None c =
-    let last : c.args.number ≡ length c.args.policies.now = omega (arith, c.if-number-policies.false, c.if-number-policies-2.false) in
-    sym (policy-last prefix_view c.args.policies.now c.args.wildcard.now c.args.number last ∙ ap (λ o. slice_get (last_view o) 0) c.in-None.is)
+    let last : c.args.number ≡ length c.args.prefixes.now = omega (arith, c.if-number-prefixes.false, c.if-number-prefixes-2.false) in
+    sym (policy-last prefix_view c.args.prefixes.now c.args.wildcard.now c.args.number last ∙ ap (λ o. slice_get (last_view o) 0) c.in-None.is)
