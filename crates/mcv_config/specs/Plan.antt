@@ -53,7 +53,7 @@ pub record EntryPlan : Type 0 where
 pub record Plan : Type 0 where
   -- the texts of the servers, in the order of their numbers
   pub servers : List (List ℕ)
-  -- the servers of each pool, in the order of the pools' names
+  -- the servers of each pool: those of `pools` in the order of their names, then those that routes hold, as the reader meets them
   pub pools : List (List ℕ)
   pub entries : List EntryPlan
 

@@ -96,9 +96,9 @@ pub struct Entry {
 /// What a configuration text names.
 #[derive(Drop)]
 pub struct Config {
-    /// Numbered by first appearance, in the walk of the pools.
+    /// Numbered by first appearance, in the walk of the pools and then of the routes.
     pub servers: Servers,
-    /// In the byte order of their names; a pool's number is its place.
+    /// Those of `pools` in the byte order of their names, then those that routes hold. A pool's number is its place.
     pub pools: Vec<Pool>,
     pub entries: Vec<Entry>,
 }

@@ -7,3 +7,4 @@ pub mod Soundness
 pub mod Whole
 pub mod Ways
 pub mod Moments
+pub mod Breaks

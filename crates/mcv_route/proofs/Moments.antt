@@ -9,10 +9,10 @@ use Rattle.mcv_pools.specs.Table.{numbered}
 use Rattle.mcv_route.specs.Eras.{passed, greatest, since_at, era_at, IsSince, SinceIsTheLastBreak, ErasAreOpenedByBreaks}
 
 -- a break is among the breaks, before another one too
-here : (b : ℕ) (bs : List ℕ) → Contains (b ∷ bs) b
+pub here : (b : ℕ) (bs : List ℕ) → Contains (b ∷ bs) b
 here b bs = (0, omega arith, refl)
 
-there : (b s : ℕ) (bs : List ℕ) → Contains bs s → Contains (b ∷ bs) s
+pub there : (b s : ℕ) (bs : List ℕ) → Contains bs s → Contains (b ∷ bs) s
 there b s bs h = (suc h.0, omega (arith, h.1), h.2)
 
 larger : (b s : ℕ) (bs : List ℕ) (m : ℕ) → b ≤ m → (o : Bool) → nat_le b s ≡ o → Contains bs s → s ≤ m → All (λ c. c ≤ m → c ≤ s) bs

@@ -1,7 +1,11 @@
-use Rattle.std.proofs.Common.{◌≡◌, refl, sym, ap, ◌∙◌}
+use Rattle.std.proofs.Common.{◌≡◌, arith, sym, ap, ◌∙◌}
 use Rattle.mcv_route.specs.Eras.{since_at, breaks_of}
-use Rattle.mcv_route.proofs.Ways.{no_breaks-entries}
+use Rattle.mcv_route.specs.RoutesView.{numbers_of}
+use Rattle.mcv_route.proofs.Breaks.{since-none, since-some}
 use Rattle.mcv_route.proofs.routes.Routes.since.Goals as goal
 
+pub returns-then-number-eq0 : goal.returns-then-number-eq0
+returns-then-number-eq0 c = ?
+
 pub returns : goal.returns
-returns c = rw (← c.self.view_is) (rw (no_breaks-entries c.self.inside.entries.items) refl)
+returns c = ?
