@@ -90,12 +90,12 @@ child_legs-launched k [] s c o = refl
 child_legs-launched k (t ∷ ts) s c o = ap (λ xs. launched t (under k s) c o ∷ xs) (child_legs-launched (suc k) ts s c o)
 
 -- one child more; the first has number k
-pub child-grows : (P : Plan → Type 0) (k : ℕ) (ps : List Plan) (routes : List Route) (n : ℕ) (route : Route) (p : Plan) (s : Situation) → n < length routes → route ≡ get_or routes n route
-    → LedBy P ps (child_legs k (map view (take n routes)) s) → Serves p (view route) (under (k + n) s) → LedBy P (ps ++ p ∷ []) (child_legs k (map view (take (n + 1) routes)) s)
-child-grows P k ps routes n route p s h is a f =
+pub child-grows : (P : Plan → Type 0) (k m : ℕ) (ps : List Plan) (routes : List Route) (n : ℕ) (route : Route) (p : Plan) (s : Situation) → n < length routes → route ≡ get_or routes n route
+    → LedBy P ps (child_legs k (map view (take n routes)) s) → m ≡ k + n → Serves p (view route) (under m s) → LedBy P (ps ++ p ∷ []) (child_legs k (map view (take (n + 1) routes)) s)
+child-grows P k m ps routes n route p s h is a e f =
     let count : length (map view (take n routes)) ≡ n = length-map (take n routes) view ∙ length-take-le n routes (omega (arith, h)) in
-    rw (add-one n, take-suc routes n route h, ← is, map-append view (take n routes) (route ∷ []), child_legs-append k (k + n) (map view (take n routes)) (view route) s (omega (arith, count)))
-    (led-append P ps (child_legs k (map view (take n routes)) s) p (λ c o. launched (view route) (under (k + n) s) c o) a f.sends)
+    rw (add-one n, take-suc routes n route h, ← is, map-append view (take n routes) (route ∷ []), child_legs-append k m (map view (take n routes)) (view route) s (omega (arith, count, e)))
+    (led-append P ps (child_legs k (map view (take n routes)) s) p (λ c o. launched (view route) (under m s) c o) a f.sends)
 
 pub initial_beyond : (t : Tree) (ts : List Tree) (s : Situation) → Beyond (all_initial (child t (trees_of ts))) s t (under 0 s) (child_legs 1 ts (asynchronous s))
 initial_beyond t ts s = record {

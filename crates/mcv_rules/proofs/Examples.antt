@@ -62,11 +62,11 @@ failover_goes_on = refl
 
 -- ---- the reply that came last
 
-answered : List ℕ → FixedReply → Answered
+abbrev answered : List ℕ → FixedReply → Answered
 answered p f = record { position = p; reply = parts.Fixed f }
 
 -- what a delete replies at these outcomes, in the order in which they came
-deleted : Tree → List Answered → Status
+abbrev deleted : Tree → List Answered → Status
 deleted t xs = status_of Delete xs (one.reply t delete (history_of xs))
 
 both_faulty : deleted (all_sync (two (server 7) (server 8))) (answered (1 ∷ []) Lost ∷ answered (0 ∷ []) Lost ∷ []) ≡ Replied (Outcome 1)

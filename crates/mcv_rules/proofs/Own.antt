@@ -42,6 +42,10 @@ abbrev or_else : Option Outcome → Option Outcome → Option Outcome
 or_else None y = y
 or_else (Some x) y = Some x
 
+or_nothing : (r : Option Outcome) → r ≡ or_else r None
+or_nothing None = refl
+or_nothing (Some x) = refl
+
 -- the next entry is heard where its position has no outcome
 heard_first : (es : History) (a : Answered) (p : List ℕ) (r : Option Outcome) (b : Bool) → outcomes es a.position ≡ r → is_same a.position p ≡ b
     → outcomes (cond (is_none r) (entry_of a ∷ es) es) p ≡ or_else (outcomes es p) (cond b (Some (told a)) None)
@@ -49,18 +53,10 @@ heard_first es a p None true e w =
     let unheard : outcomes es p ≡ None = ap (outcomes es) (sym (same_is a.position p w)) ∙ e in
     rw (w, unheard) refl
 heard_first es a p None false e w = rw w (or_nothing (outcomes es p))
-  where
-    or_nothing : (r : Option Outcome) → r ≡ or_else r None
-    or_nothing None = refl
-    or_nothing (Some x) = refl
 heard_first es a p (Some x) true e w =
     let heard_already : outcomes es p ≡ Some x = ap (outcomes es) (sym (same_is a.position p w)) ∙ e in
     rw heard_already refl
 heard_first es a p (Some x) false e w = or_nothing (outcomes es p)
-  where
-    or_nothing : (r : Option Outcome) → r ≡ or_else r None
-    or_nothing None = refl
-    or_nothing (Some x) = refl
 
 or_else_once : (r : Option Outcome) (b : Bool) (x : Outcome) (y : Option Outcome) → or_else (or_else r (cond b (Some x) None)) y ≡ or_else r (cond b (Some x) y)
 or_else_once None true x y = refl
@@ -69,10 +65,6 @@ or_else_once (Some z) b x y = refl
 
 fold_first : (es : History) (xs : List Answered) (p : List ℕ) → outcomes (fold heard es xs) p ≡ or_else (outcomes es p) (first_at p xs)
 fold_first es [] p = or_nothing (outcomes es p)
-  where
-    or_nothing : (r : Option Outcome) → r ≡ or_else r None
-    or_nothing None = refl
-    or_nothing (Some x) = refl
 fold_first es (a ∷ xs) p =
     fold_first (heard es a) xs p
     ∙ ap (λ r. or_else r (first_at p xs)) (heard_first es a p (outcomes es a.position) (is_same a.position p) refl refl)
@@ -132,8 +124,7 @@ found_next xs a p (Some y) None b e f w = rw (history_of-append xs a, e, f) refl
 found_next xs a p (Some y) (Some x) b e f w =
     rw (history_of-append xs a, e, f, place_before xs (a ∷ []) p x (sym (outcome_first xs p) ∙ f)) refl
 found_next xs a p None (Some x) true e f w =
-    let both_ways : None ≡ Some x = sym e ∙ ap (outcomes (history_of xs)) (same_is a.position p w) ∙ f in
-    absurd cc
+    absurd (let both_ways : None ≡ Some x = sym e ∙ ap (outcomes (history_of xs)) (same_is a.position p w) ∙ f in cc)
 found_next xs a p None None true e f w =
     rw (history_of-append xs a, e, w, f, place_last xs a p (sym (outcome_first xs p) ∙ f) w) refl
 found_next xs a p None None false e f w = rw (history_of-append xs a, e, w, f) refl

@@ -40,18 +40,18 @@ use Rattle.mcv_rules.proofs.Serving.{at_once, replies-each, reply-together, arri
 -- ---- the words of the handles, by what the search goes on after
 
 abbrev or_after : After → List Answer → List Answer → List Answer
-or_after after.Error q r = or_after_error q r
-or_after after.Miss q r = or_after_miss q r
+or_after after.Error = or_after_error
+or_after after.Miss = or_after_miss
 
 abbrev next_after : After → Option Answer → Option Answer → Option Answer
-next_after after.Error x y = next_after_error x y
-next_after after.Miss x y = next_after_miss x y
+next_after after.Error = next_after_error
+next_after after.Miss = next_after_miss
 
 abbrev join : After → planned.Plan → planned.Plan → planned.Plan
-join after.Error t u = planned.OnError t u
-join after.Miss t u = planned.OnMiss t u
+join after.Error = planned.OnError
+join after.Miss = planned.OnMiss
 
-outcome : Option Answer → Option Outcome
+abbrev outcome : Option Answer → Option Outcome
 outcome r = option_map (λ a. a.outcome) r
 
 flip : {A : Type 0} (z : Outcome) (m n : A) → cond (is_missed z) m n ≡ cond (is_good z) n m
@@ -148,8 +148,7 @@ next-is w op xs a b f g None q (y ∷ fs) e i j k st = absurd (let n : None ≡ 
 next-is w op xs a b f g (Some x) q [] e i j k st = absurd (let n : Some x.outcome ≡ None = k in cc)
 next-is w op xs a b f g (Some x) q (y ∷ fs) e i j k st =
     let es = history_of xs in
-    let same : Some x.outcome ≡ Some y.outcome = k in
-    let alike : goes_on_after w (Some x.outcome) ≡ goes_on_after w (Some y.outcome) = ap (goes_on_after w) same in
+    let alike : goes_on w x.outcome ≡ goes_on w y.outcome = ap (goes_on_after w) k in
     rw (i, next_some w x q, time_some w f g y fs es st e, ← alike)
     (seen-by op xs (goes_on w x.outcome) b q (Some x) (time f es) (time g es) j)
 
@@ -158,7 +157,7 @@ next-alike w None q [] gs h i = rw (next_none w q, or_none w gs) refl
 next-alike w None q (y ∷ fs) gs h i = absurd (let n : None ≡ Some y.outcome = h in cc)
 next-alike w (Some x) q [] gs h i = absurd (let n : Some x.outcome ≡ None = h in cc)
 next-alike w (Some x) q (y ∷ fs) gs h i =
-    let alike : goes_on_after w (Some x.outcome) ≡ goes_on_after w (Some y.outcome) = ap (goes_on_after w) h in
+    let alike : goes_on w x.outcome ≡ goes_on w y.outcome = ap (goes_on_after w) h in
     rw (next_some w x q, or_some w y fs gs, ← alike) (alike-by (goes_on w x.outcome) q (Some x) gs (y ∷ fs) i h)
 
 tells-next : (w : After) (op : Op) (xs : List Answered) (a b : Arrival) (f g : History → List Answer) (r q : Option Answer) → Tells op xs a f r → Tells op xs b g q → Tells op xs (next_arrived w a b) (λ h. or_after w (f h) (g h)) (next_after w r q)
@@ -231,8 +230,8 @@ search_answers w xs (p ∷ ps) t (u ∷ ts) s h a =
     let es = history_of xs in
     let here = under 0 s in
     let whole = tells-fold w xs 1 ps ts s (arrived (own_arrived xs) p) (λ h. replies u here (outcomes h)) (reply u here es) (tells-child s.op xs p u here refl a.0) a.1 in
-    let times : time (λ k. fold (or_after w) (replies u here (outcomes k)) (replies_each 1 (trees_of ts) s (outcomes k))) es ≡ came t s es = time_same _ _ (λ k. sym (h.answers (outcomes k))) es ∙ sym (came_time t s es) in
-    whole.is ∙ ap₂ (λ r n. seen s.op xs (arrival r n)) (sym (h.answer es)) times
+    let when : time (λ k. fold (or_after w) (replies u here (outcomes k)) (replies_each 1 (trees_of ts) s (outcomes k))) es ≡ came t s es = time_same _ _ (λ k. sym (h.answers (outcomes k))) es ∙ sym (came_time t s es) in
+    whole.is ∙ ap₂ (λ r n. seen s.op xs (arrival r n)) (sym (h.answer es)) when
 
 pub serves-search : (w : After) (v : Vec Plan Global) (t : Tree) (ts : List Tree) (s : Situation) → Searches w t (trees_of ts) s → ServeEach 0 v.items ts s → Serves (InTurn w v) t s
 serves-search w v t ts s h a = record {
@@ -255,6 +254,18 @@ is_hit-once : (r : List Answer) (ls : List Launch) → cond (is_hit (outcome_of_
 is_hit-once [] ls = refl
 is_hit-once (a ∷ r) ls = refl
 
+no_more : (ls ms : List Launch) (b : Bool) → (ls ++ ms) ++ cond b [] [] ≡ ls ++ ms
+no_more ls ms true = append-nil (ls ++ ms)
+no_more ls ms false = append-nil (ls ++ ms)
+
+outcome_either : (b : Bool) (a : Answer) (q r : List Answer) → cond b (Some a.outcome) (outcome_of_all r) ≡ outcome_of_all (cond b (a ∷ q) r)
+outcome_either true a q r = refl
+outcome_either false a q r = refl
+
+miss_outcome : (q r : List Answer) → next_reply after.Miss (outcome_of_all q) (outcome_of_all r) ≡ outcome_of_all (or_after_miss q r)
+miss_outcome [] r = refl
+miss_outcome (a ∷ q) r = flip a.outcome (outcome_of_all r) (Some a.outcome) ∙ outcome_either (is_good a.outcome) a q r
+
 -- cold, then warm with the add after its hit
 pub serves-warm_up : (v : Vec Plan Global) (p : Plan) (q a : Box Plan Global) (cold warm : Tree) (exptime : ℕ) (s : Situation) → v.items ≡ p ∷ OnHit q a ∷ [] → is_reading s.op ≡ true
     → Serves p cold (under 0 s) → Serves q.value warm (under 1 s) → Serves a.value cold (under 2 (adding s)) → Serves (InTurn after.Miss v) (warm_up cold warm exptime) s
@@ -266,30 +277,12 @@ serves-warm_up v p q a cold warm exptime s is h f g i = record {
       ∙ ap (λ ls. once is_missed (replies cold (under 0 s) o) ls) (no_more _ _ _ ∙ ap (λ ls. launched warm (under 1 s) c o ++ ls) (is_hit-once (replies warm (under 1 s) o) (launched cold (under 2 (adding s)) c o)))));
   replies = λ c o.
       rw (sent-InTurn c o after.Miss v, is, sent-OnHit c o q a, f.replies c o, g.replies c o, h)
-      (by_replies (replies cold (under 0 s) o) (replies warm (under 1 s) o));
+      (miss_outcome (replies cold (under 0 s) o) (replies warm (under 1 s) o));
   answers = λ xs.
       let es = history_of xs in
       let cold_tells = tells-child s.op xs p cold (under 0 s) refl f in
       let warm_tells = tells-child s.op xs q.value warm (under 1 s) refl g in
       let both = tells-next after.Miss s.op xs _ _ _ _ _ _ cold_tells warm_tells in
       rw (arrived-InTurn (own_arrived xs) after.Miss v, is, arrived-OnHit (own_arrived xs) q a)
-      (both.is ∙ ap₂ (λ r n. seen s.op xs (arrival r n)) (whole_reply es) (time_same _ _ whole es ∙ sym (came_time (warm_up cold warm exptime) s es)));
+      (both.is ∙ ap₂ (λ r n. seen s.op xs (arrival r n)) (rw h refl) (time_same _ _ (λ k. rw h refl) es ∙ sym (came_time (warm_up cold warm exptime) s es)));
 }
-  where
-    no_more : (ls ms : List Launch) (b : Bool) → (ls ++ ms) ++ cond b [] [] ≡ ls ++ ms
-    no_more ls ms true = append-nil (ls ++ ms)
-    no_more ls ms false = append-nil (ls ++ ms)
-
-    by_replies : (q r : List Answer) → next_reply after.Miss (outcome_of_all q) (outcome_of_all r) ≡ outcome_of_all (or_after_miss q r)
-    by_replies [] r = refl
-    by_replies (a ∷ q) r = flip a.outcome (outcome_of_all r) (Some a.outcome) ∙ by_test (is_good a.outcome)
-      where
-        by_test : (b : Bool) → cond b (Some a.outcome) (outcome_of_all r) ≡ outcome_of_all (cond b (a ∷ q) r)
-        by_test true = refl
-        by_test false = refl
-
-    whole_reply : (es : History) → next_after_miss (reply cold (under 0 s) es) (reply warm (under 1 s) es) ≡ reply (warm_up cold warm exptime) s es
-    whole_reply es = rw h refl
-
-    whole : (k : History) → or_after_miss (replies cold (under 0 s) (outcomes k)) (replies warm (under 1 s) (outcomes k)) ≡ replies (warm_up cold warm exptime) s (outcomes k)
-    whole k = rw h refl

@@ -188,8 +188,8 @@ pub first_waited_for-loop-number-preserved : goal.first_waited_for-loop-number-p
 first_waited_for-loop-number-preserved t c =
     let s = situation_at c.args.asked.now c.args.position.now in
     rw c.in_ok-push.ensures.items
-    (child-grows _ 1 c.loop-number.plans.items c.split_first.others.now c.loop-number.number c.index-others-number.result c.in_ok-laid_out.field-0 (asynchronous s) c.loop-number-test.true c.index-others-number.is
-    c.loop-number.invariant (rw c.in_ok-place.ensures at c.in_ok-laid_out.ensures))
+    (child-grows _ 1 (c.loop-number.number + 1) c.loop-number.plans.items c.split_first.others.now c.loop-number.number c.index-others-number.result c.in_ok-laid_out.field-0 (asynchronous s) c.loop-number-test.true c.index-others-number.is
+    c.loop-number.invariant (omega arith) (rw c.in_ok-place.ensures at c.in_ok-laid_out.ensures))
 
 pub first_waited_for-returns : goal.first_waited_for-returns
 first_waited_for-returns t c =
@@ -202,8 +202,8 @@ pub none_waited_for-loop-number-preserved : goal.none_waited_for-loop-number-pre
 none_waited_for-loop-number-preserved t c =
     let s = situation_at c.args.asked.now c.args.position.now in
     rw c.in_ok-push.ensures.items
-    (child-grows _ 0 c.loop-number.plans.items c.args.children.now c.loop-number.number c.index-children-number.result c.in_ok-laid_out.field-0 (asynchronous s) c.loop-number-test.true c.index-children-number.is
-    c.loop-number.invariant (rw c.in_ok-place.ensures at c.in_ok-laid_out.ensures))
+    (child-grows _ 0 c.loop-number.number c.loop-number.plans.items c.args.children.now c.loop-number.number c.index-children-number.result c.in_ok-laid_out.field-0 (asynchronous s) c.loop-number-test.true c.index-children-number.is
+    c.loop-number.invariant (omega arith) (rw c.in_ok-place.ensures at c.in_ok-laid_out.ensures))
 
 pub none_waited_for-returns : goal.none_waited_for-returns
 none_waited_for-returns t c =

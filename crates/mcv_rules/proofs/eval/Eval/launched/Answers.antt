@@ -16,4 +16,4 @@ returns c =
     let same : outcome_in (known_at c.in_ok-known.field-0) ≡ outcomes (history_of xs) =
         ap outcome_in c.in_ok-known.ensures ∙ (λ i p. own_outcome xs p i)
     in
-    c.in_ok-send.ensures.legs ∙ ap (λ o. (sent index o plan).legs) same ∙ c.self.invariant.1.sends index (outcomes (history_of xs))
+    c.in_ok-send.ensures.legs ∙ ap (λ o. (sent index o plan).legs) same ∙ (rw c.self.invariant.0 at c.self.invariant.1.sends index (outcomes (history_of xs)))

@@ -29,7 +29,9 @@ loop-place-preserved c =
           heard.count
           ∙ rw (before.found entry.position, before.count) refl
           ∙ sym (count-grows xs place entry c.loop-place-test.true c.index-outcomes-place.is);
-      within = rw heard.count (grown (is_some (found_in c.loop-place.known entry.position)) c.loop-place.known.count place before.within);
+      within =
+          let one = grown (is_some (found_in c.loop-place.known entry.position)) c.loop-place.known.count place before.within in
+          rw heard.count (omega (arith, one));
     }
 
 -- the table of all entries tells of each position what the list does
