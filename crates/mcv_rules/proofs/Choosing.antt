@@ -5,7 +5,7 @@ use Rattle.mcv_base.specs.declared.reply.FixedReply.TheVariants.{ErrorRoute}
 use Rattle.mcv_base.specs.Key.{begins_with}
 use Rattle.mcv_base.specs.Operation.{is_reading}
 use Rattle.mcv_route.specs.Outcomes.{Outcomes, Choice, History}
-use Rattle.mcv_route.specs.Tree.{Tree, Trees, error, all_sync, miss_failover, warm_up, migrate, prefix_selector, operation_selector, none, child}
+use Rattle.mcv_route.specs.Tree.{Tree, Trees, error, all_sync, all_initial, miss_failover, warm_up, migrate, prefix_selector, operation_selector, none, child}
 use Rattle.mcv_route.specs.Situation.{Situation, under}
 use Rattle.mcv_route.specs.Children.{child_or, policy_of, prefix_policy, is_policy_for, longest_from, way_of, to_from, to_to, to_both}
 use Rattle.mcv_route.specs.Replies as replies
@@ -245,6 +245,24 @@ pub serves-no_wildcard : (policies : Vec PrefixPolicy Global) (n : ℕ) (s : Sit
 serves-no_wildcard policies n s e h =
     rw (view-PrefixSelector policies None)
     (serves-no_last prefix_view _ policies.items n s (prefix_chooses (prefixes_of policies.items) _ s n e) h)
+
+-- ---- a handle's first child, and no child
+
+pub serves-first_child : (plan : Plan) (routes : List Route) (first : Route) (s : Situation) → is_reading s.op ≡ false → 0 < length routes → first ≡ get_or routes 0 first
+    → Serves plan (view first) (under 0 s) → Serves plan (miss_failover (trees_of (map view routes))) s
+serves-first_child plan [] first s h n is f = absurd (omega (arith, n))
+serves-first_child plan (r ∷ routes) first s h n is f =
+    serves-does plan (miss_failover (trees_of (map view (r ∷ routes)))) (view r) s (under 0 s)
+    (does_child 0 (miss_failover (trees_of (map view (r ∷ routes)))) (map view (r ∷ routes)) s (view r) (miss_chooses (trees_of (map view (r ∷ routes))) s h) (omega arith) refl)
+    (subst (λ x. Serves plan (view x) (under 0 s)) is f)
+
+pub serves-no_child : (routes : List Route) (s : Situation) → is_reading s.op ≡ false → length routes ≡ 0 → Serves (Reply ErrorRoute) (miss_failover (trees_of (map view routes))) s
+serves-no_child [] s h n = serves-does (Reply ErrorRoute) (miss_failover none) error s s (does_error 0 (miss_failover none) [] s (miss_chooses none s h) (omega arith)) (serves-error s)
+serves-no_child (r ∷ routes) s h n = absurd (omega (arith, n))
+
+pub serves-no_initial : (routes : List Route) (s : Situation) → length routes ≡ 0 → Serves (Reply ErrorRoute) (all_initial (trees_of (map view routes))) s
+serves-no_initial [] s n = serves-does (Reply ErrorRoute) (all_initial none) error s s (record { op = refl; sends = λ c o. refl; replies = λ o. refl; reply = λ es. refl }) (serves-error s)
+serves-no_initial (r ∷ routes) s n = absurd (omega (arith, n))
 
 -- ---- migrations and warm-ups
 

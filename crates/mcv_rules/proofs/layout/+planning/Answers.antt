@@ -9,7 +9,7 @@ use Rattle.mcv_route.proofs.Views.{shadow_view-out, view-Error, view-AllSync, vi
 use Rattle.mcv_rules.specs.Laid.{operations_of, prefixes_of, situation_at}
 use Rattle.mcv_rules.specs.declared.arrival.After.TheVariants as after
 use Rattle.mcv_rules.proofs.Besides.{async_beyond, child-grows, initial_beyond, serves-beside, shadow-grows, shadows_beyond}
-use Rattle.mcv_rules.proofs.Choosing.{does_child, does_error, migrates_both, migrates_from, migrates_to, miss_chooses, serves-default, serves-no_default, serves-no_wildcard, serves-operation, serves-prefix, serves-wildcard, warms_not}
+use Rattle.mcv_rules.proofs.Choosing.{migrates_both, migrates_from, migrates_to, serves-default, serves-first_child, serves-no_child, serves-no_default, serves-no_initial, serves-no_wildcard, serves-operation, serves-prefix, serves-wildcard, warms_not}
 use Rattle.mcv_rules.proofs.Searching.{failover_searches, miss_searches, serves-search}
 use Rattle.mcv_rules.proofs.Serving.{serve-grows, served, serves-all, serves-does, serves-error, serves-null}
 use Rattle.mcv_rules.proofs.layout.+planning.Goals as goal
@@ -227,3 +227,20 @@ with_shadows-returns t c =
     let shadows = c.args.shadows.now in
     serves-beside c.loop-number.plans _ _ s s _ (shadows_beyond (pool_view c.args.leaf.now) shadows s)
     (rw (take_all c.loop-number.number shadows c.loop-number-test.false) at c.loop-number.invariant)
+
+-- ---- without children, and for what doesn't read
+
+pub misses_passed_on-returns-in-Some : goal.misses_passed_on-returns-in-Some
+misses_passed_on-returns-in-Some t c =
+    let s = situation_at c.args.asked.now c.args.position.now in
+    let writes : is_reading s.op ≡ false = search rules in
+    served c.laid_out-in-Some.result _ _ (λ p. serves-first_child p c.args.children.now c.in-Some.first.now s writes (search rules) (search rules)) (search rules)
+
+pub misses_passed_on-returns-in-None : goal.misses_passed_on-returns-in-None
+misses_passed_on-returns-in-None t c =
+    let s = situation_at c.args.asked.now c.args.position.now in
+    let writes : is_reading s.op ≡ false = search rules in
+    serves-no_child c.args.children.now s writes (search rules)
+
+pub first_waited_for-returns-in-else : goal.first_waited_for-returns-in-else
+first_waited_for-returns-in-else t c = serves-no_initial c.args.children.now (situation_at c.args.asked.now c.args.position.now) (search rules)

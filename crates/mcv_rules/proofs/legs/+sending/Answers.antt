@@ -1,5 +1,5 @@
 use Rattle.std.proofs.Common.{rules, ◌≡◌, append_assoc, append-nil}
-use Rattle.mcv_rules.proofs.Stopping.{reply_stops}
+use Rattle.mcv_rules.proofs.Stopping.{no_legs, reply_stops}
 use Rattle.mcv_rules.proofs.legs.+sending.Goals as goal
 
 -- a search that stops has its legs and its reply
@@ -8,3 +8,10 @@ send_in_turn-returns-then-goes_on_after-clause-legs t c = search (rules, append-
 
 pub send_in_turn-returns-then-goes_on_after-clause-reply : goal.send_in_turn-returns-then-goes_on_after-clause-reply
 send_in_turn-returns-then-goes_on_after-clause-reply t c = search (rules, reply_stops)
+
+-- the next one's legs come after those found
+pub send_in_turn-loop-plan-preserved : goal.send_in_turn-loop-plan-preserved
+send_in_turn-loop-plan-preserved t c = search (rules, append_assoc)
+
+pub send_in_turn-returns-clause-legs : goal.send_in_turn-returns-clause-legs
+send_in_turn-returns-clause-legs t c = search (rules, no_legs, append_assoc)
