@@ -19,7 +19,7 @@ use Rattle.mcv_rules.specs.declared.arrival.Arrival.{Arrival}
 use Rattle.mcv_rules.specs.declared.known.Known.{Known}
 use Rattle.mcv_rules.specs.declared.status.Source.TheVariants.{Fixed}
 use Rattle.mcv_rules.specs.declared.status.Source.TheVariants.{Outcome as place}
-use Rattle.mcv_rules.specs.History.{history_of, place_of}
+use Rattle.mcv_rules.specs.History.{entry_of, history_of, place_of}
 use Rattle.mcv_rules.specs.Status.{source_of}
 
 -- an answer and its time, by the definitions' own
@@ -55,6 +55,17 @@ found_in known p = get_by (λ k. bytes_eq p k.now) known.arrivals
 abbrev pub known_at : Known → List ℕ → Arrival
 known_at known p = unwrap_or (found_in known p) (record { answer = None; came = known.count })
 
+-- what the table has at a position once it has heard the entry with place n in the list
+abbrev pub found_after : Known → ℕ → Answered → List ℕ → Option Arrival
+found_after known n a p =
+    if is_some (found_in known a.position) then found_in known p
+    else if bytes_eq a.position p then Some (record { answer = Some (record { outcome = (entry_of a).1; source = place n }); came = suc known.count })
+    else found_in known p
+
+abbrev pub count_after : Known → Answered → ℕ
+count_after known a = if is_some (found_in known a.position) then known.count else suc known.count
+
+-- the outcomes that the answers of legs have
 abbrev pub outcome_in : (List ℕ → Arrival) → Outcomes
 outcome_in own p = option_map (λ a. a.outcome) (own p).answer
 

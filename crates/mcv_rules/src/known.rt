@@ -1,10 +1,7 @@
 //! The outcomes of a call by their positions, so that none is searched for.
 
-ghost use Rattle.std.specs.Prelude.{◌≡◌, ◌≤◌, ◌<◌, IfOk, OnOk, Some, List, ℕ, suc, is_some, if◌then◌else◌};
-ghost use Rattle.std.specs.Str.{bytes_eq};
-ghost use Rattle.mcv_rules.specs.Arrivals.{found_in, known_at, own_arrived};
-ghost use Rattle.mcv_rules.specs.History.{entry_of};
-ghost use Rattle.mcv_rules.specs.declared.status.Source.TheVariants as sources;
+ghost use Rattle.std.specs.Prelude.{◌≡◌, ◌≤◌, ◌<◌, IfOk, List, OnOk, ℕ};
+ghost use Rattle.mcv_rules.specs.Arrivals.{count_after, found_after, known_at, own_arrived};
 
 use crate::arrival::{Answer, Arrival};
 use crate::status::Source;
@@ -39,8 +36,8 @@ impl<'a> Known<'a> {
     /// Takes in the entry with this place in the list.
     fn hear(&mut self, place: usize, answered: &'a Answered) -> Result<(), AllocError>
         requires { (self.old.count ≤ place) × (place < usize.MAX) }
-        ensures found { OnOk result ((p : List ℕ) → found_in self.new p ≡ (if is_some (found_in self.old answered.now.position) then found_in self.old p else if bytes_eq answered.now.position p then Some (record { answer = Some (record { outcome = (entry_of answered.now).1; source = sources.Outcome place }); came = suc self.old.count }) else found_in self.old p)) }
-        ensures count { OnOk result (self.new.count ≡ (if is_some (found_in self.old answered.now.position) then self.old.count else suc self.old.count)) }
+        ensures found { OnOk result ((p : List ℕ) → found_in self.new p ≡ found_after self.old place answered.now p) }
+        ensures count { OnOk result (self.new.count ≡ count_after self.old answered.now) }
     {
         let position = answered.position.steps();
         if self.arrivals.contains_key(position) {

@@ -389,10 +389,10 @@ fn longer(
     }
 }
 
-fn begins_with(word: &[u8], prefix: &[u8]) -> bool
-    ensures { result ≡ begins_with word.now prefix.now }
+fn begins_with(word: &[u8], start: &[u8]) -> bool
+    ensures { result ≡ begins_with word.now start.now }
 {
-    word.starts_with(prefix)
+    word.starts_with(start)
 }
 
 /// The number of the operation's policy, or of the default policy after all.

@@ -4,7 +4,7 @@ ghost use Rattle.std.specs.Prelude.{◌≡◌, ◌++◌, IfOk, OnOk, map, slice_
 ghost use Rattle.mcv_base.specs.declared.reply.Outcome.TheVariants.{Error};
 ghost use Rattle.mcv_route.specs.Children.{child_or, is_within, joined, together};
 ghost use Rattle.mcv_rules.specs.Arrivals.{known_at, outcome_in};
-ghost use Rattle.mcv_rules.specs.Laid.{legs_each, next_reply, replies_each, searched, sent};
+ghost use Rattle.mcv_rules.specs.Laid.{is_hit, legs_each, next_reply, replies_each, searched, sent};
 ghost use Rattle.mcv_rules.specs.Plan.{both};
 
 use crate::arrival::After;
@@ -38,7 +38,7 @@ pub fn send(
         Plan::InTurn(after, plans) => send_in_turn(alloc, plans, *after, choice, known, found),
         Plan::OnHit(plan, filling) => {
             let reply = send(alloc, plan, choice, known, found)?;
-            if reply == Some(Outcome::Good) {
+            if is_hit(reply) {
                 send(alloc, filling, choice, known, found)?;
             }
             Ok(reply)
@@ -54,6 +54,15 @@ pub fn send(
             }
             Ok(None)
         }
+    }
+}
+
+fn is_hit(reply: Option<Outcome>) -> bool
+    ensures { result ≡ is_hit reply }
+{
+    match reply {
+        None => false,
+        Some(outcome) => matches!(outcome, Outcome::Good),
     }
 }
 
