@@ -151,3 +151,8 @@ shadows_beyond q shadows s = record {
   replies = λ o. refl;
   reply = λ es. refl;
 }
+
+-- a pool without shadows
+pub no_shadows : (p : Plan) (q : Pool) (shadows : List Shadow) (s : Situation) → length shadows ≡ 0 → Serves p (pool q [] none) s → Serves p (pool q (ranges_of shadows) (targets_of shadows)) s
+no_shadows p q [] s n f = f
+no_shadows p q (x ∷ shadows) s n f = absurd (omega (arith, n))

@@ -1,5 +1,5 @@
 -- The handles that do what one of their children does, or what another handle does: selectors and migrations.
-use Rattle.std.proofs.Common.{◌≡◌, ◌<◌, ◌≤◌, ◌+◌, Box, cond, ℕ, zero, suc, Bool, true, false, List, [], ◌∷◌, ◌++◌, length, map, get_or, nat_le, unwrap_or, option_map, Vec, Global, Option, Some, None, refl, sym, ap, ap₂, ◌∙◌, subst, arith, append-nil}
+use Rattle.std.proofs.Common.{◌≡◌, ◌<◌, ◌≤◌, ◌+◌, Box, cond, ℕ, zero, suc, Bool, true, false, List, [], ◌∷◌, ◌++◌, length, map, get_or, nat_le, unwrap_or, option_map, Vec, Global, Option, Some, None, refl, sym, ap, ap₂, ◌∙◌, subst, arith, append-nil, add-one, drop, drop-cons}
 use Rattle.mcv_base.specs.declared.operation.Op.{Op}
 use Rattle.mcv_base.specs.declared.reply.FixedReply.TheVariants.{ErrorRoute}
 use Rattle.mcv_base.specs.Key.{begins_with}
@@ -195,6 +195,14 @@ merged-grows l k rest p prefixes =
     by_test : (b : Bool) → merged l (cond b (longer_after (k, length p) (longest_from (suc k) rest prefixes)) (longest_from (suc k) rest prefixes)) ≡ merged (cond b (longer_of l (k, length p)) l) (longest_from (suc k) rest prefixes)
     by_test true = merged-step l (k, length p) (longest_from (suc k) rest prefixes)
     by_test false = refl
+
+-- the loop over policies
+pub prefix-grows : (l : Option (ℕ × ℕ)) (rest : List ℕ) (policies : List PrefixPolicy) (n : ℕ) (policy : PrefixPolicy) → n < length policies → policy ≡ get_or policies n policy
+    → merged (cond (begins_with rest (prefix_view policy).0) (longer_of l (n, length (prefix_view policy).0)) l) (longest_from (n + 1) rest (prefixes_of (drop (n + 1) policies)))
+    ≡ merged l (longest_from n rest (prefixes_of (drop n policies)))
+prefix-grows l rest policies n policy h is =
+    rw (add-one n, drop-cons policies n policy h, ← is)
+    (sym (merged-grows l n rest (prefix_view policy).0 (prefixes_of (drop (suc n) policies))))
 
 -- a number that is found is below the end
 abbrev IsBelow : ℕ → Option (ℕ × ℕ) → Type 0

@@ -8,7 +8,7 @@ use Rattle.mcv_route.specs.View.{pool_view, trees_of, view}
 use Rattle.mcv_route.proofs.Views.{shadow_view-out, view-Error, view-AllSync, view-Failover, view-Migrate, view-Null, view-WarmUp}
 use Rattle.mcv_rules.specs.Laid.{operations_of, prefixes_of, situation_at}
 use Rattle.mcv_rules.specs.declared.arrival.After.TheVariants as after
-use Rattle.mcv_rules.proofs.Besides.{async_beyond, child-grows, initial_beyond, serves-beside, shadow-grows, shadows_beyond}
+use Rattle.mcv_rules.proofs.Besides.{async_beyond, child-grows, initial_beyond, no_shadows, serves-beside, shadow-grows, shadows_beyond}
 use Rattle.mcv_rules.proofs.Choosing.{migrates_both, migrates_from, migrates_to, serves-default, serves-first_child, serves-no_child, serves-no_default, serves-no_initial, serves-no_wildcard, serves-operation, serves-prefix, serves-wildcard, warms_not}
 use Rattle.mcv_rules.proofs.Searching.{failover_searches, miss_searches, serves-search}
 use Rattle.mcv_rules.proofs.Serving.{serve-grows, served, serves-all, serves-does, serves-error, serves-null}
@@ -244,3 +244,7 @@ misses_passed_on-returns-in-None t c =
 
 pub first_waited_for-returns-in-else : goal.first_waited_for-returns-in-else
 first_waited_for-returns-in-else t c = serves-no_initial c.args.children.now (situation_at c.args.asked.now c.args.position.now) (search rules)
+
+pub with_shadows-returns-then-is_empty : goal.with_shadows-returns-then-is_empty
+with_shadows-returns-then-is_empty t c =
+    no_shadows _ (pool_view c.args.leaf.now) c.args.shadows.now (situation_at c.args.asked.now c.args.position.now) (search rules) c.in_ok-own.ensures
