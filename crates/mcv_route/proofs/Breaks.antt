@@ -261,3 +261,20 @@ module _ (table : List Moment) where
       let at : Moment = record { 0 = d } in
       let far : m < number (get_or table (n + k) at) = leb-false _ m (within (n + k) at (omega arith) inside) in
       omega (arith, far, get_or-drop n (map number table) k d, get_or-map number table (n + k) at d inside)
+
+-- ---- what a table of moments answers
+
+module _ (bs : List ℕ) (table : List Moment) (m n : ℕ) (t : IsBreakTable bs (map number table)) (bound : n ≤ length table) (first : All (λ b. b ≤ m) (take n (map number table))) (rest : All (λ b. m < b) (drop n (map number table))) where
+  within : n ≤ length (map number table)
+  within = omega (arith, length-map table number)
+
+  pub no-since : n ≡ 0 → None ≡ since_at bs m
+  no-since none = since-none bs (map number table) m n t within first rest none
+
+  pub last-since : (d : Moment) → 0 < n → Some (number (get_or table (n - 1) d)) ≡ since_at bs m
+  last-since d some =
+      let is : number (get_or table (n - 1) d) ≡ get_or (map number table) (n - 1) 0 = sym (get_or-map number table (n - 1) d 0 (omega arith)) in
+      since-some bs (map number table) m n t within first rest (number (get_or table (n - 1) d)) some is
+
+  pub era-of : n ≡ era_at bs m
+  era-of = era-is bs (map number table) m n t within first rest

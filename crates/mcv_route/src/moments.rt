@@ -127,7 +127,7 @@ pub fn table_of(alloc: Global, mut moments: Vec<u64>) -> Result<Vec<Moment>, All
 {
     moments.sort_unstable();
     moments.dedup();
-    moments_of(alloc, moments.as_slice())
+    Ok(moments_of(alloc, moments.as_slice())?)
 }
 
 fn moments_of(alloc: Global, moments: &[u64]) -> Result<Vec<Moment>, AllocError>

@@ -10,4 +10,4 @@ leaf_of-requires c =
 pub returns : goal.returns
 returns c =
     let shown = list-at c.args.lists.now c.args.number c.index-lists-number.result c.in_ok-servers.servers c.requires.inside c.index-lists-number.is c.in_ok-servers.ensures in
-    rw (← shown, ← c.in_ok-salt.ensures.items) c.leaf_of.ensures
+    record { leaf = rw (← shown, ← c.in_ok-salt.ensures.items) c.leaf_of.ensures.leaf; table = rw (← shown, ← c.in_ok-salt.ensures.items) c.leaf_of.ensures.table }

@@ -1,11 +1,22 @@
-use Rattle.std.proofs.Common.{◌≡◌, arith, sym, ap, ◌∙◌}
-use Rattle.mcv_route.specs.Eras.{since_at, breaks_of}
-use Rattle.mcv_route.specs.RoutesView.{numbers_of}
-use Rattle.mcv_route.proofs.Breaks.{since-none, since-some}
+use Rattle.std.proofs.Common.{◌≡◌, ◌<◌, arith, length, sym, subst}
+use Rattle.mcv_base.specs.declared.request.Moment.{Moment}
+use Rattle.mcv_route.specs.Eras.{breaks_of, IsBreakTable}
+use Rattle.mcv_route.specs.RoutesView.{numbers_of, routes_view}
+use Rattle.mcv_route.proofs.Breaks.{no-since, last-since}
 use Rattle.mcv_route.proofs.routes.Routes.since.Goals as goal
 
-pub returns-then-number-eq0 : goal.returns-then-number-eq0
-returns-then-number-eq0 c = ?
+pub passed_breaks-requires : goal.passed_breaks-requires
+passed_breaks-requires c = rw c.as_slice.ensures.value c.self.invariant.table.rising
+
+pub returns-then-number-0 : goal.returns-then-number-0
+returns-then-number-0 c =
+    let found = c.passed_breaks-number in
+    let table = rw (← c.as_slice.ensures.value) at c.self.invariant.table in
+    rw (← c.self.view_is) (no-since (breaks_of (routes_view c.self.inside)) c.as_slice.result.now c.args.moment.0 found.result table found.ensures.bound found.ensures.first found.ensures.rest c.if-number-0.true)
 
 pub returns : goal.returns
-returns c = ?
+returns c =
+    let found = c.passed_breaks-number in
+    let some : 0 < found.result = omega (arith, c.if-number-0.false) in
+    rw (← c.self.view_is, ← c.as_slice.ensures.value) (last-since (breaks_of (routes_view c.self.inside)) c.as_slice.result.now c.args.moment.0 found.result
+    (rw (← c.as_slice.ensures.value) at c.self.invariant.table) found.ensures.bound found.ensures.first found.ensures.rest _ some)
