@@ -1,15 +1,12 @@
 -- Plans of which the first is waited for serve the handles that send beside: shadows, and all children at once.
-use Rattle.std.proofs.Common.{◌≡◌, ◌<◌, ◌+◌, cond, ℕ, zero, suc, Bool, true, false, List, [], ◌∷◌, ◌++◌, length, map, take, get_or, Vec, Box, Global, Option, Some, refl, sym, ap, ap₂, ◌∙◌, arith, add-one}
+use Rattle.std.proofs.Common.{◌≡◌, ◌<◌, ◌+◌, cond, ℕ, suc, List, [], ◌∷◌, ◌++◌, length, map, take, get_or, Vec, Box, Global, refl, sym, ap, ap₂, ◌∙◌, arith, add-one}
 use Rattle.std.proofs.Math.Seq.{take-suc}
 use Rattle.std.proofs.lemmas.List.{length-take-le, length-map, map-append}
-use Rattle.mcv_base.specs.declared.operation.Op.{Op}
-use Rattle.mcv_base.specs.declared.reply.FixedReply.{FixedReply}
-use Rattle.mcv_route.specs.declared.launch.Answered.{Answered}
 use Rattle.mcv_route.specs.declared.launch.Launch.{Launch}
 use Rattle.mcv_route.specs.declared.tree.Route.{Route}
 use Rattle.mcv_route.specs.declared.tree.Shadow.{Shadow}
 use Rattle.mcv_route.specs.Outcomes.{Outcomes, Choice, History, outcomes}
-use Rattle.mcv_route.specs.Tree.{Pool, Range, Tree, Trees, pool, null, all_initial, all_async, none, child}
+use Rattle.mcv_route.specs.Tree.{Pool, Range, Tree, pool, null, all_initial, all_async, none, child}
 use Rattle.mcv_route.specs.Situation.{Situation, under, asynchronous, shadowed}
 use Rattle.mcv_route.specs.Children.{joined, is_within, of_those_holding}
 use Rattle.mcv_route.specs.View.{view, shadow_view, trees_of}
@@ -17,12 +14,11 @@ use Rattle.mcv_route.specs.Replies as replies
 use Rattle.mcv_route.specs.Replies.{outcome_of as outcome_of_all}
 use Rattle.mcv_route.specs.Launched.{launched, launched_each}
 use Rattle.mcv_route.specs.Reply as definition
-use Rattle.mcv_rules.specs.Status.{default_reply}
 use Rattle.mcv_rules.specs.Arrivals.{own_arrived}
 use Rattle.mcv_rules.specs.Laid.{sent, legs_each, ranges_of, targets_of, Serves}
-use Rattle.mcv_rules.specs.declared.plan.Plan.{Plan, Reply, Beside, Shadowed}
+use Rattle.mcv_rules.specs.declared.plan.Plan.{Plan, Beside, Shadowed}
 use Rattle.mcv_rules.proofs.Plans.{sent-Beside, sent-Shadowed, arrived-Beside}
-use Rattle.mcv_rules.proofs.Serving.{seen-does, serves-null}
+use Rattle.mcv_rules.proofs.Serving.{seen-does}
 
 -- the legs of what goes beside, by choice and outcomes
 abbrev pub Legs : Type 0

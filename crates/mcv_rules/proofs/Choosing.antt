@@ -1,5 +1,5 @@
 -- The handles that do what one of their children does, or what another handle does: selectors and migrations.
-use Rattle.std.proofs.Common.{◌≡◌, ◌<◌, ◌≤◌, ◌+◌, Box, cond, ℕ, zero, suc, Bool, true, false, List, [], ◌∷◌, ◌++◌, length, map, get_or, nat_le, unwrap_or, option_map, Vec, Global, Option, Some, None, refl, sym, ap, ap₂, ◌∙◌, subst, arith, append-nil, add-one, drop, drop-cons}
+use Rattle.std.proofs.Common.{◌≡◌, ◌<◌, ◌≤◌, ◌+◌, Box, cond, ℕ, zero, suc, Bool, true, false, List, [], ◌∷◌, ◌++◌, length, map, get_or, nat_le, unwrap_or, option_map, Vec, Global, Option, Some, None, refl, sym, ap, ◌∙◌, subst, arith, append-nil, add-one, drop, drop-cons}
 use Rattle.mcv_base.specs.declared.operation.Op.{Op}
 use Rattle.mcv_base.specs.declared.reply.FixedReply.TheVariants.{ErrorRoute}
 use Rattle.mcv_base.specs.Key.{begins_with}

@@ -3,7 +3,7 @@ use Rattle.std.proofs.Common.{◌≡◌, ℕ, List, [], ◌∷◌, Some, None, r
 use Rattle.mcv_base.specs.declared.operation.Op.TheVariants.{Get, Delete}
 use Rattle.mcv_base.specs.declared.operation.Mark.{Mark}
 use Rattle.mcv_base.specs.declared.operation.Mark.TheVariants.{Plain, Shadow}
-use Rattle.mcv_base.specs.declared.reply.Outcome.TheVariants.{Good, Soft, Error}
+use Rattle.mcv_base.specs.declared.reply.Outcome.TheVariants.{Soft, Error}
 use Rattle.mcv_base.specs.declared.reply.FixedReply.{FixedReply}
 use Rattle.mcv_base.specs.declared.reply.FixedReply.TheVariants.{Deleted, NotFound, ErrorRoute, Lost}
 use Rattle.mcv_base.specs.declared.reply.Part.TheVariants as parts

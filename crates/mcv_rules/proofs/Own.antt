@@ -1,5 +1,5 @@
 -- The list of outcomes as a table has it: of each position its first, its place and its time.
-use Rattle.std.proofs.Common.{◌≡◌, ◌≢◌, ◌<◌, ◌+◌, ◌≤◌, cond, ℕ, zero, suc, Bool, true, false, List, [], ◌∷◌, ◌++◌, length, take, get_or, Option, Some, None, refl, sym, ap, ap₂, ◌∙◌, arith, add-one, nat_eq, option_map, unwrap_or, ⊎_elim}
+use Rattle.std.proofs.Common.{◌≡◌, ◌<◌, ◌+◌, cond, ℕ, zero, suc, Bool, true, false, List, [], ◌∷◌, ◌++◌, length, take, get_or, Option, Some, None, refl, sym, ap, ap₂, ◌∙◌, arith, add-one, nat_eq, option_map, unwrap_or, ⊎_elim}
 use Rattle.std.specs.Prelude.{⊤, fold, is_none, is_some, slice_get}
 use Rattle.std.specs.Str.{bytes_eq}
 use Rattle.std.proofs.Math.Seq.{take-suc}
@@ -19,7 +19,7 @@ use Rattle.mcv_rules.specs.Arrivals.{seen, heard_at, own_found, own_arrived}
 use Rattle.mcv_rules.specs.Times.{IsStable}
 use Rattle.mcv_rules.specs.declared.arrival.Arrival.{Arrival}
 use Rattle.mcv_rules.specs.declared.status.Source.TheVariants.{Outcome as placed}
-use Rattle.mcv_rules.proofs.Orders.{same_is, same_self, one_more}
+use Rattle.mcv_rules.proofs.Orders.{same_is, one_more}
 use Rattle.mcv_rules.proofs.Stays
 
 pub same_bytes : (p q : List ℕ) → bytes_eq p q ≡ is_same p q

@@ -1,16 +1,16 @@
 -- Plans one after another serve the handles that search: by errors, by misses, and the add of a warm-up.
-use Rattle.std.proofs.Common.{◌≡◌, ◌≢◌, cond, ℕ, zero, suc, max, Bool, true, false, List, [], ◌∷◌, ◌++◌, length, map, Vec, Box, Global, Option, Some, None, option_map, refl, sym, ap, ap₂, ◌∙◌, append-nil}
+use Rattle.std.proofs.Common.{◌≡◌, ◌≢◌, cond, ℕ, suc, max, Bool, true, false, List, [], ◌∷◌, ◌++◌, length, map, Vec, Box, Global, Option, Some, None, option_map, refl, sym, ap, ap₂, ◌∙◌, append-nil}
 use Rattle.std.specs.Prelude.{fold}
 use Rattle.mcv_base.specs.declared.operation.Op.{Op}
 use Rattle.mcv_base.specs.declared.reply.Outcome.{Outcome}
 use Rattle.mcv_base.specs.declared.reply.Outcome.TheVariants.{Good, Soft, Error}
-use Rattle.mcv_base.specs.Reply.{is_error, is_missed, is_good}
+use Rattle.mcv_base.specs.Reply.{is_missed, is_good}
 use Rattle.mcv_base.specs.Operation.{is_reading}
 use Rattle.mcv_base.specs.declared.reply.FixedReply.TheVariants.{ErrorRoute}
 use Rattle.mcv_route.specs.declared.launch.Answered.{Answered}
 use Rattle.mcv_route.specs.declared.launch.Launch.{Launch}
 use Rattle.mcv_route.specs.Outcomes.{Outcomes, Choice, History, outcomes}
-use Rattle.mcv_route.specs.Tree.{Tree, Trees, failover, miss_failover, warm_up, none, child}
+use Rattle.mcv_route.specs.Tree.{Tree, Trees, failover, miss_failover, warm_up}
 use Rattle.mcv_route.specs.Situation.{Situation, under, adding}
 use Rattle.mcv_route.specs.Children.{together}
 use Rattle.mcv_route.specs.View.{trees_of}
@@ -22,7 +22,7 @@ use Rattle.mcv_rules.specs.Plan as planned
 use Rattle.mcv_rules.specs.Plans.{plan, plan_each}
 use Rattle.mcv_rules.specs.Times.{time, IsStable}
 use Rattle.mcv_rules.specs.History.{history_of}
-use Rattle.mcv_rules.specs.Arrivals.{seen, seen_answer, own_arrived, arrived_at_once, goes_on, goes_on_after, next_arrived}
+use Rattle.mcv_rules.specs.Arrivals.{seen, own_arrived, arrived_at_once, goes_on, goes_on_after, next_arrived}
 use Rattle.mcv_rules.specs.Laid as laid
 use Rattle.mcv_rules.specs.Laid.{sent, searched, next_reply, is_hit, arrived, Serves, ServeEach}
 use Rattle.mcv_rules.specs.declared.arrival.After.{After}
@@ -35,7 +35,7 @@ use Rattle.mcv_rules.proofs.Times.{came_time, no_cons}
 use Rattle.mcv_rules.proofs.Verdicts.{reply_is_planned, replies_are_alike}
 use Rattle.mcv_rules.proofs.Own.{apart, stable}
 use Rattle.mcv_rules.proofs.Plans.{sent-InTurn, sent-OnHit, arrived-InTurn, arrived-OnHit}
-use Rattle.mcv_rules.proofs.Serving.{at_once, replies-each, reply-together, arrived-each}
+use Rattle.mcv_rules.proofs.Serving.{at_once, replies-each, reply-together}
 
 -- ---- the words of the handles, by what the search goes on after
 

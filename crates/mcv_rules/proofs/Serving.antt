@@ -1,5 +1,5 @@
 -- A plan serves a route: legs, replies at once, a handle that does what another does, and all at once.
-use Rattle.std.proofs.Common.{◌≡◌, ◌<◌, Box, take, ◌≤◌, ◌+◌, ◌&&◌, ◌||◌, cond, ℕ, zero, suc, Bool, true, false, nat_lt, nat_le, List, [], ◌∷◌, ◌++◌, length, map, get_or, Vec, Global, Option, Some, None, option_map, refl, sym, ap, ap₂, ◌∙◌, arith, add-one}
+use Rattle.std.proofs.Common.{◌≡◌, ◌<◌, take, ◌+◌, ◌&&◌, ◌||◌, cond, ℕ, suc, Bool, true, false, nat_lt, nat_le, List, [], ◌∷◌, ◌++◌, length, map, get_or, Vec, Global, Option, Some, None, option_map, refl, sym, ap, ap₂, ◌∙◌, arith, add-one}
 use Rattle.std.proofs.Math.Seq.{take-suc}
 use Rattle.std.proofs.lemmas.List.{length-take-le, length-map, map-append}
 use Rattle.std.specs.declared.alloc.AllocError.{AllocError}
@@ -19,10 +19,10 @@ use Rattle.mcv_route.specs.Children.{joined, together}
 use Rattle.mcv_route.specs.Replies as replies
 use Rattle.mcv_route.specs.declared.tree.Route.{Route}
 use Rattle.mcv_route.specs.View.{view, trees_of}
-use Rattle.mcv_route.specs.Replies.{Answer, default_answer, refused, own_answers, replies_each, outcome_of as outcome_of_all}
+use Rattle.mcv_route.specs.Replies.{Answer, own_answers, replies_each, outcome_of as outcome_of_all}
 use Rattle.mcv_route.specs.Launched.{launched, launched_each}
 use Rattle.mcv_route.specs.Reply as definition
-use Rattle.mcv_route.specs.Reply.{reply, came, arrival, arrivals, answers_of, last_worse, is_waiting}
+use Rattle.mcv_route.specs.Reply.{reply, came, arrival, arrivals, last_worse, is_waiting}
 use Rattle.mcv_rules.specs.Plan as planned
 use Rattle.mcv_rules.specs.Plans.{plan, plan_each}
 use Rattle.mcv_rules.specs.Times.{came_each}

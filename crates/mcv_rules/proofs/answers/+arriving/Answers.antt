@@ -1,6 +1,4 @@
-use Rattle.std.proofs.Common.{rules, ◌≡◌, false, drop, map, option_map, sym, ◌∙◌}
-use Rattle.mcv_rules.specs.Arrivals.{goes_on_after, known_at}
-use Rattle.mcv_rules.specs.Laid.{arrived}
+use Rattle.std.proofs.Common.{rules}
 use Rattle.mcv_rules.proofs.Stopping.{answer_stops}
 use Rattle.mcv_rules.proofs.answers.+arriving.Goals as goal
 

@@ -1,7 +1,7 @@
-use Rattle.std.proofs.Common.{rules, arith, ◌≡◌, ◌<◌, ◌≤◌, ◌+◌, ◌∙◌, [], ◌∷◌, length, map, refl, sym}
+use Rattle.std.proofs.Common.{rules, arith, ◌≡◌, ◌<◌, ◌≤◌, ◌+◌, length, map}
 use Rattle.std.proofs.lemmas.List.{take_all}
 use Rattle.mcv_base.specs.Operation.{is_reading}
-use Rattle.mcv_route.specs.Children.{policy_of, prefix_policy, way_of}
+use Rattle.mcv_route.specs.Children.{policy_of, prefix_policy}
 use Rattle.mcv_route.specs.Situation.{asynchronous, shadowed}
 use Rattle.mcv_route.specs.Tree.{failover, miss_failover}
 use Rattle.mcv_route.specs.View.{pool_view, trees_of, view}

@@ -1,4 +1,4 @@
-use Rattle.std.proofs.Common.{rules, arith, ◌≡◌, ◌∙◌, sym}
+use Rattle.std.proofs.Common.{rules}
 use Rattle.mcv_route.proofs.Views.{prefix_view-out}
 use Rattle.mcv_rules.proofs.Choosing.{prefix-grows}
 use Rattle.mcv_rules.proofs.layout.prefix_number.Goals as goal

@@ -1,4 +1,4 @@
-use Rattle.std.proofs.Common.{rules, ◌≡◌, append_assoc, append-nil}
+use Rattle.std.proofs.Common.{rules, append_assoc, append-nil}
 use Rattle.mcv_rules.proofs.Stopping.{no_legs, reply_stops}
 use Rattle.mcv_rules.proofs.legs.+sending.Goals as goal
 

@@ -1,7 +1,7 @@
-use Rattle.std.proofs.Common.{rules, ◌≡◌, ℕ, List, ap, sym, ◌∙◌}
+use Rattle.std.proofs.Common.{◌≡◌, ap, ◌∙◌}
 use Rattle.std.specs.Prelude.{slice_index}
-use Rattle.mcv_route.specs.Outcomes.{Outcomes, outcomes}
-use Rattle.mcv_rules.specs.Arrivals.{known_at, outcome_in, own_arrived}
+use Rattle.mcv_route.specs.Outcomes.{outcomes}
+use Rattle.mcv_rules.specs.Arrivals.{known_at, outcome_in}
 use Rattle.mcv_rules.specs.History.{history_of}
 use Rattle.mcv_rules.specs.Laid.{sent}
 use Rattle.mcv_rules.proofs.Own.{own_outcome}

@@ -1,9 +1,7 @@
-use Rattle.std.proofs.Common.{rules, ◌≡◌, Some, None, ap, sym, ◌∙◌}
-use Rattle.mcv_route.specs.Reply.{came, arrival, reply}
-use Rattle.mcv_rules.specs.Arrivals.{own_arrived, seen}
+use Rattle.std.proofs.Common.{rules, ◌≡◌, ap, ◌∙◌}
+use Rattle.mcv_route.specs.Reply.{reply}
 use Rattle.mcv_rules.specs.Called.{situation_of}
 use Rattle.mcv_rules.specs.History.{history_of}
-use Rattle.mcv_rules.specs.Laid.{arrived}
 use Rattle.mcv_rules.specs.Status.{status_of, status_outcome}
 use Rattle.mcv_rules.specs.declared.status.Status.TheVariants.{Replied, Waits}
 use Rattle.mcv_rules.proofs.Told.{status_told}

@@ -1,10 +1,8 @@
-use Rattle.std.proofs.Common.{rules, arith, ◌≡◌, ◌≤◌, ℕ, suc, Bool, true, false, cond, List, Option, Some, None, length, take, unwrap_or, refl, sym, ap, ap₂, ◌∙◌}
+use Rattle.std.proofs.Common.{arith, ◌≡◌, ◌≤◌, ℕ, suc, Bool, true, false, cond, List, None, length, unwrap_or, refl, sym, ap, ap₂, ◌∙◌}
 use Rattle.std.specs.Prelude.{is_some}
 use Rattle.std.proofs.lemmas.List.{take_all}
-use Rattle.mcv_route.specs.Outcomes.{is_same}
 use Rattle.mcv_rules.specs.Arrivals.{found_in, known_at, own_found, own_arrived}
 use Rattle.mcv_rules.specs.History.{history_of}
-use Rattle.mcv_rules.specs.declared.arrival.Arrival.{Arrival}
 use Rattle.mcv_rules.proofs.Own.{count-grows, own_found-grows, same_bytes}
 use Rattle.mcv_rules.proofs.known.Known.of.Goals as goal
 
