@@ -25,9 +25,9 @@ use Rattle.mcv_rules.specs.History.{history_of}
 use Rattle.mcv_rules.specs.Plan.{both}
 use Rattle.mcv_rules.specs.declared.arrival.After.{After}
 use Rattle.mcv_rules.specs.declared.arrival.Arrival.{Arrival}
-use Rattle.mcv_rules.specs.declared.layout.Asked.{Asked}
-use Rattle.mcv_rules.specs.declared.layout.Way.{Way}
-use Rattle.mcv_rules.specs.declared.layout.Way.TheVariants as ways
+use Rattle.mcv_rules.specs.declared.asked.Asked.{Asked}
+use Rattle.mcv_rules.specs.declared.asked.Way.{Way}
+use Rattle.mcv_rules.specs.declared.asked.Way.TheVariants as ways
 use Rattle.mcv_rules.specs.declared.plan.PlannedLeg.{PlannedLeg}
 use Rattle.mcv_rules.specs.declared.plan.Plan.{Plan}
 use Rattle.mcv_rules.specs.declared.plan.Plan.TheOpen.{Plan-F}

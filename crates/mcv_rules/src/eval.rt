@@ -10,8 +10,9 @@ ghost use Rattle.mcv_rules.specs.History.{history_of};
 ghost use Rattle.mcv_rules.specs.Status.{status_of, status_outcome};
 
 use crate::answers::arrive;
+use crate::asked::Asked;
 use crate::known::Known;
-use crate::layout::{Asked, laid_out};
+use crate::layout::laid_out;
 use crate::legs::send;
 use crate::plan::Plan;
 use crate::status::Status;

@@ -1,117 +1,22 @@
 //! The plan of a route, laid out for what it is asked at its place: one arm for each handle.
 
-ghost use Rattle.std.specs.Prelude.{◌≡◌, ℕ, IfOk, [], map, option_map, true};
+ghost use Rattle.std.specs.Prelude.{◌≡◌, ℕ, IfOk, [], map, true};
 ghost use Rattle.mcv_base.specs.Key.{begins_with};
-ghost use Rattle.mcv_base.specs.Operation.{is_delete, is_reading};
-ghost use Rattle.mcv_base.specs.declared.operation.Mark.TheVariants.{Shadow as Shadowed};
-ghost use Rattle.mcv_base.specs.declared.operation.Op.TheVariants.{Add as Adding};
-ghost use Rattle.mcv_route.specs.Children.{is_policy_for, policy_of, prefix_policy, way_of};
-ghost use Rattle.mcv_route.specs.Situation.{Situation, adding, has_passed, marked_add, marked_async, under};
+ghost use Rattle.mcv_base.specs.Operation.{is_reading};
+ghost use Rattle.mcv_route.specs.Children.{is_policy_for, policy_of, prefix_policy};
+ghost use Rattle.mcv_route.specs.Situation.{Situation, adding, under};
 ghost use Rattle.mcv_route.specs.Tree.{Tree, all_async, all_initial, all_sync, child, miss_failover, none, pool, warm_up};
 ghost use Rattle.mcv_route.specs.View.{operation_view, pool_view, view};
-ghost use Rattle.mcv_rules.specs.Laid.{ServeEach, Serves, children_of, longer_of, operations_of, prefixes_of, ranges_of, situation_at, targets_of, way_seen};
+ghost use Rattle.mcv_rules.specs.Laid.{ServeEach, Serves, children_of, longer_of, operations_of, prefixes_of, ranges_of, situation_at, targets_of};
 
 use crate::arrival::After;
+use crate::asked::{Asked, Way};
 use crate::plan::{Plan, PlannedLeg};
 use crate::status::default_reply;
-use mcv_base::{FixedReply, Mark, Moment, Op, Position, Rest};
+use mcv_base::{FixedReply, Op, Position, Rest};
 use mcv_route::{Leaf, OperationPolicy, PrefixPolicy, Route, Shadow};
 use std::alloc::{AllocError, Global};
 use std::sync::Arc;
-
-/// What a handle is asked, beside its place.
-#[derive(Clone, Copy)]
-pub struct Asked<'a> {
-    pub op: Op,
-    pub rest: &'a Rest,
-    /// The break at which the era began, and none in the first era.
-    pub since: Option<Moment>,
-    /// The mark of a leg that no handle below marks.
-    pub mark: Mark,
-}
-
-/// Where a migration sends.
-#[derive(Clone, Copy, Debug, PartialEq, Eq)]
-pub enum Way {
-    From,
-    To,
-    Both,
-}
-
-impl<'a> Asked<'a> {
-    /// What is asked of those whose replies no one waits for.
-    fn asynchronous(self) -> Asked<'a>
-        ensures { result ≡ record self { mark = marked_async self.mark } }
-    {
-        let mark = match self.mark {
-            Mark::Plain => Mark::Async,
-            Mark::Async => Mark::Async,
-            Mark::Add => Mark::Add,
-            Mark::Shadow => Mark::Shadow,
-        };
-        Asked { mark, ..self }
-    }
-
-    /// What is asked of a shadow's target.
-    fn shadowed(self) -> Asked<'a>
-        ensures { result ≡ record self { mark = Shadowed } }
-    {
-        Asked {
-            mark: Mark::Shadow,
-            ..self
-        }
-    }
-
-    /// The add by which a warm-up fills its cold side.
-    fn adding(self) -> Asked<'a>
-        ensures { result ≡ record self { op = Adding; mark = marked_add self.mark } }
-    {
-        let mark = match self.mark {
-            Mark::Shadow => Mark::Shadow,
-            Mark::Plain | Mark::Async | Mark::Add => Mark::Add,
-        };
-        Asked {
-            op: Op::Add,
-            mark,
-            ..self
-        }
-    }
-
-    /// Where a migration sends what is asked: of deletes more than of the rest, between its start and its end.
-    fn way(&self, start: u32, interval: u32) -> Way
-        ensures { way_seen result ≡ way_of (situation_at self.now []) start interval }
-    {
-        let start = u64::from(start);
-        let interval = u64::from(interval);
-        if !has_passed(self.since, start) {
-            Way::From
-        } else if has_passed(self.since, start + 2 * interval) {
-            Way::To
-        } else if is_delete(self.op) {
-            Way::Both
-        } else if has_passed(self.since, start + interval) {
-            Way::To
-        } else {
-            Way::From
-        }
-    }
-}
-
-fn is_delete(op: Op) -> bool
-    ensures { result ≡ is_delete op }
-{
-    matches!(op, Op::Delete)
-}
-
-/// Whether the era began at the moment or after it.
-fn has_passed(since: Option<Moment>, moment: u64) -> bool
-    ensures { result ≡ has_passed (option_map (λ m. m.0) since) moment }
-{
-    match since {
-        None => false,
-        Some(began) => moment <= began.0,
-    }
-}
 
 /// The plan of the route at this position.
 #[cycle(planning)]

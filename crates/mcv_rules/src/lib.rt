@@ -7,6 +7,7 @@
 
 mod answers;
 mod arrival;
+mod asked;
 mod eval;
 mod known;
 mod laws;
