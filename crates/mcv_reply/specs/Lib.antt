@@ -1,0 +1,5 @@
+pub mod Word
+pub mod Line
+pub mod Reply
+pub mod Place
+pub mod Reader

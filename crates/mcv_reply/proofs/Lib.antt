@@ -1,0 +1,6 @@
+pub mod Words
+pub mod Writing
+pub mod Moving
+pub mod Behind
+pub mod Least
+pub mod Reading
