@@ -4,3 +4,5 @@ pub mod Moving
 pub mod Behind
 pub mod Least
 pub mod Reading
+pub mod Ending
+pub mod Lines

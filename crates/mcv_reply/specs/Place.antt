@@ -176,6 +176,10 @@ abbrev pub Ends : Bool → List ℕ → Candidate → Option Head → Type 0
 Ends has key c None = (head : Head) → Follows c.first has key c.head c.place head [] → ⊥
 Ends has key c (Some read) = Follows c.first has key c.head c.place read []
 
+-- a line of which nothing has come
+abbrev pub new_candidate : Bool → List ℕ → Word → Candidate
+new_candidate has key first = record { first = first; place = BeforeName First; head = zero_head; spare = 2048 - needed first has key (BeforeName First) }
+
 -- a word that can be told from spaces and the end of a line
 abbrev pub is_clean : List ℕ → Bool
 is_clean bytes = nat_lt 0 (length bytes) && list_all (λ b. nat_lt 32 b) bytes

@@ -29,11 +29,7 @@ abbrev pub cas_said : Bool → ℕ → Option ℕ
 cas_said true cas = Some cas
 cas_said false cas = None
 
--- no numbers
-abbrev pub no_head : Head
-no_head = record { flags = 0; size = 0; cas = 0 }
-
--- the bytes of a hit: the line of the value, the value, CR LF, and the line of the end
+-- the bytes of a hit (its last line has no numbers, `other` is never said): the line of the value, the value, CR LF, and the line of the end
 pub record SpellsHit (op : Op) (key bytes : List ℕ) (reply : ReplyValue) : Type 0 where
   pub head : Head
   pub line : List ℕ
@@ -41,7 +37,8 @@ pub record SpellsHit (op : Op) (key bytes : List ℕ) (reply : ReplyValue) : Typ
   pub last : List ℕ
   pub line_is : IsLine (rows.Reply op) key Value head line
   pub size : length value ≡ head.size
-  pub last_is : IsLine rows.AfterValue key End no_head last
+  pub other : Head
+  pub last_is : IsLine rows.AfterValue key End other last
   pub parts : bytes ≡ line ++ 10 ∷ (value ++ 13 ∷ 10 ∷ (last ++ 10 ∷ []))
   pub says : reply ≡ hit head.flags (cas_said (has_cas (rows.Reply op)) head.cas) value
 
@@ -49,7 +46,8 @@ pub record SpellsHit (op : Op) (key bytes : List ℕ) (reply : ReplyValue) : Typ
 pub record SpellsAlone (op : Op) (key bytes : List ℕ) (reply : ReplyValue) : Type 0 where
   pub first : Word
   pub line : List ℕ
-  pub line_is : IsLine (rows.Reply op) key first no_head line
+  pub other : Head
+  pub line_is : IsLine (rows.Reply op) key first other line
   pub parts : bytes ≡ line ++ 10 ∷ []
   pub says : said_alone first line ≡ Some reply
 
@@ -61,6 +59,7 @@ pub data Spells (op : Op) (key bytes : List ℕ) (reply : ReplyValue) : Type 0 w
 -- the bytes are this answer to a probe: the line without its end
 pub record SpellsVersion (bytes version : List ℕ) : Type 0 where
   pub line : List ℕ
-  pub line_is : IsLine rows.Probe [] Version no_head line
+  pub other : Head
+  pub line_is : IsLine rows.Probe [] Version other line
   pub parts : bytes ≡ line ++ 10 ∷ []
   pub says : version ≡ strip_carriage_return line

@@ -3,8 +3,8 @@
 //! Each byte is looked at once: a candidate says what may still follow (specs/Place.antt), and how
 //! many bytes the line may have beside those that it must have.
 
-ghost use Rattle.std.specs.Prelude.{◌≡◌, ◌≢◌, ◌∷◌, [], ◌≤◌, ◌<◌, ◌+◌, ◌*◌, ◌-◌, ◌==◌, List, ℕ, length, All, MatchOption, Some, None, true, false, if◌then◌else◌};
-ghost use Rattle.mcv_reply.specs.Place.{Ends, HasName, HasNumber, IsDigitOf, IsValid, MovesAt, MovesBehindName, MovesBehindNumber, Reads, is_clean, limit_of, name_text, needed};
+ghost use Rattle.std.specs.Prelude.{◌≡◌, ◌≢◌, ◌∷◌, [], ◌≤◌, ◌<◌, ◌+◌, ◌*◌, ◌-◌, ◌==◌, List, ℕ, length, Bool, All, MatchOption, Some, None, true, false, if◌then◌else◌};
+ghost use Rattle.mcv_reply.specs.Place.{Ends, HasName, HasNumber, IsDigitOf, IsValid, MovesAt, MovesBehindName, MovesBehindNumber, Reads, is_clean, limit_of, name_text, needed, new_candidate};
 
 use crate::word::{Row, Tail, Word};
 
@@ -370,14 +370,16 @@ impl Candidate {
     /// A line of this first word, of which nothing has come.
     pub fn new(cas: bool, key: &[u8], first: Word) -> Candidate
         requires { length key.now ≤ 250 }
-        ensures first { result.first ≡ first }
-        ensures place { result.place ≡ Place.BeforeName Name.First }
-        ensures spare { needed first cas key.now (Place.BeforeName Name.First) + result.spare ≡ 2048 }
+        ensures { result ≡ new_candidate cas key.now first }
     {
         Candidate {
             first,
             place: Place::BeforeName(Name::First),
-            head: Head::default(),
+            head: Head {
+                flags: 0,
+                size: 0,
+                cas: 0,
+            },
             spare: LINE_LIMIT - Candidate::fewest(cas, key, first),
         }
     }
@@ -399,15 +401,59 @@ impl Candidate {
     /// The numbers of the line, if it may end here.
     pub fn end(self, cas: bool) -> Option<Head>
         requires { IsValid cas self }
-        ensures { (key : List ℕ) → Ends cas key self result }
+        ensures { (key : List ℕ) → is_clean key ≡ true → Ends cas key self result }
     {
         match self.place {
-            Place::InName(Name::First, at) if at >= self.first.text().len() && self.first.tail() != Tail::Value =>
-                { Some(self.head) }
-            Place::InNumber(Number::Size, value) if !cas => Some(Head { size: value, ..self.head }),
-            Place::InNumber(Number::Cas, value) => Some(Head { cas: value, ..self.head }),
+            Place::BeforeName(_) | Place::BeforeNumber(_) => None,
+            Place::InName(name, at) => self.end_of_name(name, at),
+            Place::InNumber(number, value) => self.end_of_number(cas, number, value),
             Place::Blank | Place::Return | Place::Text => Some(self.head),
-            _ => None,
+        }
+    }
+
+    fn end_of_name(self, name: Name, at: usize) -> Option<Head>
+        requires { self.place ≡ Place.InName name at }
+        ensures { (has : Bool) (key : List ℕ) → Ends has key self result }
+    {
+        match name {
+            Name::First => self.end_behind(at),
+            Name::Key => None,
+        }
+    }
+
+    fn end_of_number(self, cas: bool, number: Number, value: u64) -> Option<Head>
+        requires valid { IsValid cas self }
+        requires place { self.place ≡ Place.InNumber number value }
+        ensures { (key : List ℕ) → Ends cas key self result }
+    {
+        match number {
+            Number::Flags => None,
+            Number::Size => if cas {
+                None
+            } else {
+                Some(Head {
+                    size: value,
+                    ..self.head
+                })
+            },
+            Number::Cas => Some(Head {
+                cas: value,
+                ..self.head
+            }),
+        }
+    }
+
+    /// The numbers, if the line may end where so many bytes of its first word have come.
+    fn end_behind(self, at: usize) -> Option<Head>
+        requires { self.place ≡ Place.InName Name.First at }
+        ensures { (has : Bool) (key : List ℕ) → Ends has key self result }
+    {
+        if at < self.first.text().len() {
+            return None;
+        }
+        match self.first.tail() {
+            Tail::Nothing | Tail::Text => Some(self.head),
+            Tail::Value => None,
         }
     }
 }

@@ -34,7 +34,7 @@ pub fn narrowed(row: Row, key: &[u8], candidates: &Candidates, bytes: &[u8]) -> 
 {
     let cas = row.has_cas();
     let mut left = ArrayVec::new();
-    for candidate in candidates.iter() {
+    for candidate in candidates.as_slice() {
         if let Some(next) = candidate.read(cas, key, bytes) {
             left.push(next);
         }
@@ -42,13 +42,16 @@ pub fn narrowed(row: Row, key: &[u8], candidates: &Candidates, bytes: &[u8]) -> 
     left
 }
 
-/// What a line says that ends here: its first word and its numbers.
+/// The first word and the numbers of the line, if it may end here.
 pub fn said(row: Row, candidates: &Candidates) -> Option<(Word, Head)>
     requires { All (IsValid (has_cas row)) candidates.now.items }
-    ensures { (key text : List ℕ) → IsKept row key text candidates.now.items → Says row key text result }
+    ensures { (key text : List ℕ) → is_clean key ≡ true → IsKept row key text candidates.now.items → Says row key text result }
 {
     let cas = row.has_cas();
-    candidates
-        .iter()
-        .find_map(|candidate| candidate.end(cas).map(|head| (candidate.first, head)))
+    for candidate in candidates.as_slice() {
+        if let Some(head) = candidate.end(cas) {
+            return Some((candidate.first, head));
+        }
+    }
+    None
 }
