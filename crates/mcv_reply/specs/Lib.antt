@@ -3,3 +3,4 @@ pub mod Line
 pub mod Reply
 pub mod Place
 pub mod Reader
+pub mod Probe

@@ -2,7 +2,7 @@
 use Rattle.std.specs.Prelude.{◌≡◌, ◌≢◌, ℕ, ◌+◌, ◌<◌, ◌≤◌, Bool, true, false, List, [], ◌∷◌, ◌++◌, length, take, All, Option, Some, None, Result, Ok, Err}
 use Rattle.mcv_base.specs.declared.operation.Op.{Op}
 use Rattle.mcv_base.specs.declared.reply.Reply.{Reply}
-use Rattle.mcv_base.specs.Reply.{ReplyValue, reply_value}
+use Rattle.mcv_base.specs.Reply.{ReplyValue, hit, reply_value}
 use Rattle.mcv_reply.specs.declared.word.Word.{Word}
 use Rattle.mcv_reply.specs.declared.word.Word.TheVariants as words
 use Rattle.mcv_reply.specs.declared.word.Row.{Row}
@@ -17,7 +17,7 @@ use Rattle.mcv_reply.specs.declared.reader.Progress.{Progress}
 use Rattle.mcv_reply.specs.declared.reader.Step.{Step}
 use Rattle.mcv_reply.specs.Line.{IsLine}
 use Rattle.mcv_reply.specs.Place.{IsKept}
-use Rattle.mcv_reply.specs.Reply.{Spells}
+use Rattle.mcv_reply.specs.Reply.{Spells, cas_said}
 
 abbrev pub fault_number : ReplyFault → ℕ
 fault_number faults.NotAReply = 1
@@ -112,3 +112,33 @@ Steps op key bytes piece (Ok step) new = (0 < step.used) × (step.used ≤ lengt
 Steps op key bytes piece (Err faults.NotAReply) new = BeginsNone op key (bytes ++ piece)
 Steps op key bytes piece (Err faults.Closed) new = ⊥
 Steps op key bytes piece (Err faults.Memory) new = Unit {0}
+
+-- the hit that this head and value make
+abbrev pub HitMade : Bool → Head → List ℕ → Result Reply ReplyFault → Type 0
+HitMade cas head value (Ok reply) = reply_value reply ≡ hit head.flags (cas_said cas head.cas) value
+HitMade cas head value (Err faults.NotAReply) = ⊥
+HitMade cas head value (Err faults.Closed) = ⊥
+HitMade cas head value (Err faults.Memory) = Unit {0}
+
+-- the first line has ended: a value is to come, it is a reply, or none goes on from it
+abbrev pub FirstEnds : Op → List ℕ → List ℕ → Result (Option Reply) ReplyFault → Progress → Type 0
+FirstEnds op key line (Ok None) new = IsAt op key new × (stands_at new.stage new ≡ Fed (line ++ 10 ∷ []))
+FirstEnds op key line (Ok (Some reply)) new = Spells op key (line ++ 10 ∷ []) (reply_value reply)
+FirstEnds op key line (Err faults.NotAReply) new = (rest : List ℕ) → BeginsNone op key (line ++ 10 ∷ rest)
+FirstEnds op key line (Err faults.Closed) new = ⊥
+FirstEnds op key line (Err faults.Memory) new = Unit {0}
+
+-- the last line has ended
+abbrev pub LastEnds : Op → List ℕ → List ℕ → Result Reply ReplyFault → Type 0
+LastEnds op key bytes (Ok reply) = Spells op key (bytes ++ 10 ∷ []) (reply_value reply)
+LastEnds op key bytes (Err faults.NotAReply) = (rest : List ℕ) → BeginsNone op key (bytes ++ 10 ∷ rest)
+LastEnds op key bytes (Err faults.Closed) = ⊥
+LastEnds op key bytes (Err faults.Memory) = Unit {0}
+
+-- a whole piece has been read, and these are all bytes
+abbrev pub ReadsPiece : Op → List ℕ → List ℕ → Result (Option Reply) ReplyFault → Progress → Type 0
+ReadsPiece op key bytes (Ok None) new = IsAt op key new × (stands_at new.stage new ≡ Fed bytes)
+ReadsPiece op key bytes (Ok (Some reply)) new = Spells op key bytes (reply_value reply)
+ReadsPiece op key bytes (Err faults.NotAReply) new = BeginsNone op key bytes
+ReadsPiece op key bytes (Err faults.Closed) new = ⊥
+ReadsPiece op key bytes (Err faults.Memory) new = Unit {0}

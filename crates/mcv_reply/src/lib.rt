@@ -12,9 +12,10 @@ mod probe;
 mod reader;
 mod word;
 
-// pub use laws::{one_reply, one_version};
-// pub use probe::ProbeReader;
-// pub use reader::{ReplyFault, ReplyReader};
+
+pub use probe::ProbeReader;
+pub use reader::{ReplyFault, ReplyReader};
 
 
-// mod tests;
+#[cfg(test)]
+mod tests;
