@@ -6,3 +6,5 @@ pub mod Least
 pub mod Reading
 pub mod Ending
 pub mod Lines
+pub mod Alike
+pub mod Spelling

@@ -13,6 +13,7 @@ mod reader;
 mod word;
 
 
+pub use laws::{one_reply, one_version};
 pub use probe::ProbeReader;
 pub use reader::{ReplyFault, ReplyReader};
 

@@ -26,11 +26,10 @@ pub fn candidates(row: Row, key: &[u8]) -> Candidates
 
 /// The candidates that go on with these bytes.
 pub fn narrowed(row: Row, key: &[u8], candidates: &Candidates, bytes: &[u8]) -> Candidates
-    ghost text: { List ℕ }
     requires clean { is_clean key.now ≡ true }
-    requires kept { IsKept row key.now text candidates.now.items }
+    requires valid { All (IsValid (has_cas row)) candidates.now.items }
     requires no_end { All (λ b. b ≢ 10) bytes.now }
-    ensures { IsKept row key.now (text ++ bytes.now) result.items }
+    ensures { (text : List ℕ) → IsKept row key.now text candidates.now.items → IsKept row key.now (text ++ bytes.now) result.items }
 {
     let cas = row.has_cas();
     let mut left = ArrayVec::new();

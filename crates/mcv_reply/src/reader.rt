@@ -303,13 +303,11 @@ fn take_step(
     progress: &mut Progress,
     piece: &[u8],
 ) -> Result<Step, ReplyFault>
-    ghost bytes: { List ℕ }
     requires clean { is_clean key.now ≡ true }
     requires short { length key.now ≤ 250 }
     requires some { 0 < length piece.now }
     requires at { IsAt op key.now progress.old }
-    requires stands { stands_at progress.old.stage progress.old ≡ Fed bytes }
-    ensures { Steps op key.now bytes piece.now result progress.new }
+    ensures { (bytes : List ℕ) → stands_at progress.old.stage progress.old ≡ Fed bytes → Steps op key.now bytes piece.now result progress.new }
 {
     match progress.stage {
         Stage::Line => in_line(alloc, op, key, progress, piece),
@@ -328,12 +326,10 @@ fn read(
     progress: &mut Progress,
     piece: &[u8],
 ) -> Result<Option<Reply>, ReplyFault>
-    ghost bytes: { List ℕ }
     requires clean { is_clean key.now ≡ true }
     requires short { length key.now ≤ 250 }
     requires at { IsAt op key.now progress.old }
-    requires stands { stands_at progress.old.stage progress.old ≡ Fed bytes }
-    ensures { ReadsPiece op key.now (bytes ++ piece.now) result progress.new }
+    ensures { (bytes : List ℕ) → stands_at progress.old.stage progress.old ≡ Fed bytes → ReadsPiece op key.now (bytes ++ piece.now) result progress.new }
 {
     let mut left = piece;
     while !left.is_empty() {
