@@ -8,3 +8,6 @@ pub mod Ending
 pub mod Lines
 pub mod Alike
 pub mod Spelling
+pub mod Open
+pub mod Stages
+pub mod Steps

@@ -170,7 +170,7 @@ module _ (row : Row) (key line : List ℕ) (candidates : List Candidate) (kept :
       let o : Open (has_cas row) key (get_or candidates any.0 any.1) head [] = subst (λ (t : Candidate). Open (has_cas row) key t head []) (sym any.3) any.4.1 in
       none key clean any.0 any.1 (omega (arith, any.2)) head o.follows
 
-  pub says_some : (i : ℕ) (c : Candidate) (read : Head) → i < length candidates → ((d : Candidate) → c ≡ get_or candidates i d) → Ends (has_cas row) key c (Some read) → Says row key line (Some (c.first, read))
+  pub says_some : (i : ℕ) (c : Candidate) (read : Head) → i < length candidates → ((d : Candidate) → c ≡ get_or candidates i d) → Ends (has_cas row) key c (Some read) → Says row key line (Some (record { first = c.first; head = read }))
   says_some i c read within is ends =
       let o : Open (has_cas row) key c read [] = record { follows = ends; short = omega arith; no_end = All-nil (λ b. b ≢ 10) } in
       let l : IsLine row key (get_or candidates i c).first read (line ++ []) = kept.back i c within read [] (subst (λ (t : Candidate). Open (has_cas row) key t read []) (is c) o) in

@@ -15,6 +15,7 @@ use Rattle.mcv_reply.specs.declared.candidate.Place.{Place}
 use Rattle.mcv_reply.specs.declared.candidate.Place.TheVariants.{BeforeName, InName, BeforeNumber, InNumber, Blank, Return, Text}
 use Rattle.mcv_reply.specs.declared.candidate.Candidate.{Candidate}
 use Rattle.mcv_reply.specs.declared.candidate.Move.{Move}
+use Rattle.mcv_reply.specs.declared.line.Meaning.{Meaning}
 use Rattle.mcv_reply.specs.Word.{has_cas, tail_of, word_text, words}
 use Rattle.mcv_reply.specs.Line.{Form, word, number, text, Writes, IsBlank, IsDigits, IsLine, cas_forms, decimal_from, flags_forms, size_forms, tail_forms}
 
@@ -192,6 +193,6 @@ pub record IsKept (row : Row) (key bytes : List ℕ) (candidates : List Candidat
   pub no_end : All (λ b. b ≢ 10) bytes
 
 -- the line may end here, with this first word and these numbers, or it may not
-abbrev pub Says : Row → List ℕ → List ℕ → Option (Word × Head) → Type 0
+abbrev pub Says : Row → List ℕ → List ℕ → Option Meaning → Type 0
 Says row key line None = (first : Word) (head : Head) → IsLine row key first head line → ⊥
-Says row key line (Some said) = IsLine row key said.0 said.1 line
+Says row key line (Some said) = IsLine row key said.first said.head line

@@ -41,15 +41,23 @@ pub fn narrowed(row: Row, key: &[u8], candidates: &Candidates, bytes: &[u8]) -> 
     left
 }
 
-/// The first word and the numbers of the line, if it may end here.
-pub fn said(row: Row, candidates: &Candidates) -> Option<(Word, Head)>
+/// What a line says.
+#[derive(Clone, Copy, Debug, PartialEq, Eq)]
+pub struct Meaning {
+    pub first: Word,
+    /// The numbers, where it is the line of a value.
+    pub head: Head,
+}
+
+/// What the line says, if it may end here.
+pub fn said(row: Row, candidates: &Candidates) -> Option<Meaning>
     requires { All (IsValid (has_cas row)) candidates.now.items }
     ensures { (key text : List ℕ) → is_clean key ≡ true → IsKept row key text candidates.now.items → Says row key text result }
 {
     let cas = row.has_cas();
     for candidate in candidates.as_slice() {
         if let Some(head) = candidate.end(cas) {
-            return Some((candidate.first, head));
+            return Some(Meaning { first: candidate.first, head });
         }
     }
     None

@@ -13,7 +13,7 @@ ghost use Rattle.std.specs.Str.Lines.{strip_carriage_return};
 ghost use Rattle.mcv_reply.specs.Reader.{Fed, Feeds, FirstEnds, GoesOn, HitMade, IsAt, IsAtStage, LastEnds, ReadsPiece, Reading, Steps, bytes_at, fault_number, stands_at};
 
 use crate::candidate::Head;
-use crate::line::{Candidates, candidates, narrowed, said};
+use crate::line::{Candidates, Meaning, candidates, narrowed, said};
 use crate::word::{Row, Word};
 use mcv_base::{Op, Reply, Rest};
 use memchr::memchr;
@@ -162,16 +162,48 @@ fn first_ended(
     requires kept { IsKept (Row.Reply op) key.now progress.old.text.items progress.old.candidates.items }
     ensures { FirstEnds op key.now progress.old.text.items result progress.new }
 {
-    let Some((first, head)) = said(Row::Reply(op), &progress.candidates) else {
-        return Err(ReplyFault::NotAReply);
-    };
-    let line = mem::replace(&mut progress.text, Vec::new(alloc));
-    if first != Word::Value {
-        return match alone(first, line) {
-            Some(reply) => Ok(Some(reply)),
-            None => Err(ReplyFault::NotAReply),
-        };
+    match said(Row::Reply(op), &progress.candidates) {
+        None => Err(ReplyFault::NotAReply),
+        Some(said) => {
+            let line = mem::replace(&mut progress.text, Vec::new(alloc));
+            line_said(alloc, op, key, progress, line, said)
+        }
     }
+}
+
+/// The first line has come whole, and says this.
+fn line_said(
+    alloc: Global,
+    op: Op,
+    key: &[u8],
+    progress: &mut Progress,
+    line: Vec<u8>,
+    said: Meaning,
+) -> Result<Option<Reply>, ReplyFault>
+    requires { IsLine (Row.Reply op) key.now said.first said.head line.items }
+    ensures { FirstEnds op key.now line.items result progress.new }
+{
+    if let Word::Value = said.first {
+        return value_begins(alloc, op, key, progress, line, said.head);
+    }
+    match alone(said.first, line) {
+        Some(reply) => Ok(Some(reply)),
+        None => Err(ReplyFault::NotAReply),
+    }
+}
+
+/// The line of a value has come whole.
+fn value_begins(
+    alloc: Global,
+    op: Op,
+    key: &[u8],
+    progress: &mut Progress,
+    line: Vec<u8>,
+    head: Head,
+) -> Result<Option<Reply>, ReplyFault>
+    requires { IsLine (Row.Reply op) key.now Word.Value head line.items }
+    ensures { FirstEnds op key.now line.items result progress.new }
+{
     let Ok(body) = Vec::with_capacity(alloc, head.size as usize) else {
         return Err(ReplyFault::Memory);
     };
@@ -212,6 +244,7 @@ fn in_line(
 
 /// A piece that comes while the value is read.
 fn in_value(op: Op, key: &[u8], progress: &mut Progress, piece: &[u8]) -> Result<Step, ReplyFault>
+    requires clean { is_clean key.now ≡ true }
     requires some { 0 < length piece.now }
     requires stage { progress.old.stage ≡ Stage.Value }
     requires at { IsAtStage op key.now progress.old Stage.Value }
@@ -260,11 +293,13 @@ fn last_ended(
     requires at { IsAtStage op key.now progress.old Stage.Last }
     ensures { LastEnds op key.now (bytes_at Stage.Last progress.old) result }
 {
-    if said(Row::AfterValue, &progress.candidates).is_none() {
-        return Err(ReplyFault::NotAReply);
+    match said(Row::AfterValue, &progress.candidates) {
+        None => Err(ReplyFault::NotAReply),
+        Some(_said) => {
+            let body = mem::replace(&mut progress.body, Vec::new(alloc));
+            hit(alloc, Row::Reply(op).has_cas(), progress.head, body)
+        }
     }
-    let body = mem::replace(&mut progress.body, Vec::new(alloc));
-    hit(alloc, Row::Reply(op).has_cas(), progress.head, body)
 }
 
 /// A piece that comes while the line behind the value is read.
