@@ -1,5 +1,5 @@
 -- Steps of a reply that has come in part.
-use Rattle.std.proofs.Common.{◌≡◌, ◌≢◌, ℕ, suc, zero, ◌+◌, ◌-◌, ◌<◌, ◌≤◌, Bool, true, false, not, List, [], ◌∷◌, ◌++◌, length, get_or, take, drop, replicate, refl, sym, ap, subst, ◌∙◌, arith, append_assoc, length-append, Option, Some, None}
+use Rattle.std.proofs.Common.{◌≡◌, ◌≢◌, ℕ, suc, zero, ◌+◌, ◌-◌, ◌<◌, ◌≤◌, ◌⊎◌, inl, inr, Bool, true, false, not, List, [], ◌∷◌, ◌++◌, length, get_or, take, drop, replicate, refl, sym, ap, subst, ◌∙◌, arith, append_assoc, length-append, Option, Some, None}
 use Rattle.std.specs.List.{All, Any, Contains, list_all}
 use Rattle.std.proofs.lemmas.Bool.{false≢true}
 use Rattle.std.proofs.lemmas.List.{append-nil, get_or_append_left, length-replicate}
@@ -237,3 +237,21 @@ module _ (op : Op) (key : List ℕ) (clean : is_clean key ≡ true) where
       let whole : (line ++ 10 ∷ (body ++ 13 ∷ 10 ∷ bytes)) ++ more ≡ line ++ 10 ∷ (body ++ 13 ∷ 10 ∷ ((bytes ++ o.2) ++ 10 ∷ [])) = last_whole op key clean head line body is bytes more ∙ ap (λ t. line ++ 10 ∷ (body ++ 13 ∷ 10 ∷ t)) (sym (append_assoc bytes o.2 (10 ∷ []))) in
       (last_front op key clean head line body is bytes l kept.no_end, (more, reply, subst (λ (t : List ℕ). Spells op key t reply) (sym whole)
         (value_back op key clean head line (body ++ 13 ∷ 10 ∷ ((bytes ++ o.2) ++ 10 ∷ [])) reply is (record { value = body; last = bytes ++ o.2; other = o.1; size = l; last_is = last; parts = refl; says = refl }))))
+
+-- a line that is no reply alone is that of a value, or answers a probe
+unsaid : (first : Word) (line : List ℕ) → said_alone first line ≡ None → (first ≡ Value) ⊎ (first ≡ Version)
+unsaid Value line e = inl refl
+unsaid Version line e = inr refl
+unsaid End line e = absurd (cc)
+unsaid Stored line e = absurd (cc)
+unsaid NotStored line e = absurd (cc)
+unsaid Exists line e = absurd (cc)
+unsaid NotFound line e = absurd (cc)
+unsaid Deleted line e = absurd (cc)
+unsaid Touched line e = absurd (cc)
+unsaid Error line e = absurd (cc)
+unsaid ClientError line e = absurd (cc)
+unsaid ServerError line e = absurd (cc)
+
+pub always_said : (op : Op) (key : List ℕ) (first : Word) (head : Head) (line : List ℕ) → IsLine (rows.Reply op) key first head line → (first ≡ Value → ⊥) → said_alone first line ≡ None → ⊥
+always_said op key first head line is not_value e = elim (unsaid first line e) [ inl v ↦ not_value v | inr v ↦ no_version op key first head line is v ]
