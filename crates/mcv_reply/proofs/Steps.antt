@@ -3,7 +3,7 @@ use Rattle.std.proofs.Common.{◌≡◌, ◌≢◌, ℕ, suc, zero, ◌+◌, ◌
 use Rattle.std.specs.List.{All}
 use Rattle.std.specs.Prelude.{codes}
 use Rattle.std.proofs.lemmas.Bool.{eqb-true}
-use Rattle.std.proofs.lemmas.List.{append-nil, take-append-drop, drop_more, length-take, get_or-take, take_more}
+use Rattle.std.proofs.lemmas.List.{append-nil, take-append-drop, drop_more, length-take, get_or-take, take_more, nil_from_length}
 use Rattle.std.proofs.lemmas.List.Elements.{All-append, All-take, All-from_get_or}
 use Rattle.memchr.specs.Find.{IsFirstByte, is_byte}
 use Rattle.mcv_base.specs.declared.operation.Op.{Op}
@@ -23,7 +23,8 @@ use Rattle.mcv_reply.specs.Word.{answers, has_cas, words}
 use Rattle.mcv_reply.specs.Line.{IsLine}
 use Rattle.mcv_reply.specs.Place.{IsKept, Says, is_clean, zero_head}
 use Rattle.mcv_reply.specs.Reply.{Spells, cas_said}
-use Rattle.mcv_reply.specs.Reader.{BeginsNone, GoesOn, HitMade, IsAt, IsAtStage, LastEnds, FirstEnds, ReadsPiece, Steps}
+use Rattle.mcv_reply.specs.Reader.{Stands, Fed, BeginsNone, GoesOn, HitMade, IsAt, IsAtStage, LastEnds, FirstEnds, ReadsPiece, StepMakes, Steps, stands_at}
+use Rattle.mcv_reply.proofs.Spelling.{replies_one}
 use Rattle.mcv_reply.proofs.Open.{clean_ends}
 use Rattle.mcv_reply.proofs.Stages.{begins_more, end_line, ended_right, ended_wrong, last_right, last_wrong, last_whole, no_last_begins, no_line_begins, only_end}
 
@@ -139,3 +140,36 @@ first_taken (x ∷ piece) b l e = ap (λ t. t ∷ []) e
 
 pub end_within : (piece : List ℕ) (end : ℕ) → IsFirstByte (is_byte 10) piece (Some end) → end < length piece
 end_within piece end found = found.0.high
+
+same_fed : (a b : List ℕ) → Fed a ≡ Fed b → a ≡ b
+same_fed a b e = cc
+
+pub fed_once : (s : Stands) (a b : List ℕ) → s ≡ Fed a → s ≡ Fed b → a ≡ b
+fed_once s a b p q = same_fed a b (sym p ∙ q)
+
+-- a fault of a step is one of the piece
+pub step_fault : (op : Op) (key now left whole : List ℕ) (fault : ReplyFault) (new last : Progress) → now ++ left ≡ whole → Steps op key now left (Err fault) new → ReadsPiece op key whole (Err fault) last
+step_fault op key now left whole NotAReply new last e none = subst (λ (t : List ℕ). BeginsNone op key t) e none
+step_fault op key now left whole Closed new last e none = none
+step_fault op key now left whole Memory new last e none = tt
+
+pub step_reply : (op : Op) (key now left whole : List ℕ) (used : ℕ) (o : Option Reply) (reply : Reply) (new : Progress) → StepMakes op key now (take used left) o new → o ≡ Some reply → length (drop used left) ≡ 0 → now ++ left ≡ whole → Spells op key whole (reply_value reply)
+step_reply op key now left whole used o reply new makes is none e =
+    let s : Spells op key (now ++ take used left) (reply_value reply) = subst (λ (t : Option Reply). StepMakes op key now (take used left) t new) is makes in
+    let all : take used left ≡ left = sym (append-nil (take used left)) ∙ ap (λ t. take used left ++ t) (sym (nil_from_length (drop used left) none)) ∙ take-append-drop used left in
+    subst (λ (t : List ℕ). Spells op key t (reply_value reply)) (ap (λ t. now ++ t) all ∙ e) s
+
+-- bytes behind a reply
+pub step_more : (op : Op) (key now left whole : List ℕ) (used : ℕ) (o : Option Reply) (reply : Reply) (new : Progress) → is_clean key ≡ true → StepMakes op key now (take used left) o new → o ≡ Some reply → (length (drop used left) ≡ 0 → ⊥) → now ++ left ≡ whole → BeginsNone op key whole
+step_more op key now left whole used o reply new clean makes is some e more other t =
+    let s : Spells op key (now ++ take used left) (reply_value reply) = subst (λ (t : Option Reply). StepMakes op key now (take used left) t new) is makes in
+    let cut : whole ++ more ≡ (now ++ take used left) ++ (drop used left ++ more) =
+      ap (λ t. t ++ more) (sym e ∙ ap (λ t. now ++ t) (sym (take-append-drop used left)) ∙ sym (append_assoc now (take used left) (drop used left))) ∙ append_assoc (now ++ take used left) (drop used left) more in
+    let one = replies_one op key clean (now ++ take used left) (drop used left ++ more) (reply_value reply) other s (subst (λ (t : List ℕ). Spells op key t other) cut t) in
+    some (omega (arith, ap length one.0, length-append (drop used left) more))
+
+pub step_none : (op : Op) (key now left : List ℕ) (used : ℕ) (o : Option Reply) (new : Progress) → StepMakes op key now (take used left) o new → o ≡ None → IsAt op key new × (stands_at new.stage new ≡ Fed (now ++ take used left))
+step_none op key now left used o new makes is = subst (λ (t : Option Reply). StepMakes op key now (take used left) t new) is makes
+
+pub step_rest : (now left whole : List ℕ) (used : ℕ) → now ++ left ≡ whole → (now ++ take used left) ++ drop used left ≡ whole
+step_rest now left whole used e = append_assoc now (take used left) (drop used left) ∙ ap (λ t. now ++ t) (take-append-drop used left) ∙ e

@@ -3,7 +3,7 @@
 //! It keeps what the line so far has said, so that no byte is looked at again when the next piece
 //! comes; a value is taken by its length (specs/Reader.antt says what it stands for).
 
-ghost use Rattle.std.specs.Prelude.{◌≡◌, ◌≢◌, ◌<◌, ◌≤◌, ◌++◌, ◌∷◌, ℕ, List, [], All, MatchOption, length, true, Some, None};
+ghost use Rattle.std.specs.Prelude.{◌≡◌, ◌≢◌, ◌<◌, ◌≤◌, ◌++◌, ◌∷◌, ℕ, List, [], All, IfOk, MatchOption, length, true, Some, None};
 ghost use Rattle.std.specs.Arc.{arc_value};
 ghost use Rattle.mcv_base.specs.Reply.{reply_value};
 ghost use Rattle.mcv_reply.specs.Line.{IsLine};
@@ -342,7 +342,9 @@ fn take_step(
     requires short { length key.now ≤ 250 }
     requires some { 0 < length piece.now }
     requires at { IsAt op key.now progress.old }
-    ensures { (bytes : List ℕ) → stands_at progress.old.stage progress.old ≡ Fed bytes → Steps op key.now bytes piece.now result progress.new }
+    requires fed { (bytes : List ℕ) × (stands_at progress.old.stage progress.old ≡ Fed bytes) }
+    ensures used { IfOk result (λ s. (0 < s.used) × (s.used ≤ length piece.now)) }
+    ensures steps { (bytes : List ℕ) → stands_at progress.old.stage progress.old ≡ Fed bytes → Steps op key.now bytes piece.now result progress.new }
 {
     match progress.stage {
         Stage::Line => in_line(alloc, op, key, progress, piece),
@@ -364,6 +366,7 @@ fn read(
     requires clean { is_clean key.now ≡ true }
     requires short { length key.now ≤ 250 }
     requires at { IsAt op key.now progress.old }
+    requires fed { (bytes : List ℕ) × (stands_at progress.old.stage progress.old ≡ Fed bytes) }
     ensures { (bytes : List ℕ) → stands_at progress.old.stage progress.old ≡ Fed bytes → ReadsPiece op key.now (bytes ++ piece.now) result progress.new }
 {
     let mut left = piece;

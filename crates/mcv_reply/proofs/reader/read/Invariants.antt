@@ -5,7 +5,7 @@ use Rattle.mcv_reply.proofs.reader.read.Given as goal
 abbrev pub invariant-loop-left : goal.invariant-loop-left
 invariant-loop-left l = record {
   at : IsAt l.fn.op l.fn.key l.progress;
-  so_far : (bytes : List ℕ) → stands_at l.fn.progress.stage l.fn.progress ≡ Fed bytes → (now : List ℕ) × (stands_at l.progress.stage l.progress ≡ Fed now) × (now ++ l.left ≡ bytes ++ l.fn.piece);
+  fed : (now : List ℕ) × (stands_at l.progress.stage l.progress ≡ Fed now) × ((bytes : List ℕ) → stands_at l.fn.progress.stage l.fn.progress ≡ Fed bytes → now ++ l.left ≡ bytes ++ l.fn.piece);
 }
 
 abbrev pub decreases-loop-left : goal.decreases-loop-left
