@@ -1,5 +1,5 @@
 -- Answers of the steps.
-use Rattle.std.proofs.Common.{◌≡◌, ◌≢◌, ℕ, suc, zero, ◌+◌, ◌-◌, ◌<◌, ◌≤◌, Bool, true, false, List, [], ◌∷◌, ◌++◌, length, get_or, take, drop, refl, sym, ap, subst, ◌∙◌, arith, append_assoc, length-append, Option, Some, None, Result, Ok, Err, eq-eqb}
+use Rattle.std.proofs.Common.{◌≡◌, ◌≢◌, ◌⊎◌, inl, inr, ℕ, suc, zero, ◌+◌, ◌-◌, ◌<◌, ◌≤◌, Bool, true, false, List, [], ◌∷◌, ◌++◌, length, get_or, take, drop, refl, sym, ap, subst, ◌∙◌, arith, append_assoc, length-append, Option, Some, None, Result, Ok, Err, eq-eqb}
 use Rattle.std.specs.List.{All}
 use Rattle.std.specs.Prelude.{codes}
 use Rattle.std.proofs.lemmas.Bool.{eqb-true}
@@ -19,14 +19,17 @@ use Rattle.mcv_reply.specs.declared.candidate.Candidate.{Candidate}
 use Rattle.mcv_reply.specs.declared.reader.ReplyFault.{ReplyFault}
 use Rattle.mcv_reply.specs.declared.reader.ReplyFault.TheVariants.{NotAReply, Closed, Memory}
 use Rattle.mcv_reply.specs.declared.reader.Progress.{Progress}
+use Rattle.mcv_reply.specs.declared.reader.Stage.{Stage}
+use Rattle.mcv_reply.specs.declared.reader.Stage.TheVariants as stages
+use Rattle.mcv_reply.specs.Reader as standing
 use Rattle.mcv_reply.specs.Word.{answers, has_cas, words}
 use Rattle.mcv_reply.specs.Line.{IsLine}
 use Rattle.mcv_reply.specs.Place.{IsKept, Says, is_clean, zero_head}
 use Rattle.mcv_reply.specs.Reply.{Spells, cas_said}
-use Rattle.mcv_reply.specs.Reader.{Stands, Fed, BeginsNone, GoesOn, HitMade, IsAt, IsAtStage, LastEnds, FirstEnds, ReadsPiece, StepMakes, Steps, stands_at}
+use Rattle.mcv_reply.specs.Reader.{Stands, Fed, Answered, Answers, FeedsAt, IsFront, bytes_at, BeginsNone, GoesOn, HitMade, IsAt, IsAtStage, LastEnds, FirstEnds, ReadsPiece, StepMakes, Steps, stands_at}
 use Rattle.mcv_reply.proofs.Spelling.{replies_one}
 use Rattle.mcv_reply.proofs.Open.{clean_ends}
-use Rattle.mcv_reply.proofs.Stages.{begins_more, end_line, ended_right, ended_wrong, last_right, last_wrong, last_whole, no_last_begins, no_line_begins, only_end}
+use Rattle.mcv_reply.proofs.Stages.{front_last, front_line, front_return, front_value, begins_more, end_line, ended_right, ended_wrong, last_right, last_wrong, last_whole, no_last_begins, no_line_begins, only_end}
 
 -- no LF is found
 pub no_end_found : (piece : List ℕ) → IsFirstByte (is_byte 10) piece None → All (λ b. b ≢ 10) piece
@@ -173,3 +176,36 @@ step_none op key now left used o new makes is = subst (λ (t : Option Reply). St
 
 pub step_rest : (now left whole : List ℕ) (used : ℕ) → now ++ left ≡ whole → (now ++ take used left) ++ drop used left ≡ whole
 step_rest now left whole used e = append_assoc now (take used left) (drop used left) ∙ ap (λ t. now ++ t) (take-append-drop used left) ∙ e
+
+-- what has been fed is the front of a reply
+pub is_front : (op : Op) (key : List ℕ) (p : Progress) (stage : Stage) (bytes : List ℕ) → is_clean key ≡ true → IsAtStage op key p stage → stands_at stage p ≡ Fed bytes → IsFront op key bytes
+is_front op key p stages.Line bytes clean at e = subst (λ (t : List ℕ). IsFront op key t) (same_fed _ bytes e) (front_line op key clean p.text.items p.candidates.items at.0 at.1)
+is_front op key p stages.Value bytes clean at e = subst (λ (t : List ℕ). IsFront op key t) (same_fed _ bytes e) (front_value op key clean p.head p.first.items p.body.items at.0 at.1)
+is_front op key p stages.Return bytes clean at e = subst (λ (t : List ℕ). IsFront op key t) (same_fed _ bytes e) (front_return op key clean p.head p.first.items p.body.items at.0 at.1)
+is_front op key p stages.Last bytes clean at e = subst (λ (t : List ℕ). IsFront op key t) (same_fed _ bytes e) (front_last op key clean p.head p.first.items p.body.items p.text.items p.candidates.items at.0 at.1 at.2 at.3)
+is_front op key p stages.Answered bytes clean at e = absurd (cc)
+is_front op key p stages.Closed bytes clean at e = absurd (cc)
+
+-- bytes have been fed, and no answer has been given
+pub fed_at : (p : Progress) (stage : Stage) → (stage ≡ stages.Line) ⊎ (stage ≡ stages.Value) ⊎ (stage ≡ stages.Return) ⊎ (stage ≡ stages.Last) → (bytes : List ℕ) × (stands_at stage p ≡ Fed bytes)
+fed_at p stage (inl e) = (bytes_at stages.Line p, ap (λ (s : Stage). stands_at s p) e)
+fed_at p stage (inr (inl e)) = (bytes_at stages.Value p, ap (λ (s : Stage). stands_at s p) e)
+fed_at p stage (inr (inr (inl e))) = (bytes_at stages.Return p, ap (λ (s : Stage). stands_at s p) e)
+fed_at p stage (inr (inr (inr e))) = (bytes_at stages.Last p, ap (λ (s : Stage). stands_at s p) e)
+
+-- what has been fed, of a reader that has answered nothing, answers the piece
+pub feeds_at : (op : Op) (key : List ℕ) (old new : Stands) (piece : List ℕ) (result : Result (Option Reply) ReplyFault) (fed : (bytes : List ℕ) × (old ≡ Fed bytes)) → ((bytes : List ℕ) → old ≡ Fed bytes → Answers op key (bytes ++ piece) result new) → FeedsAt op key old piece result new
+feeds_at op key old new piece result fed answers = subst (λ (s : Stands). FeedsAt op key s piece result new) (sym fed.1) (answers fed.0 fed.1)
+
+pub piece_fault : (op : Op) (key bytes : List ℕ) (fault : ReplyFault) (p : Progress) → ReadsPiece op key bytes (Err fault) p → Answers op key bytes (Err fault) standing.Closed
+piece_fault op key bytes NotAReply p r = (r, refl)
+piece_fault op key bytes Closed p r = r
+piece_fault op key bytes Memory p r = refl
+
+pub piece_none : (op : Op) (key bytes : List ℕ) (reply : Option Reply) (p : Progress) → is_clean key ≡ true → reply ≡ None → ReadsPiece op key bytes (Ok reply) p → IsAt op key p × Answers op key bytes (Ok None) (stands_at p.stage p)
+piece_none op key bytes reply p clean is r =
+    let at : IsAt op key p × (stands_at p.stage p ≡ Fed bytes) = subst (λ (t : Option Reply). ReadsPiece op key bytes (Ok t) p) is r in
+    (at.0, (is_front op key p p.stage bytes clean at.0 at.1, at.1))
+
+pub piece_some : (op : Op) (key bytes : List ℕ) (o : Option Reply) (reply : Reply) (p : Progress) → o ≡ Some reply → ReadsPiece op key bytes (Ok o) p → Spells op key bytes (reply_value reply)
+piece_some op key bytes o reply p is r = subst (λ (t : Option Reply). ReadsPiece op key bytes (Ok t) p) is r

@@ -10,7 +10,7 @@ ghost use Rattle.mcv_reply.specs.Line.{IsLine};
 ghost use Rattle.mcv_reply.specs.Place.{IsKept, is_clean};
 ghost use Rattle.mcv_reply.specs.Reply.{said_alone};
 ghost use Rattle.std.specs.Str.Lines.{strip_carriage_return};
-ghost use Rattle.mcv_reply.specs.Reader.{Fed, Feeds, FirstEnds, GoesOn, HitMade, IsAt, IsAtStage, LastEnds, ReadsPiece, Reading, Steps, bytes_at, fault_number, stands_at};
+ghost use Rattle.mcv_reply.specs.Reader.{Answers, Fed, Feeds, FirstEnds, GoesOn, HitMade, IsAt, IsAtStage, LastEnds, ReadsPiece, Reading, Steps, bytes_at, fault_number, stands_at};
 
 use crate::candidate::Head;
 use crate::line::{Candidates, Meaning, candidates, narrowed, said};
@@ -380,6 +380,37 @@ fn read(
     Ok(None)
 }
 
+/// A whole piece, and where the reader stands then.
+fn take_piece(
+    alloc: Global,
+    op: Op,
+    key: &[u8],
+    progress: &mut Progress,
+    piece: &[u8],
+) -> Result<Option<Reply>, ReplyFault>
+    requires clean { is_clean key.now ≡ true }
+    requires short { length key.now ≤ 250 }
+    requires at { IsAt op key.now progress.old }
+    requires fed { (bytes : List ℕ) × (stands_at progress.old.stage progress.old ≡ Fed bytes) }
+    ensures at { IsAt op key.now progress.new }
+    ensures answers { (bytes : List ℕ) → stands_at progress.old.stage progress.old ≡ Fed bytes → Answers op key.now (bytes ++ piece.now) result (stands_at progress.new.stage progress.new) }
+{
+    let reply = match read(alloc, op, key, progress, piece) {
+        Ok(reply) => reply,
+        Err(fault) => {
+            progress.stage = Stage::Closed;
+            return Err(fault);
+        }
+    };
+    match reply {
+        None => Ok(None),
+        Some(reply) => {
+            progress.stage = Stage::Answered;
+            Ok(Some(reply))
+        }
+    }
+}
+
 /// Reads the reply to one leg from pieces. Clauses see the leg's operation and rest, and the bytes
 /// fed, or that it has answered, or that it is closed.
 #[derive(Drop)]
@@ -439,14 +470,7 @@ impl ReplyReader {
             }
             Stage::Closed => Err(ReplyFault::Closed),
             Stage::Line | Stage::Value | Stage::Return | Stage::Last => {
-                let key = self.rest.as_bytes();
-                let result = read(self.alloc, self.op, key, &mut self.progress, piece);
-                match &result {
-                    Ok(None) => {}
-                    Ok(Some(_)) => self.progress.stage = Stage::Answered,
-                    Err(_) => self.progress.stage = Stage::Closed,
-                }
-                result
+                take_piece(self.alloc, self.op, self.rest.as_bytes(), &mut self.progress, piece)
             }
         }
     }
