@@ -21,7 +21,8 @@ returns-in-Line c =
     let p = c.self.inside.progress in
     let new = c.take_piece.new.progress in
     let key_is : c.as_bytes.result.now ≡ arc_value c.self.inside.rest = c.as_bytes.ensures.value ∙ c.deref.ensures in
-    subst (λ (v : Reading). Feeds v c.args.piece.now c.take_piece.result _) c.self.view_is (record {
+    let last : Reading = record { op = c.self.inside.op; key = arc_value c.self.inside.rest; state = stands_at new.stage new } in
+    subst (λ (v : Reading). Feeds v c.args.piece.now c.take_piece.result last) c.self.view_is (record {
       op = refl;
       key = refl;
       answers = feeds_at c.self.inside.op (arc_value c.self.inside.rest) (stands_at p.stage p) (stands_at new.stage new) c.args.piece.now c.take_piece.result (fed_at p p.stage c.in-Line.is)
