@@ -11,3 +11,4 @@ pub mod Spelling
 pub mod Open
 pub mod Stages
 pub mod Steps
+pub mod Probing

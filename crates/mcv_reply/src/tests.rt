@@ -167,9 +167,11 @@ fn a_probe(rt: HostRuntime) -> Result<(), Fail> {
 
 #[test]
 fn memory_refused(rt: HostRuntime) -> Result<(), Fail> {
-    let Ok(mut reader) = reader(rt.alloc(), "gets") else {
+    let rest = Rest::of(b"a").ok_or("no key")?;
+    let Ok(rest) = Arc::new(rt.alloc(), rest) else {
         return Ok(());
     };
+    let mut reader = ReplyReader::new(rt.alloc(), Op::Gets, rest);
     match reader.feed(b"VALUE a 0 5 7\r\nworld\r\nEND\r\n") {
         Ok(reply) => assert!(rt; reply.is_some()),
         Err(fault) => {
