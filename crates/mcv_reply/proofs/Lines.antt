@@ -72,11 +72,11 @@ module _ (row : Row) (key : List ℕ) (short : length key ≤ 250) where
   pub new_kept : (items : List Candidate) → items ≡ map (new_candidate (has_cas row) key) (words row) → IsKept row key [] items
   new_kept items is = subst (λ (t : List Candidate). IsKept row key [] t) (sym is) record {
     to = λ first head more l.
-      let k = l.may.0 in
-      let at : get_or (map (new_candidate (has_cas row) key) (words row)) k (new_candidate (has_cas row) key first) ≡ new_candidate (has_cas row) key first = get_or-map (new_candidate (has_cas row) key) (words row) k first (new_candidate (has_cas row) key first) l.may.1 ∙ ap (new_candidate (has_cas row) key) l.may.2 in
-      (k, new_candidate (has_cas row) key first, omega (arith, l.may.1, length-map (words row) (new_candidate (has_cas row) key)), at, (refl, new_to first head more l));
+        let k = l.may.0 in
+        let at : get_or (map (new_candidate (has_cas row) key) (words row)) k (new_candidate (has_cas row) key first) ≡ new_candidate (has_cas row) key first = get_or-map (new_candidate (has_cas row) key) (words row) k first (new_candidate (has_cas row) key first) l.may.1 ∙ ap (new_candidate (has_cas row) key) l.may.2 in
+        (k, new_candidate (has_cas row) key first, omega (arith, l.may.1, length-map (words row) (new_candidate (has_cas row) key)), at, (refl, new_to first head more l));
     back = All-map (λ (c : Candidate). (head : Head) (more : List ℕ) → Open (has_cas row) key c head more → IsLine row key c.first head more) (new_candidate (has_cas row) key) (words row)
-      (All-weaker (Contains (words row)) (λ (w : Word). (head : Head) (more : List ℕ) → Open (has_cas row) key (new_candidate (has_cas row) key w) head more → IsLine row key w head more) new_back (words row) (All-contains_itself (words row)));
+        (All-weaker (Contains (words row)) (λ (w : Word). (head : Head) (more : List ℕ) → Open (has_cas row) key (new_candidate (has_cas row) key w) head more → IsLine row key w head more) new_back (words row) (All-contains_itself (words row)));
     valid = All-map (IsValid (has_cas row)) (new_candidate (has_cas row) key) (words row) (λ k d l. tt);
     no_end = All-nil (λ b. b ≢ 10);
   }
@@ -104,13 +104,13 @@ module _ (row : Row) (key line bytes : List ℕ) (candidates : List Candidate) (
       to = λ k d l head more o. elim (cases_lt k i) [
         | inl low ↦ any_push (λ (x : Candidate). (x.first ≡ (get_or candidates k d).first) × Open (has_cas row) key x head more) left next (at.to k d low head more o)
         | inr high ↦
-          let same : k ≡ i = omega arith in
-          let here : get_or candidates k d ≡ c = ap (λ t. get_or candidates t d) same ∙ sym (is d) in
-          any_last (λ (x : Candidate). (x.first ≡ (get_or candidates k d).first) × Open (has_cas row) key x head more) left next
+            let same : k ≡ i = omega arith in
+            let here : get_or candidates k d ≡ c = ap (λ t. get_or candidates t d) same ∙ sym (is d) in
+            any_last (λ (x : Candidate). (x.first ≡ (get_or candidates k d).first) × Open (has_cas row) key x head more) left next
             (reads.first ∙ ap (λ (t : Candidate). t.first) (sym here), reads.on head more (subst (λ (t : Candidate). Open (has_cas row) key t head (bytes ++ more)) here o))
       ];
       back = All-push (λ (x : Candidate). (head : Head) (more : List ℕ) → Open (has_cas row) key x head more → IsLine row key x.first head ((line ++ bytes) ++ more)) left next at.back
-        (λ head more o.
+          (λ head more o.
           let whole : line ++ (bytes ++ more) ≡ (line ++ bytes) ++ more = sym (append_assoc line bytes more) in
           let before : Open (has_cas row) key (get_or candidates i c) head (bytes ++ more) = subst (λ (t : Candidate). Open (has_cas row) key t head (bytes ++ more)) (is c) (reads.back head more o) in
           let line_is : IsLine row key (get_or candidates i c).first head (line ++ (bytes ++ more)) = kept.back i c within head (bytes ++ more) before in
@@ -125,9 +125,9 @@ module _ (row : Row) (key line bytes : List ℕ) (candidates : List Candidate) (
       to = λ k d l head more o. elim (cases_lt k i) [
         | inl low ↦ at.to k d low head more o
         | inr high ↦
-          let same : k ≡ i = omega arith in
-          let here : get_or candidates k d ≡ c = ap (λ t. get_or candidates t d) same ∙ sym (is d) in
-          absurd (never head more (subst (λ (t : Candidate). Open (has_cas row) key t head (bytes ++ more)) here o))
+            let same : k ≡ i = omega arith in
+            let here : get_or candidates k d ≡ c = ap (λ t. get_or candidates t d) same ∙ sym (is d) in
+            absurd (never head more (subst (λ (t : Candidate). Open (has_cas row) key t head (bytes ++ more)) here o))
       ];
       back = at.back;
       valid = at.valid;
@@ -137,11 +137,11 @@ module _ (row : Row) (key line bytes : List ℕ) (candidates : List Candidate) (
   pub left_kept : (i : ℕ) (left : List Candidate) → IsLeft row key line bytes candidates i left → length candidates ≤ i → All (λ b. b ≢ 10) bytes → IsKept row key (line ++ bytes) left
   left_kept i left at all clean = record {
     to = λ first head more l.
-      let whole : (line ++ bytes) ++ more ≡ line ++ (bytes ++ more) = append_assoc line bytes more in
-      let any = kept.to first head (bytes ++ more) (subst (λ (t : List ℕ). IsLine row key first head t) whole l) in
-      let first_is : (get_or candidates any.0 any.1).first ≡ first = ap (λ (t : Candidate). t.first) any.3 ∙ any.4.0 in
-      let next = at.to any.0 any.1 (omega (arith, any.2)) head more (subst (λ (t : Candidate). Open (has_cas row) key t head (bytes ++ more)) (sym any.3) any.4.1) in
-      (next.0, next.1, next.2, next.3, (next.4.0 ∙ first_is, next.4.1));
+        let whole : (line ++ bytes) ++ more ≡ line ++ (bytes ++ more) = append_assoc line bytes more in
+        let any = kept.to first head (bytes ++ more) (subst (λ (t : List ℕ). IsLine row key first head t) whole l) in
+        let first_is : (get_or candidates any.0 any.1).first ≡ first = ap (λ (t : Candidate). t.first) any.3 ∙ any.4.0 in
+        let next = at.to any.0 any.1 (omega (arith, any.2)) head more (subst (λ (t : Candidate). Open (has_cas row) key t head (bytes ++ more)) (sym any.3) any.4.1) in
+        (next.0, next.1, next.2, next.3, (next.4.0 ∙ first_is, next.4.1));
     back = at.back;
     valid = at.valid;
     no_end = All-append (λ b. b ≢ 10) line bytes kept.no_end clean;
@@ -159,8 +159,8 @@ pub none_ends_more : (has : Bool) (candidates : List Candidate) (i : ℕ) (c : C
 none_ends_more has candidates i c is before here key clean k d l = elim (cases_lt k i) [
   | inl low ↦ before key clean k d low
   | inr high ↦
-    let same : k ≡ i = omega arith in
-    subst (λ (t : Candidate). Ends has key t None) (is d ∙ ap (λ t. get_or candidates t d) (sym same)) (here key clean)
+      let same : k ≡ i = omega arith in
+      subst (λ (t : Candidate). Ends has key t None) (is d ∙ ap (λ t. get_or candidates t d) (sym same)) (here key clean)
 ]
 
 module _ (row : Row) (key line : List ℕ) (candidates : List Candidate) (kept : IsKept row key line candidates) where

@@ -70,6 +70,7 @@ probe_right old front piece line version first head cut is says line_is = record
 pub probe_front : (bytes : List ℕ) (candidates : List Candidate) → IsKept rows.Probe (codes "-") bytes candidates → 0 < length candidates → IsVersionFront bytes
 probe_front bytes candidates kept some =
     let l = line_opens rows.Probe (codes "-") bytes candidates refl kept some in
-    let line = bytes ++ l.2 in
-    (λ version s. let f = front_of_line bytes [] s.line [] kept.no_end (append-nil bytes ∙ s.parts) in omega (arith, ap length f.2, length-append f.0 (10 ∷ [])),
-      (l.2 ++ 10 ∷ [], strip_carriage_return line, record { line = line; other = l.1; line_is = to_version l.0 l.1 line l.3; parts = sym (append_assoc bytes l.2 (10 ∷ [])); says = refl }))
+    let line = bytes ++ l.2 in (
+      λ version s. let f = front_of_line bytes [] s.line [] kept.no_end (append-nil bytes ∙ s.parts) in omega (arith, ap length f.2, length-append f.0 (10 ∷ [])),
+      (l.2 ++ 10 ∷ [], strip_carriage_return line, record { line = line; other = l.1; line_is = to_version l.0 l.1 line l.3; parts = sym (append_assoc bytes l.2 (10 ∷ [])); says = refl }),
+    )

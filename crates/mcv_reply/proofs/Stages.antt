@@ -172,8 +172,9 @@ module _ (op : Op) (key : List ℕ) (clean : is_clean key ≡ true) where
   pub value_completes : (head : Head) (line body : List ℕ) → IsLine (rows.Reply op) key Value head line → length body ≤ head.size → (more : List ℕ) × (reply : ReplyValue) × Spells op key (line ++ 10 ∷ (body ++ more)) reply
   value_completes head line body is l =
       let left = replicate (head.size - length body) 0 in
-      let value = body ++ left in
-      (left ++ 13 ∷ 10 ∷ (codes "END" ++ 10 ∷ []), hit head.flags (cas_said (has_cas (rows.Reply op)) head.cas) value,
+      let value = body ++ left in (
+        left ++ 13 ∷ 10 ∷ (codes "END" ++ 10 ∷ []),
+        hit head.flags (cas_said (has_cas (rows.Reply op)) head.cas) value,
         value_back op key clean head line (body ++ (left ++ 13 ∷ 10 ∷ (codes "END" ++ 10 ∷ []))) _ is (record {
           value = value;
           last = codes "END";
@@ -182,7 +183,8 @@ module _ (op : Op) (key : List ℕ) (clean : is_clean key ≡ true) where
           last_is = end_line key;
           parts = sym (append_assoc body left (13 ∷ 10 ∷ (codes "END" ++ 10 ∷ [])));
           says = refl;
-        }))
+        }),
+      )
 
   alone_completes : (first : Word) (head : Head) (line : List ℕ) (reply : ReplyValue) → IsLine (rows.Reply op) key first head line → said_alone first line ≡ Some reply → (rest : List ℕ) × (r : ReplyValue) × Spells op key (line ++ 10 ∷ rest) r
   alone_completes first head line reply is says = ([], reply, ended_right op key first head line reply is says)
@@ -224,9 +226,15 @@ module _ (op : Op) (key : List ℕ) (clean : is_clean key ≡ true) where
   front_return head line body is l =
       let reply = hit head.flags (cas_said (has_cas (rows.Reply op)) head.cas) body in
       let more = 10 ∷ (codes "END" ++ 10 ∷ []) in
-      let whole : (line ++ 10 ∷ (body ++ 13 ∷ [])) ++ more ≡ line ++ 10 ∷ (body ++ 13 ∷ more) = append_assoc line (10 ∷ (body ++ 13 ∷ [])) more ∙ ap (λ t. line ++ 10 ∷ t) (append_assoc body (13 ∷ []) more) in
-      (return_front op key clean head line body is l, (more, reply, subst (λ (t : List ℕ). Spells op key t reply) (sym whole)
-        (value_back op key clean head line (body ++ 13 ∷ more) reply is (record { value = body; last = codes "END"; other = zero_head; size = l; last_is = end_line key; parts = refl; says = refl }))))
+      let whole : (line ++ 10 ∷ (body ++ 13 ∷ [])) ++ more ≡ line ++ 10 ∷ (body ++ 13 ∷ more) = append_assoc line (10 ∷ (body ++ 13 ∷ [])) more ∙ ap (λ t. line ++ 10 ∷ t) (append_assoc body (13 ∷ []) more) in (
+        return_front op key clean head line body is l,
+        (
+          more,
+          reply,
+          subst (λ (t : List ℕ). Spells op key t reply) (sym whole)
+              (value_back op key clean head line (body ++ 13 ∷ more) reply is (record { value = body; last = codes "END"; other = zero_head; size = l; last_is = end_line key; parts = refl; says = refl })),
+        ),
+      )
 
   pub front_last : (head : Head) (line body bytes : List ℕ) (candidates : List Candidate) → IsLine (rows.Reply op) key Value head line → length body ≡ head.size → IsKept rows.AfterValue key bytes candidates → 0 < length candidates → IsFront op key (line ++ 10 ∷ (body ++ 13 ∷ 10 ∷ bytes))
   front_last head line body bytes candidates is l kept some =
@@ -234,9 +242,15 @@ module _ (op : Op) (key : List ℕ) (clean : is_clean key ≡ true) where
       let o = line_opens rows.AfterValue key bytes candidates clean kept some in
       let last = only_end key o.0 o.1 (bytes ++ o.2) o.3 in
       let more = o.2 ++ 10 ∷ [] in
-      let whole : (line ++ 10 ∷ (body ++ 13 ∷ 10 ∷ bytes)) ++ more ≡ line ++ 10 ∷ (body ++ 13 ∷ 10 ∷ ((bytes ++ o.2) ++ 10 ∷ [])) = last_whole op key clean head line body is bytes more ∙ ap (λ t. line ++ 10 ∷ (body ++ 13 ∷ 10 ∷ t)) (sym (append_assoc bytes o.2 (10 ∷ []))) in
-      (last_front op key clean head line body is bytes l kept.no_end, (more, reply, subst (λ (t : List ℕ). Spells op key t reply) (sym whole)
-        (value_back op key clean head line (body ++ 13 ∷ 10 ∷ ((bytes ++ o.2) ++ 10 ∷ [])) reply is (record { value = body; last = bytes ++ o.2; other = o.1; size = l; last_is = last; parts = refl; says = refl }))))
+      let whole : (line ++ 10 ∷ (body ++ 13 ∷ 10 ∷ bytes)) ++ more ≡ line ++ 10 ∷ (body ++ 13 ∷ 10 ∷ ((bytes ++ o.2) ++ 10 ∷ [])) = last_whole op key clean head line body is bytes more ∙ ap (λ t. line ++ 10 ∷ (body ++ 13 ∷ 10 ∷ t)) (sym (append_assoc bytes o.2 (10 ∷ []))) in (
+        last_front op key clean head line body is bytes l kept.no_end,
+        (
+          more,
+          reply,
+          subst (λ (t : List ℕ). Spells op key t reply) (sym whole)
+              (value_back op key clean head line (body ++ 13 ∷ 10 ∷ ((bytes ++ o.2) ++ 10 ∷ [])) reply is (record { value = body; last = bytes ++ o.2; other = o.1; size = l; last_is = last; parts = refl; says = refl })),
+        ),
+      )
 
 -- a line that is no reply alone is that of a value, or answers a probe
 unsaid : (first : Word) (line : List ℕ) → said_alone first line ≡ None → (first ≡ Value) ⊎ (first ≡ Version)

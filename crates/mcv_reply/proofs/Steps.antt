@@ -106,8 +106,8 @@ module _ (op : Op) (key : List ℕ) (clean : is_clean key ≡ true) (head : Head
   pub last_line_fault : (old front x piece : List ℕ) (fault : ReplyFault) (bytes : List ℕ) (candidates : List Candidate) (new : Progress) → All (λ b. b ≢ 10) (old ++ front) → piece ≡ front ++ x → GoesOn rows.AfterValue key old front (Err fault) bytes candidates → Steps op key (line ++ 10 ∷ (body ++ 13 ∷ 10 ∷ old)) piece (Err fault) new
   last_line_fault old front x piece NotAReply bytes candidates new no_end cut none =
       begins_more op key (line ++ 10 ∷ (body ++ 13 ∷ 10 ∷ (old ++ front))) x ((line ++ 10 ∷ (body ++ 13 ∷ 10 ∷ old)) ++ piece)
-        (ap (λ t. (line ++ 10 ∷ (body ++ 13 ∷ 10 ∷ old)) ++ t) cut ∙ sym (append_assoc (line ++ 10 ∷ (body ++ 13 ∷ 10 ∷ old)) front x) ∙ ap (λ t. t ++ x) (last_more old front))
-        (no_last_begins op key clean head line body is (old ++ front) size no_end none)
+      (ap (λ t. (line ++ 10 ∷ (body ++ 13 ∷ 10 ∷ old)) ++ t) cut ∙ sym (append_assoc (line ++ 10 ∷ (body ++ 13 ∷ 10 ∷ old)) front x) ∙ ap (λ t. t ++ x) (last_more old front))
+      (no_last_begins op key clean head line body is (old ++ front) size no_end none)
   last_line_fault old front x piece Closed bytes candidates new no_end cut none = none
   last_line_fault old front x piece Memory bytes candidates new no_end cut none = tt
 
@@ -126,7 +126,7 @@ module _ (op : Op) (key : List ℕ) (clean : is_clean key ≡ true) (head : Head
   pub last_made : (x value : List ℕ) (cas : Bool) (first : Word) (other : Head) (r : Result Reply ReplyFault) → IsLine rows.AfterValue key first other x → cas ≡ has_cas (rows.Reply op) → value ≡ body → HitMade cas head value r → LastEnds op key (line ++ 10 ∷ (body ++ 13 ∷ 10 ∷ x)) r
   last_made x value cas first other (Ok reply) last cas_is value_is made =
       last_right op key clean head line body is x other (reply_value reply) size (only_end key first other x last)
-        (made ∙ ap (λ (h : Bool). hit head.flags (cas_said h head.cas) value) cas_is ∙ ap (hit head.flags (cas_said (has_cas (rows.Reply op)) head.cas)) value_is)
+      (made ∙ ap (λ (h : Bool). hit head.flags (cas_said h head.cas) value) cas_is ∙ ap (hit head.flags (cas_said (has_cas (rows.Reply op)) head.cas)) value_is)
   last_made x value cas first other (Err NotAReply) last cas_is value_is made = absurd made
   last_made x value cas first other (Err Closed) last cas_is value_is made = made
   last_made x value cas first other (Err Memory) last cas_is value_is made = tt
@@ -167,7 +167,7 @@ pub step_more : (op : Op) (key now left whole : List ℕ) (used : ℕ) (o : Opti
 step_more op key now left whole used o reply new clean makes is some e more other t =
     let s : Spells op key (now ++ take used left) (reply_value reply) = subst (λ (t : Option Reply). StepMakes op key now (take used left) t new) is makes in
     let cut : whole ++ more ≡ (now ++ take used left) ++ (drop used left ++ more) =
-      ap (λ t. t ++ more) (sym e ∙ ap (λ t. now ++ t) (sym (take-append-drop used left)) ∙ sym (append_assoc now (take used left) (drop used left))) ∙ append_assoc (now ++ take used left) (drop used left) more in
+    ap (λ t. t ++ more) (sym e ∙ ap (λ t. now ++ t) (sym (take-append-drop used left)) ∙ sym (append_assoc now (take used left) (drop used left))) ∙ append_assoc (now ++ take used left) (drop used left) more in
     let one = replies_one op key clean (now ++ take used left) (drop used left ++ more) (reply_value reply) other s (subst (λ (t : List ℕ). Spells op key t other) cut t) in
     some (omega (arith, ap length one.0, length-append (drop used left) more))
 

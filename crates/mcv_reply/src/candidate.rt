@@ -109,10 +109,7 @@ fn separated(candidate: Candidate, place: Place, byte: u8) -> Option<Move>
 {
     if byte == b' ' {
         Some(Move {
-            next: Candidate {
-                place,
-                ..candidate
-            },
+            next: Candidate { place, ..candidate },
             free: false,
         })
     } else {
@@ -126,10 +123,7 @@ fn closing(candidate: Candidate, place: Place, byte: u8) -> Option<Move>
 {
     if byte == b' ' {
         Some(Move {
-            next: Candidate {
-                place,
-                ..candidate
-            },
+            next: Candidate { place, ..candidate },
             free: true,
         })
     } else if byte == b'\r' {
@@ -207,7 +201,11 @@ fn behind_number(
                 flags: value,
                 ..candidate.head
             };
-            separated(Candidate { head, ..candidate }, Place::BeforeNumber(Number::Size), byte)
+            separated(
+                Candidate { head, ..candidate },
+                Place::BeforeNumber(Number::Size),
+                byte,
+            )
         }
         Number::Size => {
             let head = Head {

@@ -12,11 +12,9 @@ mod probe;
 mod reader;
 mod word;
 
-
 pub use laws::{one_reply, one_version};
 pub use probe::ProbeReader;
 pub use reader::{ReplyFault, ReplyReader};
-
 
 #[cfg(test)]
 mod tests;

@@ -57,7 +57,10 @@ pub fn said(row: Row, candidates: &Candidates) -> Option<Meaning>
     let cas = row.has_cas();
     for candidate in candidates.as_slice() {
         if let Some(head) = candidate.end(cas) {
-            return Some(Meaning { first: candidate.first, head });
+            return Some(Meaning {
+                first: candidate.first,
+                head,
+            });
         }
     }
     None

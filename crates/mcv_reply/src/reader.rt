@@ -117,9 +117,9 @@ fn alone(first: Word, line: Vec<u8>) -> Option<Reply>
         Word::NotFound => Some(Reply::NotFound),
         Word::Deleted => Some(Reply::Deleted),
         Word::Touched => Some(Reply::Touched),
-        Word::Error | Word::ClientError | Word::ServerError => Some(
-            Reply::Fault(without_return(line)),
-        ),
+        Word::Error | Word::ClientError | Word::ServerError => Some(Reply::Fault(without_return(
+            line,
+        ))),
         Word::Value | Word::Version => None,
     }
 }
@@ -231,13 +231,31 @@ fn in_line(
     let row = Row::Reply(op);
     match memchr(b'\n', piece) {
         None => {
-            go_on(row, key, &mut progress.text, &mut progress.candidates, piece)?;
-            Ok(Step { used: piece.len(), reply: None })
+            go_on(
+                row,
+                key,
+                &mut progress.text,
+                &mut progress.candidates,
+                piece,
+            )?;
+            Ok(Step {
+                used: piece.len(),
+                reply: None,
+            })
         }
         Some(end) => {
-            go_on(row, key, &mut progress.text, &mut progress.candidates, &piece[..end])?;
+            go_on(
+                row,
+                key,
+                &mut progress.text,
+                &mut progress.candidates,
+                &piece[..end],
+            )?;
             let reply = first_ended(alloc, op, key, progress)?;
-            Ok(Step { used: end + 1, reply })
+            Ok(Step {
+                used: end + 1,
+                reply,
+            })
         }
     }
 }
@@ -256,7 +274,10 @@ fn in_value(op: Op, key: &[u8], progress: &mut Progress, piece: &[u8]) -> Result
             return Err(ReplyFault::NotAReply);
         }
         progress.stage = Stage::Return;
-        return Ok(Step { used: 1, reply: None });
+        return Ok(Step {
+            used: 1,
+            reply: None,
+        });
     }
     let used = missing.min(piece.len());
     match progress.body.extend_from_slice(&piece[..used]) {
@@ -279,7 +300,10 @@ fn at_return(op: Op, key: &[u8], progress: &mut Progress, piece: &[u8]) -> Resul
     progress.text.clear();
     progress.candidates = candidates(Row::AfterValue, key);
     progress.stage = Stage::Last;
-    Ok(Step { used: 1, reply: None })
+    Ok(Step {
+        used: 1,
+        reply: None,
+    })
 }
 
 /// The line behind the value has come whole.
@@ -319,13 +343,31 @@ fn in_last(
     let row = Row::AfterValue;
     match memchr(b'\n', piece) {
         None => {
-            go_on(row, key, &mut progress.text, &mut progress.candidates, piece)?;
-            Ok(Step { used: piece.len(), reply: None })
+            go_on(
+                row,
+                key,
+                &mut progress.text,
+                &mut progress.candidates,
+                piece,
+            )?;
+            Ok(Step {
+                used: piece.len(),
+                reply: None,
+            })
         }
         Some(end) => {
-            go_on(row, key, &mut progress.text, &mut progress.candidates, &piece[..end])?;
+            go_on(
+                row,
+                key,
+                &mut progress.text,
+                &mut progress.candidates,
+                &piece[..end],
+            )?;
             let reply = last_ended(alloc, op, key, progress)?;
-            Ok(Step { used: end + 1, reply: Some(reply) })
+            Ok(Step {
+                used: end + 1,
+                reply: Some(reply),
+            })
         }
     }
 }
@@ -374,7 +416,11 @@ fn read(
         let Step { used, reply } = take_step(alloc, op, key, progress, left)?;
         left = &left[used..];
         if let Some(reply) = reply {
-            return if left.is_empty() { Ok(Some(reply)) } else { Err(ReplyFault::NotAReply) };
+            return if left.is_empty() {
+                Ok(Some(reply))
+            } else {
+                Err(ReplyFault::NotAReply)
+            };
         }
     }
     Ok(None)
@@ -470,7 +516,13 @@ impl ReplyReader {
             }
             Stage::Closed => Err(ReplyFault::Closed),
             Stage::Line | Stage::Value | Stage::Return | Stage::Last => {
-                take_piece(self.alloc, self.op, self.rest.as_bytes(), &mut self.progress, piece)
+                take_piece(
+                    self.alloc,
+                    self.op,
+                    self.rest.as_bytes(),
+                    &mut self.progress,
+                    piece,
+                )
             }
         }
     }

@@ -26,20 +26,20 @@ replace  ERROR | = fault";
 
 /// Operation, bytes and how many of them go on to a reply.
 const REFUSED: &str = "get VALUE b 0 1|x|END| = 6
-get VALUE a 0 1 7|x|END| = 16
-gets VALUE a 0 1|x|END| = 15
+get VALUE a 0 1 7|x|END| = 12
+gets VALUE a 0 1|x|END| = 11
 get DELETED| = 0
 delete STORED| = 1
 set STOREDX| = 6
-get VALUE a 0 1048577| = 15
+get VALUE a 0 1048577| = 16
 get VALUE a 4294967296 0| = 17
-gets VALUE a 0 0 18446744073709551616| = 35
+gets VALUE a 0 0 18446744073709551616| = 31
 get VALUE a -1 0| = 8
-get VALUE a 0 1|xy|END| = 18
-get VALUE a 0 1|x|STORED| = 20
+get VALUE a 0 1|xy|END| = 14
+get VALUE a 0 1|x|STORED| = 16
 get END|x = 5
 get END|END| = 5
-get | = 1
+get | = 0
 get ^ = 0";
 
 fn wire(alloc: Global, text: &str) -> Result<Vec<u8>, AllocError> {
@@ -101,13 +101,13 @@ fn refusals_at_the_first_byte(rt: HostRuntime) -> Result<(), Fail> {
         let bytes = wire(rt.alloc(), text)?;
         for cut in 0..=bytes.len() {
             let mut reader = reader(rt.alloc(), op)?;
-            let first = reader.feed(&bytes[..cut]);
-            if cut <= good {
-                assert!(rt; matches!(first, Ok(None)), "{case}");
-            } else if let Ok(Some(_)) = &first {
-                assert_eq!(rt; cut, good, "{case}");
-            } else {
-                assert!(rt; matches!(first, Err(ReplyFault::NotAReply)), "{case}");
+            match reader.feed(&bytes[..cut]) {
+                Ok(None) => assert!(rt; cut <= good, "{case}"),
+                Ok(Some(_)) => assert_eq!(rt; cut, good, "{case}"),
+                Err(fault) => {
+                    assert!(rt; cut > good, "{case}");
+                    assert_eq!(rt; fault, ReplyFault::NotAReply, "{case}");
+                }
             }
         }
     }
@@ -117,7 +117,9 @@ fn refusals_at_the_first_byte(rt: HostRuntime) -> Result<(), Fail> {
 #[test]
 fn a_hit_and_its_parts(rt: HostRuntime) -> Result<(), Fail> {
     let mut reader = reader(rt.alloc(), "gets")?;
-    let reply = reader.feed(b"VALUE a 3 1 7\r\nx\r\nEND\r\n")?.ok_or("no reply")?;
+    let reply = reader
+        .feed(b"VALUE a 3 1 7\r\nx\r\nEND\r\n")?
+        .ok_or("no reply")?;
     let parts = Parts::new(rt.alloc(), reply)?;
     for part in [&parts.outcome, &parts.taken, &parts.history] {
         let Part::Owned(reply) = part else {

@@ -105,10 +105,24 @@ fn answers(op: Op) -> &'static [Word]
     ensures { result.now ≡ answers op }
 {
     match op {
-        Op::Get | Op::Gets =>
-            { &[Word::End, Word::Value, Word::Error, Word::ClientError, Word::ServerError] }
-        Op::Set | Op::Add | Op::Replace | Op::Append | Op::Prepend =>
-            { &[Word::Stored, Word::NotStored, Word::Error, Word::ClientError, Word::ServerError] }
+        Op::Get | Op::Gets => {
+            &[
+                Word::End,
+                Word::Value,
+                Word::Error,
+                Word::ClientError,
+                Word::ServerError,
+            ]
+        }
+        Op::Set | Op::Add | Op::Replace | Op::Append | Op::Prepend => {
+            &[
+                Word::Stored,
+                Word::NotStored,
+                Word::Error,
+                Word::ClientError,
+                Word::ServerError,
+            ]
+        }
         Op::Cas => &[
             Word::Stored,
             Word::NotStored,
@@ -118,9 +132,23 @@ fn answers(op: Op) -> &'static [Word]
             Word::ClientError,
             Word::ServerError,
         ],
-        Op::Delete =>
-            { &[Word::Deleted, Word::NotFound, Word::Error, Word::ClientError, Word::ServerError] }
-        Op::Touch =>
-            { &[Word::Touched, Word::NotFound, Word::Error, Word::ClientError, Word::ServerError] }
+        Op::Delete => {
+            &[
+                Word::Deleted,
+                Word::NotFound,
+                Word::Error,
+                Word::ClientError,
+                Word::ServerError,
+            ]
+        }
+        Op::Touch => {
+            &[
+                Word::Touched,
+                Word::NotFound,
+                Word::Error,
+                Word::ClientError,
+                Word::ServerError,
+            ]
+        }
     }
 }

@@ -28,10 +28,10 @@ returns c =
     let key = c.args.key.now in
     let bytes = name_text c.args.name cand.first key in
     moves_same c.args.cas key cand c.args.byte
-      (λ (head : Head) (more : List ℕ). Follows cand.first c.args.cas key cand.head (BeforeName c.args.name) head more)
-      (λ (head : Head) (more : List ℕ). Follows cand.first c.args.cas key cand.head (InName c.args.name 0) head more)
-      (needed cand.first c.args.cas key (BeforeName c.args.name)) (needed cand.first c.args.cas key (InName c.args.name 0)) c.in_name.result
-      (λ head more f. word_on bytes (Writes (behind_name c.args.name cand.first c.args.cas key head) 1) c.args.byte more c.if-byte-eq32.false f)
-      (λ head more f. word_back bytes (Writes (behind_name c.args.name cand.first c.args.cas key head) 1) c.args.byte more f)
-      (omega arith)
-      c.in_name.ensures
+    (λ (head : Head) (more : List ℕ). Follows cand.first c.args.cas key cand.head (BeforeName c.args.name) head more)
+    (λ (head : Head) (more : List ℕ). Follows cand.first c.args.cas key cand.head (InName c.args.name 0) head more)
+    (needed cand.first c.args.cas key (BeforeName c.args.name)) (needed cand.first c.args.cas key (InName c.args.name 0)) c.in_name.result
+    (λ head more f. word_on bytes (Writes (behind_name c.args.name cand.first c.args.cas key head) 1) c.args.byte more c.if-byte-eq32.false f)
+    (λ head more f. word_back bytes (Writes (behind_name c.args.name cand.first c.args.cas key head) 1) c.args.byte more f)
+    (omega arith)
+    c.in_name.ensures

@@ -24,12 +24,12 @@ returns c =
     let d = c.in_ok-value.ensures in
     record {
       on = λ head more f.
-        let Then = Writes (behind_number c.args.number c.args.cas head) 1 in
-        let on = number_on (limit_of c.args.number) (number_in c.args.number head) c.args.byte Then more c.if-byte-eq32.false f.1 in
-        (f.0, subst (λ (v : ℕ). Digits (limit_of c.args.number) v (number_in c.args.number head) Then more) (sym d.2) on.2);
+          let Then = Writes (behind_number c.args.number c.args.cas head) 1 in
+          let on = number_on (limit_of c.args.number) (number_in c.args.number head) c.args.byte Then more c.if-byte-eq32.false f.1 in
+          (f.0, subst (λ (v : ℕ). Digits (limit_of c.args.number) v (number_in c.args.number head) Then more) (sym d.2) on.2);
       back = λ head more f.
-        let Then = Writes (behind_number c.args.number c.args.cas head) 1 in
-        (f.0, number_back (limit_of c.args.number) (number_in c.args.number head) c.args.byte Then more d.0 d.1 (subst (λ (v : ℕ). Digits (limit_of c.args.number) v (number_in c.args.number head) Then more) d.2 f.1));
+          let Then = Writes (behind_number c.args.number c.args.cas head) 1 in
+          (f.0, number_back (limit_of c.args.number) (number_in c.args.number head) c.args.byte Then more d.0 d.1 (subst (λ (v : ℕ). Digits (limit_of c.args.number) v (number_in c.args.number head) Then more) d.2 f.1));
       first = refl;
       spare = refl;
       valid = (c.requires, digit_limit c.args.number c.in_ok-value.value (omega (arith, d.1, d.2)));

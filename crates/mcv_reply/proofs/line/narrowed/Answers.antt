@@ -21,21 +21,21 @@ loop-candidate-preserved c =
     let at = get_or items i any_candidate in
     elim c.match-read.branch [
       | in-Some w ↦
-        let is : c.match-read.left.items ≡ left ++ w.in-Some.next ∷ [] = ap (λ t. t.items) w.left-is ∙ w.push.ensures.items in
-        record {
-          few = omega (arith, ap length is, length_push left w.in-Some.next, c.loop-candidate.invariant.few);
-          so_far = λ line kept. subst (λ (t : List Candidate). IsLeft c.args.row c.args.key.now line c.args.bytes.now items (i + 1) t) (sym is)
-            (left_some c.args.row c.args.key.now line c.args.bytes.now items kept i left (c.loop-candidate.invariant.so_far line kept) at c.loop-candidate-test.true (λ d. get_or_default items i any_candidate d c.loop-candidate-test.true) w.in-Some.next
-              (subst (λ (h : Bool). Reads h c.args.key.now at c.args.bytes.now (Some w.in-Some.next)) c.has_cas-cas.ensures w.in-Some.ensures));
-        }
+          let is : c.match-read.left.items ≡ left ++ w.in-Some.next ∷ [] = ap (λ t. t.items) w.left-is ∙ w.push.ensures.items in
+          record {
+            few = omega (arith, ap length is, length_push left w.in-Some.next, c.loop-candidate.invariant.few);
+            so_far = λ line kept. subst (λ (t : List Candidate). IsLeft c.args.row c.args.key.now line c.args.bytes.now items (i + 1) t) (sym is)
+                (left_some c.args.row c.args.key.now line c.args.bytes.now items kept i left (c.loop-candidate.invariant.so_far line kept) at c.loop-candidate-test.true (λ d. get_or_default items i any_candidate d c.loop-candidate-test.true) w.in-Some.next
+                (subst (λ (h : Bool). Reads h c.args.key.now at c.args.bytes.now (Some w.in-Some.next)) c.has_cas-cas.ensures w.in-Some.ensures));
+          }
       | in_default w ↦
-        let is : c.match-read.left.items ≡ left = ap (λ t. t.items) w.left-is in
-        record {
-          few = omega (arith, ap length is, c.loop-candidate.invariant.few);
-          so_far = λ line kept. subst (λ (t : List Candidate). IsLeft c.args.row c.args.key.now line c.args.bytes.now items (i + 1) t) (sym is)
-            (left_out c.args.row c.args.key.now line c.args.bytes.now items kept i left (c.loop-candidate.invariant.so_far line kept) at c.loop-candidate-test.true (λ d. get_or_default items i any_candidate d c.loop-candidate-test.true)
-              (subst (λ (h : Bool). Reads h c.args.key.now at c.args.bytes.now None) c.has_cas-cas.ensures w.in_default.ensures));
-        }
+          let is : c.match-read.left.items ≡ left = ap (λ t. t.items) w.left-is in
+          record {
+            few = omega (arith, ap length is, c.loop-candidate.invariant.few);
+            so_far = λ line kept. subst (λ (t : List Candidate). IsLeft c.args.row c.args.key.now line c.args.bytes.now items (i + 1) t) (sym is)
+                (left_out c.args.row c.args.key.now line c.args.bytes.now items kept i left (c.loop-candidate.invariant.so_far line kept) at c.loop-candidate-test.true (λ d. get_or_default items i any_candidate d c.loop-candidate-test.true)
+                (subst (λ (h : Bool). Reads h c.args.key.now at c.args.bytes.now None) c.has_cas-cas.ensures w.in_default.ensures));
+          }
     ]
 
 pub push-requires : goal.push-requires

@@ -11,14 +11,14 @@ loop-candidate-preserved c =
     let items = c.as_slice-candidate-items.result.now in
     let i = c.loop-candidate.candidate-index in
     none_ends_more (has_cas c.args.row) items i (get_or items i any_candidate) (λ d. get_or_default items i any_candidate d c.loop-candidate-test.true) c.loop-candidate.invariant
-      (λ key clean. subst (λ (h : Bool). Ends h key (get_or items i any_candidate) None) c.has_cas-cas.ensures (c.in_default.ensures key clean))
+    (λ key clean. subst (λ (h : Bool). Ends h key (get_or items i any_candidate) None) c.has_cas-cas.ensures (c.in_default.ensures key clean))
 
 pub returns-in-Some : goal.returns-in-Some
 returns-in-Some c = λ key line clean kept.
     let items = c.as_slice-candidate-items.result.now in
     let i = c.loop-candidate.candidate-index in
     says_some c.args.row key line items (subst (λ (t : List Candidate). IsKept c.args.row key line t) (sym c.as_slice-candidate-items.ensures.value) kept) i (get_or items i any_candidate) c.in-Some.head c.loop-candidate-test.true (λ d. get_or_default items i any_candidate d c.loop-candidate-test.true)
-      (subst (λ (h : Bool). Ends h key (get_or items i any_candidate) (Some c.in-Some.head)) c.has_cas-cas.ensures (c.in-Some.ensures key clean))
+    (subst (λ (h : Bool). Ends h key (get_or items i any_candidate) (Some c.in-Some.head)) c.has_cas-cas.ensures (c.in-Some.ensures key clean))
 
 pub returns : goal.returns
 returns c = λ key line clean kept.

@@ -34,7 +34,7 @@ returns-then-end-piece c =
     let end = c.in-Some.end in
     let e = c.in_ok-go_on-in-Some.ensures in
     probe_more old (take end piece) (drop (end + 1) piece) piece c.go_on-in-Some.new.text.items (end_cut piece end c.in-Some.ensures) e.0 e.1.no_end
-      (omega (arith, length-drop (end + 1) piece, end_within piece end c.in-Some.ensures, c.if-end-piece.true))
+    (omega (arith, length-drop (end + 1) piece, end_within piece end c.in-Some.ensures, c.if-end-piece.true))
 
 pub returns-in-None-said : goal.returns-in-None-said
 returns-in-None-said c =
@@ -53,4 +53,4 @@ returns-in-Some-said c =
     let none : drop (end + 1) piece ≡ [] = nil_from_length (drop (end + 1) piece) (omega (arith, length-drop (end + 1) piece, c.if-end-piece.false)) in
     let text_is : c.replace.result.items ≡ c.go_on-in-Some.new.text.items = ap (λ t. t.items) c.replace.ensures.value in
     probe_right old (take end piece) piece c.go_on-in-Some.new.text.items c.without_return.result.items c.in-Some-said._said.first c.in-Some-said._said.head (end_cut piece end c.in-Some.ensures ∙ ap (λ t. take end piece ++ 10 ∷ t) none) e.0
-      (c.without_return.ensures ∙ ap strip_carriage_return text_is) (c.in-Some-said.ensures (codes "-") c.go_on-in-Some.new.text.items refl e.1)
+    (c.without_return.ensures ∙ ap strip_carriage_return text_is) (c.in-Some-said.ensures (codes "-") c.go_on-in-Some.new.text.items refl e.1)

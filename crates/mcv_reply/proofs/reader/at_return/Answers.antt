@@ -14,6 +14,11 @@ returns-then-piece-ne10 c =
 pub returns : goal.returns
 returns c =
     let p = c.args.progress.now in
-    let kept = subst (λ (t : List ℕ). IsKept AfterValue c.args.key.now t c.candidates-progress.result.items) (sym c.clear.ensures.items) c.candidates-progress.ensures in
-    (omega arith, omega (arith, c.requires.some), ((c.requires.at.0, c.requires.at.1, kept, last_some c.args.key.now c.candidates-progress.result.items c.candidates-progress.ensures),
-      ap Fed (return_step p.first.items p.body.items c.clear.new.self.items _ c.clear.ensures.items (first_taken c.args.piece.now 10 c.requires.some c.if-piece-ne10.false))))
+    let kept = subst (λ (t : List ℕ). IsKept AfterValue c.args.key.now t c.candidates-progress.result.items) (sym c.clear.ensures.items) c.candidates-progress.ensures in (
+      omega arith,
+      omega (arith, c.requires.some),
+      (
+        (c.requires.at.0, c.requires.at.1, kept, last_some c.args.key.now c.candidates-progress.result.items c.candidates-progress.ensures),
+        ap Fed (return_step p.first.items p.body.items c.clear.new.self.items _ c.clear.ensures.items (first_taken c.args.piece.now 10 c.requires.some c.if-piece-ne10.false)),
+      ),
+    )

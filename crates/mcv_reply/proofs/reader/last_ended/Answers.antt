@@ -12,4 +12,4 @@ pub returns-in-Some : goal.returns-in-Some
 returns-in-Some c =
     let p = c.args.progress.now in
     last_made c.args.op c.args.key.now c.requires.clean p.head p.first.items p.body.items c.requires.at.0 c.requires.at.1 p.text.items c.replace-body.result.items c.has_cas.result c.in-Some._said.first c.in-Some._said.head c.hit.result
-      (c.in-Some.ensures c.args.key.now p.text.items c.requires.clean c.requires.at.2) c.has_cas.ensures (ap (λ t. t.items) c.replace-body.ensures.value) c.hit.ensures
+    (c.in-Some.ensures c.args.key.now p.text.items c.requires.clean c.requires.at.2) c.has_cas.ensures (ap (λ t. t.items) c.replace-body.ensures.value) c.hit.ensures

@@ -26,5 +26,5 @@ returns-in-Line c =
       op = refl;
       key = refl;
       answers = feeds_at c.self.inside.op (arc_value c.self.inside.rest) (stands_at p.stage p) (stands_at new.stage new) c.args.piece.now c.take_piece.result (fed_at p p.stage c.in-Line.is)
-        (λ bytes e. subst (λ (t : List ℕ). Answers c.self.inside.op t (bytes ++ c.args.piece.now) c.take_piece.result (stands_at new.stage new)) key_is (c.take_piece.ensures.answers bytes e));
+          (λ bytes e. subst (λ (t : List ℕ). Answers c.self.inside.op t (bytes ++ c.args.piece.now) c.take_piece.result (stands_at new.stage new)) key_is (c.take_piece.ensures.answers bytes e));
     })
