@@ -12,3 +12,4 @@ pub mod Open
 pub mod Stages
 pub mod Steps
 pub mod Probing
+mod Examples
