@@ -136,7 +136,10 @@ fn replies_are_given_once_at_every_cut(rt: HostRuntime) -> Result<(), Fail> {
     for line in REPLIES.lines() {
         let case = read_case(line).ok_or("a case")?;
         let bytes = wire(rt.alloc(), case.text)?;
-        assert!(rt; is_given_at_every_cut(rt.alloc(), case, bytes.as_slice()), "{line}");
+        assert!(rt;
+            is_given_at_every_cut(rt.alloc(), case, bytes.as_slice()),
+            "{line}"
+        );
     }
     Ok(())
 }
@@ -179,7 +182,10 @@ fn bytes_are_refused_from_the_first_wrong_one(rt: HostRuntime) -> Result<(), Fai
         let (good, _behind) = case.text.split_once("~").ok_or("a case")?;
         let good = wire(rt.alloc(), good)?;
         let bytes = wire(rt.alloc(), case.text)?;
-        assert!(rt; is_refused_behind(rt.alloc(), case, bytes.as_slice(), good.len()), "{line}");
+        assert!(rt;
+            is_refused_behind(rt.alloc(), case, bytes.as_slice(), good.len()),
+            "{line}"
+        );
     }
     Ok(())
 }
@@ -255,7 +261,10 @@ fn is_probe_answered_once(alloc: Global, bytes: &[u8], cut: usize) -> bool {
 #[test]
 fn a_probe_is_answered_once_at_every_cut(rt: HostRuntime) {
     for cut in 0..15 {
-        assert!(rt; is_probe_answered_once(rt.alloc(), b"VERSION 1.6.9\r\n", cut), "{cut}");
+        assert!(rt;
+            is_probe_answered_once(rt.alloc(), b"VERSION 1.6.9\r\n", cut),
+            "{cut}"
+        );
     }
 }
 
