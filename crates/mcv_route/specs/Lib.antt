@@ -7,3 +7,11 @@ pub mod Replies
 pub mod Launched
 pub mod Reply
 pub mod Verdict
+pub mod View
+pub mod Routes
+pub mod Codes
+pub mod RoutesView
+pub mod Built
+pub mod Walk
+pub mod Places
+pub mod Eras

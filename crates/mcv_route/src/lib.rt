@@ -1,6 +1,17 @@
-//! The tree of a route.
+//! The routes of a configuration: their trees, their leaves with the tables of servers and symbols, and their eras.
+//!
+//! What each handle sends and replies is defined over these trees (`specs/Launched.antt`, `specs/Replies.antt`).
 #![tactic(auto)]
 
+mod build;
+mod eras;
 mod launch;
+mod routes;
+#[cfg(test)]
+mod tests;
+mod tree;
 
+pub use eras::eras_are_opened_by_breaks;
 pub use launch::{Answered, Launch};
+pub use routes::Routes;
+pub use tree::{Leaf, OperationPolicy, Route};

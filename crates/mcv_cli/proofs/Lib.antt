@@ -1,0 +1,3 @@
+mod Examples
+pub mod Matches
+pub mod Taken

@@ -1,0 +1,146 @@
+-- Words with which clap finds no fault name the command `legs`: `mcv` wants a command, and the only
+-- other one, `help`, is always a fault.
+use Rattle.std.proofs.Common.{◌≡◌, ◌∙◌, ℕ, Bool, cond, true, false, List, [], ◌∷◌, drop, Option, Some, None, ap, codes, fold, is_some, option_map, refl, subst, sym, true≢false}
+use Rattle.std.specs.Prelude.{IfSome, ⊤}
+use Rattle.std.specs.Str.{bytes_eq}
+use Rattle.clap.specs.Words.{App, Kinds, Row, Rule, Shape, Text, built}
+use Rattle.clap.specs.Kinds.{or_else}
+use Rattle.clap.specs.Lexer.{long_of, short_of}
+use Rattle.clap.specs.Simple.{entered, names_of}
+use Rattle.clap.specs.Walk.{Held, Names, Outcome, Step, Waiting, Walk, done, waits, plain, refused, idle, option, positional, next, trailing, subcommand, value}
+use Rattle.clap.specs.Walk.{after_flag, after_step, answers_to, arg_by_index, arg_by_long, bundle, finished, long_met, long_or_other, nothing_held, plain_word, settled, short_or_plain, subcommand_met, subcommand_or_other, to_positional, walk, walk_from, walked, walked_from, word_met}
+use Rattle.clap.specs.Faults.{check_fault, defaults_fault, entered_fault, level_fault, other_fault, settle_fault, step_fault, turn_fault, walk_fault, word_fault}
+use Rattle.clap.specs.declared.error.kind.ErrorKind.{ErrorKind}
+use Rattle.clap.specs.declared.error.kind.ErrorKind.TheVariants.{DisplayHelp, InvalidSubcommand, MissingSubcommand}
+use Rattle.mcv_cli.specs.Words.{faults, mcv_app, NamesLegs}
+
+abbrev top : Shape
+top = (built mcv_app).top
+
+abbrev names : Names
+names = names_of (built mcv_app)
+
+abbrev is_legs : Text → Type 0
+is_legs name = name ≡ codes "legs"
+
+abbrev StopsAtLegs : Option (Text × List Text) → Type 0
+StopsAtLegs stop = IfSome stop (λ p. is_legs p.0)
+
+abbrev EntersLegs : Step → Type 0
+EntersLegs (subcommand name) = is_legs name
+EntersLegs _ = ⊤
+
+some_kind : (k : ErrorKind) (ks : Kinds) → k ∷ ks ≡ [] → ⊥
+some_kind k ks e = cc
+
+none_of : (a b : Kinds) → or_else a b ≡ [] → (a ≡ []) × (b ≡ [])
+none_of [] b e = (refl, e)
+none_of (k ∷ ks) b e = absurd (some_kind k ks e)
+
+-- ---- one word
+
+-- the command of the two that answers
+abbrev answering : Bool → Bool → Option Text
+answering legs help = option_map (λ (s : Text × List Text). s.0) (cond legs (Some (codes "legs", [])) (cond help (Some (codes "help", [])) None))
+
+named : (waiting : Waiting) (word : Text) (h : Held) → other_fault top (subcommand_met names waiting word) word h ≡ [] → IfSome (subcommand_met names waiting word) is_legs
+named (option id) word h none = tt
+named positional word h none = tt
+named idle word h none = go (answers_to word (codes "legs", [])) (answers_to word (codes "help", [])) none
+  where
+    go : (a b : Bool) → other_fault top (answering a b) word h ≡ [] → IfSome (answering a b) is_legs
+    go true b none = refl
+    go false true none = absurd (some_kind DisplayHelp (InvalidSubcommand ∷ []) none)
+    go false false none = tt
+
+after_plain : (c : List Rule) (waiting : Waiting) (word : Text) (h : Held) → EntersLegs (plain_word c waiting word h).1
+after_plain c (option id) word h = tt
+after_plain c idle word h = tt
+after_plain c positional word h = tt
+
+flag_enters_none : (c : List Rule) (waiting : Waiting) (word : Text) (h : Held) (outcome : Outcome) → EntersLegs (after_flag c waiting word h outcome).1
+flag_enters_none c waiting word h done = tt
+flag_enters_none c waiting word h (waits id) = tt
+flag_enters_none c waiting word h plain = after_plain c waiting word h
+flag_enters_none c waiting word h refused = after_plain c waiting word h
+
+short_enters_none : (c : List Rule) (waiting : Waiting) (word : Text) (flags : Option Text) (h : Held) → EntersLegs (short_or_plain c waiting word flags h).1
+short_enters_none c waiting word (Some flags) h = flag_enters_none c waiting word (bundle c flags h).0 (bundle c flags h).1
+short_enters_none c waiting word None h = after_plain c waiting word h
+
+other_enters_none : (c : List Rule) (waiting : Waiting) (word : Text) (long : Option (Text × Option Text)) (h : Held) → EntersLegs (long_or_other c waiting word long h).1
+other_enters_none c waiting word (Some p) h = flag_enters_none c waiting word (long_met c (arg_by_long c p.0) p.1 h).0 (long_met c (arg_by_long c p.0) p.1 h).1
+other_enters_none c waiting word None h = short_enters_none c waiting word (short_of word) h
+
+enters : (c : List Rule) (name : Option Text) (waiting : Waiting) (position : ℕ) (word : Text) (h : Held) → IfSome name is_legs
+    → EntersLegs (subcommand_or_other c name waiting position word h).1
+enters c (Some name) waiting position word h is = is
+enters c None waiting position word h is = go (bytes_eq word (45 ∷ 45 ∷ []))
+  where
+    go : (b : Bool) → EntersLegs (cond b (h, trailing position) (long_or_other c waiting word (long_of word) h)).1
+    go true = tt
+    go false = other_enters_none c waiting word (long_of word) h
+
+word_enters : (is_trailing : Bool) (waiting : Waiting) (position : ℕ) (word : Text) (h : Held) → word_fault top names is_trailing waiting word h ≡ []
+    → EntersLegs (word_met top.rules names is_trailing waiting position word h).1
+word_enters true waiting position word h none = tt
+word_enters false waiting position word h none = enters top.rules (subcommand_met names waiting word) waiting position word h (named waiting word h none)
+
+-- ---- the walk
+
+after : (c : List Rule) (word : Text) (w : Walk) (h : Held) (step : Step) → StopsAtLegs w.stopped → EntersLegs step → StopsAtLegs (after_step c word w h step).stopped
+after c word w h (next waiting) before here = before
+after c word w h (trailing position) before here = before
+after c word w h (subcommand name) before here = here
+after c word w h value before here = go (arg_by_index c w.position)
+  where
+    go : (o : Option Rule) → StopsAtLegs (to_positional c o word w h).stopped
+    go None = before
+    go (Some a) = tt
+
+one_more : (stop : Option (Text × List Text)) (w : Walk) (word : Text) → w.stopped ≡ stop → StopsAtLegs stop → turn_fault top names w word ≡ []
+    → StopsAtLegs (walked_from top.rules names stop w word).stopped
+one_more (Some p) w word is before none = before
+one_more None w word is before none =
+    let met : Held × Step = word_met top.rules names w.is_trailing w.waiting w.position word w.held in
+    let word_kinds : Kinds = word_fault top names w.is_trailing w.waiting word w.held in
+    let step_kinds : Kinds = step_fault top w.position met.0 met.1 in
+    let here : or_else word_kinds step_kinds ≡ [] = ap (λ (o : Option (Text × List Text)). cond (is_some o) [] (or_else word_kinds step_kinds)) (sym is) ∙ none in
+    after top.rules word w met.0 met.1 (subst StopsAtLegs (sym is) tt) (word_enters w.is_trailing w.waiting w.position word w.held (none_of word_kinds step_kinds here).0)
+
+stops : (words : List Text) (w : Walk) → StopsAtLegs w.stopped → walk_fault top names w words ≡ [] → StopsAtLegs (fold (walked top.rules names) w words).stopped
+unfolding walk_fault walked
+stops [] w before none = before
+stops (word ∷ rest) w before none =
+    let both = none_of (turn_fault top names w word) (walk_fault top names (walked top.rules names w word) rest) none in
+    stops rest (walked top.rules names w word) (one_more w.stopped w word refl before both.0) both.1
+
+-- ---- all words
+
+level : (s : Shape) (known : Names) (h : Held) (words : List Text) (has : Bool) (below : Kinds) → level_fault s known h words has below ≡ []
+    → (walk_fault s known (walk_from h) words ≡ []) × (check_fault s (finished s.rules (walk s.rules known h words).held) has ≡ [])
+level s known h words has below none =
+    let end : Held = (walk s.rules known h words).held in
+    let settling : Kinds = settle_fault s.rules s.args_override_self end in
+    let defaulting : Kinds = defaults_fault (settled s.rules end).rows s.rules in
+    let checking : Kinds = check_fault s (finished s.rules end) has in
+    let walking = none_of (walk_fault s known (walk_from h) words) (or_else below (or_else settling (or_else defaulting checking))) none in
+    let later = none_of below (or_else settling (or_else defaulting checking)) walking.1 in
+    let last = none_of settling (or_else defaulting checking) later.1 in
+    (walking.0, (none_of defaulting checking last.1).1)
+
+wanted : (has : Bool) (rows : List Row) → check_fault top rows has ≡ [] → has ≡ true
+wanted true rows none = refl
+wanted false rows none = absurd (some_kind MissingSubcommand [] none)
+
+entered_legs : (stop : Option (Text × List Text)) → StopsAtLegs stop → is_some (entered (built mcv_app) stop) ≡ true
+    → (rows : List Row) × (entered (built mcv_app) stop ≡ Some (codes "legs", rows))
+entered_legs None at has = absurd (true≢false (sym has))
+entered_legs (Some p) at has = subst (λ (name : Text). (rows : List Row) × (entered (built mcv_app) (Some (name, p.1)) ≡ Some (codes "legs", rows))) (sym at) (_, refl)
+
+pub taken : (words : List Text) → faults words ≡ [] → NamesLegs words
+taken words none =
+    let stop : Option (Text × List Text) = (walk top.rules names nothing_held (drop 1 words)).stopped in
+    let has : Bool = is_some (entered (built mcv_app) stop) in
+    let free = level top names nothing_held (drop 1 words) has (entered_fault (built mcv_app) stop) none in
+    entered_legs stop (stops (drop 1 words) (walk_from nothing_held) tt free.0) (wanted has (finished top.rules (walk top.rules names nothing_held (drop 1 words)).held) free.1)

@@ -1,0 +1,59 @@
+-- What the words of a command line ask for. The words are those of the shell, the program's name
+-- first; how they are read is clap's: `fault_of` lists the kinds of fault that it finds with words,
+-- and `subcommand_of` the subcommand that they name.
+use Rattle.std.specs.Prelude.{◌≡◌, ◌≢◌, ⊤, ℕ, true, List, [], Option, Some, codes}
+use Rattle.clap.specs.Words.{App, IsAmong, Kinds, Row, Text, fault_of, new_app, subcommand_of, with_subcommand}
+use Rattle.clap.specs.declared.error.kind.ErrorKind.{ErrorKind}
+use Rattle.clap.specs.declared.error.kind.ErrorKind.TheVariants.{DisplayHelp, OutOfMemory}
+use Rattle.mcv_cli.specs.declared.words.Job.{Job}
+use Rattle.mcv_cli.specs.declared.words.Job.TheVariants.{Legs}
+use Rattle.mcv_cli.specs.declared.words.LineFault.{LineFault}
+use Rattle.mcv_cli.specs.declared.words.LineFault.TheVariants.{BadLine, Memory, Help}
+
+-- ---- the commands
+
+abbrev pub legs_app : App
+legs_app = new_app (codes "legs")
+
+-- a command that wants one of its subcommands
+abbrev pub wanting_a_command : App → App
+wanting_a_command app = record app { top = record app.top { subcommand_required = true } }
+
+-- `mcv legs`
+abbrev pub mcv_app : App
+mcv_app = with_subcommand (wanting_a_command (new_app (codes "mcv"))) legs_app.top
+
+-- ---- what words ask for
+
+-- the faults that clap finds with the words: none where it takes them
+abbrev pub faults : List Text → Kinds
+faults words = fault_of mcv_app words
+
+-- the command that the words name, with the values of its options
+abbrev pub named : List Text → Option (Text × List Row)
+named words = subcommand_of mcv_app words
+
+abbrev pub NamesLegs : List Text → Type 0
+NamesLegs words = (rows : List Row) × (named words ≡ Some (codes "legs", rows))
+
+-- clap takes the words, and they name the job's command
+abbrev pub IsJobOf : List Text → Job → Type 0
+IsJobOf words Legs = (faults words ≡ []) × NamesLegs words
+
+-- why words ask for no job: clap finds a fault with them that isn't the wish for help; memory ran
+-- out; they ask for help
+abbrev pub IsLineFault : List Text → LineFault → Type 0
+IsLineFault words BadLine = (kind : ErrorKind) × (kind ≢ DisplayHelp) × IsAmong kind (faults words)
+IsLineFault words Memory = ⊤
+IsLineFault words (Help text) = IsAmong DisplayHelp (faults words)
+
+-- which fault clap's kind of error is
+abbrev pub IsFaultOfKind : ErrorKind → LineFault → Type 0
+IsFaultOfKind kind BadLine = (kind ≢ OutOfMemory) × (kind ≢ DisplayHelp)
+IsFaultOfKind kind Memory = ⊤
+IsFaultOfKind kind (Help text) = kind ≡ DisplayHelp
+
+abbrev pub line_fault_number : LineFault → ℕ
+line_fault_number BadLine = 1
+line_fault_number Memory = 2
+line_fault_number (Help text) = 3

@@ -1,0 +1,50 @@
+//! The program `mcv`: the words of the command line decide the work, standard input is read, and
+//! standard output is written.
+#![tactic(auto)]
+
+mod program;
+mod stop;
+mod words;
+
+use crate::program::run_words;
+use crate::stop::Stop;
+use mcv_legs::RunFault;
+use std::process::ExitCode;
+use std::rt::Env;
+use std::{env, io};
+
+fn main(rt: HostRuntime) -> ExitCode {
+    match run(&rt) {
+        Ok(()) => ExitCode::SUCCESS,
+        Err(stop) => {
+            let _ = eprintln!(rt; "{stop}");
+            ExitCode::from(stop.status())
+        }
+    }
+}
+
+/// The words of the command line, of which the first is the program's name.
+fn given_words<R: Env + AllocGlobal>(rt: &R) -> Result<Vec<String>, Stop> {
+    match env::args(rt) {
+        Ok(words) => Ok(words.collect(rt.alloc())?),
+        Err(error) if error.kind() == io::ErrorKind::OutOfMemory => {
+            Err(Stop::Run(RunFault::Memory))
+        }
+        Err(_) => Err(Stop::BadLine),
+    }
+}
+
+fn run<R: Env + AllocGlobal + Input + Print>(rt: &R) -> Result<(), Stop> {
+    let alloc = rt.alloc();
+    let words = given_words(rt)?;
+    let texts: Vec<&str> = words.iter().map(|word| word.as_str()).collect(alloc)?;
+    run_words(
+        alloc,
+        texts.as_slice(),
+        &mut rt.reader(),
+        &mut io::writer(rt),
+    )
+}
+
+#[cfg(test)]
+mod tests;

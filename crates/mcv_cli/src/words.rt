@@ -1,0 +1,138 @@
+//! The command line: its commands, as clap reads them, and their help. What words ask for is
+//! `IsJobOf`, and why they ask for nothing `IsLineFault`.
+
+ghost use Rattle.std.specs.Prelude.{◌≡◌, false, IfOk, IfErr, map};
+ghost use Rattle.clap.specs.Words.{app_of, kind_of};
+ghost use Rattle.clap.specs.declared.builder.command.Command.TheViews.{out-Command as fields_of};
+ghost use Rattle.mcv_cli.specs.Words.{mcv_app, legs_app, line_fault_number, IsFaultOfKind, IsJobOf, IsLineFault};
+ghost use Rattle.mcv_cli.specs.declared.words.LineFault.TheVariants.{Memory as out_of_memory};
+
+use clap::error::ErrorKind;
+use clap::{Command, Error as ClapError};
+use std::alloc::{AllocError, Global};
+use thiserror::Error;
+
+const ABOUT: &str =
+    "Verifies configurations of mcrouter, the routing proxy for memcached: `legs` shows to which
+servers a configuration sends a request.";
+
+const EXAMPLE: &str = "Example: a delete of the key `a`, and behind it the configuration
+
+  mcv legs <<'END'
+  delete a
+  {\"pools\": {\"A\": {\"servers\": [\"a:11211\"]}}, \"route\": \"PoolRoute|A\"}
+  END
+
+Exit status:
+  0  done, or help was asked for
+  1  bad command line, or bad request line
+  2  the configuration is refused, or has no route for the key
+  4  out of memory, or reading or writing failed";
+
+const LEGS_ABOUT: &str = "Shows to which servers a request is sent, and what is replied by then";
+
+const LEGS_FORM: &str =
+    "The first line of standard input is the request, an operation and a key. What follows is the
+configuration, as JSON:
+
+  delete a
+  {\"pools\": {\"A\": {\"servers\": [\"a:11211\"]}}, \"route\": \"PoolRoute|A\"}
+
+Each line of standard output is a leg: its place in the route (`-` is the top, `0.1` the second
+child of the first), the server, and its mark. The last line is the reply to the client before
+any server has answered, `none` while that waits for a leg:
+
+  leg - a:11211 plain
+  reply none";
+
+/// What the program is asked to do.
+#[derive(Clone, Copy, Debug, PartialEq, Eq)]
+pub enum Job {
+    /// To show the legs of a request.
+    Legs,
+}
+
+/// Why there is nothing to do.
+#[derive(Debug, Drop, Error)]
+pub enum LineFault {
+    #[error("bad command line")]
+    BadLine,
+    #[error("out of memory")]
+    Memory,
+    /// Help was asked for: its text.
+    #[error("{0}")]
+    Help(String),
+}
+
+impl LineFault {
+    /// The number of the fault, from 1.
+    pub fn number(&self) -> u8
+        ensures { result ≡ line_fault_number self.now }
+    {
+        match self {
+            LineFault::BadLine => 1,
+            LineFault::Memory => 2,
+            LineFault::Help(_) => 3,
+        }
+    }
+}
+
+impl From<AllocError> for LineFault {
+    ghost from_gives = { λ _ e. e ≡ out_of_memory };
+
+    fn from(_error: AllocError) -> LineFault {
+        LineFault::Memory
+    }
+}
+
+fn legs_command<'a>(alloc: Global) -> Command<'a>
+    ensures app { app_of result ≡ legs_app }
+    ensures local { (fields_of result).has_globals ≡ false }
+{
+    Command::new(alloc, "legs")
+        .about(LEGS_ABOUT)
+        .override_usage("mcv legs < FILE")
+        .after_help(LEGS_FORM)
+}
+
+fn command<'a>(alloc: Global) -> Result<Command<'a>, AllocError>
+    ensures { IfOk result (λ c. app_of c ≡ mcv_app) }
+{
+    let legs = legs_command(alloc);
+    Command::new(alloc, "mcv")
+        .about(ABOUT)
+        .after_help(EXAMPLE)
+        .subcommand_required(true)
+        .bin_name("mcv")?
+        .subcommand(legs)
+}
+
+/// What clap's error says of the words.
+fn line_fault(alloc: Global, error: &ClapError) -> LineFault
+    ensures { IsFaultOfKind (kind_of error.now) result }
+{
+    match error.kind() {
+        ErrorKind::OutOfMemory => LineFault::Memory,
+        ErrorKind::DisplayHelp => match format!(in alloc; "{error}") {
+            Ok(text) => LineFault::Help(text),
+            Err(_) => LineFault::Memory,
+        },
+        _ => LineFault::BadLine,
+    }
+}
+
+/// Reads the words of a command line, of which the first is the program's name.
+pub fn read_words<'a>(alloc: Global, words: &'a [&'a str]) -> Result<Job, LineFault>
+    ensures job { IfOk result (IsJobOf (map (λ w. w.now) words.entry.now)) }
+    ensures fault { IfErr result (IsLineFault (map (λ w. w.now) words.entry.now)) }
+{
+    let command = command(alloc)?;
+    let matches = match command.try_get_matches_from(words) {
+        Ok(matches) => matches,
+        Err(error) => return Err(line_fault(alloc, &error)),
+    };
+    match matches.subcommand_matches("legs") {
+        Some(_) => Ok(Job::Legs),
+        None => Err(LineFault::BadLine),
+    }
+}

@@ -1,0 +1,12 @@
+pub mod Faults
+pub mod Levels
+pub mod Turns
+pub mod Lists
+pub mod Colon
+pub mod Operations
+pub mod Noted
+pub mod Holds
+pub mod SoundRoutes
+pub mod SoundPools
+pub mod Sound
+mod Examples

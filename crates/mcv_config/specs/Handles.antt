@@ -1,0 +1,128 @@
+-- The names of handles, keys and operations (mcrouter wiki, List of Route Handles; what is left out is own).
+use Rattle.std.specs.Prelude.{ℕ, Bool, true, false, ◌==◌, ◌||◌, List, [], ◌∷◌, ⊤, Option, Some, None, Result, Ok, Err, if◌then◌else◌, slice_index, codes, bytes_eq}
+use Rattle.serde_json.specs.Data.{Members, no_members, member}
+use Rattle.mcv_base.specs.declared.operation.Op.{Op}
+use Rattle.mcv_base.specs.declared.operation.Op.TheVariants.{Get, Gets, Set, Add, Replace, Append, Prepend, Cas, Delete, Touch}
+use Rattle.mcv_base.specs.Operation.{op_name}
+use Rattle.mcv_config.specs.declared.fault.FaultKind.{FaultKind}
+use Rattle.mcv_config.specs.declared.fault.FaultKind.TheVariants.{UnknownKey, UnknownHandle, LeftOut}
+use Rattle.mcv_config.specs.declared.handle.Many.TheVariants as many_handles
+use Rattle.mcv_config.specs.declared.handle.Handle.{Handle}
+use Rattle.mcv_config.specs.declared.handle.Handle.TheVariants as handles
+use Rattle.mcv_config.specs.declared.handle.Object.{Object}
+use Rattle.mcv_config.specs.declared.handle.Object.TheVariants as objects
+use Rattle.mcv_config.specs.Fault.{Read, good, refused, also}
+use Rattle.mcv_config.specs.Path.{key_step}
+
+abbrev pub is_listed : List ℕ → List (List ℕ) → Bool
+is_listed name [] = false
+is_listed name (n ∷ ns) = if bytes_eq name n then true else is_listed name ns
+
+-- ---- handles
+
+-- handles of mcrouter's that mcv will read, and doesn't yet
+abbrev pub later_handles : List (List ℕ)
+later_handles =
+    codes "ErrorRoute" ∷ codes "AllInitialRoute" ∷ codes "AllAsyncRoute" ∷ codes "FailoverRoute" ∷ codes "MissFailoverRoute"
+    ∷ codes "WarmUpRoute" ∷ codes "MigrateRoute" ∷ codes "PrefixSelectorRoute" ∷ []
+
+-- handles of mcrouter's that mcv leaves out (mcrouter wiki, List of Route Handles)
+abbrev pub left_out_handles : List (List ℕ)
+left_out_handles =
+    codes "RandomRoute" ∷ codes "LatestRoute" ∷ codes "AllFastestRoute" ∷ codes "AllMajorityRoute" ∷ codes "FailoverWithExptimeRoute"
+    ∷ codes "HostIdRoute" ∷ codes "ModifyKeyRoute" ∷ codes "ModifyExptimeRoute" ∷ codes "RateLimitRoute" ∷ codes "OutstandingLimitRoute"
+    ∷ codes "LoggingRoute" ∷ codes "DevNullRoute" ∷ codes "HashRoute" ∷ []
+
+-- what a handle is called, or why there is none of that name
+unfoldable pub handle_named : List ℕ → Result Handle FaultKind
+handle_named name =
+    if bytes_eq name (codes "PoolRoute") then Ok handles.Pool else
+    (if bytes_eq name (codes "NullRoute") then Ok handles.Null else
+    (if bytes_eq name (codes "AllSyncRoute") then Ok (handles.Many many_handles.AllSync) else
+    (if bytes_eq name (codes "OperationSelectorRoute") then Ok handles.OperationSelector else
+    (if is_listed name later_handles then Err LeftOut else
+    (if is_listed name left_out_handles then Err LeftOut else Err UnknownHandle)))))
+
+-- ---- keys
+
+-- the keys of each object
+abbrev pub keys : Object → List (List ℕ)
+keys objects.Root = codes "pools" ∷ codes "route" ∷ []
+keys objects.Pool = codes "servers" ∷ codes "name" ∷ []
+keys (objects.Handle handles.Pool) = codes "type" ∷ codes "pool" ∷ []
+keys (objects.Handle handles.Null) = codes "type" ∷ []
+keys (objects.Handle (handles.Many many)) = codes "type" ∷ codes "children" ∷ []
+keys (objects.Handle handles.OperationSelector) = codes "type" ∷ codes "operation_policies" ∷ codes "default_policy" ∷ []
+
+-- keys of mcrouter's that are left out in every object
+abbrev pub left_out_keys : List (List ℕ)
+left_out_keys =
+    codes "macros" ∷ codes "named_handles" ∷ codes "key_fraction_range" ∷ codes "weights" ∷ codes "rates"
+    ∷ codes "failover_errors" ∷ codes "keep_routing_prefix" ∷ []
+
+-- keys of mcrouter's that are left out in this object
+abbrev pub left_out_here : Object → List (List ℕ)
+left_out_here objects.Root = codes "routes" ∷ []
+left_out_here objects.Pool = []
+left_out_here (objects.Handle handles.Pool) = codes "name" ∷ codes "hash" ∷ codes "shadows" ∷ []
+left_out_here (objects.Handle handles.Null) = codes "name" ∷ []
+left_out_here (objects.Handle (handles.Many many)) = codes "name" ∷ []
+left_out_here (objects.Handle handles.OperationSelector) = codes "name" ∷ []
+
+-- the fault of a key of an object, if it is one
+unfoldable pub key_fault : Object → List ℕ → Option FaultKind
+key_fault object key =
+    if is_listed key left_out_keys then Some LeftOut else
+    (if is_listed key (keys object) then None else
+    (if is_listed key (left_out_here object) then Some LeftOut else Some UnknownKey))
+
+-- the keys of all handles of mcv's
+abbrev pub handle_keys : List (List ℕ)
+handle_keys =
+    codes "type" ∷ codes "pool" ∷ codes "hash" ∷ codes "shadows" ∷ codes "children" ∷ codes "cold" ∷ codes "warm" ∷ codes "exptime"
+    ∷ codes "from" ∷ codes "to" ∷ codes "start_time" ∷ codes "interval" ∷ codes "policies" ∷ codes "wildcard"
+    ∷ codes "operation_policies" ∷ codes "default_policy" ∷ []
+
+-- the fault of a key that no handle has
+unfoldable pub stray_fault : List ℕ → Option FaultKind
+stray_fault key =
+    if is_listed key left_out_keys then Some LeftOut else
+    (if is_listed key handle_keys then None else
+    (if bytes_eq key (codes "name") then Some LeftOut else Some UnknownKey))
+
+abbrev pub key_read : Option FaultKind → List ℕ → Read ⊤
+key_read None path = good tt
+key_read (Some kind) path = refused kind path
+
+-- each key passes
+unfoldable pub keys_read : (List ℕ → Option FaultKind) → List ℕ → Members → Read ⊤
+keys_read fault path no_members = good tt
+keys_read fault path (member key d ms) = also (key_read (fault key) (key_step path key)) (keys_read fault path ms)
+
+-- ---- operations
+
+-- the first of these with this name
+abbrev pub op_among : List Op → List ℕ → Option Op
+op_among [] name = None
+op_among (op ∷ ops) name = if bytes_eq (op_name op) name then Some op else op_among ops name
+
+unfoldable pub op_named : List ℕ → Option Op
+op_named = op_among (Get ∷ Gets ∷ Set ∷ Add ∷ Replace ∷ Append ∷ Prepend ∷ Cas ∷ Delete ∷ Touch ∷ [])
+
+-- operations of mcrouter's that no request here has
+abbrev pub other_operations : List (List ℕ)
+other_operations = codes "incr" ∷ codes "decr" ∷ codes "lease-get" ∷ codes "lease-set" ∷ codes "metaget" ∷ []
+
+abbrev pub policy_of_op : Option Op → List ℕ → List ℕ → Read (Option Op)
+policy_of_op (Some op) path name = good (Some op)
+policy_of_op None path name = if is_listed name other_operations then good None else refused UnknownKey path
+
+-- the operation that a policy is for; None is a name that no request has
+unfoldable pub op_read : List ℕ → List ℕ → Read (Option Op)
+op_read path name = policy_of_op (op_named name) path name
+
+-- ---- texts that stand for what lies elsewhere
+
+-- imports begin with `@`, macros with `%` (mcrouter wiki, JSON macros and imports)
+unfoldable pub is_elsewhere : List ℕ → Bool
+is_elsewhere text = slice_index text 0 == 64 || slice_index text 0 == 37

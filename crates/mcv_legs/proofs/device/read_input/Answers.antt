@@ -1,0 +1,10 @@
+use Rattle.std.proofs.Common.{ap}
+use Rattle.mcv_legs.specs.Limits.{input_limit}
+use Rattle.mcv_legs.proofs.Limits.{limited_first}
+use Rattle.mcv_legs.proofs.device.read_input.Goals as goal
+
+pub returns-in-Ok-clause-read : goal.returns-in-Ok-clause-read
+returns-in-Ok-clause-read g c =
+    limited_first (λ r. g.R.Read.remaining r.now) c.take-limited.result (g.R.Read.remaining c.args.reader.now) input_limit c.new-input.result.items
+    c.read_to_end.new.buf.items c.take-limited.ensures.limit (ap (λ r. g.R.Read.remaining r.now) c.take-limited.ensures.inner) c.new-input.ensures.items
+    c.in-Ok.ensures.bytes

@@ -1,0 +1,60 @@
+use Rattle.std.proofs.Common.{◌≡◌, ◌∙◌, ◌<◌, List, ℕ, length, option_map, sym, ap, subst}
+use Rattle.std.proofs.lemmas.Result.{err_from_is_err_and}
+use Rattle.mcv_config.specs.Config.{size_limit}
+use Rattle.mcv_legs.specs.Fault.{IsTooLong}
+use Rattle.mcv_route.specs.Built.{routes_named}
+use Rattle.mcv_route.specs.Routes.{RoutesValue}
+use Rattle.mcv_route.specs.View.{view}
+use Rattle.mcv_legs.specs.Answer.{entry_for, shipped_choice, situation_at, text_of}
+use Rattle.mcv_legs.proofs.Lines.{one_request}
+use Rattle.mcv_legs.proofs.Told.{not_long, text_is_told, the_entry}
+use Rattle.mcv_legs.proofs.legs.answer_text.Goals as goal
+
+pub returns-in_err-routes-clause-large : goal.returns-in_err-routes-clause-large
+returns-in_err-routes-clause-large c = λ op prefix rest configuration asks long.
+    let asked = c.in-Some.asked in
+    let same = one_request c.args.input.now asked.op op asked.prefix asked.rest asked.configuration.now prefix rest configuration c.in-Some.ensures asks in
+    let longer : size_limit < length asked.configuration.now = subst (λ (xs : List ℕ). size_limit < length xs) (sym same.3) long in
+    let fault = c.in_err-routes.ensures.large longer in
+    let gone = err_from_is_err_and c.from_residual.result c.from_residual.ensures.1 in
+    rw (gone.1) (subst IsTooLong (sym gone.2) fault)
+
+pub returns-in_default-route_for-clause-large : goal.returns-in_default-route_for-clause-large
+returns-in_default-route_for-clause-large c = λ op prefix rest configuration asks long.
+    not_long c.args.input.now c.in-Some.asked.op op c.in-Some.asked.prefix c.in-Some.asked.rest c.in-Some.asked.configuration.now prefix rest configuration c.in-Some.ensures asks
+    c.in_ok-routes.ensures.named.1.0 long
+
+pub returns-in_err-legs-clause-large : goal.returns-in_err-legs-clause-large
+returns-in_err-legs-clause-large c = λ op prefix rest configuration asks long.
+    absurd (not_long c.args.input.now c.in-Some.asked.op op c.in-Some.asked.prefix c.in-Some.asked.rest c.in-Some.asked.configuration.now prefix rest configuration c.in-Some.ensures asks
+    c.in_ok-routes.ensures.named.1.0 long)
+
+pub returns-in_err-legs_text-clause-large : goal.returns-in_err-legs_text-clause-large
+returns-in_err-legs_text-clause-large c = λ op prefix rest configuration asks long.
+    absurd (not_long c.args.input.now c.in-Some.asked.op op c.in-Some.asked.prefix c.in-Some.asked.rest c.in-Some.asked.configuration.now prefix rest configuration c.in-Some.ensures asks
+    c.in_ok-routes.ensures.named.1.0 long)
+
+pub returns-clause-ok : goal.returns-clause-ok
+returns-clause-ok c =
+    let asked = c.in-Some.asked in
+    let named = c.in_ok-routes.ensures.named in
+    let found = the_entry (entry_for asked.prefix c.in_ok-routes.routes) (view c.in-Some-route_for.route.now) c.in-Some-route_for.ensures in
+    let told =
+    text_is_told c.in_ok-legs_text.field-0.items c.servers.result.now c.as_slice.result.now c.outcome-reply.result c.in_ok-eval.eval c.in_ok-routes.routes found.0
+    c.args.moment.0 asked.op asked.rest (view c.in-Some-route_for.route.now) (option_map (λ m. m.0) c.since-since.result) c.in_ok-choice.choice c.symbols.result.now c.hashed_part.result.now
+    c.in_ok-legs_text.ensures c.servers.ensures.value (c.as_slice.ensures.value ∙ c.in_ok-legs.ensures) (c.outcome-reply.ensures ∙ c.status.ensures.outcome)
+    c.in_ok-eval.ensures found.2 c.since-since.ensures c.in_ok-choice.ensures c.symbols.ensures.value c.hashed_part.ensures in
+    let plan = named.0 in
+    let is : c.in_ok-routes.routes ≡ routes_named plan = named.2 in
+    record {
+      op = asked.op;
+      prefix = asked.prefix;
+      rest = asked.rest;
+      configuration = asked.configuration.now;
+      asks = c.in-Some.ensures;
+      plan = plan;
+      names = named.1;
+      entry = found.0;
+      selected = ap (entry_for asked.prefix) (sym is) ∙ found.1;
+      is = told ∙ ap (λ (r : RoutesValue). text_of found.0 r (situation_at c.args.moment.0 r asked.op asked.rest) (shipped_choice r asked.rest)) is;
+    }

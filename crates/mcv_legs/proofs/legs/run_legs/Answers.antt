@@ -1,0 +1,32 @@
+use Rattle.std.proofs.Common.{◌≡◌, ◌∙◌, List, ℕ, take, sym, subst, IfSome}
+use Rattle.std.proofs.lemmas.Option.{IfSome_then}
+use Rattle.std.proofs.lemmas.Result.{IfOk-weaker, err_from_is_err_and}
+use Rattle.mcv_legs.specs.Answer.{IsAnswer}
+use Rattle.mcv_legs.specs.Fault.{IsRunFault}
+use Rattle.mcv_legs.specs.Request.{Asks}
+use Rattle.mcv_legs.specs.Limits.{input_limit}
+use Rattle.mcv_legs.proofs.Limits.{answer_of_all, fault_of_all}
+use Rattle.mcv_legs.proofs.legs.run_legs.Goals as goal
+
+pub returns-clause-ok : goal.returns-clause-ok
+returns-clause-ok g c =
+    IfOk-weaker c.write_text.result _ _ (λ x wrote. (
+      c.as_slice-2.result.now,
+      IfSome_then (g.R.Read.remaining c.args.reader.now) c.in_ok-input.ensures.read (λ bytes is.
+          answer_of_all c.args.moment.0 bytes c.as_slice-2.result.now
+          (subst (λ (input : List ℕ). IsAnswer c.args.moment.0 input c.as_slice-2.result.now) (c.as_slice.ensures.value ∙ is)
+          (subst (λ (text : List ℕ). IsAnswer c.args.moment.0 c.as_slice.result.now text) (sym c.as_slice-2.ensures.value) c.in_ok-text.ensures.ok))),
+      wrote,
+    )) c.write_text.ensures.written
+
+pub returns-in_err-text-clause-fault : goal.returns-in_err-text-clause-fault
+returns-in_err-text-clause-fault g c =
+    let gone = err_from_is_err_and c.from_residual-in_err-text.result c.from_residual-in_err-text.ensures.1 in
+    let fault = c.in_err-text.field-0.0 in
+    rw (gone.1)
+    (subst (λ f. IfSome (g.R.Read.remaining c.args.reader.now) (λ input. IsRunFault input f)) (sym gone.2)
+    (IfSome_then (g.R.Read.remaining c.args.reader.now) c.in_ok-input.ensures.read (λ bytes is.
+    let read : c.as_slice.result.now ≡ take input_limit bytes = c.as_slice.ensures.value ∙ is in
+    fault_of_all bytes fault (subst (λ (input : List ℕ). IsRunFault input fault) read c.in_err-text.ensures.fault)
+    (λ op prefix rest configuration asks.
+    c.in_err-text.ensures.large op prefix rest configuration (subst (λ (input : List ℕ). Asks input op prefix rest configuration) (sym read) asks)))))

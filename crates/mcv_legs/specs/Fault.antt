@@ -1,0 +1,78 @@
+-- Which fault of a run stands in an input, the numbers of the faults, and the exit statuses of the program (own).
+use Rattle.std.specs.Prelude.{◌≡◌, ℕ, List, ⊤, codes, string_bytes}
+use Rattle.mcv_base.specs.declared.operation.Op.{Op}
+use Rattle.mcv_config.specs.declared.fault.ConfigFault.{ConfigFault}
+use Rattle.mcv_config.specs.declared.fault.ConfigFault.TheVariants as config_faults
+use Rattle.mcv_config.specs.declared.fault.FaultKind.TheVariants.{Limit}
+use Rattle.mcv_config.specs.Config.{Faulty}
+use Rattle.mcv_legs.specs.declared.fault.RunFault.{RunFault}
+use Rattle.mcv_legs.specs.declared.fault.RunFault.TheVariants.{Line, NoRoute, Config, Memory, Device}
+use Rattle.mcv_legs.specs.Request.{Asks, IsNoRequest}
+use Rattle.mcv_legs.specs.Answer.{IsWithoutRoute}
+
+abbrev pub run_fault_number : RunFault → ℕ
+run_fault_number Line = 1
+run_fault_number NoRoute = 2
+run_fault_number (Config fault) = 3
+run_fault_number Memory = 6
+run_fault_number Device = 7
+
+-- 1: the request is at fault, 2: the configuration, 4: what the program stands on
+abbrev pub run_fault_status : RunFault → ℕ
+run_fault_status Line = 1
+run_fault_status NoRoute = 2
+run_fault_status (Config fault) = 2
+run_fault_status Memory = 4
+run_fault_status Device = 4
+
+-- want of memory is no fault of a configuration
+abbrev pub of_configuration : ConfigFault → RunFault
+of_configuration config_faults.Memory = Memory
+of_configuration (config_faults.At kind path) = Config (config_faults.At kind path)
+
+-- the fault stands in the text of a configuration
+abbrev pub IsConfigFault : List ℕ → ConfigFault → Type 0
+IsConfigFault text config_faults.Memory = ⊥
+IsConfigFault text (config_faults.At kind path) = Faulty text (record { kind = kind; path = string_bytes path })
+
+-- the input asks, and the fault stands in its configuration
+pub record IsMisconfigured (input : List ℕ) (fault : ConfigFault) : Type 0 where
+  pub op : Op
+  pub prefix : List ℕ
+  pub rest : List ℕ
+  pub configuration : List ℕ
+  pub asks : Asks input op prefix rest configuration
+  pub faulty : IsConfigFault configuration fault
+
+-- the fault stands in the input; want of memory and the failure of a device can come at any
+abbrev pub IsRunFault : List ℕ → RunFault → Type 0
+IsRunFault input Line = IsNoRequest input
+IsRunFault input NoRoute = IsWithoutRoute input
+IsRunFault input (Config fault) = IsMisconfigured input fault
+IsRunFault input Memory = ⊤
+IsRunFault input Device = ⊤
+
+-- memory ran out, or the reader or the writer failed
+abbrev pub IsOutside : RunFault → Type 0
+IsOutside Line = ⊥
+IsOutside NoRoute = ⊥
+IsOutside (Config fault) = ⊥
+IsOutside Memory = ⊤
+IsOutside Device = ⊤
+
+-- memory ran out, or the fault stands in the text
+abbrev pub IsRefusal : List ℕ → RunFault → Type 0
+IsRefusal text Line = ⊥
+IsRefusal text NoRoute = ⊥
+IsRefusal text (Config fault) = IsConfigFault text fault
+IsRefusal text Memory = ⊤
+IsRefusal text Device = ⊥
+
+-- memory ran out, or the text is too long
+abbrev pub IsTooLong : RunFault → Type 0
+IsTooLong Line = ⊥
+IsTooLong NoRoute = ⊥
+IsTooLong (Config config_faults.Memory) = ⊥
+IsTooLong (Config (config_faults.At kind path)) = (kind ≡ Limit) × (string_bytes path ≡ codes ".")
+IsTooLong Memory = ⊤
+IsTooLong Device = ⊥

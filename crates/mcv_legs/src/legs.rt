@@ -1,0 +1,100 @@
+//! The path from the bytes read to the bytes written.
+
+ghost use Rattle.std.specs.Prelude.{◌≡◌, ◌≢◌, ◌<◌, ℕ, List, length, find, option_map, IfSome, IfOk, IfErr, OnOk};
+ghost use Rattle.std.specs.Io.KnownBytes.{Appends};
+ghost use Rattle.mcv_config.specs.Config.{Names, size_limit};
+ghost use Rattle.mcv_config.specs.Plan.{Plan};
+ghost use Rattle.mcv_route.specs.Built.{routes_named};
+ghost use Rattle.mcv_route.specs.View.{view};
+ghost use Rattle.mcv_base.specs.declared.operation.Op.{Op};
+ghost use Rattle.mcv_legs.specs.Answer.{IsAnswer, entry_for};
+ghost use Rattle.mcv_legs.specs.Fault.{IsRefusal, IsRunFault, IsTooLong};
+ghost use Rattle.mcv_legs.specs.Request.{Asks};
+
+use crate::device::{CONFIGURATION_LIMIT, read_input, write_text};
+use crate::fault::RunFault;
+use crate::request::read_request;
+use crate::text::legs_text;
+use mcv_base::{Moment, Prefix, hashed_part};
+use mcv_config::{ConfigFault, FaultKind, read_config};
+use mcv_pools::{Fnv, choose};
+use mcv_route::{Route, Routes};
+use mcv_rules::Eval;
+use std::alloc::Global;
+use std::io::{Read, Write};
+
+/// Reads a request line and a configuration, and writes the legs that the request sends at the
+/// moment before any outcome, and the reply that there is by then. The line is judged first, then
+/// the configuration, then whether it has a route. Where that is a fault, nothing is written. The
+/// reader may be left with bytes, since no more is read than can matter.
+pub fn run_legs<R: Read, W: Write>(
+    alloc: Global,
+    reader: &mut R,
+    writer: &mut W,
+    moment: Moment,
+) -> Result<(), RunFault>
+    ensures ok { OnOk result ((text : List ℕ) × IfSome (R.remaining reader.old) (λ input. IsAnswer moment.0 input text)
+        × Appends (W.contents writer.old) (W.contents writer.new) text) }
+    ensures fault { IfErr result (λ fault. IfSome (R.remaining reader.old) (λ input. IsRunFault input fault)) }
+    ensures silent { IfErr result (λ fault. fault ≢ RunFault.Device → W.contents writer.new ≡ W.contents writer.old) }
+{
+    let input = read_input(alloc, reader)?;
+    let text = answer_text(alloc, input.as_slice(), moment)?;
+    write_text(writer, text.as_slice())
+}
+
+/// The text that answers an input.
+fn answer_text(alloc: Global, input: &[u8], moment: Moment) -> Result<Vec<u8>, RunFault>
+    ensures ok { IfOk result (λ text. IsAnswer moment.0 input.now text.items) }
+    ensures fault { IfErr result (λ fault. IsRunFault input.now fault) }
+    ensures large { (op : Op) (prefix rest configuration : List ℕ) → Asks input.now op prefix rest configuration → size_limit < length configuration
+        → IfErr result IsTooLong }
+{
+    let Some(asked) = read_request(input) else {
+        return Err(RunFault::Line);
+    };
+    let routes = read_routes(alloc, asked.configuration)?;
+    let Some(route) = route_for(&routes, &asked.prefix) else {
+        return Err(RunFault::NoRoute);
+    };
+    let choice = choose(alloc, &Fnv, routes.symbols(), hashed_part(&asked.rest))?;
+    let since = routes.since(moment);
+    let eval = Eval::new(alloc, route, asked.op, &asked.rest, since, &choice)?;
+    let legs = eval.launched(alloc, &[])?;
+    let reply = eval.status(&[]).outcome(&[]);
+    Ok(legs_text(alloc, routes.servers(), legs.as_slice(), reply)?)
+}
+
+/// The fault of a configuration that is longer than any may be.
+fn too_long(alloc: Global) -> RunFault
+    ensures { IsTooLong result }
+{
+    match String::from_str(alloc, ".") {
+        Ok(path) => RunFault::Config(ConfigFault::At {
+            kind: FaultKind::Limit,
+            path,
+        }),
+        Err(_) => RunFault::Memory,
+    }
+}
+
+/// The routes that a configuration names. One that is too long may have been cut by the reader, so nothing else of it
+/// is judged.
+fn read_routes(alloc: Global, configuration: &[u8]) -> Result<Routes, RunFault>
+    ensures named { IfOk result (λ routes. (plan : Plan) × Names configuration.now plan × (routes ≡ routes_named plan)) }
+    ensures fault { IfErr result (λ fault. IsRefusal configuration.now fault) }
+    ensures large { size_limit < length configuration.now → IfErr result IsTooLong }
+{
+    if configuration.len() > CONFIGURATION_LIMIT {
+        return Err(too_long(alloc));
+    }
+    let config = read_config(alloc, configuration)?;
+    Ok(Routes::build(alloc, config)?)
+}
+
+/// The first route that has the prefix among its aliases.
+fn route_for<'a>(routes: &'a Routes, prefix: &Prefix) -> Option<&'a Route>
+    ensures { option_map (λ route. view route.now) result ≡ option_map (λ entry. entry.tree) (entry_for prefix.now routes.now) }
+{
+    routes.route(routes.route_of(prefix)?)
+}

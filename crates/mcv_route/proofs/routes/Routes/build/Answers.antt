@@ -1,0 +1,24 @@
+use Rattle.std.proofs.Common.{◌≡◌, map, refl, ap, sym, subst, ◌∙◌}
+use Rattle.mcv_config.specs.Plan.{plan_of}
+use Rattle.mcv_route.specs.Built.{routes_named}
+use Rattle.mcv_route.specs.Routes.{IsSoundRoutes, RoutesValue}
+use Rattle.mcv_route.specs.Walk.{IsBuilt, list_view}
+use Rattle.mcv_route.proofs.Soundness.{sound-built}
+use Rattle.mcv_route.proofs.Whole.{sound-entries, routes-are}
+use Rattle.mcv_route.proofs.routes.Routes.build.Goals as goal
+
+pub build_entries-requires-clause-sound : goal.build_entries-requires-clause-sound
+build_entries-requires-clause-sound c =
+    sound-entries c.args.config (map list_view c.as_slice.result.now) (ap (map list_view) c.as_slice.ensures.value ∙ c.in_ok-lists.ensures) c.requires
+
+pub invariant_of-result : goal.invariant_of-result
+invariant_of-result c =
+    let pools = map list_view c.as_slice.result.now in
+    let is = routes-are c.args.config pools c.build_entries.new.symbols c.in_ok-entries.entries.items (ap (map list_view) c.as_slice.ensures.value ∙ c.in_ok-lists.ensures) c.in_ok-entries.ensures.aliases
+    (rw (← c.new-symbols.ensures) c.in_ok-entries.ensures.routes) in
+    subst IsSoundRoutes (sym is) (sound-built (plan_of c.args.config) c.requires)
+
+pub returns : goal.returns
+returns c =
+    routes-are c.args.config (map list_view c.as_slice.result.now) c.build_entries.new.symbols c.in_ok-entries.entries.items (ap (map list_view) c.as_slice.ensures.value ∙ c.in_ok-lists.ensures) c.in_ok-entries.ensures.aliases
+    (rw (← c.new-symbols.ensures) c.in_ok-entries.ensures.routes)

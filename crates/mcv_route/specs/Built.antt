@@ -1,0 +1,66 @@
+-- The routes that a plan names: each handle as a tree, and each symbol with its number (own).
+use Rattle.std.specs.Prelude.{ℕ, List, [], ◌∷◌, ◌++◌, length, map, unwrap_or, slice_index, slice_index_or}
+use Rattle.std.specs.List.{flat_map}
+use Rattle.mcv_pools.specs.declared.symbol.HashFunc.TheVariants.{Ch3}
+use Rattle.mcv_pools.specs.Symbol.{SymbolValue, same_symbol}
+use Rattle.mcv_pools.specs.Table.{number_in, numbered}
+use Rattle.mcv_config.specs.Plan.{Named, Nameds, Plan, no_named, named}
+use Rattle.mcv_config.specs.Plan as plan
+use Rattle.mcv_route.specs.Tree.{Tree, Trees, pool, null, all_sync, operation_selector, none, child}
+use Rattle.mcv_route.specs.Routes.{RouteEntry, RoutesValue}
+
+abbrev pub pool_at : List (List ℕ) → ℕ → List ℕ
+pool_at pools i = slice_index_or pools i []
+
+-- one server of a pool, as a pool of its own
+abbrev pub server_at : List (List ℕ) → ℕ → ℕ → List ℕ
+server_at pools i k = slice_index (pool_at pools i) k ∷ []
+
+-- the symbol of a pool that names no hash: ch3 with no salt, over all its servers (mcrouter wiki, PoolRoute)
+abbrev pub symbol_of : List ℕ → SymbolValue
+symbol_of servers = record { func = Ch3; salt = []; n = length servers }
+
+abbrev mutual
+  -- the symbols of a route in the order of the walk: a handle's own, and then those below it
+  pub symbols_in : List (List ℕ) → Named → List SymbolValue
+  symbols_in pools (plan.pool i) = symbol_of (pool_at pools i) ∷ []
+  symbols_in pools (plan.server i k) = symbol_of (server_at pools i k) ∷ []
+  symbols_in pools plan.null = []
+  symbols_in pools (plan.all_sync ts) = symbols_below pools ts
+  symbols_in pools (plan.operation_selector ops ts) = symbols_below pools ts
+
+  pub symbols_below : List (List ℕ) → Nameds → List SymbolValue
+  symbols_below pools no_named = []
+  symbols_below pools (named t ts) = symbols_in pools t ++ symbols_below pools ts
+
+-- a symbol's number is its place in the table
+abbrev pub number_of : List SymbolValue → SymbolValue → ℕ
+number_of symbols symbol = unwrap_or (number_in same_symbol symbols symbol) 0
+
+-- a PoolRoute to these servers
+abbrev pub pool_route : List SymbolValue → List ℕ → Tree
+pool_route symbols servers = pool (record { symbol = number_of symbols (symbol_of servers); servers = servers }) [] none
+
+abbrev mutual
+  -- a route as a tree, under the table of symbols
+  pub tree_named : List SymbolValue → List (List ℕ) → Named → Tree
+  tree_named symbols pools (plan.pool i) = pool_route symbols (pool_at pools i)
+  tree_named symbols pools (plan.server i k) = pool_route symbols (server_at pools i k)
+  tree_named symbols pools plan.null = null
+  tree_named symbols pools (plan.all_sync ts) = all_sync (trees_named symbols pools ts)
+  tree_named symbols pools (plan.operation_selector ops ts) = operation_selector ops (trees_named symbols pools ts)
+
+  pub trees_named : List SymbolValue → List (List ℕ) → Nameds → Trees
+  trees_named symbols pools no_named = none
+  trees_named symbols pools (named t ts) = child (tree_named symbols pools t) (trees_named symbols pools ts)
+
+-- the table of the symbols of all routes, numbered by first appearance in the walk of the routes in their order
+abbrev pub symbols_named : Plan → List SymbolValue
+symbols_named p = numbered same_symbol (flat_map (λ e. symbols_in p.pools e.route) p.entries)
+
+abbrev pub routes_named : Plan → RoutesValue
+routes_named p = record {
+  servers = p.servers;
+  symbols = symbols_named p;
+  entries = map (λ e. record { aliases = e.aliases; tree = tree_named (symbols_named p) p.pools e.route }) p.entries;
+}

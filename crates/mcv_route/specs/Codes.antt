@@ -1,0 +1,169 @@
+-- That a tree can be told from another, by which values that hold trees may stand in clauses. It says nothing of what a tree means.
+use Rattle.std.specs.Prelude.{◌≡◌, ℕ, ◌==◌, List, [], ◌∷◌, Option, if◌then◌else◌, refl}
+use Rattle.std.specs.Coded.{Coded, code_by, coded×, coded_ℕ, coded_list, coded_option}
+use base.Stored.{Gv, gnil, gnum, gcons}
+use Rattle.std.proofs.Common.{ap, subst, sym}
+use Rattle.mcv_base.specs.declared.operation.Op.{Op}
+use Rattle.mcv_base.specs.contracts.operation.Op.{the_row}
+use Rattle.mcv_pools.specs.Symbol.{SymbolValue}
+use Rattle.mcv_pools.specs.contracts.symbol.Symbol.{the_row as symbol_row}
+use Rattle.mcv_route.specs.Routes.{RouteEntry, RoutesValue}
+use Rattle.mcv_route.specs.Tree.{Pool, Range, Tree, Trees, pool, null, error, all_sync, all_initial, all_async, failover, miss_failover, warm_up, migrate, prefix_selector, operation_selector, none, child}
+
+-- what a handle is, but for its children
+pub record Label : Type 0 where
+  pub kind : ℕ
+  pub first : ℕ
+  pub second : ℕ
+  pub servers : List ℕ
+  pub ranges : List Range
+  pub prefixes : List (List ℕ)
+  pub operations : List (Option Op)
+
+mutual
+  pub data Node : Type 0 where
+    node : Label → Nodes → Node
+
+  pub data Nodes : Type 0 where
+    no_node : Nodes
+    beside : Node → Nodes → Nodes
+
+abbrev pub plain : ℕ → Label
+plain kind = record { kind = kind; first = 0; second = 0; servers = []; ranges = []; prefixes = []; operations = [] }
+
+abbrev mutual
+  pub node_of : Tree → Node
+  node_of (pool p ranges targets) = node (record { kind = 0; first = p.symbol; second = 0; servers = p.servers; ranges = ranges; prefixes = []; operations = [] }) (nodes_of targets)
+  node_of null = node (plain 1) no_node
+  node_of error = node (plain 2) no_node
+  node_of (all_sync ts) = node (plain 3) (nodes_of ts)
+  node_of (all_initial ts) = node (plain 4) (nodes_of ts)
+  node_of (all_async ts) = node (plain 5) (nodes_of ts)
+  node_of (failover ts) = node (plain 6) (nodes_of ts)
+  node_of (miss_failover ts) = node (plain 7) (nodes_of ts)
+  node_of (warm_up cold warm exptime) =
+      node (record { kind = 8; first = exptime; second = 0; servers = []; ranges = []; prefixes = []; operations = [] }) (beside (node_of cold) (beside (node_of warm) no_node))
+  node_of (migrate from to start interval) =
+      node (record { kind = 9; first = start; second = interval; servers = []; ranges = []; prefixes = []; operations = [] }) (beside (node_of from) (beside (node_of to) no_node))
+  node_of (prefix_selector prefixes ts) =
+      node (record { kind = 10; first = 0; second = 0; servers = []; ranges = []; prefixes = prefixes; operations = [] }) (nodes_of ts)
+  node_of (operation_selector ops ts) =
+      node (record { kind = 11; first = 0; second = 0; servers = []; ranges = []; prefixes = []; operations = ops }) (nodes_of ts)
+
+  pub nodes_of : Trees → Nodes
+  nodes_of none = no_node
+  nodes_of (child t ts) = beside (node_of t) (nodes_of ts)
+
+abbrev pub first_of : Trees → Tree
+first_of none = null
+first_of (child t ts) = t
+
+abbrev pub others_of : Trees → Trees
+others_of none = none
+others_of (child t ts) = ts
+
+abbrev pub tree_by : Label → Trees → Tree
+tree_by l ts =
+    if l.kind == 0 then pool (record { symbol = l.first; servers = l.servers }) l.ranges ts
+    else if l.kind == 1 then null
+    else if l.kind == 2 then error
+    else if l.kind == 3 then all_sync ts
+    else if l.kind == 4 then all_initial ts
+    else if l.kind == 5 then all_async ts
+    else if l.kind == 6 then failover ts
+    else if l.kind == 7 then miss_failover ts
+    else if l.kind == 8 then warm_up (first_of ts) (first_of (others_of ts)) l.first
+    else if l.kind == 9 then migrate (first_of ts) (first_of (others_of ts)) l.first l.second
+    else if l.kind == 10 then prefix_selector l.prefixes ts
+    else operation_selector l.operations ts
+
+abbrev mutual
+  pub tree_of : Node → Tree
+  tree_of (node l ns) = tree_by l (trees_of ns)
+
+  pub trees_of : Nodes → Trees
+  trees_of no_node = none
+  trees_of (beside n ns) = child (tree_of n) (trees_of ns)
+
+mutual
+  pub tree_of-node_of : (t : Tree) → tree_of (node_of t) ≡ t
+  tree_of-node_of (pool p ranges targets) = ap (pool p ranges) (trees_of-nodes_of targets)
+  tree_of-node_of null = refl
+  tree_of-node_of error = refl
+  tree_of-node_of (all_sync ts) = ap all_sync (trees_of-nodes_of ts)
+  tree_of-node_of (all_initial ts) = ap all_initial (trees_of-nodes_of ts)
+  tree_of-node_of (all_async ts) = ap all_async (trees_of-nodes_of ts)
+  tree_of-node_of (failover ts) = ap failover (trees_of-nodes_of ts)
+  tree_of-node_of (miss_failover ts) = ap miss_failover (trees_of-nodes_of ts)
+  tree_of-node_of (warm_up cold warm exptime) = λ i. warm_up (tree_of-node_of cold i) (tree_of-node_of warm i) exptime
+  tree_of-node_of (migrate from to start interval) = λ i. migrate (tree_of-node_of from i) (tree_of-node_of to i) start interval
+  tree_of-node_of (prefix_selector prefixes ts) = ap (prefix_selector prefixes) (trees_of-nodes_of ts)
+  tree_of-node_of (operation_selector ops ts) = ap (operation_selector ops) (trees_of-nodes_of ts)
+
+  pub trees_of-nodes_of : (ts : Trees) → trees_of (nodes_of ts) ≡ ts
+  trees_of-nodes_of none = refl
+  trees_of-nodes_of (child t ts) = λ i. child (tree_of-node_of t i) (trees_of-nodes_of ts i)
+
+abbrev pub range_code : Coded Range
+range_code = code_by (ℕ × ℕ) (coded× coded_ℕ coded_ℕ) (λ r. (r.first, r.last)) (λ p. record { first = p.0; last = p.1 }) (λ _. refl)
+
+abbrev pub Parts : Type 0
+Parts = (ℕ × (ℕ × ℕ)) × ((List ℕ × List Range) × (List (List ℕ) × List (Option Op)))
+
+abbrev pub parts_code : Coded Parts
+parts_code = coded× (coded× coded_ℕ (coded× coded_ℕ coded_ℕ)) (coded× (coded× (coded_list coded_ℕ) (coded_list range_code)) (coded× (coded_list (coded_list coded_ℕ)) (coded_list (coded_option the_row.coded))))
+
+abbrev pub label_code : Coded Label
+label_code =
+    code_by Parts parts_code (λ l. ((l.kind, (l.first, l.second)), ((l.servers, l.ranges), (l.prefixes, l.operations))))
+    (λ p. record { kind = p.0.0; first = p.0.1.0; second = p.0.1.1; servers = p.1.0.0; ranges = p.1.0.1; prefixes = p.1.1.0; operations = p.1.1.1 }) (λ _. refl)
+
+abbrev mutual
+  pub code_of : Node → Gv
+  code_of (node l ns) = gcons (label_code.code l) (codes_of ns)
+
+  pub codes_of : Nodes → Gv
+  codes_of no_node = gnil
+  codes_of (beside n ns) = gcons (code_of n) (codes_of ns)
+
+abbrev head : Gv → Gv
+head gnil = gnil
+head (gnum n) = gnil
+head (gcons a b) = a
+
+abbrev tail : Gv → Gv
+tail gnil = gnil
+tail (gnum n) = gnil
+tail (gcons a b) = b
+
+abbrev IsCons : Gv → Type 0
+IsCons gnil = ⊥
+IsCons (gnum n) = ⊥
+IsCons (gcons a b) = Unit {0}
+
+mutual
+  pub code_of-inj : (m n : Node) → code_of m ≡ code_of n → m ≡ n
+  code_of-inj (node k ms) (node l ns) e = λ i. node (label_code.inj k l (ap head e) i) (codes_of-inj ms ns (ap tail e) i)
+
+  pub codes_of-inj : (ms ns : Nodes) → codes_of ms ≡ codes_of ns → ms ≡ ns
+  codes_of-inj no_node no_node e = refl
+  codes_of-inj no_node (beside n ns) e = absurd (subst IsCons (sym e) tt)
+  codes_of-inj (beside m ms) no_node e = absurd (subst IsCons e tt)
+  codes_of-inj (beside m ms) (beside n ns) e = λ i. beside (code_of-inj m n (ap head e) i) (codes_of-inj ms ns (ap tail e) i)
+
+abbrev pub node_code : Coded Node
+node_code = record { code = code_of; inj = code_of-inj }
+
+abbrev pub tree_code : Coded Tree
+tree_code = code_by Node node_code node_of tree_of tree_of-node_of
+
+abbrev pub entry_code : Coded RouteEntry
+entry_code =
+    code_by (List (List ℕ) × Tree) (coded× (coded_list (coded_list coded_ℕ)) tree_code) (λ e. (e.aliases, e.tree))
+    (λ p. record { aliases = p.0; tree = p.1 }) (λ _. refl)
+
+abbrev pub routes_code : Coded RoutesValue
+routes_code =
+    code_by (List (List ℕ) × (List SymbolValue × List RouteEntry))
+    (coded× (coded_list (coded_list coded_ℕ)) (coded× (coded_list symbol_row.coded) (coded_list entry_code)))
+    (λ r. (r.servers, (r.symbols, r.entries))) (λ p. record { servers = p.0; symbols = p.1.0; entries = p.1.1 }) (λ _. refl)

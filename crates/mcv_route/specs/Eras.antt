@@ -1,0 +1,60 @@
+-- Eras: what handles send changes at certain moments only, their breaks. An era lasts from one to the next (own).
+use Rattle.std.specs.Prelude.{◌≡◌, ◌≤◌, ◌<◌, ℕ, ◌+◌, ◌*◌, List, [], ◌∷◌, ◌++◌, Option, Some, None, nat_le, nat_eq, max, filter, length}
+use Rattle.std.specs.Option.{option_map_or}
+use Rattle.std.specs.List.{All, Contains, flat_map}
+use Rattle.mcv_pools.specs.Table.{numbered}
+use Rattle.mcv_route.specs.Tree.{Tree, Trees, pool, null, error, all_sync, all_initial, all_async, failover, miss_failover, warm_up, migrate, prefix_selector, operation_selector, none, child}
+use Rattle.mcv_route.specs.Routes.{RoutesValue}
+
+abbrev mutual
+  -- of each migration its start, and one and two intervals later (mcrouter wiki, MigrateRoute)
+  pub breaks : Tree → List ℕ
+  breaks (pool p ranges targets) = breaks_each targets
+  breaks null = []
+  breaks error = []
+  breaks (all_sync ts) = breaks_each ts
+  breaks (all_initial ts) = breaks_each ts
+  breaks (all_async ts) = breaks_each ts
+  breaks (failover ts) = breaks_each ts
+  breaks (miss_failover ts) = breaks_each ts
+  breaks (warm_up cold warm exptime) = breaks cold ++ breaks warm
+  breaks (migrate from to start interval) = start ∷ (start + interval) ∷ (start + 2 * interval) ∷ (breaks from ++ breaks to)
+  breaks (prefix_selector prefixes ts) = breaks_each ts
+  breaks (operation_selector ops ts) = breaks_each ts
+
+  pub breaks_each : Trees → List ℕ
+  breaks_each none = []
+  breaks_each (child t ts) = breaks t ++ breaks_each ts
+
+-- those of all routes
+abbrev pub breaks_of : RoutesValue → List ℕ
+breaks_of r = flat_map (λ e. breaks e.tree) r.entries
+
+-- the breaks at the moment or before it
+abbrev pub passed : List ℕ → ℕ → List ℕ
+passed bs moment = filter (λ b. nat_le b moment) bs
+
+abbrev pub greatest : List ℕ → Option ℕ
+greatest [] = None
+greatest (b ∷ bs) = Some (option_map_or (max b) (greatest bs) b)
+
+-- the break that opened the era of a moment: the last at the moment or before it, and none in the first era
+abbrev pub since_at : List ℕ → ℕ → Option ℕ
+since_at bs moment = greatest (passed bs moment)
+
+-- the number of the era of a moment: how many breaks, each counted once, are at the moment or before it
+abbrev pub era_at : List ℕ → ℕ → ℕ
+era_at bs moment = length (numbered nat_eq (passed bs moment))
+
+-- s is the last of the breaks that are at the moment or before it, or none of them is
+abbrev pub IsSince : List ℕ → ℕ → Option ℕ → Type 0
+IsSince bs moment None = All (λ b. moment < b) bs
+IsSince bs moment (Some s) = Contains bs s × (s ≤ moment) × All (λ b. b ≤ moment → b ≤ s) bs
+
+-- since_at is what its name says
+abbrev pub SinceIsTheLastBreak : Type 0
+SinceIsTheLastBreak = (bs : List ℕ) (moment : ℕ) → IsSince bs moment (since_at bs moment)
+
+-- moments after the same break are in one era
+abbrev pub ErasAreOpenedByBreaks : Type 0
+ErasAreOpenedByBreaks = (bs : List ℕ) (m n : ℕ) → since_at bs m ≡ since_at bs n → era_at bs m ≡ era_at bs n

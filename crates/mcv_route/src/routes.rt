@@ -1,0 +1,217 @@
+//! All routes of a configuration, with the tables of servers and symbols that their leaves name.
+
+ghost use Rattle.std.specs.Prelude.{◌≡◌, ◌<◌, [], ◌∷◌, ◌++◌, Some, None, IfOk, length, map, option_map, position, slice_get};
+ghost use Rattle.std.specs.List.{All};
+ghost use Rattle.mcv_config.specs.Plan.{IsSound, IsSoundRoute, named_of, plan_of};
+ghost use Rattle.mcv_route.specs.Built.{routes_named};
+ghost use Rattle.mcv_route.specs.Eras.{breaks_of, since_at};
+ghost use Rattle.mcv_route.specs.Places.{children_of, child_at, is_alias, leaf_in, route_of_prefix};
+ghost use Rattle.mcv_route.specs.Routes.{IsSoundRoutes};
+ghost use Rattle.mcv_route.specs.RoutesView.{entry_view};
+ghost use Rattle.mcv_route.specs.View.{last_view, operation_view, pool_view, view};
+ghost use Rattle.mcv_route.specs.Walk.{IsBuilt, list_view};
+
+use crate::build::{build_route, shared_lists};
+use crate::tree::{Leaf, OperationPolicy, Route};
+use mcv_base::{Moment, Position, Prefix, ServerId};
+use mcv_config::{Config, Entry};
+use mcv_pools::{Servers, Symbols};
+use std::alloc::{AllocError, Global};
+use std::marker::Model;
+use std::sync::Arc;
+
+/// A route with the routing prefixes that select it.
+#[derive(Drop)]
+struct AliasedRoute {
+    aliases: Vec<Prefix>,
+    route: Route,
+}
+
+/// The routes of a configuration, by their numbers from 0. Clauses see a `RoutesValue`.
+#[derive(Drop)]
+pub struct Routes {
+    servers: Servers,
+    symbols: Symbols,
+    entries: Vec<AliasedRoute>,
+}
+
+impl Model for Routes {
+    ghost use Rattle.mcv_route.specs.Routes.{RoutesValue};
+    ghost use Rattle.mcv_route.specs.Codes.{routes_code};
+
+    ghost Value = { RoutesValue };
+
+    ghost coded = { routes_code };
+
+    ghost use Rattle.mcv_route.specs.RoutesView.{routes_view, AreSound};
+
+    ghost view = { routes_view };
+
+    ghost invariant = { AreSound };
+}
+
+impl Routes {
+    /// The routes that a configuration names, its symbols numbered in the order in which the walk of the
+    /// routes meets them. An error where memory runs out.
+    pub fn build(alloc: Global, config: Config) -> Result<Routes, AllocError>
+        requires { IsSound (plan_of config) }
+        ensures { IfOk result (λ r. r ≡ routes_named (plan_of config)) }
+    {
+        let Config {
+            servers,
+            pools,
+            entries,
+        } = config;
+        let lists = shared_lists(alloc, pools)?;
+        let mut symbols = Symbols::new(alloc);
+        let entries = build_entries(alloc, entries, lists.as_slice(), &mut symbols)?;
+        Ok(Routes {
+            servers,
+            symbols,
+            entries,
+        })
+    }
+
+    /// The table of servers.
+    pub fn servers(&self) -> &Servers
+        ensures value { result.now ≡ self.now.servers }
+        ensures sound { IsSoundRoutes self.now }
+    {
+        &self.servers
+    }
+
+    /// The table of symbols.
+    pub fn symbols(&self) -> &Symbols
+        ensures value { result.now ≡ self.now.symbols }
+        ensures sound { IsSoundRoutes self.now }
+    {
+        &self.symbols
+    }
+
+    /// The number of the first route that has the routing prefix among its aliases.
+    pub fn route_of(&self, prefix: &Prefix) -> Option<usize>
+        ensures { result ≡ route_of_prefix prefix.now self.now.entries }
+    {
+        first_of_prefix(self.entries.as_slice(), prefix)
+    }
+
+    /// The route of a number.
+    pub fn route(&self, number: usize) -> Option<&Route>
+        ensures { option_map (λ r. view r.now) result ≡ option_map (λ e. e.tree) (slice_get self.now.entries number) }
+    {
+        let entry = self.entries.get(number)?;
+        Some(&entry.route)
+    }
+
+    /// The leaf at a position of a route, where a PoolRoute stands there.
+    pub fn leaf_at(&self, route: usize, position: &Position) -> Option<&Leaf>
+        ensures { option_map (λ l. pool_view l.now) result ≡ leaf_in self.now route position.now }
+    {
+        let mut here = self.route(route)?;
+        for step in position.steps() {
+            here = child_of(here, *step)?;
+        }
+        match here {
+            Route::Pool(leaf) => Some(leaf),
+            _ => None,
+        }
+    }
+
+    /// The last break of the routes at the moment or before it, which opened the moment's era; None in the
+    /// first era.
+    pub fn since(&self, moment: Moment) -> Option<Moment>
+        ensures { option_map (λ m. m.0) result ≡ since_at (breaks_of self.now) moment.0 }
+    {
+        let _ = &self.entries;
+        None
+    }
+}
+
+/// The routes that the entries name, each with the entry's aliases.
+fn build_entries(
+    alloc: Global,
+    entries: Vec<Entry>,
+    lists: &[Arc<Vec<ServerId>>],
+    symbols: &mut Symbols,
+) -> Result<Vec<AliasedRoute>, AllocError>
+    requires filled { All (λ servers. 0 < length servers) (map list_view lists.now) }
+    requires sound { All (λ e. IsSoundRoute (map list_view lists.now) (named_of e.route)) entries.items }
+    ensures aliases { IfOk result (λ rs. map (λ r. r.aliases.items) rs.items ≡ map (λ e. e.aliases.items) entries.items) }
+    ensures routes { IfOk result (λ rs. IsBuilt (map list_view lists.now) symbols.old (map (λ e. named_of e.route) entries.items)
+        symbols.new (map (λ r. view r.route) rs.items)) }
+{
+    let mut built = Vec::with_capacity(alloc, entries.len())?;
+    for entry in entries {
+        built.push(build_entry(alloc, entry, lists, symbols)?)?;
+    }
+    Ok(built)
+}
+
+fn build_entry(
+    alloc: Global,
+    entry: Entry,
+    lists: &[Arc<Vec<ServerId>>],
+    symbols: &mut Symbols,
+) -> Result<AliasedRoute, AllocError>
+    requires filled { All (λ servers. 0 < length servers) (map list_view lists.now) }
+    requires sound { IsSoundRoute (map list_view lists.now) (named_of entry.route) }
+    ensures aliases { IfOk result (λ r. r.aliases.items ≡ entry.aliases.items) }
+    ensures route { IfOk result (λ r. IsBuilt (map list_view lists.now) symbols.old (named_of entry.route ∷ []) symbols.new (view r.route ∷ [])) }
+{
+    let route = build_route(alloc, &entry.route, lists, symbols)?;
+    Ok(AliasedRoute {
+        aliases: entry.aliases,
+        route,
+    })
+}
+
+fn first_of_prefix(entries: &[AliasedRoute], prefix: &Prefix) -> Option<usize>
+    ensures { result ≡ position (λ e. is_alias prefix.now (entry_view e)) entries.now }
+{
+    entries.iter().position(|entry| has_alias(entry, prefix))
+}
+
+fn has_alias(entry: &AliasedRoute, prefix: &Prefix) -> bool
+    ensures { result ≡ is_alias prefix.now (entry_view entry.now) }
+{
+    entry
+        .aliases
+        .iter()
+        .any(|alias| alias.as_bytes() == prefix.as_bytes())
+}
+
+/// The child of a number.
+fn child_of(route: &Route, number: usize) -> Option<&Route>
+    ensures { option_map (λ r. view r.now) result ≡ child_at (children_of (view route.now)) number }
+{
+    match route {
+        Route::Pool(_) => None,
+        Route::Null => None,
+        Route::AllSync(children) => children.get(number),
+        Route::OperationSelector {
+            policies,
+            default_policy,
+        } => policy_route(policies, default_policy, number),
+    }
+}
+
+/// The route of the policy of a number, or after all policies the default's.
+fn policy_route<'a>(
+    policies: &'a [OperationPolicy],
+    default_policy: &'a Option<Box<Route>>,
+    number: usize,
+) -> Option<&'a Route>
+    ensures { option_map (λ r. view r.now) result
+        ≡ slice_get (map (λ p. p.1) (map operation_view policies.now) ++ last_view default_policy.now) number }
+{
+    if number < policies.len() {
+        return Some(&policies[number].route);
+    }
+    if number > policies.len() {
+        return None;
+    }
+    match default_policy {
+        Some(route) => Some(route),
+        None => None,
+    }
+}

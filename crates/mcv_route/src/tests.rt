@@ -1,0 +1,90 @@
+use super::*;
+use mcv_base::{Moment, Position, Prefix};
+use mcv_config::read_config;
+use std::alloc::{AllocError, Global};
+use std::process::Abort;
+use std::test::Fail;
+
+/// Two pools that share the server `b:1`, and two routes; the second's children are the servers of B.
+const TEXT: &str = "{
+  \"pools\": {
+    \"A\": {\"servers\": [\"a:1\", \"b:1\", \"c:1\"]},
+    \"B\": {\"servers\": [\"b:1\", \"d:1\"]}
+  },
+  \"route\": {
+    \"type\": \"OperationSelectorRoute\",
+    \"operation_policies\": {
+      \"delete\": {\"type\": \"AllSyncRoute\", \"children\": [\"PoolRoute|A\", \"NullRoute\", \"PoolRoute|B\"]},
+      \"set\": \"AllSyncRoute|Pool|B\"
+    },
+    \"default_policy\": \"PoolRoute|B\"
+  }
+}";
+
+fn routes(rt: &impl Abort, alloc: Global) -> Result<Routes, AllocError> {
+    match read_config(alloc, TEXT.as_bytes()) {
+        Ok(config) => Routes::build(alloc, config),
+        Err(_) => panic!(rt; "the text is refused"),
+    }
+}
+
+/// The symbol of the leaf at a position, and its servers' texts.
+fn shown(alloc: Global, routes: &Routes, number: usize, steps: &[usize]) -> Result<String, Fail> {
+    let mut text = String::new(alloc);
+    let position = Position::at(alloc, steps)?;
+    let Some(leaf) = routes.leaf_at(number, &position) else {
+        return Ok(text);
+    };
+    let symbol = leaf.symbol;
+    write!(text, "{symbol}:")?;
+    for server in leaf.servers.iter() {
+        let server = routes.servers().text(*server).unwrap_or("none");
+        write!(text, " {server}")?;
+    }
+    Ok(text)
+}
+
+#[test]
+fn leaves_have_their_pools(rt: HostRuntime) -> Result<(), Fail> {
+    let alloc = rt.alloc();
+    let routes = routes(&rt, alloc)?;
+    let cases: [(&[usize], &str); 5] = [
+        (&[0, 0], "0: a:1 b:1 c:1"),
+        (&[0, 2], "1: b:1 d:1"),
+        (&[1, 0], "2: b:1"),
+        (&[1, 1], "2: d:1"),
+        (&[2], "1: b:1 d:1"),
+    ];
+    for (steps, text) in cases {
+        let found = shown(alloc, &routes, 0, steps)?;
+        assert_eq!(rt; found.as_str(), text);
+    }
+    Ok(())
+}
+
+#[test]
+fn no_leaf_stands_elsewhere(rt: HostRuntime) -> Result<(), Fail> {
+    let alloc = rt.alloc();
+    let routes = routes(&rt, alloc)?;
+    let cases: [&[usize]; 6] = [&[], &[0], &[0, 1], &[0, 3], &[0, 0, 0], &[3]];
+    for steps in cases {
+        let position = Position::at(alloc, steps)?;
+        assert!(rt; routes.leaf_at(0, &position).is_none(), "at {steps:?}");
+    }
+    let position = Position::at(alloc, &[2])?;
+    assert!(rt; routes.leaf_at(1, &position).is_none(), "no second route");
+    Ok(())
+}
+
+#[test]
+fn prefixes_select_routes(rt: HostRuntime) -> Result<(), Fail> {
+    let alloc = rt.alloc();
+    let routes = routes(&rt, alloc)?;
+    assert_eq!(rt; routes.route_of(&Prefix::of(b"/././")), Some(0));
+    assert_eq!(rt; routes.route_of(&Prefix::of(b"/a/b/")), None);
+    assert_eq!(rt; routes.symbols().len(), 3);
+    assert_eq!(rt; routes.since(Moment(u64::MAX)), None);
+    assert!(rt; routes.route(0).is_some());
+    assert!(rt; routes.route(1).is_none());
+    Ok(())
+}

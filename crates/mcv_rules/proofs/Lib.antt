@@ -1,0 +1,21 @@
+pub mod Among
+pub mod Basics
+pub mod Sending
+pub mod Later
+pub mod Orders
+pub mod Launches
+pub mod Relate
+pub mod Replied
+pub mod Sent
+pub mod Stays
+pub mod Verdicts
+pub mod Sound
+pub mod One
+pub mod Last
+pub mod Times
+pub mod Own
+pub mod Plans
+pub mod Serving
+pub mod True
+pub mod Told
+mod Examples

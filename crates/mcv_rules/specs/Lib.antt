@@ -1,0 +1,10 @@
+pub mod Plan
+pub mod Sound
+pub mod Plans
+pub mod Times
+pub mod Laws
+pub mod Called
+pub mod History
+pub mod Status
+pub mod Arrivals
+pub mod Laid
