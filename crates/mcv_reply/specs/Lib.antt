@@ -1,0 +1,6 @@
+pub mod Word
+pub mod Line
+pub mod Reply
+pub mod Place
+pub mod Reader
+pub mod Probe

@@ -1,0 +1,20 @@
+//! What a server says to a leg, read from pieces, however its bytes are cut.
+//!
+//! A reply is taken only where the bytes fed are exactly one that may answer the operation, with
+//! the leg's own key (`ReplyReader`), and refused at the first byte behind which no such reply goes
+//! on. The answer to a probe has a reader of its own (`ProbeReader`).
+#![tactic(auto)]
+
+mod candidate;
+mod laws;
+mod line;
+mod probe;
+mod reader;
+mod word;
+
+pub use laws::{one_reply, one_version};
+pub use probe::ProbeReader;
+pub use reader::{ReplyFault, ReplyReader};
+
+#[cfg(test)]
+mod tests;
