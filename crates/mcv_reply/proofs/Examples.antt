@@ -64,11 +64,25 @@ a_hit = with_value (record {
   line_is = record {
     may = (1, omega arith, refl);
     writes = record {
-      gap = 0; written = codes "VALUE"; after = codes " a 007 1"; parts = refl; enough = omega arith; is = refl;
+      gap = 0;
+      written = codes "VALUE";
+      after = codes " a 007 1";
+      parts = refl;
+      enough = omega arith;
+      is = refl;
       rest = record {
-        gap = 1; written = codes "a"; after = codes " 007 1"; parts = refl; enough = omega arith; is = refl;
+        gap = 1;
+        written = codes "a";
+        after = codes " 007 1";
+        parts = refl;
+        enough = omega arith;
+        is = refl;
         rest = record {
-          gap = 1; written = codes "007"; after = codes " 1"; parts = refl; enough = omega arith;
+          gap = 1;
+          written = codes "007";
+          after = codes " 1";
+          parts = refl;
+          enough = omega arith;
           is = ((λ e. absurd (cc)), (omega arith, omega arith, (omega arith, omega arith, (omega arith, omega arith, tt))), refl, omega arith);
           rest = record { gap = 1; written = codes "1"; after = []; parts = refl; enough = omega arith; is = ((λ e. absurd (cc)), (omega arith, omega arith, tt), refl, omega arith); rest = tt };
         };

@@ -9,12 +9,11 @@ use Rattle.mcv_reply.specs.declared.word.Word.TheVariants.{Version}
 use Rattle.mcv_reply.specs.declared.word.Row.TheVariants as rows
 use Rattle.mcv_reply.specs.declared.candidate.Head.{Head}
 use Rattle.mcv_reply.specs.declared.candidate.Candidate.{Candidate}
-use Rattle.mcv_reply.specs.declared.reader.ReplyFault.{ReplyFault}
-use Rattle.mcv_reply.specs.declared.reader.ReplyFault.TheVariants.{NotAReply, Closed, Memory}
+use Rattle.mcv_reply.specs.declared.fault.ReplyFault.{ReplyFault}
+use Rattle.mcv_reply.specs.declared.fault.ReplyFault.TheVariants.{NotAReply, Closed, Memory}
 use Rattle.mcv_reply.specs.Line.{IsLine}
-use Rattle.mcv_reply.specs.Place.{IsKept}
+use Rattle.mcv_reply.specs.Place.{GoesOn, IsKept}
 use Rattle.mcv_reply.specs.Reply.{SpellsVersion}
-use Rattle.mcv_reply.specs.Reader.{GoesOn}
 use Rattle.mcv_reply.specs.Probe.{BeginsNoVersion, IsVersionFront, ReadsProbe}
 use Rattle.mcv_reply.proofs.Spelling.{line_one, front_of_line}
 use Rattle.mcv_reply.proofs.Stages.{IsNoLine, line_opens}

@@ -16,17 +16,18 @@ use Rattle.mcv_reply.specs.declared.word.Row.{Row}
 use Rattle.mcv_reply.specs.declared.word.Row.TheVariants as rows
 use Rattle.mcv_reply.specs.declared.candidate.Head.{Head}
 use Rattle.mcv_reply.specs.declared.candidate.Candidate.{Candidate}
-use Rattle.mcv_reply.specs.declared.reader.ReplyFault.{ReplyFault}
-use Rattle.mcv_reply.specs.declared.reader.ReplyFault.TheVariants.{NotAReply, Closed, Memory}
-use Rattle.mcv_reply.specs.declared.reader.Progress.{Progress}
-use Rattle.mcv_reply.specs.declared.reader.Stage.{Stage}
-use Rattle.mcv_reply.specs.declared.reader.Stage.TheVariants as stages
+use Rattle.mcv_reply.specs.declared.fault.ReplyFault.{ReplyFault}
+use Rattle.mcv_reply.specs.declared.fault.ReplyFault.TheVariants.{NotAReply, Closed, Memory}
+use Rattle.mcv_reply.specs.declared.progress.Progress.{Progress}
+use Rattle.mcv_reply.specs.declared.progress.Stage.{Stage}
+use Rattle.mcv_reply.specs.declared.progress.Stage.TheVariants as stages
 use Rattle.mcv_reply.specs.Reader as standing
 use Rattle.mcv_reply.specs.Word.{answers, has_cas, words}
 use Rattle.mcv_reply.specs.Line.{IsLine}
-use Rattle.mcv_reply.specs.Place.{IsKept, Says, is_clean, zero_head}
+use Rattle.mcv_reply.specs.Place.{GoesOn, IsKept, Says, is_clean, zero_head}
 use Rattle.mcv_reply.specs.Reply.{Spells, cas_said}
-use Rattle.mcv_reply.specs.Reader.{Stands, Fed, Answered, Answers, FeedsAt, IsFront, bytes_at, BeginsNone, GoesOn, HitMade, IsAt, IsAtStage, LastEnds, FirstEnds, ReadsPiece, StepMakes, Steps, stands_at}
+use Rattle.mcv_reply.specs.Reader.{Stands, Fed, Answered, Answers, FeedsAt, IsFront, BeginsNone}
+use Rattle.mcv_reply.specs.Progress.{bytes_at, HitMade, IsAt, IsAtStage, LastEnds, FirstEnds, ReadsPiece, StepMakes, Steps, stands_at}
 use Rattle.mcv_reply.proofs.Spelling.{replies_one}
 use Rattle.mcv_reply.proofs.Open.{clean_ends}
 use Rattle.mcv_reply.proofs.Stages.{front_last, front_line, front_return, front_value, begins_more, end_line, ended_right, ended_wrong, last_right, last_wrong, last_whole, no_last_begins, no_line_begins, only_end}

@@ -3,4 +3,5 @@ pub mod Line
 pub mod Reply
 pub mod Place
 pub mod Reader
+pub mod Progress
 pub mod Probe

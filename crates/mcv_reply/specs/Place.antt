@@ -1,6 +1,6 @@
 -- How a line that has come in part stands to the lines that it may become. The reader keeps this
 -- true; what a reply is stands in Reply alone.
-use Rattle.std.specs.Prelude.{◌≡◌, ◌≢◌, ℕ, ◌+◌, ◌-◌, ◌*◌, ◌<◌, ◌≤◌, Bool, true, false, List, [], ◌∷◌, ◌++◌, length, drop, All, Any, Contains, Option, Some, None, nat_lt, ◌&&◌, if◌then◌else◌}
+use Rattle.std.specs.Prelude.{◌≡◌, ◌≢◌, ℕ, ◌+◌, ◌-◌, ◌*◌, ◌<◌, ◌≤◌, Bool, true, false, List, [], ◌∷◌, ◌++◌, length, drop, All, Any, Contains, Option, Some, None, nat_lt, ◌&&◌, Result, Ok, Err, if◌then◌else◌}
 use Rattle.std.specs.List.{list_all}
 use Rattle.mcv_reply.specs.declared.word.Word.{Word}
 use Rattle.mcv_reply.specs.declared.word.Tail.{Tail}
@@ -16,6 +16,8 @@ use Rattle.mcv_reply.specs.declared.candidate.Place.TheVariants.{BeforeName, InN
 use Rattle.mcv_reply.specs.declared.candidate.Candidate.{Candidate}
 use Rattle.mcv_reply.specs.declared.candidate.Move.{Move}
 use Rattle.mcv_reply.specs.declared.line.Meaning.{Meaning}
+use Rattle.mcv_reply.specs.declared.fault.ReplyFault.{ReplyFault}
+use Rattle.mcv_reply.specs.declared.fault.ReplyFault.TheVariants as faults
 use Rattle.mcv_reply.specs.Word.{has_cas, tail_of, word_text, words}
 use Rattle.mcv_reply.specs.Line.{Form, word, number, text, Writes, IsBlank, IsDigits, IsLine, cas_forms, decimal_from, flags_forms, size_forms, tail_forms}
 
@@ -196,3 +198,10 @@ pub record IsKept (row : Row) (key bytes : List ℕ) (candidates : List Candidat
 abbrev pub Says : Row → List ℕ → List ℕ → Option Meaning → Type 0
 Says row key line None = (first : Word) (head : Head) → IsLine row key first head line → ⊥
 Says row key line (Some said) = IsLine row key said.first said.head line
+
+-- bytes of a line without its LF: they go on, or no line does
+abbrev pub GoesOn : Row → List ℕ → List ℕ → List ℕ → Result Unit ReplyFault → List ℕ → List Candidate → Type 0
+GoesOn row key old bytes (Ok done) new candidates = (new ≡ old ++ bytes) × IsKept row key new candidates × (0 < length candidates)
+GoesOn row key old bytes (Err faults.NotAReply) new candidates = (first : Word) (head : Head) (more : List ℕ) → IsLine row key first head ((old ++ bytes) ++ more) → ⊥
+GoesOn row key old bytes (Err faults.Closed) new candidates = ⊥
+GoesOn row key old bytes (Err faults.Memory) new candidates = Unit {0}

@@ -4,8 +4,8 @@ use Rattle.std.specs.declared.alloc.Global.{Global}
 use Rattle.std.specs.declared.vec.Vec.{Vec}
 use Rattle.mcv_reply.specs.declared.word.Row.TheVariants as rows
 use Rattle.mcv_reply.specs.declared.candidate.Candidate.{Candidate}
-use Rattle.mcv_reply.specs.declared.reader.ReplyFault.{ReplyFault}
-use Rattle.mcv_reply.specs.declared.reader.ReplyFault.TheVariants as faults
+use Rattle.mcv_reply.specs.declared.fault.ReplyFault.{ReplyFault}
+use Rattle.mcv_reply.specs.declared.fault.ReplyFault.TheVariants as faults
 use Rattle.mcv_reply.specs.declared.probe.ProbeStage.{ProbeStage}
 use Rattle.mcv_reply.specs.declared.probe.ProbeStage.TheVariants as stages
 use Rattle.mcv_reply.specs.Place.{IsKept}

@@ -7,13 +7,13 @@ ghost use Rattle.mcv_reply.specs.Reply.{Spells, SpellsVersion};
 
 use mcv_base::Op;
 
-/// To a leg.
+/// A list of bytes is at most one reply to a leg, and a reply to a leg begins with no other.
 pub fn one_reply()
     ensures one { (op : Op) (key bytes : List ℕ) (reply other : ReplyValue) → is_key_word key ≡ true → Spells op key bytes reply → Spells op key bytes other → reply ≡ other }
     ensures no_front { (op : Op) (key bytes more : List ℕ) (reply other : ReplyValue) → is_key_word key ≡ true → Spells op key bytes reply → Spells op key (bytes ++ more) other → more ≡ [] }
 {}
 
-/// To a probe.
+/// A list of bytes is at most one answer to a probe, and an answer begins with no other.
 pub fn one_version()
     ensures one { (bytes version other : List ℕ) → SpellsVersion bytes version → SpellsVersion bytes other → version ≡ other }
     ensures no_front { (bytes more version other : List ℕ) → SpellsVersion bytes version → SpellsVersion (bytes ++ more) other → more ≡ [] }

@@ -6,15 +6,18 @@
 #![tactic(auto)]
 
 mod candidate;
+mod fault;
 mod laws;
 mod line;
 mod probe;
+mod progress;
 mod reader;
 mod word;
 
+pub use fault::ReplyFault;
 pub use laws::{one_reply, one_version};
 pub use probe::ProbeReader;
-pub use reader::{ReplyFault, ReplyReader};
+pub use reader::ReplyReader;
 
 #[cfg(test)]
 mod tests;

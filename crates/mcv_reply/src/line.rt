@@ -1,10 +1,12 @@
 //! A line of a server that has come in part.
 
-ghost use Rattle.std.specs.Prelude.{◌≡◌, ◌≢◌, ◌≤◌, ◌++◌, ℕ, List, [], All, length, true, OnOk, MatchOption};
+ghost use Rattle.std.specs.Prelude.{◌≡◌, ◌≢◌, ◌≤◌, ◌++◌, ℕ, List, [], All, length, true};
+ghost use Rattle.std.specs.Str.Lines.{strip_carriage_return};
 ghost use Rattle.mcv_reply.specs.Word.{has_cas};
-ghost use Rattle.mcv_reply.specs.Place.{IsKept, IsValid, Says, is_clean};
+ghost use Rattle.mcv_reply.specs.Place.{GoesOn, IsKept, IsValid, Says, is_clean};
 
 use crate::candidate::{Candidate, Head};
+use crate::fault::ReplyFault;
 use crate::word::{Row, Word};
 use arrayvec::ArrayVec;
 
@@ -41,6 +43,29 @@ pub fn narrowed(row: Row, key: &[u8], candidates: &Candidates, bytes: &[u8]) -> 
     left
 }
 
+/// Bytes of a line without its LF.
+pub fn go_on(
+    row: Row,
+    key: &[u8],
+    text: &mut Vec<u8>,
+    candidates: &mut Candidates,
+    bytes: &[u8],
+) -> Result<(), ReplyFault>
+    requires clean { is_clean key.now ≡ true }
+    requires kept { IsKept row key.now text.old.items candidates.old.items }
+    requires no_end { All (λ b. b ≢ 10) bytes.now }
+    ensures { GoesOn row key.now text.old.items bytes.now result text.new.items candidates.new.items }
+{
+    *candidates = narrowed(row, key, candidates, bytes);
+    if candidates.is_empty() {
+        return Err(ReplyFault::NotAReply);
+    }
+    match text.extend_from_slice(bytes) {
+        Ok(()) => Ok(()),
+        Err(_) => Err(ReplyFault::Memory),
+    }
+}
+
 /// What a line says.
 #[derive(Clone, Copy, Debug, PartialEq, Eq)]
 pub struct Meaning {
@@ -64,4 +89,15 @@ pub fn said(row: Row, candidates: &Candidates) -> Option<Meaning>
         }
     }
     None
+}
+
+/// The line without the CR of its end.
+pub fn without_return(line: Vec<u8>) -> Vec<u8>
+    ensures { result.items ≡ strip_carriage_return line.items }
+{
+    let mut line = line;
+    if !line.is_empty() && line[line.len() - 1] == b'\r' {
+        line.truncate(line.len() - 1);
+    }
+    line
 }

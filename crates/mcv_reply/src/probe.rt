@@ -5,8 +5,8 @@ ghost use Rattle.mcv_reply.specs.Place.{IsKept};
 ghost use Rattle.mcv_reply.specs.Probe.{FeedsProbe, IsProbeAt, ProbeAnswers, ReadsProbe, stands_in};
 ghost use Rattle.mcv_reply.specs.Reader.{Fed};
 
-use crate::line::{Candidates, candidates, said};
-use crate::reader::{ReplyFault, go_on, without_return};
+use crate::fault::ReplyFault;
+use crate::line::{Candidates, candidates, go_on, said, without_return};
 use crate::word::Row;
 use memchr::memchr;
 use std::alloc::Global;

@@ -16,9 +16,12 @@ gets VALUE a 0 1 7|x|END| = hit
 get VALUE a 0 0||END| = hit
 set STORED| = stored
 add NOT_STORED| = not stored
+append STORED^ = stored
+prepend NOT_STORED| = not stored
 cas EXISTS| = exists
 cas NOT_FOUND| = not found
 delete DELETED| = deleted
+touch NOT_FOUND| = not found
 touch TOUCHED^ = touched
 delete SERVER_ERROR out of memory| = fault
 get CLIENT_ERROR| = fault
@@ -37,6 +40,7 @@ get VALUE a 429496729~6 0| = more
 gets VALUE a 0 0 1844674407370955161~6| = more
 get VALUE a ~-1 0| = more
 get VALUE a 0 1|x~y|END| = more
+get VALUE a 0 1|x~^END| = more
 get VALUE a 0 1|x|~STORED| = more
 get END|~x = miss
 get END|~END| = miss
@@ -144,15 +148,6 @@ fn replies_are_given_once_at_every_cut(rt: HostRuntime) -> Result<(), Fail> {
     Ok(())
 }
 
-/// The answer of a new reader to so many bytes in one piece.
-fn answer_to_front(alloc: Global, op: &str, bytes: &[u8], cut: usize) -> &'static str {
-    let (front, _behind) = bytes.split_at(cut.min(bytes.len()));
-    match reader_for(alloc, op) {
-        None => "no reader",
-        Some(mut reader) => answer_to(&mut reader, front),
-    }
-}
-
 /// The answer to so many bytes that there should be, where so many are good and have this answer.
 fn expected_at<'a>(cut: usize, good: usize, answer: &'a str) -> &'a str {
     if cut < good {
@@ -164,11 +159,21 @@ fn expected_at<'a>(cut: usize, good: usize, answer: &'a str) -> &'a str {
     }
 }
 
-/// Whether so many of the bytes are good, and no more.
-fn is_refused_behind(alloc: Global, case: Case<'_>, bytes: &[u8], good: usize) -> bool {
+/// Whether the bytes, cut there, are answered so where so many are good and no more.
+fn is_refused_at(alloc: Global, case: Case<'_>, bytes: &[u8], good: usize, cut: usize) -> bool {
+    let (front, back) = bytes.split_at(cut.min(bytes.len()));
+    match reader_for(alloc, case.op) {
+        None => false,
+        Some(mut reader) => {
+            answer_to(&mut reader, front) == expected_at(cut, good, case.answer)
+                && answer_to(&mut reader, back) == if cut > good { "closed" } else { "refused" }
+        }
+    }
+}
+
+fn is_refused_at_every_cut(alloc: Global, case: Case<'_>, bytes: &[u8], good: usize) -> bool {
     for cut in 0..=bytes.len() {
-        let answer = answer_to_front(alloc, case.op, bytes, cut);
-        if answer != expected_at(cut, good, case.answer) {
+        if !is_refused_at(alloc, case, bytes, good, cut) {
             return false;
         }
     }
@@ -183,7 +188,7 @@ fn bytes_are_refused_from_the_first_wrong_one(rt: HostRuntime) -> Result<(), Fai
         let good = wire(rt.alloc(), good)?;
         let bytes = wire(rt.alloc(), case.text)?;
         assert!(rt;
-            is_refused_behind(rt.alloc(), case, bytes.as_slice(), good.len()),
+            is_refused_at_every_cut(rt.alloc(), case, bytes.as_slice(), good.len()),
             "{line}"
         );
     }
@@ -230,6 +235,18 @@ fn a_line_has_2048_bytes_at_the_most(rt: HostRuntime) -> Result<(), Fail> {
     assert!(rt; answer_behind(rt.alloc(), 2041, b"DELETED\n")? == "deleted");
     assert!(rt; answer_behind(rt.alloc(), 2042, b"D")? == "refused");
     assert!(rt; answer_behind(rt.alloc(), 2043, b" ")? == "refused");
+    Ok(())
+}
+
+#[test]
+fn a_value_has_1048576_bytes_at_the_most(rt: HostRuntime) -> Result<(), Fail> {
+    let value = vec![in rt.alloc(); b'x'; 1_048_576]?;
+    let mut reader = reader_for(rt.alloc(), "get").ok_or("no reader")?;
+    assert!(rt; answer_to(&mut reader, b"VALUE a 0 1048576\r\n") == "more");
+    for piece in value.chunks(99_999) {
+        assert!(rt; answer_to(&mut reader, piece) == "more");
+    }
+    assert!(rt; answer_to(&mut reader, b"\r\nEND\r\n") == "hit");
     Ok(())
 }
 

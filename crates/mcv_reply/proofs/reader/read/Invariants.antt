@@ -1,5 +1,6 @@
 use Rattle.std.proofs.Common.{◌≡◌, ◌++◌, List, ℕ, length}
-use Rattle.mcv_reply.specs.Reader.{Fed, IsAt, stands_at}
+use Rattle.mcv_reply.specs.Reader.{Fed}
+use Rattle.mcv_reply.specs.Progress.{IsAt, stands_at}
 use Rattle.mcv_reply.proofs.reader.read.Given as goal
 
 abbrev pub invariant-loop-left : goal.invariant-loop-left

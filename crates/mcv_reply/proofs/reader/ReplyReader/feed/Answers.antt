@@ -1,6 +1,7 @@
 use Rattle.std.proofs.Common.{◌≡◌, ◌≤◌, ◌++◌, List, ℕ, [], length, sym, subst, true, ◌∙◌, refl}
 use Rattle.std.specs.Arc.{arc_value}
-use Rattle.mcv_reply.specs.Reader.{Answers, Feeds, IsAt, Reading, stands_at}
+use Rattle.mcv_reply.specs.Reader.{Answers, Feeds, Reading}
+use Rattle.mcv_reply.specs.Progress.{IsAt, stands_at}
 use Rattle.mcv_reply.specs.Place.{is_clean}
 use Rattle.mcv_reply.proofs.Words.{key_clean, key_short}
 use Rattle.mcv_reply.proofs.Steps.{fed_at, feeds_at}

@@ -3,7 +3,7 @@ use Rattle.std.proofs.lemmas.List.{append-nil}
 use Rattle.std.proofs.lemmas.List.Elements.{All-append}
 use Rattle.std.proofs.lemmas.Result.{err_from_is_err_and}
 use Rattle.mcv_reply.proofs.Steps.{no_end_found, end_before, end_cut, end_taken, end_within, last_line_fault, last_fault, last_reply}
-use Rattle.mcv_reply.proofs.reader.in_last.Goals as goal
+use Rattle.mcv_reply.proofs.progress.in_last.Goals as goal
 
 pub returns-in_err-go_on-in-None : goal.returns-in_err-go_on-in-None
 returns-in_err-go_on-in-None c = let p = err_from_is_err_and c.from_residual.result c.from_residual.ensures.1 in rw (p.1, p.2) (

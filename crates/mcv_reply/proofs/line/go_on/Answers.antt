@@ -2,7 +2,7 @@ use Rattle.std.proofs.Common.{◌≡◌, ◌<◌, ◌≤◌, ◌++◌, List, ℕ
 use Rattle.std.proofs.lemmas.Bool.{eqb-true, eqb-false}
 use Rattle.mcv_reply.specs.Place.{IsKept}
 use Rattle.mcv_reply.proofs.Steps.{none_left}
-use Rattle.mcv_reply.proofs.reader.go_on.Goals as goal
+use Rattle.mcv_reply.proofs.line.go_on.Goals as goal
 
 pub returns-then-is_empty : goal.returns-then-is_empty
 returns-then-is_empty c = none_left c.args.row c.args.key.now (c.args.text.now.items ++ c.args.bytes.now) c.narrowed.result.items (c.narrowed.ensures c.args.text.now.items c.requires.kept) (eqb-true _ 0 (sym c.is_empty.ensures ∙ c.if-is_empty.true))

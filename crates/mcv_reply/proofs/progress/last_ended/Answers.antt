@@ -1,7 +1,7 @@
 use Rattle.std.proofs.Common.{◌≡◌, ◌<◌, ◌≤◌, length, ap, arith}
 use Rattle.mcv_reply.proofs.Stages.{last_wrong}
 use Rattle.mcv_reply.proofs.Steps.{last_made}
-use Rattle.mcv_reply.proofs.reader.last_ended.Goals as goal
+use Rattle.mcv_reply.proofs.progress.last_ended.Goals as goal
 
 pub returns-in-None : goal.returns-in-None
 returns-in-None c =

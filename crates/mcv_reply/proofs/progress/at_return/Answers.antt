@@ -4,7 +4,7 @@ use Rattle.mcv_reply.specs.Place.{IsKept}
 use Rattle.mcv_reply.specs.Reader.{Fed}
 use Rattle.mcv_reply.proofs.Stages.{wrong_line_feed}
 use Rattle.mcv_reply.proofs.Steps.{last_some, return_step, first_taken}
-use Rattle.mcv_reply.proofs.reader.at_return.Goals as goal
+use Rattle.mcv_reply.proofs.progress.at_return.Goals as goal
 
 pub returns-then-piece-ne10 : goal.returns-then-piece-ne10
 returns-then-piece-ne10 c =

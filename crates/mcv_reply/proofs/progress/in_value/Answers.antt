@@ -1,6 +1,6 @@
 use Rattle.std.proofs.Common.{◌≡◌, ◌<◌, ◌≤◌, length, arith}
 use Rattle.mcv_reply.proofs.Stages.{wrong_return}
-use Rattle.mcv_reply.proofs.reader.in_value.Goals as goal
+use Rattle.mcv_reply.proofs.progress.in_value.Goals as goal
 
 pub returns-then-piece-ne13 : goal.returns-then-piece-ne13
 returns-then-piece-ne13 c =
