@@ -311,3 +311,14 @@ fn want_of_memory_closes_the_reader(rt: HostRuntime) {
         }
     }
 }
+
+#[test]
+fn want_of_memory_closes_the_probe(rt: HostRuntime) {
+    let mut probe = ProbeReader::new(rt.alloc());
+    let answer = probe_answer_to(&mut probe, b"VERSION 1.6.9\r\n");
+    if answer == "memory" {
+        assert!(rt; probe_answer_to(&mut probe, b"") == "closed");
+    } else {
+        assert!(rt; answer == "version");
+    }
+}
