@@ -1,6 +1,7 @@
 //! Items and texts against the words of memcached's `protocol.txt`. In the tables `~` is CR LF and `^` a LF alone.
 
 use super::*;
+use crate::words::line_words;
 use itoa::Buffer;
 use mcv_base::{FixedReply, LegRequest, Op, Part, Reply, Request, Rest};
 use std::alloc::{AllocError, Global};
@@ -158,60 +159,62 @@ fn refusals_2_and_3_end_the_reading(rt: HostRuntime) -> Result<(), Fail> {
     Ok(())
 }
 
-/// What stands in the stream that begins with `front`, goes on with so many letters and ends with `back`.
-fn read_long(alloc: Global, front: &[u8], letters: usize, back: &[u8]) -> Result<Vec<u8>, Fail> {
-    let mut text = Vec::new(alloc);
-    let mut reader = RequestReader::new(alloc);
-    let piece = [b'k'; 4096];
-    push_items(&mut text, reader.feed(front))?;
-    for _ in 0..letters / 4096 {
-        push_items(&mut text, reader.feed(&piece))?;
+/// Bytes that begin with `front`, go on with so many letters and end with `back`.
+type Long = (&'static [u8], usize, &'static [u8]);
+
+fn long_bytes(alloc: Global, long: Long) -> Result<Vec<u8>, AllocError> {
+    let (front, letters, back) = long;
+    let mut bytes = Vec::from_slice(alloc, front)?;
+    for _ in 0..letters {
+        bytes.push(b'k')?;
     }
-    push_items(&mut text, reader.feed(&piece[..letters % 4096]))?;
-    match reader.feed(back) {
-        Err(TextFault::Failed) => Ok(text),
-        fed => {
-            push_items(&mut text, fed)?;
-            Ok(text)
-        }
-    }
+    bytes.extend_from_slice(back)?;
+    Ok(bytes)
 }
 
-fn ends_with(text: &[u8], end: &[u8]) -> bool {
-    text.len() >= end.len() && &text[text.len() - end.len()..] == end
+/// Whether a stream of `length` bytes is cut here: each cut near both ends, and some between them.
+fn is_tried(cut: usize, length: usize) -> bool {
+    cut < 48 || length.saturating_sub(cut) < 48 || cut % 4093 == 0
 }
 
+/// Streams at the limits and one byte beyond, with their items. The first is fed whole; that the
+/// cuts which aren't tried give the same items is the law `any_pieces`.
 #[test]
-fn limits_are_met_exactly(rt: HostRuntime) -> Result<(), Fail> {
+fn limits_are_met_exactly_however_cut(rt: HostRuntime) -> Result<(), Fail> {
     let alloc = rt.alloc();
-    let cases: [(&[u8], usize, &[u8], &[u8]); 8] = [
-        (b"get ", 250, b" a\r\n", b"kk a;"),
-        (b"get ", 251, b" a\r\n", b"refused 2;"),
-        (b"foo ", 65_531, b"\r\nget a\r\n", b"refused 1;get a;"),
-        (b"foo ", 65_532, b"\r\nget a\r\n", b"refused 2;"),
-        (b"foo ", 65_533, b"", b"refused 2;"),
+    let cases: [(Long, Long); 10] = [
+        ((b"get ", 250, b" a\r\n"), (b"get ", 250, b" a;")),
+        ((b"get ", 251, b" a\r\n"), (b"refused 2;", 0, b"")),
+        ((b"foo ", 65_531, b"\r\nget a\r\n"), (b"refused 1;get a;", 0, b"")),
+        ((b"foo ", 65_532, b"\r\nget a\r\n"), (b"refused 2;", 0, b"")),
+        ((b"foo ", 65_532, b""), (b"", 0, b"")),
+        ((b"foo ", 65_533, b""), (b"refused 2;", 0, b"")),
         (
-            b"set k 0 0 1048576\r\n",
-            1_048_576,
-            b"\r\nget a\r\n",
-            b"kk;get a;",
+            (b"set k 0 0 1048576\r\n", 1_048_576, b"\r\nget a\r\n"),
+            (b"set k =", 1_048_576, b";get a;"),
         ),
         (
-            b"set k 0 0 1048577\r\n",
-            1_048_579,
-            b"get a\r\n",
-            b"refused 4;get a;",
+            (b"set k 0 0 1048577\r\n", 1_048_579, b"get a\r\n"),
+            (b"refused 4;get a;", 0, b""),
         ),
         (
-            b"set k 0 0 1048577 noreply\r\n",
-            1_048_578,
-            b"get a\r\n",
-            b"refused 4;refused 1;",
+            (b"set k 0 0 1048577 noreply\r\n", 1_048_578, b"get a\r\n"),
+            (b"refused 4;refused 1;", 0, b""),
+        ),
+        (
+            (b"set k 0 0 1048577\r\n", 1_048_577, b"\r\nversion\r\n"),
+            (b"refused 4;version;", 0, b""),
         ),
     ];
-    for (front, letters, back, end) in cases {
-        let text = read_long(alloc, front, letters, back)?;
-        assert!(rt; ends_with(text.as_slice(), end), "{letters}");
+    for (stream, items) in cases {
+        let bytes = long_bytes(alloc, stream)?;
+        let items = long_bytes(alloc, items)?;
+        for cut in 0..=bytes.len() {
+            if is_tried(cut, bytes.len()) {
+                let text = read_cut(alloc, bytes.as_slice(), cut)?;
+                assert!(rt; text.as_slice() == items.as_slice(), "cut at {cut}");
+            }
+        }
     }
     Ok(())
 }
@@ -225,16 +228,43 @@ fn refusals_and_faults_have_numbers_and_lines(rt: HostRuntime) {
     assert!(rt; TextFault::Failed.number() == 1 && TextFault::Memory.number() == 2);
 }
 
-/// Where memory runs out the piece is lost, and the reader has failed.
+/// Where a growth is refused, that piece gives Memory and each later one Failed. (With
+/// `rt try --test --fail-alloc N` the Nth growth is.)
 #[test]
 fn want_of_memory_fails_the_reader(rt: HostRuntime) -> Result<(), Fail> {
     let mut reader = RequestReader::new(rt.alloc());
-    match reader.feed(b"get a b\r\nset a 0 0 1\r\nx\r\n") {
-        Ok(items) => assert_eq!(rt; items.len(), 2),
-        Err(fault) => {
-            assert!(rt; fault == TextFault::Memory);
-            assert!(rt; matches!(reader.feed(b""), Err(TextFault::Failed)));
+    let mut count = 0usize;
+    for piece in b"get a b\r\nset a 0 0 1\r\nx\r\ntouch a 1\r\n".chunks(13) {
+        match reader.feed(piece) {
+            Ok(items) => count = count.saturating_add(items.len()),
+            Err(fault) => {
+                assert!(rt; fault == TextFault::Memory);
+                assert!(rt; matches!(reader.feed(b"get a\r\n"), Err(TextFault::Failed)));
+                assert!(rt; matches!(reader.feed(b""), Err(TextFault::Failed)));
+                return Ok(());
+            }
         }
+    }
+    assert_eq!(rt; count, 3);
+    Ok(())
+}
+
+/// The words of a line take one growth, its keys one for all and one for each: no vector has other room than it needs.
+#[test]
+fn a_line_takes_one_growth_for_each_key(rt: HostRuntime) -> Result<(), Fail> {
+    let alloc = rt.alloc();
+    let words = line_words(alloc, b"get a bb  ccc d e f g h i\r")?;
+    assert!(rt; words.len() == 10 && words.capacity() == 10);
+    let mut reader = RequestReader::new(alloc);
+    let items = reader.feed(b"get a bb  ccc d e f g h i\r\n")?;
+    match items.first() {
+        Some(Item::Asked(Request::Ask(ask))) => {
+            assert!(rt; ask.keys.len() == 9 && ask.keys.capacity() == 9);
+            for key in &ask.keys {
+                assert!(rt; key.capacity() == key.len());
+            }
+        }
+        _ => assert!(rt; false, "no request"),
     }
     Ok(())
 }
