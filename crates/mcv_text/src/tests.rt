@@ -3,7 +3,7 @@
 use super::*;
 use crate::words::line_words;
 use itoa::Buffer;
-use mcv_base::{FixedReply, LegRequest, Op, Part, Reply, Request, Rest};
+use mcv_base::{FixedReply, LegRequest, Op, Part, Reply, Request, Rest, split_key};
 use std::alloc::{AllocError, Global};
 use std::process::Abort;
 use std::sync::Arc;
@@ -70,19 +70,20 @@ fn push_items(text: &mut Vec<u8>, fed: Result<Vec<Item>, TextFault>) -> Result<(
     Ok(())
 }
 
-/// The items of two pieces; where the first fails the reader, those of the first.
+/// The items of two pieces, and `failed` where a further piece is answered Failed.
 fn read_cut(alloc: Global, bytes: &[u8], cut: usize) -> Result<Vec<u8>, Fail> {
     let mut text = Vec::new(alloc);
     let mut reader = RequestReader::new(alloc);
     let (first, second) = bytes.split_at(cut.min(bytes.len()));
     push_items(&mut text, reader.feed(first))?;
     match reader.feed(second) {
-        Err(TextFault::Failed) => Ok(text),
-        fed => {
-            push_items(&mut text, fed)?;
-            Ok(text)
-        }
+        Err(TextFault::Failed) => (),
+        fed => push_items(&mut text, fed)?,
     }
+    if let Err(TextFault::Failed) = reader.feed(b"") {
+        text.extend_from_slice(b"failed")?;
+    }
+    Ok(text)
 }
 
 /// Each row is a stream and its items, wherever it is cut.
@@ -105,7 +106,6 @@ const READ: &str = "get a b~ | get a b;
 gets   a  ~ | gets a;
 delete /././a 0 noreply~ | delete /././a noreply;
 delete a 0~delete a noreply~ | delete a;delete a noreply;
-set k 05 0 3~x~y~~get a~ | refused 3;
 set k 05 0 4~x~y~get a~ | set k f5 =x~y;get a;
 set k 0 -1 0 noreply~~ | set k e-1 noreply;
 add k 4294967295 -0 1~x~ | add k f4294967295 =x;
@@ -122,41 +122,29 @@ fn streams_have_their_items_however_cut(rt: HostRuntime) -> Result<(), Fail> {
     check_rows(&rt, rt.alloc(), READ)
 }
 
-const REFUSED: &str = "get~get a~ | refused 2;
-get a  b\u{7f}~ | refused 2;
-version 1~ | refused 2;
-delete a noreply 0~ | refused 2;
-delete a 1~ | refused 2;
-set k 0 0 -1~ | refused 2;
-set k 4294967296 0 1~ | refused 2;
-set k 0 +1 1~ | refused 2;
-set k 0 0 1 noreply noreply~ | refused 2;
-set k 0 0~ | refused 2;
-touch a 9223372036854775808~ | refused 2;
-touch a -9223372036854775809~ | refused 2;
-touch a -~ | refused 2;
-cas k 0 0 0 18446744073709551616~ | refused 2;
-set a 0 0 1~xyz~ | refused 3;
-set a 0 0 1~x^ | refused 3;
-get a~add a 0 0 0~ ~ | get a;refused 3;";
+const REFUSED: &str = "set k 05 0 3~x~y~~get a~ | refused 3;failed
+get~get a~ | refused 2;failed
+get a  b\u{7f}~ | refused 2;failed
+version 1~ | refused 2;failed
+delete a noreply 0~ | refused 2;failed
+delete a 1~ | refused 2;failed
+set k 0 0 -1~ | refused 2;failed
+set k 4294967296 0 1~ | refused 2;failed
+set k 0 +1 1~ | refused 2;failed
+set k 0 0 1 noreply noreply~ | refused 2;failed
+set k 0 0~ | refused 2;failed
+touch a 9223372036854775808~ | refused 2;failed
+touch a -9223372036854775809~ | refused 2;failed
+touch a -~ | refused 2;failed
+cas k 0 0 0 18446744073709551616~ | refused 2;failed
+set a 0 0 1~xyz | refused 3;failed
+set a 0 0 1~xyz~ | refused 3;failed
+set a 0 0 1~x^ | refused 3;failed
+get a~add a 0 0 0~ ~ | get a;refused 3;failed";
 
 #[test]
 fn refusals_2_and_3_end_the_reading(rt: HostRuntime) -> Result<(), Fail> {
-    let alloc = rt.alloc();
-    check_rows(&rt, alloc, REFUSED)?;
-    for row in REFUSED.lines() {
-        if let Some((stream, _)) = row.split_once(" | ") {
-            let bytes = unfolded(alloc, stream)?;
-            let mut reader = RequestReader::new(alloc);
-            let _items = reader.feed(bytes.as_slice())?;
-            assert!(rt;
-                matches!(reader.feed(b"get a\r\n"), Err(TextFault::Failed)),
-                "{row}"
-            );
-            assert!(rt; matches!(reader.feed(b""), Err(TextFault::Failed)), "{row}");
-        }
-    }
-    Ok(())
+    check_rows(&rt, rt.alloc(), REFUSED)
 }
 
 /// Bytes that begin with `front`, go on with so many letters and end with `back`.
@@ -177,18 +165,24 @@ fn is_tried(cut: usize, length: usize) -> bool {
     cut < 48 || length.saturating_sub(cut) < 48 || cut % 4093 == 0
 }
 
-/// Streams at the limits and one byte beyond, with their items. The first is fed whole; that the
-/// cuts which aren't tried give the same items is the law `any_pieces`.
+/// Streams at the limits and one byte beyond, with their items. That the cuts which aren't tried
+/// give the same items is the law `any_pieces`.
 #[test]
 fn limits_are_met_exactly_however_cut(rt: HostRuntime) -> Result<(), Fail> {
     let alloc = rt.alloc();
     let cases: [(Long, Long); 10] = [
         ((b"get ", 250, b" a\r\n"), (b"get ", 250, b" a;")),
-        ((b"get ", 251, b" a\r\n"), (b"refused 2;", 0, b"")),
-        ((b"foo ", 65_531, b"\r\nget a\r\n"), (b"refused 1;get a;", 0, b"")),
-        ((b"foo ", 65_532, b"\r\nget a\r\n"), (b"refused 2;", 0, b"")),
+        ((b"get ", 251, b" a\r\n"), (b"refused 2;failed", 0, b"")),
+        (
+            (b"foo ", 65_531, b"\r\nget a\r\n"),
+            (b"refused 1;get a;", 0, b""),
+        ),
+        (
+            (b"foo ", 65_532, b"\r\nget a\r\n"),
+            (b"refused 2;failed", 0, b""),
+        ),
         ((b"foo ", 65_532, b""), (b"", 0, b"")),
-        ((b"foo ", 65_533, b""), (b"refused 2;", 0, b"")),
+        ((b"foo ", 65_533, b""), (b"refused 2;failed", 0, b"")),
         (
             (b"set k 0 0 1048576\r\n", 1_048_576, b"\r\nget a\r\n"),
             (b"set k =", 1_048_576, b";get a;"),
@@ -337,6 +331,48 @@ fn other_answers_are_one_line(rt: HostRuntime) -> Result<(), Fail> {
     for (stream, reply, line) in cases {
         let text = answered(alloc, stream, &[Part::Fixed(reply)])?;
         assert!(rt; text.as_slice() == line);
+    }
+    Ok(())
+}
+
+/// Adds the text of the leg that sends a request on, under the rest of its first key.
+fn push_sent(alloc: Global, text: &mut Vec<u8>, item: &Item) -> Result<(), Fail> {
+    let Item::Asked(Request::Ask(ask)) = item else {
+        return Ok(());
+    };
+    let Some(key) = ask.keys.first() else {
+        return Ok(());
+    };
+    let Ok((_prefix, rest)) = split_key(key.as_slice()) else {
+        return Ok(());
+    };
+    let leg = LegRequest {
+        op: ask.op,
+        rest: Arc::new(alloc, rest)?,
+        flags: ask.flags,
+        exptime: ask.exptime,
+        body: Arc::new(alloc, Vec::from_slice(alloc, ask.body.as_slice())?)?,
+        cas: ask.cas,
+    };
+    let sent = leg_text(alloc, &leg)?;
+    text.extend_from_slice(sent.as_slice())?;
+    Ok(())
+}
+
+#[test]
+fn a_request_is_sent_on_under_its_rest(rt: HostRuntime) -> Result<(), Fail> {
+    let alloc = rt.alloc();
+    let bytes = b"set   /././k 05 0 1 noreply\r\nx\r\n".as_slice();
+    for cut in 0..=bytes.len() {
+        let mut text = Vec::new(alloc);
+        let mut reader = RequestReader::new(alloc);
+        let (first, second) = bytes.split_at(cut.min(bytes.len()));
+        for piece in [first, second] {
+            for item in &reader.feed(piece)? {
+                push_sent(alloc, &mut text, item)?;
+            }
+        }
+        assert!(rt; text.as_slice() == b"set k 5 0 1\r\nx\r\n".as_slice());
     }
     Ok(())
 }

@@ -12,7 +12,7 @@ push_reserved-requires c =
     (YieldsList-at c.into_iter-word-iterator.ensures.into_iter_gives
     (YieldsList-from_filter _ (λ (word : List ℕ). not (nat_eq (length word) 0))
     (YieldsList-at c.filter-word-items.ensures.source
-    (YieldsList-from_slice_split _ is_space c.args.line.now c.split-word-items.ensures.rest c.split-word-items.ensures.done c.split-word-items.ensures.closure (λ x b q k. search (rules, tests))))
+    (YieldsList-from_slice_split _ is_space c.args.line.now c.split.ensures.rest c.split.ensures.done c.split.ensures.closure (λ x b q k. search (rules, tests))))
     c.filter-word-items.ensures.closure (λ x b q k. search (rules, tests))))
     c.loop-word.yielded _ c.loop-word.yielded_by _ _ c.in-Some.word c.in-Some.is c.next.ensures.steps in
     omega (arith, c.loop-word.invariant.room, c.loop-word.invariant.kept, turn.0)
@@ -24,7 +24,7 @@ returns c =
     (YieldsList-at c.into_iter-word-iterator.ensures.into_iter_gives
     (YieldsList-from_filter _ (λ (word : List ℕ). not (nat_eq (length word) 0))
     (YieldsList-at c.filter-word-items.ensures.source
-    (YieldsList-from_slice_split _ is_space c.args.line.now c.split-word-items.ensures.rest c.split-word-items.ensures.done c.split-word-items.ensures.closure (λ x b q k. search (rules, tests))))
+    (YieldsList-from_slice_split _ is_space c.args.line.now c.split.ensures.rest c.split.ensures.done c.split.ensures.closure (λ x b q k. search (rules, tests))))
     c.filter-word-items.ensures.closure (λ x b q k. search (rules, tests))))
     c.loop-word.yielded _ c.loop-word.yielded_by _ _ c.in-None.is c.next.ensures.steps in
     ap (map (λ word. word.now)) c.loop-word.invariant.same ∙ end.0
