@@ -162,7 +162,7 @@ fn long_bytes(alloc: Global, long: Long) -> Result<Vec<u8>, AllocError> {
 
 /// Whether a stream of `length` bytes is cut here: each cut near both ends, and some between them.
 fn is_tried(cut: usize, length: usize) -> bool {
-    cut < 48 || length.saturating_sub(cut) < 48 || cut % 4093 == 0
+    cut < 24 || length.saturating_sub(cut) < 24 || cut % 65_537 == 0
 }
 
 /// Streams at the limits and one byte beyond, with their items. That the cuts which aren't tried

@@ -1,8 +1,8 @@
-use Rattle.std.proofs.Common.{◌≡◌, List, ℕ, length, map, not, nat_eq, ap, ◌∙◌, arith, rules}
+use Rattle.std.proofs.Common.{◌<◌, List, ℕ, length, map, not, nat_eq, ap, ◌∙◌, arith, rules}
 use Rattle.std.proofs.lemmas.Iterator.Consumers.{YieldsList-from_filter, YieldsList-at, YieldsList-turn, YieldsList-end}
 use Rattle.std.proofs.lemmas.Iterator.Splits.{YieldsList-from_slice_split}
 use borrow.Author.Tests.{tests}
-use Rattle.mcv_text.specs.Words.{is_space}
+use Rattle.mcv_text.specs.Words.{is_space, words}
 use Rattle.mcv_text.proofs.words.words_of.Goals as goal
 
 -- the words before this one are fewer than the words of the line
@@ -15,7 +15,8 @@ push_reserved-requires c =
     (YieldsList-from_slice_split _ is_space c.args.line.now c.split.ensures.rest c.split.ensures.done c.split.ensures.closure (λ x b q k. search (rules, tests))))
     c.filter-word-items.ensures.closure (λ x b q k. search (rules, tests))))
     c.loop-word.yielded _ c.loop-word.yielded_by _ _ c.in-Some.word c.in-Some.is c.next.ensures.steps in
-    omega (arith, c.loop-word.invariant.room, c.loop-word.invariant.kept, turn.0)
+    let fewer : length c.loop-word.yielded < length (words c.args.line.now) = turn.0 in
+    omega (arith, c.loop-word.invariant.room, c.loop-word.invariant.kept, fewer)
 
 -- the loop has seen all of them
 pub returns : goal.returns
