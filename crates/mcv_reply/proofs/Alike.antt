@@ -1,14 +1,13 @@
 -- A line has one reading: its first word and its numbers.
-use Rattle.std.proofs.Common.{◌≡◌, ◌≢◌, ℕ, suc, zero, ◌+◌, ◌-◌, ◌*◌, ◌<◌, ◌≤◌, ◌⊎◌, inl, inr, Bool, true, false, ltb, cond, eqb, get_or, List, [], ◌∷◌, ◌++◌, length, refl, sym, ap, subst, ◌∙◌, arith, Option, Some, None}
-use Rattle.std.specs.List.{list_all, All}
+use Rattle.std.proofs.Common.{◌≡◌, ℕ, suc, zero, ◌<◌, ◌≤◌, inl, inr, Bool, true, false, ltb, cond, eqb, get_or, List, [], ◌∷◌, ◌++◌, length, refl, sym, ap, subst, ◌∙◌, arith}
+use Rattle.std.specs.List.{list_all}
 use Rattle.std.proofs.lemmas.Bool.{and_parts, and_from, ltb-true, lt-ltb}
-use Rattle.std.proofs.lemmas.List.Elements.{All-head, All-tail}
 use Rattle.mcv_reply.specs.declared.word.Word.{Word}
 use Rattle.mcv_reply.specs.declared.word.Word.TheVariants.{End, Value, Stored, NotStored, Exists, NotFound, Deleted, Touched, Error, ClientError, ServerError, Version}
 use Rattle.mcv_reply.specs.declared.word.Row.{Row}
 use Rattle.mcv_reply.specs.declared.candidate.Head.{Head}
-use Rattle.mcv_reply.specs.Word.{has_cas, tail_of, word_text, words}
-use Rattle.mcv_reply.specs.Line.{Form, word, number, text, Next, Writes, IsWritten, IsDigits, IsLine, cas_forms, decimal_from, flags_forms, size_forms, spaces, tail_forms}
+use Rattle.mcv_reply.specs.Word.{has_cas, tail_of, word_text}
+use Rattle.mcv_reply.specs.Line.{Form, word, number, Next, Writes, IsWritten, IsDigits, IsLine, cas_forms, decimal_from, flags_forms, size_forms, spaces, tail_forms}
 use Rattle.mcv_reply.specs.Place.{is_clean}
 use Rattle.mcv_reply.proofs.Writing.{Starts, behind_first, number_starts}
 use Rattle.mcv_reply.proofs.Words.{word_clean, word_starts}

@@ -1,5 +1,5 @@
 -- Moves by the space that must stand between two words.
-use Rattle.std.proofs.Common.{◌≡◌, ◌≢◌, ℕ, ◌+◌, ◌<◌, ◌≤◌, Bool, true, false, cond, eqb, List, [], ◌∷◌, ◌++◌, length, Option, Some, None, refl, sym, ap, subst, ◌∙◌, arith}
+use Rattle.std.proofs.Common.{◌≡◌, ℕ, Bool, true, false, cond, eqb, List, [], ◌∷◌, Option, Some, None, refl, sym, ap, subst, arith}
 use Rattle.mcv_reply.specs.declared.word.Tail.{Tail}
 use Rattle.mcv_reply.specs.declared.word.Tail.TheVariants as tails
 use Rattle.mcv_reply.specs.declared.candidate.Head.{Head}
@@ -11,8 +11,8 @@ use Rattle.mcv_reply.specs.declared.candidate.Place.TheVariants.{BeforeName, Bef
 use Rattle.mcv_reply.specs.declared.candidate.Candidate.{Candidate}
 use Rattle.mcv_reply.specs.declared.candidate.Move.{Move}
 use Rattle.mcv_reply.specs.Word.{tail_of}
-use Rattle.mcv_reply.specs.Line.{Form, word, number, Next, Writes, cas_forms, flags_forms, size_forms, tail_forms}
-use Rattle.mcv_reply.specs.Place.{HasName, HasNumber, Moves, MovesOn, MovesBehindName, MovesBehindNumber, SoFar, behind_name, behind_number, fewest, number_in, zero_head}
+use Rattle.mcv_reply.specs.Line.{word, number, Writes, cas_forms, flags_forms, size_forms, tail_forms}
+use Rattle.mcv_reply.specs.Place.{HasName, HasNumber, MovesBehindName, MovesBehindNumber, fewest, zero_head}
 use Rattle.mcv_reply.proofs.Writing.{space_on, space_back}
 use Rattle.mcv_reply.proofs.Moving.{moves_by_space}
 

@@ -1,20 +1,18 @@
 -- Where a line may end.
-use Rattle.std.proofs.Common.{◌≡◌, ◌≢◌, ℕ, ◌+◌, ◌<◌, ◌≤◌, Bool, true, false, List, [], ◌∷◌, ◌++◌, length, drop, Option, Some, None, refl, sym, ap, subst, ◌∙◌, arith, length-append}
+use Rattle.std.proofs.Common.{◌≡◌, ℕ, ◌<◌, ◌≤◌, Bool, true, false, List, [], ◌++◌, length, Some, None, refl, sym, ap, subst, arith}
 use Rattle.std.proofs.lemmas.List.{length-drop, drop_all}
-use Rattle.mcv_reply.specs.declared.word.Word.{Word}
 use Rattle.mcv_reply.specs.declared.word.Tail.{Tail}
 use Rattle.mcv_reply.specs.declared.word.Tail.TheVariants as tails
 use Rattle.mcv_reply.specs.declared.candidate.Head.{Head}
 use Rattle.mcv_reply.specs.declared.candidate.Name.{Name}
-use Rattle.mcv_reply.specs.declared.candidate.Name.TheVariants.{First, Key}
-use Rattle.mcv_reply.specs.declared.candidate.Number.{Number}
-use Rattle.mcv_reply.specs.declared.candidate.Number.TheVariants.{Flags, Size, Cas}
+use Rattle.mcv_reply.specs.declared.candidate.Name.TheVariants.{First}
+use Rattle.mcv_reply.specs.declared.candidate.Number.TheVariants.{Size, Cas}
 use Rattle.mcv_reply.specs.declared.candidate.Place.{Place}
-use Rattle.mcv_reply.specs.declared.candidate.Place.TheVariants.{BeforeName, InName, BeforeNumber, InNumber, Blank, Return, Text}
+use Rattle.mcv_reply.specs.declared.candidate.Place.TheVariants.{BeforeName, InName, InNumber, Blank, Return, Text}
 use Rattle.mcv_reply.specs.declared.candidate.Candidate.{Candidate}
 use Rattle.mcv_reply.specs.Word.{tail_of, word_text}
 use Rattle.mcv_reply.specs.Line.{Writes, cas_forms, tail_forms}
-use Rattle.mcv_reply.specs.Place.{AllRead, Ends, Follows, IsValid, IsValidAt, SameCas, behind_name, fewest, is_clean, limit_of, name_text, needed, zero_head}
+use Rattle.mcv_reply.specs.Place.{AllRead, Ends, Follows, IsValid, IsValidAt, SameCas, fewest, is_clean, name_text, needed, zero_head}
 use Rattle.mcv_reply.proofs.Least.{needed_least}
 use Rattle.mcv_reply.proofs.Words.{clean_starts, name_clean}
 

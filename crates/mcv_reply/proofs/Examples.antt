@@ -1,13 +1,13 @@
 -- Replies, as their bytes are written.
-use Rattle.std.proofs.Common.{◌≡◌, ◌≢◌, ℕ, ◌<◌, ◌≤◌, ◌⊎◌, inl, inr, Bool, true, false, not, eqb, List, [], ◌∷◌, ◌++◌, length, refl, arith, Option, Some, None}
+use Rattle.std.proofs.Common.{◌≡◌, ◌≢◌, ℕ, inl, inr, true, not, eqb, List, [], ◌∷◌, ◌++◌, refl, arith, None}
 use Rattle.std.specs.Prelude.{codes}
 use Rattle.std.specs.List.{All, list_all}
 use Rattle.std.proofs.lemmas.Bool.{and_parts, not-true, eqb-false}
 use Rattle.std.proofs.lemmas.List.Elements.{All-nil, All-cons}
-use Rattle.mcv_base.specs.declared.operation.Op.TheVariants.{Get, Gets, Delete}
+use Rattle.mcv_base.specs.declared.operation.Op.TheVariants.{Get, Delete}
 use Rattle.mcv_base.specs.Reply.{hit, miss, fault}
-use Rattle.mcv_reply.specs.declared.word.Word.TheVariants.{End, Value, ServerError}
-use Rattle.mcv_reply.specs.declared.word.Row.TheVariants.{Reply, AfterValue}
+use Rattle.mcv_reply.specs.declared.word.Word.TheVariants.{End, ServerError}
+use Rattle.mcv_reply.specs.declared.word.Row.TheVariants.{Reply}
 use Rattle.mcv_reply.specs.declared.candidate.Head.{Head}
 use Rattle.mcv_reply.specs.Line.{IsLine}
 use Rattle.mcv_reply.specs.Place.{zero_head}

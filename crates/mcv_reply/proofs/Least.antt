@@ -1,5 +1,5 @@
 -- How short what may follow can be.
-use Rattle.std.proofs.Common.{◌≡◌, ◌≢◌, ℕ, ◌+◌, ◌<◌, ◌≤◌, Bool, true, false, List, [], ◌∷◌, ◌++◌, length, drop, replicate, refl, sym, ap, subst, ◌∙◌, arith, length-append}
+use Rattle.std.proofs.Common.{◌≡◌, ◌≢◌, ℕ, ◌+◌, ◌≤◌, Bool, true, false, List, [], ◌∷◌, ◌++◌, length, drop, refl, ap, arith, length-append}
 use Rattle.std.proofs.lemmas.List.{length-replicate}
 use Rattle.mcv_reply.specs.declared.word.Word.{Word}
 use Rattle.mcv_reply.specs.declared.word.Tail.{Tail}
@@ -12,7 +12,7 @@ use Rattle.mcv_reply.specs.declared.candidate.Number.TheVariants.{Flags, Size, C
 use Rattle.mcv_reply.specs.declared.candidate.Place.{Place}
 use Rattle.mcv_reply.specs.declared.candidate.Place.TheVariants.{BeforeName, InName, BeforeNumber, InNumber, Blank, Return, Text}
 use Rattle.mcv_reply.specs.Word.{tail_of}
-use Rattle.mcv_reply.specs.Line.{Form, word, number, text, Next, Writes, IsWritten, cas_forms, flags_forms, size_forms, tail_forms, spaces}
+use Rattle.mcv_reply.specs.Line.{Form, word, number, text, Next, Writes, cas_forms, tail_forms, spaces}
 use Rattle.mcv_reply.specs.Place.{Follows, behind_name, behind_number, fewest, limit_of, name_text, needed, number_in, zero_head}
 
 next_length : (form : Form) (least : ℕ) (Then : List ℕ → Type 0) (line : List ℕ) (n : Next form least Then line) → length line ≡ n.gap + (length n.written + length n.after)

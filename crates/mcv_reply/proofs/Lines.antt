@@ -1,10 +1,9 @@
 -- The candidates of a line.
-use Rattle.std.proofs.Common.{◌≡◌, ◌≢◌, ℕ, zero, suc, ◌+◌, ◌-◌, ◌<◌, ◌≤◌, ◌⊎◌, inl, inr, Bool, true, false, List, [], ◌∷◌, ◌++◌, length, get_or, take, drop, map, Option, Some, None, refl, sym, ap, subst, ◌∙◌, arith, append_assoc, length-append}
+use Rattle.std.proofs.Common.{◌≡◌, ◌≢◌, ℕ, ◌+◌, ◌<◌, ◌≤◌, inl, inr, Bool, true, false, List, [], ◌∷◌, ◌++◌, length, get_or, take, map, Some, None, refl, sym, ap, subst, ◌∙◌, arith, append_assoc}
 use Rattle.std.specs.List.{All, Any, Contains}
 use Rattle.std.proofs.lemmas.Bool.{cases_lt}
 use Rattle.std.proofs.lemmas.List.{append-nil, get_or-map, get_or_append_left, get_or_push, length_push, length-map, map_more}
-use Rattle.std.proofs.lemmas.List.Elements.{All-nil, All-map, All-weaker, All-contains_itself, All-push, All-append, All-get_or}
-use Rattle.mcv_base.specs.declared.operation.Op.{Op}
+use Rattle.std.proofs.lemmas.List.Elements.{All-nil, All-map, All-weaker, All-contains_itself, All-push, All-append}
 use Rattle.mcv_base.specs.declared.operation.Op.TheVariants as ops
 use Rattle.mcv_reply.specs.declared.word.Word.{Word}
 use Rattle.mcv_reply.specs.declared.word.Word.TheVariants.{End, Value, Stored, NotStored, Exists, NotFound, Deleted, Touched, Error, ClientError, ServerError, Version}
@@ -18,7 +17,7 @@ use Rattle.mcv_reply.specs.declared.candidate.Place.TheVariants.{BeforeName}
 use Rattle.mcv_reply.specs.declared.candidate.Candidate.{Candidate}
 use Rattle.mcv_reply.specs.Word.{has_cas, tail_of, word_text, words}
 use Rattle.mcv_reply.specs.Line.{IsLine, tail_forms, cas_forms}
-use Rattle.mcv_reply.specs.Place.{Ends, Follows, IsKept, IsValid, Open, Reads, ReadsOn, Says, fewest, is_clean, needed, new_candidate, zero_head}
+use Rattle.mcv_reply.specs.Place.{Ends, IsKept, IsValid, Open, Reads, Says, fewest, is_clean, needed, new_candidate, zero_head}
 
 -- at most seven first words
 pub few_words : (row : Row) → length (words row) ≤ 7

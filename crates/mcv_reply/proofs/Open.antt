@@ -1,5 +1,5 @@
 -- A candidate that is left can always be completed.
-use Rattle.std.proofs.Common.{◌≡◌, ◌≢◌, ℕ, suc, zero, ◌+◌, ◌-◌, ◌<◌, ◌≤◌, Bool, true, false, ltb, List, [], ◌∷◌, ◌++◌, length, drop, replicate, refl, sym, ap, subst, ◌∙◌, arith, length-append}
+use Rattle.std.proofs.Common.{◌≡◌, ◌≢◌, ℕ, suc, zero, ◌<◌, ◌≤◌, Bool, true, false, ltb, List, [], ◌∷◌, ◌++◌, length, drop, refl, sym, ◌∙◌, arith, length-append}
 use Rattle.std.specs.List.{All, list_all}
 use Rattle.std.proofs.lemmas.Bool.{and_parts, ltb-true}
 use Rattle.std.proofs.lemmas.List.Elements.{All-nil, All-cons, All-append, All-drop}
@@ -16,11 +16,10 @@ use Rattle.mcv_reply.specs.declared.candidate.Place.{Place}
 use Rattle.mcv_reply.specs.declared.candidate.Place.TheVariants.{BeforeName, InName, BeforeNumber, InNumber, Blank, Return, Text}
 use Rattle.mcv_reply.specs.declared.candidate.Candidate.{Candidate}
 use Rattle.mcv_reply.specs.Word.{tail_of}
-use Rattle.mcv_reply.specs.Line.{Form, word, number, text, Next, Writes, cas_forms, flags_forms, size_forms, tail_forms, spaces}
-use Rattle.mcv_reply.specs.Place.{Follows, IsValid, IsValidAt, Open, behind_name, behind_number, fewest, is_clean, limit_of, name_text, needed, number_in, zero_head}
+use Rattle.mcv_reply.specs.Line.{Form, word, number, text, Writes, cas_forms, size_forms, tail_forms, spaces}
+use Rattle.mcv_reply.specs.Place.{Follows, IsValid, IsValidAt, Open, behind_name, fewest, is_clean, limit_of, name_text, needed, zero_head}
 use Rattle.mcv_reply.proofs.Ending.{all_read}
 use Rattle.mcv_reply.proofs.Words.{name_clean}
-use Rattle.mcv_reply.proofs.Least.{fewest_name, fewest_number}
 
 -- the words are visible and the numbers 0
 abbrev pub IsPlain : List Form → Type 0

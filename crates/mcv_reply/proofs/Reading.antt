@@ -1,12 +1,11 @@
 -- A candidate behind some bytes.
-use Rattle.std.proofs.Common.{◌≡◌, ◌≢◌, ℕ, ◌+◌, ◌-◌, ◌<◌, ◌≤◌, Bool, true, false, cond, List, [], ◌∷◌, ◌++◌, length, get_or, take, drop, Option, Some, None, refl, sym, ap, subst, ◌∙◌, arith}
-use Rattle.std.specs.List.{All}
+use Rattle.std.proofs.Common.{◌≡◌, ◌≢◌, ℕ, ◌+◌, ◌<◌, ◌≤◌, Bool, true, cond, List, [], ◌∷◌, ◌++◌, length, get_or, drop, Some, None, sym, subst, ◌∙◌, arith}
 use Rattle.std.proofs.lemmas.List.{drop_more, drop_all}
 use Rattle.std.proofs.lemmas.List.Elements.{All-tail, All-cons}
 use Rattle.mcv_reply.specs.declared.candidate.Head.{Head}
 use Rattle.mcv_reply.specs.declared.candidate.Candidate.{Candidate}
 use Rattle.mcv_reply.specs.declared.candidate.Move.{Move}
-use Rattle.mcv_reply.specs.Place.{IsValid, Follows, MovesAt, MovesOn, Open, Reads, ReadsOn, needed}
+use Rattle.mcv_reply.specs.Place.{IsValid, MovesAt, Open, Reads, ReadsOn, needed}
 use Rattle.mcv_reply.proofs.Least.{needed_least}
 
 module _ (has : Bool) (key : List ℕ) (c : Candidate) (b : ℕ) (no_end : b ≢ 10) where

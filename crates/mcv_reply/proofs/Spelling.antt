@@ -1,7 +1,7 @@
 -- What a reply goes on with.
-use Rattle.std.proofs.Common.{◌≡◌, ◌≢◌, ℕ, suc, zero, ◌+◌, ◌-◌, ◌<◌, ◌≤◌, ◌⊎◌, inl, inr, Bool, true, false, List, [], ◌∷◌, ◌++◌, length, get_or, take, drop, refl, sym, ap, subst, ◌∙◌, arith, append_assoc, length-append, Option, Some, None}
+use Rattle.std.proofs.Common.{◌≡◌, ◌≢◌, ℕ, Bool, true, false, List, [], ◌∷◌, ◌++◌, length, take, drop, refl, sym, ap, subst, ◌∙◌, append_assoc, Option, Some, None}
 use Rattle.std.specs.List.{All}
-use Rattle.std.proofs.lemmas.List.{append-nil, take_at, drop_at}
+use Rattle.std.proofs.lemmas.List.{take_at, drop_at}
 use Rattle.std.proofs.lemmas.List.Elements.{All-head, All-tail}
 use Rattle.mcv_base.specs.declared.operation.Op.{Op}
 use Rattle.mcv_base.specs.Reply.{ReplyValue, hit}
@@ -12,8 +12,7 @@ use Rattle.mcv_reply.specs.declared.candidate.Head.{Head}
 use Rattle.mcv_reply.specs.Word.{has_cas}
 use Rattle.mcv_reply.specs.Line.{IsLine}
 use Rattle.mcv_reply.specs.Place.{is_clean}
-use Rattle.mcv_reply.specs.Reply.{Spells, SpellsAlone, SpellsHit, alone, with_value, cas_said, said_alone}
-use Rattle.mcv_reply.specs.Reader.{BeginsNone}
+use Rattle.mcv_reply.specs.Reply.{Spells, alone, with_value, cas_said, said_alone}
 use Rattle.mcv_reply.proofs.Alike.{first_one, value_one}
 
 pub line_one : (l m x y : List ℕ) → All (λ b. b ≢ 10) l → All (λ b. b ≢ 10) m → l ++ 10 ∷ x ≡ m ++ 10 ∷ y → (l ≡ m) × (x ≡ y)

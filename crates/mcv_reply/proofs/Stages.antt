@@ -1,9 +1,9 @@
 -- Steps of a reply that has come in part.
-use Rattle.std.proofs.Common.{◌≡◌, ◌≢◌, ℕ, suc, zero, ◌+◌, ◌-◌, ◌<◌, ◌≤◌, ◌⊎◌, inl, inr, Bool, true, false, not, List, [], ◌∷◌, ◌++◌, length, get_or, take, drop, replicate, refl, sym, ap, subst, ◌∙◌, arith, append_assoc, length-append, Option, Some, None}
-use Rattle.std.specs.List.{All, Any, Contains, list_all}
+use Rattle.std.proofs.Common.{◌≡◌, ◌≢◌, ℕ, suc, zero, ◌-◌, ◌<◌, ◌≤◌, ◌⊎◌, inl, inr, Bool, true, false, List, [], ◌∷◌, ◌++◌, length, get_or, drop, replicate, refl, sym, ap, subst, ◌∙◌, arith, append_assoc, length-append, Some, None}
+use Rattle.std.specs.List.{All, list_all}
 use Rattle.std.proofs.lemmas.Bool.{false≢true}
 use Rattle.std.proofs.lemmas.List.{append-nil, get_or_append_left, length-replicate}
-use Rattle.std.proofs.lemmas.List.Elements.{All-append, All-contains, All-get_or}
+use Rattle.std.proofs.lemmas.List.Elements.{All-contains}
 use Rattle.std.proofs.lemmas.List.Sums.{AllPass-from_list_all}
 use Rattle.mcv_base.specs.declared.operation.Op.{Op}
 use Rattle.mcv_base.specs.declared.operation.Op.TheVariants as ops
@@ -14,14 +14,14 @@ use Rattle.mcv_reply.specs.declared.word.Row.{Row}
 use Rattle.mcv_reply.specs.declared.word.Row.TheVariants as rows
 use Rattle.mcv_reply.specs.declared.candidate.Head.{Head}
 use Rattle.mcv_reply.specs.declared.candidate.Candidate.{Candidate}
-use Rattle.mcv_reply.specs.Word.{answers, has_cas, words}
+use Rattle.mcv_reply.specs.Word.{answers, has_cas}
 use Rattle.mcv_reply.specs.Line.{IsLine}
 use Rattle.mcv_reply.specs.Place.{IsKept, is_clean, zero_head}
-use Rattle.mcv_reply.specs.Reply.{Spells, SpellsAlone, SpellsHit, alone, with_value, cas_said, said_alone}
+use Rattle.mcv_reply.specs.Reply.{Spells, alone, with_value, cas_said, said_alone}
 use Rattle.mcv_reply.specs.Reader.{BeginsNone, IsFront}
 use Rattle.std.specs.Prelude.{codes}
 use Rattle.mcv_reply.proofs.Open.{candidate_opens, clean_ends}
-use Rattle.mcv_reply.proofs.Spelling.{line_one, front_of_line, same_length, value_goes, value_back, last_goes, alone_goes, replies_one}
+use Rattle.mcv_reply.proofs.Spelling.{line_one, front_of_line, value_goes, value_back, last_goes}
 
 -- no line of the row goes on from the bytes
 abbrev pub IsNoLine : Row → List ℕ → List ℕ → Type 0

@@ -1,17 +1,17 @@
 -- Answers of the steps.
-use Rattle.std.proofs.Common.{◌≡◌, ◌≢◌, ◌⊎◌, inl, inr, ℕ, suc, zero, ◌+◌, ◌-◌, ◌<◌, ◌≤◌, Bool, true, false, List, [], ◌∷◌, ◌++◌, length, get_or, take, drop, refl, sym, ap, subst, ◌∙◌, arith, append_assoc, length-append, Option, Some, None, Result, Ok, Err, eq-eqb}
+use Rattle.std.proofs.Common.{◌≡◌, ◌≢◌, ◌⊎◌, inl, inr, ℕ, ◌+◌, ◌<◌, Bool, true, List, [], ◌∷◌, ◌++◌, length, get_or, take, drop, refl, sym, ap, subst, ◌∙◌, arith, append_assoc, length-append, Option, Some, None, Result, Ok, Err, eq-eqb}
 use Rattle.std.specs.List.{All}
 use Rattle.std.specs.Prelude.{codes}
 use Rattle.std.proofs.lemmas.Bool.{eqb-true}
 use Rattle.std.proofs.lemmas.List.{append-nil, take-append-drop, drop_more, length-take, get_or-take, take_more, nil_from_length}
-use Rattle.std.proofs.lemmas.List.Elements.{All-append, All-take, All-from_get_or}
+use Rattle.std.proofs.lemmas.List.Elements.{All-from_get_or}
 use Rattle.memchr.specs.Find.{IsFirstByte, is_byte}
 use Rattle.mcv_base.specs.declared.operation.Op.{Op}
 use Rattle.mcv_base.specs.declared.operation.Op.TheVariants as ops
 use Rattle.mcv_base.specs.declared.reply.Reply.{Reply}
 use Rattle.mcv_base.specs.Reply.{ReplyValue, hit, reply_value}
 use Rattle.mcv_reply.specs.declared.word.Word.{Word}
-use Rattle.mcv_reply.specs.declared.word.Word.TheVariants.{End, Value, Error, Version}
+use Rattle.mcv_reply.specs.declared.word.Word.TheVariants.{End, Value, Error}
 use Rattle.mcv_reply.specs.declared.word.Row.{Row}
 use Rattle.mcv_reply.specs.declared.word.Row.TheVariants as rows
 use Rattle.mcv_reply.specs.declared.candidate.Head.{Head}
@@ -22,15 +22,15 @@ use Rattle.mcv_reply.specs.declared.progress.Progress.{Progress}
 use Rattle.mcv_reply.specs.declared.progress.Stage.{Stage}
 use Rattle.mcv_reply.specs.declared.progress.Stage.TheVariants as stages
 use Rattle.mcv_reply.specs.Reader as standing
-use Rattle.mcv_reply.specs.Word.{answers, has_cas, words}
+use Rattle.mcv_reply.specs.Word.{answers, has_cas}
 use Rattle.mcv_reply.specs.Line.{IsLine}
-use Rattle.mcv_reply.specs.Place.{GoesOn, IsKept, Says, is_clean, zero_head}
+use Rattle.mcv_reply.specs.Place.{GoesOn, IsKept, is_clean, zero_head}
 use Rattle.mcv_reply.specs.Reply.{Spells, cas_said}
 use Rattle.mcv_reply.specs.Reader.{Stands, Fed, Answered, Answers, FeedsAt, IsFront, BeginsNone}
 use Rattle.mcv_reply.specs.Progress.{bytes_at, HitMade, IsAt, IsAtStage, LastEnds, FirstEnds, ReadsPiece, StepMakes, Steps, stands_at}
 use Rattle.mcv_reply.proofs.Spelling.{replies_one}
 use Rattle.mcv_reply.proofs.Open.{clean_ends}
-use Rattle.mcv_reply.proofs.Stages.{front_last, front_line, front_return, front_value, begins_more, end_line, ended_right, ended_wrong, last_right, last_wrong, last_whole, no_last_begins, no_line_begins, only_end}
+use Rattle.mcv_reply.proofs.Stages.{front_last, front_line, front_return, front_value, begins_more, end_line, last_right, last_whole, no_last_begins, no_line_begins, only_end}
 
 -- no LF is found
 pub no_end_found : (piece : List ℕ) → IsFirstByte (is_byte 10) piece None → All (λ b. b ≢ 10) piece

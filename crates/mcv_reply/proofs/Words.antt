@@ -1,5 +1,5 @@
 -- First words, and what they begin with.
-use Rattle.std.proofs.Common.{◌≡◌, ◌≢◌, ℕ, ◌<◌, ◌≤◌, Bool, true, false, ltb, List, [], ◌∷◌, length, refl, ◌∙◌, arith, ◌&&◌, not, leb, eqb}
+use Rattle.std.proofs.Common.{◌≡◌, ℕ, ◌<◌, ◌≤◌, true, ltb, List, [], ◌∷◌, length, refl, ◌∙◌, arith}
 use Rattle.std.specs.List.{list_all}
 use Rattle.std.proofs.lemmas.Bool.{and_parts, ltb-true, leb-true, lt-ltb, and_from}
 use Rattle.mcv_base.specs.Key.{is_key_byte, is_key_word}
@@ -8,7 +8,7 @@ use Rattle.mcv_reply.specs.declared.word.Word.TheVariants.{End, Value, Stored, N
 use Rattle.mcv_reply.specs.declared.candidate.Name.{Name}
 use Rattle.mcv_reply.specs.declared.candidate.Name.TheVariants.{First, Key}
 use Rattle.mcv_reply.specs.Word.{word_text}
-use Rattle.mcv_reply.specs.Line.{word, IsWritten}
+use Rattle.mcv_reply.specs.Line.{word}
 use Rattle.mcv_reply.specs.Place.{is_clean, name_text}
 use Rattle.mcv_reply.proofs.Writing.{Starts}
 

@@ -1,6 +1,6 @@
 -- How a line that has come in part stands to the lines that it may become. The reader keeps this
 -- true; what a reply is stands in Reply alone.
-use Rattle.std.specs.Prelude.{◌≡◌, ◌≢◌, ℕ, ◌+◌, ◌-◌, ◌*◌, ◌<◌, ◌≤◌, Bool, true, false, List, [], ◌∷◌, ◌++◌, length, drop, All, Any, Contains, Option, Some, None, nat_lt, ◌&&◌, Result, Ok, Err, if◌then◌else◌}
+use Rattle.std.specs.Prelude.{◌≡◌, ◌≢◌, ℕ, ◌+◌, ◌-◌, ◌<◌, ◌≤◌, Bool, true, false, List, [], ◌∷◌, ◌++◌, length, drop, All, Any, Option, Some, None, nat_lt, ◌&&◌, Result, Ok, Err, if◌then◌else◌}
 use Rattle.std.specs.List.{list_all}
 use Rattle.mcv_reply.specs.declared.word.Word.{Word}
 use Rattle.mcv_reply.specs.declared.word.Tail.{Tail}
@@ -18,7 +18,7 @@ use Rattle.mcv_reply.specs.declared.candidate.Move.{Move}
 use Rattle.mcv_reply.specs.declared.line.Meaning.{Meaning}
 use Rattle.mcv_reply.specs.declared.fault.ReplyFault.{ReplyFault}
 use Rattle.mcv_reply.specs.declared.fault.ReplyFault.TheVariants as faults
-use Rattle.mcv_reply.specs.Word.{has_cas, tail_of, word_text, words}
+use Rattle.mcv_reply.specs.Word.{has_cas, tail_of, word_text}
 use Rattle.mcv_reply.specs.Line.{Form, word, number, text, Writes, IsBlank, IsDigits, IsLine, cas_forms, decimal_from, flags_forms, size_forms, tail_forms}
 
 abbrev pub name_text : Name → Word → List ℕ → List ℕ

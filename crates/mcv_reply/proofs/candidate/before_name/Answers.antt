@@ -1,4 +1,4 @@
-use Rattle.std.proofs.Common.{◌≡◌, List, ℕ, length, refl, arith}
+use Rattle.std.proofs.Common.{List, ℕ, refl, arith}
 use Rattle.mcv_reply.specs.declared.candidate.Head.{Head}
 use Rattle.mcv_reply.specs.declared.candidate.Place.TheVariants.{BeforeName, InName}
 use Rattle.mcv_reply.specs.Line.{Writes, word}

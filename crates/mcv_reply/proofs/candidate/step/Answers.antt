@@ -1,5 +1,5 @@
-use Rattle.std.proofs.Common.{◌≡◌, ◌+◌, ◌-◌, ◌≤◌, arith, subst, cond, true, false, Bool, ap, sym, ◌∙◌}
-use Rattle.mcv_reply.specs.Place.{needed, MovesAt}
+use Rattle.std.proofs.Common.{◌≡◌, ◌+◌, arith, subst, cond, Bool}
+use Rattle.mcv_reply.specs.Place.{needed}
 use Rattle.mcv_reply.proofs.Reading.{goes, too_long}
 use Rattle.mcv_reply.proofs.candidate.step.Goals as goal
 

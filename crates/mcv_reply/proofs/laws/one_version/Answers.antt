@@ -1,4 +1,4 @@
-use Rattle.std.proofs.Common.{◌≡◌, ◌++◌, ◌∷◌, sym, ap, subst, List, ℕ, [], ◌∙◌, append_assoc}
+use Rattle.std.proofs.Common.{◌++◌, ◌∷◌, sym, ap, [], ◌∙◌, append_assoc}
 use Rattle.std.specs.Str.Lines.{strip_carriage_return}
 use Rattle.mcv_reply.proofs.Spelling.{line_one}
 use Rattle.mcv_reply.proofs.laws.one_version.Goals as goal

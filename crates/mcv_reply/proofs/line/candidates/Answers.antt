@@ -1,9 +1,7 @@
-use Rattle.std.proofs.Common.{◌≡◌, ◌<◌, ◌≤◌, ◌+◌, ◌++◌, ◌∷◌, [], ℕ, Bool, List, length, map, take, get_or, sym, subst, ap, arith, ◌∙◌}
-use Rattle.std.proofs.lemmas.List.{map_more, length-map, length-take, take_all}
-use Rattle.mcv_reply.specs.declared.word.Word.{Word}
-use Rattle.mcv_reply.specs.declared.candidate.Candidate.{Candidate}
+use Rattle.std.proofs.Common.{length, map, take, ap, arith, ◌∙◌}
+use Rattle.std.proofs.lemmas.List.{length-map, length-take, take_all}
 use Rattle.mcv_reply.specs.Word.{has_cas, words}
-use Rattle.mcv_reply.specs.Place.{IsKept, new_candidate}
+use Rattle.mcv_reply.specs.Place.{new_candidate}
 use Rattle.mcv_reply.proofs.Lines.{new_kept, few_words, pushed}
 use Rattle.mcv_reply.proofs.line.candidates.Goals as goal
 

@@ -1,4 +1,4 @@
-use Rattle.std.proofs.Common.{◌≡◌, ◌<◌, ◌≤◌, ◌++◌, List, ℕ, length, ap, arith, sym, subst, ◌∙◌}
+use Rattle.std.proofs.Common.{◌≡◌, ◌++◌, List, ℕ, length, arith, sym, subst, ◌∙◌}
 use Rattle.std.proofs.lemmas.Bool.{eqb-true, eqb-false}
 use Rattle.mcv_reply.specs.Place.{IsKept}
 use Rattle.mcv_reply.proofs.Steps.{none_left}

@@ -1,4 +1,4 @@
-use Rattle.std.proofs.Common.{◌≡◌, ◌<◌, ◌≤◌, ℕ, Bool, Some, None, List, length, get_or, sym, subst, ap, arith, ◌∙◌}
+use Rattle.std.proofs.Common.{Bool, Some, None, List, get_or, sym, subst}
 use Rattle.std.proofs.lemmas.List.{get_or_default}
 use Rattle.mcv_reply.specs.declared.candidate.Candidate.{Candidate}
 use Rattle.mcv_reply.specs.Word.{has_cas}

@@ -1,4 +1,4 @@
-use Rattle.std.proofs.Common.{◌≡◌, ◌≢◌, ◌<◌, ◌≤◌, ◌+◌, ◌++◌, ◌∷◌, List, ℕ, [], length, take, drop, ap, arith, sym, refl, subst, ◌∙◌}
+use Rattle.std.proofs.Common.{◌≡◌, ◌≢◌, ◌+◌, ◌++◌, ◌∷◌, List, ℕ, [], take, drop, ap, arith, sym, refl, subst, ◌∙◌}
 use Rattle.std.specs.Prelude.{codes}
 use Rattle.mcv_reply.specs.Probe.{IsVersionFront}
 use Rattle.std.specs.Str.Lines.{strip_carriage_return}

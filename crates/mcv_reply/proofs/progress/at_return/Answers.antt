@@ -1,4 +1,4 @@
-use Rattle.std.proofs.Common.{◌≡◌, ◌<◌, ◌≤◌, List, ℕ, ap, arith, sym, subst}
+use Rattle.std.proofs.Common.{List, ℕ, ap, arith, sym, subst}
 use Rattle.mcv_reply.specs.declared.word.Row.TheVariants.{AfterValue}
 use Rattle.mcv_reply.specs.Place.{IsKept}
 use Rattle.mcv_reply.specs.Reader.{Fed}

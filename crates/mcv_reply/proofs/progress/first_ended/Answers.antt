@@ -1,4 +1,4 @@
-use Rattle.std.proofs.Common.{◌≡◌, List, ℕ, ap, sym, subst}
+use Rattle.std.proofs.Common.{List, ℕ, ap, sym, subst}
 use Rattle.mcv_reply.specs.declared.word.Row.TheVariants.{Reply}
 use Rattle.mcv_reply.specs.Line.{IsLine}
 use Rattle.mcv_reply.proofs.Stages.{ended_wrong}

@@ -1,4 +1,4 @@
-use Rattle.std.proofs.Common.{◌≡◌, ◌<◌, ◌≤◌, length, arith}
+use Rattle.std.proofs.Common.{arith}
 use Rattle.mcv_reply.proofs.Stages.{wrong_return}
 use Rattle.mcv_reply.proofs.progress.in_value.Goals as goal
 

@@ -1,4 +1,4 @@
-use Rattle.std.proofs.Common.{◌≡◌, ◌<◌, ◌≤◌, length, ap, arith}
+use Rattle.std.proofs.Common.{ap}
 use Rattle.mcv_reply.proofs.Stages.{last_wrong}
 use Rattle.mcv_reply.proofs.Steps.{last_made}
 use Rattle.mcv_reply.proofs.progress.last_ended.Goals as goal

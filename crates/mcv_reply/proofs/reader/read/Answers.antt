@@ -1,8 +1,8 @@
-use Rattle.std.proofs.Common.{◌≡◌, ◌<◌, ◌≤◌, ◌-◌, ◌++◌, List, ℕ, Option, None, length, drop, take, ap, arith, sym, subst, ◌∙◌, refl}
+use Rattle.std.proofs.Common.{◌++◌, length, take, ap, sym, ◌∙◌}
 use Rattle.std.proofs.lemmas.Bool.{eqb-true, eqb-false}
 use Rattle.std.proofs.lemmas.List.{take_rest}
 use Rattle.std.proofs.lemmas.Result.{err_from_is_err_and}
-use Rattle.mcv_reply.proofs.Steps.{fed_once, step_fault, step_reply, step_more, step_none, step_rest}
+use Rattle.mcv_reply.proofs.Steps.{step_fault, step_reply, step_more, step_none, step_rest}
 use Rattle.mcv_reply.proofs.reader.read.Goals as goal
 
 pub returns-in_err-used : goal.returns-in_err-used

@@ -1,4 +1,4 @@
-use Rattle.std.proofs.Common.{◌≡◌, ◌++◌, List, ℕ, refl}
+use Rattle.std.proofs.Common.{◌++◌, refl}
 use Rattle.mcv_reply.proofs.Steps.{piece_fault, piece_none, piece_some}
 use Rattle.mcv_reply.proofs.reader.take_piece.Goals as goal
 

@@ -1,4 +1,4 @@
-use Rattle.std.proofs.Common.{◌≡◌, ◌+◌, ◌≤◌, ℕ, inl, inr, arith}
+use Rattle.std.proofs.Common.{inl, inr, arith}
 use Rattle.mcv_reply.specs.declared.candidate.Place.TheVariants.{BeforeNumber}
 use Rattle.mcv_reply.proofs.Ending.{ends_not, not_before_name}
 use Rattle.mcv_reply.proofs.candidate.Candidate.end.Goals as goal

@@ -1,4 +1,4 @@
-use Rattle.std.proofs.Common.{◌≡◌, ◌<◌, length, sym, ap, arith, ◌∙◌}
+use Rattle.std.proofs.Common.{length, sym, ap, arith}
 use Rattle.mcv_reply.proofs.Ending.{not_in_word, not_before_value}
 use Rattle.mcv_reply.proofs.candidate.Candidate.end_behind.Goals as goal
 

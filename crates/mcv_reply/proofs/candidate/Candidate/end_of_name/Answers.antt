@@ -1,4 +1,4 @@
-use Rattle.std.proofs.Common.{◌≡◌, ℕ, subst, ap, arith, ◌∙◌}
+use Rattle.std.proofs.Common.{ap, arith, ◌∙◌}
 use Rattle.mcv_reply.specs.declared.candidate.Name.{Name}
 use Rattle.mcv_reply.specs.declared.candidate.Name.TheVariants.{Key}
 use Rattle.mcv_reply.specs.declared.candidate.Place.TheVariants.{InName}

@@ -1,4 +1,4 @@
-use Rattle.std.proofs.Common.{◌≡◌, ◌+◌, ℕ, Bool, ap, arith, ◌∙◌}
+use Rattle.std.proofs.Common.{◌≡◌, ◌+◌, Bool, ap, arith, ◌∙◌}
 use Rattle.mcv_reply.specs.declared.candidate.Number.{Number}
 use Rattle.mcv_reply.specs.declared.candidate.Number.TheVariants.{Flags, Size}
 use Rattle.mcv_reply.specs.declared.candidate.Place.TheVariants.{InNumber}

@@ -1,4 +1,4 @@
-use Rattle.std.proofs.Common.{◌<◌, ◌≤◌, length, arith, refl}
+use Rattle.std.proofs.Common.{arith, refl}
 use Rattle.mcv_reply.proofs.Reading.{reads_more, reads_wrong, reads_all}
 use Rattle.mcv_reply.proofs.candidate.Candidate.read.Goals as goal
 

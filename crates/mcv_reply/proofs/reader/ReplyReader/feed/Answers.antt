@@ -1,4 +1,4 @@
-use Rattle.std.proofs.Common.{◌≡◌, ◌≤◌, ◌++◌, List, ℕ, [], length, sym, subst, true, ◌∙◌, refl}
+use Rattle.std.proofs.Common.{◌≡◌, ◌≤◌, ◌++◌, List, ℕ, length, sym, subst, true, ◌∙◌, refl}
 use Rattle.std.specs.Arc.{arc_value}
 use Rattle.mcv_reply.specs.Reader.{Answers, Feeds, Reading}
 use Rattle.mcv_reply.specs.Progress.{IsAt, stands_at}
