@@ -155,8 +155,8 @@ fn has_key_bytes(word: &[u8]) -> bool
     word.iter().all(|byte| *byte >= 33 && *byte != 127)
 }
 
-/// Whether the word has 1 to 250 key bytes.
-fn is_key_word(word: &[u8]) -> bool
+/// Whether the word is a key word: 1 to 250 bytes, each 33 to 126 or 128 to 255.
+pub fn is_key_word(word: &[u8]) -> bool
     ensures { result ≡ is_key_word word.now }
 {
     !word.is_empty() && word.len() <= KEY_LIMIT && has_key_bytes(word)

@@ -10,7 +10,9 @@ mod position;
 mod reply;
 mod request;
 
-pub use key::{KeyFault, Prefix, Rest, hashed_part, key_words_have_one_reading, split_key};
+pub use key::{
+    KeyFault, Prefix, Rest, hashed_part, is_key_word, key_words_have_one_reading, split_key,
+};
 pub use operation::{Mark, Op};
 pub use position::Position;
 pub use reply::{FixedReply, Outcome, Part, Parts, Reply};

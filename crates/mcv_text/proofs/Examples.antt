@@ -1,15 +1,14 @@
 -- The definitions at small lines and streams.
-use Rattle.std.proofs.Common.{◌≡◌, ◌≢◌, ◌++◌, ℕ, List, [], ◌∷◌, true, false, Some, None, refl, codes, arith, decimal, ◌≤◌, length, map}
+use Rattle.std.proofs.Common.{◌≡◌, ◌≢◌, [], ◌∷◌, true, false, Some, None, refl, codes, arith}
 use Rattle.std.specs.Prelude.{pos, negsuc}
-use Rattle.std.specs.List.{All}
 use Rattle.std.proofs.lemmas.List.Elements.{All-from_recursion}
 use Rattle.mcv_base.specs.declared.operation.Op.TheVariants as ops
-use Rattle.mcv_base.specs.Reply.{hit, miss, stored, deleted, fault}
+use Rattle.mcv_base.specs.Reply.{hit, miss, deleted, fault}
 use Rattle.mcv_text.specs.declared.item.Refusal.TheVariants as refusals
-use Rattle.mcv_text.specs.Request.{AskValue, asking, version, asked, refused}
+use Rattle.mcv_text.specs.Request.{AskValue, asking, version, refused}
 use Rattle.mcv_text.specs.Words.{line_words, number32_said, signed_said}
 use Rattle.mcv_text.specs.Line.{whole, stores, unknown, bad, too_large, meaning}
-use Rattle.mcv_text.specs.Stream.{Held, Skips, Failed, IsLine, Begins, by_line, AfterValue, no_lf, in_line, Reads}
+use Rattle.mcv_text.specs.Stream.{Held, Failed, IsLine, by_line, AfterValue, no_lf, in_line, Reads}
 use Rattle.mcv_text.specs.Answer.{reply_text}
 
 -- spaces at both ends and between words, and one CR before the LF, don't count

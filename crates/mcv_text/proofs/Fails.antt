@@ -1,8 +1,7 @@
 -- A reader fails behind refusals 2 and 3 alone.
-use Rattle.std.proofs.Common.{◌≡◌, ℕ, ◌+◌, ◌-◌, List, [], ◌∷◌, ◌++◌, length, drop, refl, sym, subst, ◌∙◌, inl, inr, ◌⊎◌}
+use Rattle.std.proofs.Common.{◌≡◌, ℕ, ◌+◌, ◌-◌, List, [], ◌∷◌, length, drop, refl, sym, subst, ◌∙◌, inl, inr, ◌⊎◌}
 use Rattle.std.proofs.lemmas.Bool.{cases_lt}
-use Rattle.mcv_text.specs.declared.item.Refusal.TheVariants as refusals
-use Rattle.mcv_text.specs.Request.{AskValue, ItemValue, refused}
+use Rattle.mcv_text.specs.Request.{AskValue, ItemValue}
 use Rattle.mcv_text.specs.Line.{LineValue, whole, stores, unknown, bad, too_large, meaning}
 use Rattle.mcv_text.specs.Stream.{Stands, Held, Skips, Failed, followed, Begins, by_line, too_long, AfterLine, AfterValue, stored, no_cr, no_lf, First, Reads, IsEnding, EndsRefused}
 use Rattle.mcv_text.proofs.Cuts.{skips_short, skips_long}

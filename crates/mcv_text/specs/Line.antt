@@ -1,13 +1,11 @@
 -- What one line says, by the table of requests (memcached, protocol.txt; incr and decr are left out).
-use Rattle.std.specs.Prelude.{◌≡◌, ◌^◌, ℕ, ℤ, pos, List, [], ◌∷◌, Bool, true, false, ◌≤◌, ◌<◌, nat_lt, Option, Some, None, if◌then◌else◌, codes}
+use Rattle.std.specs.Prelude.{ℕ, ℤ, pos, List, [], ◌∷◌, Bool, false, nat_lt, Option, Some, None, if◌then◌else◌, codes}
 use Rattle.std.specs.List.{list_all}
 use Rattle.std.specs.Str.{bytes_eq}
 use Rattle.mcv_base.specs.Key.{is_key_word}
 use Rattle.mcv_base.specs.declared.operation.Op.{Op}
 use Rattle.mcv_base.specs.declared.operation.Op.TheVariants as ops
-use Rattle.mcv_text.specs.declared.line.Meaning.{Meaning}
-use Rattle.mcv_text.specs.declared.line.Meaning.TheVariants as meanings
-use Rattle.mcv_text.specs.Request.{AskValue, RequestValue, asking, version, quit, request_value, header_value}
+use Rattle.mcv_text.specs.Request.{AskValue, RequestValue, asking, version, quit}
 use Rattle.mcv_text.specs.Words.{line_words, number32_said, number64_said, signed_said, noreply_said, delete_options_said}
 
 pub data LineValue : Type 0 where
@@ -95,24 +93,3 @@ said (command ∷ arguments) =
 -- a line, without its LF
 unfoldable pub meaning : List ℕ → LineValue
 meaning line = said (line_words line)
-
--- what the code makes of a line, as that
-abbrev pub line_value : Meaning → LineValue
-line_value (meanings.Whole r) = whole (request_value r)
-line_value (meanings.Stores h n) = stores (header_value h) n
-line_value meanings.Unknown = unknown
-line_value meanings.Bad = bad
-line_value (meanings.TooLarge n) = too_large n
-
--- its sizes
-abbrev pub IsSmall : Meaning → Type 0
-IsSmall (meanings.Whole r) = Unit {0}
-IsSmall (meanings.Stores h n) = n ≤ 1048576
-IsSmall meanings.Unknown = Unit {0}
-IsSmall meanings.Bad = Unit {0}
-IsSmall (meanings.TooLarge n) = n < 2 ^ 32
-
--- the keys, where each of the words is one
-abbrev pub KeysRead : Option (List (List ℕ)) → List (List ℕ) → Type 0
-KeysRead None ws = list_all is_key_word ws ≡ false
-KeysRead (Some keys) ws = (list_all is_key_word ws ≡ true) × (keys ≡ ws)

@@ -3,11 +3,12 @@
 ghost use Rattle.std.specs.Prelude.{◌≡◌, ◌≢◌, ◌∷◌, [], IfOk, map};
 ghost use Rattle.std.specs.Option.{option_map};
 ghost use Rattle.mcv_base.specs.Operation.{op_name};
-ghost use Rattle.mcv_text.specs.Line.{IsSmall, KeysRead, alone_said, cas_said, delete_said, line_value, meaning, plain, reading_said, said, storing, storing_said, touch_said};
+ghost use Rattle.mcv_text.specs.Line.{alone_said, cas_said, delete_said, meaning, plain, reading_said, said, storing, storing_said, touch_said};
+ghost use Rattle.mcv_text.specs.Parsed.{IsSmall, KeysRead, line_value};
 ghost use Rattle.mcv_text.specs.Request.{request_value};
 
-use crate::words::{delete_options, is_key_word, line_words, noreply, number32, number64, signed};
-use mcv_base::{Ask, Op, Request};
+use crate::words::{delete_options, line_words, noreply, number32, number64, signed};
+use mcv_base::{Ask, Op, Request, is_key_word};
 use std::alloc::{AllocError, Global};
 use std::sync::Arc;
 
@@ -36,7 +37,7 @@ pub enum Meaning {
     TooLarge(usize),
 }
 
-/// The keys, where each of the words is one.
+/// The keys, where each of the words is one: one growth for each, and one for all.
 fn keys_of(alloc: Global, words: &[&[u8]]) -> Result<Option<Vec<Vec<u8>>>, AllocError>
     ensures { IfOk result (λ o. KeysRead (option_map (λ keys. map (λ key. key.items) keys.items) o) (map (λ word. word.now) words.now)) }
 {
@@ -45,7 +46,7 @@ fn keys_of(alloc: Global, words: &[&[u8]]) -> Result<Option<Vec<Vec<u8>>>, Alloc
         if !is_key_word(word) {
             return Ok(None);
         }
-        keys.push(Vec::from_slice(alloc, word)?)?;
+        keys.push_reserved(Vec::from_slice(alloc, word)?);
     }
     Ok(Some(keys))
 }
@@ -96,7 +97,7 @@ fn storing_with(
         return Ok(Meaning::TooLarge(size as usize));
     }
     let mut keys = Vec::with_capacity(alloc, 1)?;
-    keys.push(Vec::from_slice(alloc, key)?)?;
+    keys.push_reserved(Vec::from_slice(alloc, key)?);
     let header = Header {
         op,
         keys,

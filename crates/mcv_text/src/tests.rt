@@ -1,8 +1,9 @@
 //! Items and texts against the words of memcached's `protocol.txt`. In the tables `~` is CR LF and `^` a LF alone.
 
 use super::*;
+use crate::words::line_words;
 use itoa::Buffer;
-use mcv_base::{FixedReply, LegRequest, Op, Part, Reply, Request, Rest};
+use mcv_base::{FixedReply, LegRequest, Op, Part, Reply, Request, Rest, split_key};
 use std::alloc::{AllocError, Global};
 use std::process::Abort;
 use std::sync::Arc;
@@ -69,19 +70,20 @@ fn push_items(text: &mut Vec<u8>, fed: Result<Vec<Item>, TextFault>) -> Result<(
     Ok(())
 }
 
-/// The items of two pieces; where the first fails the reader, those of the first.
+/// The items of two pieces, and `failed` where a further piece is answered Failed.
 fn read_cut(alloc: Global, bytes: &[u8], cut: usize) -> Result<Vec<u8>, Fail> {
     let mut text = Vec::new(alloc);
     let mut reader = RequestReader::new(alloc);
     let (first, second) = bytes.split_at(cut.min(bytes.len()));
     push_items(&mut text, reader.feed(first))?;
     match reader.feed(second) {
-        Err(TextFault::Failed) => Ok(text),
-        fed => {
-            push_items(&mut text, fed)?;
-            Ok(text)
-        }
+        Err(TextFault::Failed) => (),
+        fed => push_items(&mut text, fed)?,
     }
+    if let Err(TextFault::Failed) = reader.feed(b"") {
+        text.extend_from_slice(b"failed")?;
+    }
+    Ok(text)
 }
 
 /// Each row is a stream and its items, wherever it is cut.
@@ -104,7 +106,6 @@ const READ: &str = "get a b~ | get a b;
 gets   a  ~ | gets a;
 delete /././a 0 noreply~ | delete /././a noreply;
 delete a 0~delete a noreply~ | delete a;delete a noreply;
-set k 05 0 3~x~y~~get a~ | refused 3;
 set k 05 0 4~x~y~get a~ | set k f5 =x~y;get a;
 set k 0 -1 0 noreply~~ | set k e-1 noreply;
 add k 4294967295 -0 1~x~ | add k f4294967295 =x;
@@ -121,97 +122,93 @@ fn streams_have_their_items_however_cut(rt: HostRuntime) -> Result<(), Fail> {
     check_rows(&rt, rt.alloc(), READ)
 }
 
-const REFUSED: &str = "get~get a~ | refused 2;
-get a  b\u{7f}~ | refused 2;
-version 1~ | refused 2;
-delete a noreply 0~ | refused 2;
-delete a 1~ | refused 2;
-set k 0 0 -1~ | refused 2;
-set k 4294967296 0 1~ | refused 2;
-set k 0 +1 1~ | refused 2;
-set k 0 0 1 noreply noreply~ | refused 2;
-set k 0 0~ | refused 2;
-touch a 9223372036854775808~ | refused 2;
-touch a -9223372036854775809~ | refused 2;
-touch a -~ | refused 2;
-cas k 0 0 0 18446744073709551616~ | refused 2;
-set a 0 0 1~xyz~ | refused 3;
-set a 0 0 1~x^ | refused 3;
-get a~add a 0 0 0~ ~ | get a;refused 3;";
+const REFUSED: &str = "set k 05 0 3~x~y~~get a~ | refused 3;failed
+get~get a~ | refused 2;failed
+get a  b\u{7f}~ | refused 2;failed
+version 1~ | refused 2;failed
+delete a noreply 0~ | refused 2;failed
+delete a 1~ | refused 2;failed
+set k 0 0 -1~ | refused 2;failed
+set k 4294967296 0 1~ | refused 2;failed
+set k 0 +1 1~ | refused 2;failed
+set k 0 0 1 noreply noreply~ | refused 2;failed
+set k 0 0~ | refused 2;failed
+touch a 9223372036854775808~ | refused 2;failed
+touch a -9223372036854775809~ | refused 2;failed
+touch a -~ | refused 2;failed
+cas k 0 0 0 18446744073709551616~ | refused 2;failed
+set a 0 0 1~xyz | refused 3;failed
+set a 0 0 1~xyz~ | refused 3;failed
+set a 0 0 1~x^ | refused 3;failed
+get a~add a 0 0 0~ ~ | get a;refused 3;failed";
 
 #[test]
 fn refusals_2_and_3_end_the_reading(rt: HostRuntime) -> Result<(), Fail> {
-    let alloc = rt.alloc();
-    check_rows(&rt, alloc, REFUSED)?;
-    for row in REFUSED.lines() {
-        if let Some((stream, _)) = row.split_once(" | ") {
-            let bytes = unfolded(alloc, stream)?;
-            let mut reader = RequestReader::new(alloc);
-            let _items = reader.feed(bytes.as_slice())?;
-            assert!(rt;
-                matches!(reader.feed(b"get a\r\n"), Err(TextFault::Failed)),
-                "{row}"
-            );
-            assert!(rt; matches!(reader.feed(b""), Err(TextFault::Failed)), "{row}");
-        }
-    }
-    Ok(())
+    check_rows(&rt, rt.alloc(), REFUSED)
 }
 
-/// What stands in the stream that begins with `front`, goes on with so many letters and ends with `back`.
-fn read_long(alloc: Global, front: &[u8], letters: usize, back: &[u8]) -> Result<Vec<u8>, Fail> {
-    let mut text = Vec::new(alloc);
-    let mut reader = RequestReader::new(alloc);
-    let piece = [b'k'; 4096];
-    push_items(&mut text, reader.feed(front))?;
-    for _ in 0..letters / 4096 {
-        push_items(&mut text, reader.feed(&piece))?;
+/// Bytes that begin with `front`, go on with so many letters and end with `back`.
+type Long = (&'static [u8], usize, &'static [u8]);
+
+fn long_bytes(alloc: Global, long: Long) -> Result<Vec<u8>, AllocError> {
+    let (front, letters, back) = long;
+    let mut bytes = Vec::from_slice(alloc, front)?;
+    for _ in 0..letters {
+        bytes.push(b'k')?;
     }
-    push_items(&mut text, reader.feed(&piece[..letters % 4096]))?;
-    match reader.feed(back) {
-        Err(TextFault::Failed) => Ok(text),
-        fed => {
-            push_items(&mut text, fed)?;
-            Ok(text)
-        }
-    }
+    bytes.extend_from_slice(back)?;
+    Ok(bytes)
 }
 
-fn ends_with(text: &[u8], end: &[u8]) -> bool {
-    text.len() >= end.len() && &text[text.len() - end.len()..] == end
+/// Whether a stream of `length` bytes is cut here: each cut near both ends, and some between them.
+fn is_tried(cut: usize, length: usize) -> bool {
+    cut < 24 || length.saturating_sub(cut) < 24 || cut % 65_537 == 0
 }
 
+/// Streams at the limits and one byte beyond, with their items. That the cuts which aren't tried
+/// give the same items is the law `any_pieces`.
 #[test]
-fn limits_are_met_exactly(rt: HostRuntime) -> Result<(), Fail> {
+fn limits_are_met_exactly_however_cut(rt: HostRuntime) -> Result<(), Fail> {
     let alloc = rt.alloc();
-    let cases: [(&[u8], usize, &[u8], &[u8]); 8] = [
-        (b"get ", 250, b" a\r\n", b"kk a;"),
-        (b"get ", 251, b" a\r\n", b"refused 2;"),
-        (b"foo ", 65_531, b"\r\nget a\r\n", b"refused 1;get a;"),
-        (b"foo ", 65_532, b"\r\nget a\r\n", b"refused 2;"),
-        (b"foo ", 65_533, b"", b"refused 2;"),
+    let cases: [(Long, Long); 10] = [
+        ((b"get ", 250, b" a\r\n"), (b"get ", 250, b" a;")),
+        ((b"get ", 251, b" a\r\n"), (b"refused 2;failed", 0, b"")),
         (
-            b"set k 0 0 1048576\r\n",
-            1_048_576,
-            b"\r\nget a\r\n",
-            b"kk;get a;",
+            (b"foo ", 65_531, b"\r\nget a\r\n"),
+            (b"refused 1;get a;", 0, b""),
         ),
         (
-            b"set k 0 0 1048577\r\n",
-            1_048_579,
-            b"get a\r\n",
-            b"refused 4;get a;",
+            (b"foo ", 65_532, b"\r\nget a\r\n"),
+            (b"refused 2;failed", 0, b""),
+        ),
+        ((b"foo ", 65_532, b""), (b"", 0, b"")),
+        ((b"foo ", 65_533, b""), (b"refused 2;failed", 0, b"")),
+        (
+            (b"set k 0 0 1048576\r\n", 1_048_576, b"\r\nget a\r\n"),
+            (b"set k =", 1_048_576, b";get a;"),
         ),
         (
-            b"set k 0 0 1048577 noreply\r\n",
-            1_048_578,
-            b"get a\r\n",
-            b"refused 4;refused 1;",
+            (b"set k 0 0 1048577\r\n", 1_048_579, b"get a\r\n"),
+            (b"refused 4;get a;", 0, b""),
+        ),
+        (
+            (b"set k 0 0 1048577 noreply\r\n", 1_048_578, b"get a\r\n"),
+            (b"refused 4;refused 1;", 0, b""),
+        ),
+        (
+            (b"set k 0 0 1048577\r\n", 1_048_577, b"\r\nversion\r\n"),
+            (b"refused 4;version;", 0, b""),
         ),
     ];
-    for (front, letters, back, end) in cases {
-        let text = read_long(alloc, front, letters, back)?;
-        assert!(rt; ends_with(text.as_slice(), end), "{letters}");
+    for (stream, items) in cases {
+        let bytes = long_bytes(alloc, stream)?;
+        let items = long_bytes(alloc, items)?;
+        for cut in 0..=bytes.len() {
+            if is_tried(cut, bytes.len()) {
+                let text = read_cut(alloc, bytes.as_slice(), cut)?;
+                assert!(rt; text.as_slice() == items.as_slice(), "cut at {cut}");
+            }
+        }
     }
     Ok(())
 }
@@ -225,16 +222,43 @@ fn refusals_and_faults_have_numbers_and_lines(rt: HostRuntime) {
     assert!(rt; TextFault::Failed.number() == 1 && TextFault::Memory.number() == 2);
 }
 
-/// Where memory runs out the piece is lost, and the reader has failed.
+/// Where a growth is refused, that piece gives Memory and each later one Failed. (With
+/// `rt try --test --fail-alloc N` the Nth growth is.)
 #[test]
 fn want_of_memory_fails_the_reader(rt: HostRuntime) -> Result<(), Fail> {
     let mut reader = RequestReader::new(rt.alloc());
-    match reader.feed(b"get a b\r\nset a 0 0 1\r\nx\r\n") {
-        Ok(items) => assert_eq!(rt; items.len(), 2),
-        Err(fault) => {
-            assert!(rt; fault == TextFault::Memory);
-            assert!(rt; matches!(reader.feed(b""), Err(TextFault::Failed)));
+    let mut count = 0usize;
+    for piece in b"get a b\r\nset a 0 0 1\r\nx\r\ntouch a 1\r\n".chunks(13) {
+        match reader.feed(piece) {
+            Ok(items) => count = count.saturating_add(items.len()),
+            Err(fault) => {
+                assert!(rt; fault == TextFault::Memory);
+                assert!(rt; matches!(reader.feed(b"get a\r\n"), Err(TextFault::Failed)));
+                assert!(rt; matches!(reader.feed(b""), Err(TextFault::Failed)));
+                return Ok(());
+            }
         }
+    }
+    assert_eq!(rt; count, 3);
+    Ok(())
+}
+
+/// The words of a line take one growth, its keys one for all and one for each: no vector has other room than it needs.
+#[test]
+fn a_line_takes_one_growth_for_each_key(rt: HostRuntime) -> Result<(), Fail> {
+    let alloc = rt.alloc();
+    let words = line_words(alloc, b"get a bb  ccc d e f g h i\r")?;
+    assert!(rt; words.len() == 10 && words.capacity() == 10);
+    let mut reader = RequestReader::new(alloc);
+    let items = reader.feed(b"get a bb  ccc d e f g h i\r\n")?;
+    match items.first() {
+        Some(Item::Asked(Request::Ask(ask))) => {
+            assert!(rt; ask.keys.len() == 9 && ask.keys.capacity() == 9);
+            for key in &ask.keys {
+                assert!(rt; key.capacity() == key.len());
+            }
+        }
+        _ => assert!(rt; false, "no request"),
     }
     Ok(())
 }
@@ -307,6 +331,48 @@ fn other_answers_are_one_line(rt: HostRuntime) -> Result<(), Fail> {
     for (stream, reply, line) in cases {
         let text = answered(alloc, stream, &[Part::Fixed(reply)])?;
         assert!(rt; text.as_slice() == line);
+    }
+    Ok(())
+}
+
+/// Adds the text of the leg that sends a request on, under the rest of its first key.
+fn push_sent(alloc: Global, text: &mut Vec<u8>, item: &Item) -> Result<(), Fail> {
+    let Item::Asked(Request::Ask(ask)) = item else {
+        return Ok(());
+    };
+    let Some(key) = ask.keys.first() else {
+        return Ok(());
+    };
+    let Ok((_prefix, rest)) = split_key(key.as_slice()) else {
+        return Ok(());
+    };
+    let leg = LegRequest {
+        op: ask.op,
+        rest: Arc::new(alloc, rest)?,
+        flags: ask.flags,
+        exptime: ask.exptime,
+        body: Arc::new(alloc, Vec::from_slice(alloc, ask.body.as_slice())?)?,
+        cas: ask.cas,
+    };
+    let sent = leg_text(alloc, &leg)?;
+    text.extend_from_slice(sent.as_slice())?;
+    Ok(())
+}
+
+#[test]
+fn a_request_is_sent_on_under_its_rest(rt: HostRuntime) -> Result<(), Fail> {
+    let alloc = rt.alloc();
+    let bytes = b"set   /././k 05 0 1 noreply\r\nx\r\n".as_slice();
+    for cut in 0..=bytes.len() {
+        let mut text = Vec::new(alloc);
+        let mut reader = RequestReader::new(alloc);
+        let (first, second) = bytes.split_at(cut.min(bytes.len()));
+        for piece in [first, second] {
+            for item in &reader.feed(piece)? {
+                push_sent(alloc, &mut text, item)?;
+            }
+        }
+        assert!(rt; text.as_slice() == b"set k 5 0 1\r\nx\r\n".as_slice());
     }
     Ok(())
 }

@@ -1,16 +1,11 @@
 //! The words of a line, and what single words read as.
 
-ghost use Rattle.std.specs.Prelude.{◌≡◌, ◌<◌, ◌≤◌, ◌^◌, ℕ, pos, neg_ℤ, IfOk, IfSome, MatchOption, map};
+ghost use Rattle.std.specs.Prelude.{◌≡◌, ◌<◌, ◌≤◌, ◌^◌, ℕ, pos, neg_ℤ, IfOk, IfSome, MatchOption, length, map};
 ghost use Rattle.std.specs.Char.{digit_value};
-ghost use Rattle.std.specs.List.{list_all};
 ghost use Rattle.std.specs.Str.Lines.{strip_carriage_return};
-ghost use Rattle.mcv_base.specs.Key.{is_key_byte, is_key_word};
 ghost use Rattle.mcv_text.specs.Words.{IsNumber, delete_options_said, line_words, noreply_said, number32_said, number64_said, number_said, signed_said, words};
 
 use std::alloc::{AllocError, Global};
-
-/// The most bytes of a key word.
-const KEY_LIMIT: usize = 250;
 
 /// The greatest i64, and the magnitude of the least.
 const GREATEST: u64 = 0x7fff_ffff_ffff_ffff;
@@ -29,12 +24,23 @@ fn content(line: &[u8]) -> &[u8]
     }
 }
 
-fn words_of(alloc: Global, line: &[u8]) -> Result<Vec<&[u8]>, AllocError>
-    ensures { IfOk result (λ v. map (λ word. word.now) v.items ≡ words line.now) }
+fn word_count(line: &[u8]) -> usize
+    ensures { result ≡ length (words line.now) }
 {
     line.split(|b| *b == b' ')
         .filter(|word| word.len() != 0)
-        .collect(alloc)
+        .count()
+}
+
+/// The words, in a vector that grows once.
+fn words_of(alloc: Global, line: &[u8]) -> Result<Vec<&[u8]>, AllocError>
+    ensures { IfOk result (λ v. map (λ word. word.now) v.items ≡ words line.now) }
+{
+    let mut words = Vec::with_capacity(alloc, word_count(line))?;
+    for word in line.split(|b| *b == b' ').filter(|word| word.len() != 0) {
+        words.push_reserved(word);
+    }
+    Ok(words)
 }
 
 /// The words of a line that stands before its LF.
@@ -42,19 +48,6 @@ pub fn line_words(alloc: Global, line: &[u8]) -> Result<Vec<&[u8]>, AllocError>
     ensures { IfOk result (λ v. map (λ word. word.now) v.items ≡ line_words line.now) }
 {
     words_of(alloc, content(line))
-}
-
-fn has_key_bytes(word: &[u8]) -> bool
-    ensures { result ≡ list_all is_key_byte word.now }
-{
-    word.iter().all(|byte| *byte >= 33 && *byte != 127)
-}
-
-/// Whether the word has 1 to 250 key bytes.
-pub fn is_key_word(word: &[u8]) -> bool
-    ensures { result ≡ is_key_word word.now }
-{
-    !word.is_empty() && word.len() <= KEY_LIMIT && has_key_bytes(word)
 }
 
 fn digit(b: u8) -> Option<u64>

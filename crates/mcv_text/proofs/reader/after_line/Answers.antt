@@ -1,5 +1,6 @@
 use Rattle.std.proofs.Common.{refl, ap, sym, ◌∙◌}
-use Rattle.mcv_text.specs.Line.{line_value, meaning}
+use Rattle.mcv_text.specs.Line.{meaning}
+use Rattle.mcv_text.specs.Parsed.{line_value}
 use Rattle.mcv_text.specs.Stream.{Held}
 use Rattle.mcv_text.proofs.Ends.{line_item, nil_front}
 use Rattle.mcv_text.proofs.reader.after_line.Goals as goal

@@ -1,0 +1,104 @@
+-- Replies, as their bytes are written.
+use Rattle.std.proofs.Common.{◌≡◌, ◌≢◌, ℕ, inl, inr, true, not, eqb, List, [], ◌∷◌, ◌++◌, refl, arith, None}
+use Rattle.std.specs.Prelude.{codes}
+use Rattle.std.specs.List.{All, list_all}
+use Rattle.std.proofs.lemmas.Bool.{and_parts, not-true, eqb-false}
+use Rattle.std.proofs.lemmas.List.Elements.{All-nil, All-cons}
+use Rattle.mcv_base.specs.declared.operation.Op.TheVariants.{Get, Delete}
+use Rattle.mcv_base.specs.Reply.{hit, miss, fault}
+use Rattle.mcv_reply.specs.declared.word.Word.TheVariants.{End, ServerError}
+use Rattle.mcv_reply.specs.declared.word.Row.TheVariants.{Reply}
+use Rattle.mcv_reply.specs.declared.candidate.Head.{Head}
+use Rattle.mcv_reply.specs.Line.{IsLine}
+use Rattle.mcv_reply.specs.Place.{zero_head}
+use Rattle.mcv_reply.specs.Reply.{Spells, alone, with_value}
+
+without_end : (bytes : List ℕ) → list_all (λ b. not (eqb b 10)) bytes ≡ true → All (λ b. b ≢ 10) bytes
+without_end [] e = All-nil (λ b. b ≢ 10)
+without_end (b ∷ bytes) e =
+    let parts = and_parts _ _ e in
+    All-cons (λ x. x ≢ 10) b bytes (eqb-false b 10 (not-true (eqb b 10) parts.0)) (without_end bytes parts.1)
+
+-- `END` with a CR, for a get of `a`, and the line behind a value
+abbrev end_text : List ℕ
+end_text = codes "END" ++ 13 ∷ []
+
+end_of_get : IsLine (Reply Get) (codes "a") End zero_head end_text
+end_of_get = record {
+  may = (0, omega arith, refl);
+  writes = record { gap = 0; written = codes "END"; after = 13 ∷ []; parts = refl; enough = omega arith; is = refl; rest = inr (refl, refl) };
+  no_end = without_end end_text refl;
+  short = omega arith;
+}
+
+pub a_miss : Spells Get (codes "a") (codes "END" ++ 13 ∷ 10 ∷ []) miss
+a_miss = alone (record { first = End; line = end_text; other = zero_head; line_is = end_of_get; parts = refl; says = refl })
+
+-- the Fault keeps its line without CR LF, a space at its front too
+pub a_fault : Spells Delete (codes "a") (codes " SERVER_ERROR no" ++ 13 ∷ 10 ∷ []) (fault (codes " SERVER_ERROR no"))
+a_fault = alone (record {
+  first = ServerError;
+  line = codes " SERVER_ERROR no" ++ 13 ∷ [];
+  other = zero_head;
+  line_is = record {
+    may = (4, omega arith, refl);
+    writes = record { gap = 1; written = codes "SERVER_ERROR"; after = codes " no" ++ 13 ∷ []; parts = refl; enough = omega arith; is = refl; rest = inl refl };
+    no_end = without_end (codes " SERVER_ERROR no" ++ 13 ∷ []) refl;
+    short = omega arith;
+  };
+  parts = refl;
+  says = refl;
+})
+
+-- the numbers of `VALUE a 007 1`
+abbrev seven_and_one : Head
+seven_and_one = record { flags = 7; size = 1; cas = 0 }
+
+-- a hit with flags 7 and value `x`, leading zeros and LF alone
+pub a_hit : Spells Get (codes "a") (codes "VALUE a 007 1" ++ 10 ∷ (codes "x" ++ 13 ∷ 10 ∷ (codes "END" ++ 13 ∷ 10 ∷ []))) (hit 7 None (codes "x"))
+a_hit = with_value (record {
+  head = seven_and_one;
+  line = codes "VALUE a 007 1";
+  value = codes "x";
+  last = end_text;
+  line_is = record {
+    may = (1, omega arith, refl);
+    writes = record {
+      gap = 0;
+      written = codes "VALUE";
+      after = codes " a 007 1";
+      parts = refl;
+      enough = omega arith;
+      is = refl;
+      rest = record {
+        gap = 1;
+        written = codes "a";
+        after = codes " 007 1";
+        parts = refl;
+        enough = omega arith;
+        is = refl;
+        rest = record {
+          gap = 1;
+          written = codes "007";
+          after = codes " 1";
+          parts = refl;
+          enough = omega arith;
+          is = ((λ e. absurd (cc)), (omega arith, omega arith, (omega arith, omega arith, (omega arith, omega arith, tt))), refl, omega arith);
+          rest = record { gap = 1; written = codes "1"; after = []; parts = refl; enough = omega arith; is = ((λ e. absurd (cc)), (omega arith, omega arith, tt), refl, omega arith); rest = tt };
+        };
+      };
+    };
+    no_end = without_end (codes "VALUE a 007 1") refl;
+    short = omega arith;
+  };
+  size = refl;
+  other = zero_head;
+  last_is = record {
+    may = (0, omega arith, refl);
+    writes = record { gap = 0; written = codes "END"; after = 13 ∷ []; parts = refl; enough = omega arith; is = refl; rest = inr (refl, refl) };
+    no_end = without_end end_text refl;
+    short = omega arith;
+  };
+  parts = refl;
+  says = refl;
+})

@@ -1,0 +1,28 @@
+//! Why a piece is no part of a reply.
+
+ghost use Rattle.std.specs.Prelude.{◌≡◌};
+ghost use Rattle.mcv_reply.specs.Reader.{fault_number};
+
+use thiserror::Error;
+
+/// Why a piece is no part of a reply.
+#[derive(Clone, Copy, Debug, PartialEq, Eq, Error)]
+pub enum ReplyFault {
+    /// No reply that may answer the leg goes on from the bytes fed.
+    #[error("no reply to this request")]
+    NotAReply = 1,
+    /// The reader has given a fault before.
+    #[error("the reader is closed")]
+    Closed = 2,
+    #[error("out of memory")]
+    Memory = 3,
+}
+
+impl ReplyFault {
+    /// The number of the fault, from 1.
+    pub fn number(self) -> u8
+        ensures { result ≡ fault_number self }
+    {
+        self as u8
+    }
+}

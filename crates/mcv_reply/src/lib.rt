@@ -1,0 +1,23 @@
+//! What a server says to a leg, read from pieces, however its bytes are cut.
+//!
+//! A reply is taken only where the bytes fed are exactly one that may answer the operation, with
+//! the leg's own key (`ReplyReader`), and refused at the first byte behind which no such reply goes
+//! on. The answer to a probe has a reader of its own (`ProbeReader`).
+#![tactic(auto)]
+
+mod candidate;
+mod fault;
+mod laws;
+mod line;
+mod probe;
+mod progress;
+mod reader;
+mod word;
+
+pub use fault::ReplyFault;
+pub use laws::{one_reply, one_version};
+pub use probe::ProbeReader;
+pub use reader::ReplyReader;
+
+#[cfg(test)]
+mod tests;
