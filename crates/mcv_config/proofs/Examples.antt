@@ -13,11 +13,11 @@ use Rattle.mcv_config.specs.Path.{key_step}
 use Rattle.mcv_config.specs.Numbers.{index_read, seconds_read}
 use Rattle.mcv_config.specs.Plan.{Named, Plan, pool, server, null, error, all_sync, migrate, operation_selector, no_named, named}
 use Rattle.mcv_config.specs.Pools.{listed_servers, pool_named, pool_read, server_read, servers_read}
-use Rattle.mcv_config.specs.Routes.{cut, fields, listed, migrate_fields, object_route, plain_pool, pool_field, pool_fields, pool_object, route, servers, start_read, text_children, text_route, type_read}
+use Rattle.mcv_config.specs.Routes.{cut, fields, interval_read, migrate_fields, object_route, plain_pool, pool_field, pool_fields, pool_object, route, servers, start_read, text_children, text_route, type_read}
 use Rattle.mcv_config.specs.Selectors.{policy_read, selector_fields}
 use Rattle.mcv_config.specs.Server.{is_host, is_port, is_server}
 use Rattle.mcv_config.specs.Shadows.{range_read, range_value, shadow_fields, shadow_read}
-use Rattle.mcv_config.specs.Walk.{route_under}
+use Rattle.mcv_config.specs.Walk.{route_under, two_under}
 
 abbrev of_pool : Data → Data
 of_pool listed = object (member (codes "servers") listed no_members)
@@ -79,7 +79,7 @@ migrating =
 
 -- an hour, where no interval is named
 hour : root [] (two_pools migrating) ≡ good (plan (migrate (plain_pool 0) (plain_pool 1) 1000 3600))
-unfolding root plan_read pool_read servers_read listed_servers each server_read is_server is_host is_port each_member keys_read key_fault pool_named is_elsewhere route text_route cut handle_named object_route type_read fields migrate_fields route_under start_read seconds_read
+unfolding root plan_read pool_read servers_read listed_servers each server_read is_server is_host is_port each_member keys_read key_fault pool_named is_elsewhere route text_route cut handle_named object_route type_read fields migrate_fields two_under route_under start_read interval_read seconds_read
 hour = refl
 
 -- a pool object comes behind the pools with names

@@ -16,15 +16,14 @@ use Rattle.mcv_config.specs.declared.handle.Object.TheVariants as objects
 use Rattle.mcv_config.specs.Fault.{Read, good, bad, ◌>>=◌}
 use Rattle.mcv_config.specs.Handles.{default_key, is_elsewhere, key_fault, keys_read, handle_named, name_fault, policies_key, stray_fault}
 use Rattle.mcv_config.specs.Hash.{hash_read}
-use Rattle.mcv_config.specs.Lists.{each, items_list, required}
-use Rattle.mcv_config.specs.Numbers.{seconds_or}
+use Rattle.mcv_config.specs.Lists.{each, items_list, items_or_none, required, some_items}
 use Rattle.mcv_config.specs.Path.{key_step, item_step}
 use Rattle.mcv_config.specs.Plan.{Named, no_named, PrefixPlan, ShadowPlan, server, null, error, nameds_of, last_of, IsSoundRoute, AreSoundRoutes}
 use Rattle.mcv_config.specs.Pools.{Table, number_read, pool_named, pool_read}
-use Rattle.mcv_config.specs.Routes.{listed, servers, only_child, plain_pool, cut, pool_prefix, text_children, with_children, of_name, of_name_and_text, of_cut, text_route, type_read, pool_object, pool_value, pool_field, pool_fields, children_value, children_field, warm_up_fields, start_read, migrate_fields, fields, of_type, object_route, handle_of, in_room, route}
+use Rattle.mcv_config.specs.Routes.{listed, servers, only_child, plain_pool, cut, pool_prefix, text_children, with_children, of_name, of_name_and_text, of_cut, text_route, type_read, pool_object, pool_value, pool_field, pool_fields, children_value, children_field, exptime_read, start_read, interval_read, warm_up_fields, migrate_fields, fields, of_type, object_route, handle_of, in_room, route}
 use Rattle.mcv_config.specs.Selectors.{policy_read, policies_of_members, policies_read, default_read, of_operation, selecting, selector_fields}
-use Rattle.mcv_config.specs.Shadows.{range_read, shadow_fields, shadow_of_members, shadow_read, shadows_of_items, shadows_read}
-use Rattle.mcv_config.specs.Walk.{SoFar, Reader, route_under, taken, with_pool}
+use Rattle.mcv_config.specs.Shadows.{range_read, shadow_fields, shadow_of_members, shadow_read, shadows_read}
+use Rattle.mcv_config.specs.Walk.{SoFar, Reader, route_under, taken, two_under, with_pool}
 use Rattle.mcv_config.proofs.Holds.{Holds, holds_bind, holds_then, holds_also, holds_if}
 use Rattle.mcv_config.proofs.Later.{Later, later_than, later_more, route_keeps, IsSoFar, Grows, still, pool_behind, Each, none_grow, each_grows, each_member_grows}
 use Rattle.mcv_config.proofs.SoundPools.{Grown, IsPool, pool_grown, some_servers}
@@ -36,6 +35,9 @@ AreSome ps ts = (nameds_of ts ≢ no_named) × AreSoundRoutes ps (nameds_of ts)
 
 abbrev IsNumber : List (List ℕ) → ℕ → Type 0
 IsNumber ps i = i < length ps
+
+abbrev AreBoth : List (List ℕ) → Named × Named → Type 0
+AreBoth ps t = IsSoundRoute ps t.0 × IsSoundRoute ps t.1
 
 abbrev IsShadow : List (List ℕ) → ShadowPlan → Type 0
 IsShadow ps s = IsSoundRoute ps s.1
@@ -201,7 +203,7 @@ module _ (depth : ℕ) (reader : Reader) (one : (w : SoFar) (path : List ℕ) (d
       }))
 
   listed_sound : (w : SoFar) (path : List ℕ) (ds : List Data) → IsSoFar w → Holds (Grows AreSome w.pools.servers) (listed reader w path ds)
-  unfolding listed
+  unfolding some_items
   listed_sound w path [] s = tt
   listed_sound w path (d ∷ ds) s = each_some w path d ds s
 
@@ -232,13 +234,9 @@ module _ (depth : ℕ) (reader : Reader) (one : (w : SoFar) (path : List ℕ) (d
   unfolding shadow_read
   shadow_sound w path d s = of_members_sound w path d (as_object d) s
 
-  of_items_sound : (w : SoFar) (path : List ℕ) (o : Option Items) → IsSoFar w → Holds (Grows (Each IsShadow shadow_keeps) w.pools.servers) (shadows_of_items reader w path o)
-  of_items_sound w path None s = tt
-  of_items_sound w path (Some ds) s = each_grows IsShadow shadow_keeps (shadow_read reader) shadow_sound w path 0 (items_list ds) s
-
   shadows_sound : (w : SoFar) (path : List ℕ) (o : Option Data) → IsSoFar w → Holds (Grows (Each IsShadow shadow_keeps) w.pools.servers) (shadows_read reader w path o)
-  shadows_sound w path None s = none_grow IsShadow shadow_keeps w s
-  shadows_sound w path (Some d) s = of_items_sound w path (as_array d) s
+  shadows_sound w path o s =
+      holds_then (Grows (Each IsShadow shadow_keeps) w.pools.servers) (items_or_none path o) _ (λ ds. each_grows IsShadow shadow_keeps (shadow_read reader) shadow_sound w path 0 ds s)
 
   pool_fields_sound : (w : SoFar) (path : List ℕ) (d : Data) → IsSoFar w → Holds (Grows IsSoundRoute w.pools.servers) (pool_fields reader w path d)
   unfolding pool_fields
@@ -255,30 +253,29 @@ module _ (depth : ℕ) (reader : Reader) (one : (w : SoFar) (path : List ℕ) (d
 
   -- ---- two children
 
-  warm_up_sound : (w : SoFar) (path : List ℕ) (d : Data) → IsSoFar w → Holds (Grows IsSoundRoute w.pools.servers) (warm_up_fields reader w path d)
-  unfolding warm_up_fields
-  warm_up_sound w path d s =
-      holds_bind (Grows IsSoundRoute w.pools.servers) (Grows IsSoundRoute w.pools.servers) (route_under reader w path (codes "cold") d) _ (under_sound w path (codes "cold") d s)
-      (λ x h. holds_bind (Grows IsSoundRoute x.1.pools.servers) (Grows IsSoundRoute w.pools.servers) (route_under reader x.1 path (codes "warm") d) _ (under_sound x.1 path (codes "warm") d h.sound)
-      (λ y k. holds_then (Grows IsSoundRoute w.pools.servers) (seconds_or 0 (key_step path (codes "exptime")) (get (codes "exptime") d)) _
-      (λ exptime. record {
+  two_sound : (w : SoFar) (path first second : List ℕ) (d : Data) → IsSoFar w → Holds (Grows AreBoth w.pools.servers) (two_under reader w path first second d)
+  unfolding two_under
+  two_sound w path first second d s =
+      holds_bind (Grows IsSoundRoute w.pools.servers) (Grows AreBoth w.pools.servers) (route_under reader w path first d) _ (under_sound w path first d s)
+      (λ x h. holds_bind (Grows IsSoundRoute x.1.pools.servers) (Grows AreBoth w.pools.servers) (route_under reader x.1 path second d) _ (under_sound x.1 path second d h.sound)
+      (λ y k. record {
         holds = (route_keeps x.1.pools.servers y.1.pools.servers k.later x.0 h.holds, k.holds);
         later = later_than w.pools.servers x.1.pools.servers y.1.pools.servers h.later k.later;
         sound = k.sound;
-      })))
+      }))
+
+  warm_up_sound : (w : SoFar) (path : List ℕ) (d : Data) → IsSoFar w → Holds (Grows IsSoundRoute w.pools.servers) (warm_up_fields reader w path d)
+  unfolding warm_up_fields
+  warm_up_sound w path d s =
+      holds_bind (Grows AreBoth w.pools.servers) (Grows IsSoundRoute w.pools.servers) (two_under reader w path (codes "cold") (codes "warm") d) _ (two_sound w path (codes "cold") (codes "warm") d s)
+      (λ x h. holds_then (Grows IsSoundRoute w.pools.servers) (exptime_read path d) _ (λ exptime. record { holds = h.holds; later = h.later; sound = h.sound }))
 
   migrate_sound : (w : SoFar) (path : List ℕ) (d : Data) → IsSoFar w → Holds (Grows IsSoundRoute w.pools.servers) (migrate_fields reader w path d)
   unfolding migrate_fields
   migrate_sound w path d s =
-      holds_bind (Grows IsSoundRoute w.pools.servers) (Grows IsSoundRoute w.pools.servers) (route_under reader w path (codes "from") d) _ (under_sound w path (codes "from") d s)
-      (λ x h. holds_bind (Grows IsSoundRoute x.1.pools.servers) (Grows IsSoundRoute w.pools.servers) (route_under reader x.1 path (codes "to") d) _ (under_sound x.1 path (codes "to") d h.sound)
-      (λ y k. holds_then (Grows IsSoundRoute w.pools.servers) (start_read path d) _
-      (λ start. holds_then (Grows IsSoundRoute w.pools.servers) (seconds_or 3600 (key_step path (codes "interval")) (get (codes "interval") d)) _
-      (λ interval. record {
-        holds = (route_keeps x.1.pools.servers y.1.pools.servers k.later x.0 h.holds, k.holds);
-        later = later_than w.pools.servers x.1.pools.servers y.1.pools.servers h.later k.later;
-        sound = k.sound;
-      }))))
+      holds_bind (Grows AreBoth w.pools.servers) (Grows IsSoundRoute w.pools.servers) (two_under reader w path (codes "from") (codes "to") d) _ (two_sound w path (codes "from") (codes "to") d s)
+      (λ x h. holds_then (Grows IsSoundRoute w.pools.servers) (start_read path d) _
+      (λ start. holds_then (Grows IsSoundRoute w.pools.servers) (interval_read path d) _ (λ interval. record { holds = h.holds; later = h.later; sound = h.sound })))
 
   -- ---- selectors
 

@@ -6,7 +6,7 @@ use Rattle.serde_json.specs.Data.{Data, string, Items, Members}
 use Rattle.serde_json.specs.Find.{get, as_str, as_array, as_object}
 use Rattle.mcv_pools.specs.declared.symbol.HashFunc.TheVariants.{Ch3}
 use Rattle.mcv_config.specs.declared.fault.FaultKind.{FaultKind}
-use Rattle.mcv_config.specs.declared.fault.FaultKind.TheVariants.{WrongKind, Empty, Limit, LeftOut}
+use Rattle.mcv_config.specs.declared.fault.FaultKind.TheVariants.{WrongKind, Limit, LeftOut}
 use Rattle.mcv_config.specs.declared.fault.ConfigFault.{ConfigFault}
 use Rattle.mcv_config.specs.declared.fault.ConfigFault.TheVariants.{Memory}
 use Rattle.mcv_config.specs.declared.config.NamedRoute.{NamedRoute}
@@ -18,21 +18,20 @@ use Rattle.mcv_config.specs.declared.handle.Object.TheVariants as objects
 use Rattle.mcv_config.specs.Fault.{Read, good, bad, refused, ◌>>=◌, also}
 use Rattle.mcv_config.specs.Handles.{handle_named, is_elsewhere, key_fault, keys_read, stray_fault}
 use Rattle.mcv_config.specs.Hash.{HashPlan, hash_read}
-use Rattle.mcv_config.specs.Lists.{each, items_list, required, text_read}
+use Rattle.mcv_config.specs.Lists.{each, items_list, required, some_items, text_read}
 use Rattle.mcv_config.specs.Numbers.{seconds_or, seconds_read}
 use Rattle.mcv_config.specs.Path.{key_step}
 use Rattle.mcv_config.specs.Plan.{Named, ShadowPlan, pool, server, null, error, all_sync, all_initial, all_async, failover, miss_failover, warm_up, migrate, no_named, nameds_of}
 use Rattle.mcv_config.specs.Pools.{Table, pool_named, pool_read}
 use Rattle.mcv_config.specs.Selectors.{selector_fields}
 use Rattle.mcv_config.specs.Shadows.{shadows_read}
-use Rattle.mcv_config.specs.Walk.{SoFar, Reader, Children, route_under, taken, with_pool}
+use Rattle.mcv_config.specs.Walk.{SoFar, Reader, Children, taken, two_under, with_pool}
 
 -- ---- children
 
 -- a list that is not empty
-unfoldable pub listed : Reader → SoFar → List ℕ → List Data → Children
-listed reader w path [] = refused Empty path
-listed reader w path (d ∷ ds) = each reader w path 0 (d ∷ ds)
+abbrev pub listed : Reader → SoFar → List ℕ → List Data → Children
+listed reader w path ds = some_items path ds >>= each reader w path 0
 
 -- the servers of pool i, each a pool of its own: they are handles too, one level deeper
 unfoldable pub servers : ℕ → SoFar → List ℕ → ℕ → Children
@@ -159,25 +158,31 @@ children_field depth reader w path d =
     required (get (codes "children") d) path >>= λ (c : Data).
     children_value depth reader w (key_step path (codes "children")) c (as_str c) (as_array c)
 
--- cold and warm, with the exptime of the add, which is 0 where there is no such key (own)
-unfoldable pub warm_up_fields : Reader → SoFar → List ℕ → Data → Read (Named × SoFar)
-warm_up_fields reader w path d =
-    route_under reader w path (codes "cold") d >>= λ (cold : Named × SoFar).
-    route_under reader cold.1 path (codes "warm") d >>= λ (warm : Named × SoFar).
-    seconds_or 0 (key_step path (codes "exptime")) (get (codes "exptime") d) >>= λ (exptime : ℕ).
-    good (warm_up cold.0 warm.0 exptime, warm.1)
+-- the exptime of the add, which is 0 where there is no such key (own)
+unfoldable pub exptime_read : List ℕ → Data → Read ℕ
+exptime_read path d = seconds_or 0 (key_step path (codes "exptime")) (get (codes "exptime") d)
 
 unfoldable pub start_read : List ℕ → Data → Read ℕ
 start_read path d = required (get (codes "start_time") d) path >>= seconds_read (key_step path (codes "start_time"))
 
--- from and to, with the start and the interval, which is an hour where there is no such key (own)
+-- the interval, which is an hour where there is no such key (own)
+unfoldable pub interval_read : List ℕ → Data → Read ℕ
+interval_read path d = seconds_or 3600 (key_step path (codes "interval")) (get (codes "interval") d)
+
+-- cold and warm, with the exptime of the add
+unfoldable pub warm_up_fields : Reader → SoFar → List ℕ → Data → Read (Named × SoFar)
+warm_up_fields reader w path d =
+    two_under reader w path (codes "cold") (codes "warm") d >>= λ (x : (Named × Named) × SoFar).
+    exptime_read path d >>= λ (exptime : ℕ).
+    good (warm_up x.0.0 x.0.1 exptime, x.1)
+
+-- from and to, with the start and the interval
 unfoldable pub migrate_fields : Reader → SoFar → List ℕ → Data → Read (Named × SoFar)
 migrate_fields reader w path d =
-    route_under reader w path (codes "from") d >>= λ (from : Named × SoFar).
-    route_under reader from.1 path (codes "to") d >>= λ (to : Named × SoFar).
+    two_under reader w path (codes "from") (codes "to") d >>= λ (x : (Named × Named) × SoFar).
     start_read path d >>= λ (start : ℕ).
-    seconds_or 3600 (key_step path (codes "interval")) (get (codes "interval") d) >>= λ (interval : ℕ).
-    good (migrate from.0 to.0 start interval, to.1)
+    interval_read path d >>= λ (interval : ℕ).
+    good (migrate x.0.0 x.0.1 start interval, x.1)
 
 unfoldable pub fields : ℕ → Reader → SoFar → List ℕ → Data → Handle → Read (Named × SoFar)
 fields depth reader w path d handles.Pool = pool_fields reader w path d

@@ -1,12 +1,12 @@
 -- The shadows of a PoolRoute: where requests go too, when their server's index is in a range (mcrouter wiki, Shadowing; `first` at most `last` is own).
 use Rattle.std.specs.Prelude.{ℕ, nat_lt, List, [], Option, Some, None, if◌then◌else◌, codes}
-use Rattle.serde_json.specs.Data.{Data, Items, Members}
-use Rattle.serde_json.specs.Find.{get, at, as_array, as_object}
+use Rattle.serde_json.specs.Data.{Data, Members}
+use Rattle.serde_json.specs.Find.{get, at, as_object}
 use Rattle.mcv_config.specs.declared.fault.FaultKind.TheVariants.{WrongKind}
 use Rattle.mcv_config.specs.declared.handle.Object.TheVariants as objects
 use Rattle.mcv_config.specs.Fault.{Read, good, refused, ◌>>=◌, also}
 use Rattle.mcv_config.specs.Handles.{key_fault, keys_read}
-use Rattle.mcv_config.specs.Lists.{each, items_list, required}
+use Rattle.mcv_config.specs.Lists.{each, items_or_none, required}
 use Rattle.mcv_config.specs.Numbers.{index_read}
 use Rattle.mcv_config.specs.Path.{key_step, item_step}
 use Rattle.mcv_config.specs.Plan.{Named, Range, ShadowPlan}
@@ -52,11 +52,6 @@ shadow_of_members reader w path d (Some ms) = also (keys_read (key_fault objects
 unfoldable pub shadow_read : Reader → SoFar → List ℕ → Data → Read (ShadowPlan × SoFar)
 shadow_read reader w path d = shadow_of_members reader w path d (as_object d)
 
-abbrev pub shadows_of_items : Reader → SoFar → List ℕ → Option Items → Read (List ShadowPlan × SoFar)
-shadows_of_items reader w path None = refused WrongKind path
-shadows_of_items reader w path (Some ds) = each (shadow_read reader) w path 0 (items_list ds)
-
 -- no shadows where there is no such key
 abbrev pub shadows_read : Reader → SoFar → List ℕ → Option Data → Read (List ShadowPlan × SoFar)
-shadows_read reader w path None = good ([], w)
-shadows_read reader w path (Some d) = shadows_of_items reader w path (as_array d)
+shadows_read reader w path o = items_or_none path o >>= each (shadow_read reader) w path 0

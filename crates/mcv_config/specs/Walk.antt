@@ -33,3 +33,10 @@ Children = Read (List Named × SoFar)
 -- the route under a key that has to be there
 unfoldable pub route_under : Reader → SoFar → List ℕ → List ℕ → Data → Read (Named × SoFar)
 route_under reader w path key d = required (get key d) path >>= reader w (key_step path key)
+
+-- the routes under two keys that have to be there
+unfoldable pub two_under : Reader → SoFar → List ℕ → List ℕ → List ℕ → Data → Read ((Named × Named) × SoFar)
+two_under reader w path first second d =
+    route_under reader w path first d >>= λ (x : Named × SoFar).
+    route_under reader x.1 path second d >>= λ (y : Named × SoFar).
+    good ((x.0, y.0), y.1)

@@ -8,6 +8,7 @@ mod config;
 mod fault;
 mod handle;
 mod hash;
+mod items;
 mod name_table;
 mod names;
 mod numbers;
@@ -18,6 +19,7 @@ mod routes;
 mod selecting;
 mod server;
 mod texts;
+mod timed;
 mod trail;
 
 pub use config::{Config, Entry, NamedPolicy, NamedPrefix, NamedRoute, NamedShadow, Pool};

@@ -1,35 +1,31 @@
 //! The handles that a JSON value names.
 
-ghost use Rattle.std.specs.Prelude.{◌≡◌, map, option_map};
-ghost use Rattle.serde_json.specs.View.{view, items_view, members_view};
+ghost use Rattle.std.specs.Prelude.{map, option_map};
+ghost use Rattle.serde_json.specs.View.{view, members_view};
 ghost use Rattle.mcv_config.specs.Fault.{Gives};
-ghost use Rattle.mcv_config.specs.Lists.{each, each_member, items_list};
+ghost use Rattle.mcv_config.specs.Lists.{each, each_member};
 ghost use Rattle.mcv_config.specs.Path.{path_of};
 ghost use Rattle.mcv_config.specs.Plan.{named_of, prefix_of, shadow_of};
-ghost use Rattle.mcv_config.specs.Routes.{children_field, listed, migrate_fields, object_route, pool_fields, route, warm_up_fields};
+ghost use Rattle.mcv_config.specs.Routes.{children_field, object_route, pool_fields, route};
 ghost use Rattle.mcv_config.specs.Selectors.{default_read, policies_read, policy_read, selector_fields};
-ghost use Rattle.mcv_config.specs.Shadows.{shadow_read, shadows_read};
+ghost use Rattle.mcv_config.specs.Shadows.{shadow_read};
 ghost use Rattle.mcv_config.specs.View.{so_far_of};
-ghost use Rattle.mcv_config.specs.Walk.{route_under};
+ghost use Rattle.mcv_config.specs.Walk.{route_under, two_under};
 
 use crate::config::{NamedPrefix, NamedRoute, NamedShadow};
 use crate::fault::{ConfigFault, FaultKind};
 use crate::handle::{Handle, Object, Selector};
 use crate::hash::read_hash;
+use crate::items::{items_or_none, some_items};
 use crate::names::{check_keys, check_names, default_key, policies_key, read_type};
-use crate::numbers::{read_range, read_seconds_or, read_start};
+use crate::numbers::{read_range, read_start};
 use crate::progress::{Progress, read_pool_field};
 use crate::selecting::{named_prefix, selecting};
 use crate::texts::{only, read_text, text_children, with_children};
+use crate::timed::{migrate, read_exptime, read_interval, warm_up};
 use crate::trail::{Trail, fault};
 use serde_json::{Map, Value};
 use std::alloc::Global;
-
-/// The exptime of a warm-up that names none.
-const DEFAULT_EXPTIME: u32 = 0;
-
-/// The interval of a migration that names none: an hour.
-const DEFAULT_INTERVAL: u32 = 3_600;
 
 /// The handle that a value names, with this many levels left for it and those below it.
 #[tactic(auto, using(crate::proofs::Faults::faults, crate::proofs::Levels::levels))]
@@ -57,7 +53,7 @@ pub(crate) fn read_route(
 }
 
 /// The handle that an object names, with this many levels left for those below it.
-#[tactic(auto, using(crate::proofs::Faults::faults), unfolding(crate::specs::Routes::object_route, crate::specs::Routes::fields))]
+#[tactic(auto, using(crate::proofs::Faults::faults), unfolding(crate::specs::Routes::object_route, crate::specs::Routes::fields, crate::specs::Routes::warm_up_fields, crate::specs::Routes::migrate_fields))]
 #[cycle(route)]
 fn read_object(
     alloc: Global,
@@ -79,8 +75,17 @@ fn read_object(
             let children = read_children(alloc, depth, so_far, trail, value)?;
             Ok(with_children(many, children))
         }
-        Handle::WarmUp => read_warm_up(alloc, depth, so_far, trail, value),
-        Handle::Migrate => read_migrate(alloc, depth, so_far, trail, value),
+        Handle::WarmUp => {
+            let (cold, warm) = read_two(alloc, depth, so_far, trail, "cold", "warm", value)?;
+            let exptime = read_exptime(alloc, trail, value)?;
+            Ok(warm_up(alloc, cold, warm, exptime)?)
+        }
+        Handle::Migrate => {
+            let (from, to) = read_two(alloc, depth, so_far, trail, "from", "to", value)?;
+            let start = read_start(alloc, trail, value)?;
+            let interval = read_interval(alloc, trail, value)?;
+            Ok(migrate(alloc, from, to, start, interval)?)
+        }
         Handle::Selector(selector) => read_selector(alloc, depth, so_far, trail, selector, value),
     }
 }
@@ -105,6 +110,25 @@ fn read_field(
     read_route(alloc, depth, so_far, &here, route)
 }
 
+/// The routes under two keys that have to be there.
+#[tactic(auto, using(crate::proofs::Faults::faults), unfolding(crate::specs::Walk::two_under))]
+#[cycle(route)]
+fn read_two(
+    alloc: Global,
+    depth: usize,
+    so_far: &mut Progress,
+    trail: &Trail<'_>,
+    first: &str,
+    second: &str,
+    value: &Value,
+) -> Result<(NamedRoute, NamedRoute), ConfigFault>
+    ensures { Gives (λ t. ((named_of t.0, named_of t.1), so_far_of so_far.new)) result (two_under (route depth) (so_far_of so_far.old) (path_of trail.now) first.now second.now (view value.now)) }
+{
+    let one = read_field(alloc, depth, so_far, trail, first, value)?;
+    let other = read_field(alloc, depth, so_far, trail, second, value)?;
+    Ok((one, other))
+}
+
 // ---- pools
 
 /// A pool with its hash and its shadows.
@@ -123,8 +147,8 @@ fn read_pool_route(
     let in_hash = Trail::Key(&*trail, "hash");
     let (func, salt) = read_hash(alloc, &in_hash, value.get("hash"))?;
     let in_shadows = Trail::Key(&*trail, "shadows");
-    let listed = value.get("shadows");
-    let shadows = read_shadows(alloc, depth, so_far, &in_shadows, listed)?;
+    let list = items_or_none(alloc, &in_shadows, value.get("shadows"))?;
+    let shadows = read_shadows(alloc, depth, so_far, &in_shadows, list)?;
     Ok(NamedRoute::Pool {
         pool,
         func,
@@ -133,31 +157,10 @@ fn read_pool_route(
     })
 }
 
-/// The shadows under a key; none where there is no such key.
-#[tactic(auto, using(crate::proofs::Faults::faults, crate::proofs::Lists::items))]
-#[cycle(route)]
-fn read_shadows(
-    alloc: Global,
-    depth: usize,
-    so_far: &mut Progress,
-    trail: &Trail<'_>,
-    value: Option<&Value>,
-) -> Result<Vec<NamedShadow>, ConfigFault>
-    ensures { Gives (λ v. (map shadow_of v.items, so_far_of so_far.new)) result (shadows_read (route depth) (so_far_of so_far.old) (path_of trail.now) (option_map (λ v. view v.now) value.entry)) }
-{
-    let Some(shadows) = value else {
-        return Ok(Vec::new(alloc));
-    };
-    match shadows.as_array() {
-        Some(list) => read_each_shadow(alloc, depth, so_far, trail, list),
-        None => Err(fault(alloc, FaultKind::WrongKind, trail)),
-    }
-}
-
 /// The shadows of a list, each with what those before it left.
 #[tactic(auto, using(crate::proofs::Faults::faults), unfolding(crate::specs::Lists::each))]
 #[cycle(route)]
-fn read_each_shadow(
+fn read_shadows(
     alloc: Global,
     depth: usize,
     so_far: &mut Progress,
@@ -219,28 +222,11 @@ fn read_children(
         return text_children(alloc, depth, so_far, &here, text);
     }
     if let Some(list) = children.as_array() {
-        return read_list(alloc, depth, so_far, &here, list);
+        let items = some_items(alloc, &here, list)?;
+        return read_each(alloc, depth, so_far, &here, items);
     }
     let child = read_route(alloc, depth, so_far, &here, children)?;
     only(alloc, child)
-}
-
-/// The routes of a list that is not empty.
-#[tactic(auto, using(crate::proofs::Faults::faults, crate::proofs::Lists::lists))]
-#[cycle(route)]
-fn read_list(
-    alloc: Global,
-    depth: usize,
-    so_far: &mut Progress,
-    trail: &Trail<'_>,
-    list: &Vec<Value>,
-) -> Result<Vec<NamedRoute>, ConfigFault>
-    ensures { Gives (λ v. (map named_of v.items, so_far_of so_far.new)) result (listed (route depth) (so_far_of so_far.old) (path_of trail.now) (items_list (items_view list.now.items))) }
-{
-    if list.is_empty() {
-        return Err(fault(alloc, FaultKind::Empty, trail));
-    }
-    read_each(alloc, depth, so_far, trail, list)
 }
 
 /// The routes of a list, each with what those before it left.
@@ -261,56 +247,6 @@ fn read_each(
         children.push(read_route(alloc, depth, so_far, &here, item)?)?;
     }
     Ok(children)
-}
-
-// ---- two children
-
-/// Cold and warm, with the exptime of the add.
-#[tactic(auto, using(crate::proofs::Faults::faults), unfolding(crate::specs::Routes::warm_up_fields))]
-#[cycle(route)]
-fn read_warm_up(
-    alloc: Global,
-    depth: usize,
-    so_far: &mut Progress,
-    trail: &Trail<'_>,
-    value: &Value,
-) -> Result<NamedRoute, ConfigFault>
-    ensures { Gives (λ r. (named_of r, so_far_of so_far.new)) result (warm_up_fields (route depth) (so_far_of so_far.old) (path_of trail.now) (view value.now)) }
-{
-    let cold = read_field(alloc, depth, so_far, trail, "cold", value)?;
-    let warm = read_field(alloc, depth, so_far, trail, "warm", value)?;
-    let in_exptime = Trail::Key(&*trail, "exptime");
-    let exptime = read_seconds_or(alloc, DEFAULT_EXPTIME, &in_exptime, value.get("exptime"))?;
-    Ok(NamedRoute::WarmUp {
-        cold: Box::new(alloc, cold)?,
-        warm: Box::new(alloc, warm)?,
-        exptime,
-    })
-}
-
-/// From and to, with the start and the interval.
-#[tactic(auto, using(crate::proofs::Faults::faults), unfolding(crate::specs::Routes::migrate_fields))]
-#[cycle(route)]
-fn read_migrate(
-    alloc: Global,
-    depth: usize,
-    so_far: &mut Progress,
-    trail: &Trail<'_>,
-    value: &Value,
-) -> Result<NamedRoute, ConfigFault>
-    ensures { Gives (λ r. (named_of r, so_far_of so_far.new)) result (migrate_fields (route depth) (so_far_of so_far.old) (path_of trail.now) (view value.now)) }
-{
-    let from = read_field(alloc, depth, so_far, trail, "from", value)?;
-    let to = read_field(alloc, depth, so_far, trail, "to", value)?;
-    let start = read_start(alloc, trail, value)?;
-    let in_interval = Trail::Key(&*trail, "interval");
-    let interval = read_seconds_or(alloc, DEFAULT_INTERVAL, &in_interval, value.get("interval"))?;
-    Ok(NamedRoute::Migrate {
-        from: Box::new(alloc, from)?,
-        to: Box::new(alloc, to)?,
-        start,
-        interval,
-    })
 }
 
 // ---- selectors

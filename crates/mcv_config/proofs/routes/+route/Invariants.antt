@@ -22,26 +22,17 @@ decreases-read_pool_route l = 8 * l.depth + 6
 abbrev pub decreases-read_shadows : goal.decreases-read_shadows
 decreases-read_shadows l = 8 * l.depth + 5
 
-abbrev pub decreases-read_each_shadow : goal.decreases-read_each_shadow
-decreases-read_each_shadow l = 8 * l.depth + 4
-
 abbrev pub decreases-read_shadow : goal.decreases-read_shadow
-decreases-read_shadow l = 8 * l.depth + 3
+decreases-read_shadow l = 8 * l.depth + 4
 
 abbrev pub decreases-read_children : goal.decreases-read_children
 decreases-read_children l = 8 * l.depth + 6
 
-abbrev pub decreases-read_list : goal.decreases-read_list
-decreases-read_list l = 8 * l.depth + 5
-
 abbrev pub decreases-read_each : goal.decreases-read_each
-decreases-read_each l = 8 * l.depth + 4
+decreases-read_each l = 8 * l.depth + 5
 
-abbrev pub decreases-read_warm_up : goal.decreases-read_warm_up
-decreases-read_warm_up l = 8 * l.depth + 6
-
-abbrev pub decreases-read_migrate : goal.decreases-read_migrate
-decreases-read_migrate l = 8 * l.depth + 6
+abbrev pub decreases-read_two : goal.decreases-read_two
+decreases-read_two l = 8 * l.depth + 2
 
 abbrev pub decreases-read_selector : goal.decreases-read_selector
 decreases-read_selector l = 8 * l.depth + 6
@@ -66,8 +57,8 @@ invariant-read_each-loop-index l =
     each (route l.depth) (so_far_of l.fn.so_far) (path_of l.trail) 0 (map view l.list)
     ≡ after (map named_of l.children.items) (each (route l.depth) (so_far_of l.so_far) (path_of l.trail) l.index (map view (drop l.index l.list)))
 
-abbrev pub invariant-read_each_shadow-loop-index : goal.invariant-read_each_shadow-loop-index
-invariant-read_each_shadow-loop-index l =
+abbrev pub invariant-read_shadows-loop-index : goal.invariant-read_shadows-loop-index
+invariant-read_shadows-loop-index l =
     each (shadow_read (route l.depth)) (so_far_of l.fn.so_far) (path_of l.trail) 0 (map view l.list)
     ≡ after (map shadow_of l.shadows.items) (each (shadow_read (route l.depth)) (so_far_of l.so_far) (path_of l.trail) l.index (map view (drop l.index l.list)))
 
