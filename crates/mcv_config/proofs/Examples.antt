@@ -62,8 +62,8 @@ shadowing =
     object (member (codes "hash") (object (member (codes "hash_func") (string (codes "Crc32")) (member (codes "salt") (string (codes "x")) no_members)))
     (member (codes "pool") (string (codes "A"))
     (member (codes "shadows") (array (item (object
-      (member (codes "index_range") (array (item (number (unsigned 1)) (item (number (unsigned 1)) no_items)))
-      (member (codes "target") (string (codes "ErrorRoute|x")) no_members))) no_items))
+    (member (codes "index_range") (array (item (number (unsigned 1)) (item (number (unsigned 1)) no_items)))
+    (member (codes "target") (string (codes "ErrorRoute|x")) no_members))) no_items))
     (member (codes "type") (string (codes "PoolRoute")) no_members))))
 
 hash_and_shadow : root [] (two_pools shadowing) ≡ good (plan (pool 0 Crc32 (codes "x") (record { first = 1; last = 1 } ∷ []) (named error no_named)))

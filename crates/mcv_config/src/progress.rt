@@ -38,7 +38,7 @@ pub(crate) fn read_pool_field(
     };
     let here = Trail::Key(trail, "pool");
     match pool.as_str() {
-        Some(name) => pool_named(alloc, &so_far.pools, &here, name),
+        Some(name) => Ok(pool_named(alloc, &so_far.pools, &here, name)?),
         None => add_pool(alloc, so_far, &here, pool),
     }
 }

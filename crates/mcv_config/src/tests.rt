@@ -134,8 +134,7 @@ fn hashes_have_faults(rt: HostRuntime) -> Result<(), Fail> {
 
 #[test]
 fn shadows_have_faults(rt: HostRuntime) -> Result<(), Fail> {
-    let before =
-        "{\"route\":{\"type\":\"PoolRoute\",\"pool\":{\"servers\":[\"a:1\"]},\"shadows\":";
+    let before = "{\"route\":{\"type\":\"PoolRoute\",\"pool\":{\"servers\":[\"a:1\"]},\"shadows\":";
     check_rows(&rt, rt.alloc(), REFUSED_SHADOWS, before, "}}", "/route")
 }
 
@@ -159,7 +158,10 @@ fn with_prefix(alloc: Global, bytes: usize) -> Result<String, Fail> {
 #[test]
 fn a_prefix_has_at_most_200_bytes(rt: HostRuntime) -> Result<(), Fail> {
     let alloc = rt.alloc();
-    assert_eq!(rt; answer(alloc, with_prefix(alloc, 200)?.as_str())?.as_str(), "read");
+    assert_eq!(rt;
+        answer(alloc, with_prefix(alloc, 200)?.as_str())?.as_str(),
+        "read"
+    );
     match read_config(alloc, with_prefix(alloc, 201)?.as_bytes()) {
         Ok(_) => Err(Fail::from("a fault")),
         Err(fault) => {
@@ -184,7 +186,10 @@ fn with_salt(alloc: Global, bytes: usize) -> Result<String, Fail> {
 #[test]
 fn a_salt_has_at_most_200_bytes(rt: HostRuntime) -> Result<(), Fail> {
     let alloc = rt.alloc();
-    assert_eq!(rt; answer(alloc, with_salt(alloc, 200)?.as_str())?.as_str(), "read");
+    assert_eq!(rt;
+        answer(alloc, with_salt(alloc, 200)?.as_str())?.as_str(),
+        "read"
+    );
     assert_eq!(rt;
         answer(alloc, with_salt(alloc, 201)?.as_str())?.as_str(),
         "configuration 7 at /route/hash/salt"
