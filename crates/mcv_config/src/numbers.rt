@@ -87,7 +87,7 @@ fn read_ends(alloc: Global, trail: &Trail<'_>, value: &Value) -> Result<(u64, u6
     let Some(last) = value.get(1_usize) else {
         return Err(fault(alloc, FaultKind::WrongKind, trail));
     };
-    if value.get(2_usize).is_some() {
+    if let Some(_) = value.get(2_usize) {
         return Err(fault(alloc, FaultKind::WrongKind, trail));
     }
     let first = read_index(alloc, &Trail::Item(trail, 0), first)?;
