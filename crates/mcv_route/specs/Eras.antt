@@ -6,6 +6,7 @@ use Rattle.std.specs.List.Sorted.{IsStrictlyIncreasing}
 use Rattle.mcv_pools.specs.Table.{numbered}
 use Rattle.mcv_route.specs.Tree.{Tree, Trees, pool, null, error, all_sync, all_initial, all_async, failover, miss_failover, warm_up, migrate, prefix_selector, operation_selector, none, child}
 use Rattle.mcv_route.specs.Routes.{RoutesValue}
+use Rattle.mcv_route.specs.Situation.{has_passed}
 
 -- of a migration its start, and one and two intervals later (mcrouter wiki, MigrateRoute)
 abbrev pub own_breaks : ℕ → ℕ → List ℕ
@@ -69,3 +70,7 @@ SinceIsTheLastBreak = (bs : List ℕ) (moment : ℕ) → IsSince bs moment (sinc
 -- moments after the same break are in one era
 abbrev pub ErasAreOpenedByBreaks : Type 0
 ErasAreOpenedByBreaks = (bs : List ℕ) (m n : ℕ) → since_at bs m ≡ since_at bs n → era_at bs m ≡ era_at bs n
+
+-- each break has passed by the one that opened the era where it has passed by the moment: an era tells all that rules ask of a moment
+abbrev pub ErasTellWhatHasPassed : Type 0
+ErasTellWhatHasPassed = (bs : List ℕ) (moment b : ℕ) → Contains bs b → has_passed (since_at bs moment) b ≡ nat_le b moment
