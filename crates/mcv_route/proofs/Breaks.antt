@@ -15,7 +15,7 @@ use Rattle.std.proofs.lemmas.Map.Keys.{IsStrictlyIncreasing-dedup}
 use Rattle.mcv_base.specs.declared.request.Moment.{Moment}
 use Rattle.mcv_pools.specs.Table.{is_in, numbered, with_entry}
 use Rattle.mcv_route.specs.Eras.{era_at, IsBreakTable, IsSince, passed, since_at}
-use Rattle.mcv_route.proofs.Moments.{here, since_is_last, there}
+use Rattle.mcv_route.proofs.Passed.{here, since_is_last, there}
 
 -- ---- lists with nothing twice
 
@@ -62,11 +62,11 @@ fewer (x ∷ xs) ys a h =
 
 found-in : (y : ℕ) (t : List ℕ) → list_any (nat_eq y) t ≡ true → Contains t y
 found-in y [] e = cc
-found-in y (z ∷ t) e = by (nat_eq y z) refl e
+found-in y (z ∷ t) e = by (nat_eq y z) refl e (found-in y t)
   where
-    by : (b : Bool) → nat_eq y z ≡ b → (b || list_any (nat_eq y) t) ≡ true → Contains (z ∷ t) y
-    by true q e = (0, omega arith, sym (eqb-true y z q))
-    by false q e = there z y t (found-in y t e)
+    by : (b : Bool) → nat_eq y z ≡ b → (b || list_any (nat_eq y) t) ≡ true → (list_any (nat_eq y) t ≡ true → Contains t y) → Contains (z ∷ t) y
+    by true q e rest = (0, omega arith, sym (eqb-true y z q))
+    by false q e rest = there z y t (rest e)
 
 not-at : (y : ℕ) (t : List ℕ) (k : ℕ) → list_any (nat_eq y) t ≡ false → k < length t → get_or t k y ≡ y → ⊥
 not-at y [] k e h is = omega arith
@@ -166,7 +166,7 @@ module _ (bs ns : List ℕ) (m n : ℕ) (t : IsBreakTable bs ns) (bound : n ≤ 
   to-come none b at (inr low) = let c = among b at low in absurd (omega (arith, c.1, length-take n ns, none))
 
   pub since-none : n ≡ 0 → None ≡ since_at bs m
-  since-none none = only-since bs m None (since_at bs m) (λ k d h. to-come none _ (t.all k d h) (cases_lt m _)) (since_is_last bs m)
+  since-none none = only-since bs m None (since_at bs m) (λ k d h. to-come none (get_or bs k d) (t.all k d h) (cases_lt m (get_or bs k d))) (since_is_last bs m)
 
   highest-at : (b k : ℕ) → k < n → get_or ns k b ≡ b → (k < n - 1) ⊎ (n - 1 ≤ k) → b ≤ get_or ns (n - 1) 0
   highest-at b k h is (inl below) =
@@ -190,7 +190,7 @@ module _ (bs ns : List ℕ) (m n : ℕ) (t : IsBreakTable bs ns) (bound : n ≤ 
       let has : Contains bs last = t.only (n - 1) 0 (omega arith) in
       let own : get_or (take n ns) (n - 1) 0 ≤ m = first (n - 1) 0 (omega (arith, length-take n ns)) in
       let low : last ≤ m = omega (arith, own, get_or-take n ns (n - 1) 0 (omega arith)) in
-      ap Some is ∙ only-since bs m (Some last) (since_at bs m) (has, low, (λ k d h under. highest _ (t.all k d h) under)) (since_is_last bs m)
+      ap Some is ∙ only-since bs m (Some last) (since_at bs m) (has, low, (λ k d h under. highest (get_or bs k d) (t.all k d h) under)) (since_is_last bs m)
 
   pairs-take : AllPairs (λ x y. x < y) (take n ns)
   pairs-take i j d h g =
@@ -207,7 +207,7 @@ module _ (bs ns : List ℕ) (m n : ℕ) (t : IsBreakTable bs ns) (bound : n ≤ 
       let size : length (take n ns) ≡ n = length-take-le n ns bound in
       let under : All (λ b. passes b ≡ true) old = filter_passes passes bs in
       let listed : All (Contains ns) old = All-filter passes (Contains ns) bs t.all in
-      let in_table : All (Contains (take n ns)) eras = from-each [] old (take n ns) (All-nil (Contains (take n ns))) (λ k d h. among _ (listed k d h) (leb-true _ m (under k d h))) in
+      let in_table : All (Contains (take n ns)) eras = from-each [] old (take n ns) (All-nil (Contains (take n ns))) (λ k d h. among (get_or old k d) (listed k d h) (leb-true (get_or old k d) m (under k d h))) in
       let known : All (Contains bs) (take n ns) = All-take (Contains bs) n ns t.only in
       let in_eras : All (Contains eras) (take n ns) =
       λ k d h.
@@ -227,8 +227,10 @@ made-table xs ys zs moved sorted kept =
     let table : IsBreakTable xs (dedup nat_eq ys) =
     record {
       rising = IsStrictlyIncreasing-dedup ys sorted;
-      all = λ k d h. Contains-dedup_nat ys _ (Contains-permutation xs ys _ moved (Contains-get_or xs k d h));
-      only = λ k d h. Contains-permutation ys xs _ (IsPermutation-sym xs ys moved) (Contains-from_dedup nat_eq ys _ (Contains-get_or (dedup nat_eq ys) k d h));
+      all = λ k d h. Contains-dedup_nat ys (get_or xs k d) (Contains-permutation xs ys (get_or xs k d) moved (Contains-get_or xs k d h));
+      only = λ k d h.
+      let b : ℕ = get_or (dedup nat_eq ys) k d in
+      Contains-permutation ys xs b (IsPermutation-sym xs ys moved) (Contains-from_dedup nat_eq ys b (Contains-get_or (dedup nat_eq ys) k d h));
     } in
     subst (IsBreakTable xs) (sym is) table
 
@@ -252,14 +254,14 @@ module _ (table : List Moment) where
       let size = length-take n (map number table) in
       let below : k < n = omega (arith, size) in
       let at : Moment = record { 0 = d } in
-      let low : number (get_or table k at) ≤ m = leb-true _ m (within k at (omega arith) below) in
+      let low : number (get_or table k at) ≤ m = leb-true (number (get_or table k at)) m (within k at (omega arith) below) in
       omega (arith, low, get_or-take n (map number table) k d below, get_or-map number table k at d (omega arith))
 
   pub rest-over : (n m : ℕ) → AllWithin (λ y. nat_le (number y) m ≡ false) table n (length table) → All (λ b. m < b) (drop n (map number table))
   rest-over n m within k d h =
       let inside : n + k < length table = omega (arith, length-drop n (map number table), length-map table number) in
       let at : Moment = record { 0 = d } in
-      let far : m < number (get_or table (n + k) at) = leb-false _ m (within (n + k) at (omega arith) inside) in
+      let far : m < number (get_or table (n + k) at) = leb-false (number (get_or table (n + k) at)) m (within (n + k) at (omega arith) inside) in
       omega (arith, far, get_or-drop n (map number table) k d, get_or-map number table (n + k) at d inside)
 
 -- ---- what a table of moments answers

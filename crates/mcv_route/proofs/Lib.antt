@@ -6,5 +6,5 @@ pub mod Building
 pub mod Soundness
 pub mod Whole
 pub mod Ways
-pub mod Moments
+pub mod Passed
 pub mod Breaks

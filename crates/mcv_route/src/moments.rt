@@ -63,7 +63,8 @@ fn push_migration(moments: &mut Vec<u64>, start: u32, interval: u32) -> Result<(
     let (start, interval) = (u64::from(start), u64::from(interval));
     moments.push(start)?;
     moments.push(start + interval)?;
-    moments.push(start + 2 * interval)
+    moments.push(start + 2 * interval)?;
+    Ok(())
 }
 
 /// Adds those of the children of a handle.

@@ -1,4 +1,4 @@
-use Rattle.mcv_route.proofs.Moments.{since_is_last, eras_are_opened, eras_tell}
+use Rattle.mcv_route.proofs.Passed.{since_is_last, eras_are_opened, eras_tell}
 use Rattle.mcv_route.proofs.eras.eras_are_opened_by_breaks.Goals as goal
 
 pub returns : goal.returns

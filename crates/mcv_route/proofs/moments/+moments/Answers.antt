@@ -35,7 +35,7 @@ push_breaks-returns-in-MissFailover t c = rw (c.in-MissFailover.is, breaks-MissF
 
 pub push_breaks-returns-in-WarmUp : goal.push_breaks-returns-in-WarmUp
 push_breaks-returns-in-WarmUp t c =
-    rw (c.in-WarmUp.is, breaks-WarmUp, ← c.deref-in-WarmUp.ensures, ← c.deref-in-WarmUp-2.ensures, ← append_assoc c.args.moments.now (breaks (view c.deref-in-WarmUp.result.now)) (breaks (view c.deref-in-WarmUp-2.result.now)), ← c.in_ok-push_breaks-in-WarmUp.ensures)
+    rw (c.in-WarmUp.is, breaks-WarmUp, ← c.deref-in-WarmUp.ensures, ← c.deref-in-WarmUp-2.ensures, ← append_assoc c.args.moments.now.items (breaks (view c.deref-in-WarmUp.result.now)) (breaks (view c.deref-in-WarmUp-2.result.now)), ← c.in_ok-push_breaks-in-WarmUp.ensures)
     c.push_breaks-in-WarmUp-2.ensures
 
 pub push_breaks-returns-in-Migrate : goal.push_breaks-returns-in-Migrate
@@ -43,16 +43,20 @@ push_breaks-returns-in-Migrate t c =
     let own = own_breaks c.in-Migrate.start c.in-Migrate.interval in
     let from = breaks (view c.deref-in-Migrate.result.now) in
     let to = breaks (view c.deref-in-Migrate-2.result.now) in
-    rw (c.in-Migrate.is, breaks-Migrate, ← c.deref-in-Migrate.ensures, ← c.deref-in-Migrate-2.ensures, ← append_assoc c.args.moments.now own (from ++ to), ← c.in_ok-push_migration.ensures, ← append_assoc c.push_migration.new.moments.items from to, ← c.in_ok-push_breaks-in-Migrate.ensures)
+    rw (c.in-Migrate.is, breaks-Migrate, ← c.deref-in-Migrate.ensures, ← c.deref-in-Migrate-2.ensures, ← append_assoc c.args.moments.now.items own (from ++ to), ← c.in_ok-push_migration.ensures, ← append_assoc c.push_migration.new.moments.items from to, ← c.in_ok-push_breaks-in-Migrate.ensures)
     c.push_breaks-in-Migrate-2.ensures
 
 pub push_breaks-returns-in-PrefixSelector : goal.push_breaks-returns-in-PrefixSelector
 push_breaks-returns-in-PrefixSelector t c =
-    rw (c.in-PrefixSelector.is, breaks-PrefixSelector, ← c.deref-in-PrefixSelector.ensures.value, ← append_assoc c.args.moments.now.items _ _, ← c.in_ok-push_prefixes.ensures) c.push_last.ensures
+    let each = breaks_each (trees_of (map (λ p. p.1) (map prefix_view c.deref-in-PrefixSelector.result.now))) in
+    let last = breaks_each (trees_of (last_view c.in-PrefixSelector.wildcard)) in
+    rw (c.in-PrefixSelector.is, breaks-PrefixSelector, ← c.deref-in-PrefixSelector.ensures.value, ← append_assoc c.args.moments.now.items each last, ← c.in_ok-push_prefixes.ensures) c.push_last.ensures
 
 pub push_breaks-returns-in-OperationSelector : goal.push_breaks-returns-in-OperationSelector
 push_breaks-returns-in-OperationSelector t c =
-    rw (c.in-OperationSelector.is, breaks-OperationSelector, ← c.deref-in-OperationSelector.ensures.value, ← append_assoc c.args.moments.now.items _ _, ← c.in_ok-push_policies.ensures) c.push_last-in-OperationSelector.ensures
+    let each = breaks_each (trees_of (map (λ p. p.1) (map operation_view c.deref-in-OperationSelector.result.now))) in
+    let last = breaks_each (trees_of (last_view c.in-OperationSelector.default_policy)) in
+    rw (c.in-OperationSelector.is, breaks-OperationSelector, ← c.deref-in-OperationSelector.ensures.value, ← append_assoc c.args.moments.now.items each last, ← c.in_ok-push_policies.ensures) c.push_last-in-OperationSelector.ensures
 
 pub push_children-loop-child-preserved : goal.push_children-loop-child-preserved
 push_children-loop-child-preserved t c =

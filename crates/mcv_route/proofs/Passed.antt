@@ -1,5 +1,5 @@
 -- The break that opened an era, and the number of the era.
-use Rattle.std.proofs.Common.{◌≡◌, ℕ, suc, ◌+◌, ◌<◌, ◌≤◌, List, [], ◌∷◌, Bool, true, false, cond, Option, Some, None, max, refl, ap, sym, subst, ◌∙◌, arith, length}
+use Rattle.std.proofs.Common.{◌≡◌, ℕ, suc, ◌+◌, ◌<◌, ◌≤◌, List, [], ◌∷◌, Bool, true, false, cond, Option, Some, None, max, refl, ap, sym, subst, ◌∙◌, arith, length, get_or}
 use Rattle.std.specs.Prelude.{nat_le, nat_lt, nat_eq, filter}
 use Rattle.std.specs.List.{All, Contains}
 use Rattle.std.specs.Option.{option_map_or}
@@ -58,8 +58,8 @@ same-test : (b m n : ℕ) → (b ≤ m → b ≤ n) → (b ≤ n → b ≤ m) �
 same-test b m n f g = grind (arith, common_steps)
 
 same-since : (bs : List ℕ) (m n : ℕ) (s : Option ℕ) → IsSince bs m s → IsSince bs n s → All (λ b. nat_le b m ≡ nat_le b n) bs
-same-since bs m n None f g = λ k d h. same-test _ m n (λ e. let far = f k d h in absurd (omega (arith, far, e))) (λ e. let far = g k d h in absurd (omega (arith, far, e)))
-same-since bs m n (Some s) f g = λ k d h. same-test _ m n (λ e. let low = f.2 k d h e in let up = g.1 in omega (arith, low, up)) (λ e. let low = g.2 k d h e in let up = f.1 in omega (arith, low, up))
+same-since bs m n None f g = λ k d h. same-test (get_or bs k d) m n (λ e. let far = f k d h in absurd (omega (arith, far, e))) (λ e. let far = g k d h in absurd (omega (arith, far, e)))
+same-since bs m n (Some s) f g = λ k d h. same-test (get_or bs k d) m n (λ e. let low = f.2 k d h e in let up = g.1 in omega (arith, low, up)) (λ e. let low = g.2 k d h e in let up = f.1 in omega (arith, low, up))
 
 pub eras_are_opened : ErasAreOpenedByBreaks
 eras_are_opened bs m n e =
