@@ -65,6 +65,16 @@ pub child_at-Migrate : (from to : Box Route Global) (start interval k : ℕ)
     → child_at (children_of (view (Migrate from to start interval))) k ≡ child_at (child (view from.value) (child (view to.value) none)) k
 child_at-Migrate from to start interval k = ap (λ t. child_at (children_of t) k) (view-Migrate from to start interval)
 
+pub child-of-WarmUp : (route : Route) (cold warm : Box Route Global) (exptime k : ℕ) (a b : Route) (found : Option Tree) → route ≡ WarmUp cold warm exptime → a ≡ cold.value → b ≡ warm.value
+    → found ≡ child_at (child (view a) (child (view b) (child (view a) none))) k → found ≡ child_at (children_of (view route)) k
+child-of-WarmUp route cold warm exptime k a b found is a-is b-is h =
+    h ∙ (λ i. child_at (child (view (a-is i)) (child (view (b-is i)) (child (view (a-is i)) none))) k) ∙ sym (child_at-WarmUp cold warm exptime k) ∙ ap (λ t. child_at (children_of (view t)) k) (sym is)
+
+pub child-of-Migrate : (route : Route) (from to : Box Route Global) (start interval k : ℕ) (a b : Route) (found : Option Tree) → route ≡ Migrate from to start interval → a ≡ from.value → b ≡ to.value
+    → found ≡ child_at (child (view a) (child (view b) none)) k → found ≡ child_at (children_of (view route)) k
+child-of-Migrate route from to start interval k a b found is a-is b-is h =
+    h ∙ (λ i. child_at (child (view (a-is i)) (child (view (b-is i)) none)) k) ∙ sym (child_at-Migrate from to start interval k) ∙ ap (λ t. child_at (children_of (view t)) k) (sym is)
+
 pub child_at-PrefixSelector : (v : Vec PrefixPolicy Global) (d : Option (Box Route Global)) (k : ℕ)
     → child_at (children_of (view (PrefixSelector v d))) k ≡ slice_get (map (λ p. p.1) (map prefix_view v.items) ++ last_view d) k
 child_at-PrefixSelector v d k =
@@ -207,6 +217,24 @@ breaks-PrefixSelector v d = ap breaks (view-PrefixSelector v d) ∙ breaks_each-
 pub breaks-OperationSelector : (v : Vec OperationPolicy Global) (d : Option (Box Route Global))
     → breaks (view (OperationSelector v d)) ≡ breaks_each (trees_of (map (λ p. p.1) (map operation_view v.items))) ++ breaks_each (trees_of (last_view d))
 breaks-OperationSelector v d = ap breaks (view-OperationSelector v d) ∙ breaks_each-append (map (λ p. p.1) (map operation_view v.items)) (last_view d)
+
+-- those of the policies, and then of what stands after them
+pub breaks-of-PrefixSelector : (route : Route) (v : Vec PrefixPolicy Global) (d : Option (Box Route Global)) (policies : List PrefixPolicy) (start before : List ℕ) → route ≡ PrefixSelector v d → policies ≡ v.items
+    → before ≡ start ++ breaks_each (trees_of (map (λ p. p.1) (map prefix_view policies))) → before ++ breaks_each (trees_of (last_view d)) ≡ start ++ breaks (view route)
+breaks-of-PrefixSelector route v d policies start before is same so_far =
+    let each : List PrefixPolicy → List ℕ = λ ps. breaks_each (trees_of (map (λ p. p.1) (map prefix_view ps))) in
+    let last : List ℕ = breaks_each (trees_of (last_view d)) in
+    ap (λ bs. bs ++ last) so_far ∙ append_assoc start (each policies) last ∙ ap (λ ps. start ++ (each ps ++ last)) same
+    ∙ ap (λ bs. start ++ bs) (sym (breaks-PrefixSelector v d)) ∙ ap (λ r. start ++ breaks (view r)) (sym is)
+
+-- those of the policies, and then of what stands after them
+pub breaks-of-OperationSelector : (route : Route) (v : Vec OperationPolicy Global) (d : Option (Box Route Global)) (policies : List OperationPolicy) (start before : List ℕ) → route ≡ OperationSelector v d → policies ≡ v.items
+    → before ≡ start ++ breaks_each (trees_of (map (λ p. p.1) (map operation_view policies))) → before ++ breaks_each (trees_of (last_view d)) ≡ start ++ breaks (view route)
+breaks-of-OperationSelector route v d policies start before is same so_far =
+    let each : List OperationPolicy → List ℕ = λ ps. breaks_each (trees_of (map (λ p. p.1) (map operation_view ps))) in
+    let last : List ℕ = breaks_each (trees_of (last_view d)) in
+    ap (λ bs. bs ++ last) so_far ∙ append_assoc start (each policies) last ∙ ap (λ ps. start ++ (each ps ++ last)) same
+    ∙ ap (λ bs. start ++ bs) (sym (breaks-OperationSelector v d)) ∙ ap (λ r. start ++ breaks (view r)) (sym is)
 
 -- those of one more entry
 pub entry-breaks-more : (entries : List AliasedRoute) (i : ℕ) (entry : AliasedRoute) (before now : List ℕ) → i < length entries → entry ≡ get_or entries i entry

@@ -83,7 +83,8 @@ fn server_leaf(
     let mut servers = Vec::with_capacity(alloc, 1)?;
     servers.push(list[index])?;
     let servers = Arc::new(alloc, servers)?;
-    leaf_of(HashFunc::Ch3, Vec::new(alloc), servers, symbols)
+    let salt = Vec::new(alloc);
+    leaf_of(HashFunc::Ch3, salt, servers, symbols)
 }
 
 /// The route that a handle names, over the pools' lists.

@@ -62,11 +62,6 @@ build_last-build_route-requires t c =
 pub build_last-returns-in-None : goal.build_last-returns-in-None
 build_last-returns-in-None t c = built-no_last (map list_view c.args.lists.now) c.args.symbols.now c.args.symbols.now c.args.last.now None c.in-None.is refl refl
 
-pub build_last-returns-in_ok-new : goal.build_last-returns-in_ok-new
-build_last-returns-in_ok-new t c =
-    built-last (map list_view c.args.lists.now) c.args.symbols.now c.build_route.new.symbols c.args.last.now (Some c.in_ok-new.field-0) c.in-Some.route c.in_ok-new.field-0 c.deref.result.now c.in_ok-route.route
-    c.in-Some.is refl c.deref.ensures c.in_ok-new.ensures.ok c.in_ok-route.ensures
-
 pub build_route-pool_leaf-requires : goal.build_route-pool_leaf-requires
 build_route-pool_leaf-requires t c = record {
   filled = c.requires.filled;
@@ -112,12 +107,6 @@ pub build_route-build_route-requires : goal.build_route-build_route-requires
 build_route-build_route-requires t c = (
   search (rules, asked.the_lemmas),
   (c.requires.filled, rw c.deref-in-WarmUp.ensures (sound-WarmUp (map list_view c.args.lists.now) c.args.route.now c.in-WarmUp.cold c.in-WarmUp.warm c.in-WarmUp.exptime c.in-WarmUp.is c.requires.sound).0),
-)
-
-pub build_route-build_route-requires-in-WarmUp-2 : goal.build_route-build_route-requires-in-WarmUp-2
-build_route-build_route-requires-in-WarmUp-2 t c = (
-  search (rules, asked.the_lemmas),
-  (c.requires.filled, rw c.deref-in-WarmUp-2.ensures (sound-WarmUp (map list_view c.args.lists.now) c.args.route.now c.in-WarmUp.cold c.in-WarmUp.warm c.in-WarmUp.exptime c.in-WarmUp.is c.requires.sound).1),
 )
 
 pub build_route-build_route-requires-in-Migrate : goal.build_route-build_route-requires-in-Migrate
@@ -203,7 +192,7 @@ build_route-returns-in_ok-build_children-in-MissFailover t c =
 pub build_route-returns-in_ok-warm-in-WarmUp : goal.build_route-returns-in_ok-warm-in-WarmUp
 build_route-returns-in_ok-warm-in-WarmUp t c =
     built-WarmUp (map list_view c.args.lists.now) c.args.route.now c.in-WarmUp.cold c.in-WarmUp.warm c.in-WarmUp.exptime c.deref-in-WarmUp.result.now c.deref-in-WarmUp-2.result.now
-    c.args.symbols.now c.build_route.new.symbols c.build_route-in-WarmUp-2.new.symbols c.in_ok-cold-in-WarmUp.cold c.in_ok-warm-in-WarmUp.warm c.in_ok-build_route-in-WarmUp.field-0 c.in_ok-build_route-in-WarmUp-2.field-0
+    c.args.symbols.now c.build_route.new.symbols c.build_route-in-WarmUp.new.symbols c.in_ok-cold-in-WarmUp.cold c.in_ok-warm-in-WarmUp.warm c.in_ok-build_route-in-WarmUp.field-0 c.in_ok-build_route-in-WarmUp-2.field-0
     c.in-WarmUp.is c.deref-in-WarmUp.ensures c.deref-in-WarmUp-2.ensures c.in_ok-cold-in-WarmUp.ensures.ok c.in_ok-warm-in-WarmUp.ensures.ok c.in_ok-build_route-in-WarmUp.ensures c.in_ok-build_route-in-WarmUp-2.ensures
 
 pub build_route-returns-in_ok-to-in-Migrate : goal.build_route-returns-in_ok-to-in-Migrate

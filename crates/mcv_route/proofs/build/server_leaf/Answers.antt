@@ -13,4 +13,4 @@ returns c =
     let inside = length-server c.args.lists.now c.args.number c.args.index c.index-lists-number.result c.requires.inside c.index-lists-number.is c.requires.listed in
     let one = ap (λ v. v.items) c.in_ok-servers-2.ensures.ok ∙ c.in_ok-push.ensures.items ∙ ap (λ xs. xs ++ c.index.result.now ∷ []) c.in_ok-servers.ensures.items in
     let shown = server-at c.args.lists.now c.args.number c.args.index c.index-lists-number.result c.in_ok-servers-2.servers c.index.result.now c.requires.inside c.index-lists-number.is inside (rw c.deref.ensures at c.index.ensures) one in
-    record { leaf = rw (← shown, ← c.new.ensures.items) c.leaf_of.ensures.leaf; table = rw (← shown, ← c.new.ensures.items) c.leaf_of.ensures.table }
+    record { leaf = rw (← shown, ← c.new-salt.ensures.items) c.leaf_of.ensures.leaf; table = rw (← shown, ← c.new-salt.ensures.items) c.leaf_of.ensures.table }

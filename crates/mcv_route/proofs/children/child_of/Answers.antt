@@ -1,6 +1,6 @@
 use Rattle.std.proofs.Common.{◌≡◌, rules, sym, ap, ◌∙◌, map, ◌++◌, refl}
 use Rattle.mcv_route.specs.View.{view}
-use Rattle.mcv_route.proofs.Ways.{child_at-Pool, child_at-Null, child_at-Error, child_at-AllSync, child_at-AllInitial, child_at-AllAsync, child_at-Failover, child_at-MissFailover, child_at-WarmUp, child_at-Migrate, child_at-PrefixSelector, child_at-OperationSelector, lent-at}
+use Rattle.mcv_route.proofs.Ways.{child_at-Pool, child_at-Null, child_at-Error, child_at-AllSync, child_at-AllInitial, child_at-AllAsync, child_at-Failover, child_at-MissFailover, child-of-WarmUp, child-of-Migrate, child_at-PrefixSelector, child_at-OperationSelector, lent-at}
 use Rattle.mcv_route.proofs.children.child_of.Goals as goal
 
 pub returns-in-Pool : goal.returns-in-Pool
@@ -33,10 +33,14 @@ returns-in-MissFailover c =
     rw (c.in-MissFailover.is, child_at-MissFailover c.in-MissFailover.children c.args.number, ← c.deref-in-MissFailover.ensures.value) (lent-at view c.deref-in-MissFailover.result.now c.args.number c.get-in-MissFailover.result c.get-in-MissFailover.ensures.lookup)
 
 pub returns-in-WarmUp : goal.returns-in-WarmUp
-returns-in-WarmUp c = rw (c.in-WarmUp.is, child_at-WarmUp, ← c.deref-in-WarmUp.ensures, ← c.deref-in-WarmUp-2.ensures) c.warm_up_side.ensures
+returns-in-WarmUp c =
+    child-of-WarmUp c.args.route.now c.in-WarmUp.cold c.in-WarmUp.warm c.in-WarmUp.exptime c.args.number c.deref-in-WarmUp.result.now c.deref-in-WarmUp-2.result.now _
+    c.in-WarmUp.is c.deref-in-WarmUp.ensures c.deref-in-WarmUp-2.ensures c.warm_up_side.ensures
 
 pub returns-in-Migrate : goal.returns-in-Migrate
-returns-in-Migrate c = rw (c.in-Migrate.is, child_at-Migrate, ← c.deref-in-Migrate.ensures, ← c.deref-in-Migrate-2.ensures) c.migration_side.ensures
+returns-in-Migrate c =
+    child-of-Migrate c.args.route.now c.in-Migrate.from c.in-Migrate.to c.in-Migrate.start c.in-Migrate.interval c.args.number c.deref-in-Migrate.result.now c.deref-in-Migrate-2.result.now _
+    c.in-Migrate.is c.deref-in-Migrate.ensures c.deref-in-Migrate-2.ensures c.migration_side.ensures
 
 pub returns-in-PrefixSelector : goal.returns-in-PrefixSelector
 returns-in-PrefixSelector c =

@@ -1,4 +1,5 @@
-use Rattle.std.proofs.Common.{◌≡◌, ◌++◌, map, rules, refl, ap, sym, ◌∙◌, append_assoc, append-nil}
+use Rattle.std.proofs.Common.{◌≡◌, ℕ, List, ◌++◌, map, rules, refl, subst, append-nil}
+use Rattle.std.specs.Prelude.{OnOk}
 use Rattle.mcv_route.specs.Eras.{breaks, breaks_each, own_breaks}
 use Rattle.mcv_route.specs.View.{view, operation_view, prefix_view, shadow_view, trees_of, last_view}
 use Rattle.mcv_route.specs.declared.tree.Route as made
@@ -6,7 +7,7 @@ use Rattle.mcv_route.specs.declared.tree.Shadow.{out-Shadow}
 use Rattle.mcv_route.specs.declared.tree.PrefixPolicy.{out-PrefixPolicy}
 use Rattle.mcv_route.specs.declared.tree.OperationPolicy.{out-OperationPolicy}
 use Rattle.mcv_route.proofs.Views.{operation_view-out, prefix_view-out, shadow_view-out}
-use Rattle.mcv_route.proofs.Ways.{breaks-more, breaks-Pool, breaks-Null, breaks-Error, breaks-more-of, breaks-AllSync, breaks-AllInitial, breaks-AllAsync, breaks-Failover, breaks-MissFailover, breaks-WarmUp, breaks-Migrate, breaks-PrefixSelector, breaks-OperationSelector}
+use Rattle.mcv_route.proofs.Ways.{breaks-more, breaks-Pool, breaks-Null, breaks-Error, breaks-more-of, breaks-AllSync, breaks-AllInitial, breaks-AllAsync, breaks-Failover, breaks-MissFailover, breaks-of-PrefixSelector, breaks-of-OperationSelector}
 use Rattle.mcv_route.proofs.moments.+moments.Goals as goal
 
 pub push_breaks-returns-in-Pool : goal.push_breaks-returns-in-Pool
@@ -33,30 +34,17 @@ push_breaks-returns-in-Failover t c = rw (c.in-Failover.is, breaks-Failover, ←
 pub push_breaks-returns-in-MissFailover : goal.push_breaks-returns-in-MissFailover
 push_breaks-returns-in-MissFailover t c = rw (c.in-MissFailover.is, breaks-MissFailover, ← c.deref-in-MissFailover.ensures.value) c.push_children-in-MissFailover.ensures
 
-pub push_breaks-returns-in-WarmUp : goal.push_breaks-returns-in-WarmUp
-push_breaks-returns-in-WarmUp t c =
-    rw (c.in-WarmUp.is, breaks-WarmUp, ← c.deref-in-WarmUp.ensures, ← c.deref-in-WarmUp-2.ensures, ← append_assoc c.args.moments.now.items (breaks (view c.deref-in-WarmUp.result.now)) (breaks (view c.deref-in-WarmUp-2.result.now)), ← c.in_ok-push_breaks-in-WarmUp.ensures)
-    c.push_breaks-in-WarmUp-2.ensures
+pub push_breaks-returns-in_ok-push_prefixes-in-PrefixSelector : goal.push_breaks-returns-in_ok-push_prefixes-in-PrefixSelector
+push_breaks-returns-in_ok-push_prefixes-in-PrefixSelector t c =
+    let whole = breaks-of-PrefixSelector c.args.route.now c.in-PrefixSelector.policies c.in-PrefixSelector.wildcard c.deref-in-PrefixSelector.result.now c.args.moments.now.items c.push_prefixes.new.moments.items
+    c.in-PrefixSelector.is c.deref-in-PrefixSelector.ensures.value c.in_ok-push_prefixes-in-PrefixSelector.ensures in
+    subst (λ (bs : List ℕ). OnOk c.push_last.result (c.push_last.new.moments.items ≡ bs)) whole c.push_last.ensures
 
-pub push_breaks-returns-in-Migrate : goal.push_breaks-returns-in-Migrate
-push_breaks-returns-in-Migrate t c =
-    let own = own_breaks c.in-Migrate.start c.in-Migrate.interval in
-    let from = breaks (view c.deref-in-Migrate.result.now) in
-    let to = breaks (view c.deref-in-Migrate-2.result.now) in
-    rw (c.in-Migrate.is, breaks-Migrate, ← c.deref-in-Migrate.ensures, ← c.deref-in-Migrate-2.ensures, ← append_assoc c.args.moments.now.items own (from ++ to), ← c.in_ok-push_migration.ensures, ← append_assoc c.push_migration.new.moments.items from to, ← c.in_ok-push_breaks-in-Migrate.ensures)
-    c.push_breaks-in-Migrate-2.ensures
-
-pub push_breaks-returns-in-PrefixSelector : goal.push_breaks-returns-in-PrefixSelector
-push_breaks-returns-in-PrefixSelector t c =
-    let each = breaks_each (trees_of (map (λ p. p.1) (map prefix_view c.deref-in-PrefixSelector.result.now))) in
-    let last = breaks_each (trees_of (last_view c.in-PrefixSelector.wildcard)) in
-    rw (c.in-PrefixSelector.is, breaks-PrefixSelector, ← c.deref-in-PrefixSelector.ensures.value, ← append_assoc c.args.moments.now.items each last, ← c.in_ok-push_prefixes.ensures) c.push_last.ensures
-
-pub push_breaks-returns-in-OperationSelector : goal.push_breaks-returns-in-OperationSelector
-push_breaks-returns-in-OperationSelector t c =
-    let each = breaks_each (trees_of (map (λ p. p.1) (map operation_view c.deref-in-OperationSelector.result.now))) in
-    let last = breaks_each (trees_of (last_view c.in-OperationSelector.default_policy)) in
-    rw (c.in-OperationSelector.is, breaks-OperationSelector, ← c.deref-in-OperationSelector.ensures.value, ← append_assoc c.args.moments.now.items each last, ← c.in_ok-push_policies.ensures) c.push_last-in-OperationSelector.ensures
+pub push_breaks-returns-in_ok-push_policies-in-OperationSelector : goal.push_breaks-returns-in_ok-push_policies-in-OperationSelector
+push_breaks-returns-in_ok-push_policies-in-OperationSelector t c =
+    let whole = breaks-of-OperationSelector c.args.route.now c.in-OperationSelector.policies c.in-OperationSelector.default_policy c.deref-in-OperationSelector.result.now c.args.moments.now.items c.push_policies.new.moments.items
+    c.in-OperationSelector.is c.deref-in-OperationSelector.ensures.value c.in_ok-push_policies-in-OperationSelector.ensures in
+    subst (λ (bs : List ℕ). OnOk c.push_last-in-OperationSelector.result (c.push_last-in-OperationSelector.new.moments.items ≡ bs)) whole c.push_last-in-OperationSelector.ensures
 
 pub push_children-loop-child-preserved : goal.push_children-loop-child-preserved
 push_children-loop-child-preserved t c =

@@ -1,22 +1,21 @@
-use Rattle.std.proofs.Common.{◌≡◌, ◌<◌, arith, length, sym, subst}
+use Rattle.std.proofs.Common.{◌≡◌, ◌-◌, ◌<◌, Some, arith, ap, get_or, ◌∙◌}
 use Rattle.mcv_base.specs.declared.request.Moment.{Moment}
-use Rattle.mcv_route.specs.Eras.{breaks_of, IsBreakTable}
-use Rattle.mcv_route.specs.RoutesView.{numbers_of, routes_view}
+use Rattle.mcv_route.specs.Eras.{breaks_of}
+use Rattle.mcv_route.specs.RoutesView.{routes_view}
 use Rattle.mcv_route.proofs.Breaks.{no-since, last-since}
 use Rattle.mcv_route.proofs.routes.Routes.since.Goals as goal
 
-pub passed_breaks-requires : goal.passed_breaks-requires
-passed_breaks-requires c = rw c.as_slice.ensures.value c.self.invariant.table.rising
-
-pub returns-then-number-0 : goal.returns-then-number-0
-returns-then-number-0 c =
+pub returns-then-number-eq0 : goal.returns-then-number-eq0
+returns-then-number-eq0 c =
     let found = c.passed_breaks-number in
     let table = rw (← c.as_slice.ensures.value) at c.self.invariant.table in
-    rw (← c.self.view_is) (no-since (breaks_of (routes_view c.self.inside)) c.as_slice.result.now c.args.moment.0 found.result table found.ensures.bound found.ensures.first found.ensures.rest c.if-number-0.true)
+    rw (← c.self.view_is) (no-since (breaks_of (routes_view c.self.inside)) c.as_slice.result.now c.args.moment.0 found.result table found.ensures.bound found.ensures.first found.ensures.rest c.if-number-eq0.true)
 
 pub returns : goal.returns
 returns c =
     let found = c.passed_breaks-number in
-    let some : 0 < found.result = omega (arith, c.if-number-0.false) in
-    rw (← c.self.view_is, ← c.as_slice.ensures.value) (last-since (breaks_of (routes_view c.self.inside)) c.as_slice.result.now c.args.moment.0 found.result
-    (rw (← c.as_slice.ensures.value) at c.self.invariant.table) found.ensures.bound found.ensures.first found.ensures.rest _ some)
+    let some : 0 < found.result = omega (arith, c.if-number-eq0.false) in
+    let table = rw (← c.as_slice.ensures.value) at c.self.invariant.table in
+    let last = last-since (breaks_of (routes_view c.self.inside)) c.as_slice.result.now c.args.moment.0 found.result table found.ensures.bound found.ensures.first found.ensures.rest c.index.result.now some in
+    let at : c.index.result.now ≡ get_or c.as_slice.result.now (found.result - 1) c.index.result.now = rw c.as_slice.ensures.value c.index.ensures in
+    rw (← c.self.view_is) (ap (λ (m : Moment). Some m.0) at ∙ last)
