@@ -128,7 +128,7 @@ impl Routes {
     pub fn breaks(&self) -> &[Moment]
         ensures { IsBreakTable (breaks_of self.now) (map (λ m. m.0) result.now) }
     {
-        self.break_table.as_slice()
+        &self.break_table
     }
 
     /// The last break of the routes at the moment or before it, which opened the moment's era; None in the
@@ -136,7 +136,8 @@ impl Routes {
     pub fn since(&self, moment: Moment) -> Option<Moment>
         ensures { option_map (λ m. m.0) result ≡ since_at (breaks_of self.now) moment.0 }
     {
-        let number = passed_breaks(self.break_table.as_slice(), moment);
+        let table = self.break_table.as_slice();
+        let number = passed_breaks(table, moment);
         if number == 0 {
             return None;
         }

@@ -28,7 +28,7 @@ const MIGRATION: &str = "{
     \"B\": {\"servers\": [\"c:1\"]}
   },
   \"route\": {
-    \"type\": \"MigrateRoute\", \"start_time\": 100, \"interval\": 10,
+    \"type\": \"MigrateRoute\", \"start_time\": 1000, \"interval\": 3600,
     \"from\": \"PoolRoute|A\",
     \"to\": {
       \"type\": \"WarmUpRoute\", \"exptime\": 60,
@@ -110,13 +110,14 @@ fn prefixes_select_routes(rt: HostRuntime) -> Result<(), Fail> {
 fn a_migration_has_three_breaks(rt: HostRuntime) -> Result<(), Fail> {
     let alloc = rt.alloc();
     let routes = routes(&rt, alloc, MIGRATION)?;
-    assert_eq!(rt; routes.breaks().len(), 3);
+    let breaks = [Moment(1000), Moment(4600), Moment(8200)];
+    assert_eq!(rt; routes.breaks(), breaks.as_slice());
     let cases: [(u64, Option<u64>, usize); 5] = [
-        (99, None, 0),
-        (100, Some(100), 1),
-        (119, Some(110), 2),
-        (120, Some(120), 3),
-        (u64::MAX, Some(120), 3),
+        (999, None, 0),
+        (1000, Some(1000), 1),
+        (8199, Some(4600), 2),
+        (8200, Some(8200), 3),
+        (u64::MAX, Some(8200), 3),
     ];
     for (moment, since, era) in cases {
         assert_eq!(rt; routes.since(Moment(moment)), since.map(Moment));
