@@ -229,8 +229,8 @@ made-table xs ys zs moved sorted kept =
       rising = IsStrictlyIncreasing-dedup ys sorted;
       all = λ k d h. Contains-dedup_nat ys (get_or xs k d) (Contains-permutation xs ys (get_or xs k d) moved (Contains-get_or xs k d h));
       only = λ k d h.
-      let b : ℕ = get_or (dedup nat_eq ys) k d in
-      Contains-permutation ys xs b (IsPermutation-sym xs ys moved) (Contains-from_dedup nat_eq ys b (Contains-get_or (dedup nat_eq ys) k d h));
+          let b : ℕ = get_or (dedup nat_eq ys) k d in
+          Contains-permutation ys xs b (IsPermutation-sym xs ys moved) (Contains-from_dedup nat_eq ys b (Contains-get_or (dedup nat_eq ys) k d h));
     } in
     subst (IsBreakTable xs) (sym is) table
 
