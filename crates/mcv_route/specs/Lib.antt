@@ -10,8 +10,4 @@ pub mod Verdict
 pub mod View
 pub mod Routes
 pub mod Codes
-pub mod RoutesView
-pub mod Built
-pub mod Walk
 pub mod Places
-pub mod Eras

@@ -1,19 +1,8 @@
-//! The routes of a configuration: their trees, their leaves with the tables of servers and symbols, and their eras.
-//!
-//! What each handle sends and replies is defined over these trees (`specs/Launched.antt`, `specs/Replies.antt`).
+//! STUB: the types and definitions of routes alone.
 #![tactic(auto)]
 
-mod build;
-mod children;
-mod eras;
 mod launch;
-mod moments;
-mod routes;
-#[cfg(test)]
-mod tests;
 mod tree;
 
-pub use eras::eras_are_opened_by_breaks;
 pub use launch::{Answered, Launch};
-pub use routes::Routes;
 pub use tree::{Leaf, OperationPolicy, PrefixPolicy, Route, Shadow};
