@@ -148,7 +148,7 @@ serves-no_default policies n s e h =
 -- ---- prefixes
 
 -- one that is longer or as long, and comes later, goes before
-abbrev longer_after : ℕ × ℕ → Option (ℕ × ℕ) → Option (ℕ × ℕ)
+abbrev pub longer_after : ℕ × ℕ → Option (ℕ × ℕ) → Option (ℕ × ℕ)
 longer_after a None = Some a
 longer_after a (Some b) = cond (nat_le a.1 b.1) (Some b) (Some a)
 
@@ -157,7 +157,7 @@ abbrev pub merged : Option (ℕ × ℕ) → Option (ℕ × ℕ) → Option (ℕ 
 merged None r = r
 merged (Some a) r = longer_after a r
 
-longest-step : (k : ℕ) (rest p : List ℕ) (prefixes : List (List ℕ)) (b : Bool) (r : Option (ℕ × ℕ)) → begins_with rest p ≡ b → longest_from (suc k) rest prefixes ≡ r
+pub longest-step : (k : ℕ) (rest p : List ℕ) (prefixes : List (List ℕ)) (b : Bool) (r : Option (ℕ × ℕ)) → begins_with rest p ≡ b → longest_from (suc k) rest prefixes ≡ r
     → longest_from k rest (p ∷ prefixes) ≡ cond b (longer_after (k, length p) r) r
 longest-step k rest p prefixes false r w f = rw (w, f) refl
 longest-step k rest p prefixes true None w f = rw (w, f) refl
