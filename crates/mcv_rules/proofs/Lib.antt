@@ -22,4 +22,9 @@ pub mod Choosing
 pub mod Stopping
 pub mod True
 pub mod Told
+pub mod Rows
+pub mod Stops
+pub mod Longest
+pub mod Leaves
+pub mod Once
 mod Examples

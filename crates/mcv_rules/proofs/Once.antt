@@ -109,7 +109,7 @@ launched_places c (l ∷ ls) = ap (λ ps. l.position ∷ ps) (launched_places c 
 
 pub legs_are_sent_once : LegsAreSentOnce
 legs_are_sent_once t s c o =
-    subst IsOneToOne (sym (ap (λ ls. map (λ l. l.position) ls) (Sent.sent t s c o) ∙ launched_places c (launched (plan t s) c o)))
+    subst (λ (ps : List (List ℕ)). IsOneToOne ps) (sym (ap (λ ls. map (λ l. l.position) ls) (Sent.sent t s c o) ∙ launched_places c (launched (plan t s) c o)))
     (one_to_one (places (launched (plan t s) c o)) (sent_part (plan t s) c o (plan_apart t s)).once)
 
 -- ---- shadows

@@ -46,7 +46,7 @@ launched_at ts s c o i =
     ∙ each_at (λ n t. launched t (under n s) c o) 0 i ts
     ∙ ap (λ n. option_map (λ t. launched t (under n s) c o) (child_at ts i)) (zero-add i)
 
-replies_at : (ts : Trees) (s : Situation) (o : Outcomes) (i : ℕ) → slice_get (replies_each 0 ts s o) i ≡ option_map (λ t. replies t (under i s) o) (child_at ts i)
+pub replies_at : (ts : Trees) (s : Situation) (o : Outcomes) (i : ℕ) → slice_get (replies_each 0 ts s o) i ≡ option_map (λ t. replies t (under i s) o) (child_at ts i)
 replies_at ts s o i =
     ap (λ rs. slice_get rs i) (replies_by_each 0 ts s o)
     ∙ each_at (λ n t. replies t (under n s) o) 0 i ts
@@ -101,10 +101,10 @@ at_rest (xs ∷ xss) i l h = h
 
 -- ---- one after another
 
-abbrev Passes : (Outcome → Bool) → List Answer → Type 0
+abbrev pub Passes : (Outcome → Bool) → List Answer → Type 0
 Passes test r = (x : Outcome) × (outcome_of r ≡ Some x) × (test x ≡ true)
 
-abbrev PassesAt : (Outcome → Bool) → List (List Answer) → ℕ → Type 0
+abbrev pub PassesAt : (Outcome → Bool) → List (List Answer) → ℕ → Type 0
 PassesAt test rs j = (r : List Answer) × (slice_get rs j ≡ Some r) × Passes test r
 
 if_among : {A : Type 0} (b : Bool) (ls : List A) (l : A) → Among (cond b ls []) l → (b ≡ true) × Among ls l
@@ -159,17 +159,17 @@ child_passes test ts s o j h =
     let m = from_map (λ t. replies t (under j s) o) (child_at ts j) h.0 (sym (replies_at ts s o j) ∙ h.1) in
     (h.2.0, ap (option_and_then (λ t. outcome_of (replies t (under j s) o))) m.1 ∙ ap outcome_of m.2 ∙ h.2.1, h.2.2)
 
-passes_child : (test : Outcome → Bool) (ts : Trees) (s : Situation) (o : Outcomes) (j : ℕ) (x : Outcome) → child_replied ts j s o ≡ Some x → test x ≡ true → PassesAt test (replies_each 0 ts s o) j
+pub passes_child : (test : Outcome → Bool) (ts : Trees) (s : Situation) (o : Outcomes) (j : ℕ) (x : Outcome) → child_replied ts j s o ≡ Some x → test x ≡ true → PassesAt test (replies_each 0 ts s o) j
 passes_child test ts s o j x e h =
     let m = from_and_then (λ t. outcome_of (replies t (under j s) o)) (child_at ts j) x e in
     (replies m.0 (under j s) o, replies_at ts s o j ∙ ap (option_map (λ t. replies t (under j s) o)) m.1, (x, m.2, h))
 
-error_of : (r : Option Outcome) (x : Outcome) → r ≡ Some x → is_error x ≡ true → r ≡ Some Error
+pub error_of : (r : Option Outcome) (x : Outcome) → r ≡ Some x → is_error x ≡ true → r ≡ Some Error
 error_of r Good e h = absurd (let n : false ≡ true = h in cc)
 error_of r Soft e h = absurd (let n : false ≡ true = h in cc)
 error_of r Error e h = e
 
-missed_of : (r : Option Outcome) (x : Outcome) → r ≡ Some x → is_missed x ≡ true → IsMissed r
+pub missed_of : (r : Option Outcome) (x : Outcome) → r ≡ Some x → is_missed x ≡ true → IsMissed r
 missed_of r Good e h = absurd (let n : false ≡ true = h in cc)
 missed_of r Soft e h = inl e
 missed_of r Error e h = inr e
@@ -179,7 +179,7 @@ good_of r Good e h = e
 good_of r Soft e h = absurd (let n : false ≡ true = h in cc)
 good_of r Error e h = absurd (let n : false ≡ true = h in cc)
 
-missed_passes : (ts : Trees) (s : Situation) (o : Outcomes) (j : ℕ) → IsMissed (child_replied ts j s o) → PassesAt is_missed (replies_each 0 ts s o) j
+pub missed_passes : (ts : Trees) (s : Situation) (o : Outcomes) (j : ℕ) → IsMissed (child_replied ts j s o) → PassesAt is_missed (replies_each 0 ts s o) j
 missed_passes ts s o j (inl e) = passes_child is_missed ts s o j Soft e refl
 missed_passes ts s o j (inr e) = passes_child is_missed ts s o j Error e refl
 

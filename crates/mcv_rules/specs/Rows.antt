@@ -152,3 +152,15 @@ abbrev pub FirstPolicyCounts : Type 0
 FirstPolicyCounts = (op : Op) (ops : List (Option Op)) →
     ((j : ℕ) (p : Option Op) → j < policy_of op ops → slice_get ops j ≡ Some p → is_policy_for op p ≡ false)
     × (((p : Option Op) × (slice_get ops (policy_of op ops) ≡ Some p) × (is_policy_for op p ≡ true)) ⊎ (policy_of op ops ≡ length ops))
+
+-- ---- where a search stops
+
+-- a child that hasn't replied, or not with an error, and all before it have, or the last one: its replies are those of the handle
+abbrev pub FailoverReplies : Type 0
+FailoverReplies = (ts : Trees) (s : Situation) (o : Outcomes) (k : ℕ) (t : Tree) → child_at ts k ≡ Some t → ((j : ℕ) → j < k → child_replied ts j s o ≡ Some Error)
+    → (replied t (under k s) o ≢ Some Error) ⊎ (child_at ts (suc k) ≡ None) → replies (failover ts) s o ≡ replies t (under k s) o
+
+-- a child that hasn't replied, or with a hit, and all before it have and without one, or the last one
+abbrev pub MissFailoverReplies : Type 0
+MissFailoverReplies = (ts : Trees) (s : Situation) (o : Outcomes) (k : ℕ) (t : Tree) → is_reading s.op ≡ true → child_at ts k ≡ Some t → ((j : ℕ) → j < k → IsMissed (child_replied ts j s o))
+    → (IsMissed (replied t (under k s) o) → ⊥) ⊎ (child_at ts (suc k) ≡ None) → replies (miss_failover ts) s o ≡ replies t (under k s) o

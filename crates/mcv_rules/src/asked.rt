@@ -32,7 +32,7 @@ pub enum Way {
 impl<'a> Asked<'a> {
     /// What is asked of those whose replies no one waits for.
     pub fn asynchronous(self) -> Asked<'a>
-        ensures { result ≡ record self { mark = marked_async self.mark } }
+        ensures { let asked = self.entry in result ≡ record asked { mark = marked_async asked.mark } }
     {
         let mark = match self.mark {
             Mark::Plain => Mark::Async,
@@ -45,7 +45,7 @@ impl<'a> Asked<'a> {
 
     /// What is asked of a shadow's target.
     pub fn shadowed(self) -> Asked<'a>
-        ensures { result ≡ record self { mark = Shadowed } }
+        ensures { let asked = self.entry in result ≡ record asked { mark = Shadowed } }
     {
         Asked {
             mark: Mark::Shadow,
@@ -55,7 +55,7 @@ impl<'a> Asked<'a> {
 
     /// The add by which a warm-up fills its cold side.
     pub fn adding(self) -> Asked<'a>
-        ensures { result ≡ record self { op = Adding; mark = marked_add self.mark } }
+        ensures { let asked = self.entry in result ≡ record asked { op = Adding; mark = marked_add asked.mark } }
     {
         let mark = match self.mark {
             Mark::Shadow => Mark::Shadow,

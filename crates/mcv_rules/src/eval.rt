@@ -11,14 +11,14 @@ ghost use Rattle.mcv_rules.specs.Status.{status_of, status_outcome};
 
 use crate::answers::arrive;
 use crate::asked::Asked;
-use crate::known::Known;
 use crate::layout::laid_out;
 use crate::legs::send;
+use crate::outcomes::Outcomes;
 use crate::plan::Plan;
 use crate::status::Status;
 use mcv_base::{Mark, Moment, Op, Position, Rest};
 use mcv_pools::Choice;
-use mcv_route::{Answered, Launch, Route};
+use mcv_route::{Launch, Route};
 use std::alloc::{AllocError, Global};
 use std::marker::Model;
 
@@ -78,25 +78,23 @@ impl<'a> Eval<'a> {
     }
 
     /// The legs that the route has sent once these outcomes have come, in the order of their positions.
-    pub fn launched(&self, alloc: Global, outcomes: &[Answered]) -> Result<Vec<Launch>, AllocError>
-        ensures { IfOk result (λ legs. legs.items ≡ launched self.now.tree (situation_of self.now) (slice_index self.now.choice) (known (history_of outcomes.now))) }
+    pub fn launched(&self, alloc: Global, outcomes: &Outcomes) -> Result<Vec<Launch>, AllocError>
+        ensures { IfOk result (λ legs. legs.items ≡ launched self.now.tree (situation_of self.now) (slice_index self.now.choice) (known (history_of outcomes.now.answered.now))) }
     {
-        let known = Known::of(alloc, outcomes)?;
         let mut found = Vec::new(alloc);
-        send(alloc, &self.plan, self.choice, &known, &mut found)?;
+        send(alloc, &self.plan, self.choice, outcomes.known(), &mut found)?;
         Ok(found)
     }
 
     /// Whether the route has replied once these outcomes have come, and by which reply: of the replies that could be
     /// it, the one that came last.
-    pub fn status(&self, alloc: Global, outcomes: &[Answered]) -> Result<Status, AllocError>
-        ensures status { IfOk result (λ x. x ≡ status_of self.now.op outcomes.now (reply self.now.tree (situation_of self.now) (history_of outcomes.now))) }
-        ensures outcome { IfOk result (λ x. status_outcome outcomes.now x ≡ option_map (λ a. a.outcome) (reply self.now.tree (situation_of self.now) (history_of outcomes.now))) }
+    pub fn status(&self, outcomes: &Outcomes) -> Status
+        ensures status { result ≡ status_of self.now.op outcomes.now.answered.now (reply self.now.tree (situation_of self.now) (history_of outcomes.now.answered.now)) }
+        ensures outcome { status_outcome outcomes.now.answered.now result ≡ option_map (λ a. a.outcome) (reply self.now.tree (situation_of self.now) (history_of outcomes.now.answered.now)) }
     {
-        let known = Known::of(alloc, outcomes)?;
-        match arrive(&self.plan, &known).answer {
-            None => Ok(Status::Waits),
-            Some(answer) => Ok(Status::Replied(answer.source)),
+        match arrive(&self.plan, outcomes.known()).answer {
+            None => Status::Waits,
+            Some(answer) => Status::Replied(answer.source),
         }
     }
 }

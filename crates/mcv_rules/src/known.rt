@@ -1,7 +1,7 @@
 //! The outcomes of a call by their positions, so that none is searched for.
 
 ghost use Rattle.std.specs.Prelude.{◌≡◌, ◌≤◌, ◌<◌, IfOk, List, OnOk, ℕ};
-ghost use Rattle.mcv_rules.specs.Arrivals.{count_after, found_after, known_at, own_arrived};
+ghost use Rattle.mcv_rules.specs.Arrivals.{count_after, found_after, found_in, known_at, own_arrived};
 
 use crate::arrival::{Answer, Arrival};
 use crate::status::Source;

@@ -48,12 +48,13 @@ pub fn laid_out(
             exptime: _,
         } => {
             let first = laid_out(alloc, cold, asked, &position.child(alloc, 0)?)?;
-            if !asked.op.is_reading() {
-                return Ok(first);
+            if asked.op.is_reading() {
+                let second = laid_out(alloc, warm, asked, &position.child(alloc, 1)?)?;
+                let filling = laid_out(alloc, cold, &asked.adding(), &position.child(alloc, 2)?)?;
+                filled(alloc, first, second, filling)
+            } else {
+                Ok(first)
             }
-            let second = laid_out(alloc, warm, asked, &position.child(alloc, 1)?)?;
-            let filling = laid_out(alloc, cold, &asked.adding(), &position.child(alloc, 2)?)?;
-            filled(alloc, first, second, filling)
         }
         Route::Migrate {
             from,

@@ -71,7 +71,7 @@ fn deleted(alloc: Global, route: &Route, outcomes: &[Answered]) -> Result<Status
     let rest = rest()?;
     let choice = choice(alloc, 0)?;
     let eval = Eval::new(alloc, route, Op::Delete, &rest, None, &choice)?;
-    Ok(eval.status(alloc, outcomes)?)
+    Ok(eval.status(&Outcomes::of(alloc, outcomes)?))
 }
 
 #[test]
@@ -153,8 +153,9 @@ fn a_policy_goes_before_the_default(rt: HostRuntime) -> Result<(), Fail> {
     let route = selector(alloc, Some(default))?;
     let rest = rest()?;
     let choice = choice(alloc, 1)?;
+    let none = Outcomes::of(alloc, &[])?;
     let delete = Eval::new(alloc, &route, Op::Delete, &rest, None, &choice)?;
-    let legs = delete.launched(alloc, &[])?;
+    let legs = delete.launched(alloc, &none)?;
     assert_eq!(rt; legs.len(), 1);
     let leg = &legs[0];
     assert_eq!(rt; leg.position.steps(), [1].as_slice());
@@ -162,7 +163,7 @@ fn a_policy_goes_before_the_default(rt: HostRuntime) -> Result<(), Fail> {
     assert_eq!(rt; leg.op, Op::Delete);
     assert_eq!(rt; leg.mark, Mark::Plain);
     let get = Eval::new(alloc, &route, Op::Get, &rest, None, &choice)?;
-    let legs = get.launched(alloc, &[])?;
+    let legs = get.launched(alloc, &none)?;
     assert_eq!(rt; legs.len(), 1);
     assert_eq!(rt; legs[0].position.steps(), [2].as_slice());
     Ok(())
@@ -174,9 +175,10 @@ fn a_missing_policy_is_an_error(rt: HostRuntime) -> Result<(), Fail> {
     let route = selector(alloc, None)?;
     let rest = rest()?;
     let choice = choice(alloc, 0)?;
+    let none = Outcomes::of(alloc, &[])?;
     let get = Eval::new(alloc, &route, Op::Get, &rest, None, &choice)?;
-    assert_eq!(rt; get.launched(alloc, &[])?.len(), 0);
-    let status = get.status(alloc, &[])?;
+    assert_eq!(rt; get.launched(alloc, &none)?.len(), 0);
+    let status = get.status(&none);
     assert_eq!(rt;
         status,
         Status::Replied(Source::Fixed(FixedReply::ErrorRoute))
@@ -190,13 +192,14 @@ fn nothing_asked_is_a_miss(rt: HostRuntime) -> Result<(), Fail> {
     let alloc = rt.alloc();
     let rest = rest()?;
     let choice = choice(alloc, 0)?;
+    let none = Outcomes::of(alloc, &[])?;
     let set = Eval::new(alloc, &Route::Null, Op::Set, &rest, None, &choice)?;
-    assert_eq!(rt; set.launched(alloc, &[])?.len(), 0);
+    assert_eq!(rt; set.launched(alloc, &none)?.len(), 0);
     assert_eq!(rt;
-        set.status(alloc, &[])?,
+        set.status(&none),
         Status::Replied(Source::Fixed(FixedReply::NotStored))
     );
-    assert_eq!(rt; set.status(alloc, &[])?.outcome(&[]), Some(Outcome::Soft));
+    assert_eq!(rt; set.status(&none).outcome(&[]), Some(Outcome::Soft));
     assert_eq!(rt; default_reply(Op::Gets), FixedReply::Miss);
     assert_eq!(rt; default_reply(Op::Touch), FixedReply::NotFound);
     Ok(())
@@ -211,7 +214,8 @@ fn got(
     let rest = rest()?;
     let choice = choice(alloc, 0)?;
     let eval = Eval::new(alloc, route, Op::Get, &rest, None, &choice)?;
-    Ok((eval.launched(alloc, outcomes)?, eval.status(alloc, outcomes)?))
+    let outcomes = Outcomes::of(alloc, outcomes)?;
+    Ok((eval.launched(alloc, &outcomes)?, eval.status(&outcomes)))
 }
 
 #[test]
@@ -291,8 +295,9 @@ fn a_hit_of_warm_fills_cold(rt: HostRuntime) -> Result<(), Fail> {
 fn legs_of_delete(alloc: Global, route: &Route, since: u64) -> Result<usize, Fail> {
     let rest = rest()?;
     let choice = choice(alloc, 0)?;
+    let none = Outcomes::of(alloc, &[])?;
     let eval = Eval::new(alloc, route, Op::Delete, &rest, Some(Moment(since)), &choice)?;
-    Ok(eval.launched(alloc, &[])?.len())
+    Ok(eval.launched(alloc, &none)?.len())
 }
 
 #[test]
