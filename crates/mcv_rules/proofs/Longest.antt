@@ -84,15 +84,17 @@ best k rest (p ∷ prefixes) =
     subst (Best k rest (p ∷ prefixes)) (sym (longest-step k rest p prefixes (begins_with rest p) (longest_from (suc k) rest prefixes) refl refl))
     (best_more k rest p prefixes (begins_with rest p) (longest_from (suc k) rest prefixes) refl (best (suc k) rest prefixes))
 
-pub longest_prefix_counts : LongestPrefixCounts
-longest_prefix_counts rest prefixes = by_found (longest_from 0 rest prefixes) (best 0 rest prefixes)
-  where
-    -- what the law says with this number
-    abbrev Counts : ℕ → Type 0
-    Counts n =
-        ((p : List ℕ) × (slice_get prefixes n ≡ Some p) × (begins_with rest p ≡ true) × NoneIsLonger rest prefixes (length p))
-        ⊎ ((n ≡ length prefixes) × BeginsNone rest prefixes)
+-- what the law says with this number
+abbrev Counts : List ℕ → List (List ℕ) → ℕ → Type 0
+Counts rest prefixes n =
+    ((p : List ℕ) × (slice_get prefixes n ≡ Some p) × (begins_with rest p ≡ true) × NoneIsLonger rest prefixes (length p))
+    ⊎ ((n ≡ length prefixes) × BeginsNone rest prefixes)
 
-    by_found : (r : Option (ℕ × ℕ)) → Best 0 rest prefixes r → Counts (unwrap_or (option_map (λ b. b.0) r) (length prefixes))
-    by_found None h = inr (refl, h)
-    by_found (Some a) h = let at : a.0 ≡ h.number = omega (arith, h.counted) in inl (h.«prefix», ap (slice_get prefixes) at ∙ h.there, h.begins, h.most)
+counts_found : (rest : List ℕ) (prefixes : List (List ℕ)) (r : Option (ℕ × ℕ)) → Best 0 rest prefixes r → Counts rest prefixes (unwrap_or (option_map (λ b. b.0) r) (length prefixes))
+counts_found rest prefixes None h = inr (refl, h)
+counts_found rest prefixes (Some a) h =
+    let at : a.0 ≡ h.number = omega (arith, h.counted) in
+    inl (h.«prefix», ap (slice_get prefixes) at ∙ h.there, h.begins, h.most)
+
+pub longest_prefix_counts : LongestPrefixCounts
+longest_prefix_counts rest prefixes = counts_found rest prefixes (longest_from 0 rest prefixes) (best 0 rest prefixes)

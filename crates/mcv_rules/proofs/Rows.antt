@@ -1,5 +1,5 @@
 -- What each handle sends, by its children: lists of what each child does, read at the children's numbers.
-use Rattle.std.proofs.Common.{◌≡◌, ◌<◌, ◌≤◌, ◌+◌, ◌*◌, ◌⊎◌, inl, inr, cond, ℕ, zero, suc, Bool, true, false, nat_le, List, [], ◌∷◌, ◌++◌, Option, Some, None, option_map, refl, sym, ap, ◌∙◌, subst, arith, add-zero, zero-add}
+use Rattle.std.proofs.Common.{◌≡◌, ◌<◌, ◌≤◌, ◌+◌, ◌*◌, ◌⊎◌, inl, inr, cond, ℕ, zero, suc, Bool, true, false, nat_le, List, [], ◌∷◌, ◌++◌, length, Option, Some, None, option_map, refl, sym, ap, ◌∙◌, subst, arith, add-zero, zero-add}
 use Rattle.std.specs.Prelude.{option_and_then, slice_get}
 use Rattle.std.proofs.lemmas.Bool.{leb-true, le-leb}
 use Rattle.mcv_base.specs.declared.operation.Op.{Op}
@@ -371,21 +371,26 @@ migrate_after from to start interval s c o l f = rw (after s start interval f) (
 
 -- ---- the policy of an operation
 
+-- what the law says with this number
+abbrev Counts : Op → List (Option Op) → ℕ → Type 0
+Counts op ops n =
+    ((j : ℕ) (p : Option Op) → j < n → slice_get ops j ≡ Some p → is_policy_for op p ≡ false)
+    × (((p : Option Op) × (slice_get ops n ≡ Some p) × (is_policy_for op p ≡ true)) ⊎ (n ≡ length ops))
+
+passed_over : (op : Op) (q : Option Op) (ops : List (Option Op)) (n : ℕ) → is_policy_for op q ≡ false → ((j : ℕ) (p : Option Op) → j < n → slice_get ops j ≡ Some p → is_policy_for op p ≡ false)
+    → (j : ℕ) (p : Option Op) → j < suc n → slice_get (q ∷ ops) j ≡ Some p → is_policy_for op p ≡ false
+passed_over op q ops n w f zero p h e = let same : q ≡ p = (let g : Some q ≡ Some p = e in cc) in ap (is_policy_for op) (sym same) ∙ w
+passed_over op q ops n w f (suc j) p h e = f j p (omega (arith, h)) e
+
+one_later : (op : Op) (q : Option Op) (ops : List (Option Op)) (n : ℕ) → ((p : Option Op) × (slice_get ops n ≡ Some p) × (is_policy_for op p ≡ true)) ⊎ (n ≡ length ops)
+    → ((p : Option Op) × (slice_get (q ∷ ops) (suc n) ≡ Some p) × (is_policy_for op p ≡ true)) ⊎ (suc n ≡ suc (length ops))
+one_later op q ops n (inl a) = inl a
+one_later op q ops n (inr e) = inr (ap suc e)
+
+counts_by : (op : Op) (q : Option Op) (ops : List (Option Op)) (b : Bool) → is_policy_for op q ≡ b → Counts op ops (policy_of op ops) → Counts op (q ∷ ops) (cond b 0 (suc (policy_of op ops)))
+counts_by op q ops true w h = ((λ j p l e. absurd (omega (arith, l))), inl (q, refl, w))
+counts_by op q ops false w h = (passed_over op q ops (policy_of op ops) w h.0, one_later op q ops (policy_of op ops) h.1)
+
 pub first_policy_counts : FirstPolicyCounts
 first_policy_counts op [] = ((λ j p h e. absurd (omega (arith, h))), inr refl)
-first_policy_counts op (q ∷ ops) = by_test (is_policy_for op q) refl (first_policy_counts op ops)
-  where
-    -- what the law says with this number
-    abbrev Counts : List (Option Op) → ℕ → Type 0
-    Counts ops n =
-        ((j : ℕ) (p : Option Op) → j < n → slice_get ops j ≡ Some p → is_policy_for op p ≡ false)
-        × (((p : Option Op) × (slice_get ops n ≡ Some p) × (is_policy_for op p ≡ true)) ⊎ (n ≡ length ops))
-
-    passed_over : (n : ℕ) → is_policy_for op q ≡ false → ((j : ℕ) (p : Option Op) → j < n → slice_get ops j ≡ Some p → is_policy_for op p ≡ false)
-        → (j : ℕ) (p : Option Op) → j < suc n → slice_get (q ∷ ops) j ≡ Some p → is_policy_for op p ≡ false
-    passed_over n w f zero p h e = let same : q ≡ p = let g : Some q ≡ Some p = e in cc in ap (is_policy_for op) (sym same) ∙ w
-    passed_over n w f (suc j) p h e = f j p (omega (arith, h)) e
-
-    by_test : (b : Bool) → is_policy_for op q ≡ b → Counts ops (policy_of op ops) → Counts (q ∷ ops) (cond b 0 (suc (policy_of op ops)))
-    by_test true w h = ((λ j p l e. absurd (omega (arith, l))), inl (q, refl, w))
-    by_test false w h = (passed_over (policy_of op ops) w h.0, elim h.1 [ inl a ↦ inl a | inr e ↦ inr (ap suc e) ])
+first_policy_counts op (q ∷ ops) = counts_by op q ops (is_policy_for op q) refl (first_policy_counts op ops)
