@@ -20,6 +20,7 @@ pub mod Searching
 pub mod Besides
 pub mod Choosing
 pub mod Stopping
+pub mod Turns
 pub mod True
 pub mod Told
 pub mod Rows

@@ -1,5 +1,6 @@
-use Rattle.std.proofs.Common.{rules, append_assoc, append-nil}
-use Rattle.mcv_rules.proofs.Stopping.{no_legs, reply_stops}
+use Rattle.std.proofs.Common.{rules}
+use Rattle.mcv_rules.proofs.Stopping.{reply_stops}
+use Rattle.mcv_rules.proofs.Turns.{legs_end, legs_on, reply_on}
 use Rattle.mcv_rules.proofs.legs.+sending.Goals as goal
 
 -- a search that stops has its reply
@@ -8,7 +9,7 @@ send_in_turn-returns-then-not-goes_on_after-clause-reply t c = search (rules, re
 
 -- the next one's legs come after those found
 pub send_in_turn-loop-plan-preserved : goal.send_in_turn-loop-plan-preserved
-send_in_turn-loop-plan-preserved t c = search (rules, append_assoc)
+send_in_turn-loop-plan-preserved t c = search (rules, legs_on, reply_on)
 
 pub send_in_turn-returns-clause-legs : goal.send_in_turn-returns-clause-legs
-send_in_turn-returns-clause-legs t c = search (rules, no_legs, append_assoc)
+send_in_turn-returns-clause-legs t c = search (rules, legs_end)
