@@ -4,9 +4,10 @@ use Rattle.std.specs.Prelude.{fold}
 use Rattle.std.proofs.lemmas.List.{drop_all}
 use Rattle.mcv_base.specs.declared.reply.Outcome.{Outcome}
 use Rattle.mcv_route.specs.declared.launch.Launch.{Launch}
-use Rattle.mcv_rules.specs.Arrivals.{goes_on_after}
+use Rattle.mcv_rules.specs.Arrivals.{goes_on_after, next_arrived}
 use Rattle.mcv_rules.specs.Laid.{Sent, searched, next_reply, replies_each}
 use Rattle.mcv_rules.specs.declared.arrival.After.{After}
+use Rattle.mcv_rules.specs.declared.arrival.Arrival.{Arrival}
 use Rattle.mcv_rules.specs.declared.plan.Plan.{Plan}
 use Rattle.mcv_rules.proofs.Stopping.{no_legs}
 
@@ -32,3 +33,10 @@ legs_end w F first others plans i old start found r0 r is h s e inv =
     let nothing : drop i others ≡ [] = drop_all i others h in
     let whole : found ≡ start ++ cond (goes_on_after w r0) (searched w (map F others)) [] = sym (no_legs found (goes_on_after w r)) ∙ ap (λ ps. found ++ cond (goes_on_after w r) (searched w (map F ps)) []) (sym nothing) ∙ inv in
     whole ∙ rw (is, s, e) (append_assoc old (F first).legs (cond (goes_on_after w (F first).reply) (searched w (map F others)) []))
+
+-- one plan's answer more
+pub answer_on : (w : After) (F : Plan → Arrival) (plans : List Plan) (i : ℕ) (p : Plan) (a a2 all : Arrival) → i < length plans → p ≡ get_or plans i p
+    → a2 ≡ next_arrived w a (F p) → fold (next_arrived w) a (map F (drop i plans)) ≡ all → fold (next_arrived w) a2 (map F (drop (i + 1) plans)) ≡ all
+answer_on w F plans i p a a2 all h is e inv =
+    let here : fold (next_arrived w) (next_arrived w a (F p)) (map F (drop (suc i) plans)) ≡ all = (rw (drop-cons plans i p h, ← is) at inv) in
+    rw (add-one i, e) here
