@@ -43,10 +43,10 @@ no_end_nil [] more e = absurd (cc)
 no_end_nil (b ∷ front) more e = absurd (cc)
 
 no_end_byte : (b : ℕ) (body : List ℕ) → (b ≡ 42 → get_or body 0 0 ≡ 47 → ⊥) → HasNoEnd body → (front more : List ℕ) → b ∷ body ≡ front ++ 42 ∷ 47 ∷ more → ⊥
-no_end_byte b body no later [] more e =
+no_end_byte b body apart later [] more e =
     let star : b ≡ 42 = cc in
-    no star (ap (λ t. get_or t 1 0) e)
-no_end_byte b body no later (c ∷ front) more e =
+    apart star (ap (λ t. get_or t 1 0) e)
+no_end_byte b body apart later (c ∷ front) more e =
     let tails : body ≡ front ++ 42 ∷ 47 ∷ more = cc in
     later front more tails
 
@@ -63,9 +63,9 @@ next_byte c body (d ∷ comment) rest e is =
     heads ∙ is
 
 block_byte : (b c : ℕ) (body : List ℕ) → (b ≡ 42 → c ≡ 47 → ⊥) → BlockEnds (c ∷ body) → BlockEnds (b ∷ c ∷ body)
-block_byte b c body no (no_block_end h) = no_block_end (no_end_byte b (c ∷ body) no h)
-block_byte b c body no (block_end_at comment rest e h) =
-    block_end_at (b ∷ comment) rest (ap (λ t. b ∷ t) e) (no_end_byte b comment (λ star slash. no star (next_byte c body comment rest e slash)) h)
+block_byte b c body apart (no_block_end h) = no_block_end (no_end_byte b (c ∷ body) apart h)
+block_byte b c body apart (block_end_at comment rest e h) =
+    block_end_at (b ∷ comment) rest (ap (λ t. b ∷ t) e) (no_end_byte b comment (λ star slash. apart star (next_byte c body comment rest e slash)) h)
 
 block_ends : (body : List ℕ) → BlockEnds body
 block_ends [] = no_block_end no_end_nil
@@ -74,17 +74,21 @@ block_ends (b ∷ c ∷ body) =
     elim (cases_eq b 42) as (λ w. BlockEnds (b ∷ c ∷ body)) [
       inl star ↦ elim (cases_eq c 47) as (λ w. BlockEnds (b ∷ c ∷ body)) [
         inl slash ↦ block_end_at [] body (ap (λ t. t ∷ c ∷ body) star ∙ ap (λ t. 42 ∷ t ∷ body) slash) no_end_nil
-        | inr no ↦ block_byte b c body (λ _ slash. no slash) (block_ends (c ∷ body))
+        | inr no_slash ↦ block_byte b c body (λ _ slash. no_slash slash) (block_ends (c ∷ body))
       ]
-      | inr no ↦ block_byte b c body (λ star _. no star) (block_ends (c ∷ body))
+      | inr no_star ↦ block_byte b c body (λ star _. no_star star) (block_ends (c ∷ body))
     ]
 
-line_ends : (body : List ℕ) → (comment : List ℕ) × (rest : List ℕ) × (body ≡ comment ++ rest) × All (λ b. b ≢ 10) comment × ((rest ≡ []) ⊎ (get_or rest 0 0 ≡ 10))
+-- the line that a text begins with, and what stands behind it
+abbrev pub LineEnds : List ℕ → Type 0
+LineEnds body = (comment : List ℕ) × (rest : List ℕ) × (body ≡ comment ++ rest) × All (λ b. b ≢ 10) comment × ((rest ≡ []) ⊎ (get_or rest 0 0 ≡ 10))
+
+line_ends : (body : List ℕ) → LineEnds body
 line_ends [] = ([], [], refl, All-nil (λ b. b ≢ 10), inl refl)
 line_ends (b ∷ body) =
-    elim (cases_eq b 10) [
+    elim (cases_eq b 10) as (λ w. LineEnds (b ∷ body)) [
       inl lf ↦ ([], b ∷ body, refl, All-nil (λ b. b ≢ 10), inr lf)
-      | inr no ↦ let later = line_ends body in (b ∷ later.0, later.1, ap (λ t. b ∷ t) later.2, All-cons (λ b. b ≢ 10) b later.0 no later.3, later.4)
+      | inr no_lf ↦ let later = line_ends body in (b ∷ later.0, later.1, ap (λ t. b ∷ t) later.2, All-cons (λ b. b ≢ 10) b later.0 no_lf later.3, later.4)
     ]
 
 -- the front of a text

@@ -73,7 +73,7 @@ line_all body rest none empty = (
 )
 
 run_byte : (b : ℕ) → (is_byte2 34 47 b ≡ true → ⊥) → IsRunByte b
-run_byte b no = (λ e. no (grind (arith, nat_tests)), λ e. no (grind (arith, nat_tests)))
+run_byte b neither = (λ e. neither (grind (arith, nat_tests)), λ e. neither (grind (arith, nat_tests)))
 
 -- no quote and no slash was found
 pub run_none : (more : List ℕ) → IsFirstByte (is_byte2 34 47) more None → All IsRunByte more

@@ -18,9 +18,9 @@ inside_head b (c ∷ bytes) (inl escaped) quote = omega (arith, escaped.0, quote
 inside_head b (c ∷ bytes) (inr plain) quote = plain.0 quote
 
 inside_tail : (b : ℕ) (bytes : List ℕ) → IsInside (b ∷ bytes) → b ≢ 92 → IsInside bytes
-inside_tail b [] is no = tt
-inside_tail b (c ∷ bytes) (inl escaped) no = absurd (no escaped.0)
-inside_tail b (c ∷ bytes) (inr plain) no = plain.2
+inside_tail b [] is no_backslash = tt
+inside_tail b (c ∷ bytes) (inl escaped) no_backslash = absurd (no_backslash escaped.0)
+inside_tail b (c ∷ bytes) (inr plain) no_backslash = plain.2
 
 -- the quote that ends a text stands at one place
 pub inside_one : (u v x y : List ℕ) → IsInside u → IsInside v → u ++ 34 ∷ x ≡ v ++ 34 ∷ y → (u ≡ v) × (x ≡ y)
@@ -65,18 +65,18 @@ inside_one (a ∷ c ∷ u) (b ∷ d ∷ v) x y (inr p) (inr q) e =
     let rest = inside_one (c ∷ u) (d ∷ v) x y p.2 q.2 tails in
     (cc (heads, rest.0), rest.1)
 
-never_nil : (inside more : List ℕ) → IsInside inside → [] ≡ inside ++ 34 ∷ more → ⊥
+pub never_nil : (inside more : List ℕ) → IsInside inside → [] ≡ inside ++ 34 ∷ more → ⊥
 never_nil [] more is e = absurd (cc)
 never_nil (b ∷ inside) more is e = absurd (cc)
 
-never_byte : (b : ℕ) (bytes : List ℕ) → b ≢ 34 → b ≢ 92 → HasNoQuote bytes → (inside more : List ℕ) → IsInside inside → b ∷ bytes ≡ inside ++ 34 ∷ more → ⊥
+pub never_byte : (b : ℕ) (bytes : List ℕ) → b ≢ 34 → b ≢ 92 → HasNoQuote bytes → (inside more : List ℕ) → IsInside inside → b ∷ bytes ≡ inside ++ 34 ∷ more → ⊥
 never_byte b bytes no_quote no_backslash never [] more is e = no_quote (cc)
 never_byte b bytes no_quote no_backslash never (c ∷ inside) more is e =
     let heads : b ≡ c = cc in
     let tails : bytes ≡ inside ++ 34 ∷ more = cc in
     never inside more (inside_tail c inside is (λ k. no_backslash (heads ∙ k))) tails
 
-never_escape : (b c : ℕ) (bytes : List ℕ) → b ≡ 92 → HasNoQuote bytes → (inside more : List ℕ) → IsInside inside → b ∷ c ∷ bytes ≡ inside ++ 34 ∷ more → ⊥
+pub never_escape : (b c : ℕ) (bytes : List ℕ) → b ≡ 92 → HasNoQuote bytes → (inside more : List ℕ) → IsInside inside → b ∷ c ∷ bytes ≡ inside ++ 34 ∷ more → ⊥
 never_escape b c bytes backslash never [] more is e =
     let quote : b ≡ 34 = cc in
     omega (arith, quote, backslash)
@@ -91,7 +91,7 @@ never_escape b c bytes backslash never (d ∷ f ∷ inside) more (inr plain) e =
     plain.1 (sym heads ∙ backslash)
 
 -- a backslash at the end escapes nothing
-never_last : (b : ℕ) → b ≡ 92 → (inside more : List ℕ) → IsInside inside → b ∷ [] ≡ inside ++ 34 ∷ more → ⊥
+pub never_last : (b : ℕ) → b ≡ 92 → (inside more : List ℕ) → IsInside inside → b ∷ [] ≡ inside ++ 34 ∷ more → ⊥
 never_last b backslash [] more is e =
     let quote : b ≡ 34 = cc in
     omega (arith, quote, backslash)

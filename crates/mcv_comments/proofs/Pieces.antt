@@ -1,7 +1,7 @@
 -- The pieces at the front of a text, and what is kept of them.
-use Rattle.std.proofs.Common.{◌≡◌, ◌≢◌, ◌⊎◌, ℕ, suc, ◌+◌, ◌<◌, ◌≤◌, List, [], ◌∷◌, ◌++◌, length, get_or, take, drop, All, refl, sym, ap, subst, ◌∙◌, append_assoc, append-nil, arith}
+use Rattle.std.proofs.Common.{◌≡◌, ◌≢◌, ◌⊎◌, ℕ, suc, ◌+◌, ◌<◌, ◌≤◌, List, [], ◌∷◌, ◌++◌, ◌-◌, length, get_or, take, drop, All, refl, sym, ap, subst, ◌∙◌, append_assoc, append-nil, arith}
 use Rattle.std.specs.List.{flat_map}
-use Rattle.std.proofs.lemmas.List.{take_more, drop_more, drop_all, take_all, take-append-drop}
+use Rattle.std.proofs.lemmas.List.{take_more, drop_more, drop_all, take_all, take-append-drop, length-drop}
 use Rattle.std.proofs.lemmas.List.Elements.{All-head, All-tail}
 use Rattle.std.proofs.lemmas.Grind.{flat_map-append}
 use Rattle.mcv_comments.specs.Comments.{Piece, plain, quoted, unended, block, line, remains, IsInside, HasNoQuote, Begins, Reads, StripsTo, HasNoEnd, OpensBlock}
@@ -96,6 +96,10 @@ text_all (b ∷ more) first never =
     one_piece (b ∷ more) (drop (length more) more) (b ∷ take (length more) more) (unended more)
     (cons_both b 34 more more first refl, never, none)
     (cons_both b 34 (take (length more) more) more first all)
+
+-- what is lent of a list from a place on
+pub rest_of : (xs : List ℕ) (n : ℕ) → take (length xs - n) (drop n xs) ≡ drop n xs
+rest_of xs n = take_all (length xs - n) (drop n xs) (omega (arith, length-drop n xs))
 
 -- two known bytes and what stands behind them
 pub two_front : (text : List ℕ) (a b : ℕ) → get_or text 0 0 ≡ a → get_or text 1 0 ≡ b → 0 < b → text ≡ a ∷ b ∷ drop 2 text

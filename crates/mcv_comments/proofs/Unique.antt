@@ -9,14 +9,14 @@ use Rattle.mcv_comments.proofs.Insides.{inside_one}
 block_one : (u v x y : List ℕ) → HasNoEnd u → HasNoEnd v → u ++ 42 ∷ 47 ∷ x ≡ v ++ 42 ∷ 47 ∷ y → (u ≡ v) × (x ≡ y)
 block_one [] [] x y p q e = (refl, cc)
 block_one [] (b ∷ []) x y p q e =
-    let next : 47 ≡ 42 = cc in
+    let next : ◌≡◌ {A = ℕ} 47 42 = cc in
     absurd (omega (arith, next))
 block_one [] (b ∷ d ∷ v) x y p q e =
     let star : 42 ≡ b = cc in
     let slash : 47 ≡ d = cc in
     absurd (q [] v (cc (star, slash)))
 block_one (a ∷ []) [] x y p q e =
-    let next : 42 ≡ 47 = cc in
+    let next : ◌≡◌ {A = ℕ} 42 47 = cc in
     absurd (omega (arith, next))
 block_one (a ∷ c ∷ u) [] x y p q e =
     let star : a ≡ 42 = cc in
@@ -33,8 +33,8 @@ abbrev pub EndsLine : List ℕ → Type 0
 EndsLine after = (after ≡ []) ⊎ (get_or after 0 0 ≡ 10)
 
 ends_or_goes_on : (x : List ℕ) (b : ℕ) (more : List ℕ) → EndsLine x → b ≢ 10 → x ≡ b ∷ more → ⊥
-ends_or_goes_on x b more (inl none) no e = absurd (cc (none, e))
-ends_or_goes_on x b more (inr lf) no e = no (sym (ap (λ t. get_or t 0 0) e) ∙ lf)
+ends_or_goes_on x b more (inl none) no_lf e = absurd (cc (none, e))
+ends_or_goes_on x b more (inr lf) no_lf e = no_lf (sym (ap (λ t. get_or t 0 0) e) ∙ lf)
 
 -- a line ends at one place
 line_one : (u v x y : List ℕ) → All (λ b. b ≢ 10) u → All (λ b. b ≢ 10) v → EndsLine x → EndsLine y → u ++ x ≡ v ++ y → (u ≡ v) × (x ≡ y)
@@ -56,18 +56,18 @@ head_one text x y a b p q =
     (heads, tails)
 
 apart : (text x y : List ℕ) (a b : ℕ) → text ≡ a ∷ x → text ≡ b ∷ y → a ≢ b → ⊥
-apart text x y a b p q no = no (head_one text x y a b p q).0
+apart text x y a b p q differ = differ (head_one text x y a b p q).0
 
 apart_second : (text x y : List ℕ) (s a b : ℕ) → text ≡ s ∷ a ∷ x → text ≡ s ∷ b ∷ y → a ≢ b → ⊥
-apart_second text x y s a b p q no =
+apart_second text x y s a b p q differ =
     let rest = (head_one text (a ∷ x) (b ∷ y) s s p q).1 in
-    no (head_one (a ∷ x) x y a b refl rest).0
+    differ (head_one (a ∷ x) x y a b refl rest).0
 
 -- a plain slash stands before no star and no slash
 slash_apart : (text x y : List ℕ) (b d : ℕ) → text ≡ b ∷ x → (b ≡ 47 → get_or x 0 0 ≡ d → ⊥) → text ≡ 47 ∷ d ∷ y → ⊥
-slash_apart text x y b d p no q =
+slash_apart text x y b d p differ q =
     let both = head_one text x (d ∷ y) b 47 p q in
-    no both.0 (ap (λ t. get_or t 0 0) both.1)
+    differ both.0 (ap (λ t. get_or t 0 0) both.1)
 
 -- a text begins with one piece
 begins_one : (text : List ℕ) (p q : Piece) (x y : List ℕ) → Begins text p x → Begins text q y → (p ≡ q) × (x ≡ y)
@@ -121,13 +121,13 @@ begins_none text (line u) x p e = absurd (cc (p.0, e))
 
 -- a comment that doesn't end begins no piece
 open_begins : (text body : List ℕ) (p : Piece) (x : List ℕ) → HasNoEnd body → text ≡ 47 ∷ 42 ∷ body → Begins text p x → ⊥
-open_begins text body (plain u) x no e p = slash_apart text x body u 42 p.0 (λ slash. (p.2 slash).0) e
-open_begins text body (quoted u) x no e p = apart text (u ++ 34 ∷ x) (42 ∷ body) 34 47 p.0 e (λ is. omega (arith, is))
-open_begins text body (unended u) x no e p = apart text u (42 ∷ body) 34 47 p.0 e (λ is. omega (arith, is))
-open_begins text body (block u) x no e p =
+open_begins text body (plain u) x never e p = slash_apart text x body u 42 p.0 (λ slash. (p.2 slash).0) e
+open_begins text body (quoted u) x never e p = apart text (u ++ 34 ∷ x) (42 ∷ body) 34 47 p.0 e (λ is. omega (arith, is))
+open_begins text body (unended u) x never e p = apart text u (42 ∷ body) 34 47 p.0 e (λ is. omega (arith, is))
+open_begins text body (block u) x never e p =
     let inner = (head_one text (42 ∷ body) (42 ∷ u ++ 42 ∷ 47 ∷ x) 47 47 e p.0).1 in
-    no u x (head_one (42 ∷ body) body (u ++ 42 ∷ 47 ∷ x) 42 42 refl inner).1
-open_begins text body (line u) x no e p = apart_second text (u ++ x) body 47 47 42 p.0 e (λ is. omega (arith, is))
+    never u x (head_one (42 ∷ body) body (u ++ 42 ∷ 47 ∷ x) 42 42 refl inner).1
+open_begins text body (line u) x never e p = apart_second text (u ++ x) body 47 47 42 p.0 e (λ is. omega (arith, is))
 
 pub reads_one : (text : List ℕ) (ps qs : List Piece) → Reads text ps [] → Reads text qs [] → ps ≡ qs
 reads_one text [] [] a b = refl
@@ -142,12 +142,12 @@ pub strips_one : (text out other : List ℕ) → Strips text out → Strips text
 strips_one text out other a b = a.2 ∙ ap (flat_map remains) (reads_one text a.0 b.0 a.1 b.1) ∙ sym b.2
 
 open_or_reads : (text rest body : List ℕ) (ps qs : List Piece) → HasNoEnd body → rest ≡ 47 ∷ 42 ∷ body → Reads text ps rest → Reads text qs [] → ⊥
-open_or_reads text rest body [] [] no e a b = absurd (cc (a, b, e))
-open_or_reads text rest body [] (q ∷ qs) no e a b = open_begins text body q b.0 no (a ∙ e) b.1
-open_or_reads text rest body (p ∷ ps) [] no e a b = begins_none text p a.0 a.1 b
-open_or_reads text rest body (p ∷ ps) (q ∷ qs) no e a b =
+open_or_reads text rest body [] [] never e a b = absurd (cc (a, b, e))
+open_or_reads text rest body [] (q ∷ qs) never e a b = open_begins text body q b.0 never (a ∙ e) b.1
+open_or_reads text rest body (p ∷ ps) [] never e a b = begins_none text p a.0 a.1 b
+open_or_reads text rest body (p ∷ ps) (q ∷ qs) never e a b =
     let first = begins_one text p q a.0 b.0 a.1 b.1 in
-    open_or_reads b.0 rest body ps qs no e (subst (λ (t : List ℕ). Reads t ps rest) first.1 a.2) b.2
+    open_or_reads b.0 rest body ps qs never e (subst (λ (t : List ℕ). Reads t ps rest) first.1 a.2) b.2
 
 pub open_or_strips : (text out : List ℕ) → IsOpen text → Strips text out → ⊥
 open_or_strips text out is strips = open_or_reads text is.0 is.3.0 is.2.0 strips.0 is.3.2 is.3.1 is.2.1 strips.1
