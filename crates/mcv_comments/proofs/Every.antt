@@ -1,8 +1,8 @@
 -- Each text has a text without its comments, or a comment that doesn't end.
-use Rattle.std.proofs.Common.{◌≡◌, ◌≢◌, ◌⊎◌, ℕ, zero, suc, ◌+◌, ◌<◌, ◌≤◌, List, [], ◌∷◌, ◌++◌, length, get_or, All, refl, sym, ap, subst, ◌∙◌, append-nil, length-append, inl, inr, arith}
+use Rattle.std.proofs.Common.{◌≡◌, ◌≢◌, ◌⊎◌, ℕ, zero, suc, ◌<◌, ◌≤◌, List, [], ◌∷◌, ◌++◌, length, get_or, All, refl, ap, ◌∙◌, length-append, inl, inr, arith}
 use Rattle.std.proofs.lemmas.Bool.{cases_eq}
 use Rattle.std.proofs.lemmas.List.Elements.{All-nil, All-cons}
-use Rattle.mcv_comments.specs.Comments.{Piece, plain, quoted, unended, block, line, remains, IsInside, HasNoQuote, HasNoEnd, Begins, StripsTo, Strips, OpensBlock, IsOpen}
+use Rattle.mcv_comments.specs.Comments.{Piece, plain, quoted, unended, block, line, remains, IsInside, HasNoQuote, HasNoEnd, Begins, Strips, OpensBlock, IsOpen}
 use Rattle.mcv_comments.proofs.Insides.{inside_byte, inside_escape, never_nil, never_byte, never_escape, never_last}
 use Rattle.mcv_comments.proofs.Pieces.{strips_none, strips_on, one_piece}
 
@@ -23,17 +23,17 @@ quote_ends : (body : List ℕ) → QuoteEnds body
 quote_ends [] = no_quote_ends never_nil
 quote_ends (b ∷ []) =
     elim (cases_eq b 34) as (λ w. QuoteEnds (b ∷ [])) [
-      inl quote ↦ quote_ends_it [] [] (ap (λ t. t ∷ []) quote) tt
+      | inl quote ↦ quote_ends_it [] [] (ap (λ t. t ∷ []) quote) tt
       | inr no_quote ↦ elim (cases_eq b 92) as (λ w. QuoteEnds (b ∷ [])) [
-        inl backslash ↦ no_quote_ends (never_last b backslash)
+        | inl backslash ↦ no_quote_ends (never_last b backslash)
         | inr no_backslash ↦ quote_byte b [] no_quote no_backslash (no_quote_ends never_nil)
       ]
     ]
 quote_ends (b ∷ c ∷ body) =
     elim (cases_eq b 34) as (λ w. QuoteEnds (b ∷ c ∷ body)) [
-      inl quote ↦ quote_ends_it [] (c ∷ body) (ap (λ t. t ∷ c ∷ body) quote) tt
+      | inl quote ↦ quote_ends_it [] (c ∷ body) (ap (λ t. t ∷ c ∷ body) quote) tt
       | inr no_quote ↦ elim (cases_eq b 92) as (λ w. QuoteEnds (b ∷ c ∷ body)) [
-        inl backslash ↦ quote_escape b c body backslash (quote_ends body)
+        | inl backslash ↦ quote_escape b c body backslash (quote_ends body)
         | inr no_backslash ↦ quote_byte b (c ∷ body) no_quote no_backslash (quote_ends (c ∷ body))
       ]
     ]
@@ -72,8 +72,8 @@ block_ends [] = no_block_end no_end_nil
 block_ends (b ∷ []) = no_block_end (no_end_byte b [] (λ star slash. omega (arith, slash)) no_end_nil)
 block_ends (b ∷ c ∷ body) =
     elim (cases_eq b 42) as (λ w. BlockEnds (b ∷ c ∷ body)) [
-      inl star ↦ elim (cases_eq c 47) as (λ w. BlockEnds (b ∷ c ∷ body)) [
-        inl slash ↦ block_end_at [] body (ap (λ t. t ∷ c ∷ body) star ∙ ap (λ t. 42 ∷ t ∷ body) slash) no_end_nil
+      | inl star ↦ elim (cases_eq c 47) as (λ w. BlockEnds (b ∷ c ∷ body)) [
+        | inl slash ↦ block_end_at [] body (ap (λ t. t ∷ c ∷ body) star ∙ ap (λ t. 42 ∷ t ∷ body) slash) no_end_nil
         | inr no_slash ↦ block_byte b c body (λ _ slash. no_slash slash) (block_ends (c ∷ body))
       ]
       | inr no_star ↦ block_byte b c body (λ star _. no_star star) (block_ends (c ∷ body))
@@ -87,7 +87,7 @@ line_ends : (body : List ℕ) → LineEnds body
 line_ends [] = ([], [], refl, All-nil (λ b. b ≢ 10), inl refl)
 line_ends (b ∷ body) =
     elim (cases_eq b 10) as (λ w. LineEnds (b ∷ body)) [
-      inl lf ↦ ([], b ∷ body, refl, All-nil (λ b. b ≢ 10), inr lf)
+      | inl lf ↦ ([], b ∷ body, refl, All-nil (λ b. b ≢ 10), inr lf)
       | inr no_lf ↦ let later = line_ends body in (b ∷ later.0, later.1, ap (λ t. b ∷ t) later.2, All-cons (λ b. b ≢ 10) b later.0 no_lf later.3, later.4)
     ]
 
@@ -120,9 +120,9 @@ front_slash : (b : ℕ) (more : List ℕ) → b ≡ 47 → b ≢ 34 → Fronts (
 front_slash b [] slash no_quote = front_plain b [] no_quote (λ _. (λ e. omega (arith, e), λ e. omega (arith, e)))
 front_slash b (c ∷ body) slash no_quote =
     elim (cases_eq c 42) as (λ w. Fronts (b ∷ c ∷ body)) [
-      inl star ↦ front_block b c body slash star (block_ends body)
+      | inl star ↦ front_block b c body slash star (block_ends body)
       | inr no_star ↦ elim (cases_eq c 47) as (λ w. Fronts (b ∷ c ∷ body)) [
-        inl second ↦ front_line b c body slash second
+        | inl second ↦ front_line b c body slash second
         | inr no_second ↦ front_plain b (c ∷ body) no_quote (λ _. (no_star, no_second))
       ]
     ]
@@ -130,9 +130,9 @@ front_slash b (c ∷ body) slash no_quote =
 fronts : (b : ℕ) (more : List ℕ) → Fronts (b ∷ more)
 fronts b more =
     elim (cases_eq b 34) as (λ w. Fronts (b ∷ more)) [
-      inl quote ↦ front_quote b more quote (quote_ends more)
+      | inl quote ↦ front_quote b more quote (quote_ends more)
       | inr no_quote ↦ elim (cases_eq b 47) as (λ w. Fronts (b ∷ more)) [
-        inl slash ↦ front_slash b more slash no_quote
+        | inl slash ↦ front_slash b more slash no_quote
         | inr no_slash ↦ front_plain b more no_quote (λ slash. absurd (no_slash slash))
       ]
     ]

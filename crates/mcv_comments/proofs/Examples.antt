@@ -1,7 +1,7 @@
 -- Small texts and their pieces.
-use Rattle.std.proofs.Common.{◌≡◌, ◌≢◌, ◌⊎◌, ℕ, suc, ◌+◌, ◌++◌, List, [], ◌∷◌, length, get_or, All, codes, refl, ap, ◌∙◌, length-append, inl, inr, arith}
+use Rattle.std.proofs.Common.{◌≡◌, ◌≢◌, ℕ, suc, ◌+◌, List, [], ◌∷◌, length, refl, ap, ◌∙◌, length-append, inl, inr, arith}
 use Rattle.std.proofs.lemmas.List.Elements.{All-nil, All-cons}
-use Rattle.mcv_comments.specs.Comments.{Piece, plain, quoted, unended, block, line, HasNoEnd, Begins, Reads, Strips, IsOpen}
+use Rattle.mcv_comments.specs.Comments.{plain, quoted, block, line, HasNoEnd, Begins, Strips, IsOpen}
 
 no_end_one : (b : ℕ) → HasNoEnd (b ∷ [])
 no_end_one b = λ front more e.

@@ -1,5 +1,5 @@
 -- Where a comment ends, by a search.
-use Rattle.std.proofs.Common.{◌≡◌, ◌≢◌, ◌⊎◌, ℕ, zero, suc, ◌+◌, ◌<◌, ◌≤◌, List, [], ◌∷◌, ◌++◌, length, get_or, take, drop, All, None, Some, true, refl, sym, ap, subst, ◌∙◌, append_assoc, length-append, inl, inr, arith, eq-eqb}
+use Rattle.std.proofs.Common.{◌≡◌, ◌≢◌, ℕ, zero, suc, ◌+◌, ◌<◌, ◌≤◌, List, [], ◌∷◌, ◌++◌, length, get_or, take, drop, All, None, Some, true, refl, sym, ap, subst, ◌∙◌, append_assoc, length-append, inl, inr, arith, eq-eqb}
 use Rattle.std.proofs.lemmas.Bool.{eqb-true}
 use Rattle.std.proofs.lemmas.Bool.Decides.{nat_tests}
 use Rattle.std.proofs.lemmas.List.{take-append-drop, get_or-take, get_or-append-add, length-take, drop_more, append-nil}
@@ -28,7 +28,7 @@ none_before : (body : List ℕ) (end : ℕ) → FindsNeedle body (42 ∷ 47 ∷ 
 none_before body end found = λ front more e.
     let len : length (take end body) ≡ length front + suc (suc (length more)) = ap length e ∙ length-append front (42 ∷ 47 ∷ more) in
     let whole : body ≡ front ++ 42 ∷ 47 ∷ (more ++ drop end body) =
-        sym (take-append-drop end body) ∙ ap (λ t. t ++ drop end body) e ∙ append_assoc front (42 ∷ 47 ∷ more) (drop end body) in
+    sym (take-append-drop end body) ∙ ap (λ t. t ++ drop end body) e ∙ append_assoc front (42 ∷ 47 ∷ more) (drop end body) in
     found.0.before (length front) (omega arith) (omega (arith, length-take end body))
     (subst (λ (t : List ℕ). OccursAt t (42 ∷ 47 ∷ []) (length front)) (sym whole) (occurs front (more ++ drop end body)))
 

@@ -1,5 +1,5 @@
 -- What may stand between the quotes of a text, byte by byte.
-use Rattle.std.proofs.Common.{◌≡◌, ◌≢◌, ◌⊎◌, ℕ, ◌+◌, ◌<◌, ◌≤◌, List, [], ◌∷◌, ◌++◌, length, get_or, take, drop, refl, sym, ap, subst, ◌∙◌, append_assoc, append-nil, inl, inr, arith}
+use Rattle.std.proofs.Common.{◌≡◌, ◌≢◌, ℕ, ◌+◌, ◌<◌, ◌≤◌, List, [], ◌∷◌, ◌++◌, length, get_or, take, drop, refl, sym, ap, subst, ◌∙◌, append_assoc, append-nil, inl, inr, arith}
 use Rattle.std.proofs.lemmas.List.{take_more, drop_more, drop_all}
 use Rattle.std.proofs.lemmas.Bool.{cases_lt}
 use Rattle.mcv_comments.specs.Comments.{IsInside, HasNoQuote}
@@ -149,7 +149,7 @@ scanned_escape body place l backslash so_far =
           subst IsInside (sym (ap (λ t. t ++ more) (two_more body place (omega arith)) ∙ append_assoc (take place body) (b ∷ c ∷ []) more))
           (so_far.inside (omega arith) (b ∷ c ∷ more) (inside_escape b c more backslash is));
       never = λ h. so_far.never (elim (cases_lt (place + 1) (length body)) as (λ w. HasNoQuote (drop place body)) [
-        inl two ↦ subst HasNoQuote (sym (two_left body place two)) (never_escape b c (drop (place + 2) body) backslash h)
+        | inl two ↦ subst HasNoQuote (sym (two_left body place two)) (never_escape b c (drop (place + 2) body) backslash h)
         | inr last ↦ subst HasNoQuote (sym (last_left body place l last)) (never_last b backslash)
       ]);
     }

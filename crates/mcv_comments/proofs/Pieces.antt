@@ -1,5 +1,5 @@
 -- The pieces at the front of a text, and what is kept of them.
-use Rattle.std.proofs.Common.{◌≡◌, ◌≢◌, ◌⊎◌, ℕ, suc, ◌+◌, ◌<◌, ◌≤◌, List, [], ◌∷◌, ◌++◌, ◌-◌, length, get_or, take, drop, All, refl, sym, ap, subst, ◌∙◌, append_assoc, append-nil, arith}
+use Rattle.std.proofs.Common.{◌≡◌, ◌≢◌, ℕ, suc, ◌+◌, ◌<◌, List, [], ◌∷◌, ◌++◌, ◌-◌, length, get_or, take, drop, All, refl, sym, ap, subst, ◌∙◌, append-nil, arith}
 use Rattle.std.specs.List.{flat_map}
 use Rattle.std.proofs.lemmas.List.{take_more, drop_more, drop_all, take_all, take-append-drop, length-drop}
 use Rattle.std.proofs.lemmas.List.Elements.{All-head, All-tail}
@@ -71,9 +71,9 @@ cons_both b c xs ys p q = ap (λ t. t ∷ xs) p ∙ ap (λ t. c ∷ t) q
 quoted_front : (b : ℕ) (more : List ℕ) (end : ℕ) → b ≡ 34 → end < length more → get_or more end 0 ≡ 34 → IsInside (take end more) → StripsTo (b ∷ more) (drop (end + 1) more) (b ∷ take (end + 1) more)
 quoted_front b more end first within last is =
     let cut : more ≡ take end more ++ 34 ∷ drop (end + 1) more =
-        sym (take-append-drop end more)
-        ∙ ap (λ t. take end more ++ t) (drop_more more end 0 within)
-        ∙ ap (λ q. take end more ++ q ∷ drop (end + 1) more) last in
+    sym (take-append-drop end more)
+    ∙ ap (λ t. take end more ++ t) (drop_more more end 0 within)
+    ∙ ap (λ q. take end more ++ q ∷ drop (end + 1) more) last in
     let whole : take (end + 1) more ≡ take end more ++ 34 ∷ [] = take_more more end 0 within ∙ ap (λ q. take end more ++ q ∷ []) last in
     one_piece (b ∷ more) (drop (end + 1) more) (b ∷ take (end + 1) more) (quoted (take end more))
     (cons_both b 34 more (take end more ++ 34 ∷ drop (end + 1) more) first cut, is)

@@ -14,6 +14,6 @@ returns c =
     let end = c.in_ok-end.end in
     let lent : take (length body - (end + 2)) (drop (end + 2) body) ≡ drop (end + 2) body = rest_of body (end + 2) in (
       subst (λ (t : List ℕ). (comment : List ℕ) × Begins (47 ∷ 42 ∷ body) (block comment) t) (sym lent)
-      (take end body, block_found body end c.in_ok-end.ensures),
+          (take end body, block_found body end c.in_ok-end.ensures),
       omega (arith, ap length lent, length-drop (end + 2) body),
     )

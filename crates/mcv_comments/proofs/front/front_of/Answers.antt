@@ -1,4 +1,4 @@
-use Rattle.std.proofs.Common.{◌≡◌, ◌<◌, ◌≤◌, ℕ, List, ◌∷◌, length, drop, subst, arith}
+use Rattle.std.proofs.Common.{◌<◌, ◌≤◌, ℕ, List, ◌∷◌, length, drop, subst, arith}
 use Rattle.std.proofs.lemmas.List.{length-drop}
 use Rattle.mcv_comments.specs.Comments.{Begins, block, line}
 use Rattle.mcv_comments.proofs.Pieces.{rest_of, two_front, block_front, line_front}
