@@ -1,0 +1,4 @@
+pub mod Colon
+pub mod Moments
+pub mod Slots
+pub mod Versions

@@ -1,0 +1,39 @@
+-- What is known of a file once it has been read, and which refusals a call may give.
+use Rattle.std.specs.Prelude.{◌≡◌, ℕ, List, length, None, Result, Ok, Err}
+use Rattle.mcv_spool.specs.File.{slots, damage, pending_from}
+use Rattle.mcv_spool.specs.declared.fault.SpoolFault.{SpoolFault}
+use Rattle.mcv_spool.specs.declared.fault.SpoolFault.TheVariants.{Device, Full, Memory, Reopen, Damaged}
+use Rattle.mcv_spool.specs.declared.record.SpoolRecord.{SpoolRecord}
+
+-- no slot of the file is damaged, it has so many, and these records are pending
+pub record IsFound (file : List ℕ) (count : ℕ) (pending : List (ℕ × SpoolRecord)) : Type 0 where
+  pub sound : damage 0 (slots file) ≡ None
+  pub count : count ≡ length (slots file)
+  pub pending : pending ≡ pending_from 0 (slots file)
+
+-- a refusal for want of memory, or of a damaged slot, if there is one
+abbrev pub IsFindFault : {T : Type 0} → Result T SpoolFault → Type 0
+IsFindFault (Ok x) = Unit {0}
+IsFindFault (Err Device) = ⊥
+IsFindFault (Err Full) = ⊥
+IsFindFault (Err Memory) = Unit {0}
+IsFindFault (Err Reopen) = ⊥
+IsFindFault (Err (Damaged k)) = Unit {0}
+
+-- a refusal for want of memory or because the disk failed, if there is one
+abbrev pub IsReadFault : {T : Type 0} → Result T SpoolFault → Type 0
+IsReadFault (Ok x) = Unit {0}
+IsReadFault (Err Device) = Unit {0}
+IsReadFault (Err Full) = ⊥
+IsReadFault (Err Memory) = Unit {0}
+IsReadFault (Err Reopen) = ⊥
+IsReadFault (Err (Damaged k)) = ⊥
+
+-- a refusal that opening a file gives, if there is one
+abbrev pub IsOpenFault : {T : Type 0} → Result T SpoolFault → Type 0
+IsOpenFault (Ok x) = Unit {0}
+IsOpenFault (Err Device) = Unit {0}
+IsOpenFault (Err Full) = ⊥
+IsOpenFault (Err Memory) = Unit {0}
+IsOpenFault (Err Reopen) = ⊥
+IsOpenFault (Err (Damaged k)) = Unit {0}

@@ -1,0 +1,19 @@
+//! The spool: records of deletes that no server took, on the disk before a client is answered.
+//!
+//! A `Spool` stands on a `Disk`, one file. A record whose `append` answered Ok is found by every later
+//! `open`, also where the machine stopped at any moment, inside a call or between two.
+#![tactic(auto)]
+
+mod disk;
+mod fault;
+//mod find;
+mod record;
+mod server;
+//mod spool;
+//mod write;
+
+pub use disk::{Disk, DiskFailed};
+pub use fault::SpoolFault;
+pub use record::{SpoolRecord, Stored};
+pub use server::ServerText;
+//pub use spool::Spool;
