@@ -1,4 +1,7 @@
 pub mod Colon
+pub mod Marks
 pub mod Moments
+pub mod Pieces
+pub mod Repair
 pub mod Slots
 pub mod Versions

@@ -29,6 +29,13 @@ module _ {D : Type 0} (seen : D → List ℕ) (may_leave : D → List ℕ → Ty
     since = λ t c le left. ⊎_elim (λ past. so_far.since t c le past) (λ q. inr (same c q)) (run.since t c (omega (arith, le, so_far.later)) left);
   }
 
+  -- what has P has Q
+  pub weaker : (old new : D) (P Q : List ℕ → Type 0) → LeavesOnly moment left_since old new P → ((c : List ℕ) → P c → Q c) → LeavesOnly moment left_since old new Q
+  weaker old new P Q so_far same = record {
+    later = so_far.later;
+    since = λ t c le left. ⊎_elim (λ past. inl past) (λ p. inr (same c p)) (so_far.since t c le left);
+  }
+
   pub quiet_start : (old : D) → IsQuiet seen may_leave moment left_since old old
   quiet_start old = record { seen = refl; crash = λ c left. left; later = omega arith; since = λ t c le left. left; forgets_nothing = λ t c le left. left }
 

@@ -37,6 +37,10 @@ pub record Changes {D : Type 0} (may_leave : D → List ℕ → Type 0) (moment 
   pub since : (t : ℕ) (c : List ℕ) → t ≤ moment old → left_since new t c → left_since old t c ⊎ may_leave new c
   pub forgets_nothing : (t : ℕ) (c : List ℕ) → t ≤ moment old → left_since old t c → left_since new t c
 
+-- what a crash leaves after a write of n bytes, if it left one of these before
+abbrev pub IsTornFrom : ℕ → ℕ → (List ℕ → Type 0) → List ℕ → Type 0
+IsTornFrom at n may_leave file = (before : List ℕ) × may_leave before × Torn at n before file
+
 -- A crash at any moment from `old` to `new` leaves what it could leave at `old`, or a file that has P.
 pub record LeavesOnly {D : Type 0} (moment : D → ℕ) (left_since : D → ℕ → List ℕ → Type 0) (old new : D) (P : List ℕ → Type 0) : Type 0 where
   pub later : moment old ≤ moment new

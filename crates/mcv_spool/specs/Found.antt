@@ -37,3 +37,30 @@ IsOpenFault (Err Full) = ⊥
 IsOpenFault (Err Memory) = Unit {0}
 IsOpenFault (Err Reopen) = ⊥
 IsOpenFault (Err (Damaged k)) = Unit {0}
+
+-- a refusal that `append` gives, if there is one
+abbrev pub IsAppendFault : {T : Type 0} → Result T SpoolFault → Type 0
+IsAppendFault (Ok x) = Unit {0}
+IsAppendFault (Err Device) = Unit {0}
+IsAppendFault (Err Full) = Unit {0}
+IsAppendFault (Err Memory) = Unit {0}
+IsAppendFault (Err Reopen) = Unit {0}
+IsAppendFault (Err (Damaged k)) = ⊥
+
+-- a refusal that `done` gives, if there is one
+abbrev pub IsDoneFault : {T : Type 0} → Result T SpoolFault → Type 0
+IsDoneFault (Ok x) = Unit {0}
+IsDoneFault (Err Device) = Unit {0}
+IsDoneFault (Err Full) = ⊥
+IsDoneFault (Err Memory) = ⊥
+IsDoneFault (Err Reopen) = Unit {0}
+IsDoneFault (Err (Damaged k)) = ⊥
+
+-- a refusal after which all is as before
+abbrev pub WritesNothing : {T : Type 0} → Result T SpoolFault → Type 0
+WritesNothing (Ok x) = ⊥
+WritesNothing (Err Device) = ⊥
+WritesNothing (Err Full) = Unit {0}
+WritesNothing (Err Memory) = Unit {0}
+WritesNothing (Err Reopen) = Unit {0}
+WritesNothing (Err (Damaged k)) = ⊥

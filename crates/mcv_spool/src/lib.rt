@@ -4,16 +4,25 @@
 //! `open`, also where the machine stopped at any moment, inside a call or between two.
 #![tactic(auto)]
 
+mod contents;
 mod disk;
 mod fault;
-//mod find;
+mod file_disk;
+mod find;
 mod record;
+mod recover;
 mod server;
-//mod spool;
-//mod write;
+mod spool;
+mod write;
 
 pub use disk::{Disk, DiskFailed};
 pub use fault::SpoolFault;
+pub use file_disk::FileDisk;
 pub use record::{SpoolRecord, Stored};
 pub use server::ServerText;
-//pub use spool::Spool;
+pub use spool::Spool;
+
+#[cfg(test)]
+mod test_disk;
+#[cfg(test)]
+mod tests;

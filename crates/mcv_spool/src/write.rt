@@ -1,13 +1,27 @@
 //! The writes of the spool, each of which a crash may cut short.
 
 ghost use Rattle.std.specs.Prelude.{◌≡◌, ◌≢◌, ℕ, ◌+◌, ◌*◌, ◌<◌, ◌≤◌, List, [], ◌∷◌, ◌++◌, length, IfOk, OnOk, OnErr, IsTrue, ◌↔◌};
-ghost use Rattle.mcv_spool.specs.Disk.{IsQuiet, LeavesOnly, Only};
+ghost use Rattle.mcv_spool.specs.Disk.{IsQuiet, IsTornFrom, LeavesOnly, Only, written};
 ghost use Rattle.mcv_spool.specs.File.{IsClosed, marked, slot_of, slots};
 ghost use Rattle.mcv_spool.specs.Version.{IsBeforeOrAfter, IsVersion};
 
+use crate::contents::SLOT_SIZE;
 use crate::disk::{Disk, DiskFailed};
-use crate::find::SLOT_SIZE;
 use crate::record::SpoolRecord;
+
+/// Writes bytes at this offset, onto the disk.
+fn write_through<D: Disk>(disk: &mut D, at: usize, bytes: &[u8]) -> Result<(), DiskFailed>
+    requires { D.keeps_model → at ≤ length (D.seen disk.old) }
+    ensures written { D.keeps_model → OnOk result (D.seen disk.new ≡ written (D.seen disk.old) at bytes.now) }
+    ensures durable { D.keeps_model → OnOk result (Only (D.seen disk.new) (D.may_leave disk.new)) }
+    ensures any_moment { D.keeps_model → LeavesOnly D.moment D.left_since disk.old disk.new (IsTornFrom at (length bytes.now) (D.may_leave disk.old)) }
+    ensures counts { D.keeps_model → D.failures disk.old ≤ D.failures disk.new }
+    ensures cause { D.keeps_model → OnErr result (D.failures disk.old < D.failures disk.new) }
+{
+    disk.write_at(at, bytes)?;
+    disk.sync()?;
+    Ok(())
+}
 
 /// Writes a record into the slot at the end gate, and then opens that gate.
 pub(crate) fn write_record<D: Disk>(
@@ -26,10 +40,8 @@ pub(crate) fn write_record<D: Disk>(
     ensures cause { D.keeps_model → OnErr result (D.failures disk.old < D.failures disk.new) }
 {
     let bytes = record.spelled();
-    disk.write_at(end + 1, bytes.as_slice())?;
-    disk.sync()?;
-    disk.write_at(end, &[1])?;
-    disk.sync()?;
+    write_through(disk, end + 1, bytes.as_slice())?;
+    write_through(disk, end, &[1])?;
     Ok(())
 }
 
@@ -80,7 +92,6 @@ pub(crate) fn close<D: Disk>(disk: &mut D, end: usize, len: usize) -> Result<(),
 {
     disk.cut(len.min(end + 1))?;
     disk.sync()?;
-    disk.write_at(end, &[0])?;
-    disk.sync()?;
+    write_through(disk, end, &[0])?;
     Ok(())
 }
