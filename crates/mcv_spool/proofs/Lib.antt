@@ -1,3 +1,4 @@
+pub mod Appends
 pub mod Colon
 pub mod Marks
 pub mod Moments

@@ -1,6 +1,7 @@
 -- The slots of a file, read piece by piece.
-use Rattle.std.proofs.Common.{◌≡◌, ◌⊎◌, inl, inr, ℕ, zero, suc, ◌+◌, ◌-◌, ◌*◌, ◌<◌, ◌≤◌, min, true, false, true≢false, List, [], ◌∷◌, ◌++◌, length, get_or, take, drop, Option, Some, None, is_none, cond, ◌==◌, ◌||◌, refl, sym, ◌∙◌, ap, subst, arith, append_assoc, append-nil, length-drop, length-take, get_or-take, take-take, drop-drop}
+use Rattle.std.proofs.Common.{◌≡◌, ◌⊎◌, inl, inr, ℕ, zero, suc, ◌+◌, ◌-◌, ◌*◌, ◌<◌, ◌≤◌, min, true, false, true≢false, List, [], ◌∷◌, ◌++◌, length, get_or, take, drop, Option, Some, None, is_none, cond, ◌==◌, ◌||◌, refl, sym, ◌∙◌, ap, subst, arith, append_assoc, append-nil, length-append, length-drop, length-take, take-append-drop, take_all, get_or-take, take-take, drop-drop}
 use Rattle.std.proofs.lemmas.List.{drop-take}
+use Rattle.mcv_spool.specs.Found.{IsFound}
 use Rattle.mcv_spool.specs.File.{damage, is_done, is_open, pending_at, pending_from, read_record, slots}
 use Rattle.mcv_spool.proofs.Slots.{open_gate, open_longer, makes_open, shut_gate, shut_short, slots-open, slots-shut, truth}
 use Rattle.mcv_spool.specs.declared.record.SpoolRecord.{SpoolRecord}
@@ -81,3 +82,57 @@ pending-append k (x ∷ xs) ys =
     ap (λ (l : List (ℕ × SpoolRecord)). first ++ l) (pending-append (k + 1) xs ys)
     ∙ sym (append_assoc first (pending_from (k + 1) xs) (pending_from (k + 1 + length xs) ys))
     ∙ ap (λ n. (first ++ pending_from (k + 1) xs) ++ pending_from n ys) (omega arith)
+
+-- ---- what has been found of a file, and what is left
+
+pub record SoFar (file : List ℕ) (count : ℕ) (pending : List (ℕ × SpoolRecord)) : Type 0 where
+  pub total : count + length (slots (drop (640 * count) file)) ≡ length (slots file)
+  pub pending : pending ++ pending_from count (slots (drop (640 * count) file)) ≡ pending_from 0 (slots file)
+  pub sound : damage count (slots (drop (640 * count) file)) ≡ damage 0 (slots file)
+
+pub nothing_yet : (file : List ℕ) → SoFar file 0 []
+nothing_yet file = record { total = omega arith; pending = refl; sound = refl }
+
+module _ (file : List ℕ) (count : ℕ) (pending : List (ℕ × SpoolRecord)) (so_far : SoFar file count pending) (piece : List ℕ) (piece_is : piece ≡ take 1024001 (drop (640 * count) file)) where
+  slots_are : slots piece ≡ take 1600 (slots (drop (640 * count) file))
+  slots_are = ap slots piece_is ∙ slots-piece 1600 (drop (640 * count) file)
+
+  split : slots (drop (640 * count) file) ≡ slots piece ++ drop 1600 (slots (drop (640 * count) file))
+  split = sym (take-append-drop 1600 (slots (drop (640 * count) file))) ∙ ap (λ (l : List (List ℕ)). l ++ drop 1600 (slots (drop (640 * count) file))) (sym slots_are)
+
+  -- a damaged slot of the piece is the file's
+  pub damaged_piece : (k : ℕ) → damage count (slots piece) ≡ Some k → damage 0 (slots file) ≡ Some k
+  damaged_piece k h = sym so_far.sound ∙ ap (damage count) split ∙ damage-first count (slots piece) (drop 1600 (slots (drop (640 * count) file))) k h
+
+  module _ (new_count : ℕ) (new_pending : List (ℕ × SpoolRecord)) (sound : damage count (slots piece) ≡ None) (count_is : new_count ≡ count + length (slots piece)) (pending_is : new_pending ≡ pending ++ pending_from count (slots piece)) where
+    -- a piece with less than its slots is the last
+    pub ended : new_count < count + 1600 → IsFound file new_count new_pending
+    ended less =
+        let few : length (slots (drop (640 * count) file)) ≤ 1600 = omega (arith, less, count_is, ap length slots_are, length-take 1600 (slots (drop (640 * count) file))) in
+        let all : slots piece ≡ slots (drop (640 * count) file) = slots_are ∙ take_all 1600 (slots (drop (640 * count) file)) few in
+        record {
+          sound = sym so_far.sound ∙ ap (damage count) (sym all) ∙ sound;
+          count = count_is ∙ ap (λ (ss : List (List ℕ)). count + length ss) all ∙ so_far.total;
+          pending = pending_is ∙ ap (λ (ss : List (List ℕ)). pending ++ pending_from count ss) all ∙ so_far.pending;
+        }
+
+    -- a piece with all its slots
+    pub goes_on : new_count ≡ count + 1600 → SoFar file new_count new_pending
+    goes_on more =
+        let full : length (slots piece) ≡ 1600 = omega (arith, count_is, more) in
+        let there : 1600 ≤ length (slots (drop (640 * count) file)) = omega (arith, full, ap length slots_are, length-take 1600 (slots (drop (640 * count) file))) in
+        let at : drop (640 * new_count) file ≡ drop (640 * 1600) (drop (640 * count) file) = ap (λ n. drop n file) (omega (arith, more)) ∙ sym (drop-drop (640 * 1600) (640 * count) file) in
+        let left : slots (drop (640 * new_count) file) ≡ drop 1600 (slots (drop (640 * count) file)) = ap slots at ∙ slots-behind 1600 (drop (640 * count) file) there in
+        let next : count + length (slots piece) ≡ new_count = sym count_is in
+        record {
+          total = omega (arith, so_far.total, more, full, ap length left, ap length split, length-append (slots piece) (drop 1600 (slots (drop (640 * count) file))));
+          pending = ap (λ (l : List (ℕ × SpoolRecord)). l ++ pending_from new_count (slots (drop (640 * new_count) file))) pending_is
+              ∙ append_assoc pending (pending_from count (slots piece)) (pending_from new_count (slots (drop (640 * new_count) file)))
+              ∙ ap (λ (ss : List (List ℕ)). pending ++ (pending_from count (slots piece) ++ pending_from new_count ss)) left
+              ∙ ap (λ n. pending ++ (pending_from count (slots piece) ++ pending_from n (drop 1600 (slots (drop (640 * count) file))))) (sym next)
+              ∙ ap (λ (l : List (ℕ × SpoolRecord)). pending ++ l) (sym (pending-append count (slots piece) (drop 1600 (slots (drop (640 * count) file)))))
+              ∙ ap (λ (ss : List (List ℕ)). pending ++ pending_from count ss) (sym split)
+              ∙ so_far.pending;
+          sound = ap (damage new_count) left ∙ ap (λ n. damage n (drop 1600 (slots (drop (640 * count) file)))) (sym next)
+              ∙ sym (damage-append count (slots piece) (drop 1600 (slots (drop (640 * count) file))) sound) ∙ ap (damage count) (sym split) ∙ so_far.sound;
+        }

@@ -72,7 +72,7 @@ module _ (all : List (List ℕ)) (open_all : AllOpen all) (b more : List ℕ) (s
   begins gate =
       ap (λ (l : List ℕ). take (640 * length all) l) (append_assoc (row all) (gate ∷ b) (0 ∷ more)) ∙ take_at (row all) (gate ∷ (b ++ 0 ∷ more)) (640 * length all) (length-row all open_all)
 
-  long : (gate : ℕ) → 640 * length all < length (staged all gate b more)
+  pub long : (gate : ℕ) → 640 * length all < length (staged all gate b more)
   long gate = omega (arith, length-append (row all ++ gate ∷ b) (0 ∷ more), length-append (row all) (gate ∷ b), length-row all open_all)
 
   -- the gate is written

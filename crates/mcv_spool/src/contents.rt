@@ -86,13 +86,13 @@ impl Contents {
     }
 
     /// Adds a record that has been written.
-    pub(crate) fn add(&mut self, record: SpoolRecord)
+    pub(crate) fn add(&mut self, delete: SpoolRecord)
         requires few { self.old.count < 1000000 }
         requires room { vec_len self.old.pending < vec_capacity self.old.pending }
-        ensures pending { self.new.pending.items ≡ self.old.pending.items ++ (self.old.count, record) ∷ [] }
+        ensures pending { self.new.pending.items ≡ self.old.pending.items ++ (self.old.count, delete) ∷ [] }
         ensures count { self.new.count ≡ self.old.count + 1 }
     {
-        match self.pending.push((self.count as u64, record)) {
+        match self.pending.push((self.count as u64, delete)) {
             Ok(()) => self.count += 1,
             Err(_) => unreachable!(),
         }

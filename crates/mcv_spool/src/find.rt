@@ -52,12 +52,11 @@ pub(crate) fn find<D: Disk>(alloc: Global, disk: &mut D, len: usize) -> Result<C
     ensures alone { IsOpenFault result }
 {
     let mut found = Contents::new(alloc);
-    for _ in 0..PIECES {
-        let before = found.count;
-        let at = SLOT_SIZE * before;
+    for number in 0..PIECES {
+        let at = SLOT_SIZE * PIECE_SLOTS * number;
         let piece = read_piece(alloc, disk, at, len - at)?;
         found.take_all(&piece)?;
-        if found.count - before < PIECE_SLOTS {
+        if found.count < PIECE_SLOTS * (number + 1) {
             return Ok(found);
         }
     }

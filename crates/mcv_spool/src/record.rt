@@ -22,11 +22,14 @@ pub struct Stored {
 }
 
 impl Stored {
-    pub(crate) fn new(seq: u64, record: SpoolRecord) -> Stored
+    pub(crate) fn new(seq: u64, delete: SpoolRecord) -> Stored
         ensures seq { result.seq ≡ seq }
-        ensures record { result.record ≡ record }
+        ensures delete { result.record ≡ delete }
     {
-        Stored { seq, record }
+        Stored {
+            seq,
+            record: delete,
+        }
     }
 
     /// The number of the record's slot, from 0.
@@ -59,7 +62,8 @@ impl SpoolRecord {
 
     /// Bytes 1 to 639 of the record's slot, and the next slot's gate, closed.
     pub(crate) fn spelled(&self) -> ArrayVec<u8, 640>
-        ensures { result.items ≡ body self.now ++ 0 ∷ [] }
+        ensures bytes { result.items ≡ body self.now ++ 0 ∷ [] }
+        ensures size { length (body self.now) ≡ 639 }
     {
         let server = self.server.as_bytes();
         let rest = self.rest.as_bytes();

@@ -66,14 +66,14 @@ impl<D: Disk> Spool<D> {
     }
 
     /// Writes a record. At `Ok` it is on the disk: from then on each `open` finds it.
-    pub fn append(&mut self, record: SpoolRecord) -> Result<Stored, SpoolFault>
-        ensures stored { IfOk result (λ stored. (stored.seq ≡ self.old.contents.count) × (stored.record ≡ record)) }
-        ensures pending { OnOk result (self.new.contents.pending.items ≡ self.old.contents.pending.items ++ (self.old.contents.count, record) ∷ []) }
+    pub fn append(&mut self, delete: SpoolRecord) -> Result<Stored, SpoolFault>
+        ensures stored { IfOk result (λ stored. (stored.seq ≡ self.old.contents.count) × (stored.record ≡ delete)) }
+        ensures pending { OnOk result (self.new.contents.pending.items ≡ self.old.contents.pending.items ++ (self.old.contents.count, delete) ∷ []) }
         ensures count { OnOk result ((self.new.contents.count ≡ self.old.contents.count + 1) × (self.new.needs_reopen ≡ false)) }
-        ensures slots { D.keeps_model → OnOk result (slots (D.seen self.new.disk) ≡ slots (D.seen self.old.disk) ++ slot_of record ∷ []) }
+        ensures slots { D.keeps_model → OnOk result (slots (D.seen self.new.disk) ≡ slots (D.seen self.old.disk) ++ slot_of delete ∷ []) }
         ensures durable { D.keeps_model → OnOk result (Only (D.seen self.new.disk) (D.may_leave self.new.disk)) }
         // A crash at any moment of the call leaves the records of before, or these and the new one.
-        ensures any_moment { D.keeps_model → self.old.needs_reopen ≡ false → LeavesOnly D.moment D.left_since self.old.disk self.new.disk (IsBeforeOrAfter (slots (D.seen self.old.disk)) record) }
+        ensures any_moment { D.keeps_model → self.old.needs_reopen ≡ false → LeavesOnly D.moment D.left_since self.old.disk self.new.disk (IsBeforeOrAfter (slots (D.seen self.old.disk)) delete) }
         ensures reopen { IsErrOf result SpoolFault.Reopen ↔ (self.old.needs_reopen ≡ true) }
         ensures full { IsErrOf result SpoolFault.Full ↔ ((self.old.needs_reopen ≡ false) × (self.old.contents.count ≡ 1000000)) }
         ensures device { D.keeps_model → IsErrOf result SpoolFault.Device → D.failures self.old.disk < D.failures self.new.disk }
@@ -90,9 +90,9 @@ impl<D: Disk> Spool<D> {
         }
         self.contents.reserve()?;
         self.needs_reopen = true;
-        write_record(&mut self.disk, SLOT_SIZE * count, &record)?;
-        let stored = Stored::new(count as u64, record.copied());
-        self.contents.add(record);
+        write_record(&mut self.disk, SLOT_SIZE * count, &delete)?;
+        let stored = Stored::new(count as u64, delete.copied());
+        self.contents.add(delete);
         self.needs_reopen = false;
         Ok(stored)
     }

@@ -27,19 +27,19 @@ fn write_through<D: Disk>(disk: &mut D, at: usize, bytes: &[u8]) -> Result<(), D
 pub(crate) fn write_record<D: Disk>(
     disk: &mut D,
     end: usize,
-    record: &SpoolRecord,
+    delete: &SpoolRecord,
 ) -> Result<(), DiskFailed>
     requires small { end < 2 ^ 62 }
     requires end { D.keeps_model → end ≡ 640 * length (slots (D.seen disk.old)) }
     requires crash { D.keeps_model → (c : List ℕ) → D.may_leave disk.old c → IsVersion (slots (D.seen disk.old)) c }
-    ensures slots { D.keeps_model → OnOk result (slots (D.seen disk.new) ≡ slots (D.seen disk.old) ++ slot_of record.now ∷ []) }
+    ensures slots { D.keeps_model → OnOk result (slots (D.seen disk.new) ≡ slots (D.seen disk.old) ++ slot_of delete.now ∷ []) }
     ensures closed { D.keeps_model → OnOk result (IsClosed (D.seen disk.new)) }
     ensures durable { D.keeps_model → OnOk result (Only (D.seen disk.new) (D.may_leave disk.new)) }
-    ensures any_moment { D.keeps_model → LeavesOnly D.moment D.left_since disk.old disk.new (IsBeforeOrAfter (slots (D.seen disk.old)) record.now) }
+    ensures any_moment { D.keeps_model → LeavesOnly D.moment D.left_since disk.old disk.new (IsBeforeOrAfter (slots (D.seen disk.old)) delete.now) }
     ensures counts { D.keeps_model → D.failures disk.old ≤ D.failures disk.new }
     ensures cause { D.keeps_model → OnErr result (D.failures disk.old < D.failures disk.new) }
 {
-    let bytes = record.spelled();
+    let bytes = delete.spelled();
     write_through(disk, end + 1, bytes.as_slice())?;
     write_through(disk, end, &[1])?;
     Ok(())
