@@ -3,6 +3,8 @@ pub mod Colon
 pub mod Marks
 pub mod Moments
 pub mod Pieces
+pub mod Records
 pub mod Repair
+pub mod Settled
 pub mod Slots
 pub mod Versions

@@ -1,7 +1,7 @@
 //! Records, and the slots that spell them.
 
-ghost use Rattle.std.specs.Prelude.{◌≡◌, ◌+◌, ◌-◌, ◌*◌, ◌<◌, ◌≤◌, [], ◌∷◌, ◌++◌, length, replicate, IfOk, OnOk, IsErrOf};
-ghost use Rattle.mcv_spool.specs.File.{body, number_at, read_parts, read_record, two};
+ghost use Rattle.std.specs.Prelude.{◌≡◌, ◌+◌, ◌-◌, ◌*◌, ◌<◌, ◌≤◌, [], ◌∷◌, ◌++◌, length, replicate, Some};
+ghost use Rattle.mcv_spool.specs.File.{body, number_at, read_parts, read_record, slot_of, two};
 
 use crate::server::ServerText;
 use arrayvec::ArrayVec;
@@ -64,6 +64,7 @@ impl SpoolRecord {
     pub(crate) fn spelled(&self) -> ArrayVec<u8, 640>
         ensures bytes { result.items ≡ body self.now ++ 0 ∷ [] }
         ensures size { length (body self.now) ≡ 639 }
+        ensures reads { read_record (slot_of self.now) ≡ Some self.now }
     {
         let server = self.server.as_bytes();
         let rest = self.rest.as_bytes();

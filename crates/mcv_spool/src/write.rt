@@ -1,8 +1,8 @@
 //! The writes of the spool, each of which a crash may cut short.
 
-ghost use Rattle.std.specs.Prelude.{◌≡◌, ◌≢◌, ℕ, ◌+◌, ◌*◌, ◌<◌, ◌≤◌, List, [], ◌∷◌, ◌++◌, length, IfOk, OnOk, OnErr, IsTrue, ◌↔◌};
+ghost use Rattle.std.specs.Prelude.{◌≡◌, ◌≢◌, ℕ, ◌+◌, ◌*◌, ◌<◌, ◌≤◌, List, [], ◌∷◌, ◌++◌, length, IfOk, OnOk, OnErr, IsTrue, Some, ◌↔◌};
 ghost use Rattle.mcv_spool.specs.Disk.{IsQuiet, IsTornFrom, LeavesOnly, Only, written};
-ghost use Rattle.mcv_spool.specs.File.{IsClosed, marked, slot_of, slots};
+ghost use Rattle.mcv_spool.specs.File.{IsClosed, marked, read_record, slot_of, slots};
 ghost use Rattle.mcv_spool.specs.Version.{IsBeforeOrAfter, IsVersion};
 
 use crate::contents::SLOT_SIZE;
@@ -32,6 +32,7 @@ pub(crate) fn write_record<D: Disk>(
     requires small { end < 2 ^ 62 }
     requires end { D.keeps_model → end ≡ 640 * length (slots (D.seen disk.old)) }
     requires crash { D.keeps_model → (c : List ℕ) → D.may_leave disk.old c → IsVersion (slots (D.seen disk.old)) c }
+    ensures reads { OnOk result (read_record (slot_of delete.now) ≡ Some delete.now) }
     ensures slots { D.keeps_model → OnOk result (slots (D.seen disk.new) ≡ slots (D.seen disk.old) ++ slot_of delete.now ∷ []) }
     ensures closed { D.keeps_model → OnOk result (IsClosed (D.seen disk.new)) }
     ensures durable { D.keeps_model → OnOk result (Only (D.seen disk.new) (D.may_leave disk.new)) }
@@ -90,7 +91,8 @@ pub(crate) fn close<D: Disk>(disk: &mut D, end: usize, len: usize) -> Result<(),
     ensures counts { D.keeps_model → D.failures disk.old ≤ D.failures disk.new }
     ensures cause { D.keeps_model → OnErr result (D.failures disk.old < D.failures disk.new) }
 {
-    disk.cut(len.min(end + 1))?;
+    let kept = len.min(end + 1);
+    disk.cut(kept)?;
     disk.sync()?;
     write_through(disk, end, &[0])?;
     Ok(())

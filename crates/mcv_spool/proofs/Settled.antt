@@ -1,0 +1,48 @@
+-- What a spool knows of its file after each call.
+use Rattle.std.proofs.Common.{◌≡◌, ℕ, ◌+◌, ◌*◌, ◌<◌, ◌≤◌, not, ◌==◌, Some, None, List, [], ◌∷◌, ◌++◌, length, filter, set, get_or, length-set, sym, ◌∙◌, ap, subst, arith, length-append, zero-add}
+use Rattle.mcv_spool.specs.Disk.{Only}
+use Rattle.mcv_spool.specs.File.{IsClosed, damage, marked, pending_from, read_record, slot_of, slots}
+use Rattle.mcv_spool.specs.Found.{IsFound}
+use Rattle.mcv_spool.specs.Version.{IsSettled, IsVersion}
+use Rattle.mcv_spool.specs.declared.record.SpoolRecord.{SpoolRecord}
+use Rattle.mcv_spool.proofs.Records.{damage_push, pending_marked, pending_push, sound_marked}
+use Rattle.mcv_spool.proofs.Slots.{parts}
+use Rattle.mcv_spool.proofs.Versions.{version_self}
+
+-- a closed file that is on the disk
+only_version : (new : List ℕ) (may_leave : List ℕ → Type 0) → IsClosed new → Only new may_leave → (c : List ℕ) → may_leave c → IsVersion (slots new) c
+only_version new may_leave closed only c left = subst (IsVersion (slots new)) (sym (only c left)) (version_self new closed)
+
+pub settled_open : (file new : List ℕ) (may_leave : List ℕ → Type 0) (count : ℕ) (pending : List (ℕ × SpoolRecord)) → IsFound file count pending → slots new ≡ slots file → IsClosed new → Only new may_leave
+    → IsSettled new may_leave count pending
+settled_open file new may_leave count pending found same closed only = record {
+  found = record {
+    sound = ap (damage 0) same ∙ found.sound;
+    count = found.count ∙ ap length (sym same);
+    pending = found.pending ∙ ap (pending_from 0) (sym same);
+  };
+  crash = only_version new may_leave closed only;
+}
+
+pub settled_append : (file new : List ℕ) (may_leave : List ℕ → Type 0) (count : ℕ) (pending : List (ℕ × SpoolRecord)) (r : SpoolRecord) → IsFound file count pending → read_record (slot_of r) ≡ Some r → count < 1000000
+    → slots new ≡ slots file ++ slot_of r ∷ [] → IsClosed new → Only new may_leave → IsSettled new may_leave (count + 1) (pending ++ (count, r) ∷ [])
+settled_append file new may_leave count pending r found reads room same closed only = record {
+  found = record {
+    sound = ap (damage 0) same ∙ damage_push (slots file) r reads found.sound (omega (arith, found.count, room));
+    count = omega (arith, found.count, ap length same, length-append (slots file) (slot_of r ∷ []));
+    pending = ap (λ (l : List (ℕ × SpoolRecord)). l ++ (count, r) ∷ []) found.pending ∙ ap (λ n. pending_from 0 (slots file) ++ (n, r) ∷ []) found.count
+        ∙ sym (pending_push (slots file) r reads) ∙ ap (pending_from 0) (sym same);
+  };
+  crash = only_version new may_leave closed only;
+}
+
+pub settled_done : (file new : List ℕ) (may_leave : List ℕ → Type 0) (count k : ℕ) (pending : List (ℕ × SpoolRecord)) → IsFound file count pending → k < length (slots file) → slots new ≡ marked k (slots file)
+    → ((c : List ℕ) → may_leave c → IsVersion (marked k (slots file)) c) → IsSettled new may_leave count (filter (λ p. not (p.0 == k)) pending)
+settled_done file new may_leave count k pending found there same versions = record {
+  found = record {
+    sound = ap (damage 0) same ∙ sound_marked k (slots file) found.sound;
+    count = found.count ∙ sym (length-set (slots file) k (set (get_or (slots file) k []) 1 1)) ∙ ap length (sym same);
+    pending = ap (filter (λ p. not (p.0 == k))) found.pending ∙ sym (pending_marked 0 k k (slots file) (parts file).all there (sym (zero-add k))) ∙ ap (pending_from 0) (sym same);
+  };
+  crash = λ c left. subst (λ (ss : List (List ℕ)). IsVersion ss c) (sym same) (versions c left);
+}
