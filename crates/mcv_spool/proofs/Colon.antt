@@ -1,11 +1,11 @@
 -- Where a server text is cut.
-use Rattle.std.proofs.Common.{◌≡◌, ◌≢◌, ℕ, zero, suc, ◌+◌, ◌-◌, ◌<◌, Bool, true, false, cond, eqb, ◌&&◌, true≢false, List, [], ◌∷◌, ◌++◌, length, get_or, take, drop, Option, Some, None, refl, sym, ap, ◌∙◌, arith}
-use Rattle.std.proofs.lemmas.Bool.Decides.{Decides-eqb}
+use Rattle.std.proofs.Common.{◌≡◌, ◌≢◌, ℕ, zero, suc, ◌+◌, ◌-◌, ◌<◌, Bool, true, false, cond, eqb, ◌&&◌, true≢false, List, [], ◌∷◌, ◌++◌, length, get_or, take, drop, Option, Some, None, refl, sym, ap, ◌∙◌, arith, ◌≤◌, nat_lt, length-append}
+use Rattle.std.proofs.lemmas.Bool.Decides.{Decides-eqb, nat_tests}
 use Rattle.std.proofs.lemmas.Grind.{common_steps}
 use Rattle.std.proofs.lemmas.List.Folds.{list_all_at}
 use Rattle.std.specs.Char.{is_ascii_digit}
 use Rattle.std.specs.List.{list_all}
-use Rattle.mcv_spool.specs.Server.{colon, is_port, is_server, server_at, last_below, IsServer}
+use Rattle.mcv_spool.specs.Server.{colon, is_host, is_port, is_server, server_at, last_below, IsServer}
 
 both : (a b : Bool) → (a && b) ≡ true → (a ≡ true) × (b ≡ true)
 both true b h = (refl, h)
@@ -57,9 +57,28 @@ cut_at text (Some i) e h =
     let whole : text ≡ take i text ++ colon ∷ drop (i + 1) text = grind (arith, common_steps) in
     (take i text, drop (i + 1) text, whole, parts.0, parts.1)
 
+below : (n m : ℕ) (b : Bool) → (nat_lt n m && b) ≡ true → n < m
+below n m b h = grind (arith, nat_tests)
+
+short_host : (host : List ℕ) → is_host host ≡ true → length host ≤ 255
+unfolding is_host
+short_host host h = let l : length host < 256 = below (length host) 256 _ (both _ _ h).1 in omega (arith, l)
+
+short_port : (port : List ℕ) → is_port port ≡ true → length port ≤ 5
+unfolding is_port
+short_port port h = let l : length port < 6 = below (length port) 6 _ (both _ _ h).1 in omega (arith, l)
+
 pub server_has_parts : (text : List ℕ) → is_server text ≡ true → IsServer text
 unfolding is_server
 server_has_parts text h = cut_at text (last_below colon text (length text)) refl h
+
+-- 255 bytes, a colon and 5 digits at most
+pub server_short : (text : List ℕ) → is_server text ≡ true → length text ≤ 261
+server_short text h =
+    let w = server_has_parts text h in
+    let host_short : length w.0 ≤ 255 = short_host w.0 w.3 in
+    let port_short : length w.1 ≤ 5 = short_port w.1 w.4 in
+    omega (arith, host_short, port_short, ap length w.2, length-append w.0 (colon ∷ w.1))
 
 parts_last : (host port : List ℕ) → is_port port ≡ true → last_below colon (host ++ colon ∷ port) (length (host ++ colon ∷ port)) ≡ Some (length host)
 parts_last host port h =

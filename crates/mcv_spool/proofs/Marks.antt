@@ -37,7 +37,7 @@ open_at (s ∷ ss) (suc k) all h = open_at ss k all.1 (omega arith)
 open_set : (s : List ℕ) (x : ℕ) → IsOpenSlot s → IsOpenSlot (set s 1 x)
 open_set s x one = record { size = length-set s 1 x ∙ one.size; gate = λ z. one.gate (sym (get_or-set_other s 1 0 x 0 (omega arith)) ∙ z) }
 
-read_set : (s : List ℕ) (x : ℕ) → read_record (set s 1 x) ≡ read_record s
+pub read_set : (s : List ℕ) (x : ℕ) → read_record (set s 1 x) ≡ read_record s
 unfolding read_record
 read_set [] x = refl
 read_set (a ∷ []) x = refl

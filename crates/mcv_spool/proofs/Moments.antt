@@ -37,11 +37,11 @@ module _ {D : Type 0} (seen : D → List ℕ) (may_leave : D → List ℕ → Ty
   }
 
   pub quiet_start : (old : D) → IsQuiet seen may_leave moment left_since old old
-  quiet_start old = record { seen = refl; crash = λ c left. left; later = omega arith; since = λ t c le left. left; forgets_nothing = λ t c le left. left }
+  quiet_start old = record { same = refl; crash = λ c left. left; later = omega arith; since = λ t c le left. left; forgets_nothing = λ t c le left. left }
 
   pub quiet_on : (old mid new : D) → IsQuiet seen may_leave moment left_since old mid → IsQuiet seen may_leave moment left_since mid new → IsQuiet seen may_leave moment left_since old new
   quiet_on old mid new first then = record {
-    seen = then.seen ∙ first.seen;
+    same = then.same ∙ first.same;
     crash = λ c left. first.crash c (then.crash c left);
     later = omega (arith, first.later, then.later);
     since = λ t c le left. first.since t c le (then.since t c (omega (arith, le, first.later)) left);

@@ -1,5 +1,5 @@
 -- The slots of a file, read piece by piece.
-use Rattle.std.proofs.Common.{◌≡◌, ◌⊎◌, inl, inr, ℕ, zero, suc, ◌+◌, ◌-◌, ◌*◌, ◌<◌, ◌≤◌, min, true, false, true≢false, List, [], ◌∷◌, ◌++◌, length, get_or, take, drop, Option, Some, None, is_none, cond, ◌==◌, ◌||◌, refl, sym, ◌∙◌, ap, subst, arith, append_assoc, append-nil, length-append, length-drop, length-take, take-append-drop, take_all, get_or-take, take-take, drop-drop}
+use Rattle.std.proofs.Common.{◌≡◌, ◌≢◌, ◌⊎◌, inl, inr, ℕ, zero, suc, ◌+◌, ◌-◌, ◌*◌, ◌<◌, ◌≤◌, min, true, false, true≢false, List, [], ◌∷◌, ◌++◌, length, get_or, take, drop, Option, Some, None, is_none, cond, ◌==◌, ◌||◌, refl, sym, ◌∙◌, ap, subst, arith, append_assoc, append-nil, length-append, length-drop, length-take, take-append-drop, take_all, get_or-take, take-take, drop-drop}
 use Rattle.std.proofs.lemmas.List.{drop-take}
 use Rattle.mcv_spool.specs.Found.{IsFound}
 use Rattle.mcv_spool.specs.File.{damage, is_done, is_open, pending_at, pending_from, read_record, slots}
@@ -83,15 +83,57 @@ pending-append k (x ∷ xs) ys =
     ∙ sym (append_assoc first (pending_from (k + 1) xs) (pending_from (k + 1 + length xs) ys))
     ∙ ap (λ n. (first ++ pending_from (k + 1) xs) ++ pending_from n ys) (omega arith)
 
+-- ---- a walk over the slots of some bytes
+
+pub record Walked (first : ℕ) (before : List (ℕ × SpoolRecord)) (bytes : List ℕ) (count : ℕ) (pending : List (ℕ × SpoolRecord)) (rest : List ℕ) : Type 0 where
+  pub total : count + length (slots rest) ≡ first + length (slots bytes)
+  pub left : 640 * count + length rest ≡ 640 * first + length bytes
+  pub undone : pending ++ pending_from count (slots rest) ≡ before ++ pending_from first (slots bytes)
+  pub sound : damage count (slots rest) ≡ damage first (slots bytes)
+
+slots_step : (rest : List ℕ) → 640 < length rest → get_or rest 0 0 ≢ 0 → slots rest ≡ take 640 rest ∷ slots (drop 640 rest)
+slots_step rest long gate = slots-open rest (makes_open (length rest) (get_or rest 0 0) long gate)
+
+module _ (first : ℕ) (before : List (ℕ × SpoolRecord)) (bytes : List ℕ) (count : ℕ) (pending : List (ℕ × SpoolRecord)) (rest : List ℕ) (so_far : Walked first before bytes count pending rest) where
+  -- one slot more
+  pub walk_on : 640 < length rest → get_or rest 0 0 ≢ 0 → (slot more : List ℕ) → slot ≡ take 640 rest → more ≡ drop 640 rest → (count' : ℕ) (pending' : List (ℕ × SpoolRecord)) → damage count (slot ∷ []) ≡ None
+      → count' ≡ count + 1 → pending' ≡ pending ++ pending_at count (is_done slot) (read_record slot) → Walked first before bytes count' pending' more
+  walk_on long gate slot more slot_is more_is count' pending' sound count_is pending_is =
+      let step : slots rest ≡ slot ∷ slots more = slots_step rest long gate ∙ (λ i. sym slot_is i ∷ slots (sym more_is i)) in
+      let one = pending_at count (is_done slot) (read_record slot) in
+      record {
+        total = omega (arith, so_far.total, count_is, ap length step);
+        left = omega (arith, so_far.left, count_is, long, ap length more_is, length-drop 640 rest);
+        undone = (λ i. pending_is i ++ pending_from (count_is i) (slots more)) ∙ append_assoc pending one (pending_from (count + 1) (slots more))
+            ∙ ap (λ (ss : List (List ℕ)). pending ++ pending_from count ss) (sym step) ∙ so_far.undone;
+        sound = ap (λ n. damage n (slots more)) count_is ∙ sym (damage-append count (slot ∷ []) (slots more) sound) ∙ ap (damage count) (sym step) ∙ so_far.sound;
+      }
+
+  -- a slot that is damaged
+  pub walk_damaged : 640 < length rest → get_or rest 0 0 ≢ 0 → (slot : List ℕ) → slot ≡ take 640 rest → (k : ℕ) → damage count (slot ∷ []) ≡ Some k → damage first (slots bytes) ≡ Some k
+  walk_damaged long gate slot slot_is k h =
+      let step : slots rest ≡ slot ∷ slots (drop 640 rest) = slots_step rest long gate ∙ ap (λ (l : List ℕ). l ∷ slots (drop 640 rest)) (sym slot_is) in
+      sym so_far.sound ∙ ap (damage count) step ∙ damage-first count (slot ∷ []) (slots (drop 640 rest)) k h
+
+  module _ (shut : is_open rest ≡ false) where
+    pub walk_sound : damage first (slots bytes) ≡ None
+    walk_sound = sym so_far.sound ∙ ap (damage count) (slots-shut rest shut)
+
+    pub walk_total : count ≡ first + length (slots bytes)
+    walk_total = omega (arith, so_far.total, ap length (slots-shut rest shut))
+
+    pub walk_undone : pending ≡ before ++ pending_from first (slots bytes)
+    walk_undone = sym (append-nil pending) ∙ ap (λ (ss : List (List ℕ)). pending ++ pending_from count ss) (sym (slots-shut rest shut)) ∙ so_far.undone
+
 -- ---- what has been found of a file, and what is left
 
 pub record SoFar (file : List ℕ) (count : ℕ) (pending : List (ℕ × SpoolRecord)) : Type 0 where
   pub total : count + length (slots (drop (640 * count) file)) ≡ length (slots file)
-  pub pending : pending ++ pending_from count (slots (drop (640 * count) file)) ≡ pending_from 0 (slots file)
+  pub undone : pending ++ pending_from count (slots (drop (640 * count) file)) ≡ pending_from 0 (slots file)
   pub sound : damage count (slots (drop (640 * count) file)) ≡ damage 0 (slots file)
 
 pub nothing_yet : (file : List ℕ) → SoFar file 0 []
-nothing_yet file = record { total = omega arith; pending = refl; sound = refl }
+nothing_yet file = record { total = omega arith; undone = refl; sound = refl }
 
 module _ (file : List ℕ) (count : ℕ) (pending : List (ℕ × SpoolRecord)) (so_far : SoFar file count pending) (piece : List ℕ) (piece_is : piece ≡ take 1024001 (drop (640 * count) file)) where
   slots_are : slots piece ≡ take 1600 (slots (drop (640 * count) file))
@@ -112,8 +154,8 @@ module _ (file : List ℕ) (count : ℕ) (pending : List (ℕ × SpoolRecord)) (
         let all : slots piece ≡ slots (drop (640 * count) file) = slots_are ∙ take_all 1600 (slots (drop (640 * count) file)) few in
         record {
           sound = sym so_far.sound ∙ ap (damage count) (sym all) ∙ sound;
-          count = count_is ∙ ap (λ (ss : List (List ℕ)). count + length ss) all ∙ so_far.total;
-          pending = pending_is ∙ ap (λ (ss : List (List ℕ)). pending ++ pending_from count ss) all ∙ so_far.pending;
+          counted = count_is ∙ ap (λ (ss : List (List ℕ)). count + length ss) all ∙ so_far.total;
+          undone = pending_is ∙ ap (λ (ss : List (List ℕ)). pending ++ pending_from count ss) all ∙ so_far.undone;
         }
 
     -- a piece with all its slots
@@ -126,13 +168,13 @@ module _ (file : List ℕ) (count : ℕ) (pending : List (ℕ × SpoolRecord)) (
         let next : count + length (slots piece) ≡ new_count = sym count_is in
         record {
           total = omega (arith, so_far.total, more, full, ap length left, ap length split, length-append (slots piece) (drop 1600 (slots (drop (640 * count) file))));
-          pending = ap (λ (l : List (ℕ × SpoolRecord)). l ++ pending_from new_count (slots (drop (640 * new_count) file))) pending_is
+          undone = ap (λ (l : List (ℕ × SpoolRecord)). l ++ pending_from new_count (slots (drop (640 * new_count) file))) pending_is
               ∙ append_assoc pending (pending_from count (slots piece)) (pending_from new_count (slots (drop (640 * new_count) file)))
               ∙ ap (λ (ss : List (List ℕ)). pending ++ (pending_from count (slots piece) ++ pending_from new_count ss)) left
               ∙ ap (λ n. pending ++ (pending_from count (slots piece) ++ pending_from n (drop 1600 (slots (drop (640 * count) file))))) (sym next)
               ∙ ap (λ (l : List (ℕ × SpoolRecord)). pending ++ l) (sym (pending-append count (slots piece) (drop 1600 (slots (drop (640 * count) file)))))
               ∙ ap (λ (ss : List (List ℕ)). pending ++ pending_from count ss) (sym split)
-              ∙ so_far.pending;
+              ∙ so_far.undone;
           sound = ap (damage new_count) left ∙ ap (λ n. damage n (drop 1600 (slots (drop (640 * count) file)))) (sym next)
               ∙ sym (damage-append count (slots piece) (drop 1600 (slots (drop (640 * count) file))) sound) ∙ ap (damage count) (sym split) ∙ so_far.sound;
         }

@@ -2,7 +2,7 @@
 use Rattle.std.proofs.Common.{◌≡◌, ◌≢◌, ◌⊎◌, inl, inr, ℕ, zero, suc, ◌+◌, ◌-◌, ◌*◌, ◌/◌, ◌%◌, ◌<◌, ◌≤◌, Bool, true, false, true≢false, not, ◌==◌, ◌&&◌, ◌||◌, nat_le, cond, is_none, Option, Some, None, List, [], ◌∷◌, ◌++◌, length, get_or, take, drop, set, filter, refl, sym, ◌∙◌, ap, subst, arith, append_assoc, append-nil, take_at, drop_at, zero-add, replicate, get_or-set_same}
 use Rattle.std.proofs.lemmas.Bool.{cases_eq}
 use Rattle.std.proofs.lemmas.Bool.Decides.{nat_tests}
-use Rattle.std.specs.List.{list_any}
+use Rattle.std.specs.List.{list_all, list_any}
 use Rattle.mcv_base.specs.Key.{is_key_word}
 use Rattle.mcv_spool.specs.Server.{is_server}
 use Rattle.mcv_spool.specs.File.{body, damage, is_done, marked, number_at, pending_at, pending_from, read_parts, read_record, slot_of}
@@ -27,8 +27,8 @@ both_true server rest hs hr = ap (λ b. cond (b && is_key_word rest) (Some (reco
 -- a record that is written reads back
 pub reads_back : (r : SpoolRecord) → is_server r.server ≡ true → is_key_word r.rest ≡ true → length r.server ≤ 261 → length r.rest ≤ 250 → read_record (slot_of r) ≡ Some r
 reads_back r server_reads rest_reads hs hr =
-    let zeros = replicate (634 - length r.server - length r.rest) 0 in
-    let text = (r.server ++ r.rest) ++ zeros in
+    let zeros : List ℕ = replicate (634 - length r.server - length r.rest) 0 in
+    let text : List ℕ = (r.server ++ r.rest) ++ zeros in
     let front : take (length r.server) text ≡ r.server = ap (λ (l : List ℕ). take (length r.server) l) (append_assoc r.server r.rest zeros) ∙ take_at r.server (r.rest ++ zeros) (length r.server) refl in
     let back : drop (length r.server) text ≡ r.rest ++ zeros = ap (λ (l : List ℕ). drop (length r.server) l) (append_assoc r.server r.rest zeros) ∙ drop_at r.server (r.rest ++ zeros) (length r.server) refl in
     let rest_is : take (length r.rest) (drop (length r.server) text) ≡ r.rest = ap (λ (l : List ℕ). take (length r.rest) l) back ∙ take_at r.rest zeros (length r.rest) refl in
@@ -124,3 +124,13 @@ pending_within k j (s ∷ all) h = elim (any_first k j (is_done s) (read_record 
   | inl here ↦ omega (arith, here)
   | inr there ↦ omega (arith, pending_within k (j + 1) all there)
 ]
+
+-- what is kept of a list has what all of it has
+pub all_filtered : (P Q : ℕ × SpoolRecord → Bool) (xs : List (ℕ × SpoolRecord)) → list_all P xs ≡ true → list_all P (filter Q xs) ≡ true
+all_filtered P Q [] h = refl
+all_filtered P Q (x ∷ xs) h = kept (P x) (Q x) (list_all P xs) refl h (all_filtered P Q xs)
+  where
+    kept : (p q t : Bool) → P x ≡ p → (p && t) ≡ true → (t ≡ true → list_all P (filter Q xs) ≡ true) → list_all P (cond q (x ∷ filter Q xs) (filter Q xs)) ≡ true
+    kept false q t is all rest = absurd (true≢false (sym all))
+    kept true false t is all rest = rest all
+    kept true true t is all rest = ap (λ b. b && list_all P (filter Q xs)) is ∙ rest all

@@ -18,8 +18,8 @@ pub settled_open : (file new : List ℕ) (may_leave : List ℕ → Type 0) (coun
 settled_open file new may_leave count pending found same closed only = record {
   found = record {
     sound = ap (damage 0) same ∙ found.sound;
-    count = found.count ∙ ap length (sym same);
-    pending = found.pending ∙ ap (pending_from 0) (sym same);
+    counted = found.counted ∙ ap length (sym same);
+    undone = found.undone ∙ ap (pending_from 0) (sym same);
   };
   crash = only_version new may_leave closed only;
 }
@@ -28,9 +28,9 @@ pub settled_append : (file new : List ℕ) (may_leave : List ℕ → Type 0) (co
     → slots new ≡ slots file ++ slot_of r ∷ [] → IsClosed new → Only new may_leave → IsSettled new may_leave (count + 1) (pending ++ (count, r) ∷ [])
 settled_append file new may_leave count pending r found reads room same closed only = record {
   found = record {
-    sound = ap (damage 0) same ∙ damage_push (slots file) r reads found.sound (omega (arith, found.count, room));
-    count = omega (arith, found.count, ap length same, length-append (slots file) (slot_of r ∷ []));
-    pending = ap (λ (l : List (ℕ × SpoolRecord)). l ++ (count, r) ∷ []) found.pending ∙ ap (λ n. pending_from 0 (slots file) ++ (n, r) ∷ []) found.count
+    sound = ap (damage 0) same ∙ damage_push (slots file) r reads found.sound (omega (arith, found.counted, room));
+    counted = omega (arith, found.counted, ap length same, length-append (slots file) (slot_of r ∷ []));
+    undone = ap (λ (l : List (ℕ × SpoolRecord)). l ++ (count, r) ∷ []) found.undone ∙ ap (λ n. pending_from 0 (slots file) ++ (n, r) ∷ []) found.counted
         ∙ sym (pending_push (slots file) r reads) ∙ ap (pending_from 0) (sym same);
   };
   crash = only_version new may_leave closed only;
@@ -41,8 +41,8 @@ pub settled_done : (file new : List ℕ) (may_leave : List ℕ → Type 0) (coun
 settled_done file new may_leave count k pending found there same versions = record {
   found = record {
     sound = ap (damage 0) same ∙ sound_marked k (slots file) found.sound;
-    count = found.count ∙ sym (length-set (slots file) k (set (get_or (slots file) k []) 1 1)) ∙ ap length (sym same);
-    pending = ap (filter (λ p. not (p.0 == k))) found.pending ∙ sym (pending_marked 0 k k (slots file) (parts file).all there (sym (zero-add k))) ∙ ap (pending_from 0) (sym same);
+    counted = found.counted ∙ sym (length-set (slots file) k (set (get_or (slots file) k []) 1 1)) ∙ ap length (sym same);
+    undone = ap (filter (λ p. not (p.0 == k))) found.undone ∙ sym (pending_marked 0 k k (slots file) (parts file).all there (sym (zero-add k))) ∙ ap (pending_from 0) (sym same);
   };
   crash = λ c left. subst (λ (ss : List (List ℕ)). IsVersion ss c) (sym same) (versions c left);
 }

@@ -1,5 +1,6 @@
 -- A file is a row of open slots, and an end that has none.
 use Rattle.std.proofs.Common.{◌≡◌, ◌≢◌, ◌⊎◌, inl, inr, ℕ, zero, suc, ◌+◌, ◌-◌, ◌*◌, ◌<◌, ◌≤◌, min, Bool, true, false, cond, not, ◌&&◌, nat_lt, ◌==◌, List, [], ◌∷◌, ◌++◌, length, get_or, take, drop, set, refl, sym, ◌∙◌, ap, subst, arith, append_assoc, append-nil, length-append, length-drop, length-take, length-take-le, take-append-drop, take-take, take_at, drop_at, get_or-take, get_or-drop, get_or-append-add, true≢false}
+use Rattle.std.proofs.lemmas.Bool.{cases_lt}
 use Rattle.std.proofs.lemmas.Bool.Decides.{nat_tests}
 use Rattle.mcv_spool.specs.File.{IsClosed, is_open, slots, slots_within}
 
@@ -124,7 +125,10 @@ more_parts file h rest =
           ∙ sym (append_assoc (take 640 file) (row (slots (drop 640 file))) rest.tail) ∙ ap (λ ss. row ss ++ rest.tail) (sym step);
       all = subst AllOpen (sym step) (record { size = size; gate = gate }, rest.all);
       shut = rest.shut;
-      some = λ l. omega (arith, left, length-append (row (slots (drop 640 file))) rest.tail, length-row (slots (drop 640 file)) rest.all, length-drop 640 file, rest.some);
+      some = λ _. elim (cases_lt 0 (length (slots (drop 640 file)))) [
+        | inl some ↦ rest.some some
+        | inr none ↦ omega (arith, none, left, length-append (row (slots (drop 640 file))) rest.tail, length-row (slots (drop 640 file)) rest.all, length-drop 640 file)
+      ];
     }
 
 parts_within : (n : ℕ) (file : List ℕ) → length file ≤ n → Parts file

@@ -95,7 +95,7 @@ pub length-body : (r : SpoolRecord) → length r.server ≤ 261 → length r.res
 length-body r s_short r_short =
     let zeros = 634 - length r.server - length r.rest in
     let one = 0 ∷ (length r.server / 256) ∷ (length r.server % 256) ∷ (length r.rest / 256) ∷ (length r.rest % 256) ∷ [] in
-    omega (arith, length-append (one ++ r.server ++ r.rest) (replicate zeros 0), length-append (one ++ r.server) r.rest, length-append one r.server, length-replicate zeros 0)
+    omega (arith, length-append (one ++ r.server ++ r.rest) (replicate zeros 0), length-append (one ++ r.server) r.rest, length-append one r.server, length-replicate {A = ℕ} zeros 0)
 
 -- a gate is no part of the record
 same_record : (gate : ℕ) (b : List ℕ) → read_record (gate ∷ b) ≡ read_record (1 ∷ b)

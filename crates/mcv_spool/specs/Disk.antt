@@ -24,7 +24,7 @@ Only file may_leave = (c : List ℕ) → may_leave c → c ≡ file
 
 -- A call that changes no byte: a read, or a sync, after which a crash may leave less than before.
 pub record IsQuiet {D : Type 0} (seen : D → List ℕ) (may_leave : D → List ℕ → Type 0) (moment : D → ℕ) (left_since : D → ℕ → List ℕ → Type 0) (old new : D) : Type 0 where
-  pub seen : seen new ≡ seen old
+  pub same : seen new ≡ seen old
   pub crash : (c : List ℕ) → may_leave new c → may_leave old c
   pub later : moment old ≤ moment new
   pub since : (t : ℕ) (c : List ℕ) → t ≤ moment old → left_since new t c → left_since old t c
@@ -40,6 +40,10 @@ pub record Changes {D : Type 0} (may_leave : D → List ℕ → Type 0) (moment 
 -- what a crash leaves after a write of n bytes, if it left one of these before
 abbrev pub IsTornFrom : ℕ → ℕ → (List ℕ → Type 0) → List ℕ → Type 0
 IsTornFrom at n may_leave file = (before : List ℕ) × may_leave before × Torn at n before file
+
+-- what a crash leaves after a cut to n bytes, if it left one of these before
+abbrev pub IsCutFrom : ℕ → (List ℕ → Type 0) → List ℕ → Type 0
+IsCutFrom n may_leave file = (before : List ℕ) × may_leave before × Cut n before file
 
 -- A crash at any moment from `old` to `new` leaves what it could leave at `old`, or a file that has P.
 pub record LeavesOnly {D : Type 0} (moment : D → ℕ) (left_since : D → ℕ → List ℕ → Type 0) (old new : D) (P : List ℕ → Type 0) : Type 0 where

@@ -8,8 +8,8 @@ use Rattle.mcv_spool.specs.declared.record.SpoolRecord.{SpoolRecord}
 -- no slot of the file is damaged, it has so many, and these records are pending
 pub record IsFound (file : List ℕ) (count : ℕ) (pending : List (ℕ × SpoolRecord)) : Type 0 where
   pub sound : damage 0 (slots file) ≡ None
-  pub count : count ≡ length (slots file)
-  pub pending : pending ≡ pending_from 0 (slots file)
+  pub counted : count ≡ length (slots file)
+  pub undone : pending ≡ pending_from 0 (slots file)
 
 -- a refusal for want of memory, or of a damaged slot, if there is one
 abbrev pub IsFindFault : {T : Type 0} → Result T SpoolFault → Type 0

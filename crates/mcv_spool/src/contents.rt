@@ -6,7 +6,7 @@ ghost use Rattle.mcv_spool.specs.File.{damage, is_done, pending_at, pending_from
 ghost use Rattle.mcv_spool.specs.Found.{IsFindFault};
 
 use crate::fault::SpoolFault;
-use crate::record::{SpoolRecord, read_record};
+use crate::record::{CLOSED, PENDING, SpoolRecord, read_record};
 use std::alloc::{AllocError, Global};
 
 /// The bytes of a slot.
@@ -52,7 +52,7 @@ impl Contents {
         let Some(record) = read_record(slot) else {
             return Err(SpoolFault::Damaged(seq));
         };
-        if slot[1] == 0 {
+        if slot[1] == PENDING {
             self.pending.push((seq, record))?;
         }
         self.count += 1;
@@ -69,9 +69,10 @@ impl Contents {
         ensures alone { IsFindFault result }
     {
         let mut rest = bytes;
-        while rest.len() > SLOT_SIZE && rest[0] != 0 {
-            self.take(&rest[..SLOT_SIZE])?;
-            rest = &rest[SLOT_SIZE..];
+        while rest.len() > SLOT_SIZE && rest[0] != CLOSED {
+            let (slot, more) = rest.split_at(SLOT_SIZE);
+            self.take(slot)?;
+            rest = more;
         }
         Ok(())
     }

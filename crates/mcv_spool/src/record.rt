@@ -7,6 +7,18 @@ use crate::server::ServerText;
 use arrayvec::ArrayVec;
 use mcv_base::Rest;
 
+/// The gate of a slot that counts.
+pub(crate) const OPEN: u8 = 1;
+
+/// The gate of a slot that doesn't, and of all behind it.
+pub(crate) const CLOSED: u8 = 0;
+
+/// The second byte of a slot whose record is pending.
+pub(crate) const PENDING: u8 = 0;
+
+/// The second byte of a slot whose record is done.
+pub(crate) const DONE: u8 = 1;
+
 /// A delete that no server took: the server that hasn't seen it, and the rest of its key.
 #[derive(Debug, Drop)]
 pub struct SpoolRecord {
@@ -69,13 +81,13 @@ impl SpoolRecord {
         let server = self.server.as_bytes();
         let rest = self.rest.as_bytes();
         let mut bytes = ArrayVec::new();
-        bytes.push(0);
+        bytes.push(PENDING);
         push_two(&mut bytes, server.len());
         push_two(&mut bytes, rest.len());
         extend(&mut bytes, server);
         extend(&mut bytes, rest);
         pad(&mut bytes, 634 - server.len() - rest.len());
-        bytes.push(0);
+        bytes.push(CLOSED);
         bytes
     }
 }
@@ -103,7 +115,7 @@ fn pad(bytes: &mut ArrayVec<u8, 640>, zeros: usize)
     requires { length bytes.old.items + zeros ≤ 640 }
     ensures { bytes.new.items ≡ bytes.old.items ++ replicate zeros 0 }
 {
-    for _zero in 0..zeros {
+    for _place in 0..zeros {
         bytes.push(0);
     }
 }

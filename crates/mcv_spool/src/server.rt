@@ -51,7 +51,7 @@ impl ServerText {
 }
 
 fn held(bytes: &[u8]) -> ArrayVec<u8, 261>
-    requires { IsTrue (is_server bytes.now) }
+    requires { length bytes.now ≤ 261 }
     ensures { result.items ≡ bytes.now }
 {
     let mut held = ArrayVec::new();

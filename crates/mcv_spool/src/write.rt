@@ -1,13 +1,13 @@
 //! The writes of the spool, each of which a crash may cut short.
 
-ghost use Rattle.std.specs.Prelude.{◌≡◌, ◌≢◌, ℕ, ◌+◌, ◌*◌, ◌<◌, ◌≤◌, List, [], ◌∷◌, ◌++◌, length, IfOk, OnOk, OnErr, IsTrue, Some, ◌↔◌};
-ghost use Rattle.mcv_spool.specs.Disk.{IsQuiet, IsTornFrom, LeavesOnly, Only, written};
+ghost use Rattle.std.specs.Prelude.{◌≡◌, ◌≢◌, ℕ, ◌+◌, ◌*◌, ◌^◌, ◌<◌, ◌≤◌, List, [], ◌∷◌, ◌++◌, length, take, IfOk, OnOk, OnErr, IsTrue, Some, ◌↔◌};
+ghost use Rattle.mcv_spool.specs.Disk.{IsCutFrom, IsQuiet, IsTornFrom, LeavesOnly, Only, written};
 ghost use Rattle.mcv_spool.specs.File.{IsClosed, marked, read_record, slot_of, slots};
 ghost use Rattle.mcv_spool.specs.Version.{IsBeforeOrAfter, IsVersion};
 
 use crate::contents::SLOT_SIZE;
 use crate::disk::{Disk, DiskFailed};
-use crate::record::SpoolRecord;
+use crate::record::{CLOSED, DONE, OPEN, SpoolRecord};
 
 /// Writes bytes at this offset, onto the disk.
 fn write_through<D: Disk>(disk: &mut D, at: usize, bytes: &[u8]) -> Result<(), DiskFailed>
@@ -19,6 +19,20 @@ fn write_through<D: Disk>(disk: &mut D, at: usize, bytes: &[u8]) -> Result<(), D
     ensures cause { D.keeps_model → OnErr result (D.failures disk.old < D.failures disk.new) }
 {
     disk.write_at(at, bytes)?;
+    disk.sync()?;
+    Ok(())
+}
+
+/// Cuts the file to so many bytes, on the disk.
+fn cut_through<D: Disk>(disk: &mut D, len: usize) -> Result<(), DiskFailed>
+    requires { D.keeps_model → len ≤ length (D.seen disk.old) }
+    ensures cut { D.keeps_model → OnOk result (D.seen disk.new ≡ take len (D.seen disk.old)) }
+    ensures durable { D.keeps_model → OnOk result (Only (D.seen disk.new) (D.may_leave disk.new)) }
+    ensures any_moment { D.keeps_model → LeavesOnly D.moment D.left_since disk.old disk.new (IsCutFrom len (D.may_leave disk.old)) }
+    ensures counts { D.keeps_model → D.failures disk.old ≤ D.failures disk.new }
+    ensures cause { D.keeps_model → OnErr result (D.failures disk.old < D.failures disk.new) }
+{
+    disk.cut(len)?;
     disk.sync()?;
     Ok(())
 }
@@ -42,7 +56,7 @@ pub(crate) fn write_record<D: Disk>(
 {
     let bytes = delete.spelled();
     write_through(disk, end + 1, bytes.as_slice())?;
-    write_through(disk, end, &[1])?;
+    write_through(disk, end, &[OPEN])?;
     Ok(())
 }
 
@@ -57,7 +71,7 @@ pub(crate) fn write_done<D: Disk>(disk: &mut D, seq: usize) -> Result<(), DiskFa
     ensures counts { D.keeps_model → D.failures disk.old ≤ D.failures disk.new }
     ensures cause { D.keeps_model → OnErr result (D.failures disk.old < D.failures disk.new) }
 {
-    disk.write_at(SLOT_SIZE * seq + 1, &[1])
+    disk.write_at(SLOT_SIZE * seq + 1, &[DONE])
 }
 
 /// Whether the end gate is there, and closed.
@@ -72,9 +86,9 @@ pub(crate) fn is_closed<D: Disk>(disk: &mut D, end: usize, len: usize) -> Result
     if len <= end {
         return Ok(false);
     }
-    let mut gate = [0];
+    let mut gate = [OPEN];
     disk.read(end, &mut gate)?;
-    Ok(gate[0] == 0)
+    Ok(gate[0] == CLOSED)
 }
 
 /// Closes the end gate. The file is cut behind it and not at it: the slot before it counts only where the gate's byte is there.
@@ -92,8 +106,7 @@ pub(crate) fn close<D: Disk>(disk: &mut D, end: usize, len: usize) -> Result<(),
     ensures cause { D.keeps_model → OnErr result (D.failures disk.old < D.failures disk.new) }
 {
     let kept = len.min(end + 1);
-    disk.cut(kept)?;
-    disk.sync()?;
-    write_through(disk, end, &[0])?;
+    cut_through(disk, kept)?;
+    write_through(disk, end, &[CLOSED])?;
     Ok(())
 }

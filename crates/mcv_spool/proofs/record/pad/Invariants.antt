@@ -1,5 +1,5 @@
 use Rattle.std.proofs.Common.{◌≡◌, ◌++◌, replicate}
 use Rattle.mcv_spool.proofs.record.pad.Given as goal
 
-abbrev pub invariant-loop-_zero : goal.invariant-loop-_zero
-invariant-loop-_zero l = l.bytes.items ≡ l.fn.bytes.items ++ replicate l._zero 0
+abbrev pub invariant-loop-place : goal.invariant-loop-place
+invariant-loop-place l = l.bytes.items ≡ l.fn.bytes.items ++ replicate l.place 0
