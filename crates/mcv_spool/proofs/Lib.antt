@@ -1,5 +1,6 @@
 pub mod Appends
 pub mod Colon
+mod Examples
 pub mod Marks
 pub mod Moments
 pub mod Pieces
