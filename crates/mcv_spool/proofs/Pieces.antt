@@ -1,6 +1,6 @@
 -- The slots of a file, read piece by piece.
 use Rattle.std.proofs.Common.{◌≡◌, ◌≢◌, ◌⊎◌, inl, inr, ℕ, zero, suc, ◌+◌, ◌-◌, ◌*◌, ◌<◌, ◌≤◌, min, true, false, true≢false, List, [], ◌∷◌, ◌++◌, length, get_or, take, drop, Option, Some, None, is_none, cond, ◌==◌, ◌||◌, refl, sym, ◌∙◌, ap, subst, arith, append_assoc, append-nil, length-append, length-drop, length-take, take-append-drop, take_all, get_or-take, take-take, drop-drop}
-use Rattle.std.proofs.lemmas.List.{drop-take}
+use Rattle.std.proofs.lemmas.List.{drop-take, take_min}
 use Rattle.mcv_spool.specs.Found.{IsFound}
 use Rattle.mcv_spool.specs.File.{damage, is_done, is_open, pending_at, pending_from, read_record, slots}
 use Rattle.mcv_spool.proofs.Slots.{open_gate, open_longer, makes_open, shut_gate, shut_short, slots-open, slots-shut, truth}
@@ -82,6 +82,12 @@ pending-append k (x ∷ xs) ys =
     ap (λ (l : List (ℕ × SpoolRecord)). first ++ l) (pending-append (k + 1) xs ys)
     ∙ sym (append_assoc first (pending_from (k + 1) xs) (pending_from (k + 1 + length xs) ys))
     ∙ ap (λ n. (first ++ pending_from (k + 1) xs) ++ pending_from n ys) (omega arith)
+
+-- what is read of a piece, as long as what is left or a piece's size
+pub piece_read : (file bytes : List ℕ) (left size : ℕ) → length file ≡ left → size ≡ min left 1024001 → bytes ≡ take size file → bytes ≡ take 1024001 file
+piece_read file bytes left size left_is size_is is =
+    let small : size ≡ min 1024001 (length file) = omega (arith, left_is, size_is) in
+    is ∙ ap (λ n. take n file) small ∙ take_min 1024001 file
 
 -- ---- a walk over the slots of some bytes
 

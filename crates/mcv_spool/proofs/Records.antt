@@ -1,5 +1,5 @@
 -- The records of slots: one that is written reads back, and what is pending after a call.
-use Rattle.std.proofs.Common.{◌≡◌, ◌≢◌, ◌⊎◌, inl, inr, ℕ, zero, suc, ◌+◌, ◌-◌, ◌*◌, ◌/◌, ◌%◌, ◌<◌, ◌≤◌, Bool, true, false, true≢false, not, ◌==◌, ◌&&◌, ◌||◌, nat_le, cond, is_none, Option, Some, None, List, [], ◌∷◌, ◌++◌, length, get_or, take, drop, set, filter, refl, sym, ◌∙◌, ap, subst, arith, append_assoc, append-nil, take_at, drop_at, zero-add, replicate, get_or-set_same}
+use Rattle.std.proofs.Common.{◌≡◌, ◌≢◌, ◌⊎◌, inl, inr, ℕ, zero, suc, ◌+◌, ◌-◌, ◌*◌, ◌/◌, ◌%◌, ◌<◌, ◌≤◌, Bool, true, false, true≢false, not, ◌==◌, ◌&&◌, ◌||◌, nat_le, nat_lt, cond, is_none, Option, Some, None, List, [], ◌∷◌, ◌++◌, length, get_or, take, drop, set, filter, refl, sym, ◌∙◌, ap, subst, arith, append_assoc, append-nil, take_at, drop_at, zero-add, replicate, get_or-set_same}
 use Rattle.std.proofs.lemmas.Bool.{cases_eq}
 use Rattle.std.proofs.lemmas.Bool.Decides.{nat_tests}
 use Rattle.std.specs.List.{list_all, list_any}
@@ -134,3 +134,19 @@ all_filtered P Q (x ∷ xs) h = kept (P x) (Q x) (list_all P xs) refl h (all_fil
     kept false q t is all rest = absurd (true≢false (sym all))
     kept true false t is all rest = rest all
     kept true true t is all rest = ap (λ b. b && list_all P (filter Q xs)) is ∙ rest all
+
+-- a list that doesn't have the number has all but it
+pub none_gone : (k : ℕ) (xs : List (ℕ × SpoolRecord)) → list_any (λ p. p.0 == k) xs ≡ false → xs ≡ filter (isnt k) xs
+none_gone k [] h = refl
+none_gone k (x ∷ xs) h = kept (x.0 == k) refl h (none_gone k xs)
+  where
+    kept : (b : Bool) → (x.0 == k) ≡ b → (b || list_any (λ p. p.0 == k) xs) ≡ false → (list_any (λ p. p.0 == k) xs ≡ false → xs ≡ filter (isnt k) xs) → x ∷ xs ≡ filter (isnt k) (x ∷ xs)
+    kept true is none rest = absurd (true≢false none)
+    kept false is none rest = ap (λ (l : List (ℕ × SpoolRecord)). x ∷ l) (rest none) ∙ sym (ap (λ b. cond (not b) (x ∷ filter (isnt k) xs) (filter (isnt k) xs)) is)
+
+key_bound : (n : ℕ) (b : Bool) → (nat_lt 0 n && (nat_le n 250 && b)) ≡ true → n ≤ 250
+key_bound n b h = grind (arith, nat_tests)
+
+-- a rest has 250 bytes at most
+pub key_short : (rest : List ℕ) → is_key_word rest ≡ true → length rest ≤ 250
+key_short rest h = key_bound (length rest) _ h

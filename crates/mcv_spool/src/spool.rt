@@ -5,7 +5,6 @@ ghost use Rattle.std.specs.List.{list_any};
 ghost use Rattle.mcv_spool.specs.Disk.{LeavesOnly, Only};
 ghost use Rattle.mcv_spool.specs.File.{IsClosed, damage, marked, pending_from, slot_of, slots};
 ghost use Rattle.mcv_spool.specs.Found.{IsAppendFault, IsDoneFault, IsFound, IsOpenFault, WritesNothing};
-ghost use Rattle.mcv_spool.specs.Props.{IsSettled-prop};
 ghost use Rattle.mcv_spool.specs.Version.{HasSlotsOf, IsBeforeOrAfter, IsSettled, IsVersion};
 
 use crate::contents::{Contents, SLOT_LIMIT, SLOT_SIZE};
@@ -23,7 +22,7 @@ pub struct Spool<D: Disk> {
     alloc: Global,
     contents: Contents,
     needs_reopen: bool,
-    ghost settled: { D.keeps_model → needs_reopen ≡ false → IsSettled (D.seen disk) (D.may_leave disk) contents.count contents.pending.items } by { Prim.hlevel IsSettled-prop },
+    ghost settled: { D.keeps_model → needs_reopen ≡ false → IsSettled (D.seen disk) (D.may_leave disk) contents.count contents.pending.items },
 }
 
 impl<D: Disk> Spool<D> {

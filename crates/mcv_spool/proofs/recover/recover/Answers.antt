@@ -24,8 +24,7 @@ returns-in_err-len-clause-any_moment g c = λ model.
 
 pub find-requires : goal.find-requires
 find-requires g c = λ model.
-    let same : g.D.Disk.seen c.len.new.self ≡ g.D.Disk.seen c.args.disk.now = (c.len.ensures.quiet model).same ∙ (c.sync.ensures.quiet model).same in
-    c.in_ok-len.ensures.len model ∙ sym ((c.len.ensures.quiet model).same)
+    c.in_ok-len.ensures.len model ∙ ap length (sym (c.len.ensures.quiet model).same)
 
 pub returns-in_err-found-clause-any_moment : goal.returns-in_err-found-clause-any_moment
 returns-in_err-found-clause-any_moment g c = λ model.

@@ -1,4 +1,5 @@
 use Rattle.std.proofs.Common.{◌≡◌, ◌+◌, ◌*◌, [], ◌∷◌, List, ℕ, length, ◌∙◌, ap, arith}
+use Rattle.std.proofs.lemmas.Result.{on_ok_weaker}
 use Rattle.mcv_spool.specs.File.{IsClosed, marked, slots}
 use Rattle.mcv_spool.specs.Version.{IsVersion}
 use Rattle.mcv_spool.specs.Disk.{Torn}
@@ -29,3 +30,13 @@ returns-clause-any_moment g c = λ model.
     (λ f left.
       let from = (c.write_at.ensures.changes model).crash f left in
       marked_version (slots file) c.args.seq from.0 f (parts file).all (c.requires.there model) (c.requires.crash model from.0 from.1) from.2)
+
+pub returns-clause-slots : goal.returns-clause-slots
+returns-clause-slots g c = λ model.
+    let file = g.D.Disk.seen c.args.disk.now in
+    let closed = (c.requires.crash model file (g.met.D.Disk.read_may_stay model c.args.disk.now)).closed in
+    let there = inside file c.args.seq closed (c.requires.there model) in
+    let marks = (set_closed file c.args.seq 1 closed (c.requires.there model)).0 in
+    on_ok_weaker c.write_at.result
+    (λ u is. ap slots (is ∙ one_written file (640 * c.args.seq + 1) 1 there) ∙ marks)
+    (c.write_at.ensures.written model)
