@@ -1,8 +1,13 @@
-use Rattle.std.proofs.Common.{◌≡◌, ◌*◌, ◌+◌, ◌≤◌, Err, Some, length, take, drop, sym, ap, ◌∙◌, arith}
+use Rattle.std.proofs.Common.{◌≡◌, ◌*◌, ◌+◌, ◌≤◌, Result, Err, Some, length, take, drop, sym, ap, ◌∙◌, arith}
 use Rattle.std.proofs.lemmas.Result.{err_from_is_err_and}
+use Rattle.mcv_spool.specs.declared.fault.SpoolFault.{SpoolFault}
+use Rattle.mcv_spool.specs.declared.fault.SpoolFault.TheVariants.{Damaged}
 use Rattle.mcv_spool.proofs.Moments.{quiet_on}
 use Rattle.mcv_spool.proofs.Pieces.{damaged_piece, ended, goes_on}
 use Rattle.mcv_spool.proofs.find.find.Goals as goal
+
+same_fault : {T : Type 0} (r : Result T SpoolFault) (x y : SpoolFault) → r ≡ Err x → r ≡ Err y → x ≡ y
+same_fault r x y a b = cc
 
 pub returns-in_err-take_all-clause-damaged : goal.returns-in_err-take_all-clause-damaged
 returns-in_err-take_all-clause-damaged g c = λ model k h.
@@ -13,7 +18,7 @@ returns-in_err-take_all-clause-damaged g c = λ model k h.
     let piece_is : c.deref.result.now ≡ take 1024001 (drop (640 * count) file) =
     c.deref.ensures.value ∙ (c.in_ok-piece.ensures.piece model ∙ (λ i. take 1024001 (drop (at_is i) ((walked.quiet model).same i)))) in
     let gone = err_from_is_err_and c.from_residual-in_err-take_all.result c.from_residual-in_err-take_all.ensures.1 in
-    damaged_piece file count c.loop-number.found.pending.items (walked.so_far model) c.deref.result.now piece_is k (c.in_err-take_all.ensures.damaged k (ap Err (sym gone.2) ∙ (sym gone.1 ∙ h)))
+    damaged_piece file count c.loop-number.found.pending.items (walked.so_far model) c.deref.result.now piece_is k (c.in_err-take_all.ensures.damaged k (ap Err (sym gone.2 ∙ same_fault c.from_residual-in_err-take_all.result gone.0 (Damaged k) gone.1 h)))
 
 pub returns-then-found-number-clause-found : goal.returns-then-found-number-clause-found
 returns-then-found-number-clause-found g c = λ model.

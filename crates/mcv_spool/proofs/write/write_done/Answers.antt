@@ -2,7 +2,7 @@ use Rattle.std.proofs.Common.{◌≡◌, ◌+◌, ◌*◌, [], ◌∷◌, List, 
 use Rattle.std.proofs.lemmas.Result.{on_ok_weaker}
 use Rattle.mcv_spool.specs.File.{IsClosed, marked, slots}
 use Rattle.mcv_spool.specs.Version.{IsVersion}
-use Rattle.mcv_spool.specs.Disk.{Torn}
+use Rattle.mcv_spool.specs.Disk.{Torn, written}
 use Rattle.mcv_spool.proofs.Marks.{inside, marked_version, one_written, set_closed}
 use Rattle.mcv_spool.proofs.Moments.{after_change, started}
 use Rattle.mcv_spool.proofs.Slots.{parts}
@@ -38,5 +38,5 @@ returns-clause-slots g c = λ model.
     let there = inside file c.args.seq closed (c.requires.there model) in
     let marks = (set_closed file c.args.seq 1 closed (c.requires.there model)).0 in
     on_ok_weaker c.write_at.result
-    (λ u is. ap slots (is ∙ one_written file (640 * c.args.seq + 1) 1 there) ∙ marks)
+    (λ (is : g.D.Disk.seen c.write_at.new.self ≡ written file (640 * c.args.seq + 1) (1 ∷ [])). ap slots (is ∙ one_written file (640 * c.args.seq + 1) 1 there) ∙ marks)
     (c.write_at.ensures.written model)
