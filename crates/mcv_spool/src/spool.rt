@@ -61,7 +61,7 @@ impl<D: Disk> Spool<D> {
     {
         self.needs_reopen = true;
         self.contents = recover(self.alloc, &mut self.disk)?;
-        self.needs_reopen = false;
+        self.needs_reopen = false; // it is open again
         Ok(())
     }
 

@@ -96,6 +96,7 @@ fn a_failed_sync_wants_a_reopen(rt: HostRuntime) -> Result<(), Fail> {
 }
 
 /// What a run was told.
+#[derive(Drop)]
 struct Told {
     stored: usize,
     done: bool,
