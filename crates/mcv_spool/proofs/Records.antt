@@ -104,7 +104,7 @@ pending_marked j zero n (s ∷ all) open_all h is =
     ∙ sym (gone_first n j (is_done s) (read_record s) rest rest (omega (arith, is)) (none_below n (j + 1) all (omega (arith, is))))
 pending_marked j (suc k) n (s ∷ all) open_all h is =
     sym (kept_first n j (is_done s) (read_record s) (pending_from (j + 1) all) (pending_from (j + 1) (marked k all)) (λ e. omega (arith, e, is))
-      (sym (pending_marked (j + 1) k n all open_all.1 (omega arith) (omega (arith, is)))))
+    (sym (pending_marked (j + 1) k n all open_all.1 (omega arith) (omega (arith, is)))))
 
 any_first : (k j : ℕ) (done : Bool) (o : Option SpoolRecord) (rest : List (ℕ × SpoolRecord)) → list_any (λ p. p.0 == k) (pending_at j done o ++ rest) ≡ true → (j ≡ k) ⊎ (list_any (λ p. p.0 == k) rest ≡ true)
 any_first k j done None rest h = inr h

@@ -23,9 +23,9 @@ short_end file not_closed =
     let size = length-drop n file in
     elim (cases_lt 640 (length (drop n file))) [
       | inl long ↦ elim (cases_eq (get_or file n 0) 0) [
-          | inl z ↦ absurd (not_closed (closed_at file file refl (omega (arith, size, long)) z))
-          | inr nz ↦ absurd (true≢false (sym (makes_open (length (drop n file)) (get_or (drop n file) 0 0) long (λ z. nz (sym (at_drop file n) ∙ z))) ∙ back_shut file))
-        ]
+        | inl z ↦ absurd (not_closed (closed_at file file refl (omega (arith, size, long)) z))
+        | inr nz ↦ absurd (true≢false (sym (makes_open (length (drop n file)) (get_or (drop n file) 0 0) long (λ z. nz (sym (at_drop file n) ∙ z))) ∙ back_shut file))
+      ]
       | inr short ↦ omega (arith, size, short)
     ]
 

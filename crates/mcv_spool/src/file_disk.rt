@@ -22,7 +22,7 @@ impl FileDisk {
             .write(true)
             .create(true)
             .open(rt, path)?;
-        // The file's name has to outlive a stop too.
+        // The folder isn't synced: whoever makes the file has to see to its name.
         file.sync_all()?;
         Ok(FileDisk { file })
     }

@@ -1,9 +1,10 @@
 //! What no clause says: the bytes of the worked rows, and runs that fail or stop at each of their calls.
 
 use super::*;
-use crate::test_disk::{Lent, Left, TestDisk, Trouble};
+use crate::test_disk::{Left, Lent, TestDisk, Trouble};
 use mcv_base::Rest;
 use std::alloc::Global;
+use std::process::Abort;
 use std::test::Fail;
 
 fn record(server: &[u8], rest: &[u8]) -> Option<SpoolRecord> {
@@ -44,23 +45,32 @@ fn an_empty_file_and_one_of_one_byte_get_a_closed_gate(rt: HostRuntime) -> Resul
     Ok(())
 }
 
+/// Appends two records and marks the first as done.
+fn append_two(rt: &impl Abort, alloc: Global, disk: &mut TestDisk) -> Result<(), Fail> {
+    let mut spool = open(alloc, disk)?;
+    let first = spool.append(record(b"a:11211", b"a").ok_or("record")?)?;
+    assert!(rt; first.seq() == 0);
+    assert!(rt; first.record().rest.as_bytes() == b"a".as_slice());
+    let second = spool.append(record(b"b:11211", b"ab").ok_or("record")?)?;
+    assert!(rt; second.seq() == 1);
+    spool.done(0)?;
+    assert!(rt; spool.pending().len() == 1);
+    assert!(rt; spool.pending().iter().all(|p| p.0 == 1));
+    spool.done(0)?;
+    spool.done(7)?;
+    Ok(())
+}
+
 #[test]
 fn records_are_spelled_byte_for_byte(rt: HostRuntime) -> Result<(), Fail> {
     let alloc = rt.alloc();
     let mut disk = TestDisk::new(alloc, Vec::new(alloc));
-    let mut spool = open(alloc, &mut disk)?;
-    let first = spool.append(record(b"a:11211", b"a").ok_or("record")?)?;
-    assert!(rt; first.seq() == 0 && first.record().rest.as_bytes() == b"a".as_slice());
-    let second = spool.append(record(b"b:11211", b"ab").ok_or("record")?)?;
-    assert!(rt; second.seq() == 1);
-    spool.done(0)?;
-    assert!(rt; spool.pending().len() == 1 && spool.pending().iter().all(|p| p.0 == 1));
-    spool.done(0)?;
-    spool.done(7)?;
+    append_two(&rt, alloc, &mut disk)?;
     let bytes = disk.bytes.as_slice();
     assert!(rt; bytes.len() == 1_281);
-    assert!(rt; is_spelled(&bytes[..640], b"\x01\x01\x00\x07\x00\x01a:11211a", 626));
-    assert!(rt; is_spelled(&bytes[640..], b"\x01\x00\x00\x07\x00\x02b:11211ab", 626));
+    let (first, second) = bytes.split_at(640);
+    assert!(rt; is_spelled(first, b"\x01\x01\x00\x07\x00\x01a:11211a", 626));
+    assert!(rt; is_spelled(second, b"\x01\x00\x00\x07\x00\x02b:11211ab", 626));
     Ok(())
 }
 
@@ -86,10 +96,16 @@ fn a_failed_sync_wants_a_reopen(rt: HostRuntime) -> Result<(), Fail> {
     let mut spool = open(alloc, &mut disk)?;
     let stored = spool.append(record(b"a:11211", b"a").ok_or("record")?)?;
     assert!(rt; stored.seq() == 0);
-    let failed = spool.append(record(b"b:11211", b"ab").ok_or("record")?).err();
+    let failed = spool
+        .append(record(b"b:11211", b"ab").ok_or("record")?)
+        .err();
     assert!(rt; failed == Some(SpoolFault::Device));
-    let again = spool.append(record(b"b:11211", b"ab").ok_or("record")?).err();
-    assert!(rt; again == Some(SpoolFault::Reopen) && spool.done(0).err() == Some(SpoolFault::Reopen));
+    let again = spool
+        .append(record(b"b:11211", b"ab").ok_or("record")?)
+        .err();
+    assert!(rt;
+        again == Some(SpoolFault::Reopen) && spool.done(0).err() == Some(SpoolFault::Reopen)
+    );
     spool.reopen()?;
     assert!(rt; spool.pending().len() == 1);
     Ok(())
@@ -132,10 +148,8 @@ fn is_kept<D: Disk>(spool: &Spool<D>, told: &Told) -> bool {
     told.stored <= count
         && count <= told.stored.saturating_add(1)
         && (missing == 0 || (told.done && missing == 1))
-        && spool
-            .pending()
-            .iter()
-            .all(|p| p.1.rest.as_bytes() == [b'a'.saturating_add(p.0.min(9) as u8)].as_slice())
+        && spool.pending().iter().all(|p| p.1.rest.as_bytes()
+            == [b'a'.saturating_add(p.0.min(9) as u8)].as_slice())
 }
 
 #[test]
@@ -191,7 +205,10 @@ fn the_second_record_counts_after_the_second_sync(rt: HostRuntime) -> Result<(),
         disk.trouble = Trouble::StopAt(k);
         let told = run(alloc, &mut disk);
         assert!(rt; told.stored <= slots);
-        assert!(rt; slots_of(alloc, disk.left(left)?) == Some(slots), "stop at call {k}");
+        assert!(rt;
+            slots_of(alloc, disk.left(left)?) == Some(slots),
+            "stop at call {k}"
+        );
     }
     Ok(())
 }

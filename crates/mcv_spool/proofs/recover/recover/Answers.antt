@@ -89,4 +89,3 @@ repair-requires-clause-durable g c = λ model.
     λ f left.
     c.in_ok-sync.ensures.durable model f ((c.len.ensures.quiet model).crash f ((c.find.ensures.quiet model).crash f left))
     ∙ sym ((c.find.ensures.quiet model).same ∙ ((c.len.ensures.quiet model).same ∙ (c.sync.ensures.quiet model).same))
-

@@ -47,8 +47,8 @@ returns-in_err-write_through-clause-any_moment g c = λ model.
     (λ f from. cut_keeps file (c.requires.not_closed model) c.args.end kept end_is kept_is f (subst (λ (d : List ℕ). Cut kept d f) (c.requires.durable model from.0 from.1) from.2)) in
     after_run g.D.Disk.seen g.D.Disk.may_leave g.D.Disk.moment g.D.Disk.left_since old mid c.write_through.new.disk P _ cut (c.write_through.ensures.any_moment model)
     (λ f torn.
-      let before : torn.0 ≡ take kept file = c.in_ok-cut_through.ensures.durable model torn.0 torn.1 ∙ c.in_ok-cut_through.ensures.cut model in
-      gate_keeps file (c.requires.not_closed model) c.args.end kept end_is kept_is f (subst (λ (d : List ℕ). Torn c.args.end 1 d f) before torn.2))
+    let before : torn.0 ≡ take kept file = c.in_ok-cut_through.ensures.durable model torn.0 torn.1 ∙ c.in_ok-cut_through.ensures.cut model in
+    gate_keeps file (c.requires.not_closed model) c.args.end kept end_is kept_is f (subst (λ (d : List ℕ). Torn c.args.end 1 d f) before torn.2))
 
 pub returns-clause-any_moment : goal.returns-clause-any_moment
 returns-clause-any_moment g c = λ model.
@@ -63,8 +63,8 @@ returns-clause-any_moment g c = λ model.
     (λ f from. cut_keeps file (c.requires.not_closed model) c.args.end kept end_is kept_is f (subst (λ (d : List ℕ). Cut kept d f) (c.requires.durable model from.0 from.1) from.2)) in
     after_run g.D.Disk.seen g.D.Disk.may_leave g.D.Disk.moment g.D.Disk.left_since old mid c.write_through.new.disk P _ cut (c.write_through.ensures.any_moment model)
     (λ f torn.
-      let before : torn.0 ≡ take kept file = c.in_ok-cut_through.ensures.durable model torn.0 torn.1 ∙ c.in_ok-cut_through.ensures.cut model in
-      gate_keeps file (c.requires.not_closed model) c.args.end kept end_is kept_is f (subst (λ (d : List ℕ). Torn c.args.end 1 d f) before torn.2))
+    let before : torn.0 ≡ take kept file = c.in_ok-cut_through.ensures.durable model torn.0 torn.1 ∙ c.in_ok-cut_through.ensures.cut model in
+    gate_keeps file (c.requires.not_closed model) c.args.end kept end_is kept_is f (subst (λ (d : List ℕ). Torn c.args.end 1 d f) before torn.2))
 
 pub returns-clause-slots : goal.returns-clause-slots
 returns-clause-slots g c = λ model.
@@ -93,4 +93,3 @@ returns-clause-closed g c = λ model.
     let is : g.D.Disk.seen c.write_through.new.disk ≡ written (take kept file) c.args.end (0 ∷ []) = c.in_ok-write_through.ensures.written model ∙ ap (λ (l : List ℕ). written l c.args.end (0 ∷ [])) before in
     let there = gate_closed file (c.requires.not_closed model) c.args.end kept end_is kept_is in
     subst IsClosed (sym is) there.1
-

@@ -28,8 +28,8 @@ returns-clause-any_moment g c = λ model.
     after_change g.D.Disk.seen g.D.Disk.may_leave g.D.Disk.moment g.D.Disk.left_since (Torn (640 * c.args.seq + 1) 1) c.args.disk.now c.args.disk.now c.write_at.new.self P
     (started g.D.Disk.seen g.D.Disk.may_leave g.D.Disk.moment g.D.Disk.left_since c.args.disk.now P) (c.write_at.ensures.changes model)
     (λ f left.
-      let from = (c.write_at.ensures.changes model).crash f left in
-      marked_version (slots file) c.args.seq from.0 f (parts file).all (c.requires.there model) (c.requires.crash model from.0 from.1) from.2)
+    let from = (c.write_at.ensures.changes model).crash f left in
+    marked_version (slots file) c.args.seq from.0 f (parts file).all (c.requires.there model) (c.requires.crash model from.0 from.1) from.2)
 
 pub returns-clause-slots : goal.returns-clause-slots
 returns-clause-slots g c = λ model.

@@ -16,7 +16,7 @@ returns-in_err-sync-clause-any_moment g c = λ model.
     let change = c.write_at.ensures.changes model in
     after_quiet g.D.Disk.seen g.D.Disk.may_leave g.D.Disk.moment g.D.Disk.left_since c.args.disk.now c.write_at.new.self c.sync.new.self P
     (after_change g.D.Disk.seen g.D.Disk.may_leave g.D.Disk.moment g.D.Disk.left_since (Torn c.args.at (length c.args.bytes.now)) c.args.disk.now c.args.disk.now c.write_at.new.self P
-      (started g.D.Disk.seen g.D.Disk.may_leave g.D.Disk.moment g.D.Disk.left_since c.args.disk.now P) change change.crash)
+    (started g.D.Disk.seen g.D.Disk.may_leave g.D.Disk.moment g.D.Disk.left_since c.args.disk.now P) change change.crash)
     (c.sync.ensures.quiet model)
 
 pub returns-clause-any_moment : goal.returns-clause-any_moment
@@ -25,5 +25,5 @@ returns-clause-any_moment g c = λ model.
     let change = c.write_at.ensures.changes model in
     after_quiet g.D.Disk.seen g.D.Disk.may_leave g.D.Disk.moment g.D.Disk.left_since c.args.disk.now c.write_at.new.self c.sync.new.self P
     (after_change g.D.Disk.seen g.D.Disk.may_leave g.D.Disk.moment g.D.Disk.left_since (Torn c.args.at (length c.args.bytes.now)) c.args.disk.now c.args.disk.now c.write_at.new.self P
-      (started g.D.Disk.seen g.D.Disk.may_leave g.D.Disk.moment g.D.Disk.left_since c.args.disk.now P) change change.crash)
+    (started g.D.Disk.seen g.D.Disk.may_leave g.D.Disk.moment g.D.Disk.left_since c.args.disk.now P) change change.crash)
     (c.sync.ensures.quiet model)
