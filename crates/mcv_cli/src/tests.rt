@@ -53,7 +53,7 @@ fn help_names_input_and_exit_statuses(rt: HostRuntime) -> Result<(), Fail> {
         "Usage: mcv <COMMAND>",
         "mcrouter",
         "  legs  ",
-        "\n  delete a\n",
+        "cat mcrouter.json) | mcv legs\n",
         "Exit status:",
     ] {
         assert!(rt; text.as_str().contains(part), "{text}");
@@ -63,6 +63,8 @@ fn help_names_input_and_exit_statuses(rt: HostRuntime) -> Result<(), Fail> {
         "Usage: mcv legs < FILE",
         "\n  delete a\n",
         "\n  reply none\n",
+        "PoolRoute, NullRoute, AllSyncRoute and OperationSelectorRoute",
+        "mcv: configuration NUMBER at PATH",
     ] {
         assert!(rt; text.as_str().contains(part), "{text}");
     }

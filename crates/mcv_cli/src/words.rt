@@ -13,37 +13,52 @@ use std::alloc::{AllocError, Global};
 use thiserror::Error;
 
 const ABOUT: &str =
-    "Verifies configurations of mcrouter, the routing proxy for memcached: `legs` shows to which
+    "Verifies configurations of mcrouter, the routing proxy for memcached. `mcv legs` shows to which
 servers a configuration sends a request.";
 
-const EXAMPLE: &str = "Example: a delete of the key `a`, and behind it the configuration
+const EXAMPLE: &str = "Example: which servers does a delete of the key `a` reach?
 
-  mcv legs <<'END'
-  delete a
-  {\"pools\": {\"A\": {\"servers\": [\"a:11211\"]}}, \"route\": \"PoolRoute|A\"}
-  END
+  (echo 'delete a'; cat mcrouter.json) | mcv legs
 
 Exit status:
   0  done, or help was asked for
   1  bad command line, or bad request line
   2  the configuration is refused, or has no route for the key
-  4  out of memory, or reading or writing failed";
+  4  out of memory, or reading or writing failed
 
-const LEGS_ABOUT: &str = "Shows to which servers a request is sent, and what is replied by then";
+Where the status isn't 0, one line on standard error says why.";
+
+const LEGS_ABOUT: &str = "Shows to which servers a request is sent at once";
 
 const LEGS_FORM: &str =
-    "The first line of standard input is the request, an operation and a key. What follows is the
-configuration, as JSON:
+    "Standard input: the request in the first line, and behind it the configuration as JSON.
 
   delete a
   {\"pools\": {\"A\": {\"servers\": [\"a:11211\"]}}, \"route\": \"PoolRoute|A\"}
 
-Each line of standard output is a leg: its place in the route (`-` is the top, `0.1` the second
-child of the first), the server, and its mark. The last line is the reply to the client before
-any server has answered, `none` while that waits for a leg:
+The request line is an operation, one space and a key, and ends in a line feed. The operations are
+get, gets, set, add, replace, append, prepend, cas, delete and touch. The route handles that are read
+are PoolRoute, NullRoute, AllSyncRoute and OperationSelectorRoute.
+
+Standard output: a line for each leg (one request to one server) that is sent before any server has
+answered, and then the reply that the client has by then.
 
   leg - a:11211 plain
-  reply none";
+  reply none
+
+A leg's line has its place in the route (`-` is the top, `0.1` the second child of the first), its
+server and its mark (`plain`; `async` where no reply waits for it; `shadow` of a copy). The reply is
+`none` while it waits for a server, else `good`, `soft` (a miss, or nothing found or stored) or
+`error`.
+
+A configuration that is refused is told as `mcv: configuration NUMBER at PATH`. The path leads to the
+value at fault by keys and list numbers from 0; `.` is the whole. The numbers are
+
+   1  not JSON                           6  no servers, or no children
+   2  unknown key or operation name      7  over a limit
+   3  missing, or of the wrong kind      8  bad server text (host:port is wanted)
+   4  unknown route handle              10  a part of mcrouter that mcv doesn't read
+   5  unknown pool";
 
 /// What the program is asked to do.
 #[derive(Clone, Copy, Debug, PartialEq, Eq)]
