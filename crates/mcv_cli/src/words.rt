@@ -12,9 +12,8 @@ use clap::{Command, Error as ClapError};
 use std::alloc::{AllocError, Global};
 use thiserror::Error;
 
-const ABOUT: &str =
-    "Verifies configurations of mcrouter, the routing proxy for memcached. `mcv legs` shows to which
-servers a configuration sends a request.";
+const ABOUT: &str = "Verifies configurations of mcrouter, the routing proxy for memcached.
+`mcv legs` shows to which servers a configuration sends a request.";
 
 const EXAMPLE: &str = "Example: which servers does a delete of the key `a` reach?
 
@@ -30,34 +29,35 @@ Where the status isn't 0, one line on standard error says why.";
 
 const LEGS_ABOUT: &str = "Shows to which servers a request is sent at once";
 
-const LEGS_FORM: &str =
-    "Standard input: the request in the first line, and behind it the configuration as JSON.
+const LEGS_FORM: &str = "Standard input has the request in its first line, and behind it the
+configuration as JSON:
 
   delete a
   {\"pools\": {\"A\": {\"servers\": [\"a:11211\"]}}, \"route\": \"PoolRoute|A\"}
 
-The request line is an operation, one space and a key, and ends in a line feed. The operations are
-get, gets, set, add, replace, append, prepend, cas, delete and touch. The route handles that are read
-are PoolRoute, NullRoute, AllSyncRoute and OperationSelectorRoute.
+The request is an operation, one space and a key. The operations are get, gets,
+set, add, replace, append, prepend, cas, delete and touch. The route handles
+that are read are PoolRoute, NullRoute, AllSyncRoute and OperationSelectorRoute.
 
-Standard output: a line for each leg (one request to one server) that is sent before any server has
-answered, and then the reply that the client has by then.
+Standard output has a line for each leg (one request to one server) that is sent
+before any server has answered, and then the reply that the client has by then:
 
   leg - a:11211 plain
   reply none
 
-A leg's line has its place in the route (`-` is the top, `0.1` the second child of the first), its
-server and its mark (`plain`; `async` where no reply waits for it; `shadow` of a copy). The reply is
-`none` while it waits for a server, else `good`, `soft` (a miss, or nothing found or stored) or
-`error`.
+A leg has its place in the route (`-` is the top, `0.1` the second child of the
+first), its server and its mark (`plain`; `async` where no reply waits for it;
+`shadow` of a copy). The reply is `none` while it waits for a server, and else
+`good`, `soft` (a miss, or nothing found or stored) or `error`.
 
-A configuration that is refused is told as `mcv: configuration NUMBER at PATH`. The path leads to the
-value at fault by keys and list numbers from 0; `.` is the whole. The numbers are
+A configuration that isn't read is told as `mcv: configuration NUMBER at PATH`.
+The path leads to the value at fault by keys and by list numbers from 0; `.` is
+the whole. The numbers:
 
-   1  not JSON                           6  no servers, or no children
-   2  unknown key or operation name      7  over a limit
-   3  missing, or of the wrong kind      8  bad server text (host:port is wanted)
-   4  unknown route handle              10  a part of mcrouter that mcv doesn't read
+   1  not JSON                          6  no servers, or no children
+   2  unknown key or operation name     7  over a limit
+   3  missing, or of the wrong kind     8  bad server text (host:port is wanted)
+   4  unknown route handle             10  mcrouter has it, and mcv doesn't read it
    5  unknown pool";
 
 /// What the program is asked to do.
