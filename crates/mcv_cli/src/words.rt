@@ -57,7 +57,7 @@ the whole. The numbers:
    1  not JSON                          6  no servers, or no children
    2  unknown key or operation name     7  over a limit
    3  missing, or of the wrong kind     8  bad server text (host:port is wanted)
-   4  unknown route handle             10  mcrouter has it, and mcv doesn't read it
+   4  unknown route handle             10  mcrouter's, but not read by mcv
    5  unknown pool";
 
 /// What the program is asked to do.
