@@ -1,0 +1,40 @@
+-- The definitions at small files.
+use Rattle.std.proofs.Common.{◌≡◌, ℕ, List, [], ◌∷◌, ◌++◌, length, take, set, codes, Some, None, refl}
+use Rattle.mcv_spool.specs.File.{body, damage, marked, pending_from, read_record, slot_of, slots, slots_within}
+use Rattle.mcv_spool.specs.Server.{is_host, is_port, is_server}
+use Rattle.mcv_spool.specs.declared.record.SpoolRecord.{SpoolRecord}
+
+abbrev first : SpoolRecord
+first = record { server = codes "a:11211"; rest = codes "a" }
+
+-- a file of one record has 641 bytes, and begins so
+one_record : length (slot_of first ++ 0 ∷ []) ≡ 641
+one_record = refl
+
+spelled : take 14 (slot_of first) ≡ 1 ∷ 0 ∷ 0 ∷ 7 ∷ 0 ∷ 1 ∷ codes "a:11211a"
+spelled = refl
+
+reads : read_record (slot_of first) ≡ Some first
+unfolding read_record is_server is_host is_port
+reads = refl
+
+empty_file : slots [] ≡ []
+unfolding slots slots_within
+empty_file = refl
+
+one_byte : slots (255 ∷ []) ≡ []
+unfolding slots slots_within
+one_byte = refl
+
+-- a length of 0 doesn't read
+damaged : damage 0 (set (slot_of first) 3 0 ∷ []) ≡ Some 0
+unfolding read_record is_server is_host is_port
+damaged = refl
+
+pending_one : pending_from 0 (slot_of first ∷ []) ≡ (0, first) ∷ []
+unfolding read_record is_server is_host is_port
+pending_one = refl
+
+pending_none : pending_from 0 (marked 0 (slot_of first ∷ [])) ≡ []
+unfolding read_record is_server is_host is_port
+pending_none = refl

@@ -1,0 +1,11 @@
+pub mod Appends
+pub mod Colon
+mod Examples
+pub mod Marks
+pub mod Moments
+pub mod Pieces
+pub mod Records
+pub mod Repair
+pub mod Settled
+pub mod Slots
+pub mod Versions

@@ -1,0 +1,6 @@
+pub mod Disk
+pub mod Fault
+pub mod File
+pub mod Server
+pub mod Found
+pub mod Version

@@ -1,0 +1,28 @@
+//! The spool: records of deletes that no server took, on the disk before a client is answered.
+//!
+//! A `Spool` stands on a `Disk`, one file. A record whose `append` answered Ok is found by every later
+//! `open`, also where the machine stopped at any moment, inside a call or between two.
+#![tactic(auto)]
+
+mod contents;
+mod disk;
+mod fault;
+mod file_disk;
+mod find;
+mod record;
+mod recover;
+mod server;
+mod spool;
+mod write;
+
+pub use disk::{Disk, DiskFailed};
+pub use fault::SpoolFault;
+pub use file_disk::FileDisk;
+pub use record::{SpoolRecord, Stored};
+pub use server::ServerText;
+pub use spool::Spool;
+
+#[cfg(test)]
+mod test_disk;
+#[cfg(test)]
+mod tests;

@@ -1,0 +1,132 @@
+//! The spool: its file, and the records that are pending.
+
+ghost use Rattle.std.specs.Prelude.{◌≡◌, ◌≢◌, ◌⊎◌, ◌↔◌, ℕ, ◌+◌, ◌*◌, ◌<◌, ◌≤◌, ◌==◌, not, false, true, None, Some, List, [], ◌∷◌, ◌++◌, length, filter, IfOk, OnOk, OnErr, IsOk, IsErrOf};
+ghost use Rattle.std.specs.List.{list_any};
+ghost use Rattle.mcv_spool.specs.Disk.{LeavesOnly, Only};
+ghost use Rattle.mcv_spool.specs.File.{IsClosed, damage, marked, pending_from, slot_of, slots};
+ghost use Rattle.mcv_spool.specs.Found.{IsAppendFault, IsDoneFault, IsFound, IsOpenFault, WritesNothing};
+ghost use Rattle.mcv_spool.specs.Version.{HasSlotsOf, IsBeforeOrAfter, IsSettled, IsVersion};
+
+use crate::contents::{Contents, SLOT_LIMIT, SLOT_SIZE};
+use crate::disk::Disk;
+use crate::fault::SpoolFault;
+use crate::record::{SpoolRecord, Stored};
+use crate::recover::recover;
+use crate::write::{write_done, write_record};
+use std::alloc::Global;
+
+/// Records of deletes that no server took, in a file.
+#[derive(Drop)]
+pub struct Spool<D: Disk> {
+    disk: D,
+    alloc: Global,
+    pub(crate) contents: Contents,
+    needs_reopen: bool,
+    ghost settled: { D.keeps_model → needs_reopen ≡ false → IsSettled (D.seen disk) (D.may_leave disk) contents.count contents.pending.items },
+}
+
+impl<D: Disk> Spool<D> {
+    /// Opens the spool of a disk, whatever a stop left of it. Where it is refused, nothing is handed back.
+    pub fn open(alloc: Global, disk: D) -> Result<Spool<D>, SpoolFault>
+        ensures ready { IfOk result (λ spool. spool.needs_reopen ≡ false) }
+        ensures found { D.keeps_model → IfOk result (λ spool. IsFound (D.seen disk) spool.contents.count spool.contents.pending.items) }
+        ensures slots { D.keeps_model → IfOk result (λ spool. slots (D.seen spool.disk) ≡ slots (D.seen disk)) }
+        ensures durable { D.keeps_model → IfOk result (λ spool. Only (D.seen spool.disk) (D.may_leave spool.disk)) }
+        ensures damaged { D.keeps_model → (k : ℕ) → result ≡ Err (SpoolFault.Damaged k) → damage 0 (slots (D.seen disk)) ≡ Some k }
+        // A crash at any moment of the call leaves the records that one before it could have left.
+        ensures any_moment { D.keeps_model → IfOk result (λ spool. LeavesOnly D.moment D.left_since disk spool.disk (HasSlotsOf (D.may_leave disk))) }
+        ensures alone { IsOpenFault result }
+    {
+        let mut disk = disk;
+        let contents = recover(alloc, &mut disk)?;
+        Ok(Spool {
+            disk,
+            alloc,
+            contents,
+            needs_reopen: false,
+        })
+    }
+
+    /// Opens the spool again on its own disk, as after `Device`.
+    pub fn reopen(&mut self) -> Result<(), SpoolFault>
+        ensures ready { OnOk result (self.new.needs_reopen ≡ false) }
+        ensures not_ready { OnErr result (self.new.needs_reopen ≡ true) }
+        ensures found { D.keeps_model → OnOk result (IsFound (D.seen self.old.disk) self.new.contents.count self.new.contents.pending.items) }
+        ensures slots { D.keeps_model → OnOk result (slots (D.seen self.new.disk) ≡ slots (D.seen self.old.disk)) }
+        ensures durable { D.keeps_model → OnOk result (Only (D.seen self.new.disk) (D.may_leave self.new.disk)) }
+        ensures damaged { D.keeps_model → (k : ℕ) → result ≡ Err (SpoolFault.Damaged k) → damage 0 (slots (D.seen self.old.disk)) ≡ Some k }
+        ensures any_moment { D.keeps_model → LeavesOnly D.moment D.left_since self.old.disk self.new.disk (HasSlotsOf (D.may_leave self.old.disk)) }
+        ensures device { D.keeps_model → IsErrOf result SpoolFault.Device → D.failures self.old.disk < D.failures self.new.disk }
+        ensures alone { IsOpenFault result }
+    {
+        self.needs_reopen = true;
+        self.contents = recover(self.alloc, &mut self.disk)?;
+        self.needs_reopen = false; // it is open again
+        Ok(())
+    }
+
+    /// Writes a record. At `Ok` it is on the disk: from then on each `open` finds it.
+    pub fn append(&mut self, delete: SpoolRecord) -> Result<Stored, SpoolFault>
+        ensures stored { IfOk result (λ stored. (stored.seq ≡ self.old.contents.count) × (stored.record ≡ delete)) }
+        ensures pending { OnOk result (self.new.contents.pending.items ≡ self.old.contents.pending.items ++ (self.old.contents.count, delete) ∷ []) }
+        ensures count { OnOk result ((self.new.contents.count ≡ self.old.contents.count + 1) × (self.new.needs_reopen ≡ false)) }
+        ensures slots { D.keeps_model → OnOk result (slots (D.seen self.new.disk) ≡ slots (D.seen self.old.disk) ++ slot_of delete ∷ []) }
+        ensures durable { D.keeps_model → OnOk result (Only (D.seen self.new.disk) (D.may_leave self.new.disk)) }
+        // A crash at any moment of the call leaves the records of before, or these and the new one.
+        ensures any_moment { D.keeps_model → self.old.needs_reopen ≡ false → LeavesOnly D.moment D.left_since self.old.disk self.new.disk (IsBeforeOrAfter (slots (D.seen self.old.disk)) delete) }
+        ensures reopen { IsErrOf result SpoolFault.Reopen ↔ (self.old.needs_reopen ≡ true) }
+        ensures full { IsErrOf result SpoolFault.Full ↔ ((self.old.needs_reopen ≡ false) × (self.old.contents.count ≡ 1000000)) }
+        ensures device { D.keeps_model → IsErrOf result SpoolFault.Device → D.failures self.old.disk < D.failures self.new.disk }
+        ensures broken { IsErrOf result SpoolFault.Device → self.new.needs_reopen ≡ true }
+        ensures unchanged { WritesNothing result → (self.new.disk ≡ self.old.disk) × (self.new.contents.count ≡ self.old.contents.count) × (self.new.contents.pending.items ≡ self.old.contents.pending.items) × (self.new.needs_reopen ≡ self.old.needs_reopen) }
+        ensures alone { IsAppendFault result }
+    {
+        if self.needs_reopen {
+            return Err(SpoolFault::Reopen);
+        }
+        let count = self.contents.count;
+        if count >= SLOT_LIMIT {
+            return Err(SpoolFault::Full);
+        }
+        self.contents.reserve()?;
+        self.needs_reopen = true;
+        write_record(&mut self.disk, SLOT_SIZE * count, &delete)?;
+        let stored = Stored::new(count as u64, delete.copied());
+        self.contents.add(delete);
+        self.needs_reopen = false;
+        Ok(stored)
+    }
+
+    /// Marks a record as done. Where none of this number is pending, nothing is written.
+    pub fn done(&mut self, seq: u64) -> Result<(), SpoolFault>
+        ensures pending { OnOk result (self.new.contents.pending.items ≡ filter (λ p. not (p.0 == seq)) self.old.contents.pending.items) }
+        ensures count { (self.new.contents.count ≡ self.old.contents.count) }
+        ensures slots { D.keeps_model → OnOk result (list_any (λ p. p.0 == seq) self.old.contents.pending.items ≡ true → slots (D.seen self.new.disk) ≡ marked seq (slots (D.seen self.old.disk))) }
+        ensures any_moment { D.keeps_model → self.old.needs_reopen ≡ false → LeavesOnly D.moment D.left_since self.old.disk self.new.disk (IsVersion (marked seq (slots (D.seen self.old.disk)))) }
+        ensures reopen { IsErrOf result SpoolFault.Reopen ↔ (self.old.needs_reopen ≡ true) }
+        ensures nothing { self.old.needs_reopen ≡ false → list_any (λ p. p.0 == seq) self.old.contents.pending.items ≡ false → IsOk result × (self.new.disk ≡ self.old.disk) }
+        ensures device { D.keeps_model → IsErrOf result SpoolFault.Device → D.failures self.old.disk < D.failures self.new.disk }
+        ensures broken { IsErrOf result SpoolFault.Device → self.new.needs_reopen ≡ true }
+        ensures ready { OnOk result (self.new.needs_reopen ≡ false) }
+        ensures alone { IsDoneFault result }
+    {
+        if self.needs_reopen {
+            return Err(SpoolFault::Reopen);
+        }
+        if !self.contents.has(seq) {
+            return Ok(());
+        }
+        self.needs_reopen = true;
+        write_done(&mut self.disk, seq as usize)?;
+        self.contents.drop_done(seq);
+        self.needs_reopen = false;
+        Ok(())
+    }
+
+    /// The records that are pending, each with its number, in the order in which they were appended.
+    pub fn pending(&self) -> &[(u64, SpoolRecord)]
+        ensures { result.now ≡ self.now.contents.pending.items }
+    {
+        &self.contents.pending
+    }
+}

@@ -1,0 +1,214 @@
+//! What no clause says: the bytes of the worked rows, and runs that fail or stop at each of their calls.
+
+use super::*;
+use crate::test_disk::{Left, Lent, TestDisk, Trouble};
+use mcv_base::Rest;
+use std::alloc::Global;
+use std::process::Abort;
+use std::test::Fail;
+
+fn record(server: &[u8], rest: &[u8]) -> Option<SpoolRecord> {
+    Some(SpoolRecord {
+        server: ServerText::of(server)?,
+        rest: Rest::of(rest)?,
+    })
+}
+
+fn open(alloc: Global, disk: &mut TestDisk) -> Result<Spool<Lent<'_>>, SpoolFault> {
+    Spool::open(alloc, Lent { disk })
+}
+
+/// How many slots a file opens to, or none where it is refused.
+fn slots_of(alloc: Global, bytes: Vec<u8>) -> Option<usize> {
+    let mut disk = TestDisk::new(alloc, bytes);
+    let spool = open(alloc, &mut disk).ok()?;
+    Some(spool.contents.count)
+}
+
+/// Whether the bytes begin with these, and then have so many zeros and no more.
+fn is_spelled(bytes: &[u8], begin: &[u8], zeros: usize) -> bool {
+    match bytes.strip_prefix(begin) {
+        Some(rest) => rest.len() == zeros && rest.iter().all(|b| *b == 0),
+        None => false,
+    }
+}
+
+#[test]
+fn an_empty_file_and_one_of_one_byte_get_a_closed_gate(rt: HostRuntime) -> Result<(), Fail> {
+    let alloc = rt.alloc();
+    for bytes in [b"".as_slice(), b"\x00", b"\x01", b"\xff"] {
+        let mut disk = TestDisk::new(alloc, bytes.to_vec(alloc)?);
+        let is_empty = open(alloc, &mut disk)?.pending().is_empty();
+        assert!(rt; is_empty);
+        assert!(rt; disk.bytes.as_slice() == b"\x00".as_slice());
+    }
+    Ok(())
+}
+
+/// Appends two records and marks the first as done.
+fn append_two(rt: &impl Abort, alloc: Global, disk: &mut TestDisk) -> Result<(), Fail> {
+    let mut spool = open(alloc, disk)?;
+    let first = spool.append(record(b"a:11211", b"a").ok_or("record")?)?;
+    assert!(rt; first.seq() == 0);
+    assert!(rt; first.record().rest.as_bytes() == b"a".as_slice());
+    let second = spool.append(record(b"b:11211", b"ab").ok_or("record")?)?;
+    assert!(rt; second.seq() == 1);
+    spool.done(0)?;
+    assert!(rt; spool.pending().len() == 1);
+    assert!(rt; spool.pending().iter().all(|p| p.0 == 1));
+    spool.done(0)?;
+    spool.done(7)?;
+    Ok(())
+}
+
+#[test]
+fn records_are_spelled_byte_for_byte(rt: HostRuntime) -> Result<(), Fail> {
+    let alloc = rt.alloc();
+    let mut disk = TestDisk::new(alloc, Vec::new(alloc));
+    append_two(&rt, alloc, &mut disk)?;
+    let bytes = disk.bytes.as_slice();
+    assert!(rt; bytes.len() == 1_281);
+    let (first, second) = bytes.split_at(640);
+    assert!(rt; is_spelled(first, b"\x01\x01\x00\x07\x00\x01a:11211a", 626));
+    assert!(rt; is_spelled(second, b"\x01\x00\x00\x07\x00\x02b:11211ab", 626));
+    Ok(())
+}
+
+#[test]
+fn a_length_that_does_not_read_is_damage(rt: HostRuntime) -> Result<(), Fail> {
+    let alloc = rt.alloc();
+    let mut disk = TestDisk::new(alloc, Vec::new(alloc));
+    let stored = open(alloc, &mut disk)?.append(record(b"a:11211", b"a").ok_or("record")?)?;
+    assert!(rt; stored.seq() == 0 && disk.bytes.len() == 641);
+    disk.bytes[3] = 0;
+    assert!(rt; open(alloc, &mut disk).err() == Some(SpoolFault::Damaged(0)));
+    assert!(rt; SpoolFault::Damaged(0).number() == 5 && SpoolFault::Device.number() == 1);
+    assert!(rt; SpoolFault::Full.number() == 2 && SpoolFault::Memory.number() == 3);
+    assert!(rt; SpoolFault::Reopen.number() == 4);
+    Ok(())
+}
+
+#[test]
+fn a_failed_sync_wants_a_reopen(rt: HostRuntime) -> Result<(), Fail> {
+    let alloc = rt.alloc();
+    let mut disk = TestDisk::new(alloc, Vec::new(alloc));
+    disk.trouble = Trouble::FailAt(12);
+    let mut spool = open(alloc, &mut disk)?;
+    let stored = spool.append(record(b"a:11211", b"a").ok_or("record")?)?;
+    assert!(rt; stored.seq() == 0);
+    let failed = spool
+        .append(record(b"b:11211", b"ab").ok_or("record")?)
+        .err();
+    assert!(rt; failed == Some(SpoolFault::Device));
+    let again = spool
+        .append(record(b"b:11211", b"ab").ok_or("record")?)
+        .err();
+    assert!(rt;
+        again == Some(SpoolFault::Reopen) && spool.done(0).err() == Some(SpoolFault::Reopen)
+    );
+    spool.reopen()?;
+    assert!(rt; spool.pending().len() == 1);
+    Ok(())
+}
+
+/// What a run was told.
+#[derive(Drop)]
+struct Told {
+    stored: usize,
+    done: bool,
+}
+
+/// Opens a spool, appends three records and marks the first as done: 20 calls of the disk.
+fn run(alloc: Global, disk: &mut TestDisk) -> Told {
+    let mut told = Told {
+        stored: 0,
+        done: false,
+    };
+    let Ok(mut spool) = open(alloc, disk) else {
+        return told;
+    };
+    for rest in [b"a", b"b", b"c"] {
+        let Some(one) = record(b"a:11211", rest) else {
+            return told;
+        };
+        match spool.append(one) {
+            Ok(_) => told.stored = told.stored.saturating_add(1),
+            Err(_) => return told,
+        }
+    }
+    told.done = true;
+    let _ = spool.done(0);
+    told
+}
+
+/// Whether what is opened are the first records of the run, those stored among them, none missing but the one that is done.
+fn is_kept<D: Disk>(spool: &Spool<D>, told: &Told) -> bool {
+    let count = spool.contents.count;
+    let missing = count.saturating_sub(spool.pending().len());
+    told.stored <= count
+        && count <= told.stored.saturating_add(1)
+        && (missing == 0 || (told.done && missing == 1))
+        && spool.pending().iter().all(|p| p.1.rest.as_bytes()
+            == [b'a'.saturating_add(p.0.min(9) as u8)].as_slice())
+}
+
+#[test]
+fn a_run_has_twenty_calls(rt: HostRuntime) {
+    let alloc = rt.alloc();
+    let mut disk = TestDisk::new(alloc, Vec::new(alloc));
+    let told = run(alloc, &mut disk);
+    assert!(rt; told.stored == 3 && disk.calls.len() == 20);
+}
+
+#[test]
+fn records_outlive_a_stop_at_each_call(rt: HostRuntime) -> Result<(), Fail> {
+    let alloc = rt.alloc();
+    for k in 0..20 {
+        for left in [Left::Synced, Left::Seen, Left::Torn] {
+            let mut disk = TestDisk::new(alloc, Vec::new(alloc));
+            disk.trouble = Trouble::StopAt(k);
+            let told = run(alloc, &mut disk);
+            let mut after = TestDisk::new(alloc, disk.left(left)?);
+            let spool = open(alloc, &mut after)?;
+            assert!(rt; is_kept(&spool, &told), "stop at call {k}");
+        }
+    }
+    Ok(())
+}
+
+#[test]
+fn records_outlive_a_failure_of_each_call(rt: HostRuntime) -> Result<(), Fail> {
+    let alloc = rt.alloc();
+    for k in 0..20 {
+        let mut disk = TestDisk::new(alloc, Vec::new(alloc));
+        disk.trouble = Trouble::FailAt(k);
+        let told = run(alloc, &mut disk);
+        let mut spool = open(alloc, &mut disk)?;
+        assert!(rt; is_kept(&spool, &told), "failure of call {k}");
+        spool.reopen()?;
+        assert!(rt; is_kept(&spool, &told), "failure of call {k}, reopened");
+    }
+    Ok(())
+}
+
+#[test]
+fn the_second_record_counts_after_the_second_sync(rt: HostRuntime) -> Result<(), Fail> {
+    let alloc = rt.alloc();
+    // The second append makes calls 11 to 14.
+    for (k, left, slots) in [
+        (11, Left::Torn, 1),
+        (12, Left::Torn, 1),
+        (13, Left::Synced, 1),
+        (15, Left::Synced, 2),
+    ] {
+        let mut disk = TestDisk::new(alloc, Vec::new(alloc));
+        disk.trouble = Trouble::StopAt(k);
+        let told = run(alloc, &mut disk);
+        assert!(rt; told.stored <= slots);
+        assert!(rt;
+            slots_of(alloc, disk.left(left)?) == Some(slots),
+            "stop at call {k}"
+        );
+    }
+    Ok(())
+}
