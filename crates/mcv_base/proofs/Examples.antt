@@ -1,9 +1,10 @@
 -- The definitions at small words.
-use Rattle.std.proofs.Common.{◌≡◌, ◌≢◌, ◌++◌, ℕ, List, [], ◌∷◌, true, false, refl, codes}
+use Rattle.std.proofs.Common.{◌≡◌, [], true, false, refl, codes}
 use Rattle.mcv_base.specs.Key.{IsCut, IsName, IsRoutingPrefix, IsKeyFault, default_prefix, hashed_part, is_key_word}
 use Rattle.mcv_base.specs.Position.{position_text}
+use Rattle.mcv_base.specs.Server.{is_host, is_port, is_server}
 use Rattle.mcv_base.specs.declared.key.KeyFault.TheVariants.{NoRest}
-use Rattle.mcv_base.proofs.Prefixes.{unrouted_by_byte, one_reading}
+use Rattle.mcv_base.proofs.Prefixes.{unrouted_by_byte}
 
 a_name : IsName (codes "a")
 a_name = record { some = λ e. cc; no_slash = refl }
@@ -41,3 +42,27 @@ a_blank_is_no_key_byte = refl
 
 root : position_text [] ≡ codes "-"
 root = refl
+
+least_port : is_server (codes "a:1") ≡ true
+unfolding is_server is_host is_port
+least_port = refl
+
+greatest_port : is_server (codes "[::1]:65535") ≡ true
+unfolding is_server is_host is_port
+greatest_port = refl
+
+port_too_great : is_server (codes "a:65536") ≡ false
+unfolding is_server is_host is_port
+port_too_great = refl
+
+leading_zero : is_server (codes "a:01") ≡ false
+unfolding is_server is_host is_port
+leading_zero = refl
+
+three_parts : is_server (codes "a:1:ascii") ≡ false
+unfolding is_server is_host is_port
+three_parts = refl
+
+open_colons : is_server (codes "::1:11211") ≡ false
+unfolding is_server is_host is_port
+open_colons = refl

@@ -1,7 +1,7 @@
 -- What stands before the first separator, by the place where a search finds it.
-use Rattle.std.proofs.Common.{◌≡◌, ◌≢◌, ◌∙◌, ℕ, ◌+◌, ◌<◌, ◌≤◌, Bool, true, false, not, ◌&&◌, ◌==◌, List, [], ◌∷◌, ◌++◌, length, take, drop, Option, Some, None, zero, suc, refl, ap, ap₂, sym, subst, arith, if◌then◌else◌}
+use Rattle.std.proofs.Common.{◌≡◌, ◌∙◌, ℕ, ◌<◌, ◌≤◌, Bool, true, false, ◌==◌, List, [], ◌∷◌, length, take, zero, suc, refl, ap, ap₂, arith, if◌then◌else◌}
 use Rattle.std.proofs.lemmas.Bool.Decides.{Decides-eqb}
-use Rattle.memchr.specs.Find.{OccursAt, FindsNeedle, NoneBefore}
+use Rattle.memchr.specs.Find.{OccursAt}
 use Rattle.memchr.proofs.lemmas.MatchLemmas.{OccursAt-part, OccursAt-from_part}
 use Rattle.mcv_base.specs.Key.{begins_with, hashed_part, separator}
 use Rattle.mcv_base.proofs.Cuts.{both, joined}

@@ -1,11 +1,11 @@
 -- What a key word's routing prefix is, by the slashes that are found in it.
-use Rattle.std.proofs.Common.{◌≡◌, ◌≢◌, ◌∙◌, ℕ, ◌+◌, ◌-◌, ◌<◌, ◌≤◌, Bool, true, false, not, nat_lt, nat_le, ◌&&◌, ◌==◌, MatchOption, unwrap_or, length-drop, List, [], ◌∷◌, ◌++◌, length, take, drop, Option, Some, None, zero, suc, refl, ap, ap₂, sym, subst, arith, length-append, append_assoc}
-use Rattle.std.proofs.lemmas.List.{take_at, drop_at}
+use Rattle.std.proofs.Common.{◌≡◌, ◌≢◌, ◌∙◌, ℕ, ◌+◌, ◌-◌, ◌<◌, ◌≤◌, true, false, not, nat_lt, nat_le, ◌&&◌, ◌==◌, MatchOption, unwrap_or, length-drop, List, [], ◌∷◌, ◌++◌, length, take, drop, Option, Some, None, zero, suc, refl, ap, ap₂, sym, subst, arith, length-append, append_assoc}
+use Rattle.std.proofs.lemmas.List.{take_at}
 use Rattle.std.proofs.lemmas.Bool.Decides.{Decides-eqb, nat_tests}
 use Rattle.std.specs.List.{list_all}
 use Rattle.std.specs.Prelude.{⊤}
-use Rattle.memchr.specs.Find.{IsFirstByte, is_byte, Passes, NoneBefore}
-use Rattle.mcv_base.specs.Key.{lacks, slash, IsName, IsNamed, IsUnnamed, IsRoutingPrefix, IsUnrouted, IsCut, is_key_byte, is_key_word}
+use Rattle.memchr.specs.Find.{IsFirstByte, is_byte}
+use Rattle.mcv_base.specs.Key.{lacks, slash, IsNamed, IsUnnamed, IsRoutingPrefix, IsUnrouted, IsCut, is_key_byte, is_key_word}
 use Rattle.mcv_base.proofs.Cuts.{both, joined, first_cuts, first_at_cut, none_at_cut, never_both}
 
 head_is : (x y : ℕ) (xs ys : List ℕ) → x ∷ xs ≡ y ∷ ys → x ≡ y

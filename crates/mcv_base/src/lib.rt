@@ -1,7 +1,8 @@
-//! What every crate of mcv speaks of: operations, replies, keys, positions and requests.
+//! What every crate of mcv speaks of: operations, replies, keys, positions, requests and server texts.
 //!
 //! A key word is its routing prefix and its rest (`split_key`), a rest has a hashed part
-//! (`hashed_part`), and a reply has an outcome (`Reply::outcome`). All else here is data.
+//! (`hashed_part`), a reply has an outcome (`Reply::outcome`), and a server is named by a text
+//! (`is_server`, `ServerText`). All else here is data.
 #![tactic(auto)]
 
 mod key;
@@ -9,6 +10,7 @@ mod operation;
 mod position;
 mod reply;
 mod request;
+mod server;
 
 pub use key::{
     KeyFault, Prefix, Rest, hashed_part, is_key_word, key_words_have_one_reading, split_key,
@@ -17,6 +19,7 @@ pub use operation::{Mark, Op};
 pub use position::Position;
 pub use reply::{FixedReply, Outcome, Part, Parts, Reply};
 pub use request::{Ask, CallId, LegId, LegRequest, Moment, Request, ServerId};
+pub use server::{ServerText, is_server, server_law};
 
 #[cfg(test)]
 mod tests;

@@ -11,7 +11,7 @@ use Rattle.mcv_config.specs.Path.{key_step}
 use Rattle.mcv_config.specs.Plan.{Named, Plan, pool, server, null, all_sync, operation_selector, no_named, named}
 use Rattle.mcv_config.specs.Pools.{listed_servers, pool_named, pool_read, server_read, servers_read}
 use Rattle.mcv_config.specs.Routes.{cut, fields, listed, object_route, policy_read, route, selector_fields, servers, text_children, text_route, type_read}
-use Rattle.mcv_config.specs.Server.{is_host, is_port, is_server}
+use Rattle.mcv_base.specs.Server.{is_host, is_port, is_server}
 
 abbrev of_pool : Data → Data
 of_pool listed = object (member (codes "servers") listed no_members)
@@ -70,27 +70,3 @@ no_servers = refl
 
 escaped : key_step [] (codes "a b/%") ≡ codes "/a%20b%2F%25"
 escaped = refl
-
-least_port : is_server (codes "a:1") ≡ true
-unfolding is_server is_host is_port
-least_port = refl
-
-greatest_port : is_server (codes "[::1]:65535") ≡ true
-unfolding is_server is_host is_port
-greatest_port = refl
-
-port_too_great : is_server (codes "a:65536") ≡ false
-unfolding is_server is_host is_port
-port_too_great = refl
-
-leading_zero : is_server (codes "a:01") ≡ false
-unfolding is_server is_host is_port
-leading_zero = refl
-
-three_parts : is_server (codes "a:1:ascii") ≡ false
-unfolding is_server is_host is_port
-three_parts = refl
-
-open_colons : is_server (codes "::1:11211") ≡ false
-unfolding is_server is_host is_port
-open_colons = refl

@@ -2,7 +2,6 @@ pub mod Faults
 pub mod Levels
 pub mod Turns
 pub mod Lists
-pub mod Colon
 pub mod Operations
 pub mod Noted
 pub mod Holds

@@ -1,7 +1,6 @@
 pub mod Fault
 pub mod Path
 pub mod Plan
-pub mod Server
 pub mod Lists
 pub mod Handles
 pub mod Pools

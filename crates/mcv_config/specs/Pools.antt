@@ -9,7 +9,7 @@ use Rattle.mcv_config.specs.Fault.{Read, good, refused, ◌>>=◌, also}
 use Rattle.mcv_config.specs.Handles.{is_elsewhere, key_fault, keys_read}
 use Rattle.mcv_config.specs.Lists.{each, each_member, items_list, member_names, required, text_read}
 use Rattle.mcv_config.specs.Path.{key_step}
-use Rattle.mcv_config.specs.Server.{is_server}
+use Rattle.mcv_base.specs.Server.{is_server}
 
 -- the texts of the servers, in the order of their numbers
 abbrev pub Table : Type 0

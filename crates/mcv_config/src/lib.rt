@@ -12,14 +12,12 @@ mod names;
 mod pools;
 mod read;
 mod routes;
-mod server;
 mod texts;
 mod trail;
 
 pub use config::{Config, Entry, NamedPolicy, NamedRoute, Pool};
 pub use fault::{ConfigFault, FaultKind};
 pub use read::read_config;
-pub use server::{is_server, server_law};
 
 #[cfg(test)]
 mod tests;

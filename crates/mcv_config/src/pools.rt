@@ -15,9 +15,8 @@ use crate::fault::{ConfigFault, FaultKind};
 use crate::handle::Object;
 use crate::name_table::NameTable;
 use crate::names::{check_keys, is_elsewhere};
-use crate::server::is_server;
 use crate::trail::{Trail, fault};
-use mcv_base::ServerId;
+use mcv_base::{ServerId, is_server};
 use mcv_pools::{Servers, ServersFault};
 use serde_json::{Map, Value};
 use std::alloc::{AllocError, Global};
@@ -183,7 +182,7 @@ fn read_server(
     let Some(text) = value.as_str() else {
         return Err(fault(alloc, FaultKind::WrongKind, trail));
     };
-    if !is_server(text) {
+    if !is_server(text.as_bytes()) {
         return Err(fault(alloc, FaultKind::BadServer, trail));
     }
     match servers.insert(text) {

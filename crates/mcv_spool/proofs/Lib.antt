@@ -1,5 +1,4 @@
 pub mod Appends
-pub mod Colon
 mod Examples
 pub mod Marks
 pub mod Moments

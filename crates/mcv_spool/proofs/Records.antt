@@ -4,7 +4,7 @@ use Rattle.std.proofs.lemmas.Bool.{cases_eq}
 use Rattle.std.proofs.lemmas.Bool.Decides.{nat_tests}
 use Rattle.std.specs.List.{list_all, list_any}
 use Rattle.mcv_base.specs.Key.{is_key_word}
-use Rattle.mcv_spool.specs.Server.{is_server}
+use Rattle.mcv_base.specs.Server.{is_server}
 use Rattle.mcv_spool.specs.File.{body, damage, is_done, marked, number_at, pending_at, pending_from, read_parts, read_record, slot_of}
 use Rattle.mcv_spool.specs.declared.record.SpoolRecord.{SpoolRecord}
 use Rattle.mcv_spool.proofs.Marks.{read_set}

@@ -4,7 +4,7 @@
 -- is done: 0 pending, any other done. Then come two lengths of two bytes, the server text, the rest, and zeros.
 use Rattle.std.specs.Prelude.{◌≡◌, ℕ, ◌+◌, ◌-◌, ◌*◌, ◌/◌, ◌%◌, ◌<◌, ◌==◌, ◌&&◌, ◌||◌, not, nat_le, nat_lt, Bool, List, [], ◌∷◌, ◌++◌, length, take, drop, slice_index, slice_index_or, set, replicate, zero, suc, Option, Some, None, is_none, if◌then◌else◌}
 use Rattle.mcv_base.specs.Key.{is_key_word}
-use Rattle.mcv_spool.specs.Server.{is_server}
+use Rattle.mcv_base.specs.Server.{is_server}
 use Rattle.mcv_spool.specs.declared.record.SpoolRecord.{SpoolRecord}
 
 -- two bytes, big end first

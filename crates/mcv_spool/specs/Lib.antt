@@ -1,6 +1,5 @@
 pub mod Disk
 pub mod Fault
 pub mod File
-pub mod Server
 pub mod Found
 pub mod Version

@@ -11,7 +11,6 @@ mod file_disk;
 mod find;
 mod record;
 mod recover;
-mod server;
 mod spool;
 mod write;
 
@@ -19,7 +18,6 @@ pub use disk::{Disk, DiskFailed};
 pub use fault::SpoolFault;
 pub use file_disk::FileDisk;
 pub use record::{SpoolRecord, Stored};
-pub use server::ServerText;
 pub use spool::Spool;
 
 #[cfg(test)]

@@ -3,9 +3,8 @@
 ghost use Rattle.std.specs.Prelude.{◌≡◌, ◌+◌, ◌-◌, ◌*◌, ◌<◌, ◌≤◌, [], ◌∷◌, ◌++◌, length, replicate, Some};
 ghost use Rattle.mcv_spool.specs.File.{body, number_at, read_parts, read_record, slot_of, two};
 
-use crate::server::ServerText;
 use arrayvec::ArrayVec;
-use mcv_base::Rest;
+use mcv_base::{Rest, ServerText};
 
 /// The gate of a slot that counts.
 pub(crate) const OPEN: u8 = 1;

@@ -2,7 +2,7 @@
 
 use super::*;
 use crate::test_disk::{Left, Lent, TestDisk, Trouble};
-use mcv_base::Rest;
+use mcv_base::{Rest, ServerText};
 use std::alloc::Global;
 use std::process::Abort;
 use std::test::Fail;

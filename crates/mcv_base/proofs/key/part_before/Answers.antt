@@ -1,4 +1,4 @@
-use Rattle.std.proofs.Common.{◌+◌, ◌<◌, ◌≤◌, arith}
+use Rattle.std.proofs.Common.{arith}
 use Rattle.mcv_base.proofs.Hashed.{part_at, part_whole}
 use Rattle.mcv_base.proofs.key.part_before.Goals as goal
 

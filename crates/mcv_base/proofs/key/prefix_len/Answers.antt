@@ -1,4 +1,4 @@
-use Rattle.std.proofs.Common.{◌≡◌, ◌∙◌, ℕ, ◌+◌, Option, List, ◌∷◌, take, drop, subst, sym, ap, None, MatchOption}
+use Rattle.std.proofs.Common.{◌≡◌, ◌∙◌, ℕ, ◌+◌, Option, List, ◌∷◌, take, drop, subst, sym, ap, MatchOption}
 use Rattle.std.proofs.lemmas.List.{take_rest}
 use Rattle.mcv_base.specs.Key.{IsNamed, IsUnnamed, IsUnrouted, IsRoutingPrefix, slash}
 use Rattle.mcv_base.proofs.Prefixes.{routed_by, unrouted_second}

@@ -1,4 +1,4 @@
-use Rattle.std.proofs.Common.{◌≡◌, ◌∙◌, ℕ, ◌-◌, ◌<◌, ◌≤◌, List, Bool, true, false, length, take, drop, subst, sym, ap, arith, rules}
+use Rattle.std.proofs.Common.{◌≡◌, ℕ, List, false, subst, arith, rules}
 use Rattle.std.proofs.lemmas.List.{take_rest}
 use Rattle.mcv_base.specs.Key.{is_key_word}
 use Rattle.mcv_base.proofs.Prefixes.{no_rest_behind}

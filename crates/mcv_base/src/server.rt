@@ -1,9 +1,11 @@
 //! Server texts: `host:port`, cut at the last colon.
+//!
+//! `is_server` is the test, and `server_law` says in other words which texts pass it. A `ServerText` holds one that does.
 
-ghost use Rattle.std.specs.Prelude.{◌≡◌, ◌<◌, ◌≤◌, length, IfSome, IsTrue, MatchOption, false, true};
+ghost use Rattle.std.specs.Prelude.{◌≡◌, ◌<◌, ◌≤◌, ◌↔◌, ℕ, List, length, IfSome, IsTrue, MatchOption, false, true};
 ghost use Rattle.std.specs.List.{list_all};
 ghost use Rattle.std.specs.Char.{is_ascii_digit, is_ascii_graphic};
-ghost use Rattle.mcv_spool.specs.Server.{colon, number, is_port, is_host, is_server, last_below};
+ghost use Rattle.mcv_base.specs.Server.{colon, number, is_port, is_host, is_server, last_below, IsServer};
 
 use arrayvec::ArrayVec;
 use std::marker::Model;
@@ -17,7 +19,7 @@ pub struct ServerText {
 impl Model for ServerText {
     ghost use Rattle.std.specs.Prelude.{List, ℕ, IsTrue};
     ghost use Rattle.std.specs.Coded.{coded_ℕ, coded_list};
-    ghost use Rattle.mcv_spool.specs.Server.{is_server};
+    ghost use Rattle.mcv_base.specs.Server.{is_server};
 
     ghost Value = { List ℕ };
 
@@ -63,11 +65,11 @@ fn held(bytes: &[u8]) -> ArrayVec<u8, 261>
 
 /// Whether a text is a host of 1 to 255 bytes, a colon and a port from 1 to 65535.
 #[tactic(auto, unfolding(crate::specs::Server::is_server))]
-fn is_server(bytes: &[u8]) -> bool
-    ensures { result ≡ is_server bytes.now }
+pub fn is_server(text: &[u8]) -> bool
+    ensures exact { result ≡ is_server text.now }
 {
-    match last_colon(bytes) {
-        Some(place) => is_host(&bytes[..place]) && is_port(&bytes[place + 1..]),
+    match last_colon(text) {
+        Some(place) => is_host(&text[..place]) && is_port(&text[place + 1..]),
         None => false,
     }
 }
@@ -142,3 +144,8 @@ fn all_digits(bytes: &[u8]) -> bool
 {
     bytes.iter().all(|b| b.is_ascii_digit())
 }
+
+/// The texts that pass are those that are a host, a colon and a port.
+pub fn server_law()
+    ensures { (text : List ℕ) → IsTrue (is_server text) ↔ IsServer text }
+{}

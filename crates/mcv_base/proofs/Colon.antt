@@ -5,7 +5,7 @@ use Rattle.std.proofs.lemmas.Grind.{common_steps}
 use Rattle.std.proofs.lemmas.List.Folds.{list_all_at}
 use Rattle.std.specs.Char.{is_ascii_digit}
 use Rattle.std.specs.List.{list_all}
-use Rattle.mcv_spool.specs.Server.{colon, is_host, is_port, is_server, server_at, last_below, IsServer}
+use Rattle.mcv_base.specs.Server.{colon, is_host, is_port, is_server, server_at, last_below, IsServer}
 
 both : (a b : Bool) → (a && b) ≡ true → (a ≡ true) × (b ≡ true)
 both true b h = (refl, h)
