@@ -8,3 +8,4 @@ pub mod Repair
 pub mod Settled
 pub mod Slots
 pub mod Versions
+pub mod Histories

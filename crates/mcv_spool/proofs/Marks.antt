@@ -43,7 +43,7 @@ read_set [] x = refl
 read_set (a ∷ []) x = refl
 read_set (a ∷ b ∷ s) x = refl
 
-records_marked : (all : List (List ℕ)) (k x : ℕ) → map read_record (remarked x k all) ≡ map read_record all
+pub records_marked : (all : List (List ℕ)) (k x : ℕ) → map read_record (remarked x k all) ≡ map read_record all
 records_marked all k x =
     map-set read_record all k (set (get_or all k []) 1 x)
     ∙ ap (λ o. set (map read_record all) k o) (read_set (get_or all k []) x)

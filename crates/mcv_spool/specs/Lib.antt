@@ -3,3 +3,4 @@ pub mod Fault
 pub mod File
 pub mod Found
 pub mod Version
+pub mod History

@@ -9,6 +9,7 @@ mod disk;
 mod fault;
 mod file_disk;
 mod find;
+mod history;
 mod record;
 mod recover;
 mod spool;
@@ -17,6 +18,7 @@ mod write;
 pub use disk::{Disk, DiskFailed};
 pub use fault::SpoolFault;
 pub use file_disk::FileDisk;
+pub use history::what_was_told_is_kept;
 pub use record::{SpoolRecord, Stored};
 pub use spool::Spool;
 

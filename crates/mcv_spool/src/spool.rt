@@ -1,10 +1,12 @@
 //! The spool: its file, and the records that are pending.
 
 ghost use Rattle.std.specs.Prelude.{◌≡◌, ◌≢◌, ◌⊎◌, ◌↔◌, ℕ, ◌+◌, ◌*◌, ◌<◌, ◌≤◌, ◌==◌, not, false, true, None, Some, List, [], ◌∷◌, ◌++◌, length, filter, IfOk, OnOk, OnErr, IsOk, IsErrOf};
-ghost use Rattle.std.specs.List.{list_any};
+ghost use Rattle.std.specs.List.{Contains, list_any};
 ghost use Rattle.mcv_spool.specs.Disk.{LeavesOnly, Only};
 ghost use Rattle.mcv_spool.specs.File.{IsClosed, damage, marked, pending_from, slot_of, slots};
 ghost use Rattle.mcv_spool.specs.Found.{IsAppendFault, IsDoneFault, IsFound, IsOpenFault, WritesNothing};
+ghost use Rattle.mcv_spool.specs.History.{Call, HasNumber, History, Told, append_stopped, append_told, done_told, records_of, reopen_told, shut, told_found, world};
+ghost use Rattle.mcv_spool.specs.declared.record.SpoolRecord.{SpoolRecord};
 ghost use Rattle.mcv_spool.specs.Version.{HasSlotsOf, IsBeforeOrAfter, IsSettled, IsVersion};
 
 use crate::contents::{Contents, SLOT_LIMIT, SLOT_SIZE};
@@ -35,6 +37,8 @@ impl<D: Disk> Spool<D> {
         ensures damaged { D.keeps_model → (k : ℕ) → result ≡ Err (SpoolFault.Damaged k) → damage 0 (slots (D.seen disk)) ≡ Some k }
         // A crash at any moment of the call leaves the records that one before it could have left.
         ensures any_moment { D.keeps_model → IfOk result (λ spool. LeavesOnly D.moment D.left_since disk spool.disk (HasSlotsOf (D.may_leave disk))) }
+        // An `open` that is refused drops its disk, which no clause can name then; what it does to the disk is that of `recover`.
+        ensures step { D.keeps_model → IfOk result (λ spool. Call D.seen D.may_leave D.moment D.left_since (shut disk) (world spool.disk spool.needs_reopen) (told_found (records_of (slots (D.seen disk)))) (λ t. t)) }
         ensures alone { IsOpenFault result }
     {
         let mut disk = disk;
@@ -57,6 +61,7 @@ impl<D: Disk> Spool<D> {
         ensures damaged { D.keeps_model → (k : ℕ) → result ≡ Err (SpoolFault.Damaged k) → damage 0 (slots (D.seen self.old.disk)) ≡ Some k }
         ensures any_moment { D.keeps_model → LeavesOnly D.moment D.left_since self.old.disk self.new.disk (HasSlotsOf (D.may_leave self.old.disk)) }
         ensures device { D.keeps_model → IsErrOf result SpoolFault.Device → D.failures self.old.disk < D.failures self.new.disk }
+        ensures step { D.keeps_model → Call D.seen D.may_leave D.moment D.left_since (world self.old.disk self.old.needs_reopen) (world self.new.disk self.new.needs_reopen) (reopen_told result (records_of (slots (D.seen self.old.disk)))) (λ t. t) }
         ensures alone { IsOpenFault result }
     {
         self.needs_reopen = true;
@@ -79,6 +84,7 @@ impl<D: Disk> Spool<D> {
         ensures device { D.keeps_model → IsErrOf result SpoolFault.Device → D.failures self.old.disk < D.failures self.new.disk }
         ensures broken { IsErrOf result SpoolFault.Device → self.new.needs_reopen ≡ true }
         ensures unchanged { WritesNothing result → (self.new.disk ≡ self.old.disk) × (self.new.contents.count ≡ self.old.contents.count) × (self.new.contents.pending.items ≡ self.old.contents.pending.items) × (self.new.needs_reopen ≡ self.old.needs_reopen) }
+        ensures step { D.keeps_model → Call D.seen D.may_leave D.moment D.left_since (world self.old.disk self.old.needs_reopen) (world self.new.disk self.new.needs_reopen) (append_told result delete) (append_stopped result delete) }
         ensures alone { IsAppendFault result }
     {
         if self.needs_reopen {
@@ -108,6 +114,8 @@ impl<D: Disk> Spool<D> {
         ensures device { D.keeps_model → IsErrOf result SpoolFault.Device → D.failures self.old.disk < D.failures self.new.disk }
         ensures broken { IsErrOf result SpoolFault.Device → self.new.needs_reopen ≡ true }
         ensures ready { OnOk result (self.new.needs_reopen ≡ false) }
+        ensures unchanged { IsErrOf result SpoolFault.Reopen → (self.new.disk ≡ self.old.disk) × (self.new.contents.pending.items ≡ self.old.contents.pending.items) × (self.new.needs_reopen ≡ true) }
+        ensures step { D.keeps_model → Call D.seen D.may_leave D.moment D.left_since (world self.old.disk self.old.needs_reopen) (world self.new.disk self.new.needs_reopen) (done_told result seq) (done_told result seq) }
         ensures alone { IsDoneFault result }
     {
         if self.needs_reopen {
@@ -125,7 +133,9 @@ impl<D: Disk> Spool<D> {
 
     /// The records that are pending, each with its number, in the order in which they were appended.
     pub fn pending(&self) -> &[(u64, SpoolRecord)]
-        ensures { result.now ≡ self.now.contents.pending.items }
+        ensures value { result.now ≡ self.now.contents.pending.items }
+        // A record that was told is missing only where `done` was called for its number.
+        ensures kept { D.keeps_model → (told : Told) → History D.seen D.may_leave D.moment D.left_since told (world self.now.disk self.now.needs_reopen) → self.now.needs_reopen ≡ false → (r : SpoolRecord) (k : ℕ) → HasNumber told r k → Contains told.done k ⊎ Contains result.now (k, r) }
     {
         &self.contents.pending
     }

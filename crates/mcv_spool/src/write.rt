@@ -46,7 +46,7 @@ pub(crate) fn write_record<D: Disk>(
     requires small { end < 2 ^ 62 }
     requires end { D.keeps_model → end ≡ 640 * length (slots (D.seen disk.old)) }
     requires crash { D.keeps_model → (c : List ℕ) → D.may_leave disk.old c → IsVersion (slots (D.seen disk.old)) c }
-    ensures reads { OnOk result (read_record (slot_of delete.now) ≡ Some delete.now) }
+    ensures reads { read_record (slot_of delete.now) ≡ Some delete.now }
     ensures slots { D.keeps_model → OnOk result (slots (D.seen disk.new) ≡ slots (D.seen disk.old) ++ slot_of delete.now ∷ []) }
     ensures closed { D.keeps_model → OnOk result (IsClosed (D.seen disk.new)) }
     ensures durable { D.keeps_model → OnOk result (Only (D.seen disk.new) (D.may_leave disk.new)) }

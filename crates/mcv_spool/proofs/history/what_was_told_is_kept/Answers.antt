@@ -1,0 +1,11 @@
+use Rattle.mcv_spool.proofs.Histories.{found_kept, sound}
+use Rattle.mcv_spool.proofs.history.what_was_told_is_kept.Goals as goal
+
+pub returns-clause-kept : goal.returns-clause-kept
+returns-clause-kept g c = λ model told w so_far.
+    (sound g.D.Disk.seen g.D.Disk.may_leave g.D.Disk.moment g.D.Disk.left_since (g.met.D.Disk.read_may_stay model) (g.met.D.Disk.counts_now model) (g.met.D.Disk.only_now model) told w so_far).crash
+
+pub returns-clause-found : goal.returns-clause-found
+returns-clause-found g c = λ model told w records new so_far finds.
+    let known = sound g.D.Disk.seen g.D.Disk.may_leave g.D.Disk.moment g.D.Disk.left_since (g.met.D.Disk.read_may_stay model) (g.met.D.Disk.counts_now model) (g.met.D.Disk.only_now model) told w so_far in
+    found_kept told (g.D.Disk.seen w.disk) records (known.crash (g.D.Disk.seen w.disk) (g.met.D.Disk.read_may_stay model w.disk)) finds.reads

@@ -1,0 +1,16 @@
+//! What a spool keeps over any list of calls, with a stop of the machine at any moment.
+//!
+//! A `History` is such a list, with what its calls have told. Each call of a spool is one of its steps: that is
+//! the clause `step` of `open`, `reopen`, `append` and `done`.
+
+ghost use Rattle.std.specs.Prelude.{◌≡◌, ℕ, List, ◌++◌};
+ghost use Rattle.mcv_spool.specs.History.{Finds, History, IsKept, Told, World};
+ghost use Rattle.mcv_spool.specs.declared.record.SpoolRecord.{SpoolRecord};
+
+use crate::disk::Disk;
+
+/// Whatever a crash leaves after any list of calls has what was told; and that is what the next `open` finds.
+pub fn what_was_told_is_kept<D: Disk>()
+    ensures kept { D.keeps_model → (told : Told) (w : World D) → History D.seen D.may_leave D.moment D.left_since told w → (file : List ℕ) → D.may_leave w.disk file → IsKept told file }
+    ensures found { D.keeps_model → (told : Told) (w : World D) (records : List SpoolRecord) (new : D) → History D.seen D.may_leave D.moment D.left_since told w → Finds D.seen D.may_leave D.moment D.left_since records w.disk new → (more : List SpoolRecord) × (others : List SpoolRecord) × (told.tried ≡ more ++ others) × (records ≡ told.found ++ told.stored ++ more) }
+{}
