@@ -5,7 +5,8 @@ pub mod Lists
 pub mod Operations
 pub mod Noted
 pub mod Holds
-pub mod SoundRoutes
 pub mod SoundPools
+pub mod Later
+pub mod SoundRoutes
 pub mod Sound
 mod Examples

@@ -4,6 +4,11 @@ pub mod Plan
 pub mod Lists
 pub mod Handles
 pub mod Pools
+pub mod Walk
+pub mod Numbers
+pub mod Hash
+pub mod Shadows
+pub mod Selectors
 pub mod Routes
 pub mod Config
 pub mod View
