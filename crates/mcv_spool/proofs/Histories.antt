@@ -1,13 +1,13 @@
 -- What a crash may leave after any list of calls.
-use Rattle.std.proofs.Common.{◌≡◌, ◌≢◌, ◌⊎◌, inl, inr, ⊎_elim, ℕ, zero, suc, ◌+◌, ◌<◌, ◌≤◌, ◌==◌, Bool, true, false, not, true≢false, List, [], ◌∷◌, ◌++◌, length, map, get_or, set, Option, Some, None, is_none, cond, drop, ◌||◌, refl, sym, ◌∙◌, ap, subst, arith, append_assoc, get_or-set_other}
+use Rattle.std.proofs.Common.{◌≡◌, ◌⊎◌, inl, inr, ⊎_elim, ℕ, zero, suc, ◌+◌, ◌<◌, ◌≤◌, ◌==◌, Bool, true, false, true≢false, List, [], ◌∷◌, ◌++◌, length, map, get_or, set, Option, Some, None, is_none, cond, drop, ◌||◌, refl, sym, ◌∙◌, ap, subst, arith, append_assoc, get_or-set_other}
 use Rattle.std.proofs.lemmas.Bool.{cases_eq}
-use Rattle.std.proofs.lemmas.List.{append-nil, map-append, length-map}
-use Rattle.std.proofs.lemmas.List.Elements.{Contains-append_left, Contains-append_right}
+use Rattle.std.proofs.lemmas.List.{append-nil, map-append}
+use Rattle.std.proofs.lemmas.List.Elements.{Contains-append_right}
 use Rattle.std.specs.List.{Contains}
-use Rattle.mcv_spool.specs.Disk.{LeavesOnly, Only}
+use Rattle.mcv_spool.specs.Disk.{LeavesOnly}
 use Rattle.mcv_spool.specs.File.{damage, is_done, marked, pending_at, pending_from, read_record, slot_of, slots, slots_within}
 use Rattle.mcv_spool.specs.Version.{HasSlotsOf, IsBeforeOrAfter, IsVersion}
-use Rattle.mcv_spool.specs.History.{Told, HasNumber, IsKept, World, record_in, records_of, shut, nothing_told, told_found, told_stored, told_tried, told_done, Finds, Appends, Stores, Marks, Call, History}
+use Rattle.mcv_spool.specs.History.{Told, HasNumber, IsKept, World, record_in, records_of, nothing_told, told_found, told_stored, told_tried, told_done, Call, History}
 use Rattle.mcv_spool.specs.declared.record.SpoolRecord.{SpoolRecord}
 use Rattle.mcv_spool.proofs.Marks.{records_marked}
 
