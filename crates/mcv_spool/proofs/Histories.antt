@@ -249,7 +249,7 @@ module _ {D : Type 0} (seen : D → List ℕ) (may_leave : D → List ℕ → Ty
   after t old new answered stopped sound (Call.stored r o n before stores ready) =
       let was = sound.whole before in
       let whole : map read_record (slots (seen n.disk)) ≡ map Some (t.found ++ (t.stored ++ r ∷ [])) =
-          ap (λ (ss : List (List ℕ)). map read_record ss) stores.adds ∙ added t r (slots (seen o.disk)) was.0 stores.writes.reads ∙ ap (λ (l : List SpoolRecord). map Some l) (append_assoc t.found t.stored (r ∷ [])) in
+      ap (λ (ss : List (List ℕ)). map read_record ss) stores.adds ∙ added t r (slots (seen o.disk)) was.0 stores.writes.reads ∙ ap (λ (l : List SpoolRecord). map Some l) (append_assoc t.found t.stored (r ∷ [])) in
       let kept = seen_kept t o n (told_stored r) (told_tried r) sound (Call.stored r o n before stores ready) stores.writes.any_moment.later in
       record {
         crash = λ c left. kept_whole (told_stored r t) (slots (seen n.disk)) c whole (ap (λ (f : List ℕ). map read_record (slots f)) (stores.durable c left))
