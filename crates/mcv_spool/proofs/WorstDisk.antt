@@ -1,6 +1,6 @@
 -- The worst disk keeps the model.
-use Rattle.std.proofs.Common.{◌≡◌, ◌⊎◌, inl, inr, ⊎_elim, ℕ, ◌+◌, ◌-◌, ◌<◌, ◌≤◌, max, List, [], ◌∷◌, ◌++◌, length, take, drop, refl, sym, ◌∙◌, ap, subst, arith, append_assoc, length-append, length-drop, length-take, take_at, drop_at}
-use Rattle.mcv_spool.specs.Disk.{Changes, Cut, IsQuiet, Only, Torn, written}
+use Rattle.std.proofs.Common.{◌≡◌, ◌⊎◌, inl, inr, ℕ, ◌+◌, ◌-◌, ◌≤◌, List, [], ◌∷◌, ◌++◌, length, take, drop, refl, sym, ◌∙◌, ap, subst, arith, append_assoc, length-append, length-drop, length-take, take_at, drop_at}
+use Rattle.mcv_spool.specs.Disk.{Changes, Cut, Torn, written}
 use Rattle.mcv_spool.specs.WorstDisk.{Change, KeepsModel, left_of, left_since_of, read_of}
 use Rattle.mcv_spool.proofs.Moments.{quiet_start}
 
