@@ -181,14 +181,13 @@ fn long_bytes(alloc: Global, long: Long) -> Result<Vec<u8>, AllocError> {
     Ok(bytes)
 }
 
-/// Whether a stream of `length` bytes is cut here: at each byte, but where `items` is a value of a
-/// megabyte at each near both ends and at some between them.
-fn is_tried(cut: usize, length: usize, items: &[u8]) -> bool {
-    items.len() < 1_048_576 || cut < 24 || length.saturating_sub(cut) < 24 || cut % 65_537 == 0
+/// Whether a stream of `length` bytes is cut here: each cut near both ends, and some between them.
+fn is_tried(cut: usize, length: usize) -> bool {
+    cut < 24 || length.saturating_sub(cut) < 24 || cut % 65_537 == 0
 }
 
-/// Streams at the limits and one byte beyond, with their items. That the cuts which aren't tried
-/// give the same items is the law `any_pieces`.
+/// Streams at the limits and one byte beyond, with their items. The other cuts are tried by
+/// `bench/cuts`; that all of them give the same items is the law `any_pieces`.
 #[test]
 fn limits_are_met_exactly_however_cut(rt: HostRuntime) -> Result<(), Fail> {
     let alloc = rt.alloc();
@@ -226,13 +225,11 @@ fn limits_are_met_exactly_however_cut(rt: HostRuntime) -> Result<(), Fail> {
         let bytes = long_bytes(alloc, stream)?;
         let items = long_bytes(alloc, items)?;
         for cut in 0..=bytes.len() {
-            if is_tried(cut, bytes.len(), items.as_slice()) {
+            if is_tried(cut, bytes.len()) {
                 let text = read_cut(alloc, bytes.as_slice(), cut)?;
                 assert!(rt; text.as_slice() == items.as_slice(), "cut at {cut}");
             }
         }
-        let text = read_bytes(alloc, bytes.as_slice())?;
-        assert!(rt; text.as_slice() == items.as_slice(), "cut at every byte");
     }
     Ok(())
 }
