@@ -1,5 +1,5 @@
 -- What a crash leaves in each of the two writes of an append, and what stands there after them.
-use Rattle.std.proofs.Common.{◌≡◌, inl, inr, ℕ, ◌+◌, ◌*◌, ◌<◌, ◌≤◌, List, [], ◌∷◌, ◌++◌, length, get_or, refl, sym, ◌∙◌, ap, subst, arith}
+use Rattle.std.proofs.Common.{◌≡◌, inl, ℕ, ◌+◌, ◌*◌, ◌≤◌, List, [], ◌∷◌, ◌++◌, length, get_or, sym, ◌∙◌, ap, subst, arith}
 use Rattle.mcv_spool.specs.Disk.{IsTornFrom, Only, Torn, written}
 use Rattle.mcv_spool.specs.File.{IsClosed, body, slot_of, slots}
 use Rattle.mcv_spool.specs.Version.{IsBeforeOrAfter, IsVersion}

@@ -1,6 +1,6 @@
 -- The definitions at small files.
-use Rattle.std.proofs.Common.{◌≡◌, ℕ, List, [], ◌∷◌, ◌++◌, length, take, set, codes, Some, None, refl}
-use Rattle.mcv_spool.specs.File.{body, damage, marked, pending_from, read_record, slot_of, slots, slots_within}
+use Rattle.std.proofs.Common.{◌≡◌, [], ◌∷◌, ◌++◌, length, take, set, codes, Some, refl}
+use Rattle.mcv_spool.specs.File.{damage, marked, pending_from, read_record, slot_of, slots, slots_within}
 use Rattle.mcv_base.specs.Server.{is_host, is_port, is_server}
 use Rattle.mcv_spool.specs.declared.record.SpoolRecord.{SpoolRecord}
 

@@ -1,13 +1,13 @@
 -- What a crash may leave after any list of calls.
-use Rattle.std.proofs.Common.{◌≡◌, ◌≢◌, ◌⊎◌, inl, inr, ⊎_elim, ℕ, zero, suc, ◌+◌, ◌<◌, ◌≤◌, ◌==◌, Bool, true, false, not, true≢false, List, [], ◌∷◌, ◌++◌, length, map, get_or, set, Option, Some, None, is_none, cond, drop, ◌||◌, refl, sym, ◌∙◌, ap, subst, arith, append_assoc, get_or-set_other}
+use Rattle.std.proofs.Common.{◌≡◌, ◌⊎◌, inl, inr, ⊎_elim, ℕ, zero, suc, ◌+◌, ◌<◌, ◌≤◌, ◌==◌, Bool, true, false, true≢false, List, [], ◌∷◌, ◌++◌, length, map, get_or, set, Option, Some, None, is_none, cond, drop, ◌||◌, refl, sym, ◌∙◌, ap, subst, arith, append_assoc, get_or-set_other}
 use Rattle.std.proofs.lemmas.Bool.{cases_eq}
-use Rattle.std.proofs.lemmas.List.{append-nil, map-append, length-map}
-use Rattle.std.proofs.lemmas.List.Elements.{Contains-append_left, Contains-append_right}
+use Rattle.std.proofs.lemmas.List.{append-nil, map-append}
+use Rattle.std.proofs.lemmas.List.Elements.{Contains-append_right}
 use Rattle.std.specs.List.{Contains}
-use Rattle.mcv_spool.specs.Disk.{LeavesOnly, Only}
+use Rattle.mcv_spool.specs.Disk.{LeavesOnly}
 use Rattle.mcv_spool.specs.File.{damage, is_done, marked, pending_at, pending_from, read_record, slot_of, slots, slots_within}
 use Rattle.mcv_spool.specs.Version.{HasSlotsOf, IsBeforeOrAfter, IsVersion}
-use Rattle.mcv_spool.specs.History.{Told, HasNumber, IsKept, World, record_in, records_of, shut, nothing_told, told_found, told_stored, told_tried, told_done, Finds, Appends, Stores, Marks, Call, History}
+use Rattle.mcv_spool.specs.History.{Told, HasNumber, IsKept, World, record_in, records_of, nothing_told, told_found, told_stored, told_tried, told_done, Call, History}
 use Rattle.mcv_spool.specs.declared.record.SpoolRecord.{SpoolRecord}
 use Rattle.mcv_spool.proofs.Marks.{records_marked}
 
@@ -249,7 +249,7 @@ module _ {D : Type 0} (seen : D → List ℕ) (may_leave : D → List ℕ → Ty
   after t old new answered stopped sound (Call.stored r o n before stores ready) =
       let was = sound.whole before in
       let whole : map read_record (slots (seen n.disk)) ≡ map Some (t.found ++ (t.stored ++ r ∷ [])) =
-          ap (λ (ss : List (List ℕ)). map read_record ss) stores.adds ∙ added t r (slots (seen o.disk)) was.0 stores.writes.reads ∙ ap (λ (l : List SpoolRecord). map Some l) (append_assoc t.found t.stored (r ∷ [])) in
+      ap (λ (ss : List (List ℕ)). map read_record ss) stores.adds ∙ added t r (slots (seen o.disk)) was.0 stores.writes.reads ∙ ap (λ (l : List SpoolRecord). map Some l) (append_assoc t.found t.stored (r ∷ [])) in
       let kept = seen_kept t o n (told_stored r) (told_tried r) sound (Call.stored r o n before stores ready) stores.writes.any_moment.later in
       record {
         crash = λ c left. kept_whole (told_stored r t) (slots (seen n.disk)) c whole (ap (λ (f : List ℕ). map read_record (slots f)) (stores.durable c left))

@@ -9,3 +9,4 @@ pub mod Settled
 pub mod Slots
 pub mod Versions
 pub mod Histories
+pub mod WorstDisk

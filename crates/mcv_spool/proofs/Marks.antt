@@ -1,5 +1,5 @@
 -- What stays where the record of a slot is marked as done.
-use Rattle.std.proofs.Common.{◌≡◌, ◌≢◌, inl, inr, ℕ, zero, suc, ◌+◌, ◌-◌, ◌*◌, ◌<◌, ◌≤◌, Bool, true, false, not, ◌==◌, List, [], ◌∷◌, ◌++◌, length, map, get_or, take, drop, set, refl, sym, ◌∙◌, ap, subst, arith, append_assoc, take-append-drop, get_or-set_same, get_or-set_other, length-set}
+use Rattle.std.proofs.Common.{◌≡◌, ◌≢◌, inl, inr, ℕ, zero, suc, ◌+◌, ◌-◌, ◌*◌, ◌<◌, true, not, ◌==◌, List, [], ◌∷◌, ◌++◌, length, map, get_or, take, drop, set, refl, sym, ◌∙◌, ap, subst, arith, append_assoc, take-append-drop, get_or-set_same, get_or-set_other, length-set}
 use Rattle.std.proofs.lemmas.Bool.{cases_eq}
 use Rattle.std.proofs.lemmas.List.{drop_more, map-set, set-get_or, set-append_right, set-append_left, set_split}
 use Rattle.mcv_spool.specs.Disk.{Torn, written}

@@ -1,9 +1,9 @@
 -- The slots of a file, read piece by piece.
-use Rattle.std.proofs.Common.{◌≡◌, ◌≢◌, ◌⊎◌, inl, inr, ℕ, zero, suc, ◌+◌, ◌-◌, ◌*◌, ◌<◌, ◌≤◌, min, true, false, true≢false, List, [], ◌∷◌, ◌++◌, length, get_or, take, drop, Option, Some, None, is_none, cond, ◌==◌, ◌||◌, refl, sym, ◌∙◌, ap, subst, arith, append_assoc, append-nil, length-append, length-drop, length-take, take-append-drop, take_all, get_or-take, take-take, drop-drop}
+use Rattle.std.proofs.Common.{◌≡◌, ◌≢◌, inl, inr, ℕ, zero, suc, ◌+◌, ◌*◌, ◌<◌, ◌≤◌, min, true, false, true≢false, List, [], ◌∷◌, ◌++◌, length, get_or, take, drop, Some, None, is_none, cond, ◌==◌, ◌||◌, refl, sym, ◌∙◌, ap, arith, append_assoc, append-nil, length-append, length-drop, length-take, take-append-drop, take_all, get_or-take, take-take, drop-drop}
 use Rattle.std.proofs.lemmas.List.{drop-take, take_min}
 use Rattle.mcv_spool.specs.Found.{IsFound}
 use Rattle.mcv_spool.specs.File.{damage, is_done, is_open, pending_at, pending_from, read_record, slots}
-use Rattle.mcv_spool.proofs.Slots.{open_gate, open_longer, makes_open, shut_gate, shut_short, slots-open, slots-shut, truth}
+use Rattle.mcv_spool.proofs.Slots.{open_gate, open_longer, makes_open, shut_short, slots-open, slots-shut, truth}
 use Rattle.mcv_spool.specs.declared.record.SpoolRecord.{SpoolRecord}
 
 -- a piece that ends with a gate is open where the file is

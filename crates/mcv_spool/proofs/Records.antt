@@ -1,11 +1,11 @@
 -- The records of slots: one that is written reads back, and what is pending after a call.
-use Rattle.std.proofs.Common.{◌≡◌, ◌≢◌, ◌⊎◌, inl, inr, ℕ, zero, suc, ◌+◌, ◌-◌, ◌*◌, ◌/◌, ◌%◌, ◌<◌, ◌≤◌, Bool, true, false, true≢false, not, ◌==◌, ◌&&◌, ◌||◌, nat_le, nat_lt, cond, is_none, Option, Some, None, List, [], ◌∷◌, ◌++◌, length, get_or, take, drop, set, filter, refl, sym, ◌∙◌, ap, subst, arith, append_assoc, append-nil, take_at, drop_at, zero-add, replicate, get_or-set_same}
+use Rattle.std.proofs.Common.{◌≡◌, ◌≢◌, ◌⊎◌, inl, inr, ℕ, zero, suc, ◌+◌, ◌-◌, ◌<◌, ◌≤◌, Bool, true, false, true≢false, not, ◌==◌, ◌&&◌, ◌||◌, nat_le, nat_lt, cond, is_none, Option, Some, None, List, [], ◌∷◌, ◌++◌, length, take, drop, set, filter, refl, sym, ◌∙◌, ap, arith, append_assoc, take_at, drop_at, zero-add, replicate, get_or-set_same}
 use Rattle.std.proofs.lemmas.Bool.{cases_eq}
 use Rattle.std.proofs.lemmas.Bool.Decides.{nat_tests}
 use Rattle.std.specs.List.{list_all, list_any}
 use Rattle.mcv_base.specs.Key.{is_key_word}
 use Rattle.mcv_base.specs.Server.{is_server}
-use Rattle.mcv_spool.specs.File.{body, damage, is_done, marked, number_at, pending_at, pending_from, read_parts, read_record, slot_of}
+use Rattle.mcv_spool.specs.File.{damage, is_done, marked, number_at, pending_at, pending_from, read_parts, read_record, slot_of}
 use Rattle.mcv_spool.specs.declared.record.SpoolRecord.{SpoolRecord}
 use Rattle.mcv_spool.proofs.Marks.{read_set}
 use Rattle.mcv_spool.proofs.Pieces.{damage-append, pending-append}

@@ -1,9 +1,9 @@
 -- What a crash leaves while the end gate is closed.
-use Rattle.std.proofs.Common.{◌≡◌, ◌⊎◌, inl, inr, ⊎_elim, ℕ, ◌+◌, ◌-◌, ◌*◌, ◌<◌, ◌≤◌, min, max, true≢false, List, [], ◌∷◌, ◌++◌, length, get_or, take, drop, refl, sym, ◌∙◌, ap, subst, arith, append-nil, length-append, length-drop, length-take, take-take, take_all}
+use Rattle.std.proofs.Common.{◌≡◌, ◌⊎◌, inl, inr, ⊎_elim, ℕ, ◌+◌, ◌*◌, ◌<◌, ◌≤◌, min, true≢false, List, [], ◌∷◌, ◌++◌, length, get_or, take, drop, refl, sym, ◌∙◌, ap, subst, arith, append-nil, length-append, length-drop, length-take, take-take}
 use Rattle.std.proofs.lemmas.Bool.{cases_eq, cases_lt}
 use Rattle.std.proofs.lemmas.List.{drop_all}
 use Rattle.mcv_spool.specs.Disk.{Cut, Torn, written}
-use Rattle.mcv_spool.specs.File.{IsClosed, is_open, slots}
+use Rattle.mcv_spool.specs.File.{IsClosed, slots}
 use Rattle.mcv_spool.proofs.Slots.{at_drop, back_shut, closed_at, closed_row, front, length-row, makes_open, parts, row, same_slots, shut_short, slots-shut, within}
 
 -- the end gate is there, or there is no slot

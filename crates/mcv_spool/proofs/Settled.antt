@@ -1,5 +1,5 @@
 -- What a spool knows of its file after each call.
-use Rattle.std.proofs.Common.{◌≡◌, ℕ, ◌+◌, ◌*◌, ◌<◌, ◌≤◌, not, ◌==◌, Some, None, List, [], ◌∷◌, ◌++◌, length, filter, set, get_or, length-set, sym, ◌∙◌, ap, subst, arith, length-append, zero-add}
+use Rattle.std.proofs.Common.{◌≡◌, ℕ, ◌+◌, ◌<◌, not, ◌==◌, Some, List, [], ◌∷◌, ◌++◌, length, filter, set, get_or, length-set, sym, ◌∙◌, ap, subst, arith, length-append, zero-add}
 use Rattle.mcv_spool.specs.Disk.{Only}
 use Rattle.mcv_spool.specs.File.{IsClosed, damage, marked, pending_from, read_record, slot_of, slots}
 use Rattle.mcv_spool.specs.Found.{IsFound}

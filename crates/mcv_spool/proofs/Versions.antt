@@ -1,12 +1,12 @@
 -- What a crash leaves of a file, in each step of a call.
-use Rattle.std.proofs.Common.{◌≡◌, ◌≢◌, ◌⊎◌, inl, inr, ℕ, zero, suc, ◌+◌, ◌-◌, ◌*◌, ◌<◌, ◌≤◌, min, max, Bool, true, false, List, [], ◌∷◌, ◌++◌, length, map, get_or, take, drop, set, replicate, ◌/◌, ◌%◌, refl, sym, ◌∙◌, ap, subst, arith, append_assoc, length-append, length-drop, length-take, take-append-drop, take_at, drop_at, take_all, get_or-set_same, get_or-set_other}
+use Rattle.std.proofs.Common.{◌≡◌, ◌≢◌, inl, inr, ℕ, zero, suc, ◌+◌, ◌-◌, ◌*◌, ◌<◌, ◌≤◌, true, List, [], ◌∷◌, ◌++◌, length, map, get_or, take, drop, replicate, ◌/◌, ◌%◌, refl, sym, ◌∙◌, ap, subst, arith, append_assoc, length-append, take-append-drop, take_at, drop_at}
 use Rattle.std.proofs.lemmas.Bool.{cases_eq}
-use Rattle.std.proofs.lemmas.List.{drop_more, drop_all, length-map, map-append, map-set, set-get_or, length-set, set-append_right, set-append_left, set_split, take_more, length-replicate}
-use Rattle.mcv_spool.specs.Disk.{Cut, Torn, written}
-use Rattle.mcv_spool.specs.File.{IsClosed, body, is_done, is_open, marked, read_record, slot_of, slots}
+use Rattle.std.proofs.lemmas.List.{drop_more, length-map, map-append, take_more, length-replicate}
+use Rattle.mcv_spool.specs.Disk.{Torn, written}
+use Rattle.mcv_spool.specs.File.{IsClosed, body, is_done, is_open, read_record, slots}
 use Rattle.mcv_spool.specs.Version.{IsBeforeOrAfter, IsVersion}
 use Rattle.mcv_spool.specs.declared.record.SpoolRecord.{SpoolRecord}
-use Rattle.mcv_spool.proofs.Slots.{AllOpen, IsOpenSlot, at_drop, back_shut, closed_at, closed_row, front, length-row, makes_open, one_more, open_longer, parts, row, same_closed, same_slots, shut_gate, shut_short, truth, within}
+use Rattle.mcv_spool.proofs.Slots.{AllOpen, closed_row, front, length-row, one_more, row, same_closed}
 
 pub version_self : (c : List ℕ) → IsClosed c → IsVersion (slots c) c
 version_self c closed = record { records = refl; done = λ k h. h; closed = closed }

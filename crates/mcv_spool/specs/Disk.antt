@@ -1,5 +1,5 @@
 -- A disk with one file (own): what its calls do to what a read gives, and to what a crash may leave.
-use Rattle.std.specs.Prelude.{◌<◌, ◌≡◌, ◌⊎◌, ℕ, ◌+◌, ◌≤◌, max, List, ◌++◌, length, take, drop}
+use Rattle.std.specs.Prelude.{◌≡◌, ◌⊎◌, ℕ, ◌+◌, ◌≤◌, max, List, ◌++◌, length, take, drop}
 
 -- the file with these bytes at this offset, which is at most its length
 abbrev pub written : List ℕ → ℕ → List ℕ → List ℕ

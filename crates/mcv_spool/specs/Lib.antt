@@ -4,3 +4,4 @@ pub mod File
 pub mod Found
 pub mod Version
 pub mod History
+pub mod WorstDisk

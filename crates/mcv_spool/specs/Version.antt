@@ -1,5 +1,5 @@
 -- What a crash may leave of a file: the same records, or these and one more.
-use Rattle.std.specs.Prelude.{◌≡◌, ◌⊎◌, ℕ, Bool, true, false, List, [], ◌∷◌, ◌++◌, length, map, Option, slice_index_or}
+use Rattle.std.specs.Prelude.{◌≡◌, ◌⊎◌, ℕ, true, List, [], ◌∷◌, ◌++◌, map, slice_index_or}
 use Rattle.mcv_spool.specs.File.{slots, read_record, is_done, IsClosed, slot_of}
 use Rattle.mcv_spool.specs.Found.{IsFound}
 use Rattle.mcv_spool.specs.declared.record.SpoolRecord.{SpoolRecord}

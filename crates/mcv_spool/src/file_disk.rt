@@ -7,6 +7,7 @@ use crate::disk::{Disk, DiskFailed};
 use std::fs::{File, OpenOptions};
 use std::io;
 use std::os::unix::fs::FileExt;
+use std::path::Path;
 
 /// A file of the operating system.
 #[derive(Drop)]
@@ -15,16 +16,25 @@ pub struct FileDisk {
 }
 
 impl FileDisk {
-    /// Opens the file of this name, and makes an empty one where there is none.
+    /// Opens the file of this name, and makes an empty one where there is none, which has its name on the disk too.
     pub fn open(rt: &HostRuntime, path: &str) -> io::Result<FileDisk> {
         let file = OpenOptions::new()
             .read(true)
             .write(true)
             .create(true)
             .open(rt, path)?;
-        // The folder isn't synced: whoever makes the file has to see to its name.
         file.sync_all()?;
+        // A file that was just made is lost in a crash until the folder that names it is on the disk.
+        File::open(rt, folder_of(path))?.sync_all()?;
         Ok(FileDisk { file })
+    }
+}
+
+/// The folder that names a file.
+fn folder_of(path: &str) -> Path<'_> {
+    match Path::new(path).parent() {
+        Some(folder) if !folder.as_str().is_empty() => folder,
+        _ => Path::new("."),
     }
 }
 

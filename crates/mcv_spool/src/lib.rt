@@ -18,7 +18,7 @@ mod write;
 pub use disk::{Disk, DiskFailed};
 pub use fault::SpoolFault;
 pub use file_disk::FileDisk;
-pub use history::what_was_told_is_kept;
+pub use history::{a_disk_keeps_the_model, what_was_told_is_kept};
 pub use record::{SpoolRecord, Stored};
 pub use spool::Spool;
 

@@ -63,26 +63,45 @@ fn push_item(text: &mut Vec<u8>, item: &Item) -> Result<(), AllocError> {
     text.extend_from_slice(b";")
 }
 
-fn push_items(text: &mut Vec<u8>, fed: Result<Vec<Item>, TextFault>) -> Result<(), Fail> {
-    for item in &fed? {
+/// Feeds a piece and adds its items; a reader that has failed gives none.
+fn push_fed(text: &mut Vec<u8>, reader: &mut RequestReader, piece: &[u8]) -> Result<(), Fail> {
+    let items = match reader.feed(piece) {
+        Err(TextFault::Failed) => return Ok(()),
+        fed => fed?,
+    };
+    for item in &items {
         push_item(text, item)?;
     }
     Ok(())
 }
 
-/// The items of two pieces, and `failed` where a further piece is answered Failed.
+/// Adds `failed` where a further piece is answered Failed.
+fn push_end(text: &mut Vec<u8>, reader: &mut RequestReader) -> Result<(), AllocError> {
+    if let Err(TextFault::Failed) = reader.feed(b"") {
+        text.extend_from_slice(b"failed")?;
+    }
+    Ok(())
+}
+
+/// What is read of two pieces.
 fn read_cut(alloc: Global, bytes: &[u8], cut: usize) -> Result<Vec<u8>, Fail> {
     let mut text = Vec::new(alloc);
     let mut reader = RequestReader::new(alloc);
     let (first, second) = bytes.split_at(cut.min(bytes.len()));
-    push_items(&mut text, reader.feed(first))?;
-    match reader.feed(second) {
-        Err(TextFault::Failed) => (),
-        fed => push_items(&mut text, fed)?,
+    push_fed(&mut text, &mut reader, first)?;
+    push_fed(&mut text, &mut reader, second)?;
+    push_end(&mut text, &mut reader)?;
+    Ok(text)
+}
+
+/// What is read of a piece for each byte: the stream cut at every byte at once.
+fn read_bytes(alloc: Global, bytes: &[u8]) -> Result<Vec<u8>, Fail> {
+    let mut text = Vec::new(alloc);
+    let mut reader = RequestReader::new(alloc);
+    for piece in bytes.chunks(1) {
+        push_fed(&mut text, &mut reader, piece)?;
     }
-    if let Err(TextFault::Failed) = reader.feed(b"") {
-        text.extend_from_slice(b"failed")?;
-    }
+    push_end(&mut text, &mut reader)?;
     Ok(text)
 }
 
@@ -98,6 +117,8 @@ fn check_rows(rt: &impl Abort, alloc: Global, table: &str) -> Result<(), Fail> {
             let text = read_cut(alloc, bytes.as_slice(), cut)?;
             assert!(rt; text.as_slice() == items.as_slice(), "{row}");
         }
+        let text = read_bytes(alloc, bytes.as_slice())?;
+        assert!(rt; text.as_slice() == items.as_slice(), "{row}");
     }
     Ok(())
 }
@@ -165,8 +186,8 @@ fn is_tried(cut: usize, length: usize) -> bool {
     cut < 24 || length.saturating_sub(cut) < 24 || cut % 65_537 == 0
 }
 
-/// Streams at the limits and one byte beyond, with their items. That the cuts which aren't tried
-/// give the same items is the law `any_pieces`.
+/// Streams at the limits and one byte beyond, with their items. The other cuts are tried by
+/// `bench/cuts`; that all of them give the same items is the law `any_pieces`.
 #[test]
 fn limits_are_met_exactly_however_cut(rt: HostRuntime) -> Result<(), Fail> {
     let alloc = rt.alloc();

@@ -1,4 +1,4 @@
-use Rattle.std.proofs.Common.{◌≡◌, ◌++◌, ◌+◌, ◌-◌, min, length, take, drop, sym, ◌∙◌, arith, take_at, length-drop}
+use Rattle.std.proofs.Common.{length, drop, ◌∙◌, arith, take_at, length-drop}
 use Rattle.mcv_spool.proofs.Pieces.{piece_read}
 use Rattle.mcv_spool.proofs.find.read_piece.Goals as goal
 

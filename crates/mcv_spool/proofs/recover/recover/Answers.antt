@@ -1,6 +1,5 @@
-use Rattle.std.proofs.Common.{◌≡◌, ◌*◌, ◌≤◌, List, ℕ, Err, Some, length, sym, ap, ◌∙◌, subst, arith}
+use Rattle.std.proofs.Common.{◌≡◌, ◌*◌, List, ℕ, Err, length, sym, ap, ◌∙◌, subst}
 use Rattle.std.proofs.lemmas.Result.{err_from_is_err_and}
-use Rattle.mcv_spool.specs.Disk.{Only}
 use Rattle.mcv_spool.specs.File.{damage, slots}
 use Rattle.mcv_spool.specs.Found.{IsFound}
 use Rattle.mcv_spool.specs.Version.{HasSlotsOf}

@@ -1,5 +1,5 @@
-use Rattle.std.proofs.Common.{◌≡◌, ◌+◌, ◌*◌, ◌≤◌, min, [], ◌∷◌, List, ℕ, length, take, subst, sym, ap, ◌∙◌, arith, length-take}
-use Rattle.mcv_spool.specs.Disk.{Cut, IsCutFrom, IsTornFrom, Only, Torn, written}
+use Rattle.std.proofs.Common.{◌≡◌, ◌+◌, min, [], ◌∷◌, List, ℕ, length, take, subst, sym, ap, ◌∙◌, arith, length-take}
+use Rattle.mcv_spool.specs.Disk.{Cut, Torn, written}
 use Rattle.mcv_spool.specs.File.{IsClosed, slots}
 use Rattle.mcv_spool.proofs.Moments.{after_run, weaker}
 use Rattle.mcv_spool.proofs.Repair.{cut_keeps, gate_closed, gate_keeps}

@@ -1,5 +1,4 @@
-use Rattle.std.proofs.Common.{◌≡◌, List, ℕ, length, sym, subst}
-use Rattle.mcv_spool.specs.Disk.{Cut, IsCutFrom, Only}
+use Rattle.mcv_spool.specs.Disk.{Cut, IsCutFrom}
 use Rattle.mcv_spool.proofs.Moments.{after_change, after_quiet, started}
 use Rattle.mcv_spool.proofs.write.cut_through.Goals as goal
 

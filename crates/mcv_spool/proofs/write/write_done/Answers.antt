@@ -1,6 +1,6 @@
-use Rattle.std.proofs.Common.{◌≡◌, ◌+◌, ◌*◌, [], ◌∷◌, List, ℕ, length, ◌∙◌, ap, arith}
+use Rattle.std.proofs.Common.{◌≡◌, ◌+◌, ◌*◌, [], ◌∷◌, ◌∙◌, ap, arith}
 use Rattle.std.proofs.lemmas.Result.{on_ok_weaker}
-use Rattle.mcv_spool.specs.File.{IsClosed, marked, slots}
+use Rattle.mcv_spool.specs.File.{marked, slots}
 use Rattle.mcv_spool.specs.Version.{IsVersion}
 use Rattle.mcv_spool.specs.Disk.{Torn, written}
 use Rattle.mcv_spool.proofs.Marks.{inside, marked_version, one_written, set_closed}

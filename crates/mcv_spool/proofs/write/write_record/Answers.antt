@@ -1,7 +1,6 @@
-use Rattle.std.proofs.Common.{◌≡◌, ◌++◌, [], ◌∷◌, List, ℕ, length, sym, subst, ◌∙◌}
-use Rattle.mcv_spool.specs.File.{IsClosed, body, slots}
+use Rattle.std.proofs.Common.{◌∙◌}
+use Rattle.mcv_spool.specs.File.{slots}
 use Rattle.mcv_spool.specs.Version.{IsBeforeOrAfter}
-use Rattle.mcv_spool.specs.Disk.{IsTornFrom, Only}
 use Rattle.mcv_spool.proofs.Appends.{both_written, first_fits, first_write, second_fits, second_write}
 use Rattle.mcv_spool.proofs.Moments.{after_run, weaker}
 use Rattle.mcv_spool.proofs.write.write_record.Goals as goal

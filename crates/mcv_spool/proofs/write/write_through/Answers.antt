@@ -1,5 +1,5 @@
-use Rattle.std.proofs.Common.{◌≡◌, List, ℕ, length, sym, subst}
-use Rattle.mcv_spool.specs.Disk.{IsTornFrom, Only, Torn}
+use Rattle.std.proofs.Common.{length}
+use Rattle.mcv_spool.specs.Disk.{IsTornFrom, Torn}
 use Rattle.mcv_spool.proofs.Moments.{after_change, after_quiet, started}
 use Rattle.mcv_spool.proofs.write.write_through.Goals as goal
 

@@ -1,6 +1,6 @@
-use Rattle.std.proofs.Common.{◌≡◌, refl, sym, ap, ◌∙◌, arith, length, get_or, Err}
+use Rattle.std.proofs.Common.{refl, sym, ap, ◌∙◌, length, get_or, Err}
 use Rattle.std.proofs.lemmas.Result.{err_from_is_err_and}
-use Rattle.mcv_spool.proofs.Pieces.{Walked, walk_damaged, walk_on, walk_sound, walk_total, walk_undone}
+use Rattle.mcv_spool.proofs.Pieces.{walk_damaged, walk_on, walk_sound, walk_total, walk_undone}
 use Rattle.mcv_spool.proofs.Slots.{shut_gate, shut_short}
 use Rattle.mcv_spool.proofs.contents.Contents.take_all.Goals as goal
 

@@ -1,4 +1,6 @@
-use Rattle.std.proofs.Common.{◌≡◌, ◌++◌, [], ◌∷◌, ◌∙◌, ap, arith, ◌+◌, ◌<◌}
+use Rattle.std.proofs.Common.{◌++◌, [], ◌∷◌, ◌∙◌, ap, arith, ◌+◌, not, true, false, refl}
+use Rattle.std.proofs.lemmas.Result.{err_from_is_err_and}
+use Rattle.mcv_spool.specs.History.{Call, world}
 use Rattle.mcv_spool.proofs.Settled.{settled_append}
 use Rattle.mcv_spool.proofs.spool.Spool.append.Goals as goal
 
@@ -12,3 +14,29 @@ invariant_of-self-2 g c = record {
       c.add.new.self.count c.add.new.self.pending.items (c.add.ensures.count ∙ ap (λ n. n + 1) c.reserve.ensures.count)
       (c.add.ensures.pending ∙ (λ i. c.reserve.ensures.pending i ++ (c.reserve.ensures.count i, c.args.delete) ∷ []));
 }
+
+pub returns-then-self-clause-step : goal.returns-then-self-clause-step
+returns-then-self-clause-step g c = λ model. Call.nothing (world c.args.self.now.disk c.args.self.now.needs_reopen)
+
+pub returns-then-count-ge-SLOT_LIMIT-clause-step : goal.returns-then-count-ge-SLOT_LIMIT-clause-step
+returns-then-count-ge-SLOT_LIMIT-clause-step g c = λ model. Call.nothing (world c.args.self.now.disk c.args.self.now.needs_reopen)
+
+pub returns-in_err-reserve-clause-step : goal.returns-in_err-reserve-clause-step
+returns-in_err-reserve-clause-step g c =
+    let gone = err_from_is_err_and c.from_residual.result c.from_residual.ensures.1 in
+    rw (gone.1, gone.2) (λ model. Call.nothing (world c.args.self.now.disk c.args.self.now.needs_reopen))
+
+pub returns-in_err-write_record-clause-step : goal.returns-in_err-write_record-clause-step
+returns-in_err-write_record-clause-step g c =
+    let gone = err_from_is_err_and c.from_residual-in_err-write_record.result c.from_residual-in_err-write_record.ensures.1 in
+    rw (gone.1, gone.2) (λ model. Call.not_stored c.args.delete (world c.args.self.now.disk c.args.self.now.needs_reopen) (world c.write_record.new.disk true) (ap not c.if-self.false)
+    (record { reads = c.write_record.ensures.reads; any_moment = c.write_record.ensures.any_moment model }) refl)
+
+pub returns-clause-step : goal.returns-clause-step
+returns-clause-step g c = λ model.
+    Call.stored c.args.delete (world c.args.self.now.disk c.args.self.now.needs_reopen) (world c.write_record.new.disk false) (ap not c.if-self.false)
+    (record {
+      writes = record { reads = c.write_record.ensures.reads; any_moment = c.write_record.ensures.any_moment model };
+      adds = c.in_ok-write_record.ensures.slots model;
+      durable = c.in_ok-write_record.ensures.durable model;
+    }) refl
