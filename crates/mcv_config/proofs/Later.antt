@@ -2,13 +2,13 @@
 use Rattle.std.proofs.Common.{◌≡◌, ℕ, zero, suc, ◌+◌, ◌<◌, ◌≤◌, List, [], ◌∷◌, ◌++◌, length, get_or, bytes_eq, refl, sym, subst, ◌∙◌, arith, length-append}
 use Rattle.std.specs.List.{AllByRecursion, IsDistinct}
 use Rattle.serde_json.specs.Data.{Data, Members, no_members, member}
-use Rattle.mcv_config.specs.Fault.{Read}
-use Rattle.mcv_config.specs.Lists.{each, each_member}
-use Rattle.mcv_config.specs.Path.{key_step, item_step}
+use Rattle.mcv_names.specs.Fault.{Read}
+use Rattle.mcv_names.specs.Lists.{each, each_member}
+use Rattle.mcv_names.specs.Path.{key_step, item_step}
 use Rattle.mcv_config.specs.Plan.{Named, Nameds, no_named, named, pool, server, null, error, all_sync, all_initial, all_async, failover, miss_failover, warm_up, migrate, prefix_selector, operation_selector, IsSoundRoute, AreSoundRoutes}
 use Rattle.mcv_config.specs.Pools.{Table}
 use Rattle.mcv_config.specs.Walk.{SoFar, with_pool}
-use Rattle.mcv_config.proofs.Holds.{Holds, holds_bind}
+use Rattle.mcv_names.proofs.Holds.{Holds, holds_bind}
 use Rattle.mcv_config.proofs.SoundPools.{Grown, IsPool, pool_keeps}
 
 -- the later pools begin with the former ones
@@ -94,7 +94,7 @@ module _ {A : Type 0} (P : List (List ℕ) → A → Type 0) (keeps : (ps qs : L
   pub none_grow : (w : SoFar) → IsSoFar w → Grows Each w.pools.servers ([], w)
   none_grow w s = record { holds = tt; later = later_same w.pools.servers; sound = s }
 
-  more_grow : (ps : List (List ℕ)) (x : A × SoFar) (xs : List A × SoFar) → Grows P ps x → Grows Each x.1.pools.servers xs → Grows Each ps (x.0 ∷ xs.0, xs.1)
+  pub more_grow : (ps : List (List ℕ)) (x : A × SoFar) (xs : List A × SoFar) → Grows P ps x → Grows Each x.1.pools.servers xs → Grows Each ps (x.0 ∷ xs.0, xs.1)
   more_grow ps x xs h k = record {
     holds = (keeps x.1.pools.servers xs.1.pools.servers k.later x.0 h.holds, k.holds);
     later = later_than ps x.1.pools.servers xs.1.pools.servers h.later k.later;

@@ -7,14 +7,14 @@ use Rattle.serde_json.specs.Data.{Data, Items, Members, no_members, member}
 use Rattle.serde_json.specs.Find.{get, as_str, as_array, as_object}
 use Rattle.mcv_pools.specs.Table.{is_in, number_in, numbered, with_entry}
 use Rattle.mcv_pools.proofs.Tables.{kept, new, grown, numbered_last}
-use Rattle.mcv_config.specs.declared.handle.Object.TheVariants as objects
-use Rattle.mcv_config.specs.Fault.{Read}
-use Rattle.mcv_config.specs.Handles.{key_fault, keys_read}
-use Rattle.mcv_config.specs.Lists.{each, each_member, items_list, member_names, required, text_read}
-use Rattle.mcv_config.specs.Path.{key_step, item_step}
+use Rattle.mcv_names.specs.declared.handle.Object.TheVariants as objects
+use Rattle.mcv_names.specs.Fault.{Read}
+use Rattle.mcv_names.specs.Handles.{key_fault, keys_read}
+use Rattle.mcv_names.specs.Lists.{each, each_member, items_list, member_names, required, text_read}
+use Rattle.mcv_names.specs.Path.{key_step, item_step}
 use Rattle.mcv_config.specs.Plan.{IsSoundPool}
 use Rattle.mcv_config.specs.Pools.{Pools, Table, entered, is_full, listed_servers, pool_of_members, pool_read, pools_of_members, pools_read, server_read, server_text, servers_of_list, servers_read}
-use Rattle.mcv_config.proofs.Holds.{Holds, holds_bind, holds_then, holds_also, holds_if}
+use Rattle.mcv_names.proofs.Holds.{Holds, holds_bind, holds_then, holds_also, holds_if}
 
 -- ---- a text more in a table
 
@@ -38,7 +38,7 @@ or_second : (a b : Bool) → (a || b) ≡ false → b ≡ false
 or_second true b h = absurd (true≢false h)
 or_second false b h = h
 
-distinct_more : (xs : Table) (x : List ℕ) → IsDistinct bytes_eq xs → list_any (bytes_eq x) xs ≡ false → IsDistinct bytes_eq (xs ++ x ∷ [])
+pub distinct_more : (xs : Table) (x : List ℕ) → IsDistinct bytes_eq xs → list_any (bytes_eq x) xs ≡ false → IsDistinct bytes_eq (xs ++ x ∷ [])
 unfolding IsDistinct
 distinct_more [] x h e = (tt, tt)
 distinct_more (y ∷ xs) x h e = (
@@ -192,7 +192,7 @@ pools_sound path (Some d) = of_object_sound path (as_object d)
 
 -- ---- in the words of the plan
 
-all_of : {X : Type 0} (P : X → Type 0) (xs : List X) → AllByRecursion P xs → All P xs
+pub all_of : {X : Type 0} (P : X → Type 0) (xs : List X) → AllByRecursion P xs → All P xs
 all_of P [] h k d l = absurd (omega arith)
 all_of P (x ∷ xs) h zero d l = h.0
 all_of P (x ∷ xs) h (suc k) d l = all_of P xs h.1 k d (omega arith)

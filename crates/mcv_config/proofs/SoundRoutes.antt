@@ -5,26 +5,26 @@ use Rattle.std.proofs.lemmas.List.Quantifiers.{position-Some}
 use Rattle.serde_json.specs.Data.{Data, string, Items, Members}
 use Rattle.serde_json.specs.Find.{get, as_str, as_array, as_object}
 use Rattle.mcv_pools.specs.Table.{number_in}
-use Rattle.mcv_config.specs.declared.fault.FaultKind.{FaultKind}
-use Rattle.mcv_config.specs.declared.handle.Handle.{Handle}
-use Rattle.mcv_config.specs.declared.handle.Handle.TheVariants as handles
-use Rattle.mcv_config.specs.declared.handle.Many.{Many}
-use Rattle.mcv_config.specs.declared.handle.Many.TheVariants as many_handles
-use Rattle.mcv_config.specs.declared.handle.Selector.{Selector}
-use Rattle.mcv_config.specs.declared.handle.Selector.TheVariants as selectors
-use Rattle.mcv_config.specs.declared.handle.Object.TheVariants as objects
-use Rattle.mcv_config.specs.Fault.{Read, good, bad, ◌>>=◌}
-use Rattle.mcv_config.specs.Handles.{default_key, is_elsewhere, key_fault, keys_read, handle_named, name_fault, policies_key, stray_fault}
+use Rattle.mcv_names.specs.declared.fault.FaultKind.{FaultKind}
+use Rattle.mcv_names.specs.declared.handle.Handle.{Handle}
+use Rattle.mcv_names.specs.declared.handle.Handle.TheVariants as handles
+use Rattle.mcv_names.specs.declared.handle.Many.{Many}
+use Rattle.mcv_names.specs.declared.handle.Many.TheVariants as many_handles
+use Rattle.mcv_names.specs.declared.handle.Selector.{Selector}
+use Rattle.mcv_names.specs.declared.handle.Selector.TheVariants as selectors
+use Rattle.mcv_names.specs.declared.handle.Object.TheVariants as objects
+use Rattle.mcv_names.specs.Fault.{Read, good, bad, ◌>>=◌}
+use Rattle.mcv_names.specs.Handles.{default_key, is_elsewhere, key_fault, keys_read, handle_named, name_fault, policies_key, stray_fault, type_read}
 use Rattle.mcv_config.specs.Hash.{hash_read}
-use Rattle.mcv_config.specs.Lists.{each, items_list, items_or_none, required, some_items}
-use Rattle.mcv_config.specs.Path.{key_step, item_step}
+use Rattle.mcv_names.specs.Lists.{each, items_list, items_or_none, required, some_items}
+use Rattle.mcv_names.specs.Path.{key_step, item_step}
 use Rattle.mcv_config.specs.Plan.{Named, no_named, PrefixPlan, ShadowPlan, server, null, error, nameds_of, last_of, IsSoundRoute, AreSoundRoutes}
 use Rattle.mcv_config.specs.Pools.{Table, number_read, pool_named, pool_read}
-use Rattle.mcv_config.specs.Routes.{listed, servers, only_child, plain_pool, cut, pool_prefix, text_children, with_children, of_name, of_name_and_text, of_cut, text_route, type_read, pool_object, pool_value, pool_field, pool_fields, children_value, children_field, exptime_read, start_read, interval_read, warm_up_fields, migrate_fields, fields, of_type, object_route, handle_of, in_room, route}
+use Rattle.mcv_config.specs.Routes.{listed, servers, only_child, plain_pool, cut, pool_prefix, text_children, with_children, of_name, of_name_and_text, of_cut, text_route, pool_object, pool_value, pool_field, pool_fields, children_value, children_field, exptime_read, start_read, interval_read, warm_up_fields, migrate_fields, fields, of_type, object_route, handle_of, in_room, route}
 use Rattle.mcv_config.specs.Selectors.{policy_read, policies_of_members, policies_read, default_read, of_operation, selecting, selector_fields}
 use Rattle.mcv_config.specs.Shadows.{range_read, shadow_fields, shadow_of_members, shadow_read, shadows_read}
 use Rattle.mcv_config.specs.Walk.{SoFar, Reader, route_under, taken, two_under, with_pool}
-use Rattle.mcv_config.proofs.Holds.{Holds, holds_bind, holds_then, holds_also, holds_if}
+use Rattle.mcv_names.proofs.Holds.{Holds, holds_bind, holds_then, holds_also, holds_if}
 use Rattle.mcv_config.proofs.Later.{Later, later_than, later_more, route_keeps, IsSoFar, Grows, still, pool_behind, Each, none_grow, each_grows, each_member_grows}
 use Rattle.mcv_config.proofs.SoundPools.{Grown, IsPool, pool_grown, some_servers}
 
@@ -134,7 +134,7 @@ servers_sound depth w path i s h =
 -- ---- handles over a reader
 
 module _ (depth : ℕ) (reader : Reader) (one : (w : SoFar) (path : List ℕ) (d : Data) → IsSoFar w → Holds (Grows IsSoundRoute w.pools.servers) (reader w path d)) where
-  under_sound : (w : SoFar) (path key : List ℕ) (d : Data) → IsSoFar w → Holds (Grows IsSoundRoute w.pools.servers) (route_under reader w path key d)
+  pub under_sound : (w : SoFar) (path key : List ℕ) (d : Data) → IsSoFar w → Holds (Grows IsSoundRoute w.pools.servers) (route_under reader w path key d)
   unfolding route_under
   under_sound w path key d s = holds_then (Grows IsSoundRoute w.pools.servers) (required (get key d) path) _ (λ v. one w (key_step path key) v s)
 

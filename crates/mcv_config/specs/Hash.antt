@@ -4,12 +4,12 @@ use Rattle.serde_json.specs.Data.{Data, Members}
 use Rattle.serde_json.specs.Find.{get, as_str, as_object}
 use Rattle.mcv_pools.specs.declared.symbol.HashFunc.{HashFunc}
 use Rattle.mcv_pools.specs.declared.symbol.HashFunc.TheVariants.{Ch3, Crc32}
-use Rattle.mcv_config.specs.declared.fault.FaultKind.TheVariants.{WrongKind, Limit, LeftOut}
-use Rattle.mcv_config.specs.declared.handle.Object.TheVariants as objects
-use Rattle.mcv_config.specs.Fault.{Read, good, refused, ◌>>=◌, also}
-use Rattle.mcv_config.specs.Handles.{key_fault, keys_read}
-use Rattle.mcv_config.specs.Lists.{text_read}
-use Rattle.mcv_config.specs.Path.{key_step}
+use Rattle.mcv_names.specs.declared.fault.FaultKind.TheVariants.{WrongKind, Limit, LeftOut}
+use Rattle.mcv_names.specs.declared.handle.Object.TheVariants as objects
+use Rattle.mcv_names.specs.Fault.{Read, good, refused, ◌>>=◌, also}
+use Rattle.mcv_names.specs.Handles.{key_fault, keys_read}
+use Rattle.mcv_names.specs.Lists.{text_read}
+use Rattle.mcv_names.specs.Path.{key_step}
 
 -- a function and a salt
 abbrev pub HashPlan : Type 0

@@ -1,8 +1,10 @@
-pub mod Fault
-pub mod Path
+pub use Rattle.mcv_comments.specs.Comments
+pub use Rattle.mcv_names.specs.Fault
+pub use Rattle.mcv_names.specs.Path
+pub use Rattle.mcv_names.specs.Lists
+pub use Rattle.mcv_names.specs.Handles
+pub mod Aliases
 pub mod Plan
-pub mod Lists
-pub mod Handles
 pub mod Pools
 pub mod Walk
 pub mod Numbers
@@ -10,5 +12,6 @@ pub mod Hash
 pub mod Shadows
 pub mod Selectors
 pub mod Routes
+pub mod Entries
 pub mod Config
 pub mod View

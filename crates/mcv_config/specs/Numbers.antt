@@ -2,8 +2,8 @@
 use Rattle.std.specs.Prelude.{ℕ, nat_lt, List, Option, Some, None, if◌then◌else◌, option_and_then}
 use Rattle.serde_json.specs.Data.{Data}
 use Rattle.serde_json.specs.Find.{as_number, as_u64}
-use Rattle.mcv_config.specs.declared.fault.FaultKind.TheVariants.{WrongKind, Limit}
-use Rattle.mcv_config.specs.Fault.{Read, good, refused}
+use Rattle.mcv_names.specs.declared.fault.FaultKind.TheVariants.{WrongKind, Limit}
+use Rattle.mcv_names.specs.Fault.{Read, good, refused}
 
 -- a value that is a number of at most 64 bits without a sign
 abbrev pub number_in_value : Data → Option ℕ

@@ -1,9 +1,10 @@
 -- What a configuration names: servers, pools and routes by their numbers, without where they lie in memory.
-use Rattle.std.specs.Prelude.{◌≢◌, ℕ, ◌<◌, List, [], ◌∷◌, ◌++◌, Option, Some, None, map, length, slice_index_or, option_map}
-use Rattle.std.specs.List.{All}
+use Rattle.std.specs.Prelude.{◌≢◌, ℕ, ◌<◌, ◌≤◌, List, [], ◌∷◌, ◌++◌, Option, Some, None, map, length, slice_index_or, option_map}
+use Rattle.std.specs.List.{All, flat_map}
 use Rattle.mcv_base.specs.declared.operation.Op.{Op}
 use Rattle.mcv_pools.specs.declared.symbol.HashFunc.{HashFunc}
 use Rattle.mcv_pools.specs.Table.{IsOneToOne}
+use Rattle.mcv_config.specs.Aliases.{IsAlias, alias_limit}
 use Rattle.mcv_config.specs.declared.config.Config.{Config}
 use Rattle.mcv_config.specs.declared.config.Entry.{Entry}
 use Rattle.mcv_config.specs.declared.config.Pool.{Pool}
@@ -156,7 +157,21 @@ pub record IsSoundPool (servers : ℕ) (pool : List ℕ) : Type 0 where
   pub some : 0 < length pool
   pub known : All (λ s. s < servers) pool
 
+-- one alias or more, each a routing prefix of key bytes that is not too long
+pub record AreAliases (aliases : List (List ℕ)) : Type 0 where
+  pub some : 0 < length aliases
+  pub each : All (λ a. IsAlias a × (length a ≤ alias_limit)) aliases
+
+-- the aliases of all routes, in the order of the routes
+abbrev pub all_aliases : List EntryPlan → List (List ℕ)
+all_aliases entries = flat_map (λ e. e.aliases) entries
+
 pub record IsSound (plan : Plan) : Type 0 where
+  -- no server and no alias stands twice
   pub once : IsOneToOne plan.servers
+  pub apart : IsOneToOne (all_aliases plan.entries)
   pub pools : All (IsSoundPool (length plan.servers)) plan.pools
+  -- one route or more
+  pub some : 0 < length plan.entries
   pub routes : All (λ e. IsSoundRoute plan.pools e.route) plan.entries
+  pub aliases : All (λ e. AreAliases e.aliases) plan.entries

@@ -5,22 +5,22 @@ use Rattle.std.specs.declared.alloc.Global.{Global}
 use Rattle.serde_json.specs.Data.{Data, string, Items, Members}
 use Rattle.serde_json.specs.Find.{get, as_str, as_array, as_object}
 use Rattle.mcv_pools.specs.declared.symbol.HashFunc.TheVariants.{Ch3}
-use Rattle.mcv_config.specs.declared.fault.FaultKind.{FaultKind}
-use Rattle.mcv_config.specs.declared.fault.FaultKind.TheVariants.{WrongKind, Limit, LeftOut}
-use Rattle.mcv_config.specs.declared.fault.ConfigFault.{ConfigFault}
-use Rattle.mcv_config.specs.declared.fault.ConfigFault.TheVariants.{Memory}
+use Rattle.mcv_names.specs.declared.fault.FaultKind.{FaultKind}
+use Rattle.mcv_names.specs.declared.fault.FaultKind.TheVariants.{WrongKind, Limit, LeftOut}
+use Rattle.mcv_names.specs.declared.fault.ConfigFault.{ConfigFault}
+use Rattle.mcv_names.specs.declared.fault.ConfigFault.TheVariants.{Memory}
 use Rattle.mcv_config.specs.declared.config.NamedRoute.{NamedRoute}
-use Rattle.mcv_config.specs.declared.handle.Many.{Many}
-use Rattle.mcv_config.specs.declared.handle.Many.TheVariants as many_handles
-use Rattle.mcv_config.specs.declared.handle.Handle.{Handle}
-use Rattle.mcv_config.specs.declared.handle.Handle.TheVariants as handles
-use Rattle.mcv_config.specs.declared.handle.Object.TheVariants as objects
-use Rattle.mcv_config.specs.Fault.{Read, good, bad, refused, ◌>>=◌, also}
-use Rattle.mcv_config.specs.Handles.{handle_named, is_elsewhere, key_fault, keys_read, stray_fault}
+use Rattle.mcv_names.specs.declared.handle.Many.{Many}
+use Rattle.mcv_names.specs.declared.handle.Many.TheVariants as many_handles
+use Rattle.mcv_names.specs.declared.handle.Handle.{Handle}
+use Rattle.mcv_names.specs.declared.handle.Handle.TheVariants as handles
+use Rattle.mcv_names.specs.declared.handle.Object.TheVariants as objects
+use Rattle.mcv_names.specs.Fault.{Read, good, bad, refused, ◌>>=◌, also}
+use Rattle.mcv_names.specs.Handles.{handle_named, is_elsewhere, key_fault, keys_read, stray_fault, type_read}
 use Rattle.mcv_config.specs.Hash.{HashPlan, hash_read}
-use Rattle.mcv_config.specs.Lists.{each, items_list, required, some_items, text_read}
+use Rattle.mcv_names.specs.Lists.{each, items_list, required, some_items}
 use Rattle.mcv_config.specs.Numbers.{seconds_or, seconds_read}
-use Rattle.mcv_config.specs.Path.{key_step}
+use Rattle.mcv_names.specs.Path.{key_step}
 use Rattle.mcv_config.specs.Plan.{Named, ShadowPlan, pool, server, null, error, all_sync, all_initial, all_async, failover, miss_failover, warm_up, migrate, no_named, nameds_of}
 use Rattle.mcv_config.specs.Pools.{Table, pool_named, pool_read}
 use Rattle.mcv_config.specs.Selectors.{selector_fields}
@@ -109,16 +109,6 @@ text_route depth reader w path text =
     if is_elsewhere text then refused LeftOut path else of_cut depth reader w path text (cut text)
 
 -- ---- the fields of objects
-
-abbrev pub handle_read : Result Handle FaultKind → List ℕ → Read Handle
-handle_read (Ok handle) path = good handle
-handle_read (Err kind) path = refused kind path
-
-unfoldable pub type_read : List ℕ → Data → Read Handle
-type_read path d =
-    required (get (codes "type") d) path >>= λ (name : Data).
-    text_read (as_str name) (key_step path (codes "type")) >>= λ (text : List ℕ).
-    handle_read (handle_named text) (key_step path (codes "type"))
 
 -- a pool object goes behind the pools that are there
 unfoldable pub pool_object : SoFar → List ℕ → Data → Read (ℕ × SoFar)

@@ -2,13 +2,13 @@
 use Rattle.std.specs.Prelude.{ℕ, List, [], ◌++◌, Option, Some, None, map}
 use Rattle.serde_json.specs.Data.{Data, Members}
 use Rattle.serde_json.specs.Find.{get, as_object}
-use Rattle.mcv_config.specs.declared.fault.FaultKind.TheVariants.{WrongKind}
-use Rattle.mcv_config.specs.declared.handle.Selector.{Selector}
-use Rattle.mcv_config.specs.declared.handle.Selector.TheVariants as selectors
-use Rattle.mcv_config.specs.Fault.{Read, good, refused, ◌>>=◌, also}
-use Rattle.mcv_config.specs.Handles.{default_key, keys_read, name_fault, op_named, policies_key}
-use Rattle.mcv_config.specs.Lists.{each_member}
-use Rattle.mcv_config.specs.Path.{key_step}
+use Rattle.mcv_names.specs.declared.fault.FaultKind.TheVariants.{WrongKind}
+use Rattle.mcv_names.specs.declared.handle.Selector.{Selector}
+use Rattle.mcv_names.specs.declared.handle.Selector.TheVariants as selectors
+use Rattle.mcv_names.specs.Fault.{Read, good, refused, ◌>>=◌, also}
+use Rattle.mcv_names.specs.Handles.{default_key, keys_read, name_fault, op_named, policies_key}
+use Rattle.mcv_names.specs.Lists.{each_member}
+use Rattle.mcv_names.specs.Path.{key_step}
 use Rattle.mcv_config.specs.Plan.{Named, PolicyPlan, PrefixPlan, last_of, nameds_of, operation_selector, prefix_selector}
 use Rattle.mcv_config.specs.Walk.{SoFar, Reader}
 

@@ -2,13 +2,13 @@
 use Rattle.std.specs.Prelude.{ℕ, nat_lt, List, [], Option, Some, None, if◌then◌else◌, codes}
 use Rattle.serde_json.specs.Data.{Data, Members}
 use Rattle.serde_json.specs.Find.{get, at, as_object}
-use Rattle.mcv_config.specs.declared.fault.FaultKind.TheVariants.{WrongKind}
-use Rattle.mcv_config.specs.declared.handle.Object.TheVariants as objects
-use Rattle.mcv_config.specs.Fault.{Read, good, refused, ◌>>=◌, also}
-use Rattle.mcv_config.specs.Handles.{key_fault, keys_read}
-use Rattle.mcv_config.specs.Lists.{each, items_or_none, required}
+use Rattle.mcv_names.specs.declared.fault.FaultKind.TheVariants.{WrongKind}
+use Rattle.mcv_names.specs.declared.handle.Object.TheVariants as objects
+use Rattle.mcv_names.specs.Fault.{Read, good, refused, ◌>>=◌, also}
+use Rattle.mcv_names.specs.Handles.{key_fault, keys_read}
+use Rattle.mcv_names.specs.Lists.{each, items_or_none, required}
 use Rattle.mcv_config.specs.Numbers.{index_read}
-use Rattle.mcv_config.specs.Path.{key_step, item_step}
+use Rattle.mcv_names.specs.Path.{key_step, item_step}
 use Rattle.mcv_config.specs.Plan.{Named, Range, ShadowPlan}
 use Rattle.mcv_config.specs.Walk.{SoFar, Reader, route_under}
 

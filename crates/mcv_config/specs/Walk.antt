@@ -2,9 +2,9 @@
 use Rattle.std.specs.Prelude.{ℕ, ◌-◌, List, [], ◌∷◌, ◌++◌}
 use Rattle.serde_json.specs.Data.{Data}
 use Rattle.serde_json.specs.Find.{get}
-use Rattle.mcv_config.specs.Fault.{Read, good, ◌>>=◌}
-use Rattle.mcv_config.specs.Lists.{required}
-use Rattle.mcv_config.specs.Path.{key_step}
+use Rattle.mcv_names.specs.Fault.{Read, good, ◌>>=◌}
+use Rattle.mcv_names.specs.Lists.{required}
+use Rattle.mcv_names.specs.Path.{key_step}
 use Rattle.mcv_config.specs.Plan.{Named}
 use Rattle.mcv_config.specs.Pools.{Pools, Table}
 

@@ -2,14 +2,11 @@
 
 ghost use Rattle.std.specs.Prelude.{◌≡◌, option_map};
 ghost use Rattle.serde_json.specs.View.{view};
-ghost use Rattle.mcv_config.specs.Fault.{Gives};
+ghost use Rattle.mcv_names.specs.Fault.{Gives};
 ghost use Rattle.mcv_config.specs.Hash.{func_field, func_named, func_read, hash_fields, hash_read, salt_field};
-ghost use Rattle.mcv_config.specs.Path.{path_of};
+ghost use Rattle.mcv_names.specs.Path.{path_of};
 
-use crate::fault::{ConfigFault, FaultKind};
-use crate::handle::Object;
-use crate::names::check_keys;
-use crate::trail::{Trail, fault};
+use mcv_names::{ConfigFault, FaultKind, Object, Trail, check_keys, fault_at};
 use mcv_pools::HashFunc;
 use serde_json::Value;
 use std::alloc::Global;
@@ -18,7 +15,7 @@ use std::alloc::Global;
 const SALT_LIMIT: usize = 200;
 
 /// The function and the salt under the key `hash`; Ch3 without a salt where there is no such key.
-#[tactic(auto, using(crate::proofs::Faults::faults))]
+#[tactic(auto, using(mcv_names::proofs::Faults::faults))]
 pub(crate) fn read_hash(
     alloc: Global,
     trail: &Trail<'_>,
@@ -36,10 +33,10 @@ pub(crate) fn read_hash(
         check_keys(alloc, trail, Object::Hash, members)?;
         return read_fields(alloc, trail, hash);
     }
-    Err(fault(alloc, FaultKind::WrongKind, trail))
+    Err(fault_at(alloc, FaultKind::WrongKind, trail))
 }
 
-#[tactic(auto, using(crate::proofs::Faults::faults), unfolding(crate::specs::Hash::hash_fields))]
+#[tactic(auto, using(mcv_names::proofs::Faults::faults), unfolding(crate::specs::Hash::hash_fields))]
 fn read_fields(
     alloc: Global,
     trail: &Trail<'_>,
@@ -54,7 +51,7 @@ fn read_fields(
     Ok((func, salt))
 }
 
-#[tactic(auto, using(crate::proofs::Faults::faults))]
+#[tactic(auto, using(mcv_names::proofs::Faults::faults))]
 fn read_func_field(
     alloc: Global,
     trail: &Trail<'_>,
@@ -67,17 +64,17 @@ fn read_func_field(
     };
     match func.as_str() {
         Some(name) => read_func(alloc, trail, name),
-        None => Err(fault(alloc, FaultKind::WrongKind, trail)),
+        None => Err(fault_at(alloc, FaultKind::WrongKind, trail)),
     }
 }
 
-#[tactic(auto, using(crate::proofs::Faults::faults), unfolding(crate::specs::Hash::func_read))]
+#[tactic(auto, using(mcv_names::proofs::Faults::faults), unfolding(crate::specs::Hash::func_read))]
 fn read_func(alloc: Global, trail: &Trail<'_>, name: &str) -> Result<HashFunc, ConfigFault>
     ensures { Gives (λ func. func) result (func_read (path_of trail.now) name.now) }
 {
     match func_named(name) {
         Some(func) => Ok(func),
-        None => Err(fault(alloc, FaultKind::LeftOut, trail)),
+        None => Err(fault_at(alloc, FaultKind::LeftOut, trail)),
     }
 }
 
@@ -92,7 +89,7 @@ fn func_named(name: &str) -> Option<HashFunc>
     }
 }
 
-#[tactic(auto, using(crate::proofs::Faults::faults))]
+#[tactic(auto, using(mcv_names::proofs::Faults::faults))]
 fn read_salt(
     alloc: Global,
     trail: &Trail<'_>,
@@ -104,10 +101,10 @@ fn read_salt(
         return Ok(Vec::new(alloc));
     };
     let Some(text) = salt.as_str() else {
-        return Err(fault(alloc, FaultKind::WrongKind, trail));
+        return Err(fault_at(alloc, FaultKind::WrongKind, trail));
     };
     if text.len() > SALT_LIMIT {
-        return Err(fault(alloc, FaultKind::Limit, trail));
+        return Err(fault_at(alloc, FaultKind::Limit, trail));
     }
     Ok(Vec::from_slice(alloc, text.as_bytes())?)
 }

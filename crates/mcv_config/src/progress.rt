@@ -2,14 +2,13 @@
 
 ghost use Rattle.std.specs.Prelude.{◌≡◌};
 ghost use Rattle.serde_json.specs.View.{view};
-ghost use Rattle.mcv_config.specs.Fault.{Gives};
-ghost use Rattle.mcv_config.specs.Path.{path_of};
+ghost use Rattle.mcv_names.specs.Fault.{Gives};
+ghost use Rattle.mcv_names.specs.Path.{path_of};
 ghost use Rattle.mcv_config.specs.Routes.{pool_field, pool_object};
 ghost use Rattle.mcv_config.specs.View.{so_far_of};
 
-use crate::fault::{ConfigFault, FaultKind};
 use crate::pools::{NamedPools, pool_named, read_pool};
-use crate::trail::{Trail, fault};
+use mcv_names::{ConfigFault, FaultKind, Trail, fault_at};
 use mcv_pools::Servers;
 use serde_json::Value;
 use std::alloc::Global;
@@ -24,7 +23,7 @@ pub struct Progress {
 }
 
 /// The pool of a PoolRoute, by its name or as an object.
-#[tactic(auto, using(crate::proofs::Faults::faults), unfolding(crate::specs::Routes::pool_field))]
+#[tactic(auto, using(mcv_names::proofs::Faults::faults), unfolding(crate::specs::Routes::pool_field))]
 pub(crate) fn read_pool_field(
     alloc: Global,
     so_far: &mut Progress,
@@ -34,7 +33,7 @@ pub(crate) fn read_pool_field(
     ensures { Gives (λ i. (i, so_far_of so_far.new)) result (pool_field (so_far_of so_far.old) (path_of trail.now) (view value.now)) }
 {
     let Some(pool) = value.get("pool") else {
-        return Err(fault(alloc, FaultKind::WrongKind, trail));
+        return Err(fault_at(alloc, FaultKind::WrongKind, trail));
     };
     let here = Trail::Key(trail, "pool");
     match pool.as_str() {
@@ -44,7 +43,7 @@ pub(crate) fn read_pool_field(
 }
 
 /// The number of the pool that a value in a route names. It goes behind the pools that are there.
-#[tactic(auto, using(crate::proofs::Faults::faults), unfolding(crate::specs::Routes::pool_object))]
+#[tactic(auto, using(mcv_names::proofs::Faults::faults), unfolding(crate::specs::Routes::pool_object))]
 fn add_pool(
     alloc: Global,
     so_far: &mut Progress,

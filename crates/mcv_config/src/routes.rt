@@ -2,9 +2,9 @@
 
 ghost use Rattle.std.specs.Prelude.{map, option_map};
 ghost use Rattle.serde_json.specs.View.{view, members_view};
-ghost use Rattle.mcv_config.specs.Fault.{Gives};
-ghost use Rattle.mcv_config.specs.Lists.{each, each_member};
-ghost use Rattle.mcv_config.specs.Path.{path_of};
+ghost use Rattle.mcv_names.specs.Fault.{Gives};
+ghost use Rattle.mcv_names.specs.Lists.{each, each_member};
+ghost use Rattle.mcv_names.specs.Path.{path_of};
 ghost use Rattle.mcv_config.specs.Plan.{named_of, prefix_of, shadow_of};
 ghost use Rattle.mcv_config.specs.Routes.{children_field, object_route, pool_fields, route};
 ghost use Rattle.mcv_config.specs.Selectors.{default_read, policies_read, policy_read, selector_fields};
@@ -13,22 +13,21 @@ ghost use Rattle.mcv_config.specs.View.{so_far_of};
 ghost use Rattle.mcv_config.specs.Walk.{route_under, two_under};
 
 use crate::config::{NamedPrefix, NamedRoute, NamedShadow};
-use crate::fault::{ConfigFault, FaultKind};
-use crate::handle::{Handle, Object, Selector};
 use crate::hash::read_hash;
-use crate::items::{items_or_none, some_items};
-use crate::names::{check_keys, check_names, default_key, policies_key, read_type};
 use crate::numbers::{read_range, read_start};
 use crate::progress::{Progress, read_pool_field};
 use crate::selecting::{named_prefix, selecting};
 use crate::texts::{only, read_text, text_children, with_children};
 use crate::timed::{migrate, read_exptime, read_interval, warm_up};
-use crate::trail::{Trail, fault};
+use mcv_names::{
+    ConfigFault, FaultKind, Handle, Object, Selector, Trail, check_keys, check_names, default_key,
+    fault_at, items_or_none, policies_key, read_type, some_items,
+};
 use serde_json::{Map, Value};
 use std::alloc::Global;
 
 /// The handle that a value names, with this many levels left for it and those below it.
-#[tactic(auto, using(crate::proofs::Faults::faults, crate::proofs::Levels::levels))]
+#[tactic(auto, using(mcv_names::proofs::Faults::faults, crate::proofs::Levels::levels))]
 #[cycle(route)]
 pub(crate) fn read_route(
     alloc: Global,
@@ -40,7 +39,7 @@ pub(crate) fn read_route(
     ensures { Gives (λ r. (named_of r, so_far_of so_far.new)) result (route depth (so_far_of so_far.old) (path_of trail.now) (view value.now)) }
 {
     if depth == 0 || so_far.room == 0 {
-        return Err(fault(alloc, FaultKind::Limit, trail));
+        return Err(fault_at(alloc, FaultKind::Limit, trail));
     }
     so_far.room -= 1;
     if let Some(text) = value.as_str() {
@@ -49,11 +48,11 @@ pub(crate) fn read_route(
     if let Some(members) = value.as_object() {
         return read_object(alloc, depth - 1, so_far, trail, value, members);
     }
-    Err(fault(alloc, FaultKind::WrongKind, trail))
+    Err(fault_at(alloc, FaultKind::WrongKind, trail))
 }
 
 /// The handle that an object names, with this many levels left for those below it.
-#[tactic(auto, using(crate::proofs::Faults::faults), unfolding(crate::specs::Routes::object_route, crate::specs::Routes::fields, crate::specs::Routes::warm_up_fields, crate::specs::Routes::migrate_fields))]
+#[tactic(auto, using(mcv_names::proofs::Faults::faults), unfolding(crate::specs::Routes::object_route, crate::specs::Routes::fields, crate::specs::Routes::warm_up_fields, crate::specs::Routes::migrate_fields))]
 #[cycle(route)]
 fn read_object(
     alloc: Global,
@@ -91,9 +90,9 @@ fn read_object(
 }
 
 /// The route under a key that has to be there.
-#[tactic(auto, using(crate::proofs::Faults::faults), unfolding(crate::specs::Walk::route_under))]
+#[tactic(auto, using(mcv_names::proofs::Faults::faults), unfolding(crate::specs::Walk::route_under))]
 #[cycle(route)]
-fn read_field(
+pub(crate) fn read_field(
     alloc: Global,
     depth: usize,
     so_far: &mut Progress,
@@ -104,14 +103,14 @@ fn read_field(
     ensures { Gives (λ r. (named_of r, so_far_of so_far.new)) result (route_under (route depth) (so_far_of so_far.old) (path_of trail.now) key.now (view value.now)) }
 {
     let Some(route) = value.get(key) else {
-        return Err(fault(alloc, FaultKind::WrongKind, trail));
+        return Err(fault_at(alloc, FaultKind::WrongKind, trail));
     };
     let here = Trail::Key(&*trail, key);
     read_route(alloc, depth, so_far, &here, route)
 }
 
 /// The routes under two keys that have to be there.
-#[tactic(auto, using(crate::proofs::Faults::faults), unfolding(crate::specs::Walk::two_under))]
+#[tactic(auto, using(mcv_names::proofs::Faults::faults), unfolding(crate::specs::Walk::two_under))]
 #[cycle(route)]
 fn read_two(
     alloc: Global,
@@ -132,7 +131,7 @@ fn read_two(
 // ---- pools
 
 /// A pool with its hash and its shadows.
-#[tactic(auto, using(crate::proofs::Faults::faults), unfolding(crate::specs::Routes::pool_fields))]
+#[tactic(auto, using(mcv_names::proofs::Faults::faults), unfolding(crate::specs::Routes::pool_fields))]
 #[cycle(route)]
 fn read_pool_route(
     alloc: Global,
@@ -158,7 +157,7 @@ fn read_pool_route(
 }
 
 /// The shadows of a list, each with what those before it left.
-#[tactic(auto, using(crate::proofs::Faults::faults), unfolding(crate::specs::Lists::each))]
+#[tactic(auto, using(mcv_names::proofs::Faults::faults), unfolding(mcv_names::specs::Lists::each))]
 #[cycle(route)]
 fn read_shadows(
     alloc: Global,
@@ -177,7 +176,7 @@ fn read_shadows(
     Ok(shadows)
 }
 
-#[tactic(auto, using(crate::proofs::Faults::faults), unfolding(crate::specs::Shadows::shadow_read, crate::specs::Shadows::shadow_fields))]
+#[tactic(auto, using(mcv_names::proofs::Faults::faults), unfolding(crate::specs::Shadows::shadow_read, crate::specs::Shadows::shadow_fields))]
 #[cycle(route)]
 fn read_shadow(
     alloc: Global,
@@ -189,7 +188,7 @@ fn read_shadow(
     ensures { Gives (λ s. (shadow_of s, so_far_of so_far.new)) result (shadow_read (route depth) (so_far_of so_far.old) (path_of trail.now) (view value.now)) }
 {
     let Some(members) = value.as_object() else {
-        return Err(fault(alloc, FaultKind::WrongKind, trail));
+        return Err(fault_at(alloc, FaultKind::WrongKind, trail));
     };
     check_keys(alloc, trail, Object::Shadow, members)?;
     let (first, last) = read_range(alloc, trail, value)?;
@@ -203,7 +202,7 @@ fn read_shadow(
 
 // ---- children
 
-#[tactic(auto, using(crate::proofs::Faults::faults), unfolding(crate::specs::Routes::children_field))]
+#[tactic(auto, using(mcv_names::proofs::Faults::faults), unfolding(crate::specs::Routes::children_field))]
 #[cycle(route)]
 fn read_children(
     alloc: Global,
@@ -215,7 +214,7 @@ fn read_children(
     ensures { Gives (λ v. (map named_of v.items, so_far_of so_far.new)) result (children_field depth (route depth) (so_far_of so_far.old) (path_of trail.now) (view value.now)) }
 {
     let Some(children) = value.get("children") else {
-        return Err(fault(alloc, FaultKind::WrongKind, trail));
+        return Err(fault_at(alloc, FaultKind::WrongKind, trail));
     };
     let here = Trail::Key(&*trail, "children");
     if let Some(text) = children.as_str() {
@@ -230,7 +229,7 @@ fn read_children(
 }
 
 /// The routes of a list, each with what those before it left.
-#[tactic(auto, using(crate::proofs::Faults::faults), unfolding(crate::specs::Lists::each))]
+#[tactic(auto, using(mcv_names::proofs::Faults::faults), unfolding(mcv_names::specs::Lists::each))]
 #[cycle(route)]
 fn read_each(
     alloc: Global,
@@ -252,7 +251,7 @@ fn read_each(
 // ---- selectors
 
 /// The policies in byte order, and then the route for all else.
-#[tactic(auto, using(crate::proofs::Faults::faults), unfolding(crate::specs::Selectors::selector_fields))]
+#[tactic(auto, using(mcv_names::proofs::Faults::faults), unfolding(crate::specs::Selectors::selector_fields))]
 #[cycle(route)]
 fn read_selector(
     alloc: Global,
@@ -275,7 +274,7 @@ fn read_selector(
 }
 
 /// The policies under a key, each under its name; none where there is no such key.
-#[tactic(auto, using(crate::proofs::Faults::faults))]
+#[tactic(auto, using(mcv_names::proofs::Faults::faults))]
 #[cycle(route)]
 fn read_policies(
     alloc: Global,
@@ -291,14 +290,14 @@ fn read_policies(
         return Ok(Vec::new(alloc));
     };
     let Some(members) = policies.as_object() else {
-        return Err(fault(alloc, FaultKind::WrongKind, trail));
+        return Err(fault_at(alloc, FaultKind::WrongKind, trail));
     };
     check_names(alloc, trail, selector, members)?;
     read_each_policy(alloc, depth, so_far, trail, members)
 }
 
 /// The policies of an object, each with what those before it left.
-#[tactic(auto, using(crate::proofs::Faults::faults), unfolding(crate::specs::Lists::each_member, crate::specs::Selectors::policy_read))]
+#[tactic(auto, using(mcv_names::proofs::Faults::faults), unfolding(mcv_names::specs::Lists::each_member, crate::specs::Selectors::policy_read))]
 #[cycle(route)]
 fn read_each_policy(
     alloc: Global,
@@ -317,7 +316,7 @@ fn read_each_policy(
     Ok(policies)
 }
 
-#[tactic(auto, using(crate::proofs::Faults::faults), unfolding(crate::specs::Selectors::policy_read))]
+#[tactic(auto, using(mcv_names::proofs::Faults::faults), unfolding(crate::specs::Selectors::policy_read))]
 #[cycle(route)]
 fn read_policy(
     alloc: Global,
@@ -334,7 +333,7 @@ fn read_policy(
 }
 
 /// The route for all else; none where there is no such key.
-#[tactic(auto, using(crate::proofs::Faults::faults))]
+#[tactic(auto, using(mcv_names::proofs::Faults::faults))]
 #[cycle(route)]
 fn read_default(
     alloc: Global,

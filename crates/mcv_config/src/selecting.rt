@@ -5,8 +5,7 @@ ghost use Rattle.mcv_config.specs.Plan.{named_of, policy_of, prefix_of};
 ghost use Rattle.mcv_config.specs.Selectors.{of_operation, selecting};
 
 use crate::config::{NamedPolicy, NamedPrefix, NamedRoute};
-use crate::handle::Selector;
-use crate::names::op_named;
+use mcv_names::{Selector, op_named};
 use std::alloc::{AllocError, Global};
 
 /// A selector with these policies, and the route for all else.

@@ -1,3 +1,5 @@
+//! What a configuration holds once it is read, and its limits.
+
 use super::*;
 use mcv_base::{Op, ServerId};
 use mcv_pools::HashFunc;
@@ -5,142 +7,11 @@ use std::alloc::Global;
 use std::process::Abort;
 use std::test::Fail;
 
-/// A fault and a text that has it, a case a line.
-const REFUSED: &str = "\
-configuration 1 at . = {} //
-configuration 1 at . = {\"route\":\"NullRoute\" /* none */}
-configuration 3 at . = {}
-configuration 3 at . = []
-configuration 3 at /pools = {\"pools\":[],\"route\":\"NullRoute\"}
-configuration 10 at /routes = {\"routes\":[],\"route\":\"NullRoute\"}
-configuration 2 at /Route = {\"Route\":\"NullRoute\",\"route\":\"NullRoute\"}
-configuration 2 at /a%20b%2F%25%C3%A9 = {\"a b/%\u{e9}\":1,\"route\":\"NullRoute\"}
-configuration 3 at /pools/A = {\"pools\":{\"A\":{}},\"route\":\"NullRoute\"}
-configuration 6 at /pools/A/servers = {\"pools\":{\"A\":{\"servers\":[]}},\"route\":\"PoolRoute|A\"}
-configuration 3 at /pools/A/servers/1 = {\"pools\":{\"A\":{\"servers\":[\"a:1\",2]}},\"route\":\"NullRoute\"}
-configuration 2 at /pools/A/qos = {\"pools\":{\"A\":{\"servers\":[\"a:1\"],\"qos\":1}},\"route\":\"NullRoute\"}
-configuration 10 at /pools/A/weights = {\"pools\":{\"A\":{\"servers\":[\"a:1\"],\"weights\":[1]}},\"route\":\"NullRoute\"}
-configuration 5 at /route = {\"pools\":{\"A\":{\"servers\":[\"a:1\"]}},\"route\":\"PoolRoute|Z\"}
-configuration 5 at /route = {\"route\":\"AllSyncRoute|Pool|Z\"}
-configuration 3 at /route = {\"route\":\"PoolRoute\"}
-configuration 3 at /route = {\"route\":\"AllSyncRoute\"}
-configuration 3 at /route = {\"route\":\"NullRoute|x\"}
-configuration 3 at /route = {\"route\":7}
-configuration 4 at /route = {\"route\":\"\"}
-configuration 4 at /route = {\"route\":\"Pool|A\"}
-configuration 4 at /route/type = {\"route\":{\"type\":\"SomeRoute\"}}
-configuration 10 at /route = {\"route\":\"@import\"}
-configuration 10 at /route = {\"route\":\"AllSyncRoute|%macro%\"}
-configuration 10 at /route = {\"route\":\"PoolRoute|@pool\"}
-configuration 3 at /route = {\"route\":\"WarmUpRoute|NullRoute\"}
-configuration 10 at /route/type = {\"route\":{\"type\":\"RandomRoute\",\"children\":[\"PoolRoute|A\"]}}
-configuration 3 at /route/pool = {\"route\":{\"type\":\"PoolRoute\",\"pool\":7}}
-configuration 6 at /route/pool/servers = {\"route\":{\"type\":\"PoolRoute\",\"pool\":{\"servers\":[]}}}
-configuration 10 at /route/name = {\"route\":{\"type\":\"NullRoute\",\"name\":\"n\"}}
-configuration 2 at /route/hash = {\"route\":{\"type\":\"NullRoute\",\"hash\":\"Ch3\"}}
-configuration 6 at /route/children = {\"route\":{\"type\":\"AllSyncRoute\",\"children\":[]}}
-configuration 3 at /route/children/1 = {\"route\":{\"type\":\"AllSyncRoute\",\"children\":[\"NullRoute\",null]}}
-configuration 2 at /route/operation_policies/gat = {\"route\":{\"type\":\"OperationSelectorRoute\",\"operation_policies\":{\"gat\":\"NullRoute\"}}}
-configuration 3 at /route/operation_policies = {\"route\":{\"type\":\"OperationSelectorRoute\",\"operation_policies\":[]}}
-configuration 4 at /route/default_policy = {\"route\":{\"type\":\"OperationSelectorRoute\",\"default_policy\":\"x\"}}";
-
-/// A fault of a PoolRoute, and the hash that has it.
-const REFUSED_HASHES: &str = "\
-3 at /hash = 7
-10 at /hash = \"Murmur\"
-10 at /hash/hash_func = {\"hash_func\":\"crc32\"}
-3 at /hash/hash_func = {\"hash_func\":1}
-3 at /hash/salt = {\"salt\":[]}
-2 at /hash/n = {\"n\":1}";
-
-/// A fault of a PoolRoute, and the shadows that have it.
-const REFUSED_SHADOWS: &str = "\
-3 at /shadows = {}
-3 at /shadows/0 = [1]
-3 at /shadows/0 = [{\"target\":\"NullRoute\"}]
-3 at /shadows/0 = [{\"index_range\":[0,1]}]
-3 at /shadows/0/index_range = [{\"target\":\"NullRoute\",\"index_range\":[1,0]}]
-3 at /shadows/0/index_range = [{\"target\":\"NullRoute\",\"index_range\":[0]}]
-3 at /shadows/0/index_range = [{\"target\":\"NullRoute\",\"index_range\":[0,1,2]}]
-3 at /shadows/0/index_range = [{\"target\":\"NullRoute\",\"index_range\":0}]
-3 at /shadows/0/index_range/1 = [{\"target\":\"NullRoute\",\"index_range\":[0,-1]}]
-4 at /shadows/0/target = [{\"target\":\"x\",\"index_range\":[0,1]}]
-10 at /shadows/0/key_fraction_range = [{\"target\":\"NullRoute\",\"index_range\":[0,1],\"key_fraction_range\":[0,1]}]
-2 at /shadows/0/name = [{\"target\":\"NullRoute\",\"index_range\":[0,1],\"name\":\"s\"}]";
-
-/// A fault, and the route that has it.
-const REFUSED_ROUTES: &str = "\
-3 at /route = {\"type\":\"WarmUpRoute\",\"cold\":\"NullRoute\"}
-4 at /route/warm = {\"type\":\"WarmUpRoute\",\"cold\":\"NullRoute\",\"warm\":\"x\"}
-3 at /route/exptime = {\"type\":\"WarmUpRoute\",\"cold\":\"NullRoute\",\"warm\":\"NullRoute\",\"exptime\":-1}
-7 at /route/exptime = {\"type\":\"WarmUpRoute\",\"cold\":\"NullRoute\",\"warm\":\"NullRoute\",\"exptime\":4294967296}
-3 at /route = {\"type\":\"MigrateRoute\",\"from\":\"NullRoute\",\"to\":\"NullRoute\"}
-3 at /route/start_time = {\"type\":\"MigrateRoute\",\"from\":\"NullRoute\",\"to\":\"NullRoute\",\"start_time\":\"1000\"}
-3 at /route/interval = {\"type\":\"MigrateRoute\",\"from\":\"NullRoute\",\"to\":\"NullRoute\",\"start_time\":1,\"interval\":0.5}
-4 at /route/from = {\"type\":\"MigrateRoute\",\"from\":\"x\",\"to\":\"NullRoute\",\"start_time\":1}
-3 at /route/policies = {\"type\":\"PrefixSelectorRoute\",\"policies\":[\"a\"]}
-4 at /route/policies/a = {\"type\":\"PrefixSelectorRoute\",\"policies\":{\"a\":\"x\"}}
-4 at /route/wildcard = {\"type\":\"PrefixSelectorRoute\",\"wildcard\":\"x\"}
-2 at /route/default_policy = {\"type\":\"PrefixSelectorRoute\",\"default_policy\":\"NullRoute\"}
-10 at /route/failover_errors = {\"type\":\"FailoverRoute\",\"children\":[\"NullRoute\"],\"failover_errors\":[\"tko\"]}";
-
-/// Server texts that are none.
-const NO_SERVERS: &str = "a:0 a:65536 a:01 a a: :1 a:1:ascii a:b:1 [::1:1 ::1]:1 a:100000";
-
-/// Server texts.
-const SERVERS: &str = "a:1 a:65535 [::1]:11211 10.0.0.1:11211";
-
 fn answer(alloc: Global, text: &str) -> Result<String, Fail> {
     match read_config(alloc, text.as_bytes()) {
         Ok(_) => Ok(String::from_str(alloc, "read")?),
         Err(fault) => Ok(format!(in alloc; "{fault}")?),
     }
-}
-
-#[test]
-fn faults_have_their_numbers_and_paths(rt: HostRuntime) -> Result<(), Fail> {
-    let alloc = rt.alloc();
-    for case in REFUSED.lines() {
-        let (fault, text) = case.split_once(" = ").ok_or("no case")?;
-        assert_eq!(rt; answer(alloc, text)?.as_str(), fault);
-    }
-    Ok(())
-}
-
-/// Each line is a fault after `at` and a text; the text stands between two others.
-fn check_rows(
-    rt: &impl Abort,
-    alloc: Global,
-    rows: &str,
-    before: &str,
-    after: &str,
-    path: &str,
-) -> Result<(), Fail> {
-    for row in rows.lines() {
-        let (fault, text) = row.split_once(" = ").ok_or("no case")?;
-        let (number, place) = fault.split_once(" at ").ok_or("no place")?;
-        let whole = format!(in alloc; "{before}{text}{after}")?;
-        let expected = format!(in alloc; "configuration {number} at {path}{place}")?;
-        assert_eq!(rt; answer(alloc, whole.as_str())?.as_str(), expected.as_str());
-    }
-    Ok(())
-}
-
-#[test]
-fn hashes_have_faults(rt: HostRuntime) -> Result<(), Fail> {
-    let before = "{\"route\":{\"type\":\"PoolRoute\",\"pool\":{\"servers\":[\"a:1\"]},\"hash\":";
-    check_rows(&rt, rt.alloc(), REFUSED_HASHES, before, "}}", "/route")
-}
-
-#[test]
-fn shadows_have_faults(rt: HostRuntime) -> Result<(), Fail> {
-    let before = "{\"route\":{\"type\":\"PoolRoute\",\"pool\":{\"servers\":[\"a:1\"]},\"shadows\":";
-    check_rows(&rt, rt.alloc(), REFUSED_SHADOWS, before, "}}", "/route")
-}
-
-#[test]
-fn fields_have_faults(rt: HostRuntime) -> Result<(), Fail> {
-    check_rows(&rt, rt.alloc(), REFUSED_ROUTES, "{\"route\":", "}", "")
 }
 
 fn with_prefix(alloc: Global, bytes: usize) -> Result<String, Fail> {
@@ -194,33 +65,6 @@ fn a_salt_has_at_most_200_bytes(rt: HostRuntime) -> Result<(), Fail> {
         answer(alloc, with_salt(alloc, 201)?.as_str())?.as_str(),
         "configuration 7 at /route/hash/salt"
     );
-    Ok(())
-}
-
-fn with_server(alloc: Global, server: &str) -> Result<String, Fail> {
-    let mut text = String::from_str(
-        alloc,
-        "{\"route\":\"NullRoute\",\"pools\":{\"A\":{\"servers\":[\"",
-    )?;
-    text.push_str(server)?;
-    text.push_str("\"]}}}")?;
-    Ok(text)
-}
-
-#[test]
-fn server_texts(rt: HostRuntime) -> Result<(), Fail> {
-    let alloc = rt.alloc();
-    for server in NO_SERVERS.split(' ') {
-        let text = with_server(alloc, server)?;
-        assert_eq!(rt;
-            answer(alloc, text.as_str())?.as_str(),
-            "configuration 8 at /pools/A/servers/0"
-        );
-    }
-    for server in SERVERS.split(' ') {
-        let text = with_server(alloc, server)?;
-        assert_eq!(rt; answer(alloc, text.as_str())?.as_str(), "read");
-    }
     Ok(())
 }
 
@@ -280,6 +124,19 @@ fn broad(alloc: Global, children: usize) -> Result<String, Fail> {
     Ok(text)
 }
 
+/// A route with this many children, and one more behind it.
+fn two_broad(alloc: Global, children: usize) -> Result<String, Fail> {
+    let mut text = String::from_str(
+        alloc,
+        "{\"routes\":[{\"aliases\":[\"/a/b/\"],\"route\":{\"type\":\"AllSyncRoute\",\"children\":[\"NullRoute\"",
+    )?;
+    for _ in 1..children {
+        text.push_str(",\"NullRoute\"")?;
+    }
+    text.push_str("]}},{\"aliases\":[\"/a/c/\"],\"route\":\"NullRoute\"}]}")?;
+    Ok(text)
+}
+
 #[test]
 fn there_are_at_most_4096_handles(rt: HostRuntime) -> Result<(), Fail> {
     let alloc = rt.alloc();
@@ -291,6 +148,64 @@ fn there_are_at_most_4096_handles(rt: HostRuntime) -> Result<(), Fail> {
         answer(alloc, broad(alloc, 4_096)?.as_str())?.as_str(),
         "configuration 7 at /route/children/4095"
     );
+    assert_eq!(rt;
+        answer(alloc, two_broad(alloc, 4_095)?.as_str())?.as_str(),
+        "configuration 7 at /routes/1/route"
+    );
+    Ok(())
+}
+
+/// A pool with this many servers.
+fn with_servers(alloc: Global, servers: usize) -> Result<String, Fail> {
+    let mut text = String::from_str(
+        alloc,
+        "{\"route\":\"NullRoute\",\"pools\":{\"A\":{\"servers\":[\"a:1\"",
+    )?;
+    for _ in 1..servers {
+        text.push_str(",\"a:1\"")?;
+    }
+    text.push_str("]}}}")?;
+    Ok(text)
+}
+
+#[test]
+fn a_pool_has_at_most_4096_servers(rt: HostRuntime) -> Result<(), Fail> {
+    let alloc = rt.alloc();
+    assert_eq!(rt;
+        answer(alloc, with_servers(alloc, 4_096)?.as_str())?.as_str(),
+        "read"
+    );
+    assert_eq!(rt;
+        answer(alloc, with_servers(alloc, 4_097)?.as_str())?.as_str(),
+        "configuration 7 at /pools/A/servers"
+    );
+    Ok(())
+}
+
+const ROUTED: &str = "{
+  \"pools\": {\"A\": {\"servers\": [\"a:1\"]}}, // the only one with a name
+  \"routes\": [
+    {\"aliases\": [\"/a/b/\", \"/a/c/\"], \"route\": {\"type\": \"PoolRoute\", \"pool\": {\"servers\": [\"b:1\"]}}},
+    {\"aliases\": [\"/././\"], \"route\": {\"type\": \"PoolRoute\", \"pool\": {\"servers\": [\"a:1\"]}}}
+  ]
+}";
+
+#[test]
+fn routes_have_their_aliases(rt: HostRuntime) -> Result<(), Fail> {
+    let config = read_config(rt.alloc(), ROUTED.as_bytes())?;
+    assert_eq!(rt; config.pools.len(), 3);
+    assert_eq!(rt; config.servers.len(), 2);
+    let [first, second] = config.entries.as_slice() else {
+        return Err(Fail::from("two routes"));
+    };
+    let [one, other] = first.aliases.as_slice() else {
+        return Err(Fail::from("two aliases"));
+    };
+    assert_eq!(rt; one.as_bytes(), b"/a/b/".as_slice());
+    assert_eq!(rt; other.as_bytes(), b"/a/c/".as_slice());
+    assert!(rt; is_pool(&first.route, 1));
+    assert_eq!(rt; second.aliases.len(), 1);
+    assert!(rt; is_pool(&second.route, 2));
     Ok(())
 }
 
@@ -384,20 +299,6 @@ fn policies_stand_in_byte_order(rt: HostRuntime) -> Result<(), Fail> {
             default_policy,
         } => check_policies(&rt, policies.as_slice(), default_policy.as_deref()),
         _ => Err(Fail::from("a selector")),
-    }
-}
-
-#[test]
-fn a_fault_tells_its_number_and_path(rt: HostRuntime) -> Result<(), Fail> {
-    match read_config(rt.alloc(), b"{\"route\":{\"type\":\"NullRoute\",\"x\":1}}") {
-        Ok(_) => Err(Fail::from("a fault")),
-        Err(fault) => {
-            assert_eq!(rt; fault.number(), 2);
-            assert_eq!(rt; fault.path(), "/route/x");
-            assert_eq!(rt; ConfigFault::Memory.number(), 11);
-            assert_eq!(rt; ConfigFault::Memory.path(), "");
-            Ok(())
-        }
     }
 }
 

@@ -1,24 +1,23 @@
 //! The handles that a text names.
 
 ghost use Rattle.std.specs.Prelude.{◌≡◌, ◌<◌, length, map, option_map};
-ghost use Rattle.mcv_config.specs.Fault.{Gives};
-ghost use Rattle.mcv_config.specs.Path.{path_of};
+ghost use Rattle.mcv_names.specs.Fault.{Gives};
+ghost use Rattle.mcv_names.specs.Path.{path_of};
 ghost use Rattle.mcv_config.specs.Plan.{named_of};
 ghost use Rattle.mcv_config.specs.Routes.{IsOnly, branch, cut, plain_pool, route, servers, text_children, text_route};
 ghost use Rattle.mcv_config.specs.View.{so_far_of};
 
 use crate::config::NamedRoute;
-use crate::fault::{ConfigFault, FaultKind};
-use crate::handle::{Handle, Many};
-use crate::names::{handle_named, is_elsewhere};
 use crate::pools::pool_named;
 use crate::progress::Progress;
-use crate::trail::{Trail, fault};
+use mcv_names::{
+    ConfigFault, FaultKind, Handle, Many, Trail, fault_at, handle_named, is_elsewhere,
+};
 use mcv_pools::HashFunc;
 use std::alloc::Global;
 
 /// The handle that a text names, with this many levels left for those below it.
-#[tactic(auto, using(crate::proofs::Faults::faults), unfolding(crate::specs::Routes::text_route))]
+#[tactic(auto, using(mcv_names::proofs::Faults::faults), unfolding(crate::specs::Routes::text_route))]
 #[cycle(text)]
 pub(crate) fn read_text(
     alloc: Global,
@@ -30,14 +29,14 @@ pub(crate) fn read_text(
     ensures { Gives (λ r. (named_of r, so_far_of so_far.new)) result (text_route depth (route depth) (so_far_of so_far.old) (path_of trail.now) text.now) }
 {
     if is_elsewhere(text) {
-        return Err(fault(alloc, FaultKind::LeftOut, trail));
+        return Err(fault_at(alloc, FaultKind::LeftOut, trail));
     }
     let Some((name, rest)) = cut(text) else {
         return match handle_named(text) {
             Ok(Handle::Null) => Ok(NamedRoute::Null),
             Ok(Handle::Error) => Ok(NamedRoute::Error),
-            Ok(_) => Err(fault(alloc, FaultKind::WrongKind, trail)),
-            Err(kind) => Err(fault(alloc, kind, trail)),
+            Ok(_) => Err(fault_at(alloc, FaultKind::WrongKind, trail)),
+            Err(kind) => Err(fault_at(alloc, kind, trail)),
         };
     };
     match handle_named(name) {
@@ -50,8 +49,8 @@ pub(crate) fn read_text(
             let children = text_children(alloc, depth, so_far, trail, rest)?;
             Ok(with_children(many, children))
         }
-        Ok(_) => Err(fault(alloc, FaultKind::WrongKind, trail)),
-        Err(kind) => Err(fault(alloc, kind, trail)),
+        Ok(_) => Err(fault_at(alloc, FaultKind::WrongKind, trail)),
+        Err(kind) => Err(fault_at(alloc, kind, trail)),
     }
 }
 
@@ -68,7 +67,7 @@ fn plain_pool(alloc: Global, pool: usize) -> NamedRoute
 }
 
 /// The children that a text stands for: a pool's servers, or one route.
-#[tactic(auto, using(crate::proofs::Faults::faults, crate::proofs::Levels::levels), unfolding(crate::specs::Routes::text_children))]
+#[tactic(auto, using(mcv_names::proofs::Faults::faults, crate::proofs::Levels::levels), unfolding(crate::specs::Routes::text_children))]
 #[cycle(text)]
 pub(crate) fn text_children(
     alloc: Global,
@@ -84,7 +83,7 @@ pub(crate) fn text_children(
         return servers_of(alloc, depth, so_far, trail, pool);
     }
     if depth == 0 || so_far.room == 0 {
-        return Err(fault(alloc, FaultKind::Limit, trail));
+        return Err(fault_at(alloc, FaultKind::Limit, trail));
     }
     so_far.room -= 1;
     let child = read_text(alloc, depth - 1, so_far, trail, text)?;
@@ -113,7 +112,7 @@ fn cut(text: &str) -> Option<(&str, &str)>
 }
 
 /// The servers of a pool, each as a pool of its own.
-#[tactic(auto, using(crate::proofs::Faults::faults), unfolding(crate::specs::Routes::servers))]
+#[tactic(auto, using(mcv_names::proofs::Faults::faults), unfolding(crate::specs::Routes::servers))]
 fn servers_of(
     alloc: Global,
     depth: usize,
@@ -125,7 +124,7 @@ fn servers_of(
 {
     let count = so_far.pools.size(pool);
     if depth == 0 || so_far.room < count {
-        return Err(fault(alloc, FaultKind::Limit, trail));
+        return Err(fault_at(alloc, FaultKind::Limit, trail));
     }
     let mut children = Vec::new(alloc);
     for index in 0..count {

@@ -2,15 +2,14 @@
 
 ghost use Rattle.std.specs.Prelude.{◌≡◌, IfOk};
 ghost use Rattle.serde_json.specs.View.{view};
-ghost use Rattle.mcv_config.specs.Fault.{Gives};
-ghost use Rattle.mcv_config.specs.Path.{path_of};
+ghost use Rattle.mcv_names.specs.Fault.{Gives};
+ghost use Rattle.mcv_names.specs.Path.{path_of};
 ghost use Rattle.mcv_config.specs.Plan.{migrate, named_of, warm_up};
 ghost use Rattle.mcv_config.specs.Routes.{exptime_read, interval_read};
 
 use crate::config::NamedRoute;
-use crate::fault::ConfigFault;
 use crate::numbers::read_seconds_or;
-use crate::trail::Trail;
+use mcv_names::{ConfigFault, Trail};
 use serde_json::Value;
 use std::alloc::{AllocError, Global};
 
@@ -21,7 +20,7 @@ const DEFAULT_EXPTIME: u32 = 0;
 const DEFAULT_INTERVAL: u32 = 3_600;
 
 /// The exptime of a warm-up's add.
-#[tactic(auto, using(crate::proofs::Faults::faults), unfolding(crate::specs::Routes::exptime_read))]
+#[tactic(auto, using(mcv_names::proofs::Faults::faults), unfolding(crate::specs::Routes::exptime_read))]
 pub(crate) fn read_exptime(
     alloc: Global,
     trail: &Trail<'_>,
@@ -34,7 +33,7 @@ pub(crate) fn read_exptime(
 }
 
 /// The interval of a migration.
-#[tactic(auto, using(crate::proofs::Faults::faults), unfolding(crate::specs::Routes::interval_read))]
+#[tactic(auto, using(mcv_names::proofs::Faults::faults), unfolding(crate::specs::Routes::interval_read))]
 pub(crate) fn read_interval(
     alloc: Global,
     trail: &Trail<'_>,

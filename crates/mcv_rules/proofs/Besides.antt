@@ -5,7 +5,7 @@ use Rattle.std.proofs.lemmas.List.{length-take-le, length-map, map-append}
 use Rattle.mcv_route.specs.declared.launch.Launch.{Launch}
 use Rattle.mcv_route.specs.declared.tree.Route.{Route}
 use Rattle.mcv_route.specs.declared.tree.Shadow.{Shadow}
-use Rattle.mcv_route.specs.Outcomes.{Outcomes, Choice, History, outcomes}
+use Rattle.mcv_route.specs.Outcomes.{Outcomes, Choice, History}
 use Rattle.mcv_route.specs.Tree.{Pool, Range, Tree, pool, null, error, all_initial, all_async, none, child}
 use Rattle.mcv_route.specs.Situation.{Situation, under, asynchronous, shadowed}
 use Rattle.mcv_route.specs.Children.{joined, is_within, of_those_holding}

@@ -1,7 +1,6 @@
 -- At each leg's position stands a PoolRoute, and the leg goes to its server at the index of its symbol.
-use Rattle.std.proofs.Common.{◌≡◌, ◌+◌, cond, ℕ, zero, suc, Bool, true, false, List, [], ◌∷◌, ◌++◌, Option, Some, None, inl, inr, refl, sym, ap, ◌∙◌, subst, arith, append_assoc, append-nil}
+use Rattle.std.proofs.Common.{◌≡◌, ◌+◌, cond, ℕ, zero, suc, Bool, true, false, List, [], ◌∷◌, ◌++◌, Some, inl, inr, refl, sym, ap, ◌∙◌, subst, arith, append_assoc, append-nil}
 use Rattle.std.specs.Prelude.{option_and_then, slice_index}
-use Rattle.mcv_base.specs.declared.operation.Op.{Op}
 use Rattle.mcv_base.specs.declared.reply.Outcome.{Outcome}
 use Rattle.mcv_base.specs.Reply.{is_error, is_missed, is_good}
 use Rattle.mcv_base.specs.Operation.{is_reading}
@@ -13,7 +12,7 @@ use Rattle.mcv_route.specs.Children.{joined, child_or, rest_of, is_within, of_th
 use Rattle.mcv_route.specs.Places.{children_of, child_at, tree_at, pool_of, pool_at_position}
 use Rattle.mcv_route.specs.Replies.{Answer, replies, replies_each}
 use Rattle.mcv_route.specs.Launched.{launched, launched_each, once, in_turn}
-use Rattle.mcv_rules.specs.Rows.{Sends, LegsAreOfPools}
+use Rattle.mcv_rules.specs.Rows.{LegsAreOfPools}
 use Rattle.mcv_rules.proofs.Among.{Among}
 
 -- ---- what all members of a list have
@@ -106,7 +105,7 @@ mutual
   of_pools (pool p ranges targets) s c o = (
     record { rest = []; leaf = p; position = sym (append-nil s.position); stands = refl; server = refl },
     all_holding (IsOf (pool p ranges targets) s.position c) (c p.symbol) ranges (launched_each 0 targets (shadowed s) c o)
-      (of_each (pool p ranges targets) 0 targets (shadowed s) c o (below (pool p ranges targets) s.position c)),
+        (of_each (pool p ranges targets) 0 targets (shadowed s) c o (below (pool p ranges targets) s.position c)),
   )
   of_pools null s c o = tt
   of_pools error s c o = tt

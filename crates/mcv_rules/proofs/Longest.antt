@@ -3,7 +3,7 @@ use Rattle.std.proofs.Common.{◌≡◌, ◌<◌, ◌≤◌, ◌+◌, ◌⊎◌,
 use Rattle.std.specs.Prelude.{slice_get}
 use Rattle.std.proofs.lemmas.Bool.{leb-true}
 use Rattle.mcv_base.specs.Key.{begins_with}
-use Rattle.mcv_route.specs.Children.{longest_from, prefix_policy}
+use Rattle.mcv_route.specs.Children.{longest_from}
 use Rattle.mcv_rules.specs.Rows.{LongestPrefixCounts}
 use Rattle.mcv_rules.proofs.Choosing.{longer_after, longest-step}
 

@@ -11,8 +11,6 @@ use Rattle.mcv_base.specs.Reply.{is_error, is_missed, is_good}
 use Rattle.mcv_pools.specs.Table.{IsOneToOne}
 use Rattle.mcv_route.specs.Outcomes.{Outcomes, Choice}
 use Rattle.mcv_route.specs.Children.{is_within}
-use Rattle.mcv_route.specs.Tree.{Tree}
-use Rattle.mcv_route.specs.Situation.{Situation}
 use Rattle.mcv_rules.specs.Plan.{Leg, Plan, Send, Reply, Both, Beside, OnError, OnMiss, OnHit, Shadowed, reply, on_reply, launched}
 use Rattle.mcv_rules.specs.Plans.{plan, launch_of}
 use Rattle.mcv_rules.specs.Rows.{LegsAreSentOnce, ShadowsAreMarked}

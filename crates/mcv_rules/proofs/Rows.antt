@@ -1,17 +1,17 @@
 -- What each handle sends, by its children: lists of what each child does, read at the children's numbers.
-use Rattle.std.proofs.Common.{◌≡◌, ◌<◌, ◌≤◌, ◌+◌, ◌*◌, ◌⊎◌, inl, inr, cond, ℕ, zero, suc, Bool, true, false, nat_le, List, [], ◌∷◌, ◌++◌, length, Option, Some, None, option_map, refl, sym, ap, ◌∙◌, subst, arith, add-zero, zero-add}
+use Rattle.std.proofs.Common.{◌≡◌, ◌<◌, ◌≤◌, ◌+◌, ◌*◌, ◌⊎◌, inl, inr, cond, ℕ, zero, suc, Bool, true, false, List, [], ◌∷◌, ◌++◌, length, Option, Some, None, option_map, refl, sym, ap, ◌∙◌, subst, arith, add-zero, zero-add}
 use Rattle.std.specs.Prelude.{option_and_then, slice_get}
 use Rattle.std.proofs.lemmas.Bool.{leb-true, le-leb}
 use Rattle.mcv_base.specs.declared.operation.Op.{Op}
 use Rattle.mcv_base.specs.declared.reply.Outcome.{Outcome}
 use Rattle.mcv_base.specs.declared.reply.Outcome.TheVariants.{Good, Soft, Error}
 use Rattle.mcv_base.specs.Reply.{is_error, is_missed, is_good}
-use Rattle.mcv_base.specs.Operation.{is_reading, is_delete}
+use Rattle.mcv_base.specs.Operation.{is_delete}
 use Rattle.mcv_route.specs.declared.launch.Launch.{Launch}
 use Rattle.mcv_route.specs.Outcomes.{Outcomes, Choice}
-use Rattle.mcv_route.specs.Tree.{Range, Tree, Trees, none, child, warm_up, migrate, miss_failover}
+use Rattle.mcv_route.specs.Tree.{Range, Tree, Trees, none, child}
 use Rattle.mcv_route.specs.Situation.{Situation, under, asynchronous, shadowed, adding, has_passed}
-use Rattle.mcv_route.specs.Children.{joined, child_or, rest_of, is_within, of_those_holding, is_policy_for, policy_of, prefix_policy, Way, to_from, to_to, to_both, way_of, by_way}
+use Rattle.mcv_route.specs.Children.{joined, child_or, rest_of, is_within, of_those_holding, is_policy_for, policy_of, prefix_policy, to_from, to_to, to_both, way_of}
 use Rattle.mcv_route.specs.Places.{child_at}
 use Rattle.mcv_route.specs.Replies.{Answer, outcome_of, replies, replies_each}
 use Rattle.mcv_route.specs.Launched.{launched, launched_each, own_leg, once, in_turn}
@@ -130,9 +130,9 @@ turn_at : (test : Outcome → Bool) (rs : List (List Answer)) (lss : List (List 
 turn_at test [] lss l h = absurd h
 turn_at test (r ∷ rs) [] l h = absurd h
 turn_at test (r ∷ rs) (ls ∷ lss) l h = elim (among_either ls (once test r (in_turn test rs lss)) l h) [
-    | inl a ↦ (zero, (λ j e. absurd (omega (arith, e))), (ls, refl, a))
-    | inr a ↦ let p = once_passes test r (in_turn test rs lss) l a in let q = turn_at test rs lss l p.1 in (suc q.0, pass_more test r rs q.0 p.0 q.1, q.2)
-  ]
+  | inl a ↦ (zero, (λ j e. absurd (omega (arith, e))), (ls, refl, a))
+  | inr a ↦ let p = once_passes test r (in_turn test rs lss) l a in let q = turn_at test rs lss l p.1 in (suc q.0, pass_more test r rs q.0 p.0 q.1, q.2)
+]
 
 in_turn_at : (test : Outcome → Bool) (rs : List (List Answer)) (lss : List (List Launch)) (i : ℕ) (l : Launch) (r : List Answer) → slice_get rs i ≡ Some r → ((j : ℕ) → j < i → PassesAt test rs j) → At lss i l → Among (in_turn test rs lss) l
 in_turn_at test [] lss i l r t p h = absurd (let e : None ≡ Some r = t in cc)
@@ -202,10 +202,10 @@ all_initial_row ts s c o l = (sent, back)
   where
     sent : Among (child_or [] 0 (launched_each 0 ts s c o) ++ joined (rest_of (launched_each 0 ts (asynchronous s) c o))) l → ChildSends ts 0 s c o l ⊎ ((k : ℕ) × ChildSends ts (suc k) (asynchronous s) c o l)
     sent h = elim (among_either (child_or [] 0 (launched_each 0 ts s c o)) (joined (rest_of (launched_each 0 ts (asynchronous s) c o))) l h) [
-        | inl a ↦ inl (child_sends ts s c o 0 l (child_or_at 0 (launched_each 0 ts s c o) l a))
-        | inr a ↦ let r = joined_at (rest_of (launched_each 0 ts (asynchronous s) c o)) l a in
-            inr (r.0, child_sends ts (asynchronous s) c o (suc r.0) l (rest_at (launched_each 0 ts (asynchronous s) c o) r.0 l r.1))
-      ]
+      | inl a ↦ inl (child_sends ts s c o 0 l (child_or_at 0 (launched_each 0 ts s c o) l a))
+      | inr a ↦ let r = joined_at (rest_of (launched_each 0 ts (asynchronous s) c o)) l a in
+          inr (r.0, child_sends ts (asynchronous s) c o (suc r.0) l (rest_at (launched_each 0 ts (asynchronous s) c o) r.0 l r.1))
+    ]
 
     back : ChildSends ts 0 s c o l ⊎ ((k : ℕ) × ChildSends ts (suc k) (asynchronous s) c o l) → Among (child_or [] 0 (launched_each 0 ts s c o) ++ joined (rest_of (launched_each 0 ts (asynchronous s) c o))) l
     back (inl h) = among_left (child_or [] 0 (launched_each 0 ts s c o)) (joined (rest_of (launched_each 0 ts (asynchronous s) c o))) l (in_child_or 0 (launched_each 0 ts s c o) l (sends_child ts s c o 0 l h))
@@ -247,9 +247,9 @@ holding_at : {A : Type 0} (i : ℕ) (rs : List Range) (xss : List (List A)) (l :
 holding_at i [] xss l h = absurd h
 holding_at i (r ∷ rs) [] l h = absurd h
 holding_at i (r ∷ rs) (xs ∷ xss) l h = elim (among_either (cond (is_within r i) xs []) (of_those_holding i rs xss) l h) [
-    | inl a ↦ let p = if_among (is_within r i) xs l a in (zero, r, refl, p.0, (xs, refl, p.1))
-    | inr a ↦ let q = holding_at i rs xss l a in (suc q.0, q.1, q.2, q.3, q.4)
-  ]
+  | inl a ↦ let p = if_among (is_within r i) xs l a in (zero, r, refl, p.0, (xs, refl, p.1))
+  | inr a ↦ let q = holding_at i rs xss l a in (suc q.0, q.1, q.2, q.3, q.4)
+]
 
 in_holding : {A : Type 0} (i : ℕ) (rs : List Range) (xss : List (List A)) (l : A) (k : ℕ) (r : Range) → slice_get rs k ≡ Some r → is_within r i ≡ true → At xss k l → Among (of_those_holding i rs xss) l
 in_holding i [] xss l k r e w h = absurd (let n : None ≡ Some r = e in cc)
@@ -287,18 +287,18 @@ warm_up_reads cold warm exptime s c o l reads = rw reads (sent, back)
     sent : Among (launched cold (under 0 s) c o ++ once is_missed (replies cold (under 0 s) o) (launched warm (under 1 s) c o ++ once is_good (replies warm (under 1 s) o) (launched cold (under 2 (adding s)) c o))) l
         → Sends cold (under 0 s) c o l ⊎ (IsMissed (outcome_of (replies cold (under 0 s) o)) × (Sends warm (under 1 s) c o l ⊎ ((outcome_of (replies warm (under 1 s) o) ≡ Some Good) × Sends cold (under 2 (adding s)) c o l)))
     sent h = elim (among_either (launched cold (under 0 s) c o) (once is_missed (replies cold (under 0 s) o) (launched warm (under 1 s) c o ++ once is_good (replies warm (under 1 s) o) (launched cold (under 2 (adding s)) c o))) l h) [
-        | inl a ↦ inl a
-        | inr a ↦
-            let p = once_passes is_missed (replies cold (under 0 s) o) (launched warm (under 1 s) c o ++ once is_good (replies warm (under 1 s) o) (launched cold (under 2 (adding s)) c o)) l a in
-            inr (missed_of (outcome_of (replies cold (under 0 s) o)) p.0.0 p.0.1 p.0.2, behind p.1)
-      ]
+      | inl a ↦ inl a
+      | inr a ↦
+          let p = once_passes is_missed (replies cold (under 0 s) o) (launched warm (under 1 s) c o ++ once is_good (replies warm (under 1 s) o) (launched cold (under 2 (adding s)) c o)) l a in
+          inr (missed_of (outcome_of (replies cold (under 0 s) o)) p.0.0 p.0.1 p.0.2, behind p.1)
+    ]
       where
         behind : Among (launched warm (under 1 s) c o ++ once is_good (replies warm (under 1 s) o) (launched cold (under 2 (adding s)) c o)) l
             → Sends warm (under 1 s) c o l ⊎ ((outcome_of (replies warm (under 1 s) o) ≡ Some Good) × Sends cold (under 2 (adding s)) c o l)
         behind h = elim (among_either (launched warm (under 1 s) c o) (once is_good (replies warm (under 1 s) o) (launched cold (under 2 (adding s)) c o)) l h) [
-            | inl a ↦ inl a
-            | inr a ↦ let p = once_passes is_good (replies warm (under 1 s) o) (launched cold (under 2 (adding s)) c o) l a in inr (good_of (outcome_of (replies warm (under 1 s) o)) p.0.0 p.0.1 p.0.2, p.1)
-          ]
+          | inl a ↦ inl a
+          | inr a ↦ let p = once_passes is_good (replies warm (under 1 s) o) (launched cold (under 2 (adding s)) c o) l a in inr (good_of (outcome_of (replies warm (under 1 s) o)) p.0.0 p.0.1 p.0.2, p.1)
+        ]
 
     back : Sends cold (under 0 s) c o l ⊎ (IsMissed (outcome_of (replies cold (under 0 s) o)) × (Sends warm (under 1 s) c o l ⊎ ((outcome_of (replies warm (under 1 s) o) ≡ Some Good) × Sends cold (under 2 (adding s)) c o l)))
         → Among (launched cold (under 0 s) c o ++ once is_missed (replies cold (under 0 s) o) (launched warm (under 1 s) c o ++ once is_good (replies warm (under 1 s) o) (launched cold (under 2 (adding s)) c o))) l

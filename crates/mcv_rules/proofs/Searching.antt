@@ -23,7 +23,6 @@ use Rattle.mcv_rules.specs.Plans.{plan, plan_each}
 use Rattle.mcv_rules.specs.Times.{time, IsStable}
 use Rattle.mcv_rules.specs.History.{history_of}
 use Rattle.mcv_rules.specs.Arrivals.{seen, own_arrived, arrived_at_once, goes_on, goes_on_after, next_arrived}
-use Rattle.mcv_rules.specs.Laid as laid
 use Rattle.mcv_rules.specs.Laid.{sent, searched, next_reply, is_hit, arrived, Serves, ServeEach}
 use Rattle.mcv_rules.specs.declared.arrival.After.{After}
 use Rattle.mcv_rules.specs.declared.arrival.After.TheVariants as after

@@ -15,7 +15,7 @@ use Rattle.mcv_route.specs.declared.launch.Answered.{Answered}
 use Rattle.mcv_route.specs.Outcomes.{Outcomes, Choice, History, outcomes}
 use Rattle.mcv_route.specs.Tree.{Pool, Tree, Trees, pool, null, error, all_sync, none, child}
 use Rattle.mcv_route.specs.Situation.{Situation, under}
-use Rattle.mcv_route.specs.Children.{joined, together}
+use Rattle.mcv_route.specs.Children.{together}
 use Rattle.mcv_route.specs.Replies as replies
 use Rattle.mcv_route.specs.declared.tree.Route.{Route}
 use Rattle.mcv_route.specs.View.{view, trees_of}
@@ -24,7 +24,7 @@ use Rattle.mcv_route.specs.Launched.{launched, launched_each}
 use Rattle.mcv_route.specs.Reply as definition
 use Rattle.mcv_route.specs.Reply.{reply, came, arrival, arrivals, last_worse, is_waiting}
 use Rattle.mcv_rules.specs.Plan as planned
-use Rattle.mcv_rules.specs.Plans.{plan, plan_each}
+use Rattle.mcv_rules.specs.Plans.{plan_each}
 use Rattle.mcv_rules.specs.Times.{came_each}
 use Rattle.mcv_rules.specs.Status.{default_reply}
 use Rattle.mcv_rules.specs.History.{history_of}

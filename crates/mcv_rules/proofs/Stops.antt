@@ -1,11 +1,11 @@
 -- Where a search stops: its replies are those of that child.
-use Rattle.std.proofs.Common.{◌≡◌, ◌≢◌, ◌<◌, ◌⊎◌, inl, inr, cond, ℕ, zero, suc, Bool, true, false, List, [], ◌∷◌, Option, Some, None, option_map, refl, sym, ap, ◌∙◌, subst, arith}
+use Rattle.std.proofs.Common.{◌≡◌, ◌≢◌, ◌<◌, ◌⊎◌, inl, inr, cond, ℕ, zero, suc, Bool, true, false, List, [], ◌∷◌, Some, None, option_map, refl, sym, ap, ◌∙◌, subst, arith}
 use Rattle.std.specs.Prelude.{fold, slice_get}
 use Rattle.mcv_base.specs.declared.reply.Outcome.{Outcome}
 use Rattle.mcv_base.specs.declared.reply.Outcome.TheVariants.{Good, Soft, Error}
 use Rattle.mcv_base.specs.Reply.{is_error, is_missed, is_good}
 use Rattle.mcv_route.specs.Outcomes.{Outcomes}
-use Rattle.mcv_route.specs.Tree.{Tree, Trees}
+use Rattle.mcv_route.specs.Tree.{Trees}
 use Rattle.mcv_route.specs.Situation.{Situation, under}
 use Rattle.mcv_route.specs.Children.{together}
 use Rattle.mcv_route.specs.Places.{child_at}
@@ -101,7 +101,7 @@ pub miss_failover_replies : MissFailoverReplies
 miss_failover_replies ts s o k t reads e before f = rw reads (
     together_at is_missed or_after_miss miss_search _ (replies_each 0 ts s o) k (replies t (under k s) o)
     (replies_at ts s o k ∙ ap (option_map (λ u. replies u (under k s) o)) e) (λ j i. missed_passes ts s o j (before j i)) (ends f)
-  )
+    )
   where
     ends : (IsMissed (outcome_of (replies t (under k s) o)) → ⊥) ⊎ (child_at ts (suc k) ≡ None) → (Passes is_missed (replies t (under k s) o) → ⊥) ⊎ (slice_get (replies_each 0 ts s o) (suc k) ≡ None)
     ends (inl n) = inl (λ p. n (missed_of (outcome_of (replies t (under k s) o)) p.0 p.1 p.2))

@@ -5,13 +5,12 @@ use Rattle.mcv_base.specs.declared.operation.Mark.TheVariants.{Plain}
 use Rattle.mcv_base.specs.declared.operation.Op.{Op}
 use Rattle.mcv_base.specs.declared.reply.Outcome.{Outcome}
 use Rattle.mcv_route.specs.declared.launch.Answered.{Answered}
-use Rattle.mcv_route.specs.declared.launch.Launch.{Launch}
 use Rattle.mcv_route.specs.Outcomes.{outcomes}
 use Rattle.mcv_route.specs.Tree.{Tree}
 use Rattle.mcv_route.specs.Situation.{Situation}
 use Rattle.mcv_route.specs.Replies.{Source, leg, fixed, refusal, Answer, replies}
 use Rattle.mcv_route.specs.Launched.{launched}
-use Rattle.mcv_route.specs.Reply.{reply, came}
+use Rattle.mcv_route.specs.Reply.{reply}
 use Rattle.mcv_rules.specs.Arrivals.{known_at, outcome_in, own_arrived, seen_answer}
 use Rattle.mcv_rules.specs.Called.{Called, situation_of}
 use Rattle.mcv_rules.specs.Laid.{Serves, arrived, sent, situation_at}

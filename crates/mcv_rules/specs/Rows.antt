@@ -1,5 +1,5 @@
 -- What each handle sends, said of its children one by one, in the order of the table of handles (mcrouter wiki, List of Route Handles).
-use Rattle.std.specs.Prelude.{◌≡◌, ◌≢◌, ◌⊎◌, ◌↔◌, ◌<◌, ◌≤◌, ◌+◌, ◌*◌, ℕ, suc, true, false, List, [], ◌∷◌, Option, Some, None, length, map, option_and_then, slice_get, slice_index}
+use Rattle.std.specs.Prelude.{◌≡◌, ◌≢◌, ◌⊎◌, ◌↔◌, ◌<◌, ◌≤◌, ◌+◌, ◌*◌, ℕ, suc, true, false, List, Option, Some, None, length, map, option_and_then, slice_get, slice_index}
 use Rattle.mcv_base.specs.declared.operation.Op.{Op}
 use Rattle.mcv_base.specs.declared.operation.Mark.TheVariants.{Shadow}
 use Rattle.mcv_base.specs.declared.reply.Outcome.{Outcome}

@@ -102,12 +102,7 @@ pub fn laid_out(
 }
 
 /// The leg of the pool at this position.
-fn leg(
-    alloc: Global,
-    leaf: &Leaf,
-    asked: &Asked,
-    position: &Position,
-) -> Result<Plan, AllocError>
+fn leg(alloc: Global, leaf: &Leaf, asked: &Asked, position: &Position) -> Result<Plan, AllocError>
     ensures { IfOk result (λ p. Serves p (pool (pool_view leaf.now) [] none) (situation_at asked.now position.now)) }
 {
     Ok(Plan::Send(PlannedLeg {
@@ -240,12 +235,7 @@ fn misses_passed_on(
 }
 
 /// Cold's plan, after a miss warm's, and after its hit the add's.
-fn filled(
-    alloc: Global,
-    cold: Plan,
-    warm: Plan,
-    filling: Plan,
-) -> Result<Plan, AllocError>
+fn filled(alloc: Global, cold: Plan, warm: Plan, filling: Plan) -> Result<Plan, AllocError>
     ensures { (t u : Tree) (exptime : ℕ) (s : Situation) → is_reading s.op ≡ true → Serves cold t (under 0 s) → Serves warm u (under 1 s) → Serves filling t (under 2 (adding s)) → IfOk result (λ p. Serves p (warm_up t u exptime) s) }
 {
     let filled = Plan::OnHit(Box::new(alloc, warm)?, Box::new(alloc, filling)?);
@@ -282,11 +272,7 @@ fn prefix_number(policies: &[PrefixPolicy], rest: &Rest) -> usize
 }
 
 /// Of the policies so far, and one more, the one with the longer prefix, by number and length; the last of equals.
-fn longer(
-    longest: Option<(usize, usize)>,
-    number: usize,
-    length: usize,
-) -> Option<(usize, usize)>
+fn longer(longest: Option<(usize, usize)>, number: usize, length: usize) -> Option<(usize, usize)>
     ensures { result ≡ longer_of longest (number, length) }
 {
     match longest {

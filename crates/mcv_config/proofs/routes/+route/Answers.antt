@@ -3,15 +3,15 @@ use Rattle.std.proofs.lemmas.List.{map-append}
 use Rattle.std.proofs.lemmas.Grind.{common_steps}
 use Rattle.serde_json.proofs.Views.{Entry}
 use Rattle.serde_json.specs.View.{view, members_view}
-use Rattle.mcv_config.specs.declared.trail.Trail.{the_lemmas}
-use Rattle.mcv_config.specs.Fault.{good}
-use Rattle.mcv_config.specs.Lists.{each_member}
-use Rattle.mcv_config.specs.Path.{path_of, key_step}
+use Rattle.mcv_names.specs.declared.trail.Trail.{the_lemmas}
+use Rattle.mcv_names.specs.Fault.{good}
+use Rattle.mcv_names.specs.Lists.{each_member}
+use Rattle.mcv_names.specs.Path.{path_of, key_step}
 use Rattle.mcv_config.specs.Plan.{prefix_of}
 use Rattle.mcv_config.specs.Routes.{route}
 use Rattle.mcv_config.specs.Selectors.{policy_read}
 use Rattle.mcv_config.specs.View.{so_far_of}
-use Rattle.mcv_config.proofs.Turns.{after, each_member-more}
+use Rattle.mcv_names.proofs.Turns.{after, each_member-more}
 use Rattle.mcv_config.proofs.routes.+route.Goals as goal
 
 pub read_each_policy-loop-name-preserved : goal.read_each_policy-loop-name-preserved

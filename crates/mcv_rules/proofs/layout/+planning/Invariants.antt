@@ -1,4 +1,4 @@
-use Rattle.std.proofs.Common.{◌≡◌, [], map, take}
+use Rattle.std.proofs.Common.{[], map, take}
 use Rattle.mcv_route.specs.Situation.{asynchronous, shadowed, under}
 use Rattle.mcv_route.specs.Tree.{none, null, pool}
 use Rattle.mcv_route.specs.View.{pool_view, shadow_view, view}

@@ -1,4 +1,4 @@
-use Rattle.std.proofs.Common.{◌≡◌, ◌∷◌, ◌++◌, [], cond, drop, map}
+use Rattle.std.proofs.Common.{◌≡◌, ◌++◌, [], cond, drop, map}
 use Rattle.std.specs.Prelude.{fold, slice_index}
 use Rattle.mcv_route.specs.Children.{joined}
 use Rattle.mcv_rules.specs.Arrivals.{goes_on_after, known_at, outcome_in}

@@ -38,6 +38,6 @@ returns c =
     let xs = c.args.outcomes.now in
     let all = take_all c.loop-place.place xs c.loop-place-test.false in
     let whole : (p : List ℕ) → known_at c.loop-place.known p ≡ own_arrived xs p =
-        λ p. ap₂ (λ r n. unwrap_or r (record { answer = None; came = n })) (c.loop-place.invariant.found p ∙ ap (own_found p) all) (c.loop-place.invariant.count ∙ ap (λ ys. length (history_of ys)) all)
+    λ p. ap₂ (λ r n. unwrap_or r (record { answer = None; came = n })) (c.loop-place.invariant.found p ∙ ap (own_found p) all) (c.loop-place.invariant.count ∙ ap (λ ys. length (history_of ys)) all)
     in
     λ i p. whole p i
