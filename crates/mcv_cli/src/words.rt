@@ -30,8 +30,8 @@ Where the status isn't 0, one line on standard error says why.";
 
 const LEGS_ABOUT: &str = "Shows to which servers a request is sent at once";
 
-const AT: &str = "The moment of the request in seconds, as start_time has it,
-0 to 18446744073709551615";
+const AT: &str = "The moment of the request in seconds, as start_time
+has it, from 0 to 18446744073709551615";
 
 const LEGS_FORM: &str = "Standard input has the request in its first line, and behind it the
 configuration as JSON:

@@ -158,3 +158,28 @@ fn broken_devices_are_told(rt: HostRuntime) -> Result<(), Fail> {
     assert!(rt; matches!(full, Err(RunFault::Device)));
     Ok(())
 }
+
+/// A request line, and what is written where routing prefixes select between the pools.
+const PREFIXED: &str = "\
+get /x/y/a = leg - a:11211 plain / reply none
+get a = leg - b:11211 plain / reply none
+get /u/v/a = leg - b:11211 plain / reply none
+get /x/z/a = 2 2 no route";
+
+const ENTRIES: &str =
+    "\"routes\":[{\"aliases\":[\"/x/y/\"],\"route\":\"PoolRoute|A\"},{\"aliases\":[\"/././\",\"/u/v/\"],\"route\":\"PoolRoute|B\"}]}";
+
+#[test]
+fn prefixes_select_routes(rt: HostRuntime) -> Result<(), Fail> {
+    let alloc = rt.alloc();
+    for case in PREFIXED.lines() {
+        let (line, want) = case.split_once(" = ").ok_or("no case")?;
+        let input = format!(in alloc; "{line}\n{POOLS}{ENTRIES}")?;
+        assert_eq!(rt;
+            shown(alloc, &mut input.as_bytes())?.as_str(),
+            want,
+            "{line}"
+        );
+    }
+    Ok(())
+}
