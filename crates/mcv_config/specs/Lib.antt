@@ -1,10 +1,1 @@
-pub mod Fault
-pub mod Path
 pub mod Plan
-pub mod Server
-pub mod Lists
-pub mod Handles
-pub mod Pools
-pub mod Routes
-pub mod Config
-pub mod View

@@ -1,25 +1,6 @@
-//! The configuration text, and what it names.
-//!
-//! `read_config` reads a JSON text: pools of servers and trees of route handles, which name pools by number.
-//! A text that names no configuration has a fault with a number and a path.
+//! STUB: the types of a configuration alone.
 #![tactic(auto)]
 
 mod config;
-mod fault;
-mod handle;
-mod name_table;
-mod names;
-mod pools;
-mod read;
-mod routes;
-mod server;
-mod texts;
-mod trail;
 
-pub use config::{Config, Entry, NamedPolicy, NamedRoute, Pool};
-pub use fault::{ConfigFault, FaultKind};
-pub use read::read_config;
-pub use server::{is_server, server_law};
-
-#[cfg(test)]
-mod tests;
+pub use config::{Config, Entry, NamedPolicy, NamedPrefix, NamedRoute, NamedShadow, Pool};

@@ -1,18 +1,35 @@
 use super::*;
-use mcv_base::{FixedReply, Mark, Op, Outcome, Part, Position, Reply, Rest, ServerId, split_key};
+use mcv_base::{FixedReply, Mark, Moment, Op, Outcome, Part, Position, Reply, Rest, ServerId, split_key};
 use mcv_pools::Choice;
-use mcv_route::{Answered, Leaf, OperationPolicy, Route};
+use mcv_route::{Answered, Launch, Leaf, OperationPolicy, PrefixPolicy, Route, Shadow};
 use std::alloc::{AllocError, Global};
 use std::sync::Arc;
 use std::test::Fail;
 
 /// A pool of these servers under symbol 0.
 fn pool(alloc: Global, servers: &[ServerId]) -> Result<Route, AllocError> {
+    with_shadows(alloc, servers, Vec::new(alloc))
+}
+
+fn with_shadows(
+    alloc: Global,
+    servers: &[ServerId],
+    shadows: Vec<Shadow>,
+) -> Result<Route, AllocError> {
     let servers = Vec::from_slice(alloc, servers)?;
-    Ok(Route::Pool(Leaf {
+    let leaf = Leaf {
         symbol: 0,
         servers: Arc::new(alloc, servers)?,
-    }))
+    };
+    Ok(Route::Pool { leaf, shadows })
+}
+
+/// Two pools of one server each.
+fn two_pools(alloc: Global) -> Result<Vec<Route>, AllocError> {
+    let mut children = Vec::new(alloc);
+    children.push(pool(alloc, &[ServerId(1)])?)?;
+    children.push(pool(alloc, &[ServerId(2)])?)?;
+    Ok(children)
 }
 
 fn all_sync(alloc: Global, first: Route, second: Route) -> Result<Route, AllocError> {
@@ -54,7 +71,7 @@ fn deleted(alloc: Global, route: &Route, outcomes: &[Answered]) -> Result<Status
     let rest = rest()?;
     let choice = choice(alloc, 0)?;
     let eval = Eval::new(alloc, route, Op::Delete, &rest, None, &choice)?;
-    Ok(eval.status(outcomes))
+    Ok(eval.status(&Outcomes::of(alloc, outcomes)?))
 }
 
 #[test]
@@ -136,8 +153,9 @@ fn a_policy_goes_before_the_default(rt: HostRuntime) -> Result<(), Fail> {
     let route = selector(alloc, Some(default))?;
     let rest = rest()?;
     let choice = choice(alloc, 1)?;
+    let none = Outcomes::of(alloc, &[])?;
     let delete = Eval::new(alloc, &route, Op::Delete, &rest, None, &choice)?;
-    let legs = delete.launched(alloc, &[])?;
+    let legs = delete.launched(alloc, &none)?;
     assert_eq!(rt; legs.len(), 1);
     let leg = &legs[0];
     assert_eq!(rt; leg.position.steps(), [1].as_slice());
@@ -145,7 +163,7 @@ fn a_policy_goes_before_the_default(rt: HostRuntime) -> Result<(), Fail> {
     assert_eq!(rt; leg.op, Op::Delete);
     assert_eq!(rt; leg.mark, Mark::Plain);
     let get = Eval::new(alloc, &route, Op::Get, &rest, None, &choice)?;
-    let legs = get.launched(alloc, &[])?;
+    let legs = get.launched(alloc, &none)?;
     assert_eq!(rt; legs.len(), 1);
     assert_eq!(rt; legs[0].position.steps(), [2].as_slice());
     Ok(())
@@ -157,9 +175,10 @@ fn a_missing_policy_is_an_error(rt: HostRuntime) -> Result<(), Fail> {
     let route = selector(alloc, None)?;
     let rest = rest()?;
     let choice = choice(alloc, 0)?;
+    let none = Outcomes::of(alloc, &[])?;
     let get = Eval::new(alloc, &route, Op::Get, &rest, None, &choice)?;
-    assert_eq!(rt; get.launched(alloc, &[])?.len(), 0);
-    let status = get.status(&[]);
+    assert_eq!(rt; get.launched(alloc, &none)?.len(), 0);
+    let status = get.status(&none);
     assert_eq!(rt;
         status,
         Status::Replied(Source::Fixed(FixedReply::ErrorRoute))
@@ -173,14 +192,187 @@ fn nothing_asked_is_a_miss(rt: HostRuntime) -> Result<(), Fail> {
     let alloc = rt.alloc();
     let rest = rest()?;
     let choice = choice(alloc, 0)?;
+    let none = Outcomes::of(alloc, &[])?;
     let set = Eval::new(alloc, &Route::Null, Op::Set, &rest, None, &choice)?;
-    assert_eq!(rt; set.launched(alloc, &[])?.len(), 0);
+    assert_eq!(rt; set.launched(alloc, &none)?.len(), 0);
     assert_eq!(rt;
-        set.status(&[]),
+        set.status(&none),
         Status::Replied(Source::Fixed(FixedReply::NotStored))
     );
-    assert_eq!(rt; set.status(&[]).outcome(&[]), Some(Outcome::Soft));
+    assert_eq!(rt; set.status(&none).outcome(&[]), Some(Outcome::Soft));
     assert_eq!(rt; default_reply(Op::Gets), FixedReply::Miss);
     assert_eq!(rt; default_reply(Op::Touch), FixedReply::NotFound);
+    Ok(())
+}
+
+/// The legs that the route has sent, and what it replies, at these outcomes of a get.
+fn got(
+    alloc: Global,
+    route: &Route,
+    outcomes: &[Answered],
+) -> Result<(Vec<Launch>, Status), Fail> {
+    let rest = rest()?;
+    let choice = choice(alloc, 0)?;
+    let eval = Eval::new(alloc, route, Op::Get, &rest, None, &choice)?;
+    let outcomes = Outcomes::of(alloc, outcomes)?;
+    Ok((eval.launched(alloc, &outcomes)?, eval.status(&outcomes)))
+}
+
+#[test]
+fn a_search_goes_on_after_an_error(rt: HostRuntime) -> Result<(), Fail> {
+    let alloc = rt.alloc();
+    let route = Route::Failover(two_pools(alloc)?);
+    let mut outcomes = Vec::new(alloc);
+    let (legs, status) = got(alloc, &route, outcomes.as_slice())?;
+    assert_eq!(rt; legs.len(), 1);
+    assert_eq!(rt; status, Status::Waits);
+    outcomes.push(faulty(alloc, &[0], b"SERVER_ERROR x")?)?;
+    let (legs, status) = got(alloc, &route, outcomes.as_slice())?;
+    assert_eq!(rt; legs.len(), 2);
+    assert_eq!(rt; legs[1].server, ServerId(2));
+    assert_eq!(rt; status, Status::Waits);
+    outcomes.push(answered(alloc, &[1], FixedReply::Miss)?)?;
+    let (_, status) = got(alloc, &route, outcomes.as_slice())?;
+    assert_eq!(rt; status, Status::Replied(Source::Outcome(1)));
+    Ok(())
+}
+
+#[test]
+fn a_search_for_a_hit_goes_on_after_a_miss(rt: HostRuntime) -> Result<(), Fail> {
+    let alloc = rt.alloc();
+    let route = Route::MissFailover(two_pools(alloc)?);
+    let mut outcomes = Vec::new(alloc);
+    outcomes.push(answered(alloc, &[0], FixedReply::Miss)?)?;
+    let (legs, status) = got(alloc, &route, outcomes.as_slice())?;
+    assert_eq!(rt; legs.len(), 2);
+    assert_eq!(rt; status, Status::Waits);
+    let status = deleted(alloc, &route, outcomes.as_slice())?;
+    assert_eq!(rt; status, Status::Replied(Source::Outcome(0)));
+    Ok(())
+}
+
+#[test]
+fn the_first_child_alone_is_waited_for(rt: HostRuntime) -> Result<(), Fail> {
+    let alloc = rt.alloc();
+    let route = Route::AllInitial(two_pools(alloc)?);
+    let mut outcomes = Vec::new(alloc);
+    outcomes.push(answered(alloc, &[0], FixedReply::Miss)?)?;
+    let (legs, status) = got(alloc, &route, outcomes.as_slice())?;
+    assert_eq!(rt; legs.len(), 2);
+    assert_eq!(rt; legs[0].mark, Mark::Plain);
+    assert_eq!(rt; legs[1].mark, Mark::Async);
+    assert_eq!(rt; status, Status::Replied(Source::Outcome(0)));
+    let route = Route::AllAsync(two_pools(alloc)?);
+    let (legs, status) = got(alloc, &route, &[])?;
+    assert_eq!(rt; legs.len(), 2);
+    assert_eq!(rt; legs[0].mark, Mark::Async);
+    assert_eq!(rt; status, Status::Replied(Source::Fixed(FixedReply::Miss)));
+    Ok(())
+}
+
+#[test]
+fn a_hit_of_warm_fills_cold(rt: HostRuntime) -> Result<(), Fail> {
+    let alloc = rt.alloc();
+    let route = Route::WarmUp {
+        cold: Box::new(alloc, pool(alloc, &[ServerId(1)])?)?,
+        warm: Box::new(alloc, pool(alloc, &[ServerId(2)])?)?,
+        exptime: 60,
+    };
+    let mut outcomes = Vec::new(alloc);
+    outcomes.push(answered(alloc, &[0], FixedReply::Miss)?)?;
+    outcomes.push(answered(alloc, &[1], FixedReply::Stored)?)?;
+    let (legs, status) = got(alloc, &route, outcomes.as_slice())?;
+    assert_eq!(rt; legs.len(), 3);
+    assert_eq!(rt; legs[2].position.steps(), [2].as_slice());
+    assert_eq!(rt; legs[2].server, ServerId(1));
+    assert_eq!(rt; legs[2].op, Op::Add);
+    assert_eq!(rt; legs[2].mark, Mark::Add);
+    assert_eq!(rt; status, Status::Replied(Source::Outcome(1)));
+    Ok(())
+}
+
+/// How many legs a delete has sent in the era that began at this moment.
+fn legs_of_delete(alloc: Global, route: &Route, since: u64) -> Result<usize, Fail> {
+    let rest = rest()?;
+    let choice = choice(alloc, 0)?;
+    let none = Outcomes::of(alloc, &[])?;
+    let eval = Eval::new(alloc, route, Op::Delete, &rest, Some(Moment(since)), &choice)?;
+    Ok(eval.launched(alloc, &none)?.len())
+}
+
+#[test]
+fn deletes_go_to_both_sides_of_a_migration(rt: HostRuntime) -> Result<(), Fail> {
+    let alloc = rt.alloc();
+    let route = Route::Migrate {
+        from: Box::new(alloc, pool(alloc, &[ServerId(1)])?)?,
+        to: Box::new(alloc, pool(alloc, &[ServerId(2)])?)?,
+        start: 100,
+        interval: 10,
+    };
+    assert_eq!(rt; legs_of_delete(alloc, &route, 99)?, 1);
+    assert_eq!(rt; legs_of_delete(alloc, &route, 100)?, 2);
+    assert_eq!(rt; legs_of_delete(alloc, &route, 119)?, 2);
+    assert_eq!(rt; legs_of_delete(alloc, &route, 120)?, 1);
+    Ok(())
+}
+
+#[test]
+fn the_longest_prefix_counts(rt: HostRuntime) -> Result<(), Fail> {
+    let alloc = rt.alloc();
+    let mut policies = Vec::new(alloc);
+    policies.push(PrefixPolicy {
+        prefix: Vec::new(alloc),
+        route: Route::Null,
+    })?;
+    policies.push(PrefixPolicy {
+        prefix: Vec::from_slice(alloc, b"a")?,
+        route: Route::Error,
+    })?;
+    let route = Route::PrefixSelector {
+        policies,
+        wildcard: None,
+    };
+    let (_, status) = got(alloc, &route, &[])?;
+    assert_eq!(rt;
+        status,
+        Status::Replied(Source::Fixed(FixedReply::ErrorRoute))
+    );
+    Ok(())
+}
+
+#[test]
+fn a_shadow_is_sent_where_the_index_is_in_its_range(rt: HostRuntime) -> Result<(), Fail> {
+    let alloc = rt.alloc();
+    let mut shadows = Vec::new(alloc);
+    shadows.push(Shadow {
+        first: 0,
+        last: 0,
+        target: pool(alloc, &[ServerId(3)])?,
+    })?;
+    shadows.push(Shadow {
+        first: 1,
+        last: 9,
+        target: pool(alloc, &[ServerId(4)])?,
+    })?;
+    let route = with_shadows(alloc, &[ServerId(1), ServerId(2)], shadows)?;
+    let (legs, status) = got(alloc, &route, &[])?;
+    assert_eq!(rt; legs.len(), 2);
+    assert_eq!(rt; legs[1].position.steps(), [0].as_slice());
+    assert_eq!(rt; legs[1].server, ServerId(3));
+    assert_eq!(rt; legs[1].mark, Mark::Shadow);
+    assert_eq!(rt; status, Status::Waits);
+    Ok(())
+}
+
+#[test]
+fn the_first_outcome_at_a_position_counts(rt: HostRuntime) -> Result<(), Fail> {
+    let alloc = rt.alloc();
+    let route = pool(alloc, &[ServerId(1)])?;
+    let mut outcomes = Vec::new(alloc);
+    outcomes.push(answered(alloc, &[], FixedReply::Miss)?)?;
+    outcomes.push(answered(alloc, &[], FixedReply::Stored)?)?;
+    let (_, status) = got(alloc, &route, outcomes.as_slice())?;
+    assert_eq!(rt; status, Status::Replied(Source::Outcome(0)));
+    assert_eq!(rt; status.outcome(outcomes.as_slice()), Some(Outcome::Soft));
     Ok(())
 }
