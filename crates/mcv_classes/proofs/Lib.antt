@@ -1,0 +1,4 @@
+pub mod Order
+pub mod Choosing
+pub mod Alike
+pub mod Members
