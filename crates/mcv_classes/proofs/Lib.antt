@@ -2,3 +2,4 @@ pub mod Order
 pub mod Choosing
 pub mod Alike
 pub mod Members
+pub mod Linked

@@ -1,0 +1,114 @@
+-- Words in a table, and the links between them.
+use Rattle.std.proofs.Common.{◌≡◌, ℕ, zero, suc, ◌+◌, ◌-◌, ◌<◌, ◌≤◌, ◌⊎◌, inl, inr, Bool, true, false, List, [], ◌∷◌, ◌++◌, length, map, get_or, Some, refl, sym, ap, ◌∙◌, subst, arith}
+use Rattle.std.specs.Prelude.{slice_get}
+use Rattle.std.specs.List.{AllPairs, Contains}
+use Rattle.std.specs.Str.{bytes_eq}
+use Rattle.std.proofs.lemmas.Bool.{cases_lt, cases_order, false≢true, true≢false}
+use Rattle.std.proofs.lemmas.List.{get_or-map, get_or_append_left, get_or_push, get_or_default, length-map, length_push, map_push}
+use Rattle.std.proofs.lemmas.List.Quantifiers.{all_pairs_push}
+use Rattle.std.proofs.lemmas.Option.{get_or_from_slice_get, slice_get_within, slice_get-get_or}
+use Rattle.std.proofs.lemmas.Slice.Eq.{bytes_eq-Decides}
+use Rattle.mcv_base.specs.Key.{begins_with}
+use Rattle.mcv_classes.specs.Class.{IsBefore}
+use Rattle.mcv_classes.specs.Table.{IsLink, IsLinked, texts_of, word_at}
+use Rattle.mcv_classes.specs.declared.table.LinkedWord.{LinkedWord}
+use Rattle.mcv_classes.proofs.Order.{IsUpTo, before-upto, begins-itself, begins-upto, between, never-back, upto-before, upto-itself, upto-through, before-through}
+
+-- ---- rising words
+
+pub upto-later : (words : List (List ℕ)) (k i : ℕ) → AllPairs IsBefore words → k ≤ i → i < length words → IsUpTo (word_at words k) (word_at words i)
+upto-later words k i up le h = by (cases_lt k i)
+  where
+    by : (k < i) ⊎ (i ≤ k) → IsUpTo (word_at words k) (word_at words i)
+    by (inl below) = before-upto (word_at words k) (word_at words i) (up k i [] below h)
+    by (inr above) =
+        let same : i ≡ k = omega (arith, le, above) in
+        subst (λ j. IsUpTo (word_at words k) (word_at words j)) (sym same) (upto-itself (word_at words k))
+
+pub later-upto : (words : List (List ℕ)) (k i : ℕ) → AllPairs IsBefore words → k < length words → IsUpTo (word_at words k) (word_at words i) → k ≤ i
+later-upto words k i up h e = by (cases_lt i k)
+  where
+    by : (i < k) ⊎ (k ≤ i) → k ≤ i
+    by (inl below) = absurd (never-back (word_at words i) (word_at words k) (up i k [] below h) e)
+    by (inr above) = above
+
+-- ---- linked words
+
+pub text-at : (words : List LinkedWord) (i : ℕ) (w : LinkedWord) → i < length words → w ≡ get_or words i w → word_at (texts_of words) i ≡ w.text.items
+text-at words i w h is = get_or-map (λ v. v.text.items) words i w [] h ∙ ap (λ v. v.text.items) (sym is)
+
+pub length-texts : (words : List LinkedWord) → length (texts_of words) ≡ length words
+length-texts words = length-map words (λ v. v.text.items)
+
+pub some-word : (words : List LinkedWord) → IsLinked words → 0 < length words
+some-word words l = let h : 0 < length (texts_of words) = slice_get_within (texts_of words) 0 [] l.first in omega (arith, h, length-texts words)
+
+pub first-word : (words : List LinkedWord) → IsLinked words → word_at (texts_of words) 0 ≡ []
+first-word words l = get_or_from_slice_get (texts_of words) 0 [] [] l.first
+
+-- each word with which the bytes begin is one with which word i begins
+abbrev pub AreBelow : List (List ℕ) → List ℕ → ℕ → Type 0
+AreBelow words bytes i = (k : ℕ) → k < length words → begins_with bytes (word_at words k) ≡ true → begins_with (word_at words i) (word_at words k) ≡ true
+
+-- where the bytes don't begin with word i, its link leads on
+pub record IsDown (words : List (List ℕ)) (bytes : List ℕ) (i j : ℕ) : Type 0 where
+  pub down : j < i
+  pub below : AreBelow words bytes j
+
+module _ (words : List LinkedWord) (l : IsLinked words) (bytes : List ℕ) (i : ℕ) (h : i < length words) (fails : begins_with bytes (word_at (texts_of words) i) ≡ false) (below : AreBelow (texts_of words) bytes i) where
+  kept : (w : LinkedWord) → w ≡ get_or words i w → 0 < i → (k : ℕ) → k < length (texts_of words) → begins_with bytes (word_at (texts_of words) k) ≡ true → (k ≡ i) ⊎ ((k < i) ⊎ (i < k))
+      → begins_with (word_at (texts_of words) w.shorter) (word_at (texts_of words) k) ≡ true
+  kept w is some k inside e (inl same) = absurd (true≢false (sym e ∙ ap (λ j. begins_with bytes (word_at (texts_of words) j)) same ∙ fails))
+  kept w is some k inside e (inr (inl early)) =
+      let link : IsLink (texts_of words) i (get_or words i w).shorter = l.links i w some h in
+      ap (λ v. begins_with (word_at (texts_of words) v.shorter) (word_at (texts_of words) k)) is ∙ link.kept k early (below k inside e)
+  kept w is some k inside e (inr (inr late)) =
+      let early : k ≤ i = later-upto (texts_of words) k i l.rising inside (begins-upto (word_at (texts_of words) i) (word_at (texts_of words) k) (below k inside e)) in
+      absurd (omega (arith, early, late))
+
+  pub goes-down : (w : LinkedWord) → w ≡ get_or words i w → (0 < i) ⊎ (i ≤ 0) → IsDown (texts_of words) bytes i w.shorter
+  goes-down w is (inl some) =
+      let link : IsLink (texts_of words) i (get_or words i w).shorter = l.links i w some h in
+      let down : w.shorter < i = subst (λ (v : LinkedWord). v.shorter < i) (sym is) link.down in
+      record { down = down; below = λ k inside e. kept w is some k inside e (cases_order k i) }
+  goes-down w is (inr none) =
+      let same : i ≡ 0 = omega (arith, none) in
+      let empty : word_at (texts_of words) i ≡ [] = ap (word_at (texts_of words)) same ∙ first-word words l in
+      absurd (true≢false (sym (ap (begins_with bytes) empty) ∙ fails))
+
+-- a step of the walk: v and w are the word at place i as it was read twice
+pub walks-down : (table : List (List ℕ)) (words : List LinkedWord) (bytes text : List ℕ) (i : ℕ) (v w : LinkedWord) → texts_of words ≡ table → IsLinked words → i < length table → v ≡ get_or words i v → text ≡ v.text.items
+    → begins_with bytes text ≡ false → w ≡ get_or words i w → AreBelow table bytes i → IsDown table bytes i w.shorter
+walks-down table words bytes text i v w same l h v-is text-is fails w-is below =
+    let inside : i < length words = omega (arith, h, length-texts words, ap length same) in
+    let here : word_at (texts_of words) i ≡ text = text-at words i v inside v-is ∙ sym text-is in
+    let own : AreBelow (texts_of words) bytes i = subst (λ ts. AreBelow ts bytes i) (sym same) below in
+    subst (λ ts. IsDown ts bytes i w.shorter) same (goes-down words l bytes i inside (ap (begins_with bytes) here ∙ fails) own w w-is (cases_lt 0 i))
+
+-- ---- one more word
+
+-- the words with which one begins that isn't before the last are among those of the last
+pub last-below : (words : List LinkedWord) (word : List ℕ) (last : ℕ) → IsLinked words → suc last ≡ length words → IsUpTo (word_at (texts_of words) last) word → AreBelow (texts_of words) word last
+last-below words word last l is e k h b =
+    let inside : last < length (texts_of words) = omega (arith, is, length-texts words) in
+    let early : k ≤ last = omega (arith, h, is, length-texts words) in
+    between word (word_at (texts_of words) k) (word_at (texts_of words) last) b (upto-later (texts_of words) k last l.rising early inside) e
+
+module _ (words : List LinkedWord) (w : LinkedWord) (last : ℕ) (l : IsLinked words) (is : suc last ≡ length words) where
+  before : List (List ℕ)
+  before = texts_of words
+
+  after : List (List ℕ)
+  after = texts_of (words ++ w ∷ [])
+
+  after-is : after ≡ before ++ w.text.items ∷ []
+  unfolding before after
+  after-is = map_push (λ v. v.text.items) words w
+
+  kept-at : (k : ℕ) → k < length words → word_at after k ≡ word_at before k
+  unfolding before after
+  kept-at k h = ap (λ ts. word_at ts k) after-is ∙ get_or_append_left (texts_of words) (w.text.items ∷ []) [] k (omega (arith, h, length-texts words))
+
+  new-at : word_at after (length words) ≡ w.text.items
+  unfolding before after
+  new-at = ap (λ ts. word_at ts (length words)) after-is ∙ get_or_push (texts_of words) w.text.items [] (length words) (length-texts words)
