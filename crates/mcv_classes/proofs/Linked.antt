@@ -9,10 +9,10 @@ use Rattle.std.proofs.lemmas.List.Quantifiers.{all_pairs_push}
 use Rattle.std.proofs.lemmas.Option.{get_or_from_slice_get, slice_get_within, slice_get-get_or}
 use Rattle.std.proofs.lemmas.Slice.Eq.{bytes_eq-Decides}
 use Rattle.mcv_base.specs.Key.{begins_with}
-use Rattle.mcv_classes.specs.Class.{IsBefore}
+use Rattle.mcv_classes.specs.Class.{IsBefore, IsUpTo}
 use Rattle.mcv_classes.specs.Table.{IsLink, IsLinked, texts_of, word_at}
 use Rattle.mcv_classes.specs.declared.table.LinkedWord.{LinkedWord}
-use Rattle.mcv_classes.proofs.Order.{IsUpTo, before-upto, begins-itself, begins-upto, between, never-back, upto-before, upto-itself, upto-through, before-through}
+use Rattle.mcv_classes.proofs.Order.{before-upto, begins-itself, begins-upto, between, never-back, upto-before, upto-itself, upto-through, before-through}
 
 -- ---- rising words
 
@@ -94,21 +94,65 @@ last-below words word last l is e k h b =
     let early : k ≤ last = omega (arith, h, is, length-texts words) in
     between word (word_at (texts_of words) k) (word_at (texts_of words) last) b (upto-later (texts_of words) k last l.rising early inside) e
 
-module _ (words : List LinkedWord) (w : LinkedWord) (last : ℕ) (l : IsLinked words) (is : suc last ≡ length words) where
-  before : List (List ℕ)
-  before = texts_of words
+-- links stay where the words up to them do
+link-stays : (table after : List (List ℕ)) (n i j : ℕ) → ((k : ℕ) → k < n → word_at after k ≡ word_at table k) → i < n → IsLink table i j → IsLink after i j
+link-stays table after n i j same h link =
+    let under : j < n = omega (arith, link.down, h) in
+    record {
+      down = link.down;
+      kept = λ k early b.
+          let near : k < n = omega (arith, early, h) in
+          let own : begins_with (word_at table i) (word_at table k) ≡ true = (λ x. begins_with (sym (same i h) x) (sym (same k near) x)) ∙ b in
+          (λ x. begins_with (same j under x) (same k near x)) ∙ link.kept k early own;
+    }
 
-  after : List (List ℕ)
-  after = texts_of (words ++ w ∷ [])
+module _ (words : List LinkedWord) (w : LinkedWord) where
+  text-stays : (k : ℕ) → k < length words → word_at (texts_of (words ++ w ∷ [])) k ≡ word_at (texts_of words) k
+  text-stays k h =
+      ap (λ ts. word_at ts k) (map_push (λ v. v.text.items) words w) ∙ get_or_append_left (texts_of words) (w.text.items ∷ []) [] k (omega (arith, h, length-texts words))
 
-  after-is : after ≡ before ++ w.text.items ∷ []
-  unfolding before after
-  after-is = map_push (λ v. v.text.items) words w
+  text-new : word_at (texts_of (words ++ w ∷ [])) (length words) ≡ w.text.items
+  text-new = ap (λ ts. word_at ts (length words)) (map_push (λ v. v.text.items) words w) ∙ get_or_push (texts_of words) w.text.items [] (length words) (length-texts words)
 
-  kept-at : (k : ℕ) → k < length words → word_at after k ≡ word_at before k
-  unfolding before after
-  kept-at k h = ap (λ ts. word_at ts k) after-is ∙ get_or_append_left (texts_of words) (w.text.items ∷ []) [] k (omega (arith, h, length-texts words))
+  link-new : w.shorter < length words → AreBelow (texts_of words) w.text.items w.shorter → IsLink (texts_of (words ++ w ∷ [])) (length words) w.shorter
+  link-new h below = record {
+    down = h;
+    kept = λ k early b.
+        let near : k < length (texts_of words) = omega (arith, early, length-texts words) in
+        let own : begins_with w.text.items (word_at (texts_of words) k) ≡ true = (λ x. begins_with (sym text-new x) (sym (text-stays k early) x)) ∙ b in
+        (λ x. begins_with (text-stays w.shorter h x) (text-stays k early x)) ∙ below k near own;
+  }
 
-  new-at : word_at after (length words) ≡ w.text.items
-  unfolding before after
-  new-at = ap (λ ts. word_at ts (length words)) after-is ∙ get_or_push (texts_of words) w.text.items [] (length words) (length-texts words)
+  before-new : (last : ℕ) → IsLinked words → suc last ≡ length words → IsUpTo (word_at (texts_of words) last) w.text.items → (word_at (texts_of words) last ≡ w.text.items → ⊥)
+      → (k : ℕ) → k < length words → (k < last) ⊎ (last ≤ k) → IsBefore (word_at (texts_of words) k) w.text.items
+  before-new last l is e apart k h (inl early) =
+      before-through (word_at (texts_of words) k) (word_at (texts_of words) last) w.text.items (l.rising k last [] early (omega (arith, is, length-texts words)))
+      (upto-before (word_at (texts_of words) last) w.text.items e apart)
+  before-new last l is e apart k h (inr late) =
+      let same : k ≡ last = omega (arith, late, h, is) in
+      subst (λ j. IsBefore (word_at (texts_of words) j) w.text.items) (sym same) (upto-before (word_at (texts_of words) last) w.text.items e apart)
+
+  -- one more word, linked with one of the others
+  pub grown : (last : ℕ) → IsLinked words → suc last ≡ length words → IsUpTo (word_at (texts_of words) last) w.text.items → (word_at (texts_of words) last ≡ w.text.items → ⊥) → w.shorter < length words → AreBelow (texts_of words) w.text.items w.shorter
+      → IsLinked (words ++ w ∷ [])
+  grown last l is e apart h below =
+      let some : 0 < length words = some-word words l in
+      let texts-are : texts_of (words ++ w ∷ []) ≡ texts_of words ++ w.text.items ∷ [] = map_push (λ v. v.text.items) words w in
+      record {
+        first = slice_get-get_or (texts_of (words ++ w ∷ [])) 0 [] (omega (arith, length-texts (words ++ w ∷ []), length_push words w)) ∙ ap Some (text-stays 0 some ∙ first-word words l);
+        rising = subst (AllPairs IsBefore) (sym texts-are)
+            (all_pairs_push IsBefore (texts_of words) w.text.items l.rising
+            (λ k d inside.
+            let near : k < length words = omega (arith, inside, length-texts words) in
+            subst (λ v. IsBefore v w.text.items) (get_or_default (texts_of words) k [] d inside) (before-new last l is e apart k near (cases_lt k last))));
+        links = λ i d some-i inside. links-at i d some-i inside (cases_lt i (length words));
+      }
+    where
+      links-at : (i : ℕ) (d : LinkedWord) → 0 < i → i < length (words ++ w ∷ []) → (i < length words) ⊎ (length words ≤ i) → IsLink (texts_of (words ++ w ∷ [])) i (get_or (words ++ w ∷ []) i d).shorter
+      links-at i d some-i inside (inl old) =
+          subst (λ (v : LinkedWord). IsLink (texts_of (words ++ w ∷ [])) i v.shorter) (sym (get_or_append_left words (w ∷ []) d i old))
+          (link-stays (texts_of words) (texts_of (words ++ w ∷ [])) (length words) i (get_or words i d).shorter text-stays old (l.links i d some-i old))
+      links-at i d some-i inside (inr new) =
+          let same : i ≡ length words = omega (arith, new, inside, length_push words w) in
+          subst (λ j. IsLink (texts_of (words ++ w ∷ [])) j (get_or (words ++ w ∷ []) j d).shorter) (sym same)
+          (subst (λ (v : LinkedWord). IsLink (texts_of (words ++ w ∷ [])) (length words) v.shorter) (sym (get_or_push words w d (length words) refl)) (link-new h below))

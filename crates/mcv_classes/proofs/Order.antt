@@ -10,7 +10,7 @@ use Rattle.std.proofs.lemmas.Bool.{and_parts, and_from, eqb-true, eq-eqb, false�
 use Rattle.std.proofs.lemmas.Slice.Eq.{bytes_eq-Decides}
 
 use Rattle.mcv_base.specs.Key.{begins_with}
-use Rattle.mcv_classes.specs.Class.{IsBefore}
+use Rattle.mcv_classes.specs.Class.{IsBefore, IsUpTo}
 
 -- ---- words that begin with others
 
@@ -55,10 +55,6 @@ shorter-begins (k ∷ rest) (i ∷ v) (j ∷ w) e f h =
     and_from (nat_eq j i) (begins_with w v) (eq-eqb j i (sym (eqb-true k j b.0) ∙ eqb-true k i a.0)) (shorter-begins rest v w a.1 b.1 (omega (arith, h)))
 
 -- ---- words in byte order
-
--- v isn't behind w
-abbrev pub IsUpTo : List ℕ → List ℕ → Type 0
-IsUpTo v w = is_gt (slice_cmp nat_cmp v w) ≡ false
 
 upto-parts : (i j : ℕ) (o : Ordering) → is_gt (ordering_then (nat_cmp i j) o) ≡ false → (i < j) ⊎ ((i ≡ j) × (is_gt o ≡ false))
 upto-parts i j o = by (nat_cmp i j) (ranked i j (nat_cmp i j) refl)

@@ -2,7 +2,7 @@
 use Rattle.std.specs.Prelude.{◌≡◌, ℕ, ◌<◌, ◌≤◌, true, false, List, [], ◌∷◌, Option, Some, None, IsSome, length}
 use Rattle.std.specs.List.{All, AllPairs, Contains}
 use Rattle.std.specs.Cmp.Lexicographic.{slice_cmp}
-use Rattle.std.specs.Ordering.{nat_cmp}
+use Rattle.std.specs.Ordering.{is_gt, nat_cmp}
 use Rattle.std.specs.declared.cmp.Ordering.TheVariants.{Less}
 use Rattle.mcv_base.specs.Key.{begins_with, is_key_byte, is_key_word}
 
@@ -38,6 +38,10 @@ pub record IsClassOf (words : List (List ℕ)) (rest : List ℕ) (class : ClassV
 -- v comes before w in byte order
 abbrev pub IsBefore : List ℕ → List ℕ → Type 0
 IsBefore v w = slice_cmp nat_cmp v w ≡ Less
+
+-- v comes before w, or is w
+abbrev pub IsUpTo : List ℕ → List ℕ → Type 0
+IsUpTo v w = is_gt (slice_cmp nat_cmp v w) ≡ false
 
 -- a class of these words, and it has a member
 pub record IsListed (words : List (List ℕ)) (class : ClassValue) : Type 0 where

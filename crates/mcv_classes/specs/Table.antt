@@ -1,10 +1,10 @@
 -- The class words of a route as they are kept to be searched (own).
-use Rattle.std.specs.Prelude.{◌≡◌, ℕ, ◌<◌, true, List, [], Some, length, map, slice_get, slice_index_or}
+use Rattle.std.specs.Prelude.{◌≡◌, ℕ, ◌<◌, ◌-◌, true, List, [], ◌∷◌, Some, ⊤, length, map, slice_get, slice_index_or}
 use Rattle.std.specs.List.{All, AllPairs, Contains}
 use Rattle.std.specs.declared.alloc.Global.{Global}
 use Rattle.std.specs.declared.vec.Vec.{Vec}
 use Rattle.mcv_base.specs.Key.{begins_with}
-use Rattle.mcv_classes.specs.Class.{IsBefore}
+use Rattle.mcv_classes.specs.Class.{IsBefore, IsUpTo}
 use Rattle.mcv_classes.specs.declared.table.LinkedWord.{LinkedWord}
 
 -- the bytes of words
@@ -23,6 +23,15 @@ pub record IsWordTable (words table : List (List ℕ)) : Type 0 where
   pub rising : AllPairs IsBefore table
   pub all : All (Contains table) words
   pub only : All (Contains words) table
+
+-- each word comes after the one before it in byte order, or is the same, from the word v on
+abbrev pub IsInOrderFrom : List ℕ → List (List ℕ) → Type 0
+IsInOrderFrom v [] = ⊤
+IsInOrderFrom v (w ∷ words) = IsUpTo v w × IsInOrderFrom w words
+
+-- the last word of a table
+abbrev pub last_of : List (List ℕ) → List ℕ
+last_of table = word_at table (length table - 1)
 
 -- all words before place i with which word i begins are such that word j begins with them
 pub record IsLink (words : List (List ℕ)) (i j : ℕ) : Type 0 where

@@ -4,13 +4,11 @@
 //! rest: each word with which the rest begins stands there, since what lies between such a word and the rest
 //! begins with it too.
 
-ghost use Rattle.std.specs.Prelude.{◌≡◌, ℕ, ◌<◌, ◌-◌, ◌++◌, ◌∷◌, ◌↔◌, [], true, false, length, IfOk, OnOk, IsTrue, if◌then◌else◌};
-ghost use Rattle.std.specs.Cmp.Lexicographic.{slice_cmp};
-ghost use Rattle.std.specs.List.{Contains};
-ghost use Rattle.std.specs.Ordering.{is_gt, nat_cmp};
+ghost use Rattle.std.specs.Prelude.{◌≡◌, ℕ, ◌<◌, ◌++◌, ◌∷◌, ◌↔◌, [], true, length, IfOk, OnOk, IsTrue, if◌then◌else◌};
+ghost use Rattle.std.specs.List.{AllPairs, Contains};
 ghost use Rattle.std.specs.Str.{bytes_eq};
 ghost use Rattle.mcv_base.specs.Key.{begins_with};
-ghost use Rattle.mcv_classes.specs.Class.{IsClassList, IsClassOf, IsClassWord, IsMember};
+ghost use Rattle.mcv_classes.specs.Class.{IsBefore, IsClassList, IsClassOf, IsClassWord, IsMember, IsUpTo};
 ghost use Rattle.mcv_classes.specs.Words.{class_words};
 ghost use Rattle.mcv_route.specs.View.{view};
 
@@ -50,15 +48,23 @@ impl Model for ClassTable {
 }
 
 impl ClassTable {
-    ghost use Rattle.mcv_classes.specs.Table.{IsWordTable, word_at};
+    ghost use Rattle.mcv_classes.specs.Table.{IsInOrderFrom, IsWordTable, bytes_of, last_of, word_at};
 
     /// The class words of a route: the empty word, and the policy prefixes of all its selectors.
     pub fn new(alloc: Global, route: &Route) -> Result<ClassTable, AllocError>
-        ensures { IfOk result (λ t. IsWordTable (class_words (view route.now)) t) }
+        ensures { IfOk result (IsWordTable (class_words (view route.now))) }
     {
         let mut words = Vec::new(alloc);
         push_words(alloc, route, &mut words)?;
         words.sort_unstable();
+        ClassTable::linked(alloc, words)
+    }
+
+    /// The table of the empty word and of these, which are in order.
+    fn linked(alloc: Global, words: Vec<Vec<u8>>) -> Result<ClassTable, AllocError>
+        requires { IsInOrderFrom [] (bytes_of words.items) }
+        ensures { IfOk result (IsWordTable ([] ∷ bytes_of words.items)) }
+    {
         let mut table = ClassTable::empty(alloc)?;
         for word in words {
             table.push(word)?;
@@ -80,9 +86,9 @@ impl ClassTable {
 
     /// Adds a word that isn't before the last one, unless it is the last one.
     fn push(&mut self, word: Vec<u8>) -> Result<(), AllocError>
-        requires { is_gt (slice_cmp nat_cmp (word_at self.old (length self.old - 1)) word.items) ≡ false }
-        ensures { OnOk result (self.new
-            ≡ (if bytes_eq (word_at self.old (length self.old - 1)) word.items then self.old else self.old ++ word.items ∷ [])) }
+        requires { IsUpTo (last_of self.old) word.items }
+        ensures added { OnOk result (self.new ≡ (if bytes_eq (last_of self.old) word.items then self.old else self.old ++ word.items ∷ [])) }
+        ensures rising { AllPairs IsBefore self.new }
     {
         let last = self.words.len() - 1;
         if self.words[last].text.as_slice() == word.as_slice() {
@@ -112,39 +118,29 @@ impl ClassTable {
         place
     }
 
-    /// The place of the longest word with which the bytes begin.
-    fn longest(&self, bytes: &[u8]) -> usize
-        ensures inside { result < length self.now }
-        ensures begins { begins_with bytes.now (word_at self.now result) ≡ true }
-        ensures longest { (k : ℕ) → k < length self.now → begins_with bytes.now (word_at self.now k) ≡ true → begins_with (word_at self.now result) (word_at self.now k) ≡ true }
+    /// The longest word with which the bytes begin.
+    pub fn longest(&self, bytes: &[u8]) -> &[u8]
+        ensures { IsClassWord self.now bytes.now result.now }
     {
         let passed = self
             .words
             .partition_point(|word| word.text.as_slice() <= bytes);
-        self.longest_up_to(passed - 1, bytes)
+        let place = self.longest_up_to(passed - 1, bytes);
+        self.words[place].text.as_slice()
     }
 
     /// Whether the bytes are a class word.
     pub fn contains(&self, bytes: &[u8]) -> bool
         ensures { IsTrue result ↔ Contains self.now bytes.now }
     {
-        let place = self.longest(bytes);
-        self.words[place].text.len() == bytes.len()
-    }
-
-    /// The class word of a rest: the longest of the words with which it begins.
-    pub fn word_of(&self, rest: &Rest) -> &[u8]
-        ensures { IsClassWord self.now rest.now result.now }
-    {
-        let place = self.longest(rest.as_bytes());
-        self.words[place].text.as_slice()
+        self.longest(bytes) == bytes
     }
 
     /// The class of a rest.
     pub fn class_of(&self, alloc: Global, rest: &Rest) -> Result<Class, AllocError>
         ensures { IfOk result (IsClassOf self.now rest.now) }
     {
-        let word = self.word_of(rest);
+        let word = self.longest(rest.as_bytes());
         let member = self.member_of(word);
         Ok(Class::of(Vec::from_slice(alloc, word)?, member))
     }
@@ -155,11 +151,11 @@ impl ClassTable {
     {
         let mut classes = Vec::with_capacity(alloc, self.words.len())?;
         for word in &self.words {
-            let word = word.text.as_slice();
-            let member = self.member_of(word);
-            if member.is_some() {
-                classes.push(Class::of(Vec::from_slice(alloc, word)?, member))?;
-            }
+            let text = word.text.as_slice();
+            let Some(member) = self.member_of(text) else {
+                continue;
+            };
+            classes.push(Class::of(Vec::from_slice(alloc, text)?, Some(member)))?;
         }
         Ok(classes)
     }
@@ -179,8 +175,8 @@ impl ClassTable {
     fn free_byte(&self) -> Option<Rest>
         ensures { IsMember self.now [] result }
     {
-        for byte in 0..=u8::MAX {
-            let word = [byte];
+        for number in 0..256u16 {
+            let word = [number as u8];
             if self.contains(&word) {
                 continue;
             }

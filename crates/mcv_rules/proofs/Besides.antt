@@ -6,7 +6,7 @@ use Rattle.mcv_route.specs.declared.launch.Launch.{Launch}
 use Rattle.mcv_route.specs.declared.tree.Route.{Route}
 use Rattle.mcv_route.specs.declared.tree.Shadow.{Shadow}
 use Rattle.mcv_route.specs.Outcomes.{Outcomes, Choice, History, outcomes}
-use Rattle.mcv_route.specs.Tree.{Pool, Range, Tree, pool, null, all_initial, all_async, none, child}
+use Rattle.mcv_route.specs.Tree.{Pool, Range, Tree, pool, null, error, all_initial, all_async, none, child}
 use Rattle.mcv_route.specs.Situation.{Situation, under, asynchronous, shadowed}
 use Rattle.mcv_route.specs.Children.{joined, is_within, of_those_holding}
 use Rattle.mcv_route.specs.View.{view, shadow_view, trees_of}
@@ -93,6 +93,11 @@ child-grows P k m ps routes n route p s h is a e f =
     rw (add-one n, take-suc routes n route h, ← is, map-append view (take n routes) (route ∷ []), child_legs-append k m (map view (take n routes)) (view route) s (omega (arith, count, e)))
     (led-append P ps (child_legs k (map view (take n routes)) s) p (λ c o. launched (view route) (under m s) c o) a f.sends)
 
+-- the first of them
+abbrev pub first_of : List Tree → Tree
+first_of [] = error
+first_of (t ∷ ts) = t
+
 pub initial_beyond : (t : Tree) (ts : List Tree) (s : Situation) → Beyond (all_initial (child t (trees_of ts))) s t (under 0 s) (child_legs 1 ts (asynchronous s))
 initial_beyond t ts s = record {
   op = refl;
@@ -108,6 +113,17 @@ async_beyond ts s = record {
   replies = λ o. refl;
   reply = λ es. refl;
 }
+
+-- the first plan alone
+pub led_first : (P : Plan → Type 0) (ps : List Plan) (p : Plan) → ps ≡ p ∷ [] → P p → LedBy P ps []
+led_first P ps p is h = rw is (h, tt)
+
+pub first_served : (p : Plan) (routes : List Route) (first : Route) (others : List Route) (s : Situation) → routes ≡ first ∷ others → Serves p (view first) s → Serves p (first_of (map view routes)) s
+first_served p routes first others s is h = rw is h
+
+pub first_beyond : (routes : List Route) (first : Route) (others : List Route) (s : Situation) → routes ≡ first ∷ others
+    → Beyond (all_initial (trees_of (map view routes))) s (first_of (map view routes)) (under 0 s) (child_legs 1 (map view others) (asynchronous s))
+first_beyond routes first others s is = rw is (initial_beyond (view first) (map view others) s)
 
 -- ---- shadows
 

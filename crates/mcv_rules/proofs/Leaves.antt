@@ -106,28 +106,28 @@ mutual
   of_pools (pool p ranges targets) s c o = (
     record { rest = []; leaf = p; position = sym (append-nil s.position); stands = refl; server = refl },
     all_holding (IsOf (pool p ranges targets) s.position c) (c p.symbol) ranges (launched_each 0 targets (shadowed s) c o)
-      (of_each (IsOf (pool p ranges targets) s.position c) 0 targets (shadowed s) c o (below (pool p ranges targets) s.position c)),
+      (of_each (pool p ranges targets) 0 targets (shadowed s) c o (below (pool p ranges targets) s.position c)),
   )
   of_pools null s c o = tt
   of_pools error s c o = tt
   of_pools (all_sync ts) s c o =
-      all_joined (IsOf (all_sync ts) s.position c) (launched_each 0 ts s c o) (of_each (IsOf (all_sync ts) s.position c) 0 ts s c o (below (all_sync ts) s.position c))
+      all_joined (IsOf (all_sync ts) s.position c) (launched_each 0 ts s c o) (of_each (all_sync ts) 0 ts s c o (below (all_sync ts) s.position c))
   of_pools (all_initial ts) s c o =
       all_append (IsOf (all_initial ts) s.position c) (child_or [] 0 (launched_each 0 ts s c o)) (joined (rest_of (launched_each 0 ts (asynchronous s) c o)))
-      (all_child (IsOf (all_initial ts) s.position c) 0 (launched_each 0 ts s c o) (of_each (IsOf (all_initial ts) s.position c) 0 ts s c o (below (all_initial ts) s.position c)))
+      (all_child (IsOf (all_initial ts) s.position c) 0 (launched_each 0 ts s c o) (of_each (all_initial ts) 0 ts s c o (below (all_initial ts) s.position c)))
       (all_joined (IsOf (all_initial ts) s.position c) (rest_of (launched_each 0 ts (asynchronous s) c o))
-      (all_rest (IsOf (all_initial ts) s.position c) (launched_each 0 ts (asynchronous s) c o) (of_each (IsOf (all_initial ts) s.position c) 0 ts (asynchronous s) c o (below (all_initial ts) s.position c))))
+      (all_rest (IsOf (all_initial ts) s.position c) (launched_each 0 ts (asynchronous s) c o) (of_each (all_initial ts) 0 ts (asynchronous s) c o (below (all_initial ts) s.position c))))
   of_pools (all_async ts) s c o =
       all_joined (IsOf (all_async ts) s.position c) (launched_each 0 ts (asynchronous s) c o)
-      (of_each (IsOf (all_async ts) s.position c) 0 ts (asynchronous s) c o (below (all_async ts) s.position c))
+      (of_each (all_async ts) 0 ts (asynchronous s) c o (below (all_async ts) s.position c))
   of_pools (failover ts) s c o =
       all_in_turn (IsOf (failover ts) s.position c) is_error (replies_each 0 ts s o) (launched_each 0 ts s c o)
-      (of_each (IsOf (failover ts) s.position c) 0 ts s c o (below (failover ts) s.position c))
+      (of_each (failover ts) 0 ts s c o (below (failover ts) s.position c))
   of_pools (miss_failover ts) s c o =
       all_if (IsOf (miss_failover ts) s.position c) (is_reading s.op) (in_turn is_missed (replies_each 0 ts s o) (launched_each 0 ts s c o)) (child_or [] 0 (launched_each 0 ts s c o))
       (all_in_turn (IsOf (miss_failover ts) s.position c) is_missed (replies_each 0 ts s o) (launched_each 0 ts s c o)
-      (of_each (IsOf (miss_failover ts) s.position c) 0 ts s c o (below (miss_failover ts) s.position c)))
-      (all_child (IsOf (miss_failover ts) s.position c) 0 (launched_each 0 ts s c o) (of_each (IsOf (miss_failover ts) s.position c) 0 ts s c o (below (miss_failover ts) s.position c)))
+      (of_each (miss_failover ts) 0 ts s c o (below (miss_failover ts) s.position c)))
+      (all_child (IsOf (miss_failover ts) s.position c) 0 (launched_each 0 ts s c o) (of_each (miss_failover ts) 0 ts s c o (below (miss_failover ts) s.position c)))
   of_pools (warm_up cold warm exptime) s c o =
       all_if (IsOf (warm_up cold warm exptime) s.position c) (is_reading s.op)
       (launched cold (under 0 s) c o ++ once is_missed (replies cold (under 0 s) o) (launched warm (under 1 s) c o ++ once is_good (replies warm (under 1 s) o) (launched cold (under 2 (adding s)) c o)))
@@ -151,18 +151,18 @@ mutual
       (all_so (IsOf (migrate from to start interval) s.position c) (IsOf to (s.position ++ 1 ∷ []) c) (λ l. of_child (migrate from to start interval) to 1 s.position c l refl) (launched to (under 1 s) c o) (of_pools to (under 1 s) c o)))
   of_pools (prefix_selector prefixes ts) s c o =
       all_child (IsOf (prefix_selector prefixes ts) s.position c) (prefix_policy s.rest prefixes) (launched_each 0 ts s c o)
-      (of_each (IsOf (prefix_selector prefixes ts) s.position c) 0 ts s c o (below (prefix_selector prefixes ts) s.position c))
+      (of_each (prefix_selector prefixes ts) 0 ts s c o (below (prefix_selector prefixes ts) s.position c))
   of_pools (operation_selector ops ts) s c o =
       all_child (IsOf (operation_selector ops ts) s.position c) (policy_of s.op ops) (launched_each 0 ts s c o)
-      (of_each (IsOf (operation_selector ops ts) s.position c) 0 ts s c o (below (operation_selector ops ts) s.position c))
+      (of_each (operation_selector ops ts) 0 ts s c o (below (operation_selector ops ts) s.position c))
 
-  -- those of each child, the first of which has number k
-  of_each : (P : Launch → Type 0) (k : ℕ) (ts : Trees) (s : Situation) (c : Choice) (o : Outcomes)
-      → ((j : ℕ) (u : Tree) (l : Launch) (n : ℕ) → n ≡ k + j → child_at ts j ≡ Some u → IsOf u (s.position ++ n ∷ []) c l → P l) → AllOfEach P (launched_each k ts s c o)
-  of_each P k none s c o h = tt
-  of_each P k (child u ts) s c o h = (
-    all_so P (IsOf u (s.position ++ k ∷ []) c) (λ l. h zero u l k (omega arith) refl) (launched u (under k s) c o) (of_pools u (under k s) c o),
-    of_each P (suc k) ts s c o (λ j v l n e. h (suc j) v l n (omega (arith, e))),
+  -- those of each child of a handle, the first of which has number k
+  of_each : (parent : Tree) (k : ℕ) (ts : Trees) (s : Situation) (c : Choice) (o : Outcomes)
+      → ((j : ℕ) (u : Tree) (l : Launch) (n : ℕ) → n ≡ k + j → child_at ts j ≡ Some u → IsOf u (s.position ++ n ∷ []) c l → IsOf parent s.position c l) → AllOfEach (IsOf parent s.position c) (launched_each k ts s c o)
+  of_each parent k none s c o h = tt
+  of_each parent k (child u ts) s c o h = (
+    all_so (IsOf parent s.position c) (IsOf u (s.position ++ k ∷ []) c) (λ l. h zero u l k (omega arith) refl) (launched u (under k s) c o) (of_pools u (under k s) c o),
+    of_each parent (suc k) ts s c o (λ j v l n e. h (suc j) v l n (omega (arith, e))),
   )
 
 pub legs_are_of_pools : LegsAreOfPools

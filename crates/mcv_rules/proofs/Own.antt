@@ -1,5 +1,5 @@
 -- The list of outcomes as a table has it: of each position its first, its place and its time.
-use Rattle.std.proofs.Common.{◌≡◌, ◌<◌, ◌+◌, cond, ℕ, zero, suc, Bool, true, false, List, [], ◌∷◌, ◌++◌, length, take, get_or, Option, Some, None, refl, sym, ap, ap₂, ◌∙◌, arith, add-one, nat_eq, option_map, unwrap_or, ⊎_elim}
+use Rattle.std.proofs.Common.{◌≡◌, ◌<◌, ◌+◌, ◌&&◌, cond, ℕ, zero, suc, Bool, true, false, List, [], ◌∷◌, ◌++◌, length, take, get_or, Option, Some, None, refl, sym, ap, ap₂, ◌∙◌, arith, add-one, nat_eq, option_map, unwrap_or, ⊎_elim}
 use Rattle.std.specs.Prelude.{⊤, fold, is_none, is_some, slice_get}
 use Rattle.std.specs.Str.{bytes_eq}
 use Rattle.std.proofs.Math.Seq.{take-suc}
@@ -26,7 +26,7 @@ pub same_bytes : (p q : List ℕ) → bytes_eq p q ≡ is_same p q
 same_bytes [] [] = refl
 same_bytes [] (j ∷ q) = refl
 same_bytes (i ∷ p) [] = refl
-same_bytes (i ∷ p) (j ∷ q) = ap (λ b. cond (nat_eq i j) b false) (same_bytes p q)
+same_bytes (i ∷ p) (j ∷ q) = ap (λ b. nat_eq i j && b) (same_bytes p q)
 
 -- ---- the first entry at a position
 
@@ -77,28 +77,28 @@ outcome_first xs p = fold_first [] xs p
 
 place_before : (xs ys : List Answered) (p : List ℕ) (x : Outcome) → first_at p xs ≡ Some x → place_of (xs ++ ys) p ≡ place_of xs p
 place_before [] ys p x e = absurd (let f : None ≡ Some x = e in cc)
-place_before (a ∷ xs) ys p x e = by_test (is_same a.position p) e
+place_before (a ∷ xs) ys p x e = by_test (is_same a.position p) (λ f. place_before xs ys p x f) e
   where
-    by_test : (b : Bool) → cond b (Some (told a)) (first_at p xs) ≡ Some x → cond b zero (suc (place_of (xs ++ ys) p)) ≡ cond b zero (suc (place_of xs p))
-    by_test true e = refl
-    by_test false e = ap suc (place_before xs ys p x e)
+    by_test : (b : Bool) → (first_at p xs ≡ Some x → place_of (xs ++ ys) p ≡ place_of xs p) → cond b (Some (told a)) (first_at p xs) ≡ Some x → cond b zero (suc (place_of (xs ++ ys) p)) ≡ cond b zero (suc (place_of xs p))
+    by_test true more e = refl
+    by_test false more e = ap suc (more e)
 
 place_last : (xs : List Answered) (a : Answered) (p : List ℕ) → first_at p xs ≡ None → is_same a.position p ≡ true → place_of (xs ++ a ∷ []) p ≡ length xs
 place_last [] a p e w = rw w refl
-place_last (y ∷ xs) a p e w = by_test (is_same y.position p) e
+place_last (y ∷ xs) a p e w = by_test (is_same y.position p) (λ f. place_last xs a p f w) e
   where
-    by_test : (b : Bool) → cond b (Some (told y)) (first_at p xs) ≡ None → cond b zero (suc (place_of (xs ++ a ∷ []) p)) ≡ suc (length xs)
-    by_test true e = absurd (let f : Some (told y) ≡ None = e in cc)
-    by_test false e = ap suc (place_last xs a p e w)
+    by_test : (b : Bool) → (first_at p xs ≡ None → place_of (xs ++ a ∷ []) p ≡ length xs) → cond b (Some (told y)) (first_at p xs) ≡ None → cond b zero (suc (place_of (xs ++ a ∷ []) p)) ≡ suc (length xs)
+    by_test true more e = absurd (let f : Some (told y) ≡ None = e in cc)
+    by_test false more e = ap suc (more e)
 
 -- the entry at the place has the outcome
 pub told_at : (xs : List Answered) (p : List ℕ) → option_map told (slice_get xs (place_of xs p)) ≡ first_at p xs
 told_at [] p = refl
-told_at (a ∷ xs) p = by_test (is_same a.position p)
+told_at (a ∷ xs) p = by_test (is_same a.position p) (told_at xs p)
   where
-    by_test : (b : Bool) → option_map told (slice_get (a ∷ xs) (cond b zero (suc (place_of xs p)))) ≡ cond b (Some (told a)) (first_at p xs)
-    by_test true = refl
-    by_test false = told_at xs p
+    by_test : (b : Bool) → option_map told (slice_get xs (place_of xs p)) ≡ first_at p xs → option_map told (slice_get (a ∷ xs) (cond b zero (suc (place_of xs p)))) ≡ cond b (Some (told a)) (first_at p xs)
+    by_test true more = refl
+    by_test false more = more
 
 -- ---- one entry more
 

@@ -274,7 +274,7 @@ serves-warm_up v p q a cold warm exptime s is h f g i = record {
       rw (sent-InTurn c o after.Miss v, is, sent-OnHit c o q a, f.sends c o, f.replies c o, g.sends c o, g.replies c o, i.sends c o, h)
       (ap (λ ls. launched cold (under 0 s) c o ++ ls)
       (once_goes after.Miss (replies cold (under 0 s) o) _
-      ∙ ap (λ ls. once is_missed (replies cold (under 0 s) o) ls) (no_more _ _ _ ∙ ap (λ ls. launched warm (under 1 s) c o ++ ls) (is_hit-once (replies warm (under 1 s) o) (launched cold (under 2 (adding s)) c o)))));
+      ∙ ap (λ ls. once is_missed (replies cold (under 0 s) o) ls) (no_more (launched warm (under 1 s) c o) (cond (is_hit (outcome_of_all (replies warm (under 1 s) o))) (launched cold (under 2 (adding s)) c o) []) (goes_on_after after.Miss (outcome_of_all (replies warm (under 1 s) o))) ∙ ap (λ ls. launched warm (under 1 s) c o ++ ls) (is_hit-once (replies warm (under 1 s) o) (launched cold (under 2 (adding s)) c o)))));
   replies = λ c o.
       rw (sent-InTurn c o after.Miss v, is, sent-OnHit c o q a, f.replies c o, g.replies c o, h)
       (miss_outcome (replies cold (under 0 s) o) (replies warm (under 1 s) o));

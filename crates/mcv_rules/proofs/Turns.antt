@@ -22,8 +22,9 @@ legs_on w F plans i p found found2 all r r2 h is on f e inv =
 pub reply_on : (w : After) (F : Plan → Sent) (plans : List Plan) (i : ℕ) (p : Plan) (r r2 all : Option Outcome) → i < length plans → p ≡ get_or plans i p → goes_on_after w r ≡ true
     → r2 ≡ (F p).reply → fold (next_reply w) r (replies_each (map F (drop i plans))) ≡ all → fold (next_reply w) r2 (replies_each (map F (drop (i + 1) plans))) ≡ all
 reply_on w F plans i p r r2 all h is on e inv =
-    let here : fold (next_reply w) (F p).reply (replies_each (map F (drop (suc i) plans))) ≡ all = (rw (drop-cons plans i p h, ← is, on) at inv) in
-    rw (add-one i, e) here
+    let more = replies_each (map F (drop (suc i) plans)) in
+    let here : fold (next_reply w) (next_reply w r (F p).reply) more ≡ all = (rw (drop-cons plans i p h, ← is) at inv) in
+    rw (add-one i, e) (ap (λ y. fold (next_reply w) y more) (sym (ap (λ b. cond b (F p).reply r) on)) ∙ here)
 
 -- all plans have been gone through
 pub legs_end : (w : After) (F : Plan → Sent) (first : Plan) (others plans : List Plan) (i : ℕ) (old start found : List Launch) (r0 r : Option Outcome) → plans ≡ first ∷ others → length others ≤ i

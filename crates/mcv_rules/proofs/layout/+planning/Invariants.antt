@@ -3,7 +3,7 @@ use Rattle.mcv_route.specs.Situation.{asynchronous, shadowed, under}
 use Rattle.mcv_route.specs.Tree.{none, null, pool}
 use Rattle.mcv_route.specs.View.{pool_view, shadow_view, view}
 use Rattle.mcv_rules.specs.Laid.{ServeEach, Serves, situation_at}
-use Rattle.mcv_rules.proofs.Besides.{LedBy, child_legs, shadow_legs}
+use Rattle.mcv_rules.proofs.Besides.{LedBy, child_legs, first_of, shadow_legs}
 use Rattle.mcv_rules.proofs.layout.+planning.Given as goal
 
 -- the plans so far serve the children so far
@@ -17,7 +17,7 @@ invariant-misses_passed_on-loop-number l = ServeEach 0 l.plans.items (map view (
 abbrev pub invariant-first_waited_for-loop-number : goal.invariant-first_waited_for-loop-number
 invariant-first_waited_for-loop-number l =
     let s = situation_at l.fn.asked l.position in
-    LedBy (λ p. Serves p (view l.fn.first) (under 0 s)) l.plans.items (child_legs 1 (map view (take l.number l.others)) (asynchronous s))
+    LedBy (λ p. Serves p (first_of (map view l.fn.children)) (under 0 s)) l.plans.items (child_legs 1 (map view (take l.number l.others)) (asynchronous s))
 
 abbrev pub invariant-none_waited_for-loop-number : goal.invariant-none_waited_for-loop-number
 invariant-none_waited_for-loop-number l =

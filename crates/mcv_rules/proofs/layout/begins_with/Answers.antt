@@ -1,4 +1,4 @@
-use Rattle.std.proofs.Common.{◌≡◌, cond, ℕ, Bool, true, false, nat_eq, eq-eqb, List, [], ◌∷◌, refl, sym, ap₂, ◌∙◌}
+use Rattle.std.proofs.Common.{◌≡◌, ◌&&◌, ℕ, Bool, true, false, nat_eq, eq-eqb, List, [], ◌∷◌, refl, sym, ap₂, ◌∙◌}
 use Rattle.std.specs.List.{starts_with}
 use Rattle.std.proofs.lemmas.Bool.{eqb-true}
 use Rattle.mcv_base.specs.Key.{begins_with}
@@ -17,7 +17,7 @@ starts_begins : (word start : List ℕ) → starts_with nat_eq word start ≡ be
 starts_begins [] [] = refl
 starts_begins (w ∷ word) [] = refl
 starts_begins [] (p ∷ start) = refl
-starts_begins (w ∷ word) (p ∷ start) = ap₂ (λ b c. cond b c false) (same_both_ways p w) (starts_begins word start)
+starts_begins (w ∷ word) (p ∷ start) = ap₂ ◌&&◌ (same_both_ways p w) (starts_begins word start)
 
 pub returns : goal.returns
 returns c = c.starts_with.ensures.value ∙ starts_begins c.args.word.now c.args.start.now

@@ -1,0 +1,9 @@
+pub mod Later
+pub mod Exact
+pub mod Marks
+pub mod Symbols
+pub mod Covered
+pub mod Unique
+pub mod Planned
+pub mod Sets
+pub mod Alike

@@ -1,0 +1,5 @@
+pub mod Sets
+pub mod Structure
+pub mod Listed
+pub mod Justified
+pub mod Laws
