@@ -4,3 +4,8 @@ pub mod Alike
 pub mod Members
 pub mod Walked
 pub mod Linked
+pub mod Found
+pub mod Listed
+pub mod Built
+pub mod Shared
+mod Examples

@@ -30,8 +30,8 @@ pub fn class_of(
     requires { route < length routes.now.entries }
     ensures { IfSome (slice_get routes.now.entries route) (λ e. IfOk result (IsClassOf (class_words e.tree) rest.now)) }
 {
-    let table = table_of(alloc, routes, route)?;
-    table.class_of(alloc, rest)
+    let words = table_of(alloc, routes, route)?;
+    words.class_of(alloc, rest)
 }
 
 fn table_of(alloc: Global, routes: &Routes, route: usize) -> Result<ClassTable, AllocError>

@@ -7,3 +7,4 @@ pub mod Unique
 pub mod Planned
 pub mod Sets
 pub mod Alike
+mod Examples

@@ -10,7 +10,7 @@ use Rattle.mcv_rules.specs.Sound.{positions, In, AreApart, IsApart, IsMarked, Is
 use Rattle.mcv_rules.proofs.Sending.{Sends, IsReachable, IsClosed}
 use Rattle.mcv_rules.proofs.Among.{Among, among_left, among_right, among_either}
 use Rattle.mcv_symbolic.specs.Structure.{nothing, after_error, after_miss, if_all, Counts, Acknowledged, Hits}
-use Rattle.mcv_symbolic.specs.Listed.{when_error, when_replied, counted, acknowledged}
+use Rattle.mcv_symbolic.specs.Listed.{when_error, when_replied, counted, acknowledged, of_both, hits}
 
 pub counts_sent : (t : Plan) (c : Choice) (o : Outcomes) (l : Leg) → IsMarked true t → Counts t o l → Sends t c o l × ((is_counting l.mark) ≡ true)
 counts_sent (Send k) c o l m e = (e, ap (λ n. (is_counting n.mark)) (sym e) ∙ m)
@@ -180,3 +180,42 @@ hits_sized sizes (OnMiss t u) l z (inl e) = hits_sized sizes t l z.0 e
 hits_sized sizes (OnMiss t u) l z (inr e) = hits_sized sizes u l z.1 e
 hits_sized sizes (OnHit t u) l z e = hits_sized sizes t l z.0 e
 hits_sized sizes (Shadowed s a b t u) l z e = hits_sized sizes t l z.0 e
+
+-- ---- the legs that can hit, as a list
+
+both_among : (ks ls : List Leg) (l : Leg) → Among (of_both ks ls) l → ((m : Leg) × Among ks m) × ((m : Leg) × Among ls m) × (Among ks l ⊎ Among ls l)
+both_among [] ls l h = absurd h
+both_among (k ∷ ks) [] l h = absurd h
+both_among (k ∷ ks) (n ∷ ls) l h = ((k, inl refl), (n, inl refl), among_either (k ∷ ks) (n ∷ ls) l h)
+
+among_both : (ks ls : List Leg) (l : Leg) → ((m : Leg) × Among ks m) → ((m : Leg) × Among ls m) → Among ks l ⊎ Among ls l → Among (of_both ks ls) l
+among_both [] ls l a b h = absurd a.1
+among_both (k ∷ ks) [] l a b h = absurd b.1
+among_both (k ∷ ks) (n ∷ ls) l a b (inl h) = among_left (k ∷ ks) (n ∷ ls) l h
+among_both (k ∷ ks) (n ∷ ls) l a b (inr h) = among_right (k ∷ ks) (n ∷ ls) l h
+
+pub hits_are : (t : Plan) (l : Leg) → Among (hits t) l → Hits t l
+hits_are (Send k) l (inl e) = e
+hits_are (Send k) l (inr e) = absurd e
+hits_are (Reply x) l h = h
+hits_are (Both t u) l h =
+    let b = both_among (hits t) (hits u) l h in
+    ((b.0.0, hits_are t b.0.0 b.0.1), (b.1.0, hits_are u b.1.0 b.1.1), ⊎_elim (λ i. inl (hits_are t l i)) (λ i. inr (hits_are u l i)) b.2)
+hits_are (Beside t u) l h = hits_are t l h
+hits_are (OnError t u) l h = ⊎_elim (λ i. inl (hits_are t l i)) (λ i. let s = error_when (if_all Error t) (hits u) l i in inr (s.0, hits_are u l s.1)) (among_either (hits t) (when_error (if_all Error t) (hits u)) l h)
+hits_are (OnMiss t u) l h = ⊎_elim (λ i. inl (hits_are t l i)) (λ i. inr (hits_are u l i)) (among_either (hits t) (hits u) l h)
+hits_are (OnHit t u) l h = hits_are t l h
+hits_are (Shadowed s a b t u) l h = hits_are t l h
+
+pub are_hits : (t : Plan) (l : Leg) → Hits t l → Among (hits t) l
+are_hits (Send k) l e = inl e
+are_hits (Reply x) l e = e
+are_hits (Both t u) l e =
+    among_both (hits t) (hits u) l (e.0.0, are_hits t e.0.0 e.0.1) (e.1.0, are_hits u e.1.0 e.1.1) (⊎_elim (λ i. inl (are_hits t l i)) (λ i. inr (are_hits u l i)) e.2)
+are_hits (Beside t u) l e = are_hits t l e
+are_hits (OnError t u) l (inl e) = among_left (hits t) (when_error (if_all Error t) (hits u)) l (are_hits t l e)
+are_hits (OnError t u) l (inr e) = among_right (hits t) (when_error (if_all Error t) (hits u)) l (subst (λ q. Among (when_error q (hits u)) l) (sym e.0) (are_hits u l e.1))
+are_hits (OnMiss t u) l (inl e) = among_left (hits t) (hits u) l (are_hits t l e)
+are_hits (OnMiss t u) l (inr e) = among_right (hits t) (hits u) l (are_hits u l e)
+are_hits (OnHit t u) l e = are_hits t l e
+are_hits (Shadowed s a b t u) l e = are_hits t l e

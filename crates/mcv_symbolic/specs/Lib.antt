@@ -3,3 +3,4 @@ pub mod Structure
 pub mod Listed
 pub mod Justified
 pub mod Laws
+pub mod InMemory

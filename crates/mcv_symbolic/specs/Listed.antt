@@ -36,3 +36,20 @@ acknowledged (OnError t u) = acknowledged t ++ when_error (if_all Good t) (ackno
 acknowledged (OnMiss t u) = []
 acknowledged (OnHit t u) = []
 acknowledged (Shadowed s a b t u) = acknowledged t
+
+-- those of both, where both have some
+abbrev pub of_both : List Leg → List Leg → List Leg
+of_both [] ls = []
+of_both (k ∷ ks) [] = []
+of_both (k ∷ ks) (l ∷ ls) = k ∷ ks ++ (l ∷ ls)
+
+-- the legs whose hit can be the reply
+abbrev pub hits : Plan → List Leg
+hits (Send k) = k ∷ []
+hits (Reply x) = []
+hits (Both t u) = of_both (hits t) (hits u)
+hits (Beside t u) = hits t
+hits (OnError t u) = hits t ++ when_error (if_all Error t) (hits u)
+hits (OnMiss t u) = hits t ++ hits u
+hits (OnHit t u) = hits t
+hits (Shadowed s a b t u) = hits t
