@@ -2,6 +2,7 @@ pub mod Order
 pub mod Choosing
 pub mod Alike
 pub mod Members
+pub mod Existence
 pub mod Walked
 pub mod Linked
 pub mod Found

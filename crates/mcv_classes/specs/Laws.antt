@@ -44,3 +44,8 @@ MembersAreInside = (t : Tree) (word member : List ℕ) → IsMember (class_words
 abbrev pub NoMemberNoRest : Type 0
 NoMemberNoRest = (t : Tree) (word rest : List ℕ) → IsMember (class_words t) word None → is_key_word rest ≡ true → All (λ b. b < 256) rest →
     IsClassWord (class_words t) rest word → ⊥
+
+-- each rest, of bytes, has a class word, and the class has a member
+abbrev pub RestsHaveClasses : Type 0
+RestsHaveClasses = (t : Tree) (rest : List ℕ) → is_key_word rest ≡ true → All (λ b. b < 256) rest →
+    (word : List ℕ) × (member : List ℕ) × IsClassWord (class_words t) rest word × IsMember (class_words t) word (Some member)

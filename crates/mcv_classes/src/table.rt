@@ -168,7 +168,9 @@ impl ClassTable {
         if word.is_empty() {
             return self.free_byte();
         }
-        Rest::of(word)
+        let member = Rest::of(word)?;
+        prove!(!member.as_bytes().is_empty());
+        Some(member)
     }
 
     /// The least key byte that is no class word.
@@ -180,8 +182,9 @@ impl ClassTable {
             if self.contains(&word) {
                 continue;
             }
-            if let Some(rest) = Rest::of(&word) {
-                return Some(rest);
+            if let Some(member) = Rest::of(&word) {
+                prove!(!member.as_bytes().is_empty());
+                return Some(member);
             }
         }
         None

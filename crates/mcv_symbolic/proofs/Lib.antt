@@ -7,4 +7,5 @@ pub mod Unique
 pub mod Planned
 pub mod Sets
 pub mod Alike
+pub mod Whole
 mod Examples

@@ -4,3 +4,4 @@ pub mod Listed
 pub mod Justified
 pub mod Laws
 pub mod InMemory
+pub mod Covered

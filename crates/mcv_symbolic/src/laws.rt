@@ -1,5 +1,6 @@
 //! The laws by which finitely many comparisons decide coverage. They hold of the definitions alone.
 
+ghost use Rattle.mcv_symbolic.specs.Covered.{CoveredByMembers};
 ghost use Rattle.mcv_symbolic.specs.Justified.{SymbolsAreIndependent};
 ghost use Rattle.mcv_symbolic.specs.Laws.{AcknowledgedIgnoresTheChoice, AcknowledgedIsExact, AcknowledgedIsLeast, AlikeAreCovered, CoveredIsJustified, DoneIgnoresTheChoice, DoneIsExact, HitsAreExact, HitsIgnoreTheChoice};
 
@@ -25,8 +26,9 @@ pub fn symbols_are_independent()
 {}
 
 /// A route is covered at a rest just where a delete can't be acknowledged, or each leaf that can be read is answered
-/// for at each index; and a whole class is where one of its rests is.
+/// for at each index; a whole class is where one of its rests is; so all rests are where a member of each class is.
 pub fn covered_is_justified()
     ensures justified { CoveredIsJustified }
     ensures class { AlikeAreCovered }
+    ensures members { CoveredByMembers }
 {}
