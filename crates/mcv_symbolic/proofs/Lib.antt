@@ -5,7 +5,7 @@ pub mod Symbols
 pub mod Covered
 pub mod Unique
 pub mod Planned
-pub mod Sets
+pub mod Exactness
 pub mod Alike
 pub mod Whole
 mod Examples

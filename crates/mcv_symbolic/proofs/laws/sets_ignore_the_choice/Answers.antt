@@ -1,4 +1,4 @@
-use Rattle.mcv_symbolic.proofs.Sets.{hits_ignore_the_choice, done_ignores_the_choice, acknowledged_ignores_the_choice}
+use Rattle.mcv_symbolic.proofs.Exactness.{hits_ignore_the_choice, done_ignores_the_choice, acknowledged_ignores_the_choice}
 use Rattle.mcv_symbolic.proofs.laws.sets_ignore_the_choice.Goals as goal
 
 pub returns : goal.returns
