@@ -5,6 +5,7 @@ pub mod Symbols
 pub mod Covered
 pub mod Unique
 pub mod Planned
+pub mod Sized
 pub mod Exactness
 pub mod Alike
 pub mod Whole

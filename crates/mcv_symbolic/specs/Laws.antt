@@ -19,34 +19,34 @@ use Rattle.mcv_symbolic.specs.Justified.{IsJustified}
 -- ---- the sets don't depend on the choice
 
 abbrev pub HitsIgnoreTheChoice : Type 0
-HitsIgnoreTheChoice = (sizes : List ℕ) (t : Tree) (op : Op) (rest : List ℕ) (since : Option ℕ) (c d : Choice) (p : List ℕ) → IsWellFormed sizes t →
+HitsIgnoreTheChoice = (t : Tree) (op : Op) (rest : List ℕ) (since : Option ℕ) (c d : Choice) (p : List ℕ) →
     CanHitAt t (asked op rest since) c p → CanHitAt t (asked op rest since) d p
 
 abbrev pub DoneIgnoresTheChoice : Type 0
-DoneIgnoresTheChoice = (sizes : List ℕ) (t : Tree) (rest : List ℕ) (since : Option ℕ) (c d : Choice) → IsWellFormed sizes t →
+DoneIgnoresTheChoice = (t : Tree) (rest : List ℕ) (since : Option ℕ) (c d : Choice) →
     CanBeAcknowledged t rest since c → CanBeAcknowledged t rest since d
 
 abbrev pub AcknowledgedIgnoresTheChoice : Type 0
-AcknowledgedIgnoresTheChoice = (sizes : List ℕ) (t : Tree) (rest : List ℕ) (since : Option ℕ) (c d : Choice) (p : List ℕ) → IsWellFormed sizes t →
+AcknowledgedIgnoresTheChoice = (t : Tree) (rest : List ℕ) (since : Option ℕ) (c d : Choice) (p : List ℕ) →
     IsAcknowledged t rest since c p → IsAcknowledged t rest since d p
 
 -- ---- they are those that the structure gives, one handle at a time
 
 abbrev pub HitsAreExact : Type 0
-HitsAreExact = (sizes : List ℕ) (t : Tree) (op : Op) (rest : List ℕ) (since : Option ℕ) (c : Choice) (p : List ℕ) → IsWellFormed sizes t →
+HitsAreExact = (t : Tree) (op : Op) (rest : List ℕ) (since : Option ℕ) (c : Choice) (p : List ℕ) →
     CanHitAt t (asked op rest since) c p ↔ ((l : Leg) × Hits (plan t (asked op rest since)) l × (l.position ≡ p))
 
 abbrev pub DoneIsExact : Type 0
-DoneIsExact = (sizes : List ℕ) (t : Tree) (rest : List ℕ) (since : Option ℕ) (c : Choice) → IsWellFormed sizes t →
+DoneIsExact = (t : Tree) (rest : List ℕ) (since : Option ℕ) (c : Choice) →
     CanBeAcknowledged t rest since c ↔ (if_all Good (plan t (asked Delete rest since)) ≢ Error)
 
 abbrev pub AcknowledgedIsExact : Type 0
-AcknowledgedIsExact = (sizes : List ℕ) (t : Tree) (rest : List ℕ) (since : Option ℕ) (c : Choice) (p : List ℕ) → IsWellFormed sizes t →
+AcknowledgedIsExact = (t : Tree) (rest : List ℕ) (since : Option ℕ) (c : Choice) (p : List ℕ) →
     IsAcknowledged t rest since c p ↔ ((l : Leg) × Acknowledged (plan t (asked Delete rest since)) l × (l.position ≡ p))
 
 -- some outcomes of a delete that can come have a reply, one that isn't an error where there is one, and no counted leg is sent that isn't acknowledged
 abbrev pub AcknowledgedIsLeast : Type 0
-AcknowledgedIsLeast = (sizes : List ℕ) (t : Tree) (rest : List ℕ) (since : Option ℕ) (c : Choice) → IsWellFormed sizes t →
+AcknowledgedIsLeast = (t : Tree) (rest : List ℕ) (since : Option ℕ) (c : Choice) →
     (o : Outcomes) × IsReachable t (asked Delete rest since) c o × (replies t (asked Delete rest since) o ≢ [])
     × (CanBeAcknowledged t rest since c → IsDone t rest since o) × ((p : List ℕ) → IsCountedAt t rest since c o p → IsAcknowledged t rest since c p)
 
