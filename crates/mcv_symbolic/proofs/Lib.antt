@@ -9,4 +9,5 @@ pub mod Sized
 pub mod Exactness
 pub mod Alike
 pub mod Whole
+pub mod Rising
 mod Examples
