@@ -10,11 +10,7 @@ use std::alloc::{AllocError, Global};
 
 /// Adds the policy prefixes of the selectors of a route.
 #[cycle(words)]
-pub fn push_words(
-    alloc: Global,
-    route: &Route,
-    words: &mut Vec<Vec<u8>>,
-) -> Result<(), AllocError>
+pub fn push_words(alloc: Global, route: &Route, words: &mut Vec<Vec<u8>>) -> Result<(), AllocError>
     ensures { OnOk result (bytes_of words.new.items ≡ bytes_of words.old.items ++ prefixes_in (view route.now)) }
 {
     match route {

@@ -34,12 +34,11 @@ has-same (x ∷ xs) P Q f (inr h) = inr (has-same xs P Q f h)
 
 same-hits : (t : Tree) (s v : Situation) (c : Choice) (x : ℕ) → Same t s v → CanHit t s c x → CanHit t v c x
 same-hits t s v c x a h =
-    let there : Has (launched t v c h.0) (λ l. (l.server.0 ≡ x) × IsHit t s h.0 l.position) = subst (λ ls. Has ls (λ l. (l.server.0 ≡ x) × IsHit t s h.0 l.position)) (a.sent c h.0) h.2 in
-    (
-        h.0,
-        same-reachable t s v c h.0 a h.1,
-        has-same (launched t v c h.0) (λ l. (l.server.0 ≡ x) × IsHit t s h.0 l.position) (λ l. (l.server.0 ≡ x) × IsHit t v h.0 l.position)
-        (λ l q. (q.0, subst (λ r. Has r (λ b. b ≡ record { outcome = Good; source = leg l.position })) (a.replied h.0) q.1)) there,
+    let there : Has (launched t v c h.0) (λ l. (l.server.0 ≡ x) × IsHit t s h.0 l.position) = subst (λ ls. Has ls (λ l. (l.server.0 ≡ x) × IsHit t s h.0 l.position)) (a.sent c h.0) h.2 in (
+      h.0,
+      same-reachable t s v c h.0 a h.1,
+      has-same (launched t v c h.0) (λ l. (l.server.0 ≡ x) × IsHit t s h.0 l.position) (λ l. (l.server.0 ≡ x) × IsHit t v h.0 l.position)
+          (λ l q. (q.0, subst (λ r. Has r (λ b. b ≡ record { outcome = Good; source = leg l.position })) (a.replied h.0) q.1)) there,
     )
 
 same : (t : Tree) (rest other : List ℕ) (op : Op) (since : Option ℕ) → AreAlike t rest other → Same t (asked op rest since) (asked op other since)

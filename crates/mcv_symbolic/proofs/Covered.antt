@@ -47,25 +47,27 @@ covered_is_justified sizes get gets delete a b d w = (down, up)
     down covered =
         elim (error_or_not (if_all Good delete)) [
           | inl e ↦ inl e
-        | inr ne ↦ inr (λ l i h lt.
-            let size = ⊎_elim (λ k. Marks.hits_sized sizes get l a.0 k) (λ k. Marks.hits_sized sizes gets l b.0 k) h in
-            (Symbols.symbols_are_independent sizes delete l i d.0 size lt).0 (λ c is own.
-                let r = Exact.acknowledged_is_least delete c w d.2 in
-                let readable = ⊎_elim (λ k. inl (hits_readable sizes get c l a k)) (λ k. inr (hits_readable sizes gets c l b k)) h in
-                let sent = covered c r.0 is r.1 (if_all Good delete, r.2, ne) (server c l) readable in
-                let counts = Marks.sent_counts delete c r.0 sent.0 d.1 sent.1 sent.2 in
-                (sent.0, r.3 sent.0 counts, sent.3 ∙ ap (λ j. slice_index l.servers j) own)))
+          | inr ne ↦ inr (λ l i h lt.
+              let size = ⊎_elim (λ k. Marks.hits_sized sizes get l a.0 k) (λ k. Marks.hits_sized sizes gets l b.0 k) h in
+              (Symbols.symbols_are_independent sizes delete l i d.0 size lt).0 (λ c is own.
+              let r = Exact.acknowledged_is_least delete c w d.2 in
+              let readable = ⊎_elim (λ k. inl (hits_readable sizes get c l a k)) (λ k. inr (hits_readable sizes gets c l b k)) h in
+              let sent = covered c r.0 is r.1 (if_all Good delete, r.2, ne) (server c l) readable in
+              let counts = Marks.sent_counts delete c r.0 sent.0 d.1 sent.1 sent.2 in
+              (sent.0, r.3 sent.0 counts, sent.3 ∙ ap (λ j. slice_index l.servers j) own)))
         ]
+
     found : IsJustified sizes get gets delete → (c : Choice) (o : Outcomes) → IsChoice sizes c → IsReachable delete c o → IsDone delete o → (l : Leg) → Hits get l ⊎ Hits gets l → l.symbol < length sizes → IsSent delete c o (server c l)
     found justified c o is r done l h size =
         elim justified [
           | inl e ↦ absurd (done.2 (Later.always_error delete o done.0 w e done.1))
-        | inr all ↦
-            let m = (Symbols.symbols_are_independent sizes delete l (c l.symbol) d.0 size (is l.symbol size)).1 (all l (c l.symbol) h (is l.symbol size)) c is refl in
-            let counts = Later.acknowledged_is_sent delete o done.0 m.0 w done.1 m.1 in
-            let sent = Marks.counts_sent delete c o m.0 d.1 counts in
-            (m.0, sent.0, sent.1, m.2)
+          | inr all ↦
+              let m = (Symbols.symbols_are_independent sizes delete l (c l.symbol) d.0 size (is l.symbol size)).1 (all l (c l.symbol) h (is l.symbol size)) c is refl in
+              let counts = Later.acknowledged_is_sent delete o done.0 m.0 w done.1 m.1 in
+              let sent = Marks.counts_sent delete c o m.0 d.1 counts in
+              (m.0, sent.0, sent.1, m.2)
         ]
+
     up : IsJustified sizes get gets delete → IsCovered sizes get gets delete
     up justified c o is r done x (inl readable) =
         let h = readable_hits sizes get c x a readable in

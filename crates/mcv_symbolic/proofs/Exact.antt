@@ -48,7 +48,7 @@ behind [] fs p e = refl
 behind (f ∷ es) fs p e =
     elim (cases_Bool (is_same f.0 p)) [
       | inl s ↦ Basics.none_some (sym e ∙ Orders.cond_at_true (is_same f.0 p) (Some f.1) (outcomes es p) s)
-    | inr s ↦ Orders.cond_at_false (is_same f.0 p) (Some f.1) (outcomes (es ++ fs) p) s ∙ behind es fs p (sym (Orders.cond_at_false (is_same f.0 p) (Some f.1) (outcomes es p) s) ∙ e)
+      | inr s ↦ Orders.cond_at_false (is_same f.0 p) (Some f.1) (outcomes (es ++ fs) p) s ∙ behind es fs p (sym (Orders.cond_at_false (is_same f.0 p) (Some f.1) (outcomes es p) s) ∙ e)
     ]
 
 pub before : (es fs : History) (p : List ℕ) → outcomes fs p ≡ None → outcomes (es ++ fs) p ≡ outcomes es p
@@ -60,11 +60,11 @@ either [] fs p x e = inr e
 either (f ∷ es) fs p x e =
     elim (cases_Bool (is_same f.0 p)) [
       | inl s ↦ inl (Orders.cond_at_true (is_same f.0 p) (Some f.1) (outcomes es p) s ∙ sym (Orders.cond_at_true (is_same f.0 p) (Some f.1) (outcomes (es ++ fs) p) s) ∙ e)
-    | inr s ↦
-        ⊎_elim
-        (λ h. inl (Orders.cond_at_false (is_same f.0 p) (Some f.1) (outcomes es p) s ∙ h))
-        (λ h. inr h)
-        (either es fs p x (sym (Orders.cond_at_false (is_same f.0 p) (Some f.1) (outcomes (es ++ fs) p) s) ∙ e))
+      | inr s ↦
+          ⊎_elim
+          (λ h. inl (Orders.cond_at_false (is_same f.0 p) (Some f.1) (outcomes es p) s ∙ h))
+          (λ h. inr h)
+          (either es fs p x (sym (Orders.cond_at_false (is_same f.0 p) (Some f.1) (outcomes (es ++ fs) p) s) ∙ e))
     ]
 
 -- the list names only positions of the route
@@ -98,7 +98,7 @@ inside_send : (l : Leg) (x : Outcome) → Inside (Send l) ((l.position, x) ∷ [
 inside_send l x p n =
     elim (cases_Bool (is_same l.position p)) [
       | inl s ↦ absurd (n (inl (Orders.same_is l.position p s)))
-    | inr s ↦ Orders.cond_at_false (is_same l.position p) (Some x) None s
+      | inr s ↦ Orders.cond_at_false (is_same l.position p) (Some x) None s
     ]
 
 pub answers_inside : (x : Outcome) (t : Plan) → Inside t (answers x t)
@@ -216,7 +216,7 @@ send_sent : (k : Leg) (c : Choice) (o : Outcomes) (x : Outcome) (p : List ℕ) (
 send_sent k c o x p y e =
     elim (cases_Bool (is_same k.position p)) [
       | inl s ↦ (k, Orders.same_is k.position p s, refl)
-    | inr s ↦ Basics.none_some (sym (Orders.cond_at_false (is_same k.position p) (Some x) None s) ∙ e)
+      | inr s ↦ Basics.none_some (sym (Orders.cond_at_false (is_same k.position p) (Some x) None s) ∙ e)
     ]
 
 pub answers_sent : (x : Outcome) (t : Plan) (c : Choice) (o : Outcomes) → IsApart t → Agrees t (answers x t) o → (p : List ℕ) (y : Outcome) → outcomes (answers x t) p ≡ Some y → IsOfSent t c o p
@@ -225,7 +225,7 @@ answers_sent x (Reply z) c o a g p y e = Basics.none_some e
 answers_sent x (Both t u) c o a g p y e =
     elim (either (answers x t) (answers x u) p y e) [
       | inl f ↦ let s = answers_sent x t c o a.0 (agrees_left t u (Both t u) (answers x t) (answers x u) o refl a.2 (answers_inside x u) g) p y f in (s.0, s.1, inl s.2)
-    | inr f ↦ let s = answers_sent x u c o a.1 (agrees_right t u (Both t u) (answers x t) (answers x u) o refl a.2 (answers_inside x t) g) p y f in (s.0, s.1, inr s.2)
+      | inr f ↦ let s = answers_sent x u c o a.1 (agrees_right t u (Both t u) (answers x t) (answers x u) o refl a.2 (answers_inside x t) g) p y f in (s.0, s.1, inr s.2)
     ]
 answers_sent x (Beside t u) c o a g p y e = let s = answers_sent x t c o a.0 (agrees_first t u (Beside t u) (answers x t) o refl g) p y e in (s.0, s.1, inl s.2)
 answers_sent x (OnError t u) c o a g p y e =
@@ -234,10 +234,10 @@ answers_sent x (OnError t u) c o a g p y e =
     let right = agrees_right t u (OnError t u) (answers x t) rest o refl a.2 (answers_inside x t) g in
     elim (either (answers x t) rest p y e) [
       | inl f ↦ let s = answers_sent x t c o a.0 left p y f in (s.0, s.1, inl s.2)
-    | inr f ↦
-        let w = if_error_some (if_all x t) (answers x u) p y f in
-        let s = answers_sent x u c o a.1 (subst (λ es. Agrees u es o) (if_error_at (if_all x t) (answers x u) w.0) right) p y w.1 in
-        (s.0, s.1, inr (answers_reply x t o a.0 left ∙ ap Some w.0, s.2))
+      | inr f ↦
+          let w = if_error_some (if_all x t) (answers x u) p y f in
+          let s = answers_sent x u c o a.1 (subst (λ es. Agrees u es o) (if_error_at (if_all x t) (answers x u) w.0) right) p y w.1 in
+          (s.0, s.1, inr (answers_reply x t o a.0 left ∙ ap Some w.0, s.2))
     ]
 answers_sent x (OnMiss t u) c o a g p y e =
     let rest = if_missed (if_all x t) (answers x u) in
@@ -245,10 +245,10 @@ answers_sent x (OnMiss t u) c o a g p y e =
     let right = agrees_right t u (OnMiss t u) (answers x t) rest o refl a.2 (answers_inside x t) g in
     elim (either (answers x t) rest p y e) [
       | inl f ↦ let s = answers_sent x t c o a.0 left p y f in (s.0, s.1, inl s.2)
-    | inr f ↦
-        let w = if_missed_some (if_all x t) (answers x u) p y f in
-        let s = answers_sent x u c o a.1 (subst (λ es. Agrees u es o) (if_missed_at (if_all x t) (answers x u) w.0) right) p y w.2 in
-        (s.0, s.1, inr (subst IsMissed (sym (answers_reply x t o a.0 left)) w.1, s.2))
+      | inr f ↦
+          let w = if_missed_some (if_all x t) (answers x u) p y f in
+          let s = answers_sent x u c o a.1 (subst (λ es. Agrees u es o) (if_missed_at (if_all x t) (answers x u) w.0) right) p y w.2 in
+          (s.0, s.1, inr (subst IsMissed (sym (answers_reply x t o a.0 left)) w.1, s.2))
     ]
 answers_sent x (OnHit t u) c o a g p y e = let s = answers_sent x t c o a.0 (agrees_first t u (OnHit t u) (answers x t) o refl g) p y e in (s.0, s.1, inl s.2)
 answers_sent x (Shadowed i j k t u) c o a g p y e = let s = answers_sent x t c o a.0 (agrees_first t u (Shadowed i j k t u) (answers x t) o refl g) p y e in (s.0, s.1, inl s.2)
@@ -283,11 +283,10 @@ acknowledged_is_least t c d a =
     (o, answers_reachable Good t c a, answers_reply Good t o a (λ p i. refl), λ l e. counts_acknowledged t o l d a (λ p i. refl) e)
 
 pub can_be_done : (t : Plan) (c : Choice) → IsForDelete t → IsApart t → ((o : Outcomes) × IsReachable t c o × IsDone t o) ↔ (if_all Good t ≢ Error)
-can_be_done t c d a =
-    (
-        λ h w. h.2.2 (Later.always_error t h.0 h.2.0 d w h.2.1),
-        λ w. (outcomes (answers Good t), answers_reachable Good t c a, (if_all Good t, answers_reply Good t (outcomes (answers Good t)) a (λ p i. refl), w))
-    )
+can_be_done t c d a = (
+  λ h w. h.2.2 (Later.always_error t h.0 h.2.0 d w h.2.1),
+  λ w. (outcomes (answers Good t), answers_reachable Good t c a, (if_all Good t, answers_reply Good t (outcomes (answers Good t)) a (λ p i. refl), w)),
+)
 
 -- ---- hits
 
@@ -330,18 +329,18 @@ fails (Both t u) o h e =
     let s = Basics.both_some (reply t o) (reply u o) Error e in
     elim (Basics.worse_error s.0 s.1 s.4) [
       | inl w ↦ ap (λ y. worse y (if_all Error u)) (fails t o h.0 (s.2 ∙ ap Some w))
-    | inr w ↦ ap (λ z. worse (if_all Error t) z) (fails u o h.1 (s.3 ∙ ap Some w)) ∙ Basics.error_worse (if_all Error t)
+      | inr w ↦ ap (λ z. worse (if_all Error t) z) (fails u o h.1 (s.3 ∙ ap Some w)) ∙ Basics.error_worse (if_all Error t)
     ]
 fails (Beside t u) o h e = fails t o h.0 e
 fails (OnError t u) o h e =
     elim (Basics.on_error_some (reply t o) (reply u o) Error e) [
       | inl s ↦ absurd (s.1 refl)
-    | inr s ↦ ap (λ y. after_error y (if_all Error u)) (fails t o h.0 s.0) ∙ fails u o h.1 s.1
+      | inr s ↦ ap (λ y. after_error y (if_all Error u)) (fails t o h.0 s.0) ∙ fails u o h.1 s.1
     ]
 fails (OnMiss t u) o h e =
     elim (Basics.on_miss_some (reply t o) (reply u o) Error e) [
       | inl s ↦ absurd (error≢good s.1)
-    | inr s ↦ after_miss_at (if_all Error t) (if_all Error u) (not_good Error t error≢good h.0) ∙ fails u o h.1 s.1
+      | inr s ↦ after_miss_at (if_all Error t) (if_all Error u) (not_good Error t error≢good h.0) ∙ fails u o h.1 s.1
     ]
 fails (OnHit t u) o h e = fails t o h.0 e
 fails (Shadowed i j k t u) o h e = fails t o h.0 e
@@ -359,12 +358,12 @@ good_hits (Beside t u) o h e = good_hits t o h.0 e
 good_hits (OnError t u) o h e =
     elim (Basics.on_error_some (reply t o) (reply u o) Good e) [
       | inl s ↦ let a = good_hits t o h.0 s.0 in (a.0, inl a.1)
-    | inr s ↦ let a = good_hits u o h.1 s.1 in (a.0, inr (fails t o h.0 s.0, a.1))
+      | inr s ↦ let a = good_hits u o h.1 s.1 in (a.0, inr (fails t o h.0 s.0, a.1))
     ]
 good_hits (OnMiss t u) o h e =
     elim (Basics.on_miss_some (reply t o) (reply u o) Good e) [
       | inl s ↦ let a = good_hits t o h.0 s.0 in (a.0, inl a.1)
-    | inr s ↦ let a = good_hits u o h.1 s.1 in (a.0, inr a.1)
+      | inr s ↦ let a = good_hits u o h.1 s.1 in (a.0, inr a.1)
     ]
 good_hits (OnHit t u) o h e = good_hits t o h.0 e
 good_hits (Shadowed i j k t u) o h e = good_hits t o h.0 e
@@ -396,7 +395,7 @@ shows_both t u l m n es fs a x y f =
       good = λ o g. ap₂ both (x.good o (agrees_left t u (Both t u) es fs o refl a y.inside g)) (y.good o (agrees_right t u (Both t u) es fs o refl a x.inside g));
       sent = λ c o g p z e. elim (either es fs p z e) [
         | inl w ↦ let s = x.sent c o (agrees_left t u (Both t u) es fs o refl a y.inside g) p z w in (s.0, s.1, inl s.2)
-      | inr w ↦ let s = y.sent c o (agrees_right t u (Both t u) es fs o refl a x.inside g) p z w in (s.0, s.1, inr s.2)
+        | inr w ↦ let s = y.sent c o (agrees_right t u (Both t u) es fs o refl a x.inside g) p z w in (s.0, s.1, inr s.2)
       ];
     }
 
@@ -414,7 +413,7 @@ shows_on_error t u l fs a at w y =
       good = λ o g. Basics.on_error_second (reply t o) (reply u o) (failed o g) ∙ y.good o (right o g);
       sent = λ c o g p z e. elim (either (answers Error t) fs p z e) [
         | inl v ↦ let s = answers_sent Error t c o at (left o g) p z v in (s.0, s.1, inl s.2)
-      | inr v ↦ let s = y.sent c o (right o g) p z v in (s.0, s.1, inr (failed o g, s.2))
+        | inr v ↦ let s = y.sent c o (right o g) p z v in (s.0, s.1, inr (failed o g, s.2))
       ];
     }
 
@@ -434,7 +433,7 @@ shows_on_miss t u l fs a at h y =
       good = λ o g. Basics.on_miss_second (reply t o) (reply u o) (missed o g) ∙ y.good o (right o g);
       sent = λ c o g p z e. elim (either (answers Soft t) fs p z e) [
         | inl v ↦ let s = answers_sent Soft t c o at (left o g) p z v in (s.0, s.1, inl s.2)
-      | inr v ↦ let s = y.sent c o (right o g) p z v in (s.0, s.1, inr (missed o g, s.2))
+        | inr v ↦ let s = y.sent c o (right o g) p z v in (s.0, s.1, inr (missed o g, s.2))
       ];
     }
 
@@ -451,21 +450,20 @@ shows_first t u v l es w f g h x =
     }
 
 shown : (t : Plan) (l : Leg) → IsApart t → IsHonest t → Hits t l → Shown t l
-shown (Send k) l a h i =
-    (
-        (k.position, Good) ∷ [],
-        record {
-          inside = inside_send k Good;
-          hit = λ o g. (i, g k.position (inl refl) ∙ Orders.newest k.position Good []);
-          good = λ o g. g k.position (inl refl) ∙ Orders.newest k.position Good [];
-          sent = λ c o g p y e. send_sent k c o Good p y e;
-        }
-    )
+shown (Send k) l a h i = (
+  (k.position, Good) ∷ [],
+  record {
+    inside = inside_send k Good;
+    hit = λ o g. (i, g k.position (inl refl) ∙ Orders.newest k.position Good []);
+    good = λ o g. g k.position (inl refl) ∙ Orders.newest k.position Good [];
+    sent = λ c o g p y e. send_sent k c o Good p y e;
+  },
+)
 shown (Reply x) l a h i = absurd i
 shown (Both t u) l a h i =
     elim i.2 [
       | inl e ↦ let x = shown t l a.0 h.0 e in let y = shown u i.1.0 a.1 h.1 i.1.1 in (x.0 ++ y.0, shows_both t u l l i.1.0 x.0 y.0 a.2 x.1 y.1 (λ o f g. inl f))
-    | inr e ↦ let x = shown t i.0.0 a.0 h.0 i.0.1 in let y = shown u l a.1 h.1 e in (x.0 ++ y.0, shows_both t u l i.0.0 l x.0 y.0 a.2 x.1 y.1 (λ o f g. inr g))
+      | inr e ↦ let x = shown t i.0.0 a.0 h.0 i.0.1 in let y = shown u l a.1 h.1 e in (x.0 ++ y.0, shows_both t u l i.0.0 l x.0 y.0 a.2 x.1 y.1 (λ o f g. inr g))
     ]
 shown (Beside t u) l a h i = let x = shown t l a.0 h.0 i in (x.0, shows_first t u (Beside t u) l x.0 refl (λ o e. e) (λ o e. e) (λ c o m s. inl s) x.1)
 shown (OnError t u) l a h (inl i) = let x = shown t l a.0 h.0 i in (x.0, shows_first t u (OnError t u) l x.0 refl (λ o e. inl e) (λ o e. Basics.on_error_first (reply t o) (reply u o) Good e Basics.good≢error) (λ c o m s. inl s) x.1)
@@ -476,10 +474,9 @@ shown (OnHit t u) l a h i = let x = shown t l a.0 h.0 i in (x.0, shows_first t u
 shown (Shadowed n b d t u) l a h i = let x = shown t l a.0 h.0 i in (x.0, shows_first t u (Shadowed n b d t u) l x.0 refl (λ o e. e) (λ o e. e) (λ c o m s. inl s) x.1)
 
 pub hits_are_exact : (t : Plan) (c : Choice) (l : Leg) → IsApart t → IsHonest t → ((o : Outcomes) × IsReachable t c o × HitAt t o l) ↔ Hits t l
-hits_are_exact t c l a h =
-    (
-        λ e. hit_can_be t e.0 l h e.2,
-        λ i. let x = shown t l a h i in
-            let o = outcomes x.0 in
-            (o, Orders.closed_reachable t c o (λ p y e. x.1.sent c o (λ q j. refl) p y e), x.1.hit o (λ q j. refl))
-    )
+hits_are_exact t c l a h = (
+  λ e. hit_can_be t e.0 l h e.2,
+  λ i. let x = shown t l a h i in
+      let o = outcomes x.0 in
+      (o, Orders.closed_reachable t c o (λ p y e. x.1.sent c o (λ q j. refl) p y e), x.1.hit o (λ q j. refl)),
+)

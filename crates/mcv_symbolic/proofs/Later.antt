@@ -45,14 +45,14 @@ always_error (Both t u) o x d w e =
     let s = Basics.both_some (reply t o) (reply u o) x e in
     sym s.4 ∙ elim (Basics.worse_error (if_all Good t) (if_all Good u) w) [
       | inl v ↦ ap (λ y. worse y s.1) (always_error t o s.0 d.0 v s.2)
-    | inr v ↦ ap (λ z. worse s.0 z) (always_error u o s.1 d.1 v s.3) ∙ Basics.error_worse s.0
+      | inr v ↦ ap (λ z. worse s.0 z) (always_error u o s.1 d.1 v s.3) ∙ Basics.error_worse s.0
     ]
 always_error (Beside t u) o x d w e = always_error t o x d.0 w e
 always_error (OnError t u) o x d w e =
     let v = after_error_error (if_all Good t) (if_all Good u) w in
     elim (Basics.on_error_some (reply t o) (reply u o) x e) [
       | inl s ↦ always_error t o x d.0 v.0 s.0
-    | inr s ↦ always_error u o x d.1 v.1 s.1
+      | inr s ↦ always_error u o x d.1 v.1 s.1
     ]
 always_error (OnMiss t u) o x d w e = absurd d
 always_error (OnHit t u) o x d w e = absurd d
@@ -69,12 +69,12 @@ acknowledged_is_sent (Beside t u) o x l d e (inr a) = inr (counts_stays u nothin
 acknowledged_is_sent (OnError t u) o x l d e (inl a) =
     elim (Basics.on_error_some (reply t o) (reply u o) x e) [
       | inl s ↦ inl (acknowledged_is_sent t o x l d.0 s.0 a)
-    | inr s ↦ inl (acknowledged_is_sent t o Error l d.0 s.0 a)
+      | inr s ↦ inl (acknowledged_is_sent t o Error l d.0 s.0 a)
     ]
 acknowledged_is_sent (OnError t u) o x l d e (inr a) =
     elim (Basics.on_error_some (reply t o) (reply u o) x e) [
       | inl s ↦ absurd (s.1 (always_error t o x d.0 a.0 s.0))
-    | inr s ↦ inr (s.0, acknowledged_is_sent u o x l d.1 s.1 a.1)
+      | inr s ↦ inr (s.0, acknowledged_is_sent u o x l d.1 s.1 a.1)
     ]
 acknowledged_is_sent (OnMiss t u) o x l d e a = absurd a
 acknowledged_is_sent (OnHit t u) o x l d e a = absurd a

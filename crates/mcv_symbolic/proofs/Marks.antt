@@ -59,7 +59,6 @@ sent_counts (OnHit t u) c o l m (inr e) w = inr (e.0, sent_counts u c o l m.1 e.
 sent_counts (Shadowed i j k t u) c o l m (inl e) w = sent_counts t c o l m.0 e w
 sent_counts (Shadowed i j k t u) c o l m (inr e) w = absurd (true≢false (sym w ∙ shadow_sent u c o l m.1 e.2))
 
-
 -- ---- as lists
 
 error_replied : (r : Option Outcome) (ls : List Leg) (l : Leg) → Among (when_replied is_error r ls) l → (r ≡ Some Error) × Among ls l

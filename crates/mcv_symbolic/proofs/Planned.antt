@@ -66,9 +66,11 @@ can_planned t s c x a h =
     (h.0, m.0, Verdicts.reachable_planned t s c h.0 h.1, m.1, ap (server c) same ∙ k.2.0)
 
 planned_can : (t : Tree) (s : Situation) (c : Choice) (x : ℕ) → plans.IsReadable (plan t s) c x → CanHit t s c x
-planned_can t s c x h =
-    (h.0, Verdicts.planned_reachable t s c h.0 h.2,
-      Verdicts.sends_has t s c h.0 (λ l. (l.server.0 ≡ x) × IsHit t s h.0 l.position) h.1 (hit_sent (plan t s) c h.0 h.1 h.3) (h.4, (Replied.replied t s h.0).back h.1 h.3))
+planned_can t s c x h = (
+  h.0,
+  Verdicts.planned_reachable t s c h.0 h.2,
+  Verdicts.sends_has t s c h.0 (λ l. (l.server.0 ≡ x) × IsHit t s h.0 l.position) h.1 (hit_sent (plan t s) c h.0 h.1 h.3) (h.4, (Replied.replied t s h.0).back h.1 h.3),
+)
 
 -- ---- coverage
 
@@ -82,15 +84,16 @@ planned_sent t rest since c o x h = Verdicts.sends_has t (asked Delete rest sinc
 -- coverage by handle is that of the plans
 pub covered_planned : (sizes : List ℕ) (t : Tree) (rest : List ℕ) (since : Option ℕ) → IsWellFormed sizes t →
     IsCovered sizes t rest since ↔ plans.IsCovered sizes (plan t (asked Get rest since)) (plan t (asked Gets rest since)) (plan t (asked Delete rest since))
-covered_planned sizes t rest since w =
-    (λ h c o i r d x q. sent_planned t rest since c o x (h c o i (Verdicts.planned_reachable t (asked Delete rest since) c o r) (planned_done t rest since o d) x
-        (⊎_elim (λ g. inl (planned_can t (asked Get rest since) c x g)) (λ g. inr (planned_can t (asked Gets rest since) c x g)) q)),
-     λ h c o i r d x q. planned_sent t rest since c o x (h c o i (Verdicts.reachable_planned t (asked Delete rest since) c o r) (done_planned t rest since o d) x
-        (⊎_elim (λ g. inl (can_planned t (asked Get rest since) c x (Sound.plan_sound sizes t Get rest since w).2 g)) (λ g. inr (can_planned t (asked Gets rest since) c x (Sound.plan_sound sizes t Gets rest since w).2 g)) q)))
+covered_planned sizes t rest since w = (
+  λ h c o i r d x q. sent_planned t rest since c o x (h c o i (Verdicts.planned_reachable t (asked Delete rest since) c o r) (planned_done t rest since o d) x
+      (⊎_elim (λ g. inl (planned_can t (asked Get rest since) c x g)) (λ g. inr (planned_can t (asked Gets rest since) c x g)) q)),
+  λ h c o i r d x q. planned_sent t rest since c o x (h c o i (Verdicts.reachable_planned t (asked Delete rest since) c o r) (done_planned t rest since o d) x
+      (⊎_elim (λ g. inl (can_planned t (asked Get rest since) c x (Sound.plan_sound sizes t Get rest since w).2 g)) (λ g. inr (can_planned t (asked Gets rest since) c x (Sound.plan_sound sizes t Gets rest since w).2 g)) q)),
+)
 
 pub covered_is_justified : CoveredIsJustified
 covered_is_justified sizes t rest since w =
     let here = covered_planned sizes t rest since w in
     let there = Covered.covered_is_justified sizes (plan t (asked Get rest since)) (plan t (asked Gets rest since)) (plan t (asked Delete rest since))
-        (Sound.plan_sound sizes t Get rest since w) (Sound.plan_sound sizes t Gets rest since w) (Sound.plan_sound sizes t Delete rest since w) (Sound.plan_for_delete sizes t rest since w) in
+    (Sound.plan_sound sizes t Get rest since w) (Sound.plan_sound sizes t Gets rest since w) (Sound.plan_sound sizes t Delete rest since w) (Sound.plan_for_delete sizes t rest since w) in
     (λ h. there.0 (here.0 h), λ h. here.1 (there.1 h))

@@ -36,4 +36,3 @@ unique (Shadowed i j n t u) c o o2 l m a (inl s) (inl v) e = unique t c o o2 l m
 unique (Shadowed i j n t u) c o o2 l m a (inl s) (inr v) e = absurd (a.2 m.position (in_at t c o l m e s) (Orders.sent_in u c o2 m v.2))
 unique (Shadowed i j n t u) c o o2 l m a (inr s) (inl v) e = absurd (a.2 m.position (Orders.sent_in t c o2 m v) (in_at u c o l m e s.2))
 unique (Shadowed i j n t u) c o o2 l m a (inr s) (inr v) e = unique u c o o2 l m a.1 s.2 v.2 e
-

@@ -9,8 +9,8 @@ mod laws;
 mod plan;
 mod sets;
 
-pub use plan::{Plan, PlannedLeg};
-pub use sets::{push_acknowledged, push_first_wave, push_hits, reply_if_all};
 pub use laws::{
     covered_is_justified, sets_are_exact, sets_ignore_the_choice, symbols_are_independent,
 };
+pub use plan::{Plan, PlannedLeg};
+pub use sets::{push_acknowledged, push_first_wave, push_hits, reply_if_all};

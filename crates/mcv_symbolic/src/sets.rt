@@ -127,10 +127,7 @@ pub fn push_acknowledged<'a>(
 }
 
 /// Adds the legs whose hit can be the reply; answers the reply where all legs answer Error.
-pub fn push_hits<'a>(
-    plan: &'a Plan,
-    legs: &mut Vec<&'a PlannedLeg>,
-) -> Result<Outcome, AllocError>
+pub fn push_hits<'a>(plan: &'a Plan, legs: &mut Vec<&'a PlannedLeg>) -> Result<Outcome, AllocError>
     ensures legs { OnOk result (map (λ l. leg_of l.now) legs.new.items ≡ map (λ l. leg_of l.now) legs.old.items ++ hits (plan_of plan.now)) }
     ensures reply { IfOk result (λ x. x ≡ if_all Failed (plan_of plan.now)) }
 {
