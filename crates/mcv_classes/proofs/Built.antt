@@ -19,7 +19,7 @@ use Rattle.mcv_classes.specs.Table.{IsInOrderFrom, IsWordTable, bytes_of, last_o
 -- ---- sorted words are in order
 
 turned : (o : Ordering) → is_lt o ≡ false → is_gt (ordering_reverse o) ≡ false
-turned Less e = sym e
+turned Less e = e
 turned Equal e = refl
 turned Greater e = refl
 

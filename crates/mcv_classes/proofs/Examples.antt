@@ -26,11 +26,11 @@ row-shadow = refl
 
 passes : (p : List ℕ → Bool) (ws : List (List ℕ)) (v : List ℕ) → list_all p ws ≡ true → Contains ws v → p v ≡ true
 passes p [] v e h = absurd (omega (arith, h.1))
-passes p (w ∷ ws) v e h = by h.0 h.1 h.2
+passes p (w ∷ ws) v e h = by (passes p ws v (and_parts (p w) (list_all p ws) e).1) h.0 h.1 h.2
   where
-    by : (k : ℕ) → k < length (w ∷ ws) → get_or (w ∷ ws) k v ≡ v → p v ≡ true
-    by zero inside is = ap p (sym is) ∙ (and_parts (p w) (list_all p ws) e).0
-    by (suc k) inside is = passes p ws v (and_parts (p w) (list_all p ws) e).1 (k, omega (arith, inside), is)
+    by : (Contains ws v → p v ≡ true) → (k : ℕ) → k < length (w ∷ ws) → get_or (w ∷ ws) k v ≡ v → p v ≡ true
+    by more zero inside is = ap p (sym is) ∙ (and_parts (p w) (list_all p ws) e).0
+    by more (suc k) inside is = more (k, omega (arith, inside), is)
 
 -- no word is longer, or the rest doesn't begin with it
 abbrev is_no_longer : List ℕ → List ℕ → List ℕ → Bool

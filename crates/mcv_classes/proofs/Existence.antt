@@ -47,7 +47,7 @@ record IsBest (ws : List (List ℕ)) (rest u v : List ℕ) : Type 0 where
 
 best : (ws : List (List ℕ)) (rest u : List ℕ) → begins_with rest u ≡ true → (v : List ℕ) × IsBest ws rest u v
 best [] rest u b = (u, record { begins = b; least = omega arith; listed = inl refl; most = λ x h e. absurd (omega (arith, h.1)) })
-best (w ∷ ws) rest u b = by (begins_with rest w) refl (cases_lt (length u) (length w))
+best (w ∷ ws) rest u b = by (best ws rest) (begins_with rest w) refl (cases_lt (length u) (length w))
   where
     moved : (v : List ℕ) → (v ≡ u) ⊎ Contains ws v → (v ≡ u) ⊎ Contains (w ∷ ws) v
     moved v (inl e) = inl e
@@ -63,16 +63,16 @@ best (w ∷ ws) rest u b = by (begins_with rest w) refl (cases_lt (length u) (le
         omega (arith, under, ap length e)
     most-of v x own more (inr h) f = more x h f
 
-    by : (t : Bool) → begins_with rest w ≡ t → (length u < length w) ⊎ (length w ≤ length u) → (v : List ℕ) × IsBest (w ∷ ws) rest u v
-    by false e order =
-        let k = best ws rest u b in
+    by : ((x : List ℕ) → begins_with rest x ≡ true → (v : List ℕ) × IsBest ws rest x v) → (t : Bool) → begins_with rest w ≡ t → (length u < length w) ⊎ (length w ≤ length u) → (v : List ℕ) × IsBest (w ∷ ws) rest u v
+    by among false e order =
+        let k = among u b in
         (k.0, record { begins = k.1.begins; least = k.1.least; listed = moved k.0 k.1.listed; most = λ x h f. most-of k.0 x (λ g. absurd (true≢false (sym g ∙ e))) k.1.most (split w x ws h) f })
-    by true e (inl longer) =
-        let k = best ws rest w e in
+    by among true e (inl longer) =
+        let k = among w e in
         let over : length w ≤ length k.0 = k.1.least in
         (k.0, record { begins = k.1.begins; least = omega (arith, longer, over); listed = inr (replaced k.0 k.1.listed); most = λ x h f. most-of k.0 x (λ g. k.1.least) k.1.most (split w x ws h) f })
-    by true e (inr shorter) =
-        let k = best ws rest u b in
+    by among true e (inr shorter) =
+        let k = among u b in
         let over : length u ≤ length k.0 = k.1.least in
         let own : length w ≤ length k.0 = omega (arith, shorter, over) in
         (k.0, record { begins = k.1.begins; least = k.1.least; listed = moved k.0 k.1.listed; most = λ x h f. most-of k.0 x (λ g. own) k.1.most (split w x ws h) f })

@@ -10,6 +10,7 @@ use Rattle.std.specs.declared.cmp.Ordering.{Ordering}
 use Rattle.std.specs.declared.cmp.Ordering.TheVariants.{Less, Equal, Greater}
 use Rattle.std.proofs.lemmas.Bool.{cases_lt, false≢true, true≢false}
 use Rattle.std.proofs.lemmas.List.{get_or-map, get_or_default}
+use Rattle.std.proofs.lemmas.Option.{slice_get_cases}
 use Rattle.std.proofs.lemmas.Slice.Eq.{bytes_eq-Decides}
 use Rattle.mcv_base.specs.Key.{begins_with}
 use Rattle.mcv_classes.specs.Class.{IsBefore, IsClassWord, IsUpTo}
@@ -79,6 +80,21 @@ module _ (words : List LinkedWord) (l : IsLinked words) (bytes : List ℕ) where
       let under : IsUpTo (word_at (texts_of words) (n - 1)) bytes =
       passed-upto bytes (word_at (texts_of words) (n - 1)) (ap (is_passed bytes) (sym (text-of (n - 1) d last)) ∙ front (n - 1) d (omega arith) (omega (arith, some))) in
       between bytes (word_at (texts_of words) k) (word_at (texts_of words) (n - 1)) b (upto-later (texts_of words) k (n - 1) l.rising (omega (arith, early)) (omega (arith, last, length-texts words))) under
+
+-- some word is passed, and those with which the bytes begin are among those of the last that is
+pub passed-some : (words : List LinkedWord) (l : IsLinked words) (bytes : List ℕ) (n : ℕ) → IsPartitionPoint (λ w. passes words l bytes w ≡ true) (λ w. passes words l bytes w ≡ false) words n → 0 < n
+passed-some words l bytes n point =
+    let some : 0 < length words = some-word words l in
+    elim (slice_get_cases words 0).1 as (λ _. 0 < n) [ inl f ↦ some-passed words l bytes f.0 n point.1 | inr f ↦ absurd (omega (arith, some, f.0)) ]
+
+pub passed-below : (table : List (List ℕ)) (words : List LinkedWord) (l : IsLinked words) (bytes : List ℕ) (n : ℕ) → texts_of words ≡ table → n ≤ length words
+    → IsPartitionPoint (λ w. passes words l bytes w ≡ true) (λ w. passes words l bytes w ≡ false) words n → AreBelow table bytes (n - 1)
+passed-below table words l bytes n same bound point =
+    let some : 0 < length words = some-word words l in
+    elim (slice_get_cases words 0).1 as (λ _. AreBelow table bytes (n - 1)) [
+      | inl f ↦ subst (λ ts. AreBelow ts bytes (n - 1)) same (found-below words l bytes f.0 n bound point.0 point.1)
+      | inr f ↦ absurd (omega (arith, some, f.0))
+    ]
 
 -- the longest word is the class word
 pub class-word : (table : List (List ℕ)) (bytes text : List ℕ) (place : ℕ) → place < length table → text ≡ word_at table place → begins_with bytes (word_at table place) ≡ true → AreBelow table bytes place → IsClassWord table bytes text

@@ -10,7 +10,7 @@ use Rattle.std.proofs.lemmas.Option.{get_or_from_slice_get, slice_get_within, sl
 use Rattle.std.proofs.lemmas.Slice.Eq.{bytes_eq-Decides}
 use Rattle.mcv_base.specs.Key.{begins_with}
 use Rattle.mcv_classes.specs.Class.{IsBefore, IsUpTo}
-use Rattle.mcv_classes.specs.Table.{IsLink, IsLinked, texts_of, word_at}
+use Rattle.mcv_classes.specs.Table.{IsLink, IsLinked, last_of, texts_of, word_at}
 use Rattle.mcv_classes.specs.declared.table.LinkedWord.{LinkedWord}
 use Rattle.mcv_classes.proofs.Order.{before-upto, begins-itself, begins-upto, between, never-back, upto-before, upto-itself, upto-through, before-through}
 
@@ -156,3 +156,40 @@ module _ (words : List LinkedWord) (w : LinkedWord) where
           let same : i ≡ length words = omega (arith, new, inside, length_push words w) in
           subst (λ j. IsLink (texts_of (words ++ w ∷ [])) j (get_or (words ++ w ∷ []) j d).shorter) (sym same)
           (subst (λ (v : LinkedWord). IsLink (texts_of (words ++ w ∷ [])) (length words) v.shorter) (sym (get_or_push words w d (length words) refl)) (link-new h below))
+
+-- ---- as the code has them
+
+-- the words with which one begins that isn't before the last are among those of the last
+pub below-last : (table : List (List ℕ)) (words : List LinkedWord) (word bytes : List ℕ) (n : ℕ) → texts_of words ≡ table → IsLinked words → n ≡ length words → IsUpTo (last_of table) word → bytes ≡ word → AreBelow table bytes (n - 1)
+below-last table words word bytes n same l size e is =
+    let some : 0 < length words = some-word words l in
+    let at : length (texts_of words) - 1 ≡ n - 1 = omega (arith, size, length-texts words) in
+    let last : IsUpTo (last_of (texts_of words)) word = subst (λ ts. IsUpTo (last_of ts) word) (sym same) e in
+    let own : IsUpTo (word_at (texts_of words) (n - 1)) word = subst (λ k. IsUpTo (word_at (texts_of words) k) word) at last in
+    let below : AreBelow (texts_of words) word (n - 1) = last-below words word (n - 1) l (omega (arith, some, size)) own in
+    subst (λ b. AreBelow table b (n - 1)) (sym is) (subst (λ ts. AreBelow ts word (n - 1)) same below)
+
+-- v is the last word, a and b are what was compared, and bytes those of the new word
+pub grown-at : (table : List (List ℕ)) (words : List LinkedWord) (v w : LinkedWord) (a b bytes : List ℕ) (t : Bool) (n : ℕ) → texts_of words ≡ table → IsLinked words → n ≡ length words → IsUpTo (last_of table) w.text.items
+    → v ≡ get_or words (n - 1) v → a ≡ v.text.items → b ≡ w.text.items → t ≡ bytes_eq a b → t ≡ false → bytes ≡ w.text.items → w.shorter < length table → AreBelow table bytes w.shorter → IsLinked (words ++ w ∷ [])
+grown-at table words v w a b bytes t n same l size e v-is a-is b-is t-is other bytes-is inside below =
+    let some : 0 < length words = some-word words l in
+    let at : length (texts_of words) - 1 ≡ n - 1 = omega (arith, size, length-texts words) in
+    let last : IsUpTo (last_of (texts_of words)) w.text.items = subst (λ ts. IsUpTo (last_of ts) w.text.items) (sym same) e in
+    let own : IsUpTo (word_at (texts_of words) (n - 1)) w.text.items = subst (λ k. IsUpTo (word_at (texts_of words) k) w.text.items) at last in
+    let here : word_at (texts_of words) (n - 1) ≡ a = text-at words (n - 1) v (omega (arith, some, size)) v-is ∙ sym a-is in
+    let apart : word_at (texts_of words) (n - 1) ≡ w.text.items → ⊥ = λ q. false≢true (sym other ∙ t-is ∙ (bytes_eq-Decides a b).1 (sym here ∙ q ∙ sym b-is)) in
+    let under : w.shorter < length words = omega (arith, inside, length-texts words, ap length same) in
+    let kept : AreBelow (texts_of words) w.text.items w.shorter = subst (λ ts. AreBelow ts w.text.items w.shorter) (sym same) (subst (λ x. AreBelow table x w.shorter) bytes-is below) in
+    grown words w (n - 1) l (omega (arith, some, size)) own apart under kept
+
+-- the text of an item, as one of the table
+pub item-inside : (table : List (List ℕ)) (words items : List LinkedWord) (i : ℕ) → texts_of words ≡ table → items ≡ words → i < length items → i < length table
+item-inside table words items i same is h = omega (arith, h, ap length is, length-texts words, ap length same)
+
+pub item-text : (table : List (List ℕ)) (words items : List LinkedWord) (i : ℕ) (v : LinkedWord) (text : List ℕ) → texts_of words ≡ table → items ≡ words → i < length items → v ≡ get_or items i v → text ≡ v.text.items → text ≡ get_or table i text
+item-text table words items i v text same is h v-is text-is =
+    let inside : i < length words = omega (arith, h, ap length is) in
+    let own : v ≡ get_or words i v = v-is ∙ ap (λ xs. get_or xs i v) is in
+    let at : get_or (texts_of words) i text ≡ text = get_or-map (λ x. x.text.items) words i v text inside ∙ ap (λ x. x.text.items) (sym own) ∙ sym text-is in
+    sym at ∙ ap (λ ts. get_or ts i text) same
