@@ -1,5 +1,7 @@
-use Rattle.std.proofs.Common.{◌≡◌, ap, rules, sym, subst}
+use Rattle.std.proofs.Common.{◌≡◌, ap, rules, sym, subst, ◌∙◌, map-id}
 use Rattle.std.proofs.lemmas.List.{map_push}
+use Rattle.std.proofs.lemmas.Iterator.Consumers.{YieldsList-end}
+use Rattle.std.proofs.lemmas.Iterator.Adapters.{YieldsList-from_vec}
 use Rattle.mcv_classes.specs.Table.{bytes_of}
 use Rattle.mcv_classes.proofs.Built.{IsMade, table-made, word-made}
 use Rattle.mcv_classes.proofs.table.ClassTable.linked.Goals as goal
@@ -15,5 +17,8 @@ loop-word-preserved c =
 
 pub returns : goal.returns
 returns c =
-    let all : c.loop-word.yielded ≡ c.args.words.items = search rules in
-    table-made (bytes_of c.loop-word.yielded) c.loop-word.table (bytes_of c.loop-word.word-iterator.rest.items) (bytes_of c.args.words.items) (ap bytes_of all) c.loop-word.invariant
+    let words = c.args.words.items in
+    let end = YieldsList-end (YieldsList-from_vec {s = c.into_iter-word-iterator.result} words (search rules) (search rules))
+    c.loop-word.yielded c.loop-word.word-iterator c.loop-word.yielded_by c.next.result c.next.new.self c.in-None.is c.next.ensures.steps in
+    let all : c.loop-word.yielded ≡ words = sym (map-id c.loop-word.yielded) ∙ end.0 in
+    table-made (bytes_of c.loop-word.yielded) c.loop-word.table (bytes_of c.loop-word.word-iterator.rest.items) (bytes_of words) (ap bytes_of all) c.loop-word.invariant
