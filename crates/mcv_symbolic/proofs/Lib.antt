@@ -1,4 +1,5 @@
 pub mod Later
+pub mod Pushed
 pub mod Exact
 pub mod Marks
 pub mod Symbols

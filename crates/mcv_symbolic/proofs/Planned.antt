@@ -19,7 +19,6 @@ use Rattle.mcv_rules.proofs.Sending.{Sends}
 use Rattle.mcv_rules.proofs.Sound
 use Rattle.mcv_rules.proofs.Verdicts
 use Rattle.mcv_symbolic.specs.Laws.{CoveredIsJustified}
-use Rattle.mcv_symbolic.proofs.Covered
 use Rattle.mcv_symbolic.proofs.Covered as plans
 use Rattle.mcv_symbolic.proofs.Exact as exact
 use Rattle.mcv_symbolic.proofs.Unique.{unique}
@@ -94,6 +93,6 @@ covered_planned sizes t rest since w = (
 pub covered_is_justified : CoveredIsJustified
 covered_is_justified sizes t rest since w =
     let here = covered_planned sizes t rest since w in
-    let there = Covered.covered_is_justified sizes (plan t (asked Get rest since)) (plan t (asked Gets rest since)) (plan t (asked Delete rest since))
+    let there = plans.covered_is_justified sizes (plan t (asked Get rest since)) (plan t (asked Gets rest since)) (plan t (asked Delete rest since))
     (Sound.plan_sound sizes t Get rest since w) (Sound.plan_sound sizes t Gets rest since w) (Sound.plan_sound sizes t Delete rest since w) (Sound.plan_for_delete sizes t rest since w) in
     (λ h. there.0 (here.0 h), λ h. here.1 (there.1 h))

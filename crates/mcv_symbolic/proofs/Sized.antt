@@ -47,4 +47,4 @@ abbrev pub sizes_for : Tree → List ℕ
 sizes_for t = replicate (above t) 0
 
 pub formed : (t : Tree) → IsWellFormed (sizes_for t) t
-formed t = enough (sizes_for t) t (omega (arith, length-replicate (above t) 0))
+formed t = enough (sizes_for t) t (omega (arith, length-replicate {A = ℕ} (above t) 0))

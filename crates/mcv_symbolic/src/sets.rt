@@ -1,6 +1,6 @@
 //! The sets of a plan: one walk over its nodes each, in the order of the legs' positions.
 
-ghost use Rattle.std.specs.Prelude.{◌≡◌, ◌++◌, map, take, IfOk, OnOk};
+ghost use Rattle.std.specs.Prelude.{◌≡◌, ◌<◌, ◌++◌, map, IfOk, OnOk};
 ghost use Rattle.mcv_base.specs.declared.reply.Outcome.TheVariants.{Error as Failed, Good as Done};
 ghost use Rattle.mcv_rules.specs.Plan.{reply, worse};
 ghost use Rattle.mcv_symbolic.specs.InMemory.{leg_of, plan_of};
@@ -126,6 +126,19 @@ pub fn push_acknowledged<'a>(
     }
 }
 
+/// Where the list of both parts ends: nothing of it is kept where one of them is empty.
+fn end_of_both(start: usize, middle: usize, end: usize) -> usize
+    ensures first { middle ≡ start → result ≡ start }
+    ensures second { end ≡ middle → result ≡ start }
+    ensures both { start < middle → middle < end → result ≡ end }
+{
+    if middle == start || end == middle {
+        start
+    } else {
+        end
+    }
+}
+
 /// Adds the legs whose hit can be the reply; answers the reply where all legs answer Error.
 pub fn push_hits<'a>(plan: &'a Plan, legs: &mut Vec<&'a PlannedLeg>) -> Result<Outcome, AllocError>
     ensures legs { OnOk result (map (λ l. leg_of l.now) legs.new.items ≡ map (λ l. leg_of l.now) legs.old.items ++ hits (plan_of plan.now)) }
@@ -142,9 +155,8 @@ pub fn push_hits<'a>(plan: &'a Plan, legs: &mut Vec<&'a PlannedLeg>) -> Result<O
             let first = push_hits(first, legs)?;
             let middle = legs.len();
             let second = push_hits(second, legs)?;
-            if middle == start || legs.len() == middle {
-                legs.truncate(start);
-            }
+            let end = end_of_both(start, middle, legs.len());
+            legs.truncate(end);
             Ok(worse(first, second))
         }
         Plan::OnError(first, second) => match push_hits(first, legs)? {
