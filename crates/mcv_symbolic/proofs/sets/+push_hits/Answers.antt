@@ -1,4 +1,4 @@
-use Rattle.std.proofs.Common.{◌≡◌, List, ◌++◌, length, map, Bor, ap, sym, subst, ◌∙◌}
+use Rattle.std.proofs.Common.{◌≡◌, arith, List, ◌++◌, length, map, Bor, ap, sym, subst, ◌∙◌}
 use Rattle.std.specs.Prelude.{OnOk}
 use Rattle.mcv_rules.specs.Plan.{Leg}
 use Rattle.mcv_symbolic.specs.declared.plan.PlannedLeg.{PlannedLeg}
@@ -34,9 +34,12 @@ returns-in_ok-second-in-Both-clause-legs t c =
     let first = plan_of c.deref.result.now in
     let second = plan_of c.deref-in-Both.result.now in
     let tree = tree-Both c.args.plan.now c.in-Both.first c.in-Both.second c.deref.result.now c.deref-in-Both.result.now c.in-Both.is c.deref.ensures c.deref-in-Both.ensures in
+    let start : c.len-start.result ≡ length c.args.legs.now.items = omega (arith, c.len-start.ensures, c.args.legs.now.ok.0) in
+    let middle : c.len-middle.result ≡ length c.push_hits.new.legs.items = omega (arith, c.len-middle.ensures, c.push_hits.new.legs.ok.0) in
+    let end : c.len.result ≡ length c.push_hits-in-Both.new.legs.items = omega (arith, c.len.ensures, c.push_hits-in-Both.new.legs.ok.0) in
     let kept = both-kept shown c.args.legs.now.items c.push_hits.new.legs.items c.push_hits-in-Both.new.legs.items c.end_of_both-end.result
-    (λ e. c.end_of_both-end.ensures.first (c.len-middle.ensures ∙ e ∙ sym c.len-start.ensures) ∙ c.len-start.ensures)
-    (λ e. c.end_of_both-end.ensures.second (c.len.ensures ∙ e ∙ sym c.len-middle.ensures) ∙ c.len-start.ensures)
-    (λ below beyond. c.end_of_both-end.ensures.both below beyond ∙ c.len.ensures)
+    (λ e. c.end_of_both-end.ensures.first (middle ∙ e ∙ sym start) ∙ start)
+    (λ e. c.end_of_both-end.ensures.second (end ∙ e ∙ sym middle) ∙ start)
+    (λ below beyond. c.end_of_both-end.ensures.both (omega (arith, below, start, middle)) (omega (arith, beyond, middle, end)) ∙ end)
     (hits first) (hits second) c.in_ok-first-in-Both.ensures.legs c.in_ok-second-in-Both.ensures.legs in
     ap (map shown) c.truncate.ensures.items ∙ kept ∙ ap (λ p. map shown c.args.legs.now.items ++ hits p) (sym tree)
