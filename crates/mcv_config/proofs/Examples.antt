@@ -1,17 +1,23 @@
 -- The definitions at small values.
 use Rattle.std.proofs.Common.{◌≡◌, [], ◌∷◌, true, false, Some, None, refl, codes}
-use Rattle.serde_json.specs.Data.{Data, string, array, object, no_items, item, no_members, member}
+use Rattle.serde_json.specs.Data.{Data, number, unsigned, string, array, object, no_items, item, no_members, member}
 use Rattle.mcv_base.specs.declared.operation.Op.TheVariants.{Delete}
+use Rattle.mcv_pools.specs.declared.symbol.HashFunc.TheVariants.{Crc32}
 use Rattle.mcv_config.specs.declared.fault.FaultKind.TheVariants.{UnknownKey, WrongKind, UnknownPool, Empty, LeftOut}
 use Rattle.mcv_config.specs.Config.{plan_read, root}
 use Rattle.mcv_config.specs.Fault.{good, bad, refused}
-use Rattle.mcv_config.specs.Handles.{handle_named, is_elsewhere, key_fault, keys_read, op_named, op_read, stray_fault}
+use Rattle.mcv_config.specs.Handles.{handle_named, is_elsewhere, key_fault, keys_read, name_fault, op_named, stray_fault}
+use Rattle.mcv_config.specs.Hash.{func_named, func_read, hash_fields}
 use Rattle.mcv_config.specs.Lists.{each, each_member}
 use Rattle.mcv_config.specs.Path.{key_step}
-use Rattle.mcv_config.specs.Plan.{Named, Plan, pool, server, null, all_sync, operation_selector, no_named, named}
+use Rattle.mcv_config.specs.Numbers.{index_read, seconds_read}
+use Rattle.mcv_config.specs.Plan.{Named, Plan, pool, server, null, error, all_sync, migrate, operation_selector, no_named, named}
 use Rattle.mcv_config.specs.Pools.{listed_servers, pool_named, pool_read, server_read, servers_read}
-use Rattle.mcv_config.specs.Routes.{cut, fields, listed, object_route, policy_read, route, selector_fields, servers, text_children, text_route, type_read}
+use Rattle.mcv_config.specs.Routes.{cut, fields, interval_read, migrate_fields, object_route, plain_pool, pool_field, pool_fields, pool_object, route, servers, start_read, text_children, text_route, type_read}
+use Rattle.mcv_config.specs.Selectors.{policy_read, selector_fields}
 use Rattle.mcv_config.specs.Server.{is_host, is_port, is_server}
+use Rattle.mcv_config.specs.Shadows.{range_read, range_value, shadow_fields, shadow_read}
+use Rattle.mcv_config.specs.Walk.{route_under, two_under}
 
 abbrev of_pool : Data → Data
 of_pool listed = object (member (codes "servers") listed no_members)
@@ -31,7 +37,7 @@ plan t = record {
   entries = record { aliases = codes "/././" ∷ []; route = t } ∷ [];
 }
 
-pool_by_name : root [] (two_pools (string (codes "PoolRoute|B"))) ≡ good (plan (pool 1))
+pool_by_name : root [] (two_pools (string (codes "PoolRoute|B"))) ≡ good (plan (plain_pool 1))
 unfolding root plan_read pool_read servers_read listed_servers each server_read is_server is_host is_port each_member keys_read key_fault pool_named is_elsewhere route text_route cut handle_named
 pool_by_name = refl
 
@@ -46,9 +52,41 @@ selecting =
     (member (codes "type") (string (codes "OperationSelectorRoute")) no_members)))
 
 -- the policies in byte order, and then the default
-policies_and_default : root [] (two_pools selecting) ≡ good (plan (operation_selector (Some Delete ∷ None ∷ []) (named (pool 1) (named null (named (pool 0) no_named)))))
-unfolding root plan_read pool_read servers_read listed_servers each server_read is_server is_host is_port each_member keys_read key_fault pool_named is_elsewhere route text_route cut handle_named object_route type_read fields selector_fields policy_read op_read op_named
+policies_and_default : root [] (two_pools selecting) ≡ good (plan (operation_selector (Some Delete ∷ None ∷ []) (named (plain_pool 1) (named null (named (plain_pool 0) no_named)))))
+unfolding root plan_read pool_read servers_read listed_servers each server_read is_server is_host is_port each_member keys_read key_fault pool_named is_elsewhere route text_route cut handle_named object_route type_read fields selector_fields policy_read name_fault op_named
 policies_and_default = refl
+
+-- a pool by name, with its hash and a shadow of its second server
+abbrev shadowing : Data
+shadowing =
+    object (member (codes "hash") (object (member (codes "hash_func") (string (codes "Crc32")) (member (codes "salt") (string (codes "x")) no_members)))
+    (member (codes "pool") (string (codes "A"))
+    (member (codes "shadows") (array (item (object
+    (member (codes "index_range") (array (item (number (unsigned 1)) (item (number (unsigned 1)) no_items)))
+    (member (codes "target") (string (codes "ErrorRoute|x")) no_members))) no_items))
+    (member (codes "type") (string (codes "PoolRoute")) no_members))))
+
+hash_and_shadow : root [] (two_pools shadowing) ≡ good (plan (pool 0 Crc32 (codes "x") (record { first = 1; last = 1 } ∷ []) (named error no_named)))
+unfolding root plan_read pool_read servers_read listed_servers each server_read is_server is_host is_port each_member keys_read key_fault pool_named is_elsewhere route text_route cut handle_named object_route type_read fields pool_fields pool_field func_read func_named hash_fields shadow_read shadow_fields range_read range_value index_read route_under
+hash_and_shadow = refl
+
+abbrev migrating : Data
+migrating =
+    object (member (codes "from") (string (codes "PoolRoute|A"))
+    (member (codes "start_time") (number (unsigned 1000))
+    (member (codes "to") (string (codes "PoolRoute|B"))
+    (member (codes "type") (string (codes "MigrateRoute")) no_members))))
+
+-- an hour, where no interval is named
+hour : root [] (two_pools migrating) ≡ good (plan (migrate (plain_pool 0) (plain_pool 1) 1000 3600))
+unfolding root plan_read pool_read servers_read listed_servers each server_read is_server is_host is_port each_member keys_read key_fault pool_named is_elsewhere route text_route cut handle_named object_route type_read fields migrate_fields two_under route_under start_read interval_read seconds_read
+hour = refl
+
+-- a pool object comes behind the pools with names
+pool_in_route : root [] (object (member (codes "route") (object (member (codes "pool") (of_pool (array (item (string (codes "a:1")) no_items))) (member (codes "type") (string (codes "PoolRoute")) no_members))) no_members))
+    ≡ good (record { servers = codes "a:1" ∷ []; pools = (0 ∷ []) ∷ []; entries = record { aliases = codes "/././" ∷ []; route = plain_pool 0 } ∷ [] })
+unfolding root plan_read pool_read servers_read listed_servers each server_read is_server is_host is_port keys_read key_fault is_elsewhere route handle_named object_route type_read fields pool_fields pool_field pool_object
+pool_in_route = refl
 
 no_such_pool : root [] (two_pools (string (codes "PoolRoute|Z"))) ≡ refused UnknownPool (codes "/route")
 unfolding root plan_read pool_read servers_read listed_servers each server_read is_server is_host is_port each_member keys_read key_fault pool_named is_elsewhere route text_route cut handle_named

@@ -6,7 +6,8 @@ pub mod Colon
 pub mod Operations
 pub mod Noted
 pub mod Holds
-pub mod SoundRoutes
 pub mod SoundPools
+pub mod Later
+pub mod SoundRoutes
 pub mod Sound
 mod Examples

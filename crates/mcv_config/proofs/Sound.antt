@@ -8,7 +8,7 @@ use Rattle.mcv_pools.proofs.Tables.{one_to_one}
 use Rattle.mcv_config.specs.declared.config.Config.{Config}
 use Rattle.mcv_config.specs.declared.fault.ConfigFault.{ConfigFault}
 use Rattle.mcv_config.specs.declared.handle.Object.TheVariants as objects
-use Rattle.mcv_config.specs.Config.{depth_limit, node_limit, plan_of_members, plan_read, plan_with, root}
+use Rattle.mcv_config.specs.Config.{at_first, depth_limit, plan_of_members, plan_read, plan_with, root}
 use Rattle.mcv_config.specs.Fault.{Gives}
 use Rattle.mcv_config.specs.Handles.{key_fault, keys_read}
 use Rattle.mcv_config.specs.Lists.{required}
@@ -16,15 +16,24 @@ use Rattle.mcv_config.specs.Path.{key_step}
 use Rattle.mcv_config.specs.Plan.{Named, IsSound, IsSoundRoute, plan_of}
 use Rattle.mcv_config.specs.Pools.{Pools, Table, pools_read}
 use Rattle.mcv_config.specs.Routes.{route}
+use Rattle.mcv_config.specs.Walk.{SoFar}
 use Rattle.mcv_config.proofs.Holds.{Holds, holds_bind, holds_then, holds_also}
-use Rattle.mcv_config.proofs.SoundPools.{ArePools, pools_sound, pools_are_sound, some_servers}
+use Rattle.mcv_config.proofs.Later.{IsSoFar, Grows}
+use Rattle.mcv_config.proofs.SoundPools.{ArePools, pools_sound, pools_are_sound}
 use Rattle.mcv_config.proofs.SoundRoutes.{route_sound}
 
-plan_with_sound : (ps : Pools) (table : Table) (t : Named) → ArePools (ps, table) → IsSoundRoute ps.servers t → IsSound (plan_with ps table t)
-plan_with_sound ps table t h k = record { once = one_to_one bytes_eq bytes_decides table h.once; pools = pools_are_sound table ps.servers h.pools; routes = routes }
+first_sound : (ps : Pools × Table) → ArePools ps → IsSoFar (at_first ps)
+first_sound ps h = record { fits = h.named; pools = h.pools; once = h.once }
+
+plan_with_sound : (ps : List (List ℕ)) (t : Named × SoFar) → Grows IsSoundRoute ps t → IsSound (plan_with t)
+plan_with_sound ps t h = record {
+  once = one_to_one bytes_eq bytes_decides t.1.table h.sound.once;
+  pools = pools_are_sound t.1.table t.1.pools.servers h.sound.pools;
+  routes = routes;
+}
   where
-    routes : All (λ e. IsSoundRoute ps.servers e.route) (plan_with ps table t).entries
-    routes zero d l = k
+    routes : All (λ e. IsSoundRoute t.1.pools.servers e.route) (plan_with t).entries
+    routes zero d l = h.holds
     routes (suc i) d l = absurd (omega arith)
 
 plan_sound : (path : List ℕ) (d : Data) → Holds IsSound (plan_read path d)
@@ -32,9 +41,9 @@ unfolding plan_read
 plan_sound path d =
     holds_bind ArePools IsSound (pools_read (key_step path (codes "pools")) (get (codes "pools") d)) _ (pools_sound (key_step path (codes "pools")) (get (codes "pools") d))
     (λ ps h. holds_then IsSound (required (get (codes "route") d) path) _
-    (λ r. holds_bind (λ (x : Named × ℕ). IsSoundRoute ps.0.servers x.0) IsSound (route ps.0 depth_limit node_limit (key_step path (codes "route")) r) _
-    (route_sound ps.0 h.named (some_servers ps.1 ps.0.servers h.pools) depth_limit node_limit (key_step path (codes "route")) r)
-    (λ t k. plan_with_sound ps.0 ps.1 t.0 h k)))
+    (λ r. holds_bind (Grows IsSoundRoute (at_first ps).pools.servers) IsSound (route depth_limit (at_first ps) (key_step path (codes "route")) r) _
+    (route_sound depth_limit (at_first ps) (key_step path (codes "route")) r (first_sound ps h))
+    (λ t k. plan_with_sound (at_first ps).pools.servers t k)))
 
 members_sound : (path : List ℕ) (d : Data) (o : Option Members) → Holds IsSound (plan_of_members path d o)
 members_sound path d None = tt

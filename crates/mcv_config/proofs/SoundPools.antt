@@ -54,7 +54,7 @@ pub record Grown {A : Type 0} (P : Table → A → Type 0) (table : Table) (x : 
   pub grows : length table ≤ length x.1
   pub once : IsDistinct bytes_eq x.1
 
-abbrev IsKnown : Table → ℕ → Type 0
+abbrev pub IsKnown : Table → ℕ → Type 0
 IsKnown table s = s < length table
 
 entered_grown : (table : Table) (text : List ℕ) → IsDistinct bytes_eq table → Grown IsKnown table (entered table text)
@@ -112,14 +112,14 @@ module _ {A : Type 0} (P : Table → A → Type 0) (keeps : (t u : Table) (x : A
 known_keeps : (t u : Table) (s : ℕ) → length t ≤ length u → IsKnown t s → IsKnown u s
 known_keeps t u s l h = omega arith
 
-abbrev IsPool : Table → List ℕ → Type 0
+abbrev pub IsPool : Table → List ℕ → Type 0
 IsPool table pool = (0 < length pool) × AllByRecursion (IsKnown table) pool
 
 all_keeps : (t u : Table) (pool : List ℕ) → length t ≤ length u → AllByRecursion (IsKnown t) pool → AllByRecursion (IsKnown u) pool
 all_keeps t u [] l h = tt
 all_keeps t u (s ∷ pool) l h = (known_keeps t u s l h.0, all_keeps t u pool l h.1)
 
-pool_keeps : (t u : Table) (pool : List ℕ) → length t ≤ length u → IsPool t pool → IsPool u pool
+pub pool_keeps : (t u : Table) (pool : List ℕ) → length t ≤ length u → IsPool t pool → IsPool u pool
 pool_keeps t u pool l h = (h.0, all_keeps t u pool l h.1)
 
 -- a list that is not empty gives servers
@@ -148,7 +148,7 @@ of_members_grown : (table : Table) (path : List ℕ) (d : Data) (o : Option Memb
 of_members_grown table path d None once = tt
 of_members_grown table path d (Some ms) once = holds_also (Grown IsPool table) (keys_read (key_fault objects.Pool) path ms) (servers_read table path d) (servers_grown table path d once)
 
-pool_grown : (table : Table) (path name : List ℕ) (d : Data) → IsDistinct bytes_eq table → Holds (Grown IsPool table) (pool_read table path name d)
+pub pool_grown : (table : Table) (path name : List ℕ) (d : Data) → IsDistinct bytes_eq table → Holds (Grown IsPool table) (pool_read table path name d)
 unfolding pool_read
 pool_grown table path name d once = of_members_grown table path d (as_object d) once
 

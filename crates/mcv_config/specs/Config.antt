@@ -13,6 +13,7 @@ use Rattle.mcv_config.specs.Path.{key_step}
 use Rattle.mcv_config.specs.Plan.{Plan, Named}
 use Rattle.mcv_config.specs.Pools.{Pools, Table, pools_read}
 use Rattle.mcv_config.specs.Routes.{route}
+use Rattle.mcv_config.specs.Walk.{SoFar}
 
 -- levels of handles (own)
 abbrev pub depth_limit : ℕ
@@ -26,16 +27,20 @@ node_limit = 4096
 abbrev pub size_limit : ℕ
 size_limit = 16777216
 
+-- before any route is read
+abbrev pub at_first : Pools × Table → SoFar
+at_first ps = record { room = node_limit; pools = ps.0; table = ps.1 }
+
 -- one route, which key words without a routing prefix take
-abbrev pub plan_with : Pools → Table → Named → Plan
-plan_with ps table t = record { servers = table; pools = ps.servers; entries = record { aliases = default_prefix ∷ []; route = t } ∷ [] }
+abbrev pub plan_with : Named × SoFar → Plan
+plan_with t = record { servers = t.1.table; pools = t.1.pools.servers; entries = record { aliases = default_prefix ∷ []; route = t.0 } ∷ [] }
 
 unfoldable pub plan_read : List ℕ → Data → Read Plan
 plan_read path d =
     pools_read (key_step path (codes "pools")) (get (codes "pools") d) >>= λ (ps : Pools × Table).
     required (get (codes "route") d) path >>= λ (r : Data).
-    route ps.0 depth_limit node_limit (key_step path (codes "route")) r >>= λ (t : Named × ℕ).
-    good (plan_with ps.0 ps.1 t.0)
+    route depth_limit (at_first ps) (key_step path (codes "route")) r >>= λ (t : Named × SoFar).
+    good (plan_with t)
 
 abbrev pub plan_of_members : List ℕ → Data → Option Members → Read Plan
 plan_of_members path d None = refused WrongKind path

@@ -1,12 +1,14 @@
 -- The names of handles, keys and operations (mcrouter wiki, List of Route Handles; what is left out is own).
-use Rattle.std.specs.Prelude.{ℕ, Bool, true, false, ◌==◌, ◌||◌, List, [], ◌∷◌, ⊤, Option, Some, None, Result, Ok, Err, if◌then◌else◌, slice_index, codes, bytes_eq}
+use Rattle.std.specs.Prelude.{ℕ, Bool, true, false, ◌==◌, ◌||◌, nat_lt, List, [], ◌∷◌, length, ⊤, Option, Some, None, Result, Ok, Err, if◌then◌else◌, slice_index, codes, bytes_eq}
 use Rattle.serde_json.specs.Data.{Members, no_members, member}
 use Rattle.mcv_base.specs.declared.operation.Op.{Op}
 use Rattle.mcv_base.specs.declared.operation.Op.TheVariants.{Get, Gets, Set, Add, Replace, Append, Prepend, Cas, Delete, Touch}
 use Rattle.mcv_base.specs.Operation.{op_name}
 use Rattle.mcv_config.specs.declared.fault.FaultKind.{FaultKind}
-use Rattle.mcv_config.specs.declared.fault.FaultKind.TheVariants.{UnknownKey, UnknownHandle, LeftOut}
+use Rattle.mcv_config.specs.declared.fault.FaultKind.TheVariants.{UnknownKey, UnknownHandle, Limit, LeftOut}
 use Rattle.mcv_config.specs.declared.handle.Many.TheVariants as many_handles
+use Rattle.mcv_config.specs.declared.handle.Selector.{Selector}
+use Rattle.mcv_config.specs.declared.handle.Selector.TheVariants as selectors
 use Rattle.mcv_config.specs.declared.handle.Handle.{Handle}
 use Rattle.mcv_config.specs.declared.handle.Handle.TheVariants as handles
 use Rattle.mcv_config.specs.declared.handle.Object.{Object}
@@ -20,12 +22,6 @@ is_listed name (n ∷ ns) = if bytes_eq name n then true else is_listed name ns
 
 -- ---- handles
 
--- handles of mcrouter's that mcv will read, and doesn't yet
-abbrev pub later_handles : List (List ℕ)
-later_handles =
-    codes "ErrorRoute" ∷ codes "AllInitialRoute" ∷ codes "AllAsyncRoute" ∷ codes "FailoverRoute" ∷ codes "MissFailoverRoute"
-    ∷ codes "WarmUpRoute" ∷ codes "MigrateRoute" ∷ codes "PrefixSelectorRoute" ∷ []
-
 -- handles of mcrouter's that mcv leaves out (mcrouter wiki, List of Route Handles)
 abbrev pub left_out_handles : List (List ℕ)
 left_out_handles =
@@ -38,21 +34,43 @@ unfoldable pub handle_named : List ℕ → Result Handle FaultKind
 handle_named name =
     if bytes_eq name (codes "PoolRoute") then Ok handles.Pool else
     (if bytes_eq name (codes "NullRoute") then Ok handles.Null else
+    (if bytes_eq name (codes "ErrorRoute") then Ok handles.Error else
     (if bytes_eq name (codes "AllSyncRoute") then Ok (handles.Many many_handles.AllSync) else
-    (if bytes_eq name (codes "OperationSelectorRoute") then Ok handles.OperationSelector else
-    (if is_listed name later_handles then Err LeftOut else
-    (if is_listed name left_out_handles then Err LeftOut else Err UnknownHandle)))))
+    (if bytes_eq name (codes "AllInitialRoute") then Ok (handles.Many many_handles.AllInitial) else
+    (if bytes_eq name (codes "AllAsyncRoute") then Ok (handles.Many many_handles.AllAsync) else
+    (if bytes_eq name (codes "FailoverRoute") then Ok (handles.Many many_handles.Failover) else
+    (if bytes_eq name (codes "MissFailoverRoute") then Ok (handles.Many many_handles.MissFailover) else
+    (if bytes_eq name (codes "WarmUpRoute") then Ok handles.WarmUp else
+    (if bytes_eq name (codes "MigrateRoute") then Ok handles.Migrate else
+    (if bytes_eq name (codes "PrefixSelectorRoute") then Ok (handles.Selector selectors.Prefix) else
+    (if bytes_eq name (codes "OperationSelectorRoute") then Ok (handles.Selector selectors.Operation) else
+    (if is_listed name left_out_handles then Err LeftOut else Err UnknownHandle))))))))))))
 
 -- ---- keys
+
+-- where a selector's policies stand
+abbrev pub policies_key : Selector → List ℕ
+policies_key selectors.Prefix = codes "policies"
+policies_key selectors.Operation = codes "operation_policies"
+
+-- where the route of all else stands
+abbrev pub default_key : Selector → List ℕ
+default_key selectors.Prefix = codes "wildcard"
+default_key selectors.Operation = codes "default_policy"
 
 -- the keys of each object
 abbrev pub keys : Object → List (List ℕ)
 keys objects.Root = codes "pools" ∷ codes "route" ∷ []
 keys objects.Pool = codes "servers" ∷ codes "name" ∷ []
-keys (objects.Handle handles.Pool) = codes "type" ∷ codes "pool" ∷ []
+keys objects.Hash = codes "hash_func" ∷ codes "salt" ∷ []
+keys objects.Shadow = codes "target" ∷ codes "index_range" ∷ []
+keys (objects.Handle handles.Pool) = codes "type" ∷ codes "pool" ∷ codes "hash" ∷ codes "shadows" ∷ []
 keys (objects.Handle handles.Null) = codes "type" ∷ []
+keys (objects.Handle handles.Error) = codes "type" ∷ []
 keys (objects.Handle (handles.Many many)) = codes "type" ∷ codes "children" ∷ []
-keys (objects.Handle handles.OperationSelector) = codes "type" ∷ codes "operation_policies" ∷ codes "default_policy" ∷ []
+keys (objects.Handle handles.WarmUp) = codes "type" ∷ codes "cold" ∷ codes "warm" ∷ codes "exptime" ∷ []
+keys (objects.Handle handles.Migrate) = codes "type" ∷ codes "from" ∷ codes "to" ∷ codes "start_time" ∷ codes "interval" ∷ []
+keys (objects.Handle (handles.Selector selector)) = codes "type" ∷ policies_key selector ∷ default_key selector ∷ []
 
 -- keys of mcrouter's that are left out in every object
 abbrev pub left_out_keys : List (List ℕ)
@@ -64,10 +82,9 @@ left_out_keys =
 abbrev pub left_out_here : Object → List (List ℕ)
 left_out_here objects.Root = codes "routes" ∷ []
 left_out_here objects.Pool = []
-left_out_here (objects.Handle handles.Pool) = codes "name" ∷ codes "hash" ∷ codes "shadows" ∷ []
-left_out_here (objects.Handle handles.Null) = codes "name" ∷ []
-left_out_here (objects.Handle (handles.Many many)) = codes "name" ∷ []
-left_out_here (objects.Handle handles.OperationSelector) = codes "name" ∷ []
+left_out_here objects.Hash = []
+left_out_here objects.Shadow = []
+left_out_here (objects.Handle handle) = codes "name" ∷ []
 
 -- the fault of a key of an object, if it is one
 unfoldable pub key_fault : Object → List ℕ → Option FaultKind
@@ -113,13 +130,20 @@ op_named = op_among (Get ∷ Gets ∷ Set ∷ Add ∷ Replace ∷ Append ∷ Pre
 abbrev pub other_operations : List (List ℕ)
 other_operations = codes "incr" ∷ codes "decr" ∷ codes "lease-get" ∷ codes "lease-set" ∷ codes "metaget" ∷ []
 
-abbrev pub policy_of_op : Option Op → List ℕ → List ℕ → Read (Option Op)
-policy_of_op (Some op) path name = good (Some op)
-policy_of_op None path name = if is_listed name other_operations then good None else refused UnknownKey path
+-- ---- names of policies
 
--- the operation that a policy is for; None is a name that no request has
-unfoldable pub op_read : List ℕ → List ℕ → Read (Option Op)
-op_read path name = policy_of_op (op_named name) path name
+-- bytes of a prefix (own)
+abbrev pub prefix_limit : ℕ
+prefix_limit = 200
+
+abbrev pub op_fault : Option Op → List ℕ → Option FaultKind
+op_fault (Some op) name = None
+op_fault None name = if is_listed name other_operations then None else Some UnknownKey
+
+-- the fault of a policy's name, if it is one
+unfoldable pub name_fault : Selector → List ℕ → Option FaultKind
+name_fault selectors.Prefix name = if nat_lt prefix_limit (length name) then Some Limit else None
+name_fault selectors.Operation name = op_fault (op_named name) name
 
 -- ---- texts that stand for what lies elsewhere
 

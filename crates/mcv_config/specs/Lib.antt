@@ -5,6 +5,11 @@ pub mod Server
 pub mod Lists
 pub mod Handles
 pub mod Pools
+pub mod Walk
+pub mod Numbers
+pub mod Hash
+pub mod Shadows
+pub mod Selectors
 pub mod Routes
 pub mod Config
 pub mod View

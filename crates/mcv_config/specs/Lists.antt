@@ -2,7 +2,8 @@
 -- or the table of servers.
 use Rattle.std.specs.Prelude.{ℕ, ◌+◌, List, [], ◌∷◌, Option, Some, None}
 use Rattle.serde_json.specs.Data.{Data, Items, no_items, item, Members, no_members, member}
-use Rattle.mcv_config.specs.declared.fault.FaultKind.TheVariants.{WrongKind}
+use Rattle.serde_json.specs.Find.{as_array}
+use Rattle.mcv_config.specs.declared.fault.FaultKind.TheVariants.{WrongKind, Empty}
 use Rattle.mcv_config.specs.Fault.{Read, good, refused, ◌>>=◌}
 use Rattle.mcv_config.specs.Path.{key_step, item_step}
 
@@ -39,3 +40,18 @@ required (Some d) path = good d
 abbrev pub text_read : Option (List ℕ) → List ℕ → Read (List ℕ)
 text_read None path = refused WrongKind path
 text_read (Some text) path = good text
+
+-- the items of a value that has to be a list
+abbrev pub items_found : List ℕ → Option Items → Read (List Data)
+items_found path None = refused WrongKind path
+items_found path (Some ds) = good (items_list ds)
+
+-- no items where there is no such key
+abbrev pub items_or_none : List ℕ → Option Data → Read (List Data)
+items_or_none path None = good []
+items_or_none path (Some d) = items_found path (as_array d)
+
+-- a list that has to have an item
+unfoldable pub some_items : List ℕ → List Data → Read (List Data)
+some_items path [] = refused Empty path
+some_items path (d ∷ ds) = good (d ∷ ds)

@@ -4,6 +4,19 @@
 #[derive(Clone, Copy, Debug, PartialEq, Eq)]
 pub enum Many {
     AllSync,
+    AllInitial,
+    AllAsync,
+    Failover,
+    MissFailover,
+}
+
+/// A handle that selects one of its policies.
+#[derive(Clone, Copy, Debug, PartialEq, Eq)]
+pub enum Selector {
+    /// By what the rest begins with.
+    Prefix,
+    /// By the operation.
+    Operation,
 }
 
 /// A handle, in the order of the table of handles.
@@ -11,8 +24,11 @@ pub enum Many {
 pub enum Handle {
     Pool,
     Null,
+    Error,
     Many(Many),
-    OperationSelector,
+    WarmUp,
+    Migrate,
+    Selector(Selector),
 }
 
 /// An object of the configuration, by what it stands for.
@@ -20,5 +36,7 @@ pub enum Handle {
 pub enum Object {
     Root,
     Pool,
+    Hash,
+    Shadow,
     Handle(Handle),
 }

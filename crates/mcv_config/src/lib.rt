@@ -7,16 +7,22 @@
 mod config;
 mod fault;
 mod handle;
+mod hash;
+mod items;
 mod name_table;
 mod names;
+mod numbers;
 mod pools;
+mod progress;
 mod read;
 mod routes;
+mod selecting;
 mod server;
 mod texts;
+mod timed;
 mod trail;
 
-pub use config::{Config, Entry, NamedPolicy, NamedRoute, Pool};
+pub use config::{Config, Entry, NamedPolicy, NamedPrefix, NamedRoute, NamedShadow, Pool};
 pub use fault::{ConfigFault, FaultKind};
 pub use read::read_config;
 pub use server::{is_server, server_law};

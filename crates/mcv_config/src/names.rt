@@ -1,17 +1,21 @@
 //! The names of handles, keys and operations.
 
 ghost use Rattle.std.specs.Prelude.{◌≡◌};
-ghost use Rattle.serde_json.specs.View.{members_view};
+ghost use Rattle.serde_json.specs.View.{members_view, view};
 ghost use Rattle.mcv_config.specs.Fault.{Gives};
-ghost use Rattle.mcv_config.specs.Handles.{handle_keys, handle_named, is_elsewhere, is_listed, key_fault, keys, keys_read, later_handles, left_out_handles, left_out_here, left_out_keys, op_named, op_read, other_operations};
+ghost use Rattle.mcv_config.specs.Handles.{default_key, handle_named, is_elsewhere, is_listed, key_fault, keys, keys_read, left_out_handles, left_out_here, left_out_keys, name_fault, op_named, other_operations, policies_key};
 ghost use Rattle.mcv_config.specs.Path.{path_of};
+ghost use Rattle.mcv_config.specs.Routes.{type_read};
 
 use crate::fault::{ConfigFault, FaultKind};
-use crate::handle::{Handle, Many, Object};
+use crate::handle::{Handle, Many, Object, Selector};
 use crate::trail::{Trail, fault};
 use mcv_base::Op;
 use serde_json::{Map, Value};
 use std::alloc::Global;
+
+/// The most bytes of a policy's prefix.
+const PREFIX_LIMIT: usize = 200;
 
 /// The handle with this name, or why there is none.
 #[tactic(auto, unfolding(crate::specs::Handles::handle_named))]
@@ -21,10 +25,18 @@ pub(crate) fn handle_named(name: &str) -> Result<Handle, FaultKind>
     match name {
         "PoolRoute" => Ok(Handle::Pool),
         "NullRoute" => Ok(Handle::Null),
+        "ErrorRoute" => Ok(Handle::Error),
         "AllSyncRoute" => Ok(Handle::Many(Many::AllSync)),
-        "OperationSelectorRoute" => Ok(Handle::OperationSelector),
+        "AllInitialRoute" => Ok(Handle::Many(Many::AllInitial)),
+        "AllAsyncRoute" => Ok(Handle::Many(Many::AllAsync)),
+        "FailoverRoute" => Ok(Handle::Many(Many::Failover)),
+        "MissFailoverRoute" => Ok(Handle::Many(Many::MissFailover)),
+        "WarmUpRoute" => Ok(Handle::WarmUp),
+        "MigrateRoute" => Ok(Handle::Migrate),
+        "PrefixSelectorRoute" => Ok(Handle::Selector(Selector::Prefix)),
+        "OperationSelectorRoute" => Ok(Handle::Selector(Selector::Operation)),
         _ => {
-            if comes_later(name) || is_left_out(name) {
+            if is_left_out(name) {
                 Err(FaultKind::LeftOut)
             } else {
                 Err(FaultKind::UnknownHandle)
@@ -33,20 +45,26 @@ pub(crate) fn handle_named(name: &str) -> Result<Handle, FaultKind>
     }
 }
 
-fn comes_later(name: &str) -> bool
-    ensures { result ≡ is_listed name.now later_handles }
+/// The handle that the `type` of an object names.
+#[tactic(auto, using(crate::proofs::Faults::faults), unfolding(crate::specs::Routes::type_read))]
+pub(crate) fn read_type(
+    alloc: Global,
+    trail: &Trail<'_>,
+    value: &Value,
+) -> Result<Handle, ConfigFault>
+    ensures { Gives (λ handle. handle) result (type_read (path_of trail.now) (view value.now)) }
 {
-    matches!(
-        name,
-        "ErrorRoute"
-            | "AllInitialRoute"
-            | "AllAsyncRoute"
-            | "FailoverRoute"
-            | "MissFailoverRoute"
-            | "WarmUpRoute"
-            | "MigrateRoute"
-            | "PrefixSelectorRoute"
-    )
+    let Some(name) = value.get("type") else {
+        return Err(fault(alloc, FaultKind::WrongKind, trail));
+    };
+    let here = Trail::Key(trail, "type");
+    let Some(text) = name.as_str() else {
+        return Err(fault(alloc, FaultKind::WrongKind, &here));
+    };
+    match handle_named(text) {
+        Ok(handle) => Ok(handle),
+        Err(kind) => Err(fault(alloc, kind, &here)),
+    }
 }
 
 fn is_left_out(name: &str) -> bool
@@ -91,12 +109,42 @@ fn is_key(object: Object, key: &str) -> bool
     match object {
         Object::Root => matches!(key, "pools" | "route"),
         Object::Pool => matches!(key, "servers" | "name"),
-        Object::Handle(Handle::Pool) => matches!(key, "type" | "pool"),
+        Object::Hash => matches!(key, "hash_func" | "salt"),
+        Object::Shadow => matches!(key, "target" | "index_range"),
+        Object::Handle(Handle::Pool) => matches!(key, "type" | "pool" | "hash" | "shadows"),
         Object::Handle(Handle::Null) => key == "type",
+        Object::Handle(Handle::Error) => key == "type",
         Object::Handle(Handle::Many(_)) => matches!(key, "type" | "children"),
-        Object::Handle(Handle::OperationSelector) => {
+        Object::Handle(Handle::WarmUp) => matches!(key, "type" | "cold" | "warm" | "exptime"),
+        Object::Handle(Handle::Migrate) => {
+            matches!(key, "type" | "from" | "to" | "start_time" | "interval")
+        }
+        Object::Handle(Handle::Selector(Selector::Prefix)) => {
+            matches!(key, "type" | "policies" | "wildcard")
+        }
+        Object::Handle(Handle::Selector(Selector::Operation)) => {
             matches!(key, "type" | "operation_policies" | "default_policy")
         }
+    }
+}
+
+/// The key of a selector's policies.
+pub(crate) fn policies_key(selector: Selector) -> &'static str
+    ensures { result.now ≡ policies_key selector }
+{
+    match selector {
+        Selector::Prefix => "policies",
+        Selector::Operation => "operation_policies",
+    }
+}
+
+/// The key of the route for all that no policy of a selector takes.
+pub(crate) fn default_key(selector: Selector) -> &'static str
+    ensures { result.now ≡ default_key selector }
+{
+    match selector {
+        Selector::Prefix => "wildcard",
+        Selector::Operation => "default_policy",
     }
 }
 
@@ -105,11 +153,8 @@ fn is_left_out_here(object: Object, key: &str) -> bool
 {
     match object {
         Object::Root => key == "routes",
-        Object::Pool => false,
-        Object::Handle(Handle::Pool) => matches!(key, "name" | "hash" | "shadows"),
-        Object::Handle(Handle::Null) => key == "name",
-        Object::Handle(Handle::Many(_)) => key == "name",
-        Object::Handle(Handle::OperationSelector) => key == "name",
+        Object::Pool | Object::Hash | Object::Shadow => false,
+        Object::Handle(_) => key == "name",
     }
 }
 
@@ -147,10 +192,11 @@ pub(crate) fn check_keys(
     Ok(())
 }
 
-fn op_named(name: &str) -> Option<Op>
+/// The operation with this name, if a request has it.
+pub(crate) fn op_named(name: &[u8]) -> Option<Op>
     ensures { result ≡ op_named name.now }
 {
-    Op::named(name.as_bytes())
+    Op::named(name)
 }
 
 fn is_other_operation(name: &str) -> bool
@@ -162,22 +208,47 @@ fn is_other_operation(name: &str) -> bool
     )
 }
 
-/// The operation with this name; None for one that no request has.
-#[tactic(auto, using(crate::proofs::Faults::faults), unfolding(crate::specs::Handles::op_read))]
-pub(crate) fn read_op(
+#[tactic(auto, unfolding(crate::specs::Handles::name_fault))]
+fn name_fault(selector: Selector, name: &str) -> Option<FaultKind>
+    ensures { result ≡ name_fault selector name.now }
+{
+    match selector {
+        Selector::Prefix => {
+            if name.len() > PREFIX_LIMIT {
+                Some(FaultKind::Limit)
+            } else {
+                None
+            }
+        }
+        Selector::Operation => match op_named(name.as_bytes()) {
+            Some(_) => None,
+            None => {
+                if is_other_operation(name) {
+                    None
+                } else {
+                    Some(FaultKind::UnknownKey)
+                }
+            }
+        },
+    }
+}
+
+/// Each name is one that a policy of the selector may have.
+#[tactic(auto, using(crate::proofs::Faults::faults), unfolding(crate::specs::Handles::keys_read))]
+pub(crate) fn check_names(
     alloc: Global,
     trail: &Trail<'_>,
-    name: &str,
-) -> Result<Option<Op>, ConfigFault>
-    ensures { Gives (λ op. op) result (op_read (path_of trail.now) name.now) }
+    selector: Selector,
+    members: &Map<String, Value>,
+) -> Result<(), ConfigFault>
+    ensures { Gives (λ _. tt) result (keys_read (name_fault selector) (path_of trail.now) (members_view members.now.entries)) }
 {
-    if let Some(op) = op_named(name) {
-        return Ok(Some(op));
+    for (name, _) in members.iter() {
+        if let Some(kind) = name_fault(selector, name.as_str()) {
+            return Err(fault(alloc, kind, &Trail::Key(trail, name.as_str())));
+        }
     }
-    if is_other_operation(name) {
-        return Ok(None);
-    }
-    Err(fault(alloc, FaultKind::UnknownKey, trail))
+    Ok(())
 }
 
 /// Whether a text stands for an import or a macro.

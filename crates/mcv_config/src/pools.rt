@@ -98,7 +98,7 @@ fn read_names(alloc: Global, members: &Map<String, Value>) -> Result<NameTable, 
 }
 
 #[tactic(auto, using(crate::proofs::Faults::faults), unfolding(crate::specs::Pools::pool_read))]
-fn read_pool(
+pub(crate) fn read_pool(
     alloc: Global,
     servers: &mut Servers,
     trail: &Trail<'_>,

@@ -14,6 +14,7 @@ use crate::fault::{ConfigFault, FaultKind};
 use crate::handle::Object;
 use crate::names::check_keys;
 use crate::pools::{NamedPools, read_pools};
+use crate::progress::Progress;
 use crate::routes::read_route;
 use crate::trail::{Trail, fault};
 use mcv_base::Prefix;
@@ -75,15 +76,24 @@ fn read_plan(alloc: Global, trail: &Trail<'_>, value: &Value) -> Result<Config, 
 {
     let in_pools = Trail::Key(trail, "pools");
     let mut servers = Servers::new(alloc);
-    let named = read_pools(alloc, &mut servers, &in_pools, value.get("pools"))?;
+    let pools = read_pools(alloc, &mut servers, &in_pools, value.get("pools"))?;
     let Some(route) = value.get("route") else {
         return Err(fault(alloc, FaultKind::WrongKind, trail));
     };
-    let mut room = NODE_LIMIT;
+    let mut so_far = Progress {
+        room: NODE_LIMIT,
+        pools,
+        servers,
+    };
     let in_route = Trail::Key(trail, "route");
-    let route = read_route(alloc, &named, DEPTH_LIMIT, &mut room, &in_route, route)?;
+    let route = read_route(alloc, DEPTH_LIMIT, &mut so_far, &in_route, route)?;
     let entries = only_entry(alloc, route)?;
-    let NamedPools { names: _, pools } = named;
+    let Progress {
+        room: _,
+        pools,
+        servers,
+    } = so_far;
+    let NamedPools { names: _, pools } = pools;
     Ok(Config {
         servers,
         pools,

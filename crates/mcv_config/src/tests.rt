@@ -1,5 +1,6 @@
 use super::*;
 use mcv_base::{Op, ServerId};
+use mcv_pools::HashFunc;
 use std::alloc::Global;
 use std::process::Abort;
 use std::test::Fail;
@@ -31,10 +32,10 @@ configuration 4 at /route/type = {\"route\":{\"type\":\"SomeRoute\"}}
 configuration 10 at /route = {\"route\":\"@import\"}
 configuration 10 at /route = {\"route\":\"AllSyncRoute|%macro%\"}
 configuration 10 at /route = {\"route\":\"PoolRoute|@pool\"}
-configuration 10 at /route = {\"route\":\"FailoverRoute|NullRoute\"}
+configuration 3 at /route = {\"route\":\"WarmUpRoute|NullRoute\"}
 configuration 10 at /route/type = {\"route\":{\"type\":\"RandomRoute\",\"children\":[\"PoolRoute|A\"]}}
-configuration 10 at /route/pool = {\"route\":{\"type\":\"PoolRoute\",\"pool\":{\"servers\":[\"a:1\"]}}}
-configuration 10 at /route/hash = {\"pools\":{\"A\":{\"servers\":[\"a:1\"]}},\"route\":{\"type\":\"PoolRoute\",\"pool\":\"A\",\"hash\":\"Ch3\"}}
+configuration 3 at /route/pool = {\"route\":{\"type\":\"PoolRoute\",\"pool\":7}}
+configuration 6 at /route/pool/servers = {\"route\":{\"type\":\"PoolRoute\",\"pool\":{\"servers\":[]}}}
 configuration 10 at /route/name = {\"route\":{\"type\":\"NullRoute\",\"name\":\"n\"}}
 configuration 2 at /route/hash = {\"route\":{\"type\":\"NullRoute\",\"hash\":\"Ch3\"}}
 configuration 6 at /route/children = {\"route\":{\"type\":\"AllSyncRoute\",\"children\":[]}}
@@ -42,6 +43,46 @@ configuration 3 at /route/children/1 = {\"route\":{\"type\":\"AllSyncRoute\",\"c
 configuration 2 at /route/operation_policies/gat = {\"route\":{\"type\":\"OperationSelectorRoute\",\"operation_policies\":{\"gat\":\"NullRoute\"}}}
 configuration 3 at /route/operation_policies = {\"route\":{\"type\":\"OperationSelectorRoute\",\"operation_policies\":[]}}
 configuration 4 at /route/default_policy = {\"route\":{\"type\":\"OperationSelectorRoute\",\"default_policy\":\"x\"}}";
+
+/// A fault of a PoolRoute, and the hash that has it.
+const REFUSED_HASHES: &str = "\
+3 at /hash = 7
+10 at /hash = \"Murmur\"
+10 at /hash/hash_func = {\"hash_func\":\"crc32\"}
+3 at /hash/hash_func = {\"hash_func\":1}
+3 at /hash/salt = {\"salt\":[]}
+2 at /hash/n = {\"n\":1}";
+
+/// A fault of a PoolRoute, and the shadows that have it.
+const REFUSED_SHADOWS: &str = "\
+3 at /shadows = {}
+3 at /shadows/0 = [1]
+3 at /shadows/0 = [{\"target\":\"NullRoute\"}]
+3 at /shadows/0 = [{\"index_range\":[0,1]}]
+3 at /shadows/0/index_range = [{\"target\":\"NullRoute\",\"index_range\":[1,0]}]
+3 at /shadows/0/index_range = [{\"target\":\"NullRoute\",\"index_range\":[0]}]
+3 at /shadows/0/index_range = [{\"target\":\"NullRoute\",\"index_range\":[0,1,2]}]
+3 at /shadows/0/index_range = [{\"target\":\"NullRoute\",\"index_range\":0}]
+3 at /shadows/0/index_range/1 = [{\"target\":\"NullRoute\",\"index_range\":[0,-1]}]
+4 at /shadows/0/target = [{\"target\":\"x\",\"index_range\":[0,1]}]
+10 at /shadows/0/key_fraction_range = [{\"target\":\"NullRoute\",\"index_range\":[0,1],\"key_fraction_range\":[0,1]}]
+2 at /shadows/0/name = [{\"target\":\"NullRoute\",\"index_range\":[0,1],\"name\":\"s\"}]";
+
+/// A fault, and the route that has it.
+const REFUSED_ROUTES: &str = "\
+3 at /route = {\"type\":\"WarmUpRoute\",\"cold\":\"NullRoute\"}
+4 at /route/warm = {\"type\":\"WarmUpRoute\",\"cold\":\"NullRoute\",\"warm\":\"x\"}
+3 at /route/exptime = {\"type\":\"WarmUpRoute\",\"cold\":\"NullRoute\",\"warm\":\"NullRoute\",\"exptime\":-1}
+7 at /route/exptime = {\"type\":\"WarmUpRoute\",\"cold\":\"NullRoute\",\"warm\":\"NullRoute\",\"exptime\":4294967296}
+3 at /route = {\"type\":\"MigrateRoute\",\"from\":\"NullRoute\",\"to\":\"NullRoute\"}
+3 at /route/start_time = {\"type\":\"MigrateRoute\",\"from\":\"NullRoute\",\"to\":\"NullRoute\",\"start_time\":\"1000\"}
+3 at /route/interval = {\"type\":\"MigrateRoute\",\"from\":\"NullRoute\",\"to\":\"NullRoute\",\"start_time\":1,\"interval\":0.5}
+4 at /route/from = {\"type\":\"MigrateRoute\",\"from\":\"x\",\"to\":\"NullRoute\",\"start_time\":1}
+3 at /route/policies = {\"type\":\"PrefixSelectorRoute\",\"policies\":[\"a\"]}
+4 at /route/policies/a = {\"type\":\"PrefixSelectorRoute\",\"policies\":{\"a\":\"x\"}}
+4 at /route/wildcard = {\"type\":\"PrefixSelectorRoute\",\"wildcard\":\"x\"}
+2 at /route/default_policy = {\"type\":\"PrefixSelectorRoute\",\"default_policy\":\"NullRoute\"}
+10 at /route/failover_errors = {\"type\":\"FailoverRoute\",\"children\":[\"NullRoute\"],\"failover_errors\":[\"tko\"]}";
 
 /// Server texts that are none.
 const NO_SERVERS: &str = "a:0 a:65536 a:01 a a: :1 a:1:ascii a:b:1 [::1:1 ::1]:1 a:100000";
@@ -63,6 +104,96 @@ fn faults_have_their_numbers_and_paths(rt: HostRuntime) -> Result<(), Fail> {
         let (fault, text) = case.split_once(" = ").ok_or("no case")?;
         assert_eq!(rt; answer(alloc, text)?.as_str(), fault);
     }
+    Ok(())
+}
+
+/// Each line is a fault after `at` and a text; the text stands between two others.
+fn check_rows(
+    rt: &impl Abort,
+    alloc: Global,
+    rows: &str,
+    before: &str,
+    after: &str,
+    path: &str,
+) -> Result<(), Fail> {
+    for row in rows.lines() {
+        let (fault, text) = row.split_once(" = ").ok_or("no case")?;
+        let (number, place) = fault.split_once(" at ").ok_or("no place")?;
+        let whole = format!(in alloc; "{before}{text}{after}")?;
+        let expected = format!(in alloc; "configuration {number} at {path}{place}")?;
+        assert_eq!(rt; answer(alloc, whole.as_str())?.as_str(), expected.as_str());
+    }
+    Ok(())
+}
+
+#[test]
+fn hashes_have_faults(rt: HostRuntime) -> Result<(), Fail> {
+    let before = "{\"route\":{\"type\":\"PoolRoute\",\"pool\":{\"servers\":[\"a:1\"]},\"hash\":";
+    check_rows(&rt, rt.alloc(), REFUSED_HASHES, before, "}}", "/route")
+}
+
+#[test]
+fn shadows_have_faults(rt: HostRuntime) -> Result<(), Fail> {
+    let before = "{\"route\":{\"type\":\"PoolRoute\",\"pool\":{\"servers\":[\"a:1\"]},\"shadows\":";
+    check_rows(&rt, rt.alloc(), REFUSED_SHADOWS, before, "}}", "/route")
+}
+
+#[test]
+fn fields_have_faults(rt: HostRuntime) -> Result<(), Fail> {
+    check_rows(&rt, rt.alloc(), REFUSED_ROUTES, "{\"route\":", "}", "")
+}
+
+fn with_prefix(alloc: Global, bytes: usize) -> Result<String, Fail> {
+    let mut text = String::from_str(
+        alloc,
+        "{\"route\":{\"type\":\"PrefixSelectorRoute\",\"policies\":{\"",
+    )?;
+    for _ in 0..bytes {
+        text.push('a')?;
+    }
+    text.push_str("\":\"NullRoute\"}}}")?;
+    Ok(text)
+}
+
+#[test]
+fn a_prefix_has_at_most_200_bytes(rt: HostRuntime) -> Result<(), Fail> {
+    let alloc = rt.alloc();
+    assert_eq!(rt;
+        answer(alloc, with_prefix(alloc, 200)?.as_str())?.as_str(),
+        "read"
+    );
+    match read_config(alloc, with_prefix(alloc, 201)?.as_bytes()) {
+        Ok(_) => Err(Fail::from("a fault")),
+        Err(fault) => {
+            assert_eq!(rt; fault.number(), 7);
+            Ok(())
+        }
+    }
+}
+
+fn with_salt(alloc: Global, bytes: usize) -> Result<String, Fail> {
+    let mut text = String::from_str(
+        alloc,
+        "{\"route\":{\"type\":\"PoolRoute\",\"pool\":{\"servers\":[\"a:1\"]},\"hash\":{\"salt\":\"",
+    )?;
+    for _ in 0..bytes {
+        text.push('a')?;
+    }
+    text.push_str("\"}}}")?;
+    Ok(text)
+}
+
+#[test]
+fn a_salt_has_at_most_200_bytes(rt: HostRuntime) -> Result<(), Fail> {
+    let alloc = rt.alloc();
+    assert_eq!(rt;
+        answer(alloc, with_salt(alloc, 200)?.as_str())?.as_str(),
+        "read"
+    );
+    assert_eq!(rt;
+        answer(alloc, with_salt(alloc, 201)?.as_str())?.as_str(),
+        "configuration 7 at /route/hash/salt"
+    );
     Ok(())
 }
 
@@ -207,7 +338,7 @@ fn servers_are_numbered_by_first_appearance(rt: HostRuntime) -> Result<(), Fail>
 }
 
 fn is_pool(route: &NamedRoute, number: usize) -> bool {
-    matches!(route, NamedRoute::Pool(pool) if *pool == number)
+    matches!(route, NamedRoute::Pool { pool, .. } if *pool == number)
 }
 
 fn is_server_of(route: &NamedRoute, number: usize, place: usize) -> bool {
@@ -267,5 +398,106 @@ fn a_fault_tells_its_number_and_path(rt: HostRuntime) -> Result<(), Fail> {
             assert_eq!(rt; ConfigFault::Memory.path(), "");
             Ok(())
         }
+    }
+}
+
+const SHADOWED: &str = "{
+  \"pools\": {\"A\": {\"servers\": [\"a:1\", \"b:1\"]}},
+  \"route\": {
+    \"type\": \"PoolRoute\",
+    \"pool\": {\"servers\": [\"b:1\", \"c:1\"]},
+    \"hash\": {\"hash_func\": \"Crc32\", \"salt\": \"x\"},
+    \"shadows\": [{\"target\": \"PoolRoute|A\", \"index_range\": [1, 18446744073709551615]}]
+  }
+}";
+
+fn check_shadow(rt: &impl Abort, shadows: &[NamedShadow]) -> Result<(), Fail> {
+    let [shadow] = shadows else {
+        return Err(Fail::from("one shadow"));
+    };
+    assert_eq!(rt; shadow.first, 1);
+    assert_eq!(rt; shadow.last, 18_446_744_073_709_551_615);
+    assert!(rt; is_pool(&shadow.target, 0));
+    Ok(())
+}
+
+#[test]
+fn a_pool_has_a_hash_and_shadows(rt: HostRuntime) -> Result<(), Fail> {
+    let config = read_config(rt.alloc(), SHADOWED.as_bytes())?;
+    assert_eq!(rt; config.pools.len(), 2);
+    assert_eq!(rt; config.servers.find("c:1"), Some(ServerId(2)));
+    let entry = config.entries.as_slice().first().ok_or("an entry")?;
+    match &entry.route {
+        NamedRoute::Pool {
+            pool,
+            func,
+            salt,
+            shadows,
+        } => {
+            assert_eq!(rt; *pool, 1);
+            assert_eq!(rt; *func, HashFunc::Crc32);
+            assert_eq!(rt; salt.as_slice(), b"x".as_slice());
+            check_shadow(&rt, shadows.as_slice())
+        }
+        _ => Err(Fail::from("a pool")),
+    }
+}
+
+const IN_PHASES: &str = "{
+  \"pools\": {\"A\": {\"servers\": [\"a:1\"]}, \"B\": {\"servers\": [\"b:1\"]}},
+  \"route\": {
+    \"type\": \"MigrateRoute\",
+    \"from\": {\"type\": \"WarmUpRoute\", \"cold\": \"PoolRoute|B\", \"warm\": \"PoolRoute|A\", \"exptime\": 60},
+    \"to\": \"PoolRoute|A\",
+    \"start_time\": 1000
+  }
+}";
+
+#[test]
+fn a_migration_takes_an_hour(rt: HostRuntime) -> Result<(), Fail> {
+    let config = read_config(rt.alloc(), IN_PHASES.as_bytes())?;
+    let entry = config.entries.as_slice().first().ok_or("an entry")?;
+    match &entry.route {
+        NamedRoute::Migrate {
+            from,
+            to,
+            start,
+            interval,
+        } => {
+            assert_eq!(rt; *start, 1_000);
+            assert_eq!(rt; *interval, 3_600);
+            assert!(rt; is_pool(&**to, 0));
+            assert!(rt; matches!(&**from, NamedRoute::WarmUp { exptime: 60, .. }));
+            Ok(())
+        }
+        _ => Err(Fail::from("a migration")),
+    }
+}
+
+const BY_PREFIX: &str = "{
+  \"pools\": {\"A\": {\"servers\": [\"a:1\"]}},
+  \"route\": {
+    \"type\": \"PrefixSelectorRoute\",
+    \"policies\": {\"b\": \"NullRoute\", \"ab\": \"PoolRoute|A\"},
+    \"wildcard\": \"MissFailoverRoute|ErrorRoute\"
+  }
+}";
+
+#[test]
+fn prefixes_stand_in_byte_order(rt: HostRuntime) -> Result<(), Fail> {
+    let config = read_config(rt.alloc(), BY_PREFIX.as_bytes())?;
+    let entry = config.entries.as_slice().first().ok_or("an entry")?;
+    match &entry.route {
+        NamedRoute::PrefixSelector { policies, wildcard } => {
+            let [first, second] = policies.as_slice() else {
+                return Err(Fail::from("two policies"));
+            };
+            assert_eq!(rt; first.prefix.as_slice(), b"ab".as_slice());
+            assert!(rt; is_pool(&first.route, 0));
+            assert_eq!(rt; second.prefix.as_slice(), b"b".as_slice());
+            assert!(rt; matches!(wildcard.as_deref(), Some(NamedRoute::MissFailover(_))));
+            Ok(())
+        }
+        _ => Err(Fail::from("a selector")),
     }
 }

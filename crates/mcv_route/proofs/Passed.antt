@@ -1,18 +1,19 @@
 -- The break that opened an era, and the number of the era.
-use Rattle.std.proofs.Common.{◌≡◌, ℕ, suc, ◌+◌, ◌<◌, ◌≤◌, List, [], ◌∷◌, Bool, true, false, cond, Option, Some, None, max, refl, ap, sym, subst, ◌∙◌, arith, length}
+use Rattle.std.proofs.Common.{◌≡◌, ℕ, suc, ◌+◌, ◌<◌, ◌≤◌, List, [], ◌∷◌, Bool, true, false, cond, Option, Some, None, max, refl, ap, sym, subst, ◌∙◌, arith, length, get_or}
 use Rattle.std.specs.Prelude.{nat_le, nat_lt, nat_eq, filter}
 use Rattle.std.specs.List.{All, Contains}
 use Rattle.std.specs.Option.{option_map_or}
 use Rattle.std.proofs.lemmas.Grind.{common_steps}
-use Rattle.std.proofs.lemmas.List.Elements.{All-nil, All-cons, All-tail, All-head, All-weaker}
+use Rattle.std.proofs.lemmas.List.Elements.{All-nil, All-cons, All-tail, All-head, All-contains}
 use Rattle.mcv_pools.specs.Table.{numbered}
-use Rattle.mcv_route.specs.Eras.{passed, greatest, since_at, era_at, IsSince, SinceIsTheLastBreak, ErasAreOpenedByBreaks}
+use Rattle.mcv_route.specs.Eras.{passed, greatest, since_at, era_at, IsSince, SinceIsTheLastBreak, ErasAreOpenedByBreaks, ErasTellWhatHasPassed}
+use Rattle.mcv_route.specs.Situation.{has_passed}
 
 -- a break is among the breaks, before another one too
-here : (b : ℕ) (bs : List ℕ) → Contains (b ∷ bs) b
+pub here : (b : ℕ) (bs : List ℕ) → Contains (b ∷ bs) b
 here b bs = (0, omega arith, refl)
 
-there : (b s : ℕ) (bs : List ℕ) → Contains bs s → Contains (b ∷ bs) s
+pub there : (b s : ℕ) (bs : List ℕ) → Contains bs s → Contains (b ∷ bs) s
 there b s bs h = (suc h.0, omega (arith, h.1), h.2)
 
 larger : (b s : ℕ) (bs : List ℕ) (m : ℕ) → b ≤ m → (o : Bool) → nat_le b s ≡ o → Contains bs s → s ≤ m → All (λ c. c ≤ m → c ≤ s) bs
@@ -57,11 +58,25 @@ same-test : (b m n : ℕ) → (b ≤ m → b ≤ n) → (b ≤ n → b ≤ m) �
 same-test b m n f g = grind (arith, common_steps)
 
 same-since : (bs : List ℕ) (m n : ℕ) (s : Option ℕ) → IsSince bs m s → IsSince bs n s → All (λ b. nat_le b m ≡ nat_le b n) bs
-same-since bs m n None f g = λ k d h. same-test _ m n (λ e. let far = f k d h in absurd (omega (arith, far, e))) (λ e. let far = g k d h in absurd (omega (arith, far, e)))
-same-since bs m n (Some s) f g = λ k d h. same-test _ m n (λ e. let low = f.2 k d h e in let up = g.1 in omega (arith, low, up)) (λ e. let low = g.2 k d h e in let up = f.1 in omega (arith, low, up))
+same-since bs m n None f g = λ k d h. same-test (get_or bs k d) m n (λ e. let far = f k d h in absurd (omega (arith, far, e))) (λ e. let far = g k d h in absurd (omega (arith, far, e)))
+same-since bs m n (Some s) f g = λ k d h. same-test (get_or bs k d) m n (λ e. let low = f.2 k d h e in let up = g.1 in omega (arith, low, up)) (λ e. let low = g.2 k d h e in let up = f.1 in omega (arith, low, up))
 
 pub eras_are_opened : ErasAreOpenedByBreaks
 eras_are_opened bs m n e =
     let P : Option ℕ → Type 0 = λ s. IsSince bs n s in
     let other : IsSince bs n (since_at bs m) = subst P (sym e) (since_is_last bs n) in
     ap (λ xs. length (numbered nat_eq xs)) (same-passed bs m n (same-since bs m n (since_at bs m) (since_is_last bs m) other))
+
+-- a break that hasn't passed by the moment
+not-passed : (b m : ℕ) → m < b → false ≡ nat_le b m
+not-passed b m h = grind (arith, common_steps)
+
+tells-passed : (bs : List ℕ) (m b : ℕ) (s : Option ℕ) → IsSince bs m s → Contains bs b → has_passed s b ≡ nat_le b m
+tells-passed bs m b None f h = not-passed b m (All-contains (λ c. m < c) bs b f h)
+tells-passed bs m b (Some s) f h =
+    let below : b ≤ m → b ≤ s = All-contains (λ c. c ≤ m → c ≤ s) bs b f.2 h in
+    let before : s ≤ m = f.1 in
+    same-test b s m (λ e. omega arith) below
+
+pub eras_tell : ErasTellWhatHasPassed
+eras_tell bs m b h = tells-passed bs m b (since_at bs m) (since_is_last bs m) h
