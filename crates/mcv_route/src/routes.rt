@@ -128,7 +128,7 @@ impl Routes {
     pub fn breaks(&self) -> &[Moment]
         ensures { IsBreakTable (breaks_of self.now) (map (λ m. m.0) result.now) }
     {
-        &self.break_table
+        self.break_table.as_slice()
     }
 
     /// The last break of the routes at the moment or before it, which opened the moment's era; None in the

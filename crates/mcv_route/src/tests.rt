@@ -38,6 +38,19 @@ const MIGRATION: &str = "{
   }
 }";
 
+/// Two prefixes, and a wildcard whose children are the servers of B.
+const PREFIXES: &str = "{
+  \"pools\": {
+    \"A\": {\"servers\": [\"a:1\"]},
+    \"B\": {\"servers\": [\"b:1\", \"c:1\"]}
+  },
+  \"route\": {
+    \"type\": \"PrefixSelectorRoute\",
+    \"wildcard\": \"FailoverRoute|Pool|B\",
+    \"policies\": {\"ab\": \"PoolRoute|B\", \"a\": \"PoolRoute|A\"}
+  }
+}";
+
 fn routes(rt: &impl Abort, alloc: Global, text: &str) -> Result<Routes, AllocError> {
     match read_config(alloc, text.as_bytes()) {
         Ok(config) => Routes::build(alloc, config),
@@ -137,6 +150,24 @@ fn sides_and_shadows_have_places(rt: HostRuntime) -> Result<(), Fail> {
         (&[1, 1], "1: c:1"),
         (&[1, 2], "0: a:1 b:1"),
         (&[1, 3], ""),
+    ];
+    for (steps, text) in cases {
+        let found = shown(alloc, &routes, 0, steps)?;
+        assert_eq!(rt; found.as_str(), text);
+    }
+    Ok(())
+}
+
+#[test]
+fn the_wildcard_stands_after_all_prefixes(rt: HostRuntime) -> Result<(), Fail> {
+    let alloc = rt.alloc();
+    let routes = routes(&rt, alloc, PREFIXES)?;
+    let cases: [(&[usize], &str); 5] = [
+        (&[0], "0: a:1"),
+        (&[1], "1: b:1 c:1"),
+        (&[2, 0], "0: b:1"),
+        (&[2, 1], "0: c:1"),
+        (&[3], ""),
     ];
     for (steps, text) in cases {
         let found = shown(alloc, &routes, 0, steps)?;

@@ -2,4 +2,4 @@ use Rattle.std.proofs.Common.{◌≡◌}
 use Rattle.mcv_route.proofs.routes.Routes.breaks.Goals as goal
 
 pub returns : goal.returns
-returns c = rw (← c.self.view_is, c.deref.ensures.value) c.self.invariant.table
+returns c = rw (← c.self.view_is, c.as_slice.ensures.value) c.self.invariant.table
