@@ -10,4 +10,5 @@ pub mod SoundPools
 pub mod Later
 pub mod SoundRoutes
 pub mod Sound
+pub mod Limits
 mod Examples

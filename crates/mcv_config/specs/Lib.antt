@@ -12,4 +12,5 @@ pub mod Shadows
 pub mod Selectors
 pub mod Routes
 pub mod Config
+pub mod Limits
 pub mod View

@@ -5,6 +5,7 @@ ghost use Rattle.serde_json.specs.View.{view};
 ghost use Rattle.mcv_base.specs.Key.{default_prefix};
 ghost use Rattle.mcv_config.specs.Config.{Faulty, Names, plan_read, root};
 ghost use Rattle.mcv_config.specs.Fault.{Gives, Refuses};
+ghost use Rattle.mcv_config.specs.Limits.{IsWithinLimits};
 ghost use Rattle.mcv_config.specs.Path.{path_of};
 ghost use Rattle.mcv_config.specs.Plan.{IsSound, Plan, entry_plan, named_of, plan_of};
 ghost use Rattle.mcv_config.specs.declared.fault.ConfigFault.TheVariants.{Memory};
@@ -44,6 +45,8 @@ pub fn read_config(alloc: Global, text: &[u8]) -> Result<Config, ConfigFault>
     ensures faulty { IfErr result (λ e. Refuses e (Faulty text.now)) }
     // Every number in it names something, and nothing is empty.
     ensures sound { IfOk result (λ config. IsSound (plan_of config)) }
+    // It is no larger than the limits.
+    ensures limits { IfOk result (λ config. IsWithinLimits (plan_of config)) }
 {
     if text.len() > SIZE_LIMIT {
         return Err(fault(alloc, FaultKind::Limit, &Trail::Root));

@@ -1,7 +1,10 @@
 -- What callers see of `Routes`: the tables of servers and symbols, and the trees of the routes (own).
-use Rattle.std.specs.Prelude.{◌≡◌, ◌≢◌, ℕ, ◌<◌, List, Option, Some, length, slice_get, option_map}
-use Rattle.std.specs.List.{All}
+use Rattle.std.specs.Prelude.{◌≡◌, ◌≢◌, ℕ, ◌<◌, ◌≤◌, List, Option, Some, length, slice_get, option_map}
+use Rattle.std.specs.List.{All, sum_by}
+use Rattle.mcv_config.specs.Config.{depth_limit, node_limit}
+use Rattle.mcv_config.specs.Hash.{salt_limit}
 use Rattle.mcv_pools.specs.Symbol.{SymbolValue}
+use Rattle.mcv_route.specs.Limits.{handles_in, IsWithin}
 use Rattle.mcv_route.specs.Tree.{Pool, Tree, Trees, pool, null, error, all_sync, all_initial, all_async, failover, miss_failover, warm_up, migrate, prefix_selector, operation_selector, none, child}
 
 pub record RouteEntry : Type 0 where
@@ -42,6 +45,10 @@ abbrev mutual
   AreSoundTrees servers symbols none = Unit {0}
   AreSoundTrees servers symbols (child t ts) = IsSoundTree servers symbols t × AreSoundTrees servers symbols ts
 
--- all trees are sound. That the tables have nothing twice is said by `Servers` and `Symbols`
-abbrev pub IsSoundRoutes : RoutesValue → Type 0
-IsSoundRoutes r = All (λ e. IsSoundTree (length r.servers) r.symbols e.tree) r.entries
+-- All trees are sound, and all keep to their limits: the levels of handles, the handles of all routes together, and the
+-- bytes of salts. That the tables have nothing twice, and how many servers there may be, is said by `Servers` and `Symbols`.
+pub record IsSoundRoutes (r : RoutesValue) : Type 0 where
+  pub trees : All (λ e. IsSoundTree (length r.servers) r.symbols e.tree) r.entries
+  pub levels : All (λ e. IsWithin depth_limit e.tree) r.entries
+  pub handles : sum_by (λ e. handles_in e.tree) r.entries ≤ node_limit
+  pub salts : All (λ s. length s.salt ≤ salt_limit) r.symbols

@@ -17,7 +17,7 @@ routes_view r = record { servers = r.servers; symbols = r.symbols; entries = map
 abbrev pub numbers_of : List Moment → List ℕ
 numbers_of moments = map (λ m. m.0) moments
 
--- the trees are sound, and the table of breaks is that of the trees
+-- the routes are sound, and the table of breaks is that of the trees
 pub record AreSound (r : Inside) : Type 0 where
-  pub trees : IsSoundRoutes (routes_view r)
+  pub sound : IsSoundRoutes (routes_view r)
   pub table : IsBreakTable (breaks_of (routes_view r)) (numbers_of r.break_table.items)

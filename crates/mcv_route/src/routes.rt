@@ -2,6 +2,7 @@
 
 ghost use Rattle.std.specs.Prelude.{◌≡◌, ◌<◌, [], ◌∷◌, Some, None, IfOk, length, map, option_map, position, slice_get};
 ghost use Rattle.std.specs.List.{All, flat_map};
+ghost use Rattle.mcv_config.specs.Limits.{IsWithinLimits};
 ghost use Rattle.mcv_config.specs.Plan.{IsSound, IsSoundRoute, named_of, plan_of};
 ghost use Rattle.mcv_route.specs.Built.{routes_named};
 ghost use Rattle.mcv_route.specs.Eras.{breaks, breaks_of, era_at, since_at, IsBreakTable};
@@ -58,7 +59,8 @@ impl Routes {
     /// The routes that a configuration names, its symbols numbered in the order in which the walk of the
     /// routes meets them. An error where memory runs out.
     pub fn build(alloc: Global, config: Config) -> Result<Routes, AllocError>
-        requires { IsSound (plan_of config) }
+        requires sound { IsSound (plan_of config) }
+        requires limits { IsWithinLimits (plan_of config) }
         ensures { IfOk result (λ r. r ≡ routes_named (plan_of config)) }
     {
         let Config {
