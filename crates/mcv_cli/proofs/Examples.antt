@@ -1,6 +1,7 @@
 -- What clap makes of short command lines.
-use Rattle.std.proofs.Common.{◌≡◌, [], ◌∷◌, Some, refl, codes}
-use Rattle.clap.specs.declared.error.kind.ErrorKind.TheVariants.{DisplayHelp, InvalidSubcommand, MissingSubcommand, UnknownArgument}
+use Rattle.std.proofs.Common.{◌≡◌, [], ◌∷◌, List, Option, Some, refl, codes, option_map}
+use Rattle.clap.specs.Words.{Row, Text, one_of}
+use Rattle.clap.specs.declared.error.kind.ErrorKind.TheVariants.{ArgumentConflict, DisplayHelp, InvalidSubcommand, MissingSubcommand, UnknownArgument, ValueValidation}
 use Rattle.clap.proofs.OnLiterals.{clap_on_literals}
 use Rattle.mcv_cli.specs.Words.{faults, named}
 
@@ -8,9 +9,32 @@ legs : faults (codes "mcv" ∷ codes "legs" ∷ []) ≡ []
 unfolding clap_on_literals
 legs = refl
 
-legs_named : named (codes "mcv" ∷ codes "legs" ∷ []) ≡ Some (codes "legs", [])
+abbrev at_of : Option (Text × List Row) → Option (Option Text)
+at_of = option_map (λ p. one_of (codes "at") p.1)
+
+legs_named : at_of (named (codes "mcv" ∷ codes "legs" ∷ [])) ≡ Some (Some (codes "0"))
 unfolding clap_on_literals
 legs_named = refl
+
+at : faults (codes "mcv" ∷ codes "legs" ∷ codes "--at" ∷ codes "8199" ∷ []) ≡ []
+unfolding clap_on_literals
+at = refl
+
+at_named : at_of (named (codes "mcv" ∷ codes "legs" ∷ codes "--at" ∷ codes "8199" ∷ [])) ≡ Some (Some (codes "8199"))
+unfolding clap_on_literals
+at_named = refl
+
+at_joined : at_of (named (codes "mcv" ∷ codes "legs" ∷ codes "--at=18446744073709551615" ∷ [])) ≡ Some (Some (codes "18446744073709551615"))
+unfolding clap_on_literals
+at_joined = refl
+
+no_number : faults (codes "mcv" ∷ codes "legs" ∷ codes "--at" ∷ codes "soon" ∷ []) ≡ ValueValidation ∷ []
+unfolding clap_on_literals
+no_number = refl
+
+at_twice : faults (codes "mcv" ∷ codes "legs" ∷ codes "--at" ∷ codes "1" ∷ codes "--at" ∷ codes "2" ∷ []) ≡ ArgumentConflict ∷ []
+unfolding clap_on_literals
+at_twice = refl
 
 no_command : faults (codes "mcv" ∷ []) ≡ MissingSubcommand ∷ []
 unfolding clap_on_literals

@@ -1,3 +1,5 @@
 mod Examples
-pub mod Matches
 pub mod Taken
+pub mod Given
+pub mod Matches
+pub mod Finished

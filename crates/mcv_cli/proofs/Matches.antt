@@ -1,15 +1,18 @@
 -- What clap's matches and errors say of the words.
-use Rattle.std.proofs.Common.{◌≡◌, ◌≢◌, ◌∙◌, ◌⊎◌, inl, inr, List, Option, Some, None, refl, ap, ap₂, subst, sym}
-use Rattle.std.specs.Prelude.{Box, option_map}
+use Rattle.std.proofs.Common.{◌≡◌, ◌≢◌, ◌∙◌, ◌⊎◌, inl, inr, ℕ, List, Option, Some, None, false, codes, refl, ap, ap₂, subst, sym}
+use Rattle.std.specs.Prelude.{Box, Result, Ok, Err, option_map}
+use Rattle.std.specs.Str.Parse.{ParsesUnsigned}
 use Rattle.std.specs.Box.{box_value}
-use Rattle.clap.specs.Words.{IsAmong, Row, Text, rows_of, subcommand_rows_of, subcommand_name_of}
+use Rattle.clap.specs.Words.{IsAmong, ReadsOne, Row, Text, one_of, rows_of, subcommand_rows_of, subcommand_name_of}
+use Rattle.clap.proofs.ValueTestLemmas.{accepts-Accepts}
 use Rattle.clap.specs.declared.error.kind.ErrorKind.{ErrorKind}
 use Rattle.clap.specs.declared.error.kind.ErrorKind.TheVariants.{OutOfMemory}
 use Rattle.clap.specs.declared.parser.matches.ArgMatches.{ArgMatches}
 use Rattle.clap.specs.declared.parser.matches.ArgMatches.TheViews.{out-ArgMatches, out-SubCommand}
 use Rattle.clap.specs.declared.parser.matches.SubCommand.{SubCommand}
 use Rattle.clap.specs.Simple.{subcommand_rows}
-use Rattle.mcv_cli.specs.Words.{faults, IsFaultOfKind, IsLineFault}
+use Rattle.mcv_cli.specs.Words.{faults, IsAt, IsFaultOfKind, IsLineFault}
+use Rattle.mcv_cli.proofs.Given.{Passes, at_parser}
 use Rattle.mcv_cli.specs.declared.words.LineFault.{LineFault}
 use Rattle.mcv_cli.specs.declared.words.LineFault.TheVariants.{BadLine, Memory, Help}
 
@@ -43,3 +46,21 @@ fault_of_kind words kind BadLine (inr among) by = (kind, by.1, among)
 fault_of_kind words kind Memory among by = tt
 fault_of_kind words kind (Help text) (inl memory) by = absurd (cc)
 fault_of_kind words kind (Help text) (inr among) by = subst (λ (k : ErrorKind). IsAmong k (faults words)) by among
+
+-- ---- the number of `--at`
+
+abbrev ReadsNumbers : {E : Type 0} → (List ℕ → Result ℕ E → Type 0) → Type 0
+ReadsNumbers {E} G = (t : List ℕ) (x : Result ℕ E) → G t x → ParsesUnsigned 64 10 t x
+
+-- a value that the parser of `--at` takes is read as a number
+pub no_number : {E : Type 0} (G : List ℕ → Result ℕ E → Type 0) (text : List ℕ) → ReadsNumbers G → Passes text → ReadsOne G text None → ⊥
+no_number G text only passes read =
+    let takes = accepts-Accepts false at_parser text passes in
+    only text (Err read.0) read.1 (takes.0, takes.1)
+
+-- .. and as the one that it spells
+pub number_at : {E : Type 0} (G : List ℕ → Result ℕ E → Type 0) (rows : List Row) (text : List ℕ) (n : ℕ) → ReadsNumbers G → one_of (codes "at") rows ≡ Some text
+    → ReadsOne G text (Some n) → IsAt rows n
+number_at G rows text n only is read =
+    let spelt = only text (Ok n) read in
+    (text, is, spelt.0.0, spelt.1)

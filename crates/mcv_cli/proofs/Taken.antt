@@ -12,7 +12,10 @@ use Rattle.clap.specs.Walk.{after_flag, after_step, answers_to, arg_by_index, ar
 use Rattle.clap.specs.Faults.{check_fault, defaults_fault, entered_fault, level_fault, other_fault, settle_fault, step_fault, turn_fault, walk_fault, word_fault}
 use Rattle.clap.specs.declared.error.kind.ErrorKind.{ErrorKind}
 use Rattle.clap.specs.declared.error.kind.ErrorKind.TheVariants.{DisplayHelp, InvalidSubcommand, MissingSubcommand}
-use Rattle.mcv_cli.specs.Words.{faults, mcv_app, NamesLegs}
+use Rattle.mcv_cli.specs.Words.{faults, mcv_app, named as named_by}
+
+abbrev pub NamesLegs : List Text → Type 0
+NamesLegs words = (rows : List Row) × (named_by words ≡ Some (codes "legs", rows))
 
 abbrev top : Shape
 top = (built mcv_app).top
@@ -23,17 +26,17 @@ names = names_of (built mcv_app)
 abbrev is_legs : Text → Type 0
 is_legs name = name ≡ codes "legs"
 
-abbrev StopsAtLegs : Option (Text × List Text) → Type 0
+abbrev pub StopsAtLegs : Option (Text × List Text) → Type 0
 StopsAtLegs stop = IfSome stop (λ p. is_legs p.0)
 
 abbrev EntersLegs : Step → Type 0
 EntersLegs (subcommand name) = is_legs name
 EntersLegs _ = ⊤
 
-some_kind : (k : ErrorKind) (ks : Kinds) → k ∷ ks ≡ [] → ⊥
+pub some_kind : (k : ErrorKind) (ks : Kinds) → k ∷ ks ≡ [] → ⊥
 some_kind k ks e = cc
 
-none_of : (a b : Kinds) → or_else a b ≡ [] → (a ≡ []) × (b ≡ [])
+pub none_of : (a b : Kinds) → or_else a b ≡ [] → (a ≡ []) × (b ≡ [])
 none_of [] b e = (refl, e)
 none_of (k ∷ ks) b e = absurd (some_kind k ks e)
 
@@ -118,7 +121,7 @@ stops (word ∷ rest) w before none =
 -- ---- all words
 
 level : (s : Shape) (known : Names) (h : Held) (words : List Text) (has : Bool) (below : Kinds) → level_fault s known h words has below ≡ []
-    → (walk_fault s known (walk_from h) words ≡ []) × (check_fault s (finished s.rules (walk s.rules known h words).held) has ≡ [])
+    → (walk_fault s known (walk_from h) words ≡ []) × (below ≡ []) × (check_fault s (finished s.rules (walk s.rules known h words).held) has ≡ [])
 level s known h words has below none =
     let end : Held = (walk s.rules known h words).held in
     let settling : Kinds = settle_fault s.rules s.args_override_self end in
@@ -127,7 +130,7 @@ level s known h words has below none =
     let walking = none_of (walk_fault s known (walk_from h) words) (or_else below (or_else settling (or_else defaulting checking))) none in
     let later = none_of below (or_else settling (or_else defaulting checking)) walking.1 in
     let last = none_of settling (or_else defaulting checking) later.1 in
-    (walking.0, (none_of defaulting checking last.1).1)
+    (walking.0, later.0, (none_of defaulting checking last.1).1)
 
 wanted : (has : Bool) (rows : List Row) → check_fault top rows has ≡ [] → has ≡ true
 wanted true rows none = refl
@@ -138,9 +141,24 @@ entered_legs : (stop : Option (Text × List Text)) → StopsAtLegs stop → is_s
 entered_legs None at has = absurd (true≢false (sym has))
 entered_legs (Some p) at has = subst (λ (name : Text). (rows : List Row) × (entered (built mcv_app) (Some (name, p.1)) ≡ Some (codes "legs", rows))) (sym at) (_, refl)
 
+-- where the walk over the words stops
+abbrev pub stop_of : List Text → Option (Text × List Text)
+stop_of words = (walk top.rules names nothing_held (drop 1 words)).stopped
+
+abbrev meets : List Text → Bool
+meets words = is_some (entered (built mcv_app) (stop_of words))
+
+free : (words : List Text) → faults words ≡ []
+    → (walk_fault top names (walk_from nothing_held) (drop 1 words) ≡ []) × (entered_fault (built mcv_app) (stop_of words) ≡ [])
+    × (check_fault top (finished top.rules (walk top.rules names nothing_held (drop 1 words)).held) (meets words) ≡ [])
+free words none = level top names nothing_held (drop 1 words) (meets words) (entered_fault (built mcv_app) (stop_of words)) none
+
+pub stops_at_legs : (words : List Text) → faults words ≡ [] → StopsAtLegs (stop_of words)
+stops_at_legs words none = stops (drop 1 words) (walk_from nothing_held) tt (free words none).0
+
+pub none_below : (words : List Text) → faults words ≡ [] → entered_fault (built mcv_app) (stop_of words) ≡ []
+none_below words none = (free words none).1
+
 pub taken : (words : List Text) → faults words ≡ [] → NamesLegs words
 taken words none =
-    let stop : Option (Text × List Text) = (walk top.rules names nothing_held (drop 1 words)).stopped in
-    let has : Bool = is_some (entered (built mcv_app) stop) in
-    let free = level top names nothing_held (drop 1 words) has (entered_fault (built mcv_app) stop) none in
-    entered_legs stop (stops (drop 1 words) (walk_from nothing_held) tt free.0) (wanted has (finished top.rules (walk top.rules names nothing_held (drop 1 words)).held) free.1)
+    entered_legs (stop_of words) (stops_at_legs words none) (wanted (meets words) (finished top.rules (walk top.rules names nothing_held (drop 1 words)).held) (free words none).2)

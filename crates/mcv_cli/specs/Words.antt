@@ -1,8 +1,10 @@
 -- What the words of a command line ask for. The words are those of the shell, the program's name
 -- first; how they are read is clap's: `fault_of` lists the kinds of fault that it finds with words,
 -- and `subcommand_of` the subcommand that they name.
-use Rattle.std.specs.Prelude.{◌≡◌, ◌≢◌, ⊤, ℕ, true, List, [], Option, Some, codes}
-use Rattle.clap.specs.Words.{App, IsAmong, Kinds, Row, Text, fault_of, new_app, subcommand_of, with_subcommand}
+use Rattle.std.specs.Prelude.{◌≡◌, ◌≢◌, ⊤, ℕ, true, List, [], ◌∷◌, Option, Some, codes}
+use Rattle.std.specs.Str.Parse.{IsNumeral, digits_value, without_leading_plus}
+use Rattle.clap.specs.Words.{App, IsAmong, Kinds, Row, Rule, Text, fault_of, new_app, new_rule, one_of, subcommand_of, with_rule, with_subcommand}
+use Rattle.clap.specs.declared.builder.value_parser.ValueParser.TheVariants as parsers
 use Rattle.clap.specs.declared.error.kind.ErrorKind.{ErrorKind}
 use Rattle.clap.specs.declared.error.kind.ErrorKind.TheVariants.{DisplayHelp, OutOfMemory}
 use Rattle.mcv_cli.specs.declared.words.Job.{Job}
@@ -12,14 +14,24 @@ use Rattle.mcv_cli.specs.declared.words.LineFault.TheVariants.{BadLine, Memory, 
 
 -- ---- the commands
 
+-- `--at SECONDS`: a number from 0 to 18446744073709551615, and 0 where it isn't given
+abbrev pub at_rule : Rule
+at_rule = record (new_rule (codes "at")) {
+  long = Some (codes "at");
+  value_names = 1;
+  parser = Some (parsers.Unsigned 0 18446744073709551615);
+  defaults = codes "0" ∷ [];
+}
+
+-- `legs [--at SECONDS]`
 abbrev pub legs_app : App
-legs_app = new_app (codes "legs")
+legs_app = with_rule (new_app (codes "legs")) at_rule
 
 -- a command that wants one of its subcommands
 abbrev pub wanting_a_command : App → App
 wanting_a_command app = record app { top = record app.top { subcommand_required = true } }
 
--- `mcv legs`
+-- `mcv legs [--at SECONDS]`
 abbrev pub mcv_app : App
 mcv_app = with_subcommand (wanting_a_command (new_app (codes "mcv"))) legs_app.top
 
@@ -33,12 +45,14 @@ faults words = fault_of mcv_app words
 abbrev pub named : List Text → Option (Text × List Row)
 named words = subcommand_of mcv_app words
 
-abbrev pub NamesLegs : List Text → Type 0
-NamesLegs words = (rows : List Row) × (named words ≡ Some (codes "legs", rows))
+-- the value of `--at` spells the number in decimal digits, a plus sign before them or none
+abbrev pub IsAt : List Row → ℕ → Type 0
+IsAt rows n = (text : Text) × (one_of (codes "at") rows ≡ Some text) × IsNumeral 10 (without_leading_plus text)
+    × (n ≡ digits_value 10 (without_leading_plus text))
 
--- clap takes the words, and they name the job's command
+-- clap takes the words, and they name the job's command with the values that the job has
 abbrev pub IsJobOf : List Text → Job → Type 0
-IsJobOf words Legs = (faults words ≡ []) × NamesLegs words
+IsJobOf words (Legs at) = (faults words ≡ []) × (rows : List Row) × (named words ≡ Some (codes "legs", rows)) × IsAt rows at.0
 
 -- why words ask for no job: clap finds a fault with them that isn't the wish for help; memory ran
 -- out; they ask for help

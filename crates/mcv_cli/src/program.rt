@@ -8,7 +8,6 @@ ghost use Rattle.mcv_legs.specs.declared.fault.RunFault.TheVariants.{Device};
 
 use crate::stop::Stop;
 use crate::words::{Job, LineFault, read_words};
-use mcv_base::Moment;
 use mcv_legs::{RunFault, run_legs};
 use std::alloc::Global;
 use std::io::{Read, Write};
@@ -37,7 +36,7 @@ pub fn run_words<'a, R: Read, W: Write>(
     ensures silent { IfErr result (λ stop. stop ≢ stopped_run Device → W.contents writer.new ≡ W.contents writer.old) }
 {
     match read_words(alloc, words) {
-        Ok(Job::Legs) => Ok(run_legs(alloc, reader, writer, Moment(0))?),
+        Ok(Job::Legs { at }) => Ok(run_legs(alloc, reader, writer, at)?),
         Err(LineFault::Help(text)) => show(writer, text.as_str()),
         Err(LineFault::BadLine) => Err(Stop::BadLine),
         Err(LineFault::Memory) => Err(Stop::Run(RunFault::Memory)),

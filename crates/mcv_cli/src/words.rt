@@ -2,54 +2,75 @@
 //! `IsJobOf`, and why they ask for nothing `IsLineFault`.
 
 ghost use Rattle.std.specs.Prelude.{◌≡◌, false, IfOk, IfErr, map};
-ghost use Rattle.clap.specs.Words.{app_of, kind_of};
+ghost use Rattle.clap.specs.Words.{app_of, kind_of, rule_of};
 ghost use Rattle.clap.specs.declared.builder.command.Command.TheViews.{out-Command as fields_of};
-ghost use Rattle.mcv_cli.specs.Words.{mcv_app, legs_app, line_fault_number, IsFaultOfKind, IsJobOf, IsLineFault};
+ghost use Rattle.mcv_cli.specs.Words.{at_rule, mcv_app, legs_app, line_fault_number, IsFaultOfKind, IsJobOf, IsLineFault};
 ghost use Rattle.mcv_cli.specs.declared.words.LineFault.TheVariants.{Memory as out_of_memory};
 
 use clap::error::ErrorKind;
-use clap::{Command, Error as ClapError};
+use clap::{Arg, Command, Error as ClapError, value_parser};
+use mcv_base::Moment;
 use std::alloc::{AllocError, Global};
 use thiserror::Error;
 
-const ABOUT: &str =
-    "Verifies configurations of mcrouter, the routing proxy for memcached: `legs` shows to which
-servers a configuration sends a request.";
+const ABOUT: &str = "Verifies configurations of mcrouter, the routing proxy for memcached.
+`mcv legs` shows to which servers a configuration sends a request.";
 
-const EXAMPLE: &str = "Example: a delete of the key `a`, and behind it the configuration
+const EXAMPLE: &str = "Example: which servers does a delete of the key `a` reach?
 
-  mcv legs <<'END'
-  delete a
-  {\"pools\": {\"A\": {\"servers\": [\"a:11211\"]}}, \"route\": \"PoolRoute|A\"}
-  END
+  (echo 'delete a'; cat mcrouter.json) | mcv legs
 
 Exit status:
   0  done, or help was asked for
   1  bad command line, or bad request line
   2  the configuration is refused, or has no route for the key
-  4  out of memory, or reading or writing failed";
+  4  out of memory, or reading or writing failed
 
-const LEGS_ABOUT: &str = "Shows to which servers a request is sent, and what is replied by then";
+Where the status isn't 0, one line on standard error says why.";
 
-const LEGS_FORM: &str =
-    "The first line of standard input is the request, an operation and a key. What follows is the
-configuration, as JSON:
+const LEGS_ABOUT: &str = "Shows to which servers a request is sent at once";
+
+const AT: &str = "The moment of the request in seconds, as start_time
+has it, from 0 to 18446744073709551615";
+
+const LEGS_FORM: &str = "Standard input has the request in its first line, and behind it the
+configuration as JSON:
 
   delete a
   {\"pools\": {\"A\": {\"servers\": [\"a:11211\"]}}, \"route\": \"PoolRoute|A\"}
 
-Each line of standard output is a leg: its place in the route (`-` is the top, `0.1` the second
-child of the first), the server, and its mark. The last line is the reply to the client before
-any server has answered, `none` while that waits for a leg:
+The request is an operation, one space and a key. The operations are get, gets,
+set, add, replace, append, prepend, cas, delete and touch. The route handles
+that are read are PoolRoute, NullRoute, ErrorRoute, AllSyncRoute,
+AllInitialRoute, AllAsyncRoute, FailoverRoute, MissFailoverRoute, WarmUpRoute,
+MigrateRoute, PrefixSelectorRoute and OperationSelectorRoute.
+
+Standard output has a line for each leg (one request to one server) that is sent
+before any server has answered, and then the reply that the client has by then:
 
   leg - a:11211 plain
-  reply none";
+  reply none
+
+A leg has its place in the route (`-` is the top, `0.1` the second child of the
+first), its server and its mark (`plain`; `async` where no reply waits for it;
+`shadow` of a copy). The reply is `none` while it waits for a server, and else
+`good`, `soft` (a miss, or nothing found or stored) or `error`.
+
+A configuration that isn't read is told as `mcv: configuration NUMBER at PATH`.
+The path leads to the value at fault by keys and by list numbers from 0; `.` is
+the whole. The numbers:
+
+   1  not JSON                          6  no servers, children, aliases, routes
+   2  unknown key or operation name     7  over a limit
+   3  missing, or of the wrong kind     8  bad server text (host:port is wanted)
+   4  unknown route handle              9  an alias that stands twice
+   5  unknown pool                     10  mcrouter's, but not read by mcv";
 
 /// What the program is asked to do.
 #[derive(Clone, Copy, Debug, PartialEq, Eq)]
 pub enum Job {
-    /// To show the legs of a request.
-    Legs,
+    /// To show the legs of a request that comes at a moment.
+    Legs { at: Moment },
 }
 
 /// Why there is nothing to do.
@@ -85,20 +106,33 @@ impl From<AllocError> for LineFault {
     }
 }
 
-fn legs_command<'a>(alloc: Global) -> Command<'a>
-    ensures app { app_of result ≡ legs_app }
-    ensures local { (fields_of result).has_globals ≡ false }
+fn at_option<'a>(alloc: Global) -> Arg<'a>
+    ensures rule { rule_of result ≡ at_rule }
+    ensures local { result.global ≡ false }
+{
+    Arg::new(alloc, "at")
+        .long("at")
+        .value_name("SECONDS")
+        .value_parser(value_parser!(u64))
+        .default_value("0")
+        .help(AT)
+}
+
+fn legs_command<'a>(alloc: Global) -> Result<Command<'a>, AllocError>
+    ensures app { IfOk result (λ c. app_of c ≡ legs_app) }
+    ensures local { IfOk result (λ c. (fields_of c).has_globals ≡ false) }
 {
     Command::new(alloc, "legs")
         .about(LEGS_ABOUT)
-        .override_usage("mcv legs < FILE")
+        .override_usage("mcv legs [--at SECONDS] < FILE")
         .after_help(LEGS_FORM)
+        .arg(at_option(alloc))
 }
 
 fn command<'a>(alloc: Global) -> Result<Command<'a>, AllocError>
     ensures { IfOk result (λ c. app_of c ≡ mcv_app) }
 {
-    let legs = legs_command(alloc);
+    let legs = legs_command(alloc)?;
     Command::new(alloc, "mcv")
         .about(ABOUT)
         .after_help(EXAMPLE)
@@ -131,8 +165,11 @@ pub fn read_words<'a>(alloc: Global, words: &'a [&'a str]) -> Result<Job, LineFa
         Ok(matches) => matches,
         Err(error) => return Err(line_fault(alloc, &error)),
     };
-    match matches.subcommand_matches("legs") {
-        Some(_) => Ok(Job::Legs),
-        None => Err(LineFault::BadLine),
-    }
+    let Some(found) = matches.subcommand_matches("legs") else {
+        return Err(LineFault::BadLine);
+    };
+    let Some(at) = found.get_one::<u64>("at") else {
+        return Err(LineFault::BadLine);
+    };
+    Ok(Job::Legs { at: Moment(at) })
 }

@@ -1,11 +1,11 @@
-pub mod Faults
 pub mod Levels
-pub mod Turns
 pub mod Lists
-pub mod Operations
 pub mod Noted
-pub mod Holds
-pub mod SoundRoutes
 pub mod SoundPools
+pub mod Later
+pub mod SoundRoutes
+pub mod RoutingPrefixes
+pub mod SoundAliases
+pub mod SoundEntries
 pub mod Sound
 mod Examples

@@ -1,29 +1,13 @@
--- The items of an array as a list.
+-- The servers of an array as a list.
 use Rattle.std.proofs.Common.{◌≡◌, ℕ, ◌<◌, ◌≤◌, lt-ltb, le-ltb, ltb, true, false, List, [], ◌∷◌, map, length, refl, ap, ◌∙◌, arith}
 use Rattle.std.proofs.lemmas.List.{length-map}
 use Rattle.serde_json.specs.declared.value.Value.{Value}
 use Rattle.serde_json.specs.View.{view, items_view}
-use Rattle.mcv_config.specs.declared.fault.FaultKind.TheVariants.{Empty, Limit}
-use Rattle.mcv_config.specs.Fault.{refused}
-use Rattle.mcv_config.specs.Lists.{each, items_list}
+use Rattle.mcv_names.specs.declared.fault.FaultKind.TheVariants.{Empty, Limit}
+use Rattle.mcv_names.specs.Fault.{refused}
+use Rattle.mcv_names.specs.Lists.{each, items_list}
+use Rattle.mcv_names.proofs.Arrays.{items_list-items_view}
 use Rattle.mcv_config.specs.Pools.{Table, listed_servers, server_read}
-use Rattle.mcv_config.specs.Routes.{Reader, listed}
-
-pub items_list-items_view : (vs : List Value) → items_list (items_view vs) ≡ map view vs
-items_list-items_view [] = refl
-items_list-items_view (v ∷ vs) = ap (λ ds. view v ∷ ds) (items_list-items_view vs)
-
-pub listed-none : (reader : Reader) (room : ℕ) (path : List ℕ) (vs : List Value) → length vs ≡ 0 → listed reader room path (items_list (items_view vs)) ≡ refused Empty path
-unfolding listed
-listed-none reader room path [] h = refl
-listed-none reader room path (v ∷ vs) h = absurd (omega arith)
-
-pub listed-some : (reader : Reader) (room : ℕ) (path : List ℕ) (vs : List Value) → 0 < length vs → listed reader room path (items_list (items_view vs)) ≡ each reader room path 0 (map view vs)
-unfolding listed
-listed-some reader room path [] h = absurd (omega arith)
-listed-some reader room path (v ∷ vs) h = ap (λ ds. each reader room path 0 (view v ∷ ds)) (items_list-items_view vs)
-
-pub ruleset lists = (listed-none, listed-some)
 
 pub listed_servers-none : (table : Table) (path : List ℕ) (vs : List Value) → length vs ≡ 0 → listed_servers table path (items_list (items_view vs)) ≡ refused Empty path
 unfolding listed_servers

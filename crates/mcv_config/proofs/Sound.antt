@@ -1,40 +1,44 @@
 -- Every plan that a value names is sound.
-use Rattle.std.proofs.Common.{ℕ, zero, suc, List, Option, Some, None, Ok, Err, Result, IfOk, bytes_eq, codes, subst, arith}
-use Rattle.std.specs.List.{All}
+use Rattle.std.proofs.Common.{ℕ, List, Option, Some, None, Ok, Err, Result, IfOk, bytes_eq, codes, subst}
 use Rattle.std.specs.Cmp.Lexicographic.{bytes_decides}
 use Rattle.serde_json.specs.Data.{Data, Members}
 use Rattle.serde_json.specs.Find.{get, as_object}
 use Rattle.mcv_pools.proofs.Tables.{one_to_one}
+use Rattle.mcv_names.specs.declared.fault.ConfigFault.{ConfigFault}
+use Rattle.mcv_names.specs.declared.handle.Object.TheVariants as objects
+use Rattle.mcv_names.specs.Fault.{Gives}
+use Rattle.mcv_names.specs.Handles.{key_fault, keys_read}
+use Rattle.mcv_names.specs.Path.{key_step}
+use Rattle.mcv_names.proofs.Holds.{Holds, holds_bind, holds_also}
 use Rattle.mcv_config.specs.declared.config.Config.{Config}
-use Rattle.mcv_config.specs.declared.fault.ConfigFault.{ConfigFault}
-use Rattle.mcv_config.specs.declared.handle.Object.TheVariants as objects
-use Rattle.mcv_config.specs.Config.{depth_limit, node_limit, plan_of_members, plan_read, plan_with, root}
-use Rattle.mcv_config.specs.Fault.{Gives}
-use Rattle.mcv_config.specs.Handles.{key_fault, keys_read}
-use Rattle.mcv_config.specs.Lists.{required}
-use Rattle.mcv_config.specs.Path.{key_step}
-use Rattle.mcv_config.specs.Plan.{Named, IsSound, IsSoundRoute, plan_of}
+use Rattle.mcv_config.specs.Config.{at_first, plan_of_members, plan_read, plan_with, root}
+use Rattle.mcv_config.specs.Entries.{routing_read}
+use Rattle.mcv_config.specs.Plan.{EntryPlan, IsSound, all_aliases, plan_of}
 use Rattle.mcv_config.specs.Pools.{Pools, Table, pools_read}
-use Rattle.mcv_config.specs.Routes.{route}
-use Rattle.mcv_config.proofs.Holds.{Holds, holds_bind, holds_then, holds_also}
-use Rattle.mcv_config.proofs.SoundPools.{ArePools, pools_sound, pools_are_sound, some_servers}
-use Rattle.mcv_config.proofs.SoundRoutes.{route_sound}
+use Rattle.mcv_config.specs.Walk.{SoFar}
+use Rattle.mcv_config.proofs.Later.{IsSoFar}
+use Rattle.mcv_config.proofs.SoundEntries.{AreEntries, routing_sound, sound_aliases, sound_routes}
+use Rattle.mcv_config.proofs.SoundPools.{ArePools, pools_sound, pools_are_sound}
 
-plan_with_sound : (ps : Pools) (table : Table) (t : Named) → ArePools (ps, table) → IsSoundRoute ps.servers t → IsSound (plan_with ps table t)
-plan_with_sound ps table t h k = record { once = one_to_one bytes_eq bytes_decides table h.once; pools = pools_are_sound table ps.servers h.pools; routes = routes }
-  where
-    routes : All (λ e. IsSoundRoute ps.servers e.route) (plan_with ps table t).entries
-    routes zero d l = k
-    routes (suc i) d l = absurd (omega arith)
+first_sound : (ps : Pools × Table) → ArePools ps → IsSoFar (at_first ps)
+first_sound ps h = record { fits = h.named; pools = h.pools; once = h.once }
+
+plan_with_sound : (ps : List (List ℕ)) (t : List EntryPlan × SoFar) → AreEntries ps t → IsSound (plan_with t)
+plan_with_sound ps t h = record {
+  once = one_to_one bytes_eq bytes_decides t.1.table h.grows.sound.once;
+  apart = one_to_one bytes_eq bytes_decides (all_aliases t.0) h.apart;
+  pools = pools_are_sound t.1.table t.1.pools.servers h.grows.sound.pools;
+  some = h.some;
+  routes = sound_routes ps t h;
+  aliases = sound_aliases ps t h;
+}
 
 plan_sound : (path : List ℕ) (d : Data) → Holds IsSound (plan_read path d)
 unfolding plan_read
 plan_sound path d =
     holds_bind ArePools IsSound (pools_read (key_step path (codes "pools")) (get (codes "pools") d)) _ (pools_sound (key_step path (codes "pools")) (get (codes "pools") d))
-    (λ ps h. holds_then IsSound (required (get (codes "route") d) path) _
-    (λ r. holds_bind (λ (x : Named × ℕ). IsSoundRoute ps.0.servers x.0) IsSound (route ps.0 depth_limit node_limit (key_step path (codes "route")) r) _
-    (route_sound ps.0 h.named (some_servers ps.1 ps.0.servers h.pools) depth_limit node_limit (key_step path (codes "route")) r)
-    (λ t k. plan_with_sound ps.0 ps.1 t.0 h k)))
+    (λ ps h. holds_bind (AreEntries (at_first ps).pools.servers) IsSound (routing_read (at_first ps) path d) _ (routing_sound (at_first ps) path d (first_sound ps h))
+    (λ t k. plan_with_sound (at_first ps).pools.servers t k))
 
 members_sound : (path : List ℕ) (d : Data) (o : Option Members) → Holds IsSound (plan_of_members path d o)
 members_sound path d None = tt

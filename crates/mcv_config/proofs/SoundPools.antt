@@ -7,14 +7,14 @@ use Rattle.serde_json.specs.Data.{Data, Items, Members, no_members, member}
 use Rattle.serde_json.specs.Find.{get, as_str, as_array, as_object}
 use Rattle.mcv_pools.specs.Table.{is_in, number_in, numbered, with_entry}
 use Rattle.mcv_pools.proofs.Tables.{kept, new, grown, numbered_last}
-use Rattle.mcv_config.specs.declared.handle.Object.TheVariants as objects
-use Rattle.mcv_config.specs.Fault.{Read}
-use Rattle.mcv_config.specs.Handles.{key_fault, keys_read}
-use Rattle.mcv_config.specs.Lists.{each, each_member, items_list, member_names, required, text_read}
-use Rattle.mcv_config.specs.Path.{key_step, item_step}
+use Rattle.mcv_names.specs.declared.handle.Object.TheVariants as objects
+use Rattle.mcv_names.specs.Fault.{Read}
+use Rattle.mcv_names.specs.Handles.{key_fault, keys_read}
+use Rattle.mcv_names.specs.Lists.{each, each_member, items_list, member_names, required, text_read}
+use Rattle.mcv_names.specs.Path.{key_step, item_step}
 use Rattle.mcv_config.specs.Plan.{IsSoundPool}
 use Rattle.mcv_config.specs.Pools.{Pools, Table, entered, is_full, listed_servers, pool_of_members, pool_read, pools_of_members, pools_read, server_read, server_text, servers_of_list, servers_read}
-use Rattle.mcv_config.proofs.Holds.{Holds, holds_bind, holds_then, holds_also, holds_if}
+use Rattle.mcv_names.proofs.Holds.{Holds, holds_bind, holds_then, holds_also, holds_if}
 
 -- ---- a text more in a table
 
@@ -38,7 +38,7 @@ or_second : (a b : Bool) → (a || b) ≡ false → b ≡ false
 or_second true b h = absurd (true≢false h)
 or_second false b h = h
 
-distinct_more : (xs : Table) (x : List ℕ) → IsDistinct bytes_eq xs → list_any (bytes_eq x) xs ≡ false → IsDistinct bytes_eq (xs ++ x ∷ [])
+pub distinct_more : (xs : Table) (x : List ℕ) → IsDistinct bytes_eq xs → list_any (bytes_eq x) xs ≡ false → IsDistinct bytes_eq (xs ++ x ∷ [])
 unfolding IsDistinct
 distinct_more [] x h e = (tt, tt)
 distinct_more (y ∷ xs) x h e = (
@@ -54,7 +54,7 @@ pub record Grown {A : Type 0} (P : Table → A → Type 0) (table : Table) (x : 
   pub grows : length table ≤ length x.1
   pub once : IsDistinct bytes_eq x.1
 
-abbrev IsKnown : Table → ℕ → Type 0
+abbrev pub IsKnown : Table → ℕ → Type 0
 IsKnown table s = s < length table
 
 entered_grown : (table : Table) (text : List ℕ) → IsDistinct bytes_eq table → Grown IsKnown table (entered table text)
@@ -112,14 +112,14 @@ module _ {A : Type 0} (P : Table → A → Type 0) (keeps : (t u : Table) (x : A
 known_keeps : (t u : Table) (s : ℕ) → length t ≤ length u → IsKnown t s → IsKnown u s
 known_keeps t u s l h = omega arith
 
-abbrev IsPool : Table → List ℕ → Type 0
+abbrev pub IsPool : Table → List ℕ → Type 0
 IsPool table pool = (0 < length pool) × AllByRecursion (IsKnown table) pool
 
 all_keeps : (t u : Table) (pool : List ℕ) → length t ≤ length u → AllByRecursion (IsKnown t) pool → AllByRecursion (IsKnown u) pool
 all_keeps t u [] l h = tt
 all_keeps t u (s ∷ pool) l h = (known_keeps t u s l h.0, all_keeps t u pool l h.1)
 
-pool_keeps : (t u : Table) (pool : List ℕ) → length t ≤ length u → IsPool t pool → IsPool u pool
+pub pool_keeps : (t u : Table) (pool : List ℕ) → length t ≤ length u → IsPool t pool → IsPool u pool
 pool_keeps t u pool l h = (h.0, all_keeps t u pool l h.1)
 
 -- a list that is not empty gives servers
@@ -148,7 +148,7 @@ of_members_grown : (table : Table) (path : List ℕ) (d : Data) (o : Option Memb
 of_members_grown table path d None once = tt
 of_members_grown table path d (Some ms) once = holds_also (Grown IsPool table) (keys_read (key_fault objects.Pool) path ms) (servers_read table path d) (servers_grown table path d once)
 
-pool_grown : (table : Table) (path name : List ℕ) (d : Data) → IsDistinct bytes_eq table → Holds (Grown IsPool table) (pool_read table path name d)
+pub pool_grown : (table : Table) (path name : List ℕ) (d : Data) → IsDistinct bytes_eq table → Holds (Grown IsPool table) (pool_read table path name d)
 unfolding pool_read
 pool_grown table path name d once = of_members_grown table path d (as_object d) once
 
@@ -192,7 +192,7 @@ pools_sound path (Some d) = of_object_sound path (as_object d)
 
 -- ---- in the words of the plan
 
-all_of : {X : Type 0} (P : X → Type 0) (xs : List X) → AllByRecursion P xs → All P xs
+pub all_of : {X : Type 0} (P : X → Type 0) (xs : List X) → AllByRecursion P xs → All P xs
 all_of P [] h k d l = absurd (omega arith)
 all_of P (x ∷ xs) h zero d l = h.0
 all_of P (x ∷ xs) h (suc k) d l = all_of P xs h.1 k d (omega arith)

@@ -1,203 +1,353 @@
--- The routes that are read are sound.
-use Rattle.std.proofs.Common.{◌≡◌, ◌≢◌, ℕ, zero, suc, ◌+◌, ◌<◌, ◌≤◌, ◌==◌, nat_lt, List, [], ◌∷◌, ◌++◌, map, length, get_or, drop, Option, Some, None, Ok, Err, Result, bytes_eq, codes, refl, take, arith}
-use Rattle.std.specs.List.{range_with_len}
+-- The routes that are read are sound, under the pools that are there once they are read.
+use Rattle.std.proofs.Common.{◌≡◌, ◌≢◌, ℕ, zero, suc, ◌+◌, ◌<◌, ◌≤◌, ◌==◌, nat_lt, List, [], ◌∷◌, ◌++◌, map, length, get_or, drop, Option, Some, None, Ok, Err, Result, bytes_eq, codes, refl, take, arith, length-append}
+use Rattle.std.specs.List.{AllByRecursion, range_with_len}
 use Rattle.std.proofs.lemmas.List.Quantifiers.{position-Some}
-use Rattle.serde_json.specs.Data.{Data, string, Items, Members, no_members, member}
+use Rattle.serde_json.specs.Data.{Data, string, Items, Members}
 use Rattle.serde_json.specs.Find.{get, as_str, as_array, as_object}
 use Rattle.mcv_pools.specs.Table.{number_in}
-use Rattle.mcv_config.specs.declared.fault.FaultKind.{FaultKind}
-use Rattle.mcv_config.specs.declared.handle.Handle.{Handle}
-use Rattle.mcv_config.specs.declared.handle.Handle.TheVariants as handles
-use Rattle.mcv_config.specs.declared.handle.Many.{Many}
-use Rattle.mcv_config.specs.declared.handle.Many.TheVariants as many_handles
-use Rattle.mcv_config.specs.declared.handle.Object.TheVariants as objects
-use Rattle.mcv_config.specs.Fault.{Read, good, bad, ◌>>=◌}
-use Rattle.mcv_config.specs.Handles.{is_elsewhere, key_fault, keys_read, op_read, stray_fault, handle_named}
-use Rattle.mcv_config.specs.Lists.{each, each_member, items_list, required}
-use Rattle.mcv_config.specs.Path.{key_step, item_step}
-use Rattle.mcv_config.specs.Plan.{Named, no_named, PolicyPlan, server, nameds_of, last_of, IsSoundRoute, AreSoundRoutes}
-use Rattle.mcv_config.specs.Pools.{Pools, number_read, pool_named}
-use Rattle.mcv_config.specs.Routes.{Reader, listed, servers, only_child, cut, pool_prefix, text_children, with_children, of_name, of_name_and_text, of_cut, text_route, type_read, pool_value, pool_field, children_value, children_field, policy_read, policies_of_members, policies_read, default_read, selector_fields, fields, of_type, object_route, handle_of, route}
-use Rattle.mcv_config.proofs.Holds.{Holds, holds_bind, holds_then, holds_also, holds_if}
+use Rattle.mcv_names.specs.declared.fault.FaultKind.{FaultKind}
+use Rattle.mcv_names.specs.declared.handle.Handle.{Handle}
+use Rattle.mcv_names.specs.declared.handle.Handle.TheVariants as handles
+use Rattle.mcv_names.specs.declared.handle.Many.{Many}
+use Rattle.mcv_names.specs.declared.handle.Many.TheVariants as many_handles
+use Rattle.mcv_names.specs.declared.handle.Selector.{Selector}
+use Rattle.mcv_names.specs.declared.handle.Selector.TheVariants as selectors
+use Rattle.mcv_names.specs.declared.handle.Object.TheVariants as objects
+use Rattle.mcv_names.specs.Fault.{Read, good, bad, ◌>>=◌}
+use Rattle.mcv_names.specs.Handles.{default_key, is_elsewhere, key_fault, keys_read, handle_named, name_fault, policies_key, stray_fault, type_read}
+use Rattle.mcv_config.specs.Hash.{hash_read}
+use Rattle.mcv_names.specs.Lists.{each, items_list, items_or_none, required, some_items}
+use Rattle.mcv_names.specs.Path.{key_step, item_step}
+use Rattle.mcv_config.specs.Plan.{Named, no_named, PrefixPlan, ShadowPlan, server, null, error, nameds_of, last_of, IsSoundRoute, AreSoundRoutes}
+use Rattle.mcv_config.specs.Pools.{Table, number_read, pool_named, pool_read}
+use Rattle.mcv_config.specs.Routes.{listed, servers, only_child, plain_pool, cut, pool_prefix, text_children, with_children, of_name, of_name_and_text, of_cut, text_route, pool_object, pool_value, pool_field, pool_fields, children_value, children_field, exptime_read, start_read, interval_read, warm_up_fields, migrate_fields, fields, of_type, object_route, handle_of, in_room, route}
+use Rattle.mcv_config.specs.Selectors.{policy_read, policies_of_members, policies_read, default_read, of_operation, selecting, selector_fields}
+use Rattle.mcv_config.specs.Shadows.{range_read, shadow_fields, shadow_of_members, shadow_read, shadows_read}
+use Rattle.mcv_config.specs.Walk.{SoFar, Reader, route_under, taken, two_under, with_pool}
+use Rattle.mcv_names.proofs.Holds.{Holds, holds_bind, holds_then, holds_also, holds_if}
+use Rattle.mcv_config.proofs.Later.{Later, later_than, later_more, route_keeps, IsSoFar, Grows, still, pool_behind, Each, none_grow, each_grows, each_member_grows}
+use Rattle.mcv_config.proofs.SoundPools.{Grown, IsPool, pool_grown, some_servers}
 
-module _ (ps : Pools) (fits : length ps.names ≤ length ps.servers) (some : (i : ℕ) → i < length ps.servers → 0 < length (get_or ps.servers i [])) where
-  abbrev One : Named × ℕ → Type 0
-  One x = IsSoundRoute ps.servers x.0
+-- ---- what is read, under so many pools
 
-  abbrev AreAll : List Named × ℕ → Type 0
-  AreAll xs = AreSoundRoutes ps.servers (nameds_of xs.0)
+abbrev AreSome : List (List ℕ) → List Named → Type 0
+AreSome ps ts = (nameds_of ts ≢ no_named) × AreSoundRoutes ps (nameds_of ts)
 
-  abbrev AreSome : List Named × ℕ → Type 0
-  AreSome xs = (nameds_of xs.0 ≢ no_named) × AreSoundRoutes ps.servers (nameds_of xs.0)
+abbrev IsNumber : List (List ℕ) → ℕ → Type 0
+IsNumber ps i = i < length ps
 
-  abbrev IsNumber : ℕ → Type 0
-  IsNumber i = i < length ps.servers
+abbrev AreBoth : List (List ℕ) → Named × Named → Type 0
+AreBoth ps t = IsSoundRoute ps t.0 × IsSoundRoute ps t.1
 
-  number_sound : (path name : List ℕ) (o : Option ℕ) → number_in bytes_eq ps.names name ≡ o → Holds IsNumber (number_read o path)
-  number_sound path name None e = tt
-  number_sound path name (Some i) e =
-      let within : i < length ps.names = (position-Some (bytes_eq name) ps.names i [] e).0 in
-      omega (arith, fits)
+abbrev IsShadow : List (List ℕ) → ShadowPlan → Type 0
+IsShadow ps s = IsSoundRoute ps s.1
 
-  named_sound : (path name : List ℕ) → Holds IsNumber (pool_named ps path name)
-  unfolding pool_named
-  named_sound path name = holds_if IsNumber (is_elsewhere name) _ _ (λ _. tt) (λ _. number_sound path name (number_in bytes_eq ps.names name) refl)
+abbrev IsPolicy : List (List ℕ) → PrefixPlan → Type 0
+IsPolicy ps p = IsSoundRoute ps p.1
 
-  range_sound : (i : ℕ) → i < length ps.servers → (a n : ℕ) → a + n ≤ length (get_or ps.servers i []) → AreSoundRoutes ps.servers (nameds_of (map (server i) (range_with_len a n)))
-  range_sound i h a zero l = tt
-  range_sound i h a (suc n) l = ((h, omega arith), range_sound i h (a + 1) n (omega arith))
+abbrev IsLast : List (List ℕ) → Option Named → Type 0
+IsLast ps t = AreSoundRoutes ps (nameds_of (last_of t))
 
-  some_range : (i a n : ℕ) → 0 < n → nameds_of (map (server i) (range_with_len a n)) ≢ no_named
-  some_range i a zero h = absurd (omega arith)
-  some_range i a (suc n) h = λ e. cc
+shadow_keeps : (ps qs : List (List ℕ)) → Later ps qs → (s : ShadowPlan) → IsShadow ps s → IsShadow qs s
+shadow_keeps ps qs l s h = route_keeps ps qs l s.1 h
 
-  servers_sound : (depth room : ℕ) (path : List ℕ) (i : ℕ) → i < length ps.servers → Holds AreSome (servers ps depth room path i)
-  unfolding servers
-  servers_sound depth room path i h =
-      let n : ℕ = length (get_or ps.servers i []) in
-      holds_if AreSome (depth == 0) _ _ (λ _. tt)
-      (λ _. holds_if AreSome (nat_lt room n) _ _ (λ _. tt) (λ _. (some_range i 0 n (some i h), range_sound i h 0 n (omega arith))))
+policy_keeps : (ps qs : List (List ℕ)) → Later ps qs → (p : PrefixPlan) → IsPolicy ps p → IsPolicy qs p
+policy_keeps ps qs l p h = route_keeps ps qs l p.1 h
 
-  appended : (xs ys : List Named) → AreSoundRoutes ps.servers (nameds_of xs) → AreSoundRoutes ps.servers (nameds_of ys) → AreSoundRoutes ps.servers (nameds_of (xs ++ ys))
-  appended [] ys h k = k
-  appended (x ∷ xs) ys h k = (h.0, appended xs ys h.1 k)
+of_routes : (ps : List (List ℕ)) (ts : List Named) → AllByRecursion (IsSoundRoute ps) ts → AreSoundRoutes ps (nameds_of ts)
+of_routes ps [] h = tt
+of_routes ps (t ∷ ts) h = (h.0, of_routes ps ts h.1)
 
-  module _ (depth : ℕ) (reader : Reader) (one : (room : ℕ) (path : List ℕ) (d : Data) → Holds One (reader room path d)) where
-    only_sound : (room : ℕ) (path : List ℕ) (d : Data) → Holds AreSome (reader room path d >>= λ (x : Named × ℕ). good (only_child x))
-    only_sound room path d = holds_bind One AreSome (reader room path d) _ (one room path d) (λ x h. ((λ e. cc), (h, tt)))
+of_shadows : (ps : List (List ℕ)) (ss : List ShadowPlan) → AllByRecursion (IsShadow ps) ss → AreSoundRoutes ps (nameds_of (map (λ s. s.1) ss))
+of_shadows ps [] h = tt
+of_shadows ps (s ∷ ss) h = (h.0, of_shadows ps ss h.1)
 
-    text_children_sound : (room : ℕ) (path text : List ℕ) → Holds AreSome (text_children ps depth reader room path text)
-    unfolding text_children
-    text_children_sound room path text =
-        holds_if AreSome (bytes_eq (take 5 text) pool_prefix) _ _
-        (λ _. holds_bind IsNumber AreSome (pool_named ps path (drop 5 text)) _ (named_sound path (drop 5 text)) (λ i h. servers_sound depth room path i h))
-        (λ _. only_sound room path (string text))
+-- the policies, and what comes behind them
+of_policies : (ps : List (List ℕ)) (qs : List PrefixPlan) (ts : List Named) → AllByRecursion (IsPolicy ps) qs → AreSoundRoutes ps (nameds_of ts) → AreSoundRoutes ps (nameds_of (map (λ p. p.1) qs ++ ts))
+of_policies ps [] ts h k = k
+of_policies ps (q ∷ qs) ts h k = (h.0, of_policies ps qs ts h.1 k)
 
-    branch_sound : (m : Many) (xs : List Named × ℕ) → AreSome xs → Holds One (with_children m xs)
-    branch_sound many_handles.AllSync xs h = h
+of_operations : (ps : List (List ℕ)) (qs : List PrefixPlan) (ts : List Named) → AllByRecursion (IsPolicy ps) qs → AreSoundRoutes ps (nameds_of ts) → AreSoundRoutes ps (nameds_of (map (λ p. p.1) (map of_operation qs) ++ ts))
+of_operations ps [] ts h k = k
+of_operations ps (q ∷ qs) ts h k = (h.0, of_operations ps qs ts h.1 k)
 
-    of_name_sound : (h : Result Handle FaultKind) (path : List ℕ) (room : ℕ) → Holds One (of_name h path room)
-    of_name_sound (Err kind) path room = tt
-    of_name_sound (Ok handles.Pool) path room = tt
-    of_name_sound (Ok handles.Null) path room = tt
-    of_name_sound (Ok (handles.Many m)) path room = tt
-    of_name_sound (Ok handles.OperationSelector) path room = tt
+policies_keep : (ps qs : List (List ℕ)) → Later ps qs → (xs : List PrefixPlan) → AllByRecursion (IsPolicy ps) xs → AllByRecursion (IsPolicy qs) xs
+policies_keep ps qs l [] h = tt
+policies_keep ps qs l (x ∷ xs) h = (policy_keeps ps qs l x h.0, policies_keep ps qs l xs h.1)
 
-    of_name_and_text_sound : (room : ℕ) (path : List ℕ) (h : Result Handle FaultKind) (text : List ℕ) → Holds One (of_name_and_text ps depth reader room path h text)
-    of_name_and_text_sound room path (Err kind) text = tt
-    of_name_and_text_sound room path (Ok handles.Pool) text = holds_bind IsNumber One (pool_named ps path text) _ (named_sound path text) (λ i h. h)
-    of_name_and_text_sound room path (Ok handles.Null) text = tt
-    of_name_and_text_sound room path (Ok (handles.Many m)) text = holds_bind AreSome One (text_children ps depth reader room path text) _ (text_children_sound room path text) (branch_sound m)
-    of_name_and_text_sound room path (Ok handles.OperationSelector) text = tt
+-- ---- pools
 
-    of_cut_sound : (room : ℕ) (path text : List ℕ) (o : Option (List ℕ × List ℕ)) → Holds One (of_cut ps depth reader room path text o)
-    of_cut_sound room path text None = of_name_sound (handle_named text) path room
-    of_cut_sound room path text (Some x) = of_name_and_text_sound room path (handle_named x.0) x.1
+number_sound : (w : SoFar) (path name : List ℕ) (o : Option ℕ) → IsSoFar w → number_in bytes_eq w.pools.names name ≡ o → Holds (IsNumber w.pools.servers) (number_read o path)
+number_sound w path name None s e = tt
+number_sound w path name (Some i) s e =
+    let within : i < length w.pools.names = (position-Some (bytes_eq name) w.pools.names i [] e).0 in
+    omega (arith, s.fits)
 
-    text_sound : (room : ℕ) (path text : List ℕ) → Holds One (text_route ps depth reader room path text)
-    unfolding text_route
-    text_sound room path text = holds_if One (is_elsewhere text) _ _ (λ _. tt) (λ _. of_cut_sound room path text (cut text))
+named_sound : (w : SoFar) (path name : List ℕ) → IsSoFar w → Holds (IsNumber w.pools.servers) (pool_named w.pools path name)
+unfolding pool_named
+named_sound w path name s = holds_if (IsNumber w.pools.servers) (is_elsewhere name) _ _ (λ _. tt) (λ _. number_sound w path name (number_in bytes_eq w.pools.names name) s refl)
 
-    each_sound : (room : ℕ) (path : List ℕ) (i : ℕ) (ds : List Data) → Holds AreAll (each reader room path i ds)
-    unfolding each
-    each_sound room path i [] = tt
-    each_sound room path i (d ∷ ds) =
-        holds_bind One AreAll (reader room (item_step path i) d) _ (one room (item_step path i) d)
-        (λ x h. holds_bind AreAll AreAll (each reader x.1 path (i + 1) ds) _ (each_sound x.1 path (i + 1) ds) (λ xs hs. (h, hs)))
+added : (w : SoFar) (x : List ℕ × Table) → IsSoFar w → Grown IsPool w.table x → Grows IsNumber w.pools.servers (length w.pools.servers, with_pool x.0 x.1 w)
+added w x s h = record {
+  holds = omega (arith, length-append w.pools.servers (x.0 ∷ []));
+  later = later_more w.pools.servers x.0;
+  sound = pool_behind w x s h;
+}
 
-    each_some : (room : ℕ) (path : List ℕ) (i : ℕ) (d : Data) (ds : List Data) → Holds AreSome (each reader room path i (d ∷ ds))
-    unfolding each
-    each_some room path i d ds =
-        holds_bind One AreSome (reader room (item_step path i) d) _ (one room (item_step path i) d)
-        (λ x h. holds_bind AreAll AreSome (each reader x.1 path (i + 1) ds) _ (each_sound x.1 path (i + 1) ds) (λ xs hs. ((λ e. cc), (h, hs))))
+object_added : (w : SoFar) (path : List ℕ) (d : Data) → IsSoFar w → Holds (Grows IsNumber w.pools.servers) (pool_object w path d)
+unfolding pool_object
+object_added w path d s =
+    holds_bind (Grown IsPool w.table) (Grows IsNumber w.pools.servers) (pool_read w.table path [] d) _ (pool_grown w.table path [] d s.once) (λ x h. added w x s h)
 
-    listed_sound : (room : ℕ) (path : List ℕ) (ds : List Data) → Holds AreSome (listed reader room path ds)
-    unfolding listed
-    listed_sound room path [] = tt
-    listed_sound room path (d ∷ ds) = each_some room path 0 d ds
+value_sound : (w : SoFar) (path : List ℕ) (d : Data) (o : Option (List ℕ)) → IsSoFar w → Holds (Grows IsNumber w.pools.servers) (pool_value w path d o)
+value_sound w path d (Some name) s =
+    holds_bind (IsNumber w.pools.servers) (Grows IsNumber w.pools.servers) (pool_named w.pools path name) _ (named_sound w path name s) (λ i h. still IsNumber w i s h)
+value_sound w path d None s = object_added w path d s
 
-    pool_value_sound : (path : List ℕ) (o : Option (List ℕ)) (ms : Option Members) → Holds IsNumber (pool_value ps path o ms)
-    pool_value_sound path (Some name) ms = named_sound path name
-    pool_value_sound path None (Some ms) = tt
-    pool_value_sound path None None = tt
+pool_field_sound : (w : SoFar) (path : List ℕ) (d : Data) → IsSoFar w → Holds (Grows IsNumber w.pools.servers) (pool_field w path d)
+unfolding pool_field
+pool_field_sound w path d s =
+    holds_then (Grows IsNumber w.pools.servers) (required (get (codes "pool") d) path) _ (λ p. value_sound w (key_step path (codes "pool")) p (as_str p) s)
 
-    pool_field_sound : (path : List ℕ) (d : Data) → Holds IsNumber (pool_field ps path d)
-    unfolding pool_field
-    pool_field_sound path d =
-        holds_then IsNumber (required (get (codes "pool") d) path) _ (λ p. pool_value_sound (key_step path (codes "pool")) (as_str p) (as_object p))
+-- ---- the servers of a pool
 
-    children_value_sound : (room : ℕ) (path : List ℕ) (d : Data) (o : Option (List ℕ)) (ds : Option Items) → Holds AreSome (children_value ps depth reader room path d o ds)
-    children_value_sound room path d (Some text) ds = text_children_sound room path text
-    children_value_sound room path d None (Some ds) = listed_sound room path (items_list ds)
-    children_value_sound room path d None None = only_sound room path d
+range_sound : (ps : List (List ℕ)) (i : ℕ) → i < length ps → (a n : ℕ) → a + n ≤ length (get_or ps i []) → AreSoundRoutes ps (nameds_of (map (server i) (range_with_len a n)))
+range_sound ps i h a zero l = tt
+range_sound ps i h a (suc n) l = ((h, omega arith), range_sound ps i h (a + 1) n (omega arith))
 
-    children_field_sound : (room : ℕ) (path : List ℕ) (d : Data) → Holds AreSome (children_field ps depth reader room path d)
-    unfolding children_field
-    children_field_sound room path d =
-        holds_then AreSome (required (get (codes "children") d) path) _ (λ c. children_value_sound room (key_step path (codes "children")) c (as_str c) (as_array c))
+some_range : (i a n : ℕ) → 0 < n → nameds_of (map (server i) (range_with_len a n)) ≢ no_named
+some_range i a zero h = absurd (omega arith)
+some_range i a (suc n) h = λ e. cc
 
-    abbrev ArePolicies : List PolicyPlan × ℕ → Type 0
-    ArePolicies xs = AreSoundRoutes ps.servers (nameds_of (map (λ p. p.1) xs.0))
+room_taken : (n : ℕ) (w : SoFar) → IsSoFar w → IsSoFar (taken n w)
+room_taken n w s = record { fits = s.fits; pools = s.pools; once = s.once }
 
-    policy_sound : (room : ℕ) (path name : List ℕ) (d : Data) → Holds (λ (x : PolicyPlan × ℕ). IsSoundRoute ps.servers x.0.1) (policy_read reader room path name d)
-    unfolding policy_read
-    policy_sound room path name d =
-        holds_then (λ (x : PolicyPlan × ℕ). IsSoundRoute ps.servers x.0.1) (op_read path name) _
-        (λ op. holds_bind One (λ (x : PolicyPlan × ℕ). IsSoundRoute ps.servers x.0.1) (reader room path d) _ (one room path d) (λ x h. h))
+servers_sound : (depth : ℕ) (w : SoFar) (path : List ℕ) (i : ℕ) → IsSoFar w → i < length w.pools.servers → Holds (Grows AreSome w.pools.servers) (servers depth w path i)
+unfolding servers
+servers_sound depth w path i s h =
+    let n : ℕ = length (get_or w.pools.servers i []) in
+    let some : 0 < n = some_servers w.table w.pools.servers s.pools i h in
+    holds_if (Grows AreSome w.pools.servers) (depth == 0) _ _ (λ _. tt)
+    (λ _. holds_if (Grows AreSome w.pools.servers) (nat_lt w.room n) _ _ (λ _. tt)
+    (λ _. still AreSome (taken n w) (map (server i) (range_with_len 0 n)) (room_taken n w s) (some_range i 0 n some, range_sound w.pools.servers i h 0 n (omega arith))))
 
-    each_policy_sound : (room : ℕ) (path : List ℕ) (ms : Members) → Holds ArePolicies (each_member (policy_read reader) room path ms)
-    unfolding each_member
-    each_policy_sound room path no_members = tt
-    each_policy_sound room path (member name d ms) =
-        holds_bind (λ (x : PolicyPlan × ℕ). IsSoundRoute ps.servers x.0.1) ArePolicies (policy_read reader room (key_step path name) name d) _ (policy_sound room (key_step path name) name d)
-        (λ x h. holds_bind ArePolicies ArePolicies (each_member (policy_read reader) x.1 path ms) _ (each_policy_sound x.1 path ms) (λ xs hs. (h, hs)))
+-- ---- handles over a reader
 
-    policies_of_members_sound : (room : ℕ) (path : List ℕ) (o : Option Members) → Holds ArePolicies (policies_of_members reader room path o)
-    policies_of_members_sound room path None = tt
-    policies_of_members_sound room path (Some ms) = each_policy_sound room path ms
+module _ (depth : ℕ) (reader : Reader) (one : (w : SoFar) (path : List ℕ) (d : Data) → IsSoFar w → Holds (Grows IsSoundRoute w.pools.servers) (reader w path d)) where
+  pub under_sound : (w : SoFar) (path key : List ℕ) (d : Data) → IsSoFar w → Holds (Grows IsSoundRoute w.pools.servers) (route_under reader w path key d)
+  unfolding route_under
+  under_sound w path key d s = holds_then (Grows IsSoundRoute w.pools.servers) (required (get key d) path) _ (λ v. one w (key_step path key) v s)
 
-    policies_sound : (room : ℕ) (path : List ℕ) (o : Option Data) → Holds ArePolicies (policies_read reader room path o)
-    policies_sound room path None = tt
-    policies_sound room path (Some d) = policies_of_members_sound room path (as_object d)
+  only_sound : (w : SoFar) (path : List ℕ) (d : Data) → IsSoFar w → Holds (Grows AreSome w.pools.servers) (reader w path d >>= λ (x : Named × SoFar). good (only_child x))
+  only_sound w path d s =
+      holds_bind (Grows IsSoundRoute w.pools.servers) (Grows AreSome w.pools.servers) (reader w path d) _ (one w path d s)
+      (λ x h. record { holds = ((λ e. cc), (h.holds, tt)); later = h.later; sound = h.sound })
 
-    abbrev IsLast : Option Named × ℕ → Type 0
-    IsLast x = AreSoundRoutes ps.servers (nameds_of (last_of x.0))
+  -- ---- texts
 
-    default_sound : (room : ℕ) (path : List ℕ) (o : Option Data) → Holds IsLast (default_read reader room path o)
-    default_sound room path None = tt
-    default_sound room path (Some d) = holds_bind One IsLast (reader room path d) _ (one room path d) (λ x h. (h, tt))
+  text_children_sound : (w : SoFar) (path text : List ℕ) → IsSoFar w → Holds (Grows AreSome w.pools.servers) (text_children depth reader w path text)
+  unfolding text_children
+  text_children_sound w path text s =
+      holds_if (Grows AreSome w.pools.servers) (bytes_eq (take 5 text) pool_prefix) _ _
+      (λ _. holds_bind (IsNumber w.pools.servers) (Grows AreSome w.pools.servers) (pool_named w.pools path (drop 5 text)) _ (named_sound w path (drop 5 text) s) (λ i h. servers_sound depth w path i s h))
+      (λ _. only_sound w path (string text) s)
 
-    selector_sound : (room : ℕ) (path : List ℕ) (d : Data) → Holds One (selector_fields reader room path d)
-    unfolding selector_fields
-    selector_sound room path d =
-        holds_bind ArePolicies One (policies_read reader room (key_step path (codes "operation_policies")) (get (codes "operation_policies") d)) _
-        (policies_sound room (key_step path (codes "operation_policies")) (get (codes "operation_policies") d))
-        (λ qs h. holds_bind IsLast One (default_read reader qs.1 (key_step path (codes "default_policy")) (get (codes "default_policy") d)) _
-        (default_sound qs.1 (key_step path (codes "default_policy")) (get (codes "default_policy") d))
-        (λ t k. appended (map (λ p. p.1) qs.0) (last_of t.0) h k))
+  branch_sound : (ps : List (List ℕ)) (m : Many) (xs : List Named × SoFar) → Grows AreSome ps xs → Holds (Grows IsSoundRoute ps) (with_children m xs)
+  branch_sound ps many_handles.AllSync xs h = record { holds = h.holds; later = h.later; sound = h.sound }
+  branch_sound ps many_handles.AllInitial xs h = record { holds = h.holds; later = h.later; sound = h.sound }
+  branch_sound ps many_handles.AllAsync xs h = record { holds = h.holds; later = h.later; sound = h.sound }
+  branch_sound ps many_handles.Failover xs h = record { holds = h.holds; later = h.later; sound = h.sound }
+  branch_sound ps many_handles.MissFailover xs h = record { holds = h.holds; later = h.later; sound = h.sound }
 
-    fields_sound : (room : ℕ) (path : List ℕ) (d : Data) (handle : Handle) → Holds One (fields ps depth reader room path d handle)
-    unfolding fields
-    fields_sound room path d handles.Pool = holds_bind IsNumber One (pool_field ps path d) _ (pool_field_sound path d) (λ i h. h)
-    fields_sound room path d handles.Null = tt
-    fields_sound room path d (handles.Many m) = holds_bind AreSome One (children_field ps depth reader room path d) _ (children_field_sound room path d) (branch_sound m)
-    fields_sound room path d handles.OperationSelector = selector_sound room path d
+  of_name_sound : (h : Result Handle FaultKind) (path : List ℕ) (w : SoFar) → IsSoFar w → Holds (Grows IsSoundRoute w.pools.servers) (of_name h path w)
+  of_name_sound (Err kind) path w s = tt
+  of_name_sound (Ok handles.Pool) path w s = tt
+  of_name_sound (Ok handles.Null) path w s = still IsSoundRoute w null s tt
+  of_name_sound (Ok handles.Error) path w s = still IsSoundRoute w error s tt
+  of_name_sound (Ok (handles.Many m)) path w s = tt
+  of_name_sound (Ok handles.WarmUp) path w s = tt
+  of_name_sound (Ok handles.Migrate) path w s = tt
+  of_name_sound (Ok (handles.Selector k)) path w s = tt
 
-    of_type_sound : (room : ℕ) (path : List ℕ) (d : Data) (ms : Members) (r : Read Handle) → Holds One (of_type ps depth reader room path d ms r)
-    of_type_sound room path d ms (good handle) = holds_also One (keys_read (key_fault (objects.Handle handle)) path ms) _ (fields_sound room path d handle)
-    of_type_sound room path d ms (bad faults) = holds_also One (keys_read stray_fault path ms) (bad faults) tt
+  of_name_and_text_sound : (w : SoFar) (path : List ℕ) (h : Result Handle FaultKind) (text : List ℕ) → IsSoFar w → Holds (Grows IsSoundRoute w.pools.servers) (of_name_and_text depth reader w path h text)
+  of_name_and_text_sound w path (Err kind) text s = tt
+  of_name_and_text_sound w path (Ok handles.Pool) text s =
+      holds_bind (IsNumber w.pools.servers) (Grows IsSoundRoute w.pools.servers) (pool_named w.pools path text) _ (named_sound w path text s) (λ i h. still IsSoundRoute w (plain_pool i) s (h, tt))
+  of_name_and_text_sound w path (Ok handles.Null) text s = tt
+  of_name_and_text_sound w path (Ok handles.Error) text s = still IsSoundRoute w error s tt
+  of_name_and_text_sound w path (Ok (handles.Many m)) text s =
+      holds_bind (Grows AreSome w.pools.servers) (Grows IsSoundRoute w.pools.servers) (text_children depth reader w path text) _ (text_children_sound w path text s) (branch_sound w.pools.servers m)
+  of_name_and_text_sound w path (Ok handles.WarmUp) text s = tt
+  of_name_and_text_sound w path (Ok handles.Migrate) text s = tt
+  of_name_and_text_sound w path (Ok (handles.Selector k)) text s = tt
 
-    object_sound : (room : ℕ) (path : List ℕ) (d : Data) (ms : Members) → Holds One (object_route ps depth reader room path d ms)
-    unfolding object_route
-    object_sound room path d ms = of_type_sound room path d ms (type_read path d)
+  of_cut_sound : (w : SoFar) (path text : List ℕ) (o : Option (List ℕ × List ℕ)) → IsSoFar w → Holds (Grows IsSoundRoute w.pools.servers) (of_cut depth reader w path text o)
+  of_cut_sound w path text None s = of_name_sound (handle_named text) path w s
+  of_cut_sound w path text (Some x) s = of_name_and_text_sound w path (handle_named x.0) x.1 s
 
-    handle_sound : (room : ℕ) (path : List ℕ) (d : Data) (o : Option (List ℕ)) (ms : Option Members) → Holds One (handle_of ps depth reader room path d o ms)
-    handle_sound room path d (Some text) ms = text_sound room path text
-    handle_sound room path d None (Some ms) = object_sound room path d ms
-    handle_sound room path d None None = tt
+  text_sound : (w : SoFar) (path text : List ℕ) → IsSoFar w → Holds (Grows IsSoundRoute w.pools.servers) (text_route depth reader w path text)
+  unfolding text_route
+  text_sound w path text s = holds_if (Grows IsSoundRoute w.pools.servers) (is_elsewhere text) _ _ (λ _. tt) (λ _. of_cut_sound w path text (cut text) s)
 
-  pub route_sound : (depth room : ℕ) (path : List ℕ) (d : Data) → Holds One (route ps depth room path d)
-  unfolding route
-  route_sound zero room path d = tt
-  route_sound (suc depth) zero path d = tt
-  route_sound (suc depth) (suc room) path d = handle_sound depth (route ps depth) (route_sound depth) room path d (as_str d) (as_object d)
+  -- ---- lists of children
+
+  each_some : (w : SoFar) (path : List ℕ) (d : Data) (ds : List Data) → IsSoFar w → Holds (Grows AreSome w.pools.servers) (each reader w path 0 (d ∷ ds))
+  unfolding each
+  each_some w path d ds s =
+      holds_bind (Grows IsSoundRoute w.pools.servers) (Grows AreSome w.pools.servers) (reader w (item_step path 0) d) _ (one w (item_step path 0) d s)
+      (λ x h. holds_bind (Grows (Each IsSoundRoute route_keeps) x.1.pools.servers) (Grows AreSome w.pools.servers) (each reader x.1 path 1 ds) _ (each_grows IsSoundRoute route_keeps reader one x.1 path 1 ds h.sound)
+      (λ xs k. record {
+        holds = ((λ e. cc), (route_keeps x.1.pools.servers xs.1.pools.servers k.later x.0 h.holds, of_routes xs.1.pools.servers xs.0 k.holds));
+        later = later_than w.pools.servers x.1.pools.servers xs.1.pools.servers h.later k.later;
+        sound = k.sound;
+      }))
+
+  listed_sound : (w : SoFar) (path : List ℕ) (ds : List Data) → IsSoFar w → Holds (Grows AreSome w.pools.servers) (listed reader w path ds)
+  unfolding some_items
+  listed_sound w path [] s = tt
+  listed_sound w path (d ∷ ds) s = each_some w path d ds s
+
+  children_value_sound : (w : SoFar) (path : List ℕ) (d : Data) (o : Option (List ℕ)) (ds : Option Items) → IsSoFar w → Holds (Grows AreSome w.pools.servers) (children_value depth reader w path d o ds)
+  children_value_sound w path d (Some text) ds s = text_children_sound w path text s
+  children_value_sound w path d None (Some ds) s = listed_sound w path (items_list ds) s
+  children_value_sound w path d None None s = only_sound w path d s
+
+  children_field_sound : (w : SoFar) (path : List ℕ) (d : Data) → IsSoFar w → Holds (Grows AreSome w.pools.servers) (children_field depth reader w path d)
+  unfolding children_field
+  children_field_sound w path d s =
+      holds_then (Grows AreSome w.pools.servers) (required (get (codes "children") d) path) _ (λ c. children_value_sound w (key_step path (codes "children")) c (as_str c) (as_array c) s)
+
+  -- ---- shadows
+
+  shadow_fields_sound : (w : SoFar) (path : List ℕ) (d : Data) → IsSoFar w → Holds (Grows IsShadow w.pools.servers) (shadow_fields reader w path d)
+  unfolding shadow_fields
+  shadow_fields_sound w path d s =
+      holds_then (Grows IsShadow w.pools.servers) (range_read path d) _
+      (λ range. holds_bind (Grows IsSoundRoute w.pools.servers) (Grows IsShadow w.pools.servers) (route_under reader w path (codes "target") d) _ (under_sound w path (codes "target") d s)
+      (λ x h. record { holds = h.holds; later = h.later; sound = h.sound }))
+
+  of_members_sound : (w : SoFar) (path : List ℕ) (d : Data) (o : Option Members) → IsSoFar w → Holds (Grows IsShadow w.pools.servers) (shadow_of_members reader w path d o)
+  of_members_sound w path d None s = tt
+  of_members_sound w path d (Some ms) s = holds_also (Grows IsShadow w.pools.servers) (keys_read (key_fault objects.Shadow) path ms) (shadow_fields reader w path d) (shadow_fields_sound w path d s)
+
+  shadow_sound : (w : SoFar) (path : List ℕ) (d : Data) → IsSoFar w → Holds (Grows IsShadow w.pools.servers) (shadow_read reader w path d)
+  unfolding shadow_read
+  shadow_sound w path d s = of_members_sound w path d (as_object d) s
+
+  shadows_sound : (w : SoFar) (path : List ℕ) (o : Option Data) → IsSoFar w → Holds (Grows (Each IsShadow shadow_keeps) w.pools.servers) (shadows_read reader w path o)
+  shadows_sound w path o s =
+      holds_then (Grows (Each IsShadow shadow_keeps) w.pools.servers) (items_or_none path o) _ (λ ds. each_grows IsShadow shadow_keeps (shadow_read reader) shadow_sound w path 0 ds s)
+
+  pool_fields_sound : (w : SoFar) (path : List ℕ) (d : Data) → IsSoFar w → Holds (Grows IsSoundRoute w.pools.servers) (pool_fields reader w path d)
+  unfolding pool_fields
+  pool_fields_sound w path d s =
+      holds_bind (Grows IsNumber w.pools.servers) (Grows IsSoundRoute w.pools.servers) (pool_field w path d) _ (pool_field_sound w path d s)
+      (λ x h. holds_then (Grows IsSoundRoute w.pools.servers) (hash_read (key_step path (codes "hash")) (get (codes "hash") d)) _
+      (λ hash. holds_bind (Grows (Each IsShadow shadow_keeps) x.1.pools.servers) (Grows IsSoundRoute w.pools.servers) (shadows_read reader x.1 (key_step path (codes "shadows")) (get (codes "shadows") d)) _
+      (shadows_sound x.1 (key_step path (codes "shadows")) (get (codes "shadows") d) h.sound)
+      (λ ss k. record {
+        holds = (omega (arith, h.holds, k.later.longer), of_shadows ss.1.pools.servers ss.0 k.holds);
+        later = later_than w.pools.servers x.1.pools.servers ss.1.pools.servers h.later k.later;
+        sound = k.sound;
+      })))
+
+  -- ---- two children
+
+  two_sound : (w : SoFar) (path first second : List ℕ) (d : Data) → IsSoFar w → Holds (Grows AreBoth w.pools.servers) (two_under reader w path first second d)
+  unfolding two_under
+  two_sound w path first second d s =
+      holds_bind (Grows IsSoundRoute w.pools.servers) (Grows AreBoth w.pools.servers) (route_under reader w path first d) _ (under_sound w path first d s)
+      (λ x h. holds_bind (Grows IsSoundRoute x.1.pools.servers) (Grows AreBoth w.pools.servers) (route_under reader x.1 path second d) _ (under_sound x.1 path second d h.sound)
+      (λ y k. record {
+        holds = (route_keeps x.1.pools.servers y.1.pools.servers k.later x.0 h.holds, k.holds);
+        later = later_than w.pools.servers x.1.pools.servers y.1.pools.servers h.later k.later;
+        sound = k.sound;
+      }))
+
+  warm_up_sound : (w : SoFar) (path : List ℕ) (d : Data) → IsSoFar w → Holds (Grows IsSoundRoute w.pools.servers) (warm_up_fields reader w path d)
+  unfolding warm_up_fields
+  warm_up_sound w path d s =
+      holds_bind (Grows AreBoth w.pools.servers) (Grows IsSoundRoute w.pools.servers) (two_under reader w path (codes "cold") (codes "warm") d) _ (two_sound w path (codes "cold") (codes "warm") d s)
+      (λ x h. holds_then (Grows IsSoundRoute w.pools.servers) (exptime_read path d) _ (λ exptime. record { holds = h.holds; later = h.later; sound = h.sound }))
+
+  migrate_sound : (w : SoFar) (path : List ℕ) (d : Data) → IsSoFar w → Holds (Grows IsSoundRoute w.pools.servers) (migrate_fields reader w path d)
+  unfolding migrate_fields
+  migrate_sound w path d s =
+      holds_bind (Grows AreBoth w.pools.servers) (Grows IsSoundRoute w.pools.servers) (two_under reader w path (codes "from") (codes "to") d) _ (two_sound w path (codes "from") (codes "to") d s)
+      (λ x h. holds_then (Grows IsSoundRoute w.pools.servers) (start_read path d) _
+      (λ start. holds_then (Grows IsSoundRoute w.pools.servers) (interval_read path d) _ (λ interval. record { holds = h.holds; later = h.later; sound = h.sound })))
+
+  -- ---- selectors
+
+  policy_sound : (w : SoFar) (path name : List ℕ) (d : Data) → IsSoFar w → Holds (Grows IsPolicy w.pools.servers) (policy_read reader w path name d)
+  unfolding policy_read
+  policy_sound w path name d s =
+      holds_bind (Grows IsSoundRoute w.pools.servers) (Grows IsPolicy w.pools.servers) (reader w path d) _ (one w path d s) (λ x h. record { holds = h.holds; later = h.later; sound = h.sound })
+
+  policies_of_members_sound : (k : Selector) (w : SoFar) (path : List ℕ) (o : Option Members) → IsSoFar w → Holds (Grows (Each IsPolicy policy_keeps) w.pools.servers) (policies_of_members k reader w path o)
+  policies_of_members_sound k w path None s = tt
+  policies_of_members_sound k w path (Some ms) s =
+      holds_also (Grows (Each IsPolicy policy_keeps) w.pools.servers) (keys_read (name_fault k) path ms) _ (each_member_grows IsPolicy policy_keeps (policy_read reader) policy_sound w path ms s)
+
+  policies_sound : (k : Selector) (w : SoFar) (path : List ℕ) (o : Option Data) → IsSoFar w → Holds (Grows (Each IsPolicy policy_keeps) w.pools.servers) (policies_read k reader w path o)
+  policies_sound k w path None s = none_grow IsPolicy policy_keeps w s
+  policies_sound k w path (Some d) s = policies_of_members_sound k w path (as_object d) s
+
+  default_sound : (w : SoFar) (path : List ℕ) (o : Option Data) → IsSoFar w → Holds (Grows IsLast w.pools.servers) (default_read reader w path o)
+  default_sound w path None s = still IsLast w None s tt
+  default_sound w path (Some d) s =
+      holds_bind (Grows IsSoundRoute w.pools.servers) (Grows IsLast w.pools.servers) (reader w path d) _ (one w path d s) (λ x h. record { holds = (h.holds, tt); later = h.later; sound = h.sound })
+
+  selecting_sound : (ps : List (List ℕ)) (k : Selector) (qs : List PrefixPlan) (t : Option Named) → AllByRecursion (IsPolicy ps) qs → IsLast ps t → IsSoundRoute ps (selecting k qs t)
+  selecting_sound ps selectors.Prefix qs t h l = of_policies ps qs (last_of t) h l
+  selecting_sound ps selectors.Operation qs t h l = of_operations ps qs (last_of t) h l
+
+  selector_sound : (k : Selector) (w : SoFar) (path : List ℕ) (d : Data) → IsSoFar w → Holds (Grows IsSoundRoute w.pools.servers) (selector_fields k reader w path d)
+  unfolding selector_fields
+  selector_sound k w path d s =
+      holds_bind (Grows (Each IsPolicy policy_keeps) w.pools.servers) (Grows IsSoundRoute w.pools.servers) (policies_read k reader w (key_step path (policies_key k)) (get (policies_key k) d)) _
+      (policies_sound k w (key_step path (policies_key k)) (get (policies_key k) d) s)
+      (λ qs h. holds_bind (Grows IsLast qs.1.pools.servers) (Grows IsSoundRoute w.pools.servers) (default_read reader qs.1 (key_step path (default_key k)) (get (default_key k) d)) _
+      (default_sound qs.1 (key_step path (default_key k)) (get (default_key k) d) h.sound)
+      (λ t l. record {
+        holds = selecting_sound t.1.pools.servers k qs.0 t.0 (policies_keep qs.1.pools.servers t.1.pools.servers l.later qs.0 h.holds) l.holds;
+        later = later_than w.pools.servers qs.1.pools.servers t.1.pools.servers h.later l.later;
+        sound = l.sound;
+      }))
+
+  -- ---- objects
+
+  fields_sound : (w : SoFar) (path : List ℕ) (d : Data) (handle : Handle) → IsSoFar w → Holds (Grows IsSoundRoute w.pools.servers) (fields depth reader w path d handle)
+  unfolding fields
+  fields_sound w path d handles.Pool s = pool_fields_sound w path d s
+  fields_sound w path d handles.Null s = still IsSoundRoute w null s tt
+  fields_sound w path d handles.Error s = still IsSoundRoute w error s tt
+  fields_sound w path d (handles.Many m) s =
+      holds_bind (Grows AreSome w.pools.servers) (Grows IsSoundRoute w.pools.servers) (children_field depth reader w path d) _ (children_field_sound w path d s) (branch_sound w.pools.servers m)
+  fields_sound w path d handles.WarmUp s = warm_up_sound w path d s
+  fields_sound w path d handles.Migrate s = migrate_sound w path d s
+  fields_sound w path d (handles.Selector k) s = selector_sound k w path d s
+
+  of_type_sound : (w : SoFar) (path : List ℕ) (d : Data) (ms : Members) (r : Read Handle) → IsSoFar w → Holds (Grows IsSoundRoute w.pools.servers) (of_type depth reader w path d ms r)
+  of_type_sound w path d ms (good handle) s = holds_also (Grows IsSoundRoute w.pools.servers) (keys_read (key_fault (objects.Handle handle)) path ms) _ (fields_sound w path d handle s)
+  of_type_sound w path d ms (bad faults) s = holds_also (Grows IsSoundRoute w.pools.servers) (keys_read stray_fault path ms) (bad faults) tt
+
+  object_sound : (w : SoFar) (path : List ℕ) (d : Data) (ms : Members) → IsSoFar w → Holds (Grows IsSoundRoute w.pools.servers) (object_route depth reader w path d ms)
+  unfolding object_route
+  object_sound w path d ms s = of_type_sound w path d ms (type_read path d) s
+
+  handle_sound : (w : SoFar) (path : List ℕ) (d : Data) (o : Option (List ℕ)) (ms : Option Members) → IsSoFar w → Holds (Grows IsSoundRoute w.pools.servers) (handle_of depth reader w path d o ms)
+  handle_sound w path d (Some text) ms s = text_sound w path text s
+  handle_sound w path d None (Some ms) s = object_sound w path d ms s
+  handle_sound w path d None None s = tt
+
+in_room_sound : (Q : Named × SoFar → Type 0) (room : ℕ) (path : List ℕ) (r : Read (Named × SoFar)) → Holds Q r → Holds Q (in_room room path r)
+in_room_sound Q zero path r h = tt
+in_room_sound Q (suc room) path r h = h
+
+pub route_sound : (depth : ℕ) (w : SoFar) (path : List ℕ) (d : Data) → IsSoFar w → Holds (Grows IsSoundRoute w.pools.servers) (route depth w path d)
+unfolding route
+route_sound zero w path d s = tt
+route_sound (suc depth) w path d s =
+    in_room_sound (Grows IsSoundRoute w.pools.servers) w.room path _
+    (handle_sound depth (route depth) (route_sound depth) (taken 1 w) path d (as_str d) (as_object d) (room_taken 1 w s))

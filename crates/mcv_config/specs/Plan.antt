@@ -1,25 +1,45 @@
 -- What a configuration names: servers, pools and routes by their numbers, without where they lie in memory.
-use Rattle.std.specs.Prelude.{◌≢◌, ℕ, ◌<◌, List, [], ◌∷◌, ◌++◌, Option, Some, None, map, length, slice_index_or, option_map}
-use Rattle.std.specs.List.{All}
+use Rattle.std.specs.Prelude.{◌≢◌, ℕ, ◌<◌, ◌≤◌, List, [], ◌∷◌, ◌++◌, Option, Some, None, map, length, slice_index_or, option_map}
+use Rattle.std.specs.List.{All, flat_map}
 use Rattle.mcv_base.specs.declared.operation.Op.{Op}
+use Rattle.mcv_pools.specs.declared.symbol.HashFunc.{HashFunc}
 use Rattle.mcv_pools.specs.Table.{IsOneToOne}
+use Rattle.mcv_config.specs.Aliases.{IsAlias, alias_limit}
 use Rattle.mcv_config.specs.declared.config.Config.{Config}
 use Rattle.mcv_config.specs.declared.config.Entry.{Entry}
 use Rattle.mcv_config.specs.declared.config.Pool.{Pool}
 use Rattle.mcv_config.specs.declared.config.NamedRoute.{NamedRoute}
-use Rattle.mcv_config.specs.declared.config.NamedRoute.TheOpen.{NamedRoute-F, NamedPolicy-F}
-use Rattle.mcv_config.specs.declared.config.NamedRoute.TheFolds.{fold-NamedRoute, fold-NamedPolicy}
+use Rattle.mcv_config.specs.declared.config.NamedRoute.TheOpen.{NamedRoute-F, NamedPolicy-F, NamedPrefix-F, NamedShadow-F}
+use Rattle.mcv_config.specs.declared.config.NamedRoute.TheFolds.{fold-NamedRoute, fold-NamedPolicy, fold-NamedPrefix, fold-NamedShadow}
 use Rattle.mcv_config.specs.declared.config.NamedPolicy.{NamedPolicy}
+use Rattle.mcv_config.specs.declared.config.NamedPrefix.{NamedPrefix}
+use Rattle.mcv_config.specs.declared.config.NamedShadow.{NamedShadow}
+
+-- the indexes from the first to the last
+pub record Range : Type 0 where
+  pub first : ℕ
+  pub last : ℕ
 
 -- A handle with all below it, in the order of the table of handles (mcrouter wiki, List of Route Handles).
 mutual
   pub data Named : Type 0 where
-    -- a pool, by its number
-    pool : ℕ → Named
+    -- a pool by its number, its hash function and salt, the ranges of the shadows, and their targets in the same order
+    pool : ℕ → HashFunc → List ℕ → List Range → Nameds → Named
     -- one server of a pool, by its index in it, as a pool of its own
     server : ℕ → ℕ → Named
     null : Named
+    error : Named
     all_sync : Nameds → Named
+    all_initial : Nameds → Named
+    all_async : Nameds → Named
+    failover : Nameds → Named
+    miss_failover : Nameds → Named
+    -- cold, warm, and the exptime of the add
+    warm_up : Named → Named → ℕ → Named
+    -- from, to, the start and the interval
+    migrate : Named → Named → ℕ → ℕ → Named
+    -- the prefixes, and their routes in the same order with the wildcard after them
+    prefix_selector : List (List ℕ) → Nameds → Named
     -- the operations of the policies, and their routes in the same order with the default's after them; None is a name that no request has
     operation_selector : List (Option Op) → Nameds → Named
 
@@ -34,7 +54,7 @@ pub record EntryPlan : Type 0 where
 pub record Plan : Type 0 where
   -- the texts of the servers, in the order of their numbers
   pub servers : List (List ℕ)
-  -- the servers of each pool, in the order of the pools' names
+  -- the servers of each pool: those of `pools` in the order of their names, then those that routes hold, as the reader meets them
   pub pools : List (List ℕ)
   pub entries : List EntryPlan
 
@@ -43,6 +63,14 @@ pub record Plan : Type 0 where
 abbrev pub nameds_of : List Named → Nameds
 nameds_of [] = no_named
 nameds_of (t ∷ ts) = named t (nameds_of ts)
+
+-- a shadow, with its target seen as what it names
+abbrev pub ShadowPlan : Type 0
+ShadowPlan = Range × Named
+
+-- a prefix, with its route seen as what it names
+abbrev pub PrefixPlan : Type 0
+PrefixPlan = List ℕ × Named
 
 -- a policy, with its route seen as what it names
 abbrev pub PolicyPlan : Type 0
@@ -53,25 +81,44 @@ abbrev pub last_of : Option Named → List Named
 last_of None = []
 last_of (Some t) = t ∷ []
 
-abbrev pub selector : List PolicyPlan → Option Named → Named
-selector policies default = operation_selector (map (λ p. p.0) policies) (nameds_of (map (λ p. p.1) policies ++ last_of default))
-
 -- one level, with each route inside already seen as what it names
-abbrev pub named_step : NamedRoute-F Named PolicyPlan → Named
-named_step (NamedRoute-F.Pool i) = pool i
+abbrev pub named_step : NamedRoute-F Named PolicyPlan PrefixPlan ShadowPlan → Named
+named_step (NamedRoute-F.Pool i func salt shadows) = pool i func salt.items (map (λ s. s.0) shadows.items) (nameds_of (map (λ s. s.1) shadows.items))
 named_step (NamedRoute-F.Server i k) = server i k
 named_step NamedRoute-F.Null = null
+named_step NamedRoute-F.Error = error
 named_step (NamedRoute-F.AllSync children) = all_sync (nameds_of children.items)
-named_step (NamedRoute-F.OperationSelector policies default) = selector policies.items (option_map (λ r. r.value) default)
+named_step (NamedRoute-F.AllInitial children) = all_initial (nameds_of children.items)
+named_step (NamedRoute-F.AllAsync children) = all_async (nameds_of children.items)
+named_step (NamedRoute-F.Failover children) = failover (nameds_of children.items)
+named_step (NamedRoute-F.MissFailover children) = miss_failover (nameds_of children.items)
+named_step (NamedRoute-F.WarmUp cold warm exptime) = warm_up cold.value warm.value exptime
+named_step (NamedRoute-F.Migrate from to start interval) = migrate from.value to.value start interval
+named_step (NamedRoute-F.PrefixSelector policies wildcard) =
+    prefix_selector (map (λ p. p.0) policies.items) (nameds_of (map (λ p. p.1) policies.items ++ last_of (option_map (λ r. r.value) wildcard)))
+named_step (NamedRoute-F.OperationSelector policies default) =
+    operation_selector (map (λ p. p.0) policies.items) (nameds_of (map (λ p. p.1) policies.items ++ last_of (option_map (λ r. r.value) default)))
 
-abbrev pub policy_step : NamedPolicy-F Named PolicyPlan → PolicyPlan
+abbrev pub policy_step : NamedPolicy-F Named PolicyPlan PrefixPlan ShadowPlan → PolicyPlan
 policy_step p = (p.op, p.route)
 
+abbrev pub prefix_step : NamedPrefix-F Named PolicyPlan PrefixPlan ShadowPlan → PrefixPlan
+prefix_step p = (p.«prefix».items, p.route)
+
+abbrev pub shadow_step : NamedShadow-F Named PolicyPlan PrefixPlan ShadowPlan → ShadowPlan
+shadow_step s = (record { first = s.first; last = s.last }, s.target)
+
 abbrev pub named_of : NamedRoute → Named
-named_of = fold-NamedRoute Named PolicyPlan named_step policy_step
+named_of = fold-NamedRoute Named PolicyPlan PrefixPlan ShadowPlan named_step policy_step prefix_step shadow_step
 
 abbrev pub policy_of : NamedPolicy → PolicyPlan
-policy_of = fold-NamedPolicy Named PolicyPlan named_step policy_step
+policy_of = fold-NamedPolicy Named PolicyPlan PrefixPlan ShadowPlan named_step policy_step prefix_step shadow_step
+
+abbrev pub prefix_of : NamedPrefix → PrefixPlan
+prefix_of = fold-NamedPrefix Named PolicyPlan PrefixPlan ShadowPlan named_step policy_step prefix_step shadow_step
+
+abbrev pub shadow_of : NamedShadow → ShadowPlan
+shadow_of = fold-NamedShadow Named PolicyPlan PrefixPlan ShadowPlan named_step policy_step prefix_step shadow_step
 
 abbrev pub pool_plan : Pool → List ℕ
 pool_plan p = map (λ s. s.0) p.servers.items
@@ -87,10 +134,18 @@ plan_of c = record { servers = c.servers; pools = map pool_plan c.pools.items; e
 abbrev mutual
   -- each pool is there, each index is one of its servers, and each list of children has one or more
   pub IsSoundRoute : List (List ℕ) → Named → Type 0
-  IsSoundRoute pools (pool i) = i < length pools
+  IsSoundRoute pools (pool i func salt ranges targets) = (i < length pools) × AreSoundRoutes pools targets
   IsSoundRoute pools (server i k) = (i < length pools) × (k < length (slice_index_or pools i []))
   IsSoundRoute pools null = Unit {0}
+  IsSoundRoute pools error = Unit {0}
   IsSoundRoute pools (all_sync ts) = (ts ≢ no_named) × AreSoundRoutes pools ts
+  IsSoundRoute pools (all_initial ts) = (ts ≢ no_named) × AreSoundRoutes pools ts
+  IsSoundRoute pools (all_async ts) = (ts ≢ no_named) × AreSoundRoutes pools ts
+  IsSoundRoute pools (failover ts) = (ts ≢ no_named) × AreSoundRoutes pools ts
+  IsSoundRoute pools (miss_failover ts) = (ts ≢ no_named) × AreSoundRoutes pools ts
+  IsSoundRoute pools (warm_up cold warm exptime) = IsSoundRoute pools cold × IsSoundRoute pools warm
+  IsSoundRoute pools (migrate from to start interval) = IsSoundRoute pools from × IsSoundRoute pools to
+  IsSoundRoute pools (prefix_selector prefixes ts) = AreSoundRoutes pools ts
   IsSoundRoute pools (operation_selector ops ts) = AreSoundRoutes pools ts
 
   pub AreSoundRoutes : List (List ℕ) → Nameds → Type 0
@@ -102,7 +157,21 @@ pub record IsSoundPool (servers : ℕ) (pool : List ℕ) : Type 0 where
   pub some : 0 < length pool
   pub known : All (λ s. s < servers) pool
 
+-- one alias or more, each a routing prefix of key bytes that is not too long
+pub record AreAliases (aliases : List (List ℕ)) : Type 0 where
+  pub some : 0 < length aliases
+  pub each : All (λ a. IsAlias a × (length a ≤ alias_limit)) aliases
+
+-- the aliases of all routes, in the order of the routes
+abbrev pub all_aliases : List EntryPlan → List (List ℕ)
+all_aliases entries = flat_map (λ e. e.aliases) entries
+
 pub record IsSound (plan : Plan) : Type 0 where
+  -- no server and no alias stands twice
   pub once : IsOneToOne plan.servers
+  pub apart : IsOneToOne (all_aliases plan.entries)
   pub pools : All (IsSoundPool (length plan.servers)) plan.pools
+  -- one route or more
+  pub some : 0 < length plan.entries
   pub routes : All (λ e. IsSoundRoute plan.pools e.route) plan.entries
+  pub aliases : All (λ e. AreAliases e.aliases) plan.entries

@@ -3,12 +3,12 @@ use Rattle.std.specs.Prelude.{ℕ, ◌==◌, ◌&&◌, not, nat_lt, Bool, List, 
 use Rattle.serde_json.specs.Data.{Data, Items, Members}
 use Rattle.serde_json.specs.Find.{get, as_str, as_array, as_object}
 use Rattle.mcv_pools.specs.Table.{is_in, number_in, numbered, server_limit, with_entry}
-use Rattle.mcv_config.specs.declared.fault.FaultKind.TheVariants.{WrongKind, UnknownPool, Empty, Limit, BadServer, LeftOut}
-use Rattle.mcv_config.specs.declared.handle.Object.TheVariants as objects
-use Rattle.mcv_config.specs.Fault.{Read, good, refused, ◌>>=◌, also}
-use Rattle.mcv_config.specs.Handles.{is_elsewhere, key_fault, keys_read}
-use Rattle.mcv_config.specs.Lists.{each, each_member, items_list, member_names, required, text_read}
-use Rattle.mcv_config.specs.Path.{key_step}
+use Rattle.mcv_names.specs.declared.fault.FaultKind.TheVariants.{WrongKind, UnknownPool, Empty, Limit, BadServer, LeftOut}
+use Rattle.mcv_names.specs.declared.handle.Object.TheVariants as objects
+use Rattle.mcv_names.specs.Fault.{Read, good, refused, ◌>>=◌, also}
+use Rattle.mcv_names.specs.Handles.{is_elsewhere, key_fault, keys_read}
+use Rattle.mcv_names.specs.Lists.{each, each_member, items_list, member_names, required, text_read}
+use Rattle.mcv_names.specs.Path.{key_step}
 use Rattle.mcv_base.specs.Server.{is_server}
 
 -- the texts of the servers, in the order of their numbers

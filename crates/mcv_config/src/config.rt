@@ -3,12 +3,31 @@
 //! A tree names pools and servers by number, so that no tree has a copy of a list of servers.
 
 use mcv_base::{Op, Prefix, ServerId};
-use mcv_pools::Servers;
+use mcv_pools::{HashFunc, Servers};
 
 /// The servers of a pool, one or more, in the order of its list.
 #[derive(Drop)]
 pub struct Pool {
     pub servers: Vec<ServerId>,
+}
+
+/// A copy of the requests for which a pool chooses one of some servers.
+#[derive(Drop)]
+#[cycle(route)]
+pub struct NamedShadow {
+    /// The first of their indexes.
+    pub first: u64,
+    /// The last, itself one of them.
+    pub last: u64,
+    pub target: NamedRoute,
+}
+
+/// The route of the keys that begin with a prefix.
+#[derive(Drop)]
+#[cycle(route)]
+pub struct NamedPrefix {
+    pub prefix: Vec<u8>,
+    pub route: NamedRoute,
 }
 
 /// The route of an operation.
@@ -24,15 +43,43 @@ pub struct NamedPolicy {
 #[derive(Drop)]
 #[cycle(route)]
 pub enum NamedRoute {
-    /// A pool, by its number.
-    Pool(usize),
+    /// A pool, by its number, under a hash function with its salt.
+    Pool {
+        pool: usize,
+        func: HashFunc,
+        salt: Vec<u8>,
+        shadows: Vec<NamedShadow>,
+    },
     /// One server of a pool, as a pool of its own.
     Server {
         pool: usize,
         index: usize,
     },
     Null,
+    Error,
     AllSync(Vec<NamedRoute>),
+    AllInitial(Vec<NamedRoute>),
+    AllAsync(Vec<NamedRoute>),
+    Failover(Vec<NamedRoute>),
+    MissFailover(Vec<NamedRoute>),
+    WarmUp {
+        cold: Box<NamedRoute>,
+        warm: Box<NamedRoute>,
+        /// Seconds, of the add.
+        exptime: u32,
+    },
+    Migrate {
+        from: Box<NamedRoute>,
+        to: Box<NamedRoute>,
+        /// A moment, in seconds.
+        start: u32,
+        /// Seconds.
+        interval: u32,
+    },
+    PrefixSelector {
+        policies: Vec<NamedPrefix>,
+        wildcard: Option<Box<NamedRoute>>,
+    },
     OperationSelector {
         policies: Vec<NamedPolicy>,
         default_policy: Option<Box<NamedRoute>>,
@@ -49,9 +96,9 @@ pub struct Entry {
 /// What a configuration text names.
 #[derive(Drop)]
 pub struct Config {
-    /// Numbered by first appearance, in the walk of the pools.
+    /// Numbered by first appearance, in the walk of the pools and then of the routes.
     pub servers: Servers,
-    /// In the byte order of their names; a pool's number is its place.
+    /// Those of `pools` in the byte order of their names, then those that routes hold. A pool's number is its place.
     pub pools: Vec<Pool>,
     pub entries: Vec<Entry>,
 }

@@ -1,23 +1,29 @@
 //! The configuration text, and what it names.
 //!
-//! `read_config` reads a JSON text: pools of servers and trees of route handles, which name pools by number.
+//! `read_config` reads a JSON text with comments: pools of servers and trees of route handles, which name pools by number.
 //! A text that names no configuration has a fault with a number and a path.
 #![tactic(auto)]
 
+mod aliases;
 mod config;
-mod fault;
-mod handle;
+mod entries;
+mod hash;
 mod name_table;
-mod names;
+mod numbers;
 mod pools;
+mod progress;
 mod read;
 mod routes;
+mod selecting;
 mod texts;
-mod trail;
+mod timed;
 
-pub use config::{Config, Entry, NamedPolicy, NamedRoute, Pool};
-pub use fault::{ConfigFault, FaultKind};
+pub use aliases::alias_law;
+pub use config::{Config, Entry, NamedPolicy, NamedPrefix, NamedRoute, NamedShadow, Pool};
+pub use mcv_names::{ConfigFault, FaultKind};
 pub use read::read_config;
 
+#[cfg(test)]
+mod page_tests;
 #[cfg(test)]
 mod tests;

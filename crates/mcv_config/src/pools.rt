@@ -3,20 +3,17 @@
 ghost use Rattle.std.specs.Prelude.{◌≡◌, ◌<◌, List, ℕ, [], length, map, option_map, IfOk, OnOk, bytes_eq, slice_index_or};
 ghost use Rattle.serde_json.specs.View.{view, items_view, members_view};
 ghost use Rattle.mcv_pools.specs.Table.{number_in, numbered, with_entry};
-ghost use Rattle.mcv_config.specs.Fault.{Gives};
-ghost use Rattle.mcv_config.specs.Lists.{each, each_member, items_list, member_names};
-ghost use Rattle.mcv_config.specs.Path.{path_of};
+ghost use Rattle.mcv_names.specs.Fault.{Gives};
+ghost use Rattle.mcv_names.specs.Lists.{each, each_member, items_list, member_names};
+ghost use Rattle.mcv_names.specs.Path.{path_of};
 ghost use Rattle.mcv_config.specs.Plan.{pool_plan};
 ghost use Rattle.mcv_config.specs.Pools.{listed_servers, pool_named, pool_read, pools_read, server_read, servers_read};
 ghost use Rattle.mcv_config.specs.View.{pools_of};
 
 use crate::config::Pool;
-use crate::fault::{ConfigFault, FaultKind};
-use crate::handle::Object;
 use crate::name_table::NameTable;
-use crate::names::{check_keys, is_elsewhere};
-use crate::trail::{Trail, fault};
 use mcv_base::{ServerId, is_server};
+use mcv_names::{ConfigFault, FaultKind, Object, Trail, check_keys, fault_at, is_elsewhere};
 use mcv_pools::{Servers, ServersFault};
 use serde_json::{Map, Value};
 use std::alloc::{AllocError, Global};
@@ -44,7 +41,7 @@ impl NamedPools {
 }
 
 /// The pools under the key `pools`; none where there is no such key.
-#[tactic(auto, using(crate::proofs::Faults::faults))]
+#[tactic(auto, using(mcv_names::proofs::Faults::faults))]
 pub(crate) fn read_pools(
     alloc: Global,
     servers: &mut Servers,
@@ -61,14 +58,14 @@ pub(crate) fn read_pools(
         });
     };
     let Some(members) = pools.as_object() else {
-        return Err(fault(alloc, FaultKind::WrongKind, trail));
+        return Err(fault_at(alloc, FaultKind::WrongKind, trail));
     };
     let pools = read_each_pool(alloc, servers, trail, members)?;
     let names = read_names(alloc, members)?;
     Ok(NamedPools { names, pools })
 }
 
-#[tactic(auto, using(crate::proofs::Faults::faults), unfolding(crate::specs::Lists::each_member))]
+#[tactic(auto, using(mcv_names::proofs::Faults::faults), unfolding(mcv_names::specs::Lists::each_member))]
 fn read_each_pool(
     alloc: Global,
     servers: &mut Servers,
@@ -96,8 +93,8 @@ fn read_names(alloc: Global, members: &Map<String, Value>) -> Result<NameTable, 
     Ok(names)
 }
 
-#[tactic(auto, using(crate::proofs::Faults::faults), unfolding(crate::specs::Pools::pool_read))]
-fn read_pool(
+#[tactic(auto, using(mcv_names::proofs::Faults::faults), unfolding(crate::specs::Pools::pool_read))]
+pub(crate) fn read_pool(
     alloc: Global,
     servers: &mut Servers,
     trail: &Trail<'_>,
@@ -107,14 +104,14 @@ fn read_pool(
     ensures { Gives (λ p. (pool_plan p, servers.new)) result (pool_read servers.old (path_of trail.now) name.now (view value.now)) }
 {
     let Some(members) = value.as_object() else {
-        return Err(fault(alloc, FaultKind::WrongKind, trail));
+        return Err(fault_at(alloc, FaultKind::WrongKind, trail));
     };
     check_keys(alloc, trail, Object::Pool, members)?;
     let servers = read_servers(alloc, servers, trail, value)?;
     Ok(Pool { servers })
 }
 
-#[tactic(auto, using(crate::proofs::Faults::faults), unfolding(crate::specs::Pools::servers_read))]
+#[tactic(auto, using(mcv_names::proofs::Faults::faults), unfolding(crate::specs::Pools::servers_read))]
 fn read_servers(
     alloc: Global,
     servers: &mut Servers,
@@ -124,16 +121,16 @@ fn read_servers(
     ensures { Gives (λ v. (map (λ s. s.0) v.items, servers.new)) result (servers_read servers.old (path_of trail.now) (view value.now)) }
 {
     let Some(listed) = value.get("servers") else {
-        return Err(fault(alloc, FaultKind::WrongKind, trail));
+        return Err(fault_at(alloc, FaultKind::WrongKind, trail));
     };
     let here = Trail::Key(trail, "servers");
     match listed.as_array() {
         Some(list) => read_server_list(alloc, servers, &here, list),
-        None => Err(fault(alloc, FaultKind::WrongKind, &here)),
+        None => Err(fault_at(alloc, FaultKind::WrongKind, &here)),
     }
 }
 
-#[tactic(auto, using(crate::proofs::Faults::faults, crate::proofs::Lists::server_lists))]
+#[tactic(auto, using(mcv_names::proofs::Faults::faults, crate::proofs::Lists::server_lists))]
 fn read_server_list(
     alloc: Global,
     servers: &mut Servers,
@@ -143,15 +140,15 @@ fn read_server_list(
     ensures { Gives (λ v. (map (λ s. s.0) v.items, servers.new)) result (listed_servers servers.old (path_of trail.now) (items_list (items_view list.now.items))) }
 {
     if list.is_empty() {
-        return Err(fault(alloc, FaultKind::Empty, trail));
+        return Err(fault_at(alloc, FaultKind::Empty, trail));
     }
     if list.len() > SERVER_LIMIT {
-        return Err(fault(alloc, FaultKind::Limit, trail));
+        return Err(fault_at(alloc, FaultKind::Limit, trail));
     }
     read_each_server(alloc, servers, trail, list)
 }
 
-#[tactic(auto, using(crate::proofs::Faults::faults), unfolding(crate::specs::Lists::each))]
+#[tactic(auto, using(mcv_names::proofs::Faults::faults), unfolding(mcv_names::specs::Lists::each))]
 fn read_each_server(
     alloc: Global,
     servers: &mut Servers,
@@ -169,7 +166,7 @@ fn read_each_server(
 }
 
 /// The number of a server of the list to which the first trail leads.
-#[tactic(auto, using(crate::proofs::Faults::faults), unfolding(crate::specs::Pools::server_read))]
+#[tactic(auto, using(mcv_names::proofs::Faults::faults), unfolding(crate::specs::Pools::server_read))]
 fn read_server(
     alloc: Global,
     servers: &mut Servers,
@@ -180,20 +177,20 @@ fn read_server(
     ensures { Gives (λ id. (id.0, servers.new)) result (server_read (path_of list.now) servers.old (path_of trail.now) (view value.now)) }
 {
     let Some(text) = value.as_str() else {
-        return Err(fault(alloc, FaultKind::WrongKind, trail));
+        return Err(fault_at(alloc, FaultKind::WrongKind, trail));
     };
     if !is_server(text.as_bytes()) {
-        return Err(fault(alloc, FaultKind::BadServer, trail));
+        return Err(fault_at(alloc, FaultKind::BadServer, trail));
     }
     match servers.insert(text) {
         Ok(id) => Ok(id),
-        Err(ServersFault::Full) => Err(fault(alloc, FaultKind::Limit, list)),
+        Err(ServersFault::Full) => Err(fault_at(alloc, FaultKind::Limit, list)),
         Err(ServersFault::Memory) => Err(ConfigFault::Memory),
     }
 }
 
 /// The number of the pool with this name.
-#[tactic(auto, using(crate::proofs::Faults::faults), unfolding(crate::specs::Pools::pool_named))]
+#[tactic(auto, using(mcv_names::proofs::Faults::faults), unfolding(crate::specs::Pools::pool_named))]
 pub(crate) fn pool_named(
     alloc: Global,
     pools: &NamedPools,
@@ -203,10 +200,10 @@ pub(crate) fn pool_named(
     ensures { Gives (λ i. i) result (pool_named (pools_of pools.now) (path_of trail.now) name.now) }
 {
     if is_elsewhere(name) {
-        return Err(fault(alloc, FaultKind::LeftOut, trail));
+        return Err(fault_at(alloc, FaultKind::LeftOut, trail));
     }
     match pools.names.find(name) {
         Some(number) => Ok(number),
-        None => Err(fault(alloc, FaultKind::UnknownPool, trail)),
+        None => Err(fault_at(alloc, FaultKind::UnknownPool, trail)),
     }
 }

@@ -1,282 +1,352 @@
 //! The handles that a JSON value names.
 
-ghost use Rattle.std.specs.Prelude.{◌≡◌, map, option_map};
-ghost use Rattle.serde_json.specs.View.{view, items_view, members_view};
-ghost use Rattle.mcv_config.specs.Fault.{Gives};
-ghost use Rattle.mcv_config.specs.Lists.{each, each_member, items_list};
-ghost use Rattle.mcv_config.specs.Path.{path_of};
-ghost use Rattle.mcv_config.specs.Plan.{named_of, policy_of};
-ghost use Rattle.mcv_config.specs.Routes.{children_field, default_read, listed, object_route, policies_read, policy_read, pool_field, route, selector_fields, type_read};
-ghost use Rattle.mcv_config.specs.View.{pools_of};
+ghost use Rattle.std.specs.Prelude.{map, option_map};
+ghost use Rattle.serde_json.specs.View.{view, members_view};
+ghost use Rattle.mcv_names.specs.Fault.{Gives};
+ghost use Rattle.mcv_names.specs.Lists.{each, each_member};
+ghost use Rattle.mcv_names.specs.Path.{path_of};
+ghost use Rattle.mcv_config.specs.Plan.{named_of, prefix_of, shadow_of};
+ghost use Rattle.mcv_config.specs.Routes.{children_field, object_route, pool_fields, route};
+ghost use Rattle.mcv_config.specs.Selectors.{default_read, policies_read, policy_read, selector_fields};
+ghost use Rattle.mcv_config.specs.Shadows.{shadow_read};
+ghost use Rattle.mcv_config.specs.View.{so_far_of};
+ghost use Rattle.mcv_config.specs.Walk.{route_under, two_under};
 
-use crate::config::{NamedPolicy, NamedRoute};
-use crate::fault::{ConfigFault, FaultKind};
-use crate::handle::{Handle, Object};
-use crate::names::{check_keys, handle_named, read_op};
-use crate::pools::{NamedPools, pool_named};
+use crate::config::{NamedPrefix, NamedRoute, NamedShadow};
+use crate::hash::read_hash;
+use crate::numbers::{read_range, read_start};
+use crate::progress::{Progress, read_pool_field};
+use crate::selecting::{named_prefix, selecting};
 use crate::texts::{only, read_text, text_children, with_children};
-use crate::trail::{Trail, fault};
+use crate::timed::{migrate, read_exptime, read_interval, warm_up};
+use mcv_names::{
+    ConfigFault, FaultKind, Handle, Object, Selector, Trail, check_keys, check_names, default_key,
+    fault_at, items_or_none, policies_key, read_type, some_items,
+};
 use serde_json::{Map, Value};
 use std::alloc::Global;
 
 /// The handle that a value names, with this many levels left for it and those below it.
-#[tactic(auto, using(crate::proofs::Faults::faults, crate::proofs::Levels::levels))]
+#[tactic(auto, using(mcv_names::proofs::Faults::faults, crate::proofs::Levels::levels))]
 #[cycle(route)]
 pub(crate) fn read_route(
     alloc: Global,
-    pools: &NamedPools,
     depth: usize,
-    room: &mut usize,
+    so_far: &mut Progress,
     trail: &Trail<'_>,
     value: &Value,
 ) -> Result<NamedRoute, ConfigFault>
-    ensures { Gives (λ r. (named_of r, room.new)) result (route (pools_of pools.now) depth room.old (path_of trail.now) (view value.now)) }
+    ensures { Gives (λ r. (named_of r, so_far_of so_far.new)) result (route depth (so_far_of so_far.old) (path_of trail.now) (view value.now)) }
 {
-    if depth == 0 || *room == 0 {
-        return Err(fault(alloc, FaultKind::Limit, trail));
+    if depth == 0 || so_far.room == 0 {
+        return Err(fault_at(alloc, FaultKind::Limit, trail));
     }
-    *room -= 1;
+    so_far.room -= 1;
     if let Some(text) = value.as_str() {
-        return read_text(alloc, pools, depth - 1, room, trail, text);
+        return read_text(alloc, depth - 1, so_far, trail, text);
     }
     if let Some(members) = value.as_object() {
-        return read_object(alloc, pools, depth - 1, room, trail, value, members);
+        return read_object(alloc, depth - 1, so_far, trail, value, members);
     }
-    Err(fault(alloc, FaultKind::WrongKind, trail))
+    Err(fault_at(alloc, FaultKind::WrongKind, trail))
 }
 
 /// The handle that an object names, with this many levels left for those below it.
-#[tactic(auto, using(crate::proofs::Faults::faults), unfolding(crate::specs::Routes::object_route, crate::specs::Routes::fields))]
+#[tactic(auto, using(mcv_names::proofs::Faults::faults), unfolding(crate::specs::Routes::object_route, crate::specs::Routes::fields, crate::specs::Routes::warm_up_fields, crate::specs::Routes::migrate_fields))]
 #[cycle(route)]
 fn read_object(
     alloc: Global,
-    pools: &NamedPools,
     depth: usize,
-    room: &mut usize,
+    so_far: &mut Progress,
     trail: &Trail<'_>,
     value: &Value,
     members: &Map<String, Value>,
 ) -> Result<NamedRoute, ConfigFault>
-    ensures { Gives (λ r. (named_of r, room.new)) result (object_route (pools_of pools.now) depth (route (pools_of pools.now) depth) room.old (path_of trail.now) (view value.now) (members_view members.now.entries)) }
+    ensures { Gives (λ r. (named_of r, so_far_of so_far.new)) result (object_route depth (route depth) (so_far_of so_far.old) (path_of trail.now) (view value.now) (members_view members.now.entries)) }
 {
     let handle = read_type(alloc, trail, value)?;
     check_keys(alloc, trail, Object::Handle(handle), members)?;
     match handle {
-        Handle::Pool => Ok(NamedRoute::Pool(read_pool(alloc, pools, trail, value)?)),
+        Handle::Pool => read_pool_route(alloc, depth, so_far, trail, value),
         Handle::Null => Ok(NamedRoute::Null),
+        Handle::Error => Ok(NamedRoute::Error),
         Handle::Many(many) => {
-            let children = read_children(alloc, pools, depth, room, trail, value)?;
+            let children = read_children(alloc, depth, so_far, trail, value)?;
             Ok(with_children(many, children))
         }
-        Handle::OperationSelector => read_selector(alloc, pools, depth, room, trail, value),
+        Handle::WarmUp => {
+            let (cold, warm) = read_two(alloc, depth, so_far, trail, "cold", "warm", value)?;
+            let exptime = read_exptime(alloc, trail, value)?;
+            Ok(warm_up(alloc, cold, warm, exptime)?)
+        }
+        Handle::Migrate => {
+            let (from, to) = read_two(alloc, depth, so_far, trail, "from", "to", value)?;
+            let start = read_start(alloc, trail, value)?;
+            let interval = read_interval(alloc, trail, value)?;
+            Ok(migrate(alloc, from, to, start, interval)?)
+        }
+        Handle::Selector(selector) => read_selector(alloc, depth, so_far, trail, selector, value),
     }
 }
 
-#[tactic(auto, using(crate::proofs::Faults::faults), unfolding(crate::specs::Routes::type_read))]
-fn read_type(alloc: Global, trail: &Trail<'_>, value: &Value) -> Result<Handle, ConfigFault>
-    ensures { Gives (λ handle. handle) result (type_read (path_of trail.now) (view value.now)) }
-{
-    let Some(name) = value.get("type") else {
-        return Err(fault(alloc, FaultKind::WrongKind, trail));
-    };
-    let here = Trail::Key(trail, "type");
-    let Some(text) = name.as_str() else {
-        return Err(fault(alloc, FaultKind::WrongKind, &here));
-    };
-    match handle_named(text) {
-        Ok(handle) => Ok(handle),
-        Err(kind) => Err(fault(alloc, kind, &here)),
-    }
-}
-
-#[tactic(auto, using(crate::proofs::Faults::faults), unfolding(crate::specs::Routes::pool_field))]
-fn read_pool(
+/// The route under a key that has to be there.
+#[tactic(auto, using(mcv_names::proofs::Faults::faults), unfolding(crate::specs::Walk::route_under))]
+#[cycle(route)]
+pub(crate) fn read_field(
     alloc: Global,
-    pools: &NamedPools,
+    depth: usize,
+    so_far: &mut Progress,
+    trail: &Trail<'_>,
+    key: &str,
+    value: &Value,
+) -> Result<NamedRoute, ConfigFault>
+    ensures { Gives (λ r. (named_of r, so_far_of so_far.new)) result (route_under (route depth) (so_far_of so_far.old) (path_of trail.now) key.now (view value.now)) }
+{
+    let Some(route) = value.get(key) else {
+        return Err(fault_at(alloc, FaultKind::WrongKind, trail));
+    };
+    let here = Trail::Key(&*trail, key);
+    read_route(alloc, depth, so_far, &here, route)
+}
+
+/// The routes under two keys that have to be there.
+#[tactic(auto, using(mcv_names::proofs::Faults::faults), unfolding(crate::specs::Walk::two_under))]
+#[cycle(route)]
+fn read_two(
+    alloc: Global,
+    depth: usize,
+    so_far: &mut Progress,
+    trail: &Trail<'_>,
+    first: &str,
+    second: &str,
+    value: &Value,
+) -> Result<(NamedRoute, NamedRoute), ConfigFault>
+    ensures { Gives (λ t. ((named_of t.0, named_of t.1), so_far_of so_far.new)) result (two_under (route depth) (so_far_of so_far.old) (path_of trail.now) first.now second.now (view value.now)) }
+{
+    let one = read_field(alloc, depth, so_far, trail, first, value)?;
+    let other = read_field(alloc, depth, so_far, trail, second, value)?;
+    Ok((one, other))
+}
+
+// ---- pools
+
+/// A pool with its hash and its shadows.
+#[tactic(auto, using(mcv_names::proofs::Faults::faults), unfolding(crate::specs::Routes::pool_fields))]
+#[cycle(route)]
+fn read_pool_route(
+    alloc: Global,
+    depth: usize,
+    so_far: &mut Progress,
     trail: &Trail<'_>,
     value: &Value,
-) -> Result<usize, ConfigFault>
-    ensures { Gives (λ i. i) result (pool_field (pools_of pools.now) (path_of trail.now) (view value.now)) }
+) -> Result<NamedRoute, ConfigFault>
+    ensures { Gives (λ r. (named_of r, so_far_of so_far.new)) result (pool_fields (route depth) (so_far_of so_far.old) (path_of trail.now) (view value.now)) }
 {
-    let Some(pool) = value.get("pool") else {
-        return Err(fault(alloc, FaultKind::WrongKind, trail));
-    };
-    let here = Trail::Key(trail, "pool");
-    if let Some(name) = pool.as_str() {
-        return pool_named(alloc, pools, &here, name);
-    }
-    if pool.is_object() {
-        return Err(fault(alloc, FaultKind::LeftOut, &here));
-    }
-    Err(fault(alloc, FaultKind::WrongKind, &here))
+    let pool = read_pool_field(alloc, so_far, trail, value)?;
+    let in_hash = Trail::Key(&*trail, "hash");
+    let (func, salt) = read_hash(alloc, &in_hash, value.get("hash"))?;
+    let in_shadows = Trail::Key(&*trail, "shadows");
+    let list = items_or_none(alloc, &in_shadows, value.get("shadows"))?;
+    let shadows = read_shadows(alloc, depth, so_far, &in_shadows, list)?;
+    Ok(NamedRoute::Pool {
+        pool,
+        func,
+        salt,
+        shadows,
+    })
 }
 
-#[tactic(auto, using(crate::proofs::Faults::faults), unfolding(crate::specs::Routes::children_field))]
+/// The shadows of a list, each with what those before it left.
+#[tactic(auto, using(mcv_names::proofs::Faults::faults), unfolding(mcv_names::specs::Lists::each))]
+#[cycle(route)]
+fn read_shadows(
+    alloc: Global,
+    depth: usize,
+    so_far: &mut Progress,
+    trail: &Trail<'_>,
+    list: &[Value],
+) -> Result<Vec<NamedShadow>, ConfigFault>
+    ensures { Gives (λ v. (map shadow_of v.items, so_far_of so_far.new)) result (each (shadow_read (route depth)) (so_far_of so_far.old) (path_of trail.now) 0 (map view list.now)) }
+{
+    let mut shadows = Vec::new(alloc);
+    for (index, item) in list.iter().enumerate() {
+        let here = Trail::Item(&*trail, index);
+        shadows.push(read_shadow(alloc, depth, so_far, &here, item)?)?;
+    }
+    Ok(shadows)
+}
+
+#[tactic(auto, using(mcv_names::proofs::Faults::faults), unfolding(crate::specs::Shadows::shadow_read, crate::specs::Shadows::shadow_fields))]
+#[cycle(route)]
+fn read_shadow(
+    alloc: Global,
+    depth: usize,
+    so_far: &mut Progress,
+    trail: &Trail<'_>,
+    value: &Value,
+) -> Result<NamedShadow, ConfigFault>
+    ensures { Gives (λ s. (shadow_of s, so_far_of so_far.new)) result (shadow_read (route depth) (so_far_of so_far.old) (path_of trail.now) (view value.now)) }
+{
+    let Some(members) = value.as_object() else {
+        return Err(fault_at(alloc, FaultKind::WrongKind, trail));
+    };
+    check_keys(alloc, trail, Object::Shadow, members)?;
+    let (first, last) = read_range(alloc, trail, value)?;
+    let target = read_field(alloc, depth, so_far, trail, "target", value)?;
+    Ok(NamedShadow {
+        first,
+        last,
+        target,
+    })
+}
+
+// ---- children
+
+#[tactic(auto, using(mcv_names::proofs::Faults::faults), unfolding(crate::specs::Routes::children_field))]
 #[cycle(route)]
 fn read_children(
     alloc: Global,
-    pools: &NamedPools,
     depth: usize,
-    room: &mut usize,
+    so_far: &mut Progress,
     trail: &Trail<'_>,
     value: &Value,
 ) -> Result<Vec<NamedRoute>, ConfigFault>
-    ensures { Gives (λ v. (map named_of v.items, room.new)) result (children_field (pools_of pools.now) depth (route (pools_of pools.now) depth) room.old (path_of trail.now) (view value.now)) }
+    ensures { Gives (λ v. (map named_of v.items, so_far_of so_far.new)) result (children_field depth (route depth) (so_far_of so_far.old) (path_of trail.now) (view value.now)) }
 {
     let Some(children) = value.get("children") else {
-        return Err(fault(alloc, FaultKind::WrongKind, trail));
+        return Err(fault_at(alloc, FaultKind::WrongKind, trail));
     };
     let here = Trail::Key(&*trail, "children");
     if let Some(text) = children.as_str() {
-        return text_children(alloc, pools, depth, room, &here, text);
+        return text_children(alloc, depth, so_far, &here, text);
     }
     if let Some(list) = children.as_array() {
-        return read_list(alloc, pools, depth, room, &here, list);
+        let items = some_items(alloc, &here, list)?;
+        return read_each(alloc, depth, so_far, &here, items);
     }
-    let child = read_route(alloc, pools, depth, room, &here, children)?;
+    let child = read_route(alloc, depth, so_far, &here, children)?;
     only(alloc, child)
 }
 
-/// The routes of a list that is not empty.
-#[tactic(auto, using(crate::proofs::Faults::faults, crate::proofs::Lists::lists))]
-#[cycle(route)]
-fn read_list(
-    alloc: Global,
-    pools: &NamedPools,
-    depth: usize,
-    room: &mut usize,
-    trail: &Trail<'_>,
-    list: &Vec<Value>,
-) -> Result<Vec<NamedRoute>, ConfigFault>
-    ensures { Gives (λ v. (map named_of v.items, room.new)) result (listed (route (pools_of pools.now) depth) room.old (path_of trail.now) (items_list (items_view list.now.items))) }
-{
-    if list.is_empty() {
-        return Err(fault(alloc, FaultKind::Empty, trail));
-    }
-    read_each(alloc, pools, depth, room, trail, list)
-}
-
-/// The routes of a list, each in the room that those before it left.
-#[tactic(auto, using(crate::proofs::Faults::faults), unfolding(crate::specs::Lists::each))]
+/// The routes of a list, each with what those before it left.
+#[tactic(auto, using(mcv_names::proofs::Faults::faults), unfolding(mcv_names::specs::Lists::each))]
 #[cycle(route)]
 fn read_each(
     alloc: Global,
-    pools: &NamedPools,
     depth: usize,
-    room: &mut usize,
+    so_far: &mut Progress,
     trail: &Trail<'_>,
     list: &[Value],
 ) -> Result<Vec<NamedRoute>, ConfigFault>
-    ensures { Gives (λ v. (map named_of v.items, room.new)) result (each (route (pools_of pools.now) depth) room.old (path_of trail.now) 0 (map view list.now)) }
+    ensures { Gives (λ v. (map named_of v.items, so_far_of so_far.new)) result (each (route depth) (so_far_of so_far.old) (path_of trail.now) 0 (map view list.now)) }
 {
     let mut children = Vec::new(alloc);
     for (index, item) in list.iter().enumerate() {
         let here = Trail::Item(&*trail, index);
-        children.push(read_route(alloc, pools, depth, room, &here, item)?)?;
+        children.push(read_route(alloc, depth, so_far, &here, item)?)?;
     }
     Ok(children)
 }
 
-/// The policies in byte order, and then the default.
-#[tactic(auto, using(crate::proofs::Faults::faults), unfolding(crate::specs::Routes::selector_fields))]
+// ---- selectors
+
+/// The policies in byte order, and then the route for all else.
+#[tactic(auto, using(mcv_names::proofs::Faults::faults), unfolding(crate::specs::Selectors::selector_fields))]
 #[cycle(route)]
 fn read_selector(
     alloc: Global,
-    pools: &NamedPools,
     depth: usize,
-    room: &mut usize,
+    so_far: &mut Progress,
     trail: &Trail<'_>,
+    selector: Selector,
     value: &Value,
 ) -> Result<NamedRoute, ConfigFault>
-    ensures { Gives (λ r. (named_of r, room.new)) result (selector_fields (route (pools_of pools.now) depth) room.old (path_of trail.now) (view value.now)) }
+    ensures { Gives (λ r. (named_of r, so_far_of so_far.new)) result (selector_fields selector (route depth) (so_far_of so_far.old) (path_of trail.now) (view value.now)) }
 {
-    let in_policies = Trail::Key(&*trail, "operation_policies");
-    let listed = value.get("operation_policies");
-    let policies = read_policies(alloc, pools, depth, room, &in_policies, listed)?;
-    let in_default = Trail::Key(&*trail, "default_policy");
-    let default = value.get("default_policy");
-    let default_policy = read_default(alloc, pools, depth, room, &in_default, default)?;
-    Ok(NamedRoute::OperationSelector {
-        policies,
-        default_policy,
-    })
+    let key = policies_key(selector);
+    let in_policies = Trail::Key(&*trail, key);
+    let listed = value.get(key);
+    let policies = read_policies(alloc, depth, so_far, &in_policies, selector, listed)?;
+    let key = default_key(selector);
+    let in_default = Trail::Key(&*trail, key);
+    let default = read_default(alloc, depth, so_far, &in_default, value.get(key))?;
+    Ok(selecting(alloc, selector, policies, default)?)
 }
 
-#[tactic(auto, using(crate::proofs::Faults::faults))]
+/// The policies under a key, each under its name; none where there is no such key.
+#[tactic(auto, using(mcv_names::proofs::Faults::faults))]
 #[cycle(route)]
 fn read_policies(
     alloc: Global,
-    pools: &NamedPools,
     depth: usize,
-    room: &mut usize,
+    so_far: &mut Progress,
     trail: &Trail<'_>,
+    selector: Selector,
     value: Option<&Value>,
-) -> Result<Vec<NamedPolicy>, ConfigFault>
-    ensures { Gives (λ v. (map policy_of v.items, room.new)) result (policies_read (route (pools_of pools.now) depth) room.old (path_of trail.now) (option_map (λ v. view v.now) value.entry)) }
+) -> Result<Vec<NamedPrefix>, ConfigFault>
+    ensures { Gives (λ v. (map prefix_of v.items, so_far_of so_far.new)) result (policies_read selector (route depth) (so_far_of so_far.old) (path_of trail.now) (option_map (λ v. view v.now) value.entry)) }
 {
     let Some(policies) = value else {
         return Ok(Vec::new(alloc));
     };
-    match policies.as_object() {
-        Some(members) => read_each_policy(alloc, pools, depth, room, trail, members),
-        None => Err(fault(alloc, FaultKind::WrongKind, trail)),
-    }
+    let Some(members) = policies.as_object() else {
+        return Err(fault_at(alloc, FaultKind::WrongKind, trail));
+    };
+    check_names(alloc, trail, selector, members)?;
+    read_each_policy(alloc, depth, so_far, trail, members)
 }
 
-/// The policies of an object, each in the room that those before it left.
-#[tactic(auto, using(crate::proofs::Faults::faults), unfolding(crate::specs::Lists::each_member, crate::specs::Routes::policy_read))]
+/// The policies of an object, each with what those before it left.
+#[tactic(auto, using(mcv_names::proofs::Faults::faults), unfolding(mcv_names::specs::Lists::each_member, crate::specs::Selectors::policy_read))]
 #[cycle(route)]
 fn read_each_policy(
     alloc: Global,
-    pools: &NamedPools,
     depth: usize,
-    room: &mut usize,
+    so_far: &mut Progress,
     trail: &Trail<'_>,
     members: &Map<String, Value>,
-) -> Result<Vec<NamedPolicy>, ConfigFault>
-    ensures { Gives (λ v. (map policy_of v.items, room.new)) result (each_member (policy_read (route (pools_of pools.now) depth)) room.old (path_of trail.now) (members_view members.now.entries)) }
+) -> Result<Vec<NamedPrefix>, ConfigFault>
+    ensures { Gives (λ v. (map prefix_of v.items, so_far_of so_far.new)) result (each_member (policy_read (route depth)) (so_far_of so_far.old) (path_of trail.now) (members_view members.now.entries)) }
 {
     let mut policies = Vec::new(alloc);
     for (name, value) in members.iter() {
         let here = Trail::Key(&*trail, name.as_str());
-        policies.push(read_policy(alloc, pools, depth, room, &here, name.as_str(), value)?)?;
+        policies.push(read_policy(alloc, depth, so_far, &here, name.as_str(), value)?)?;
     }
     Ok(policies)
 }
 
-#[tactic(auto, using(crate::proofs::Faults::faults), unfolding(crate::specs::Routes::policy_read))]
+#[tactic(auto, using(mcv_names::proofs::Faults::faults), unfolding(crate::specs::Selectors::policy_read))]
 #[cycle(route)]
 fn read_policy(
     alloc: Global,
-    pools: &NamedPools,
     depth: usize,
-    room: &mut usize,
+    so_far: &mut Progress,
     trail: &Trail<'_>,
     name: &str,
     value: &Value,
-) -> Result<NamedPolicy, ConfigFault>
-    ensures { Gives (λ p. (policy_of p, room.new)) result (policy_read (route (pools_of pools.now) depth) room.old (path_of trail.now) name.now (view value.now)) }
+) -> Result<NamedPrefix, ConfigFault>
+    ensures { Gives (λ p. (prefix_of p, so_far_of so_far.new)) result (policy_read (route depth) (so_far_of so_far.old) (path_of trail.now) name.now (view value.now)) }
 {
-    let op = read_op(alloc, trail, name)?;
-    let route = read_route(alloc, pools, depth, room, trail, value)?;
-    Ok(NamedPolicy { op, route })
+    let route = read_route(alloc, depth, so_far, trail, value)?;
+    Ok(named_prefix(alloc, name, route)?)
 }
 
-#[tactic(auto, using(crate::proofs::Faults::faults))]
+/// The route for all else; none where there is no such key.
+#[tactic(auto, using(mcv_names::proofs::Faults::faults))]
 #[cycle(route)]
 fn read_default(
     alloc: Global,
-    pools: &NamedPools,
     depth: usize,
-    room: &mut usize,
+    so_far: &mut Progress,
     trail: &Trail<'_>,
     value: Option<&Value>,
 ) -> Result<Option<Box<NamedRoute>>, ConfigFault>
-    ensures { Gives (λ o. (option_map (λ b. named_of b.value) o, room.new)) result (default_read (route (pools_of pools.now) depth) room.old (path_of trail.now) (option_map (λ v. view v.now) value.entry)) }
+    ensures { Gives (λ o. (option_map (λ b. named_of b.value) o, so_far_of so_far.new)) result (default_read (route depth) (so_far_of so_far.old) (path_of trail.now) (option_map (λ v. view v.now) value.entry)) }
 {
     let Some(default) = value else {
         return Ok(None);
     };
-    let route = read_route(alloc, pools, depth, room, trail, default)?;
+    let route = read_route(alloc, depth, so_far, trail, default)?;
     Ok(Some(Box::new(alloc, route)?))
 }

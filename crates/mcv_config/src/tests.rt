@@ -1,53 +1,11 @@
+//! What a configuration holds once it is read, and its limits.
+
 use super::*;
 use mcv_base::{Op, ServerId};
+use mcv_pools::HashFunc;
 use std::alloc::Global;
 use std::process::Abort;
 use std::test::Fail;
-
-/// A fault and a text that has it, a case a line.
-const REFUSED: &str = "\
-configuration 1 at . = {} //
-configuration 1 at . = {\"route\":\"NullRoute\" /* none */}
-configuration 3 at . = {}
-configuration 3 at . = []
-configuration 3 at /pools = {\"pools\":[],\"route\":\"NullRoute\"}
-configuration 10 at /routes = {\"routes\":[],\"route\":\"NullRoute\"}
-configuration 2 at /Route = {\"Route\":\"NullRoute\",\"route\":\"NullRoute\"}
-configuration 2 at /a%20b%2F%25%C3%A9 = {\"a b/%\u{e9}\":1,\"route\":\"NullRoute\"}
-configuration 3 at /pools/A = {\"pools\":{\"A\":{}},\"route\":\"NullRoute\"}
-configuration 6 at /pools/A/servers = {\"pools\":{\"A\":{\"servers\":[]}},\"route\":\"PoolRoute|A\"}
-configuration 3 at /pools/A/servers/1 = {\"pools\":{\"A\":{\"servers\":[\"a:1\",2]}},\"route\":\"NullRoute\"}
-configuration 2 at /pools/A/qos = {\"pools\":{\"A\":{\"servers\":[\"a:1\"],\"qos\":1}},\"route\":\"NullRoute\"}
-configuration 10 at /pools/A/weights = {\"pools\":{\"A\":{\"servers\":[\"a:1\"],\"weights\":[1]}},\"route\":\"NullRoute\"}
-configuration 5 at /route = {\"pools\":{\"A\":{\"servers\":[\"a:1\"]}},\"route\":\"PoolRoute|Z\"}
-configuration 5 at /route = {\"route\":\"AllSyncRoute|Pool|Z\"}
-configuration 3 at /route = {\"route\":\"PoolRoute\"}
-configuration 3 at /route = {\"route\":\"AllSyncRoute\"}
-configuration 3 at /route = {\"route\":\"NullRoute|x\"}
-configuration 3 at /route = {\"route\":7}
-configuration 4 at /route = {\"route\":\"\"}
-configuration 4 at /route = {\"route\":\"Pool|A\"}
-configuration 4 at /route/type = {\"route\":{\"type\":\"SomeRoute\"}}
-configuration 10 at /route = {\"route\":\"@import\"}
-configuration 10 at /route = {\"route\":\"AllSyncRoute|%macro%\"}
-configuration 10 at /route = {\"route\":\"PoolRoute|@pool\"}
-configuration 10 at /route = {\"route\":\"FailoverRoute|NullRoute\"}
-configuration 10 at /route/type = {\"route\":{\"type\":\"RandomRoute\",\"children\":[\"PoolRoute|A\"]}}
-configuration 10 at /route/pool = {\"route\":{\"type\":\"PoolRoute\",\"pool\":{\"servers\":[\"a:1\"]}}}
-configuration 10 at /route/hash = {\"pools\":{\"A\":{\"servers\":[\"a:1\"]}},\"route\":{\"type\":\"PoolRoute\",\"pool\":\"A\",\"hash\":\"Ch3\"}}
-configuration 10 at /route/name = {\"route\":{\"type\":\"NullRoute\",\"name\":\"n\"}}
-configuration 2 at /route/hash = {\"route\":{\"type\":\"NullRoute\",\"hash\":\"Ch3\"}}
-configuration 6 at /route/children = {\"route\":{\"type\":\"AllSyncRoute\",\"children\":[]}}
-configuration 3 at /route/children/1 = {\"route\":{\"type\":\"AllSyncRoute\",\"children\":[\"NullRoute\",null]}}
-configuration 2 at /route/operation_policies/gat = {\"route\":{\"type\":\"OperationSelectorRoute\",\"operation_policies\":{\"gat\":\"NullRoute\"}}}
-configuration 3 at /route/operation_policies = {\"route\":{\"type\":\"OperationSelectorRoute\",\"operation_policies\":[]}}
-configuration 4 at /route/default_policy = {\"route\":{\"type\":\"OperationSelectorRoute\",\"default_policy\":\"x\"}}";
-
-/// Server texts that are none.
-const NO_SERVERS: &str = "a:0 a:65536 a:01 a a: :1 a:1:ascii a:b:1 [::1:1 ::1]:1 a:100000";
-
-/// Server texts.
-const SERVERS: &str = "a:1 a:65535 [::1]:11211 10.0.0.1:11211";
 
 fn answer(alloc: Global, text: &str) -> Result<String, Fail> {
     match read_config(alloc, text.as_bytes()) {
@@ -56,40 +14,57 @@ fn answer(alloc: Global, text: &str) -> Result<String, Fail> {
     }
 }
 
-#[test]
-fn faults_have_their_numbers_and_paths(rt: HostRuntime) -> Result<(), Fail> {
-    let alloc = rt.alloc();
-    for case in REFUSED.lines() {
-        let (fault, text) = case.split_once(" = ").ok_or("no case")?;
-        assert_eq!(rt; answer(alloc, text)?.as_str(), fault);
-    }
-    Ok(())
-}
-
-fn with_server(alloc: Global, server: &str) -> Result<String, Fail> {
+fn with_prefix(alloc: Global, bytes: usize) -> Result<String, Fail> {
     let mut text = String::from_str(
         alloc,
-        "{\"route\":\"NullRoute\",\"pools\":{\"A\":{\"servers\":[\"",
+        "{\"route\":{\"type\":\"PrefixSelectorRoute\",\"policies\":{\"",
     )?;
-    text.push_str(server)?;
-    text.push_str("\"]}}}")?;
+    for _ in 0..bytes {
+        text.push('a')?;
+    }
+    text.push_str("\":\"NullRoute\"}}}")?;
     Ok(text)
 }
 
 #[test]
-fn server_texts(rt: HostRuntime) -> Result<(), Fail> {
+fn a_prefix_has_at_most_200_bytes(rt: HostRuntime) -> Result<(), Fail> {
     let alloc = rt.alloc();
-    for server in NO_SERVERS.split(' ') {
-        let text = with_server(alloc, server)?;
-        assert_eq!(rt;
-            answer(alloc, text.as_str())?.as_str(),
-            "configuration 8 at /pools/A/servers/0"
-        );
+    assert_eq!(rt;
+        answer(alloc, with_prefix(alloc, 200)?.as_str())?.as_str(),
+        "read"
+    );
+    match read_config(alloc, with_prefix(alloc, 201)?.as_bytes()) {
+        Ok(_) => Err(Fail::from("a fault")),
+        Err(fault) => {
+            assert_eq!(rt; fault.number(), 7);
+            Ok(())
+        }
     }
-    for server in SERVERS.split(' ') {
-        let text = with_server(alloc, server)?;
-        assert_eq!(rt; answer(alloc, text.as_str())?.as_str(), "read");
+}
+
+fn with_salt(alloc: Global, bytes: usize) -> Result<String, Fail> {
+    let mut text = String::from_str(
+        alloc,
+        "{\"route\":{\"type\":\"PoolRoute\",\"pool\":{\"servers\":[\"a:1\"]},\"hash\":{\"salt\":\"",
+    )?;
+    for _ in 0..bytes {
+        text.push('a')?;
     }
+    text.push_str("\"}}}")?;
+    Ok(text)
+}
+
+#[test]
+fn a_salt_has_at_most_200_bytes(rt: HostRuntime) -> Result<(), Fail> {
+    let alloc = rt.alloc();
+    assert_eq!(rt;
+        answer(alloc, with_salt(alloc, 200)?.as_str())?.as_str(),
+        "read"
+    );
+    assert_eq!(rt;
+        answer(alloc, with_salt(alloc, 201)?.as_str())?.as_str(),
+        "configuration 7 at /route/hash/salt"
+    );
     Ok(())
 }
 
@@ -149,6 +124,19 @@ fn broad(alloc: Global, children: usize) -> Result<String, Fail> {
     Ok(text)
 }
 
+/// A route with this many children, and one more behind it.
+fn two_broad(alloc: Global, children: usize) -> Result<String, Fail> {
+    let mut text = String::from_str(
+        alloc,
+        "{\"routes\":[{\"aliases\":[\"/a/b/\"],\"route\":{\"type\":\"AllSyncRoute\",\"children\":[\"NullRoute\"",
+    )?;
+    for _ in 1..children {
+        text.push_str(",\"NullRoute\"")?;
+    }
+    text.push_str("]}},{\"aliases\":[\"/a/c/\"],\"route\":\"NullRoute\"}]}")?;
+    Ok(text)
+}
+
 #[test]
 fn there_are_at_most_4096_handles(rt: HostRuntime) -> Result<(), Fail> {
     let alloc = rt.alloc();
@@ -160,6 +148,64 @@ fn there_are_at_most_4096_handles(rt: HostRuntime) -> Result<(), Fail> {
         answer(alloc, broad(alloc, 4_096)?.as_str())?.as_str(),
         "configuration 7 at /route/children/4095"
     );
+    assert_eq!(rt;
+        answer(alloc, two_broad(alloc, 4_095)?.as_str())?.as_str(),
+        "configuration 7 at /routes/1/route"
+    );
+    Ok(())
+}
+
+/// A pool with this many servers.
+fn with_servers(alloc: Global, servers: usize) -> Result<String, Fail> {
+    let mut text = String::from_str(
+        alloc,
+        "{\"route\":\"NullRoute\",\"pools\":{\"A\":{\"servers\":[\"a:1\"",
+    )?;
+    for _ in 1..servers {
+        text.push_str(",\"a:1\"")?;
+    }
+    text.push_str("]}}}")?;
+    Ok(text)
+}
+
+#[test]
+fn a_pool_has_at_most_4096_servers(rt: HostRuntime) -> Result<(), Fail> {
+    let alloc = rt.alloc();
+    assert_eq!(rt;
+        answer(alloc, with_servers(alloc, 4_096)?.as_str())?.as_str(),
+        "read"
+    );
+    assert_eq!(rt;
+        answer(alloc, with_servers(alloc, 4_097)?.as_str())?.as_str(),
+        "configuration 7 at /pools/A/servers"
+    );
+    Ok(())
+}
+
+const ROUTED: &str = "{
+  \"pools\": {\"A\": {\"servers\": [\"a:1\"]}}, // the only one with a name
+  \"routes\": [
+    {\"aliases\": [\"/a/b/\", \"/a/c/\"], \"route\": {\"type\": \"PoolRoute\", \"pool\": {\"servers\": [\"b:1\"]}}},
+    {\"aliases\": [\"/././\"], \"route\": {\"type\": \"PoolRoute\", \"pool\": {\"servers\": [\"a:1\"]}}}
+  ]
+}";
+
+#[test]
+fn routes_have_their_aliases(rt: HostRuntime) -> Result<(), Fail> {
+    let config = read_config(rt.alloc(), ROUTED.as_bytes())?;
+    assert_eq!(rt; config.pools.len(), 3);
+    assert_eq!(rt; config.servers.len(), 2);
+    let [first, second] = config.entries.as_slice() else {
+        return Err(Fail::from("two routes"));
+    };
+    let [one, other] = first.aliases.as_slice() else {
+        return Err(Fail::from("two aliases"));
+    };
+    assert_eq!(rt; one.as_bytes(), b"/a/b/".as_slice());
+    assert_eq!(rt; other.as_bytes(), b"/a/c/".as_slice());
+    assert!(rt; is_pool(&first.route, 1));
+    assert_eq!(rt; second.aliases.len(), 1);
+    assert!(rt; is_pool(&second.route, 2));
     Ok(())
 }
 
@@ -207,7 +253,7 @@ fn servers_are_numbered_by_first_appearance(rt: HostRuntime) -> Result<(), Fail>
 }
 
 fn is_pool(route: &NamedRoute, number: usize) -> bool {
-    matches!(route, NamedRoute::Pool(pool) if *pool == number)
+    matches!(route, NamedRoute::Pool { pool, .. } if *pool == number)
 }
 
 fn is_server_of(route: &NamedRoute, number: usize, place: usize) -> bool {
@@ -256,16 +302,103 @@ fn policies_stand_in_byte_order(rt: HostRuntime) -> Result<(), Fail> {
     }
 }
 
+const SHADOWED: &str = "{
+  \"pools\": {\"A\": {\"servers\": [\"a:1\", \"b:1\"]}},
+  \"route\": {
+    \"type\": \"PoolRoute\",
+    \"pool\": {\"servers\": [\"b:1\", \"c:1\"]},
+    \"hash\": {\"hash_func\": \"Crc32\", \"salt\": \"x\"},
+    \"shadows\": [{\"target\": \"PoolRoute|A\", \"index_range\": [1, 18446744073709551615]}]
+  }
+}";
+
+fn check_shadow(rt: &impl Abort, shadows: &[NamedShadow]) -> Result<(), Fail> {
+    let [shadow] = shadows else {
+        return Err(Fail::from("one shadow"));
+    };
+    assert_eq!(rt; shadow.first, 1);
+    assert_eq!(rt; shadow.last, 18_446_744_073_709_551_615);
+    assert!(rt; is_pool(&shadow.target, 0));
+    Ok(())
+}
+
 #[test]
-fn a_fault_tells_its_number_and_path(rt: HostRuntime) -> Result<(), Fail> {
-    match read_config(rt.alloc(), b"{\"route\":{\"type\":\"NullRoute\",\"x\":1}}") {
-        Ok(_) => Err(Fail::from("a fault")),
-        Err(fault) => {
-            assert_eq!(rt; fault.number(), 2);
-            assert_eq!(rt; fault.path(), "/route/x");
-            assert_eq!(rt; ConfigFault::Memory.number(), 11);
-            assert_eq!(rt; ConfigFault::Memory.path(), "");
+fn a_pool_has_a_hash_and_shadows(rt: HostRuntime) -> Result<(), Fail> {
+    let config = read_config(rt.alloc(), SHADOWED.as_bytes())?;
+    assert_eq!(rt; config.pools.len(), 2);
+    assert_eq!(rt; config.servers.find("c:1"), Some(ServerId(2)));
+    let entry = config.entries.as_slice().first().ok_or("an entry")?;
+    match &entry.route {
+        NamedRoute::Pool {
+            pool,
+            func,
+            salt,
+            shadows,
+        } => {
+            assert_eq!(rt; *pool, 1);
+            assert_eq!(rt; *func, HashFunc::Crc32);
+            assert_eq!(rt; salt.as_slice(), b"x".as_slice());
+            check_shadow(&rt, shadows.as_slice())
+        }
+        _ => Err(Fail::from("a pool")),
+    }
+}
+
+const IN_PHASES: &str = "{
+  \"pools\": {\"A\": {\"servers\": [\"a:1\"]}, \"B\": {\"servers\": [\"b:1\"]}},
+  \"route\": {
+    \"type\": \"MigrateRoute\",
+    \"from\": {\"type\": \"WarmUpRoute\", \"cold\": \"PoolRoute|B\", \"warm\": \"PoolRoute|A\", \"exptime\": 60},
+    \"to\": \"PoolRoute|A\",
+    \"start_time\": 1000
+  }
+}";
+
+#[test]
+fn a_migration_takes_an_hour(rt: HostRuntime) -> Result<(), Fail> {
+    let config = read_config(rt.alloc(), IN_PHASES.as_bytes())?;
+    let entry = config.entries.as_slice().first().ok_or("an entry")?;
+    match &entry.route {
+        NamedRoute::Migrate {
+            from,
+            to,
+            start,
+            interval,
+        } => {
+            assert_eq!(rt; *start, 1_000);
+            assert_eq!(rt; *interval, 3_600);
+            assert!(rt; is_pool(&**to, 0));
+            assert!(rt; matches!(&**from, NamedRoute::WarmUp { exptime: 60, .. }));
             Ok(())
         }
+        _ => Err(Fail::from("a migration")),
+    }
+}
+
+const BY_PREFIX: &str = "{
+  \"pools\": {\"A\": {\"servers\": [\"a:1\"]}},
+  \"route\": {
+    \"type\": \"PrefixSelectorRoute\",
+    \"policies\": {\"b\": \"NullRoute\", \"ab\": \"PoolRoute|A\"},
+    \"wildcard\": \"MissFailoverRoute|ErrorRoute\"
+  }
+}";
+
+#[test]
+fn prefixes_stand_in_byte_order(rt: HostRuntime) -> Result<(), Fail> {
+    let config = read_config(rt.alloc(), BY_PREFIX.as_bytes())?;
+    let entry = config.entries.as_slice().first().ok_or("an entry")?;
+    match &entry.route {
+        NamedRoute::PrefixSelector { policies, wildcard } => {
+            let [first, second] = policies.as_slice() else {
+                return Err(Fail::from("two policies"));
+            };
+            assert_eq!(rt; first.prefix.as_slice(), b"ab".as_slice());
+            assert!(rt; is_pool(&first.route, 0));
+            assert_eq!(rt; second.prefix.as_slice(), b"b".as_slice());
+            assert!(rt; matches!(wildcard.as_deref(), Some(NamedRoute::MissFailover(_))));
+            Ok(())
+        }
+        _ => Err(Fail::from("a selector")),
     }
 }

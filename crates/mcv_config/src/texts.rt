@@ -1,77 +1,92 @@
 //! The handles that a text names.
 
 ghost use Rattle.std.specs.Prelude.{◌≡◌, ◌<◌, length, map, option_map};
-ghost use Rattle.mcv_config.specs.Fault.{Gives};
-ghost use Rattle.mcv_config.specs.Path.{path_of};
+ghost use Rattle.mcv_names.specs.Fault.{Gives};
+ghost use Rattle.mcv_names.specs.Path.{path_of};
 ghost use Rattle.mcv_config.specs.Plan.{named_of};
-ghost use Rattle.mcv_config.specs.Routes.{IsOnly, branch, cut, route, servers, text_children, text_route};
-ghost use Rattle.mcv_config.specs.View.{pools_of};
+ghost use Rattle.mcv_config.specs.Routes.{IsOnly, branch, cut, plain_pool, route, servers, text_children, text_route};
+ghost use Rattle.mcv_config.specs.View.{so_far_of};
 
 use crate::config::NamedRoute;
-use crate::fault::{ConfigFault, FaultKind};
-use crate::handle::{Handle, Many};
-use crate::names::{handle_named, is_elsewhere};
-use crate::pools::{NamedPools, pool_named};
-use crate::trail::{Trail, fault};
+use crate::pools::pool_named;
+use crate::progress::Progress;
+use mcv_names::{
+    ConfigFault, FaultKind, Handle, Many, Trail, fault_at, handle_named, is_elsewhere,
+};
+use mcv_pools::HashFunc;
 use std::alloc::Global;
 
 /// The handle that a text names, with this many levels left for those below it.
-#[tactic(auto, using(crate::proofs::Faults::faults), unfolding(crate::specs::Routes::text_route))]
+#[tactic(auto, using(mcv_names::proofs::Faults::faults), unfolding(crate::specs::Routes::text_route))]
 #[cycle(text)]
 pub(crate) fn read_text(
     alloc: Global,
-    pools: &NamedPools,
     depth: usize,
-    room: &mut usize,
+    so_far: &mut Progress,
     trail: &Trail<'_>,
     text: &str,
 ) -> Result<NamedRoute, ConfigFault>
-    ensures { Gives (λ r. (named_of r, room.new)) result (text_route (pools_of pools.now) depth (route (pools_of pools.now) depth) room.old (path_of trail.now) text.now) }
+    ensures { Gives (λ r. (named_of r, so_far_of so_far.new)) result (text_route depth (route depth) (so_far_of so_far.old) (path_of trail.now) text.now) }
 {
     if is_elsewhere(text) {
-        return Err(fault(alloc, FaultKind::LeftOut, trail));
+        return Err(fault_at(alloc, FaultKind::LeftOut, trail));
     }
     let Some((name, rest)) = cut(text) else {
         return match handle_named(text) {
             Ok(Handle::Null) => Ok(NamedRoute::Null),
-            Ok(_) => Err(fault(alloc, FaultKind::WrongKind, trail)),
-            Err(kind) => Err(fault(alloc, kind, trail)),
+            Ok(Handle::Error) => Ok(NamedRoute::Error),
+            Ok(_) => Err(fault_at(alloc, FaultKind::WrongKind, trail)),
+            Err(kind) => Err(fault_at(alloc, kind, trail)),
         };
     };
     match handle_named(name) {
-        Ok(Handle::Pool) => Ok(NamedRoute::Pool(pool_named(alloc, pools, trail, rest)?)),
-        Ok(Handle::Null) => Err(fault(alloc, FaultKind::WrongKind, trail)),
+        Ok(Handle::Pool) => {
+            let pool = pool_named(alloc, &so_far.pools, trail, rest)?;
+            Ok(plain_pool(alloc, pool))
+        }
+        Ok(Handle::Error) => Ok(NamedRoute::Error),
         Ok(Handle::Many(many)) => {
-            let children = text_children(alloc, pools, depth, room, trail, rest)?;
+            let children = text_children(alloc, depth, so_far, trail, rest)?;
             Ok(with_children(many, children))
         }
-        Ok(Handle::OperationSelector) => Err(fault(alloc, FaultKind::WrongKind, trail)),
-        Err(kind) => Err(fault(alloc, kind, trail)),
+        Ok(_) => Err(fault_at(alloc, FaultKind::WrongKind, trail)),
+        Err(kind) => Err(fault_at(alloc, kind, trail)),
+    }
+}
+
+/// A pool under no other hash, without shadows.
+fn plain_pool(alloc: Global, pool: usize) -> NamedRoute
+    ensures { named_of result ≡ plain_pool pool }
+{
+    NamedRoute::Pool {
+        pool,
+        func: HashFunc::Ch3,
+        salt: Vec::new(alloc),
+        shadows: Vec::new(alloc),
     }
 }
 
 /// The children that a text stands for: a pool's servers, or one route.
-#[tactic(auto, using(crate::proofs::Faults::faults, crate::proofs::Levels::levels), unfolding(crate::specs::Routes::text_children))]
+#[tactic(auto, using(mcv_names::proofs::Faults::faults, crate::proofs::Levels::levels), unfolding(crate::specs::Routes::text_children))]
 #[cycle(text)]
 pub(crate) fn text_children(
     alloc: Global,
-    pools: &NamedPools,
     depth: usize,
-    room: &mut usize,
+    so_far: &mut Progress,
     trail: &Trail<'_>,
     text: &str,
 ) -> Result<Vec<NamedRoute>, ConfigFault>
-    ensures { Gives (λ v. (map named_of v.items, room.new)) result (text_children (pools_of pools.now) depth (route (pools_of pools.now) depth) room.old (path_of trail.now) text.now) }
+    ensures { Gives (λ v. (map named_of v.items, so_far_of so_far.new)) result (text_children depth (route depth) (so_far_of so_far.old) (path_of trail.now) text.now) }
 {
     if let Some(name) = text.strip_prefix("Pool|") {
-        let pool = pool_named(alloc, pools, trail, name)?;
-        return servers_of(alloc, pools, depth, room, trail, pool);
+        let pool = pool_named(alloc, &so_far.pools, trail, name)?;
+        return servers_of(alloc, depth, so_far, trail, pool);
     }
-    if depth == 0 || *room == 0 {
-        return Err(fault(alloc, FaultKind::Limit, trail));
+    if depth == 0 || so_far.room == 0 {
+        return Err(fault_at(alloc, FaultKind::Limit, trail));
     }
-    *room -= 1;
-    let child = read_text(alloc, pools, depth - 1, room, trail, text)?;
+    so_far.room -= 1;
+    let child = read_text(alloc, depth - 1, so_far, trail, text)?;
     only(alloc, child)
 }
 
@@ -81,6 +96,10 @@ pub(crate) fn with_children(many: Many, children: Vec<NamedRoute>) -> NamedRoute
 {
     match many {
         Many::AllSync => NamedRoute::AllSync(children),
+        Many::AllInitial => NamedRoute::AllInitial(children),
+        Many::AllAsync => NamedRoute::AllAsync(children),
+        Many::Failover => NamedRoute::Failover(children),
+        Many::MissFailover => NamedRoute::MissFailover(children),
     }
 }
 
@@ -93,26 +112,25 @@ fn cut(text: &str) -> Option<(&str, &str)>
 }
 
 /// The servers of a pool, each as a pool of its own.
-#[tactic(auto, using(crate::proofs::Faults::faults), unfolding(crate::specs::Routes::servers))]
+#[tactic(auto, using(mcv_names::proofs::Faults::faults), unfolding(crate::specs::Routes::servers))]
 fn servers_of(
     alloc: Global,
-    pools: &NamedPools,
     depth: usize,
-    room: &mut usize,
+    so_far: &mut Progress,
     trail: &Trail<'_>,
     pool: usize,
 ) -> Result<Vec<NamedRoute>, ConfigFault>
-    ensures { Gives (λ v. (map named_of v.items, room.new)) result (servers (pools_of pools.now) depth room.old (path_of trail.now) pool) }
+    ensures { Gives (λ v. (map named_of v.items, so_far_of so_far.new)) result (servers depth (so_far_of so_far.old) (path_of trail.now) pool) }
 {
-    let count = pools.size(pool);
-    if depth == 0 || *room < count {
-        return Err(fault(alloc, FaultKind::Limit, trail));
+    let count = so_far.pools.size(pool);
+    if depth == 0 || so_far.room < count {
+        return Err(fault_at(alloc, FaultKind::Limit, trail));
     }
     let mut children = Vec::new(alloc);
     for index in 0..count {
         children.push(NamedRoute::Server { pool, index })?;
     }
-    *room -= count;
+    so_far.room -= count;
     Ok(children)
 }
 

@@ -11,8 +11,8 @@ use Rattle.mcv_base.specs.declared.operation.Op.{Op}
 use Rattle.mcv_base.specs.declared.operation.Op.TheVariants.{Get, Gets, Set, Add, Replace, Append, Prepend, Cas, Delete, Touch}
 use Rattle.mcv_base.specs.Operation.{op_name}
 use Rattle.mcv_base.specs.Key.{is_key_word}
-use Rattle.mcv_config.specs.declared.fault.ConfigFault.{ConfigFault}
-use Rattle.mcv_config.specs.declared.fault.ConfigFault.TheVariants as config_faults
+use Rattle.mcv_names.specs.declared.fault.ConfigFault.{ConfigFault}
+use Rattle.mcv_names.specs.declared.fault.ConfigFault.TheVariants as config_faults
 use Rattle.mcv_config.specs.Config.{size_limit}
 use Rattle.mcv_legs.specs.declared.fault.RunFault.{RunFault}
 use Rattle.mcv_legs.specs.declared.fault.RunFault.TheVariants.{Line, NoRoute, Config, Memory, Device}

@@ -1,23 +1,17 @@
 -- That a text answers, by what each part of it is.
-use Rattle.std.proofs.Common.{◌≡◌, ◌∙◌, ◌<◌, ◌≤◌, ℕ, List, [], length, Option, Some, None, option_map, slice_index, refl, ap, ap₂, arith}
+use Rattle.std.proofs.Common.{◌≡◌, ◌∙◌, ◌<◌, ◌≤◌, ℕ, List, length, Option, Some, None, option_map, slice_index, refl, ap, ap₂, arith}
 use Rattle.mcv_base.specs.declared.operation.Op.{Op}
-use Rattle.mcv_base.specs.declared.reply.Outcome.{Outcome}
 use Rattle.mcv_base.specs.Key.{hashed_part}
 use Rattle.mcv_pools.specs.Choice.{chosen_each}
 use Rattle.mcv_pools.specs.Hash.{fnv_index}
 use Rattle.mcv_pools.specs.Symbol.{SymbolValue}
 use Rattle.mcv_config.specs.Config.{size_limit}
-use Rattle.mcv_route.specs.declared.launch.Launch.{Launch}
 use Rattle.mcv_route.specs.Eras.{breaks_of, since_at}
-use Rattle.mcv_route.specs.Launched.{launched}
-use Rattle.mcv_route.specs.Outcomes.{outcomes}
-use Rattle.mcv_route.specs.Reply.{reply}
 use Rattle.mcv_route.specs.Routes.{RouteEntry, RoutesValue}
 use Rattle.mcv_route.specs.Tree.{Tree}
 use Rattle.mcv_rules.specs.Called.{Called, situation_of}
 use Rattle.mcv_legs.specs.Answer.{shipped_choice, situation_at, text_of}
 use Rattle.mcv_legs.specs.Request.{Asks}
-use Rattle.mcv_legs.specs.Text.{legs_text}
 use Rattle.mcv_legs.proofs.Lines.{one_request}
 
 -- the entry whose tree was found
@@ -38,22 +32,18 @@ not_long input op other prefix rest configuration start end text asks more short
 
 -- what a call's rules tell, as lines
 abbrev told : RoutesValue → Called → List ℕ
-told routes call =
-    legs_text routes.servers (launched call.tree (situation_of call) (slice_index call.choice) (outcomes []))
-    (option_map (λ a. a.outcome) (reply call.tree (situation_of call) []))
+told routes call = text_of routes.servers call.tree (situation_of call) (slice_index call.choice)
 
-pub text_is_told : (text : List ℕ) (servers : List (List ℕ)) (legs : List Launch) (replied : Option Outcome) (call : Called) (routes : RoutesValue) (entry : RouteEntry)
+pub text_is_told : (text : List ℕ) (servers : List (List ℕ)) (call : Called) (routes : RoutesValue) (entry : RouteEntry)
     (moment : ℕ) (op : Op) (rest : List ℕ) (tree : Tree) (since : Option ℕ) (choice : List ℕ) (symbols : List SymbolValue) (part : List ℕ)
-    → text ≡ legs_text servers legs replied → servers ≡ routes.servers
-    → legs ≡ launched call.tree (situation_of call) (slice_index call.choice) (outcomes [])
-    → replied ≡ option_map (λ a. a.outcome) (reply call.tree (situation_of call) [])
+    → text ≡ text_of servers call.tree (situation_of call) (slice_index call.choice) → servers ≡ routes.servers
     → call ≡ record { tree = tree; op = op; rest = rest; since = since; choice = choice }
     → tree ≡ entry.tree → since ≡ since_at (breaks_of routes) moment
     → choice ≡ chosen_each fnv_index symbols part → symbols ≡ routes.symbols → part ≡ hashed_part rest
-    → text ≡ text_of entry routes (situation_at moment routes op rest) (shipped_choice routes rest)
-text_is_told text servers legs replied call routes entry moment op rest tree since choice symbols part text_is servers_is legs_is replied_is call_is tree_is since_is choice_is symbols_is part_is =
+    → text ≡ text_of routes.servers entry.tree (situation_at moment routes op rest) (shipped_choice routes rest)
+text_is_told text servers call routes entry moment op rest tree since choice symbols part text_is servers_is call_is tree_is since_is choice_is symbols_is part_is =
     let chosen : choice ≡ chosen_each fnv_index routes.symbols (hashed_part rest) = choice_is ∙ ap₂ (chosen_each fnv_index) symbols_is part_is in
     let of : Tree → Option ℕ → List ℕ → Called = λ t s c. record { tree = t; op = op; rest = rest; since = s; choice = c } in
     let same : call ≡ of entry.tree (since_at (breaks_of routes) moment) (chosen_each fnv_index routes.symbols (hashed_part rest)) =
     call_is ∙ ap (λ t. of t since choice) tree_is ∙ ap (λ s. of entry.tree s choice) since_is ∙ ap (of entry.tree (since_at (breaks_of routes) moment)) chosen in
-    text_is ∙ ap (λ s. legs_text s legs replied) servers_is ∙ ap₂ (legs_text routes.servers) legs_is replied_is ∙ ap (told routes) same
+    text_is ∙ ap (λ s. text_of s call.tree (situation_of call) (slice_index call.choice)) servers_is ∙ ap (told routes) same

@@ -14,6 +14,7 @@ use Rattle.mcv_route.specs.Places.{is_alias}
 use Rattle.mcv_route.specs.Reply.{reply}
 use Rattle.mcv_route.specs.Routes.{RouteEntry, RoutesValue}
 use Rattle.mcv_route.specs.Situation.{Situation, asked}
+use Rattle.mcv_route.specs.Tree.{Tree}
 use Rattle.mcv_legs.specs.Request.{Asks}
 use Rattle.mcv_legs.specs.Text.{legs_text}
 
@@ -29,10 +30,10 @@ situation_at moment routes op rest = asked op rest (since_at (breaks_of routes) 
 abbrev pub shipped_choice : RoutesValue → List ℕ → Choice
 shipped_choice routes rest = slice_index (chosen_each fnv_index routes.symbols (hashed_part rest))
 
--- the lines of the legs sent before any outcome, and of the reply that there is by then
-abbrev pub text_of : RouteEntry → RoutesValue → Situation → Choice → List ℕ
-text_of entry routes situation choice =
-    legs_text routes.servers (launched entry.tree situation choice (outcomes [])) (option_map (λ answer. answer.outcome) (reply entry.tree situation []))
+-- the lines of the legs that a tree sends before any outcome, and of the reply that there is by then
+abbrev pub text_of : List (List ℕ) → Tree → Situation → Choice → List ℕ
+text_of servers tree situation choice =
+    legs_text servers (launched tree situation choice (outcomes [])) (option_map (λ answer. answer.outcome) (reply tree situation []))
 
 -- the text answers the input at the moment
 pub record IsAnswer (moment : ℕ) (input text : List ℕ) : Type 0 where
@@ -45,7 +46,7 @@ pub record IsAnswer (moment : ℕ) (input text : List ℕ) : Type 0 where
   pub names : Names configuration plan
   pub entry : RouteEntry
   pub selected : entry_for prefix (routes_named plan) ≡ Some entry
-  pub is : text ≡ text_of entry (routes_named plan) (situation_at moment (routes_named plan) op rest) (shipped_choice (routes_named plan) rest)
+  pub is : text ≡ text_of (routes_named plan).servers entry.tree (situation_at moment (routes_named plan) op rest) (shipped_choice (routes_named plan) rest)
 
 -- the input asks, its configuration names a plan, and none of its routes has the prefix
 pub record IsWithoutRoute (input : List ℕ) : Type 0 where

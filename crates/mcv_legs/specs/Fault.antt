@@ -1,9 +1,9 @@
 -- Which fault of a run stands in an input, the numbers of the faults, and the exit statuses of the program (own).
 use Rattle.std.specs.Prelude.{◌≡◌, ℕ, List, ⊤, codes, string_bytes}
 use Rattle.mcv_base.specs.declared.operation.Op.{Op}
-use Rattle.mcv_config.specs.declared.fault.ConfigFault.{ConfigFault}
-use Rattle.mcv_config.specs.declared.fault.ConfigFault.TheVariants as config_faults
-use Rattle.mcv_config.specs.declared.fault.FaultKind.TheVariants.{Limit}
+use Rattle.mcv_names.specs.declared.fault.ConfigFault.{ConfigFault}
+use Rattle.mcv_names.specs.declared.fault.ConfigFault.TheVariants as config_faults
+use Rattle.mcv_names.specs.declared.fault.FaultKind.TheVariants.{Limit}
 use Rattle.mcv_config.specs.Config.{Faulty}
 use Rattle.mcv_legs.specs.declared.fault.RunFault.{RunFault}
 use Rattle.mcv_legs.specs.declared.fault.RunFault.TheVariants.{Line, NoRoute, Config, Memory, Device}

@@ -1,13 +1,14 @@
 //! The path from the bytes read to the bytes written.
 
-ghost use Rattle.std.specs.Prelude.{◌≡◌, ◌≢◌, ◌<◌, ℕ, List, length, find, option_map, IfSome, IfOk, IfErr, OnOk};
+ghost use Rattle.std.specs.Prelude.{◌≡◌, ◌≢◌, ◌<◌, ℕ, List, length, find, option_map, IfSome, IfOk, IfErr, OnOk, slice_index};
 ghost use Rattle.std.specs.Io.KnownBytes.{Appends};
 ghost use Rattle.mcv_config.specs.Config.{Names, size_limit};
 ghost use Rattle.mcv_config.specs.Plan.{Plan};
 ghost use Rattle.mcv_route.specs.Built.{routes_named};
 ghost use Rattle.mcv_route.specs.View.{view};
 ghost use Rattle.mcv_base.specs.declared.operation.Op.{Op};
-ghost use Rattle.mcv_legs.specs.Answer.{IsAnswer, entry_for};
+ghost use Rattle.mcv_rules.specs.Called.{situation_of};
+ghost use Rattle.mcv_legs.specs.Answer.{IsAnswer, entry_for, text_of};
 ghost use Rattle.mcv_legs.specs.Fault.{IsRefusal, IsRunFault, IsTooLong};
 ghost use Rattle.mcv_legs.specs.Request.{Asks};
 
@@ -17,10 +18,10 @@ use crate::request::read_request;
 use crate::text::legs_text;
 use mcv_base::{Moment, Prefix, hashed_part};
 use mcv_config::{ConfigFault, FaultKind, read_config};
-use mcv_pools::{Fnv, choose};
+use mcv_pools::{Fnv, Servers, choose};
 use mcv_route::{Route, Routes};
-use mcv_rules::Eval;
-use std::alloc::Global;
+use mcv_rules::{Eval, Outcomes};
+use std::alloc::{AllocError, Global};
 use std::io::{Read, Write};
 
 /// Reads a request line and a configuration, and writes the legs that the request sends at the
@@ -60,9 +61,17 @@ fn answer_text(alloc: Global, input: &[u8], moment: Moment) -> Result<Vec<u8>, R
     let choice = choose(alloc, &Fnv, routes.symbols(), hashed_part(&asked.rest))?;
     let since = routes.since(moment);
     let eval = Eval::new(alloc, route, asked.op, &asked.rest, since, &choice)?;
-    let legs = eval.launched(alloc, &[])?;
-    let reply = eval.status(&[]).outcome(&[]);
-    Ok(legs_text(alloc, routes.servers(), legs.as_slice(), reply)?)
+    Ok(first_text(alloc, &eval, routes.servers())?)
+}
+
+/// The text of the legs that a call sends before any outcome, and of the reply that it has by then.
+fn first_text(alloc: Global, eval: &Eval, servers: &Servers) -> Result<Vec<u8>, AllocError>
+    ensures { IfOk result (λ text. text.items ≡ text_of servers.now eval.now.tree (situation_of eval.now) (slice_index eval.now.choice)) }
+{
+    let none = Outcomes::of(alloc, &[])?;
+    let legs = eval.launched(alloc, &none)?;
+    let reply = eval.status(&none).outcome(&[]);
+    legs_text(alloc, servers, legs.as_slice(), reply)
 }
 
 /// The fault of a configuration that is longer than any may be.

@@ -4,26 +4,33 @@ use Rattle.std.specs.List.{All}
 use Rattle.std.specs.Prelude.{slice_index, slice_index_or}
 use Rattle.std.specs.declared.sync.Arc.{Arc}
 use Rattle.std.proofs.lemmas.List.{map-append, take_more, get_or-map, length-map}
-use Rattle.std.proofs.lemmas.List.Elements.{All-nil, All-cons}
+use Rattle.std.proofs.lemmas.List.Elements.{All-nil, All-cons, All-head}
 use Rattle.mcv_base.specs.declared.operation.Op.{Op}
 use Rattle.mcv_base.specs.declared.request.ServerId.{ServerId}
-use Rattle.mcv_config.specs.Plan.{Named, Nameds, named_of, policy_of, nameds_of, IsSoundRoute, AreSoundRoutes}
+use Rattle.mcv_config.specs.Plan.{Range, Named, Nameds, named_of, policy_of, prefix_of, shadow_of, nameds_of, IsSoundRoute, AreSoundRoutes}
 use Rattle.mcv_config.specs.Plan as plan
 use Rattle.mcv_config.specs.declared.config.NamedRoute as config
 use Rattle.mcv_config.specs.declared.config.NamedRoute.{NamedRoute}
 use Rattle.mcv_config.specs.declared.config.NamedPolicy.{NamedPolicy, out-NamedPolicy}
+use Rattle.mcv_config.specs.declared.config.NamedPrefix.{NamedPrefix, out-NamedPrefix}
+use Rattle.mcv_config.specs.declared.config.NamedShadow.{NamedShadow, out-NamedShadow}
+use Rattle.mcv_pools.specs.declared.symbol.HashFunc.{HashFunc}
 use Rattle.mcv_pools.specs.Symbol.{SymbolValue, same_symbol}
 use Rattle.mcv_pools.specs.Table.{with_entry}
-use Rattle.mcv_route.specs.Built.{pool_at, server_at, symbol_of, pool_route}
-use Rattle.mcv_route.specs.View.{view, operation_view, pool_view}
-use Rattle.mcv_route.specs.Walk.{IsBuilt, list_view}
-use Rattle.mcv_route.specs.Tree.{Tree, pool, none}
+use Rattle.mcv_pools.specs.declared.symbol.HashFunc.TheVariants.{Ch3}
+use Rattle.mcv_route.specs.Built.{pool_at, server_at, symbol_of, pool_named}
+use Rattle.mcv_route.specs.View.{view, operation_view, prefix_view, shadow_view, pool_view}
+use Rattle.mcv_route.specs.Walk.{IsBuilt, last_named, list_view}
+use Rattle.mcv_route.specs.Tree.{Tree, Trees, pool, null, error, warm_up, migrate, none}
 use Rattle.mcv_route.specs.declared.tree.Leaf.{Leaf}
-use Rattle.mcv_route.specs.declared.tree.Route.{Route, Pool, AllSync, OperationSelector}
+use Rattle.mcv_route.specs.declared.tree.Route.{Route, Pool, Null, Error, AllSync, AllInitial, AllAsync, Failover, MissFailover, WarmUp, Migrate, PrefixSelector, OperationSelector}
 use Rattle.mcv_route.specs.declared.tree.OperationPolicy.{OperationPolicy, out-OperationPolicy}
-use Rattle.mcv_route.proofs.Nameds.{names_of, policies_of, default_of, policy_of-out, named_of-Pool, named_of-Server, named_of-AllSync, named_of-OperationSelector}
-use Rattle.mcv_route.proofs.Views.{operations_of, routes_of, last_view, operation_view-out, view-Pool, view-AllSync, view-OperationSelector}
-use Rattle.mcv_route.proofs.Numbers.{built-append, built-none, built-pool, built-server, built-all_sync, built-operation_selector}
+use Rattle.mcv_route.specs.declared.tree.PrefixPolicy.{PrefixPolicy, out-PrefixPolicy}
+use Rattle.mcv_route.specs.declared.tree.Shadow.{Shadow, out-Shadow}
+use Rattle.mcv_route.proofs.Nameds.{children_of, names_of, policies_of, policy_of-out, prefix_of-out, shadow_of-out, prefix_routes_of, named_of-Pool, named_of-Server, named_of-Null, named_of-Error, named_of-AllSync, named_of-AllInitial, named_of-AllAsync, named_of-Failover, named_of-MissFailover, named_of-WarmUp, named_of-Migrate, named_of-PrefixSelector, named_of-OperationSelector}
+use Rattle.mcv_route.proofs.Nameds.{ranges_of as asked_ranges, targets_of as asked_targets, prefixes_of as asked_prefixes}
+use Rattle.mcv_route.proofs.Views.{operations_of, prefixes_of, ranges_of, targets_of, last_view, operation_view-out, prefix_view-out, shadow_view-out, view-Pool, view-Null, view-Error, view-AllSync, view-AllInitial, view-AllAsync, view-Failover, view-MissFailover, view-WarmUp, view-Migrate, view-PrefixSelector, view-OperationSelector}
+use Rattle.mcv_route.proofs.Numbers.{built-append, built-none, built-pool, built-server, built-all_sync, built-all_initial, built-all_async, built-failover, built-miss_failover, built-warm_up, built-migrate, built-prefix_selector, built-operation_selector}
 
 -- ---- lists
 
@@ -53,44 +60,95 @@ AreSoundRoutes-append : (pools : List (List ℕ)) (ns ms : List Named) → AreSo
 AreSoundRoutes-append pools [] ms h = (tt, h)
 AreSoundRoutes-append pools (n ∷ ns) ms h = let more = AreSoundRoutes-append pools ns ms h.1 in ((h.0, more.0), more.1)
 
-pub sound-server : (pools : List (List ℕ)) (route : NamedRoute) (i k : ℕ) → route ≡ config.Server i k → IsSoundRoute pools (named_of route) → (i < length pools) × (k < length (pool_at pools i))
-sound-server pools route i k is h = subst (IsSoundRoute pools) (ap named_of is ∙ named_of-Server i k) h
+both-sound : (pools : List (List ℕ)) (ns ms : List Named) → AreSoundRoutes pools (nameds_of (ns ++ ms)) → All (IsSoundRoute pools) ns × All (IsSoundRoute pools) ms
+both-sound pools ns ms h = let parts = AreSoundRoutes-append pools ns ms h in (all-sound pools ns parts.0, all-sound pools ms parts.1)
 
-pub sound-pool : (pools : List (List ℕ)) (route : NamedRoute) (i : ℕ) → route ≡ config.Pool i → IsSoundRoute pools (named_of route) → i < length pools
-sound-pool pools route i is h = subst (IsSoundRoute pools) (ap named_of is ∙ named_of-Pool i) h
+pub sound-pool : (pools : List (List ℕ)) (route : NamedRoute) (k : ℕ) (func : HashFunc) (salt : Vec ℕ Global) (v : Vec NamedShadow Global) → route ≡ config.Pool k func salt v → IsSoundRoute pools (named_of route) → k < length pools
+sound-pool pools route k func salt v is h = let both = subst (IsSoundRoute pools) (ap named_of is ∙ named_of-Pool k func salt v) h in both.0
 
-pub sound-all_sync : (pools : List (List ℕ)) (route : NamedRoute) (v : Vec NamedRoute Global) → route ≡ config.AllSync v → IsSoundRoute pools (named_of route) → All (IsSoundRoute pools) (map named_of v.items)
-sound-all_sync pools route v is h =
-    let both = subst (IsSoundRoute pools) (ap named_of is ∙ named_of-AllSync v) h in
-    all-sound pools (map named_of v.items) both.1
+pub sound-shadows : (pools : List (List ℕ)) (route : NamedRoute) (k : ℕ) (func : HashFunc) (salt : Vec ℕ Global) (v : Vec NamedShadow Global) → route ≡ config.Pool k func salt v → IsSoundRoute pools (named_of route)
+    → All (λ s. IsSoundRoute pools s.1) (map shadow_of v.items)
+sound-shadows pools route k func salt v is h =
+    let both = subst (IsSoundRoute pools) (ap named_of is ∙ named_of-Pool k func salt v) h in
+    All-unmap (IsSoundRoute pools) (λ s. s.1) (map shadow_of v.items) (all-sound pools (asked_targets v.items) both.1)
 
-sound-selector : (pools : List (List ℕ)) (route : NamedRoute) (v : Vec NamedPolicy Global) (d : Option (Box NamedRoute Global)) → route ≡ config.OperationSelector v d → IsSoundRoute pools (named_of route)
-    → AreSoundRoutes pools (nameds_of (policies_of v.items)) × AreSoundRoutes pools (nameds_of (default_of d))
-sound-selector pools route v d is h =
-    AreSoundRoutes-append pools (policies_of v.items) (default_of d) (subst (IsSoundRoute pools) (ap named_of is ∙ named_of-OperationSelector v d) h)
+pub sound-server : (pools : List (List ℕ)) (route : NamedRoute) (k n : ℕ) → route ≡ config.Server k n → IsSoundRoute pools (named_of route) → (k < length pools) × (n < length (pool_at pools k))
+sound-server pools route k n is h = subst (IsSoundRoute pools) (ap named_of is ∙ named_of-Server k n) h
+
+pub sound-AllSync : (pools : List (List ℕ)) (route : NamedRoute) (v : Vec NamedRoute Global) → route ≡ config.AllSync v → IsSoundRoute pools (named_of route) → All (IsSoundRoute pools) (map named_of v.items)
+sound-AllSync pools route v is h = let both = subst (IsSoundRoute pools) (ap named_of is ∙ named_of-AllSync v) h in all-sound pools (map named_of v.items) both.1
+
+pub sound-AllInitial : (pools : List (List ℕ)) (route : NamedRoute) (v : Vec NamedRoute Global) → route ≡ config.AllInitial v → IsSoundRoute pools (named_of route) → All (IsSoundRoute pools) (map named_of v.items)
+sound-AllInitial pools route v is h = let both = subst (IsSoundRoute pools) (ap named_of is ∙ named_of-AllInitial v) h in all-sound pools (map named_of v.items) both.1
+
+pub sound-AllAsync : (pools : List (List ℕ)) (route : NamedRoute) (v : Vec NamedRoute Global) → route ≡ config.AllAsync v → IsSoundRoute pools (named_of route) → All (IsSoundRoute pools) (map named_of v.items)
+sound-AllAsync pools route v is h = let both = subst (IsSoundRoute pools) (ap named_of is ∙ named_of-AllAsync v) h in all-sound pools (map named_of v.items) both.1
+
+pub sound-Failover : (pools : List (List ℕ)) (route : NamedRoute) (v : Vec NamedRoute Global) → route ≡ config.Failover v → IsSoundRoute pools (named_of route) → All (IsSoundRoute pools) (map named_of v.items)
+sound-Failover pools route v is h = let both = subst (IsSoundRoute pools) (ap named_of is ∙ named_of-Failover v) h in all-sound pools (map named_of v.items) both.1
+
+pub sound-MissFailover : (pools : List (List ℕ)) (route : NamedRoute) (v : Vec NamedRoute Global) → route ≡ config.MissFailover v → IsSoundRoute pools (named_of route) → All (IsSoundRoute pools) (map named_of v.items)
+sound-MissFailover pools route v is h = let both = subst (IsSoundRoute pools) (ap named_of is ∙ named_of-MissFailover v) h in all-sound pools (map named_of v.items) both.1
+
+pub sound-WarmUp : (pools : List (List ℕ)) (route : NamedRoute) (cold warm : Box NamedRoute Global) (exptime : ℕ) → route ≡ config.WarmUp cold warm exptime → IsSoundRoute pools (named_of route)
+    → IsSoundRoute pools (named_of cold.value) × IsSoundRoute pools (named_of warm.value)
+sound-WarmUp pools route cold warm exptime is h = subst (IsSoundRoute pools) (ap named_of is ∙ named_of-WarmUp cold warm exptime) h
+
+pub sound-Migrate : (pools : List (List ℕ)) (route : NamedRoute) (from to : Box NamedRoute Global) (start interval : ℕ) → route ≡ config.Migrate from to start interval → IsSoundRoute pools (named_of route)
+    → IsSoundRoute pools (named_of from.value) × IsSoundRoute pools (named_of to.value)
+sound-Migrate pools route from to start interval is h = subst (IsSoundRoute pools) (ap named_of is ∙ named_of-Migrate from to start interval) h
+
+-- the policies, and what stands after them
+sound-PrefixSelector : (pools : List (List ℕ)) (route : NamedRoute) (v : Vec NamedPrefix Global) (d : Option (Box NamedRoute Global)) → route ≡ config.PrefixSelector v d → IsSoundRoute pools (named_of route)
+    → All (IsSoundRoute pools) (prefix_routes_of v.items) × All (IsSoundRoute pools) (last_named d)
+sound-PrefixSelector pools route v d is h = both-sound pools (prefix_routes_of v.items) (last_named d) (subst (IsSoundRoute pools) (ap named_of is ∙ named_of-PrefixSelector v d) h)
+
+pub sound-prefixes : (pools : List (List ℕ)) (route : NamedRoute) (v : Vec NamedPrefix Global) (d : Option (Box NamedRoute Global)) → route ≡ config.PrefixSelector v d → IsSoundRoute pools (named_of route)
+    → All (λ p. IsSoundRoute pools p.1) (map prefix_of v.items)
+sound-prefixes pools route v d is h = All-unmap (IsSoundRoute pools) (λ p. p.1) (map prefix_of v.items) (sound-PrefixSelector pools route v d is h).0
+
+pub sound-wildcard : (pools : List (List ℕ)) (route : NamedRoute) (v : Vec NamedPrefix Global) (d : Option (Box NamedRoute Global)) → route ≡ config.PrefixSelector v d → IsSoundRoute pools (named_of route)
+    → All (IsSoundRoute pools) (last_named d)
+sound-wildcard pools route v d is h = (sound-PrefixSelector pools route v d is h).1
+
+sound-OperationSelector : (pools : List (List ℕ)) (route : NamedRoute) (v : Vec NamedPolicy Global) (d : Option (Box NamedRoute Global)) → route ≡ config.OperationSelector v d → IsSoundRoute pools (named_of route)
+    → All (IsSoundRoute pools) (policies_of v.items) × All (IsSoundRoute pools) (last_named d)
+sound-OperationSelector pools route v d is h = both-sound pools (policies_of v.items) (last_named d) (subst (IsSoundRoute pools) (ap named_of is ∙ named_of-OperationSelector v d) h)
 
 pub sound-policies : (pools : List (List ℕ)) (route : NamedRoute) (v : Vec NamedPolicy Global) (d : Option (Box NamedRoute Global)) → route ≡ config.OperationSelector v d → IsSoundRoute pools (named_of route)
     → All (λ p. IsSoundRoute pools p.1) (map policy_of v.items)
-sound-policies pools route v d is h =
-    All-unmap (IsSoundRoute pools) (λ p. p.1) (map policy_of v.items) (all-sound pools (policies_of v.items) (sound-selector pools route v d is h).0)
+sound-policies pools route v d is h = All-unmap (IsSoundRoute pools) (λ p. p.1) (map policy_of v.items) (sound-OperationSelector pools route v d is h).0
 
-pub sound-default : (pools : List (List ℕ)) (route : NamedRoute) (v : Vec NamedPolicy Global) (d : Option (Box NamedRoute Global)) (b : Box NamedRoute Global)
-    → route ≡ config.OperationSelector v d → d ≡ Some b → IsSoundRoute pools (named_of route) → IsSoundRoute pools (named_of b.value)
-sound-default pools route v d b is some h =
-    let P : Option (Box NamedRoute Global) → Type 0 = λ o. AreSoundRoutes pools (nameds_of (default_of o)) in
-    let both = subst P some (sound-selector pools route v d is h).1 in
-    both.0
+pub sound-default : (pools : List (List ℕ)) (route : NamedRoute) (v : Vec NamedPolicy Global) (d : Option (Box NamedRoute Global)) → route ≡ config.OperationSelector v d → IsSoundRoute pools (named_of route)
+    → All (IsSoundRoute pools) (last_named d)
+sound-default pools route v d is h = (sound-OperationSelector pools route v d is h).1
+
+pub sound-last : (pools : List (List ℕ)) (d : Option (Box NamedRoute Global)) (b : Box NamedRoute Global) → d ≡ Some b → All (IsSoundRoute pools) (last_named d) → IsSoundRoute pools (named_of b.value)
+sound-last pools d b some h =
+    let P : Option (Box NamedRoute Global) → Type 0 = λ o. All (IsSoundRoute pools) (last_named o) in
+    All-head (IsSoundRoute pools) (named_of b.value) [] (subst P some h)
+
+pub sound-shadow : (pools : List (List ℕ)) (shadows : List NamedShadow) (i : ℕ) (s : NamedShadow) → All (λ q. IsSoundRoute pools q.1) (map shadow_of shadows) → i < length shadows → s ≡ get_or shadows i s
+    → IsSoundRoute pools (named_of (out-NamedShadow s).target)
+sound-shadow pools shadows i s all h is = subst (IsSoundRoute pools) (ap (λ q. q.1) (shadow_of-out s)) (All-at (λ q. IsSoundRoute pools q.1) shadow_of shadows i s all h is)
+
+pub sound-prefix : (pools : List (List ℕ)) (policies : List NamedPrefix) (i : ℕ) (p : NamedPrefix) → All (λ q. IsSoundRoute pools q.1) (map prefix_of policies) → i < length policies → p ≡ get_or policies i p
+    → IsSoundRoute pools (named_of (out-NamedPrefix p).route)
+sound-prefix pools policies i p all h is = subst (IsSoundRoute pools) (ap (λ q. q.1) (prefix_of-out p)) (All-at (λ q. IsSoundRoute pools q.1) prefix_of policies i p all h is)
 
 pub sound-policy : (pools : List (List ℕ)) (policies : List NamedPolicy) (i : ℕ) (p : NamedPolicy) → All (λ q. IsSoundRoute pools q.1) (map policy_of policies) → i < length policies → p ≡ get_or policies i p
     → IsSoundRoute pools (named_of (out-NamedPolicy p).route)
-sound-policy pools policies i p all h is =
-    subst (IsSoundRoute pools) (ap (λ q. q.1) (policy_of-out p)) (All-at (λ q. IsSoundRoute pools q.1) policy_of policies i p all h is)
+sound-policy pools policies i p all h is = subst (IsSoundRoute pools) (ap (λ q. q.1) (policy_of-out p)) (All-at (λ q. IsSoundRoute pools q.1) policy_of policies i p all h is)
 
 -- ---- PoolRoute
 
 -- the pool at a place is what the shared list there shows
 pool_at-list : (lists : List (Arc (Vec ServerId Global) Global)) (i : ℕ) (item : Arc (Vec ServerId Global) Global) → i < length lists → item ≡ get_or lists i item → pool_at (map list_view lists) i ≡ list_view item
 pool_at-list lists i item h is = get_or-map list_view lists i item [] h ∙ ap list_view (sym is)
+
+pub list-at : (lists : List (Arc (Vec ServerId Global) Global)) (i : ℕ) (item servers : Arc (Vec ServerId Global) Global) → i < length lists → item ≡ get_or lists i item → servers.value ≡ item.value
+    → list_view servers ≡ pool_at (map list_view lists) i
+list-at lists i item servers h is same = ap (λ v. map (λ s. s.0) v.items) same ∙ sym (pool_at-list lists i item h is)
 
 pub length-server : (lists : List (Arc (Vec ServerId Global) Global)) (i k : ℕ) (item : Arc (Vec ServerId Global) Global) → i < length lists → item ≡ get_or lists i item
     → k < length (pool_at (map list_view lists) i) → k < length item.value.items
@@ -103,28 +161,51 @@ length-pool lists i item servers all h is same =
     let filled : 0 < length (list_view item) = All-at (λ s. 0 < length s) list_view lists i item all h is in
     omega (arith, filled, ap (λ v. length (map (λ s. s.0) v.items)) same)
 
-pub built-Pool : (lists : List (Arc (Vec ServerId Global) Global)) (route : NamedRoute) (i : ℕ) (item servers : Arc (Vec ServerId Global) Global) (t u : List SymbolValue) (leaf : Leaf)
-    → route ≡ config.Pool i → i < length lists → item ≡ get_or lists i item → servers.value ≡ item.value
-    → u ≡ with_entry same_symbol t (symbol_of (list_view servers)) → pool (pool_view leaf) [] none ≡ pool_route u (list_view servers)
-    → IsBuilt (map list_view lists) t (named_of route ∷ []) u (view (Pool leaf) ∷ [])
-built-Pool lists route i item servers t u leaf is h item-is same table tree =
-    let shown : list_view servers ≡ pool_at (map list_view lists) i = ap (λ v. map (λ s. s.0) v.items) same ∙ sym (pool_at-list lists i item h item-is) in
-    let P : Named → Type 0 = λ n. IsBuilt (map list_view lists) t (n ∷ []) u (view (Pool leaf) ∷ []) in
-    subst P (sym (ap named_of is ∙ named_of-Pool i)) (built-pool (map list_view lists) t u i (list_view servers) (view (Pool leaf)) shown table (view-Pool leaf ∙ tree))
-
-pub built-Server : (lists : List (Arc (Vec ServerId Global) Global)) (route : NamedRoute) (i k : ℕ) (item servers : Arc (Vec ServerId Global) Global) (server : ServerId) (t u : List SymbolValue) (leaf : Leaf)
-    → route ≡ config.Server i k → i < length lists → item ≡ get_or lists i item → k < length item.value.items → server ≡ get_or item.value.items k server → servers.value.items ≡ server ∷ []
-    → u ≡ with_entry same_symbol t (symbol_of (list_view servers)) → pool (pool_view leaf) [] none ≡ pool_route u (list_view servers)
-    → IsBuilt (map list_view lists) t (named_of route ∷ []) u (view (Pool leaf) ∷ [])
-built-Server lists route i k item servers server t u leaf is h item-is k-in server-is one table tree =
+-- a list of one server of a pool
+pub server-at : (lists : List (Arc (Vec ServerId Global) Global)) (i k : ℕ) (item servers : Arc (Vec ServerId Global) Global) (server : ServerId)
+    → i < length lists → item ≡ get_or lists i item → k < length item.value.items → server ≡ get_or item.value.items k server → servers.value.items ≡ server ∷ []
+    → list_view servers ≡ server_at (map list_view lists) i k
+server-at lists i k item servers server h item-is k-in server-is one =
     let number : ServerId → ℕ = λ s. s.0 in
     let place : slice_index (pool_at (map list_view lists) i) k ≡ server.0 =
     ap (λ xs. slice_index xs k) (pool_at-list lists i item h item-is) ∙ get_or-map number item.value.items k server 0 k-in ∙ ap number (sym server-is) in
-    let shown : list_view servers ≡ server_at (map list_view lists) i k = ap (map number) one ∙ ap (λ n. n ∷ []) (sym place) in
-    let P : Named → Type 0 = λ n. IsBuilt (map list_view lists) t (n ∷ []) u (view (Pool leaf) ∷ []) in
-    subst P (sym (ap named_of is ∙ named_of-Server i k)) (built-server (map list_view lists) t u i k (list_view servers) (view (Pool leaf)) shown table (view-Pool leaf ∙ tree))
+    ap (map number) one ∙ ap (λ n. n ∷ []) (sym place)
 
--- ---- handles with children
+-- ---- handles
+
+-- what is built under other names
+built-as : (pools : List (List ℕ)) (t u : List SymbolValue) (n m : Named) (x y : Tree) → n ≡ m → x ≡ y → IsBuilt pools t (m ∷ []) u (y ∷ []) → IsBuilt pools t (n ∷ []) u (x ∷ [])
+built-as pools t u n m x y e f b =
+    let P : Named → Tree → Type 0 = λ k z. IsBuilt pools t (k ∷ []) u (z ∷ []) in
+    subst (λ k. P k x) (sym e) (subst (P m) (sym f) b)
+
+-- with the targets of the shadows built after the leaf
+pub built-Pool : (pools : List (List ℕ)) (route : NamedRoute) (k : ℕ) (func : HashFunc) (salt : Vec ℕ Global) (v : Vec NamedShadow Global) (salted : List ℕ) (shadows : List NamedShadow) (t u x : List SymbolValue) (leaf : Leaf) (w : Vec Shadow Global)
+    → route ≡ config.Pool k func salt v → salted ≡ salt.items → shadows ≡ v.items
+    → u ≡ with_entry same_symbol t (symbol_of func salted (pool_at pools k)) → pool_view leaf ≡ pool_named u func salted (pool_at pools k)
+    → ranges_of w.items ≡ asked_ranges shadows → IsBuilt pools u (asked_targets shadows) x (map (λ s. s.1) (map shadow_view w.items))
+    → IsBuilt pools t (named_of route ∷ []) x (view (Pool leaf w) ∷ [])
+built-Pool pools route k func salt v salted shadows t u x leaf w is salt-is same table leaf-is ranges b =
+    let own : named_of route ≡ plan.pool k func salted (asked_ranges shadows) (nameds_of (asked_targets shadows)) =
+    ap named_of is ∙ named_of-Pool k func salt v ∙ (λ i. plan.pool k func (sym salt-is i) (asked_ranges (sym same i)) (nameds_of (asked_targets (sym same i)))) in
+    let named : named_of route ≡ plan.pool k func salted (ranges_of w.items) (nameds_of (asked_targets shadows)) =
+    own ∙ ap (λ r. plan.pool k func salted r (nameds_of (asked_targets shadows))) (sym ranges) in
+    built-as pools t x _ _ _ _ named (view-Pool leaf w)
+    (built-pool pools t u x k func salted (ranges_of w.items) (pool_view leaf) (asked_targets shadows) (map (λ s. s.1) (map shadow_view w.items)) table leaf-is b)
+
+pub built-Server : (pools : List (List ℕ)) (route : NamedRoute) (k n : ℕ) (t u : List SymbolValue) (leaf : Leaf) (w : Vec Shadow Global)
+    → route ≡ config.Server k n → w.items ≡ []
+    → u ≡ with_entry same_symbol t (symbol_of Ch3 [] (server_at pools k n)) → pool_view leaf ≡ pool_named u Ch3 [] (server_at pools k n)
+    → IsBuilt pools t (named_of route ∷ []) u (view (Pool leaf w) ∷ [])
+built-Server pools route k n t u leaf w is bare table leaf-is =
+    let P : List Shadow → Type 0 = λ ss. view (Pool leaf w) ≡ pool (pool_view leaf) (ranges_of ss) (targets_of ss) in
+    built-as pools t u _ _ _ _ (ap named_of is ∙ named_of-Server k n) (subst P bare (view-Pool leaf w)) (built-server pools t u k n (pool_view leaf) table leaf-is)
+
+pub built-Null : (pools : List (List ℕ)) (route : NamedRoute) (t : List SymbolValue) → route ≡ config.Null → IsBuilt pools t (named_of route ∷ []) t (view Null ∷ [])
+built-Null pools route t is = built-as pools t t _ _ _ _ (ap named_of is ∙ named_of-Null) view-Null (record { table = refl; trees_are = refl })
+
+pub built-Error : (pools : List (List ℕ)) (route : NamedRoute) (t : List SymbolValue) → route ≡ config.Error → IsBuilt pools t (named_of route ∷ []) t (view Error ∷ [])
+built-Error pools route t is = built-as pools t t _ _ _ _ (ap named_of is ∙ named_of-Error) view-Error (record { table = refl; trees_are = refl })
 
 pub child-more : (pools : List (List ℕ)) (t u v : List SymbolValue) (children : List NamedRoute) (i : ℕ) (child : NamedRoute) (routes : List Route) (r : Route)
     → i < length children → child ≡ get_or children i child
@@ -138,50 +219,99 @@ pub built-AllSync : (pools : List (List ℕ)) (route : NamedRoute) (v : Vec Name
     → route ≡ config.AllSync v → children ≡ v.items → IsBuilt pools t (map named_of children) u (map view w.items)
     → IsBuilt pools t (named_of route ∷ []) u (view (AllSync w) ∷ [])
 built-AllSync pools route v children t u w is same b =
-    let P : Named → Tree → Type 0 = λ n x. IsBuilt pools t (n ∷ []) u (x ∷ []) in
-    let e : named_of route ≡ plan.all_sync (nameds_of (map named_of children)) = ap named_of is ∙ named_of-AllSync v ∙ ap (λ xs. plan.all_sync (nameds_of (map named_of xs))) (sym same) in
-    rw (e, view-AllSync w) (built-all_sync pools t u (map named_of children) (map view w.items) b)
+    built-as pools t u _ _ _ _ (ap named_of is ∙ named_of-AllSync v ∙ ap (λ xs. plan.all_sync (children_of xs)) (sym same)) (view-AllSync w) (built-all_sync pools t u (map named_of children) (map view w.items) b)
 
--- ---- OperationSelectorRoute
+pub built-AllInitial : (pools : List (List ℕ)) (route : NamedRoute) (v : Vec NamedRoute Global) (children : List NamedRoute) (t u : List SymbolValue) (w : Vec Route Global)
+    → route ≡ config.AllInitial v → children ≡ v.items → IsBuilt pools t (map named_of children) u (map view w.items)
+    → IsBuilt pools t (named_of route ∷ []) u (view (AllInitial w) ∷ [])
+built-AllInitial pools route v children t u w is same b =
+    built-as pools t u _ _ _ _ (ap named_of is ∙ named_of-AllInitial v ∙ ap (λ xs. plan.all_initial (children_of xs)) (sym same)) (view-AllInitial w) (built-all_initial pools t u (map named_of children) (map view w.items) b)
 
--- the operation and the route of one more policy
-pub policy-more : (pools : List (List ℕ)) (t u v : List SymbolValue) (policies : List NamedPolicy) (i : ℕ) (p : NamedPolicy) (built : List OperationPolicy) (q : OperationPolicy) (r : Route)
-    → i < length policies → p ≡ get_or policies i p → operation_view q ≡ ((out-NamedPolicy p).op, view r)
-    → (map (λ o. o.0) (map operation_view built) ≡ names_of (take i policies)) × IsBuilt pools t (policies_of (take i policies)) u (map (λ o. o.1) (map operation_view built))
-    → IsBuilt pools u (named_of (out-NamedPolicy p).route ∷ []) v (view r ∷ [])
-    → (map (λ o. o.0) (map operation_view (built ++ q ∷ [])) ≡ names_of (take (i + 1) policies)) × IsBuilt pools t (policies_of (take (i + 1) policies)) v (map (λ o. o.1) (map operation_view (built ++ q ∷ [])))
-policy-more pools t u v policies i p built q r h is shown before one =
-    let seen : map operation_view (built ++ q ∷ []) ≡ map operation_view built ++ ((out-NamedPolicy p).op, view r) ∷ [] =
-    map-append operation_view built (q ∷ []) ∙ ap (λ x. map operation_view built ++ x ∷ []) shown in
-    let asked : map policy_of (take (i + 1) policies) ≡ map policy_of (take i policies) ++ ((out-NamedPolicy p).op, named_of (out-NamedPolicy p).route) ∷ [] =
-    map-more policy_of policies i p h is ∙ ap (λ x. map policy_of (take i policies) ++ x ∷ []) (policy_of-out p) in (
-      ap (map (λ o. o.0)) seen ∙ map-append (λ o. o.0) (map operation_view built) (((out-NamedPolicy p).op, view r) ∷ []) ∙ ap (λ x. x ++ (out-NamedPolicy p).op ∷ []) before.0
-          ∙ sym (ap (map (λ o. o.0)) asked ∙ map-append (λ o. o.0) (map policy_of (take i policies)) (((out-NamedPolicy p).op, named_of (out-NamedPolicy p).route) ∷ [])),
-      rw (
-        ap (map (λ o. o.1)) seen ∙ map-append (λ o. o.1) (map operation_view built) (((out-NamedPolicy p).op, view r) ∷ []),
-        ap (map (λ o. o.1)) asked ∙ map-append (λ o. o.1) (map policy_of (take i policies)) (((out-NamedPolicy p).op, named_of (out-NamedPolicy p).route) ∷ []),
-      )
-          (built-append pools t u v (policies_of (take i policies)) (named_of (out-NamedPolicy p).route ∷ []) (map (λ o. o.1) (map operation_view built)) (view r ∷ []) before.1 one),
+pub built-AllAsync : (pools : List (List ℕ)) (route : NamedRoute) (v : Vec NamedRoute Global) (children : List NamedRoute) (t u : List SymbolValue) (w : Vec Route Global)
+    → route ≡ config.AllAsync v → children ≡ v.items → IsBuilt pools t (map named_of children) u (map view w.items)
+    → IsBuilt pools t (named_of route ∷ []) u (view (AllAsync w) ∷ [])
+built-AllAsync pools route v children t u w is same b =
+    built-as pools t u _ _ _ _ (ap named_of is ∙ named_of-AllAsync v ∙ ap (λ xs. plan.all_async (children_of xs)) (sym same)) (view-AllAsync w) (built-all_async pools t u (map named_of children) (map view w.items) b)
+
+pub built-Failover : (pools : List (List ℕ)) (route : NamedRoute) (v : Vec NamedRoute Global) (children : List NamedRoute) (t u : List SymbolValue) (w : Vec Route Global)
+    → route ≡ config.Failover v → children ≡ v.items → IsBuilt pools t (map named_of children) u (map view w.items)
+    → IsBuilt pools t (named_of route ∷ []) u (view (Failover w) ∷ [])
+built-Failover pools route v children t u w is same b =
+    built-as pools t u _ _ _ _ (ap named_of is ∙ named_of-Failover v ∙ ap (λ xs. plan.failover (children_of xs)) (sym same)) (view-Failover w) (built-failover pools t u (map named_of children) (map view w.items) b)
+
+pub built-MissFailover : (pools : List (List ℕ)) (route : NamedRoute) (v : Vec NamedRoute Global) (children : List NamedRoute) (t u : List SymbolValue) (w : Vec Route Global)
+    → route ≡ config.MissFailover v → children ≡ v.items → IsBuilt pools t (map named_of children) u (map view w.items)
+    → IsBuilt pools t (named_of route ∷ []) u (view (MissFailover w) ∷ [])
+built-MissFailover pools route v children t u w is same b =
+    built-as pools t u _ _ _ _ (ap named_of is ∙ named_of-MissFailover v ∙ ap (λ xs. plan.miss_failover (children_of xs)) (sym same)) (view-MissFailover w) (built-miss_failover pools t u (map named_of children) (map view w.items) b)
+
+pub built-WarmUp : (pools : List (List ℕ)) (route : NamedRoute) (cold warm : Box NamedRoute Global) (exptime : ℕ) (n m : NamedRoute) (t u v : List SymbolValue) (a b : Box Route Global) (r s : Route)
+    → route ≡ config.WarmUp cold warm exptime → n ≡ cold.value → m ≡ warm.value → a.value ≡ r → b.value ≡ s
+    → IsBuilt pools t (named_of n ∷ []) u (view r ∷ []) → IsBuilt pools u (named_of m ∷ []) v (view s ∷ [])
+    → IsBuilt pools t (named_of route ∷ []) v (view (WarmUp a b exptime) ∷ [])
+built-WarmUp pools route cold warm exptime n m t u v a b r s is n-is m-is a-is b-is x y =
+    built-as pools t v _ _ _ _ (ap named_of is ∙ named_of-WarmUp cold warm exptime ∙ (λ i. plan.warm_up (named_of (sym n-is i)) (named_of (sym m-is i)) exptime))
+    (view-WarmUp a b exptime ∙ (λ i. warm_up (view (a-is i)) (view (b-is i)) exptime)) (built-warm_up exptime pools t u v (named_of n) (named_of m) (view r) (view s) x y)
+
+pub built-Migrate : (pools : List (List ℕ)) (route : NamedRoute) (from to : Box NamedRoute Global) (start interval : ℕ) (n m : NamedRoute) (t u v : List SymbolValue) (a b : Box Route Global) (r s : Route)
+    → route ≡ config.Migrate from to start interval → n ≡ from.value → m ≡ to.value → a.value ≡ r → b.value ≡ s
+    → IsBuilt pools t (named_of n ∷ []) u (view r ∷ []) → IsBuilt pools u (named_of m ∷ []) v (view s ∷ [])
+    → IsBuilt pools t (named_of route ∷ []) v (view (Migrate a b start interval) ∷ [])
+built-Migrate pools route from to start interval n m t u v a b r s is n-is m-is a-is b-is x y =
+    built-as pools t v _ _ _ _ (ap named_of is ∙ named_of-Migrate from to start interval ∙ (λ i. plan.migrate (named_of (sym n-is i)) (named_of (sym m-is i)) start interval))
+    (view-Migrate a b start interval ∙ (λ i. migrate (view (a-is i)) (view (b-is i)) start interval)) (built-migrate start interval pools t u v (named_of n) (named_of m) (view r) (view s) x y)
+
+-- ---- shadows and policies
+
+-- one more item, of which a walk makes what stands beside a route, and the route
+pub item-more : {N M A : Type 0} (pools : List (List ℕ)) (t u v : List SymbolValue) (asked : N → A × Named) (made : M → A × Tree) (items : List N) (i : ℕ) (item : N) (built : List M) (q : M) (beside : A) (n : Named) (x : Tree)
+    → i < length items → item ≡ get_or items i item → asked item ≡ (beside, n) → made q ≡ (beside, x)
+    → (map (λ o. o.0) (map made built) ≡ map (λ o. o.0) (map asked (take i items))) × IsBuilt pools t (map (λ o. o.1) (map asked (take i items))) u (map (λ o. o.1) (map made built))
+    → IsBuilt pools u (n ∷ []) v (x ∷ [])
+    → (map (λ o. o.0) (map made (built ++ q ∷ [])) ≡ map (λ o. o.0) (map asked (take (i + 1) items))) × IsBuilt pools t (map (λ o. o.1) (map asked (take (i + 1) items))) v (map (λ o. o.1) (map made (built ++ q ∷ [])))
+item-more pools t u v asked made items i item built q beside n x h is asked-is made-is before one =
+    let seen : map made (built ++ q ∷ []) ≡ map made built ++ (beside, x) ∷ [] = map-append made built (q ∷ []) ∙ ap (λ y. map made built ++ y ∷ []) made-is in
+    let named : map asked (take (i + 1) items) ≡ map asked (take i items) ++ (beside, n) ∷ [] = map-more asked items i item h is ∙ ap (λ y. map asked (take i items) ++ y ∷ []) asked-is in (
+      ap (map (λ o. o.0)) seen ∙ map-append (λ o. o.0) (map made built) ((beside, x) ∷ []) ∙ ap (λ y. y ++ beside ∷ []) before.0
+          ∙ sym (ap (map (λ o. o.0)) named ∙ map-append (λ o. o.0) (map asked (take i items)) ((beside, n) ∷ [])),
+      rw (ap (map (λ o. o.1)) seen ∙ map-append (λ o. o.1) (map made built) ((beside, x) ∷ []), ap (map (λ o. o.1)) named ∙ map-append (λ o. o.1) (map asked (take i items)) ((beside, n) ∷ []))
+          (built-append pools t u v (map (λ o. o.1) (map asked (take i items))) (n ∷ []) (map (λ o. o.1) (map made built)) (x ∷ []) before.1 one),
     )
 
--- with the routes of the policies built, and then those of the default
+-- with the routes of the policies built, and then what stands after them
+pub built-PrefixSelector : (pools : List (List ℕ)) (route : NamedRoute) (v : Vec NamedPrefix Global) (d : Option (Box NamedRoute Global)) (policies : List NamedPrefix) (t u x : List SymbolValue)
+    (w : Vec PrefixPolicy Global) (e : Option (Box Route Global))
+    → route ≡ config.PrefixSelector v d → policies ≡ v.items
+    → prefixes_of w.items ≡ asked_prefixes policies → IsBuilt pools t (prefix_routes_of policies) u (map (λ o. o.1) (map prefix_view w.items))
+    → IsBuilt pools u (last_named d) x (last_view e)
+    → IsBuilt pools t (named_of route ∷ []) x (view (PrefixSelector w e) ∷ [])
+built-PrefixSelector pools route v d policies t u x w e is same prefixes before last =
+    let own : named_of route ≡ plan.prefix_selector (asked_prefixes policies) (nameds_of (prefix_routes_of policies ++ last_named d)) =
+    ap named_of is ∙ named_of-PrefixSelector v d ∙ ap (λ ps. plan.prefix_selector (asked_prefixes ps) (nameds_of (prefix_routes_of ps ++ last_named d))) (sym same) in
+    let named : named_of route ≡ plan.prefix_selector (prefixes_of w.items) (nameds_of (prefix_routes_of policies ++ last_named d)) =
+    own ∙ ap (λ o. plan.prefix_selector o (nameds_of (prefix_routes_of policies ++ last_named d))) (sym prefixes) in
+    built-as pools t x _ _ _ _ named (view-PrefixSelector w e)
+    (built-prefix_selector (prefixes_of w.items) pools t x (prefix_routes_of policies ++ last_named d) (map (λ o. o.1) (map prefix_view w.items) ++ last_view e)
+    (built-append pools t u x (prefix_routes_of policies) (last_named d) (map (λ o. o.1) (map prefix_view w.items)) (last_view e) before last))
+
 pub built-OperationSelector : (pools : List (List ℕ)) (route : NamedRoute) (v : Vec NamedPolicy Global) (d : Option (Box NamedRoute Global)) (policies : List NamedPolicy) (t u x : List SymbolValue)
     (w : Vec OperationPolicy Global) (e : Option (Box Route Global))
     → route ≡ config.OperationSelector v d → policies ≡ v.items
-    → map (λ o. o.0) (map operation_view w.items) ≡ names_of policies → IsBuilt pools t (policies_of policies) u (map (λ o. o.1) (map operation_view w.items))
-    → IsBuilt pools u (default_of d) x (last_view e)
+    → operations_of w.items ≡ names_of policies → IsBuilt pools t (policies_of policies) u (map (λ o. o.1) (map operation_view w.items))
+    → IsBuilt pools u (last_named d) x (last_view e)
     → IsBuilt pools t (named_of route ∷ []) x (view (OperationSelector w e) ∷ [])
 built-OperationSelector pools route v d policies t u x w e is same ops before last =
-    let named : named_of route ≡ plan.operation_selector (operations_of w.items) (nameds_of (policies_of policies ++ default_of d)) =
-    ap named_of is ∙ named_of-OperationSelector v d ∙ ap (λ ps. plan.operation_selector (names_of ps) (nameds_of (policies_of ps ++ default_of d))) (sym same)
-    ∙ ap (λ o. plan.operation_selector o (nameds_of (policies_of policies ++ default_of d))) (sym ops) in
-    rw (named, view-OperationSelector w e)
-    (built-operation_selector pools t x (operations_of w.items) (policies_of policies ++ default_of d) (map (λ o. o.1) (map operation_view w.items) ++ last_view e)
-    (built-append pools t u x (policies_of policies) (default_of d) (map (λ o. o.1) (map operation_view w.items)) (last_view e) before last))
+    let own : named_of route ≡ plan.operation_selector (names_of policies) (nameds_of (policies_of policies ++ last_named d)) =
+    ap named_of is ∙ named_of-OperationSelector v d ∙ ap (λ ps. plan.operation_selector (names_of ps) (nameds_of (policies_of ps ++ last_named d))) (sym same) in
+    let named : named_of route ≡ plan.operation_selector (operations_of w.items) (nameds_of (policies_of policies ++ last_named d)) =
+    own ∙ ap (λ o. plan.operation_selector o (nameds_of (policies_of policies ++ last_named d))) (sym ops) in
+    built-as pools t x _ _ _ _ named (view-OperationSelector w e)
+    (built-operation_selector (operations_of w.items) pools t x (policies_of policies ++ last_named d) (map (λ o. o.1) (map operation_view w.items) ++ last_view e)
+    (built-append pools t u x (policies_of policies) (last_named d) (map (λ o. o.1) (map operation_view w.items)) (last_view e) before last))
 
-pub built-no_default : (pools : List (List ℕ)) (u x : List SymbolValue) (d : Option (Box NamedRoute Global)) (e : Option (Box Route Global)) → d ≡ None → e ≡ None → x ≡ u → IsBuilt pools u (default_of d) x (last_view e)
-built-no_default pools u x d e d-is e-is same = rw (d-is, e-is, same) (built-none pools u)
+pub built-no_last : (pools : List (List ℕ)) (u x : List SymbolValue) (d : Option (Box NamedRoute Global)) (e : Option (Box Route Global)) → d ≡ None → e ≡ None → x ≡ u → IsBuilt pools u (last_named d) x (last_view e)
+built-no_last pools u x d e d-is e-is same = rw (d-is, e-is, same) (built-none pools u)
 
-pub built-default : (pools : List (List ℕ)) (u x : List SymbolValue) (d : Option (Box NamedRoute Global)) (e : Option (Box Route Global)) (b : Box NamedRoute Global) (c : Box Route Global) (named : NamedRoute) (r : Route)
-    → d ≡ Some b → e ≡ Some c → named ≡ b.value → c.value ≡ r → IsBuilt pools u (named_of named ∷ []) x (view r ∷ []) → IsBuilt pools u (default_of d) x (last_view e)
-built-default pools u x d e b c named r d-is e-is b-is c-is one = rw (d-is, e-is, ← b-is, c-is) one
+pub built-last : (pools : List (List ℕ)) (u x : List SymbolValue) (d : Option (Box NamedRoute Global)) (e : Option (Box Route Global)) (b : Box NamedRoute Global) (c : Box Route Global) (named : NamedRoute) (r : Route)
+    → d ≡ Some b → e ≡ Some c → named ≡ b.value → c.value ≡ r → IsBuilt pools u (named_of named ∷ []) x (view r ∷ []) → IsBuilt pools u (last_named d) x (last_view e)
+built-last pools u x d e b c named r d-is e-is b-is c-is one = rw (d-is, e-is, ← b-is, c-is) one

@@ -8,6 +8,7 @@ use Rattle.mcv_base.specs.declared.operation.Mark.TheVariants.{Add as Added}
 use Rattle.mcv_base.specs.declared.reply.Outcome.TheVariants.{Good, Soft, Error}
 use Rattle.mcv_route.specs.Outcomes.{Choice, outcomes}
 use Rattle.mcv_config.specs.Plan as plan
+use Rattle.mcv_pools.specs.declared.symbol.HashFunc.TheVariants.{Ch3, Crc32}
 use Rattle.mcv_pools.specs.Symbol.{same_symbol}
 use Rattle.mcv_pools.specs.Table.{numbered}
 use Rattle.mcv_route.specs.Built.{symbols_in, tree_named}
@@ -217,22 +218,49 @@ era_between = refl
 
 -- ---- places
 
+target_of_a_shadow : tree_at (pool (record { symbol = 0; servers = 7 ∷ [] }) (record { first = 0; last = 0 } ∷ []) (child (one 9) none)) (0 ∷ []) ≡ Some (one 9)
+target_of_a_shadow = refl
+
+the_new_place : tree_at (migrate (one 7) (one 8) 100 10) (1 ∷ []) ≡ Some (one 8)
+the_new_place = refl
+
+the_wildcard : tree_at (prefix_selector ((97 ∷ []) ∷ []) (two (one 7) (one 8))) (1 ∷ []) ≡ Some (one 8)
+the_wildcard = refl
+
 cold_again : tree_at (warm_up (one 7) (one 8) 60) (2 ∷ []) ≡ Some (one 7)
 cold_again = refl
 
 nothing_there : tree_at (all_sync (two (one 7) (one 8))) (2 ∷ []) ≡ None
 nothing_there = refl
 
--- ---- what a plan names: a pool of two servers, the second of them as a pool of its own, and the pool again
+-- ---- what a plan names: a pool of two servers with a shadow, the second server as a pool of its own, and the pool again, under another hash and under the first
 
 abbrev pools : List (List ℕ)
 pools = (7 ∷ 8 ∷ []) ∷ []
 
+abbrev shadowed : plan.Named
+shadowed = plan.pool 0 Ch3 [] (record { first = 0; last = 1 } ∷ []) (plan.named (plan.server 0 1) plan.no_named)
+
+abbrev salted : plan.Named
+salted = plan.pool 0 Crc32 (120 ∷ []) [] plan.no_named
+
 abbrev asks : plan.Named
-asks = plan.all_sync (plan.named (plan.pool 0) (plan.named (plan.server 0 1) (plan.named (plan.pool 0) plan.no_named)))
+asks = plan.all_sync (plan.named shadowed (plan.named (plan.server 0 1) (plan.named salted (plan.named (plan.pool 0 Ch3 [] [] plan.no_named) plan.no_named))))
 
-abbrev pool_of_two : Tree
-pool_of_two = pool (record { symbol = 0; servers = 7 ∷ 8 ∷ [] }) [] none
+abbrev second_server : Tree
+second_server = pool (record { symbol = 1; servers = 8 ∷ [] }) [] none
 
-named_tree : tree_named (numbered same_symbol (symbols_in pools asks)) pools asks ≡ all_sync (child pool_of_two (two (pool (record { symbol = 1; servers = 8 ∷ [] }) [] none) pool_of_two))
+abbrev pool_of_two : ℕ → Tree
+pool_of_two symbol = pool (record { symbol = symbol; servers = 7 ∷ 8 ∷ [] }) [] none
+
+abbrev with_shadow : Tree
+with_shadow = pool (record { symbol = 0; servers = 7 ∷ 8 ∷ [] }) (record { first = 0; last = 1 } ∷ []) (child second_server none)
+
+named_tree : tree_named (numbered same_symbol (symbols_in pools asks)) pools asks ≡ all_sync (child with_shadow (child second_server (two (pool_of_two 2) (pool_of_two 0))))
 named_tree = refl
+
+warm_up_walk : symbols_in pools (plan.warm_up salted (plan.server 0 0) 60) ≡ record { func = Crc32; salt = 120 ∷ []; n = 2 } ∷ record { func = Ch3; salt = []; n = 1 } ∷ []
+warm_up_walk = refl
+
+named_migration : tree_named [] pools (plan.migrate plan.null plan.error 100 10) ≡ migrate null error 100 10
+named_migration = refl

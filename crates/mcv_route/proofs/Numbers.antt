@@ -8,12 +8,15 @@ use Rattle.std.proofs.lemmas.List.Concat.{flat_map-append}
 use Rattle.std.proofs.lemmas.List.Folds.{prefix_len-append}
 use Rattle.std.proofs.lemmas.List.Sums.{fold-append}
 use Rattle.mcv_base.specs.declared.operation.Op.{Op}
-use Rattle.mcv_config.specs.Plan.{Named, Nameds, nameds_of, no_named, named}
+use Rattle.mcv_config.specs.Plan.{Range, Named, Nameds, nameds_of, no_named, named}
 use Rattle.mcv_config.specs.Plan as plan
+use Rattle.mcv_pools.specs.declared.symbol.HashFunc.{HashFunc}
+use Rattle.mcv_pools.specs.declared.symbol.HashFunc.TheVariants.{Ch3}
 use Rattle.mcv_pools.specs.Symbol.{SymbolValue, same_symbol}
 use Rattle.mcv_pools.specs.Table.{is_in, number_in, with_entry}
-use Rattle.mcv_route.specs.Built.{pool_at, server_at, symbol_of, symbols_in, symbols_below, number_of, pool_route, tree_named, trees_named}
-use Rattle.mcv_route.specs.Tree.{Tree, Trees, pool, null, all_sync, operation_selector, none, child}
+use Rattle.mcv_pools.proofs.Sameness.{same_symbol-Decides}
+use Rattle.mcv_route.specs.Built.{pool_at, server_at, symbol_of, symbols_in, symbols_below, number_of, pool_named, tree_named, trees_named}
+use Rattle.mcv_route.specs.Tree.{Pool, Tree, Trees, pool, null, error, all_sync, all_initial, all_async, failover, miss_failover, warm_up, migrate, prefix_selector, operation_selector, none, child}
 use Rattle.mcv_route.specs.View.{trees_of}
 use Rattle.mcv_route.specs.Walk.{IsBuilt}
 
@@ -77,26 +80,31 @@ number_of-with_all table xs s h =
     let all = with_all-is table xs in
     ap (λ t. number_of t s) all.1 ∙ ap (λ n. unwrap_or n 0) (position-append (same_symbol s) table all.0 h)
 
-same_itself : (servers : List ℕ) → same_symbol (symbol_of servers) (symbol_of servers) ≡ true
-same_itself servers = eq-eqb (length servers) (length servers) refl
-
 -- a symbol that was put in has a number
-known-with_one : (table : List SymbolValue) (servers : List ℕ) → IsKnown (with_entry same_symbol table (symbol_of servers)) (symbol_of servers)
-known-with_one table servers = by (is_in same_symbol table (symbol_of servers)) refl
+known-with_one : (table : List SymbolValue) (s : SymbolValue) → IsKnown (with_entry same_symbol table s) s
+known-with_one table s = by (is_in same_symbol table s) refl
   where
-    by : (b : Bool) → is_in same_symbol table (symbol_of servers) ≡ b → IsKnown (if b then table else table ++ symbol_of servers ∷ []) (symbol_of servers)
-    by true e = occurs-any (same_symbol (symbol_of servers)) table e
-    by false e = occurs-push (same_symbol (symbol_of servers)) table (symbol_of servers) (same_itself servers)
+    by : (b : Bool) → is_in same_symbol table s ≡ b → IsKnown (if b then table else table ++ s ∷ []) s
+    by true e = occurs-any (same_symbol s) table e
+    by false e = occurs-push (same_symbol s) table s ((same_symbol-Decides s s).1 refl)
 
 -- ---- the trees stay as the table grows
 
 abbrev mutual
   -- the table has the symbols of the handle and of those below it
   pub HasSymbols : List (List ℕ) → List SymbolValue → Named → Type 0
-  HasSymbols pools table (plan.pool i) = IsKnown table (symbol_of (pool_at pools i))
-  HasSymbols pools table (plan.server i k) = IsKnown table (symbol_of (server_at pools i k))
+  HasSymbols pools table (plan.pool k func salt ranges targets) = IsKnown table (symbol_of func salt (pool_at pools k)) × HaveSymbols pools table targets
+  HasSymbols pools table (plan.server k n) = IsKnown table (symbol_of Ch3 [] (server_at pools k n))
   HasSymbols pools table plan.null = Unit {0}
+  HasSymbols pools table plan.error = Unit {0}
   HasSymbols pools table (plan.all_sync ts) = HaveSymbols pools table ts
+  HasSymbols pools table (plan.all_initial ts) = HaveSymbols pools table ts
+  HasSymbols pools table (plan.all_async ts) = HaveSymbols pools table ts
+  HasSymbols pools table (plan.failover ts) = HaveSymbols pools table ts
+  HasSymbols pools table (plan.miss_failover ts) = HaveSymbols pools table ts
+  HasSymbols pools table (plan.warm_up cold warm exptime) = HasSymbols pools table cold × HasSymbols pools table warm
+  HasSymbols pools table (plan.migrate from to start interval) = HasSymbols pools table from × HasSymbols pools table to
+  HasSymbols pools table (plan.prefix_selector prefixes ts) = HaveSymbols pools table ts
   HasSymbols pools table (plan.operation_selector ops ts) = HaveSymbols pools table ts
 
   pub HaveSymbols : List (List ℕ) → List SymbolValue → Nameds → Type 0
@@ -105,22 +113,53 @@ abbrev mutual
 
 mutual
   pub has-with_all : (pools : List (List ℕ)) (table xs : List SymbolValue) (t : Named) → HasSymbols pools table t → HasSymbols pools (with_all table xs) t
-  has-with_all pools table xs (plan.pool i) h = known-with_all table xs (symbol_of (pool_at pools i)) h
-  has-with_all pools table xs (plan.server i k) h = known-with_all table xs (symbol_of (server_at pools i k)) h
+  has-with_all pools table xs (plan.pool k func salt ranges targets) h = (known-with_all table xs (symbol_of func salt (pool_at pools k)) h.0, have-with_all pools table xs targets h.1)
+  has-with_all pools table xs (plan.server k n) h = known-with_all table xs (symbol_of Ch3 [] (server_at pools k n)) h
   has-with_all pools table xs plan.null h = tt
+  has-with_all pools table xs plan.error h = tt
   has-with_all pools table xs (plan.all_sync ts) h = have-with_all pools table xs ts h
+  has-with_all pools table xs (plan.all_initial ts) h = have-with_all pools table xs ts h
+  has-with_all pools table xs (plan.all_async ts) h = have-with_all pools table xs ts h
+  has-with_all pools table xs (plan.failover ts) h = have-with_all pools table xs ts h
+  has-with_all pools table xs (plan.miss_failover ts) h = have-with_all pools table xs ts h
+  has-with_all pools table xs (plan.warm_up cold warm exptime) h = (has-with_all pools table xs cold h.0, has-with_all pools table xs warm h.1)
+  has-with_all pools table xs (plan.migrate from to start interval) h = (has-with_all pools table xs from h.0, has-with_all pools table xs to h.1)
+  has-with_all pools table xs (plan.prefix_selector prefixes ts) h = have-with_all pools table xs ts h
   has-with_all pools table xs (plan.operation_selector ops ts) h = have-with_all pools table xs ts h
 
   pub have-with_all : (pools : List (List ℕ)) (table xs : List SymbolValue) (ts : Nameds) → HaveSymbols pools table ts → HaveSymbols pools (with_all table xs) ts
   have-with_all pools table xs no_named h = tt
   have-with_all pools table xs (named t ts) h = (has-with_all pools table xs t h.0, have-with_all pools table xs ts h.1)
 
+-- of two handles, the second walked after the first
+both-walked : (pools : List (List ℕ)) (table : List SymbolValue) (t u : Named) → HasSymbols pools (with_all table (symbols_in pools t)) t
+    → HasSymbols pools (with_all (with_all table (symbols_in pools t)) (symbols_in pools u)) u
+    → HasSymbols pools (with_all table (symbols_in pools t ++ symbols_in pools u)) t × HasSymbols pools (with_all table (symbols_in pools t ++ symbols_in pools u)) u
+both-walked pools table t u h g =
+    let own = symbols_in pools t in
+    let e : with_all table (own ++ symbols_in pools u) ≡ with_all (with_all table own) (symbols_in pools u) = fold-append (with_entry same_symbol) table own (symbols_in pools u) in
+    let P : List SymbolValue → Type 0 = λ w. HasSymbols pools w t × HasSymbols pools w u in
+    subst P (sym e) (has-with_all pools (with_all table own) (symbols_in pools u) t h, g)
+
 mutual
   pub has-walked : (pools : List (List ℕ)) (table : List SymbolValue) (t : Named) → HasSymbols pools (with_all table (symbols_in pools t)) t
-  has-walked pools table (plan.pool i) = known-with_one table (pool_at pools i)
-  has-walked pools table (plan.server i k) = known-with_one table (server_at pools i k)
+  has-walked pools table (plan.pool k func salt ranges targets) =
+      let own = symbol_of func salt (pool_at pools k) in
+      let one = with_entry same_symbol table own in
+      (known-with_all one (symbols_below pools targets) own (known-with_one table own), have-walked pools one targets)
+  has-walked pools table (plan.server k n) = known-with_one table (symbol_of Ch3 [] (server_at pools k n))
   has-walked pools table plan.null = tt
+  has-walked pools table plan.error = tt
   has-walked pools table (plan.all_sync ts) = have-walked pools table ts
+  has-walked pools table (plan.all_initial ts) = have-walked pools table ts
+  has-walked pools table (plan.all_async ts) = have-walked pools table ts
+  has-walked pools table (plan.failover ts) = have-walked pools table ts
+  has-walked pools table (plan.miss_failover ts) = have-walked pools table ts
+  has-walked pools table (plan.warm_up cold warm exptime) =
+      both-walked pools table cold warm (has-walked pools table cold) (has-walked pools (with_all table (symbols_in pools cold)) warm)
+  has-walked pools table (plan.migrate from to start interval) =
+      both-walked pools table from to (has-walked pools table from) (has-walked pools (with_all table (symbols_in pools from)) to)
+  has-walked pools table (plan.prefix_selector prefixes ts) = have-walked pools table ts
   has-walked pools table (plan.operation_selector ops ts) = have-walked pools table ts
 
   pub have-walked : (pools : List (List ℕ)) (table : List SymbolValue) (ts : Nameds) → HaveSymbols pools (with_all table (symbols_below pools ts)) ts
@@ -131,15 +170,25 @@ mutual
       let P : List SymbolValue → Type 0 = λ u. HasSymbols pools u t × HaveSymbols pools u ts in
       subst P (sym e) (has-with_all pools (with_all table own) (symbols_below pools ts) t (has-walked pools table t), have-walked pools (with_all table own) ts)
 
-pool_route-stays : (table xs : List SymbolValue) (servers : List ℕ) → IsKnown table (symbol_of servers) → pool_route (with_all table xs) servers ≡ pool_route table servers
-pool_route-stays table xs servers h = ap (λ n. pool (record { symbol = n; servers = servers }) [] none) (number_of-with_all table xs (symbol_of servers) h)
+pool_named-stays : (table xs : List SymbolValue) (func : HashFunc) (salt servers : List ℕ) → IsKnown table (symbol_of func salt servers)
+    → pool_named (with_all table xs) func salt servers ≡ pool_named table func salt servers
+pool_named-stays table xs func salt servers h = λ i. record { symbol = number_of-with_all table xs (symbol_of func salt servers) h i; servers = servers }
 
 mutual
   pub tree_named-stays : (pools : List (List ℕ)) (table xs : List SymbolValue) (t : Named) → HasSymbols pools table t → tree_named (with_all table xs) pools t ≡ tree_named table pools t
-  tree_named-stays pools table xs (plan.pool i) h = pool_route-stays table xs (pool_at pools i) h
-  tree_named-stays pools table xs (plan.server i k) h = pool_route-stays table xs (server_at pools i k) h
+  tree_named-stays pools table xs (plan.pool k func salt ranges targets) h =
+      λ i. pool (pool_named-stays table xs func salt (pool_at pools k) h.0 i) ranges (trees_named-stay pools table xs targets h.1 i)
+  tree_named-stays pools table xs (plan.server k n) h = λ i. pool (pool_named-stays table xs Ch3 [] (server_at pools k n) h i) [] none
   tree_named-stays pools table xs plan.null h = refl
+  tree_named-stays pools table xs plan.error h = refl
   tree_named-stays pools table xs (plan.all_sync ts) h = ap all_sync (trees_named-stay pools table xs ts h)
+  tree_named-stays pools table xs (plan.all_initial ts) h = ap all_initial (trees_named-stay pools table xs ts h)
+  tree_named-stays pools table xs (plan.all_async ts) h = ap all_async (trees_named-stay pools table xs ts h)
+  tree_named-stays pools table xs (plan.failover ts) h = ap failover (trees_named-stay pools table xs ts h)
+  tree_named-stays pools table xs (plan.miss_failover ts) h = ap miss_failover (trees_named-stay pools table xs ts h)
+  tree_named-stays pools table xs (plan.warm_up cold warm exptime) h = λ i. warm_up (tree_named-stays pools table xs cold h.0 i) (tree_named-stays pools table xs warm h.1 i) exptime
+  tree_named-stays pools table xs (plan.migrate from to start interval) h = λ i. migrate (tree_named-stays pools table xs from h.0 i) (tree_named-stays pools table xs to h.1 i) start interval
+  tree_named-stays pools table xs (plan.prefix_selector prefixes ts) h = ap (prefix_selector prefixes) (trees_named-stay pools table xs ts h)
   tree_named-stays pools table xs (plan.operation_selector ops ts) h = ap (operation_selector ops) (trees_named-stay pools table xs ts h)
 
   pub trees_named-stay : (pools : List (List ℕ)) (table xs : List SymbolValue) (ts : Nameds) → HaveSymbols pools table ts → trees_named (with_all table xs) pools ts ≡ trees_named table pools ts
@@ -178,35 +227,89 @@ built-append pools t u v ns ms ts us a b =
 pub built-none : (pools : List (List ℕ)) (t : List SymbolValue) → IsBuilt pools t [] t []
 built-none pools t = record { table = refl; trees_are = refl }
 
--- a PoolRoute, from what the leaf and the table are
-pub built-pool : (pools : List (List ℕ)) (t u : List SymbolValue) (i : ℕ) (servers : List ℕ) (leaf : Tree)
-    → servers ≡ pool_at pools i → u ≡ with_entry same_symbol t (symbol_of servers) → leaf ≡ pool_route u servers → IsBuilt pools t (plan.pool i ∷ []) u (leaf ∷ [])
-built-pool pools t u i servers leaf is table tree = record {
-  table = table ∙ ap (λ s. with_entry same_symbol t (symbol_of s)) is;
-  trees_are = ap (λ x. x ∷ []) (tree ∙ ap (pool_route u) is);
-}
-
-pub built-server : (pools : List (List ℕ)) (t u : List SymbolValue) (i k : ℕ) (servers : List ℕ) (leaf : Tree)
-    → servers ≡ server_at pools i k → u ≡ with_entry same_symbol t (symbol_of servers) → leaf ≡ pool_route u servers → IsBuilt pools t (plan.server i k ∷ []) u (leaf ∷ [])
-built-server pools t u i k servers leaf is table tree = record {
-  table = table ∙ ap (λ s. with_entry same_symbol t (symbol_of s)) is;
-  trees_are = ap (λ x. x ∷ []) (tree ∙ ap (pool_route u) is);
-}
+-- ---- handles
 
 built-below : (pools : List (List ℕ)) (t u : List SymbolValue) (ns : List Named) (ts : List Tree) → IsBuilt pools t ns u ts → u ≡ with_all t (symbols_below pools (nameds_of ns) ++ [])
 built-below pools t u ns ts b = b.table ∙ ap (with_all t) (sym (append-nil (symbols_below pools (nameds_of ns)) ∙ symbols_below-list pools ns))
 
--- an AllSyncRoute over children that were built
-pub built-all_sync : (pools : List (List ℕ)) (t u : List SymbolValue) (ns : List Named) (ts : List Tree)
-    → IsBuilt pools t ns u ts → IsBuilt pools t (plan.all_sync (nameds_of ns) ∷ []) u (all_sync (trees_of ts) ∷ [])
-built-all_sync pools t u ns ts b = record {
-  table = built-below pools t u ns ts b;
-  trees_are = ap (λ x. all_sync x ∷ []) (ap trees_of b.trees_are ∙ sym (trees_named-list u pools ns));
+trees-below : (pools : List (List ℕ)) (t u : List SymbolValue) (ns : List Named) (ts : List Tree) → IsBuilt pools t ns u ts → trees_of ts ≡ trees_named u pools (nameds_of ns)
+trees-below pools t u ns ts b = ap trees_of b.trees_are ∙ sym (trees_named-list u pools ns)
+
+-- a PoolRoute, from its leaf and from the targets of its shadows, which were built after it
+pub built-pool : (pools : List (List ℕ)) (t u v : List SymbolValue) (k : ℕ) (func : HashFunc) (salt : List ℕ) (ranges : List Range) (leaf : Pool) (ns : List Named) (ts : List Tree)
+    → u ≡ with_entry same_symbol t (symbol_of func salt (pool_at pools k)) → leaf ≡ pool_named u func salt (pool_at pools k) → IsBuilt pools u ns v ts
+    → IsBuilt pools t (plan.pool k func salt ranges (nameds_of ns) ∷ []) v (pool leaf ranges (trees_of ts) ∷ [])
+built-pool pools t u v k func salt ranges leaf ns ts table is b =
+    let servers = pool_at pools k in
+    let own = symbol_of func salt servers in
+    let known : IsKnown u own =
+    let P : List SymbolValue → Type 0 = λ w. IsKnown w own in
+    subst P (sym table) (known-with_one t own) in
+    let stay : pool_named v func salt servers ≡ pool_named u func salt servers =
+    ap (λ w. pool_named w func salt servers) b.table ∙ pool_named-stays u (flat_map (symbols_in pools) ns) func salt servers known in
+    let leaf_is : leaf ≡ pool_named v func salt servers = is ∙ sym stay in
+    let below = trees-below pools u v ns ts b in
+    record {
+      table = built-below pools u v ns ts b ∙ ap (λ w. with_all w (symbols_below pools (nameds_of ns) ++ [])) table;
+      trees_are = λ i. pool (leaf_is i) ranges (below i) ∷ [];
+    }
+
+pub built-server : (pools : List (List ℕ)) (t u : List SymbolValue) (k n : ℕ) (leaf : Pool)
+    → u ≡ with_entry same_symbol t (symbol_of Ch3 [] (server_at pools k n)) → leaf ≡ pool_named u Ch3 [] (server_at pools k n)
+    → IsBuilt pools t (plan.server k n ∷ []) u (pool leaf [] none ∷ [])
+built-server pools t u k n leaf table is = record { table = table; trees_are = λ i. pool (is i) [] none ∷ [] }
+
+-- a handle over children that were built, where its symbols are theirs
+built-over : (handle : Nameds → Named) (made : Trees → Tree) → ((pools : List (List ℕ)) (ts : Nameds) → symbols_in pools (handle ts) ≡ symbols_below pools ts)
+    → ((table : List SymbolValue) (pools : List (List ℕ)) (ts : Nameds) → tree_named table pools (handle ts) ≡ made (trees_named table pools ts))
+    → (pools : List (List ℕ)) (t u : List SymbolValue) (ns : List Named) (ts : List Tree) → IsBuilt pools t ns u ts → IsBuilt pools t (handle (nameds_of ns) ∷ []) u (made (trees_of ts) ∷ [])
+built-over handle made symbols trees pools t u ns ts b = record {
+  table = built-below pools t u ns ts b ∙ ap (λ xs. with_all t (xs ++ [])) (sym (symbols pools (nameds_of ns)));
+  trees_are = ap (λ x. x ∷ []) (ap made (trees-below pools t u ns ts b) ∙ sym (trees u pools (nameds_of ns)));
 }
 
-pub built-operation_selector : (pools : List (List ℕ)) (t u : List SymbolValue) (ops : List (Option Op)) (ns : List Named) (ts : List Tree)
+pub built-all_sync : (pools : List (List ℕ)) (t u : List SymbolValue) (ns : List Named) (ts : List Tree) → IsBuilt pools t ns u ts → IsBuilt pools t (plan.all_sync (nameds_of ns) ∷ []) u (all_sync (trees_of ts) ∷ [])
+built-all_sync = built-over plan.all_sync all_sync (λ pools ts. refl) (λ table pools ts. refl)
+
+pub built-all_initial : (pools : List (List ℕ)) (t u : List SymbolValue) (ns : List Named) (ts : List Tree) → IsBuilt pools t ns u ts → IsBuilt pools t (plan.all_initial (nameds_of ns) ∷ []) u (all_initial (trees_of ts) ∷ [])
+built-all_initial = built-over plan.all_initial all_initial (λ pools ts. refl) (λ table pools ts. refl)
+
+pub built-all_async : (pools : List (List ℕ)) (t u : List SymbolValue) (ns : List Named) (ts : List Tree) → IsBuilt pools t ns u ts → IsBuilt pools t (plan.all_async (nameds_of ns) ∷ []) u (all_async (trees_of ts) ∷ [])
+built-all_async = built-over plan.all_async all_async (λ pools ts. refl) (λ table pools ts. refl)
+
+pub built-failover : (pools : List (List ℕ)) (t u : List SymbolValue) (ns : List Named) (ts : List Tree) → IsBuilt pools t ns u ts → IsBuilt pools t (plan.failover (nameds_of ns) ∷ []) u (failover (trees_of ts) ∷ [])
+built-failover = built-over plan.failover failover (λ pools ts. refl) (λ table pools ts. refl)
+
+pub built-miss_failover : (pools : List (List ℕ)) (t u : List SymbolValue) (ns : List Named) (ts : List Tree) → IsBuilt pools t ns u ts → IsBuilt pools t (plan.miss_failover (nameds_of ns) ∷ []) u (miss_failover (trees_of ts) ∷ [])
+built-miss_failover = built-over plan.miss_failover miss_failover (λ pools ts. refl) (λ table pools ts. refl)
+
+pub built-prefix_selector : (prefixes : List (List ℕ)) (pools : List (List ℕ)) (t u : List SymbolValue) (ns : List Named) (ts : List Tree)
+    → IsBuilt pools t ns u ts → IsBuilt pools t (plan.prefix_selector prefixes (nameds_of ns) ∷ []) u (prefix_selector prefixes (trees_of ts) ∷ [])
+built-prefix_selector prefixes = built-over (plan.prefix_selector prefixes) (prefix_selector prefixes) (λ pools ts. refl) (λ table pools ts. refl)
+
+pub built-operation_selector : (ops : List (Option Op)) (pools : List (List ℕ)) (t u : List SymbolValue) (ns : List Named) (ts : List Tree)
     → IsBuilt pools t ns u ts → IsBuilt pools t (plan.operation_selector ops (nameds_of ns) ∷ []) u (operation_selector ops (trees_of ts) ∷ [])
-built-operation_selector pools t u ops ns ts b = record {
-  table = built-below pools t u ns ts b;
-  trees_are = ap (λ x. operation_selector ops x ∷ []) (ap trees_of b.trees_are ∙ sym (trees_named-list u pools ns));
-}
+built-operation_selector ops = built-over (plan.operation_selector ops) (operation_selector ops) (λ pools ts. refl) (λ table pools ts. refl)
+
+-- a handle over two that were built one after the other
+built-two : (handle : Named → Named → Named) (made : Tree → Tree → Tree) → ((pools : List (List ℕ)) (n m : Named) → symbols_in pools (handle n m) ≡ symbols_in pools n ++ symbols_in pools m)
+    → ((table : List SymbolValue) (pools : List (List ℕ)) (n m : Named) → tree_named table pools (handle n m) ≡ made (tree_named table pools n) (tree_named table pools m))
+    → (pools : List (List ℕ)) (t u v : List SymbolValue) (n m : Named) (x y : Tree) → IsBuilt pools t (n ∷ []) u (x ∷ []) → IsBuilt pools u (m ∷ []) v (y ∷ [])
+    → IsBuilt pools t (handle n m ∷ []) v (made x y ∷ [])
+built-two handle made symbols trees pools t u v n m x y a b =
+    let both : IsBuilt pools t (n ∷ m ∷ []) v (x ∷ y ∷ []) = built-append pools t u v (n ∷ []) (m ∷ []) (x ∷ []) (y ∷ []) a b in
+    let all : x ∷ y ∷ [] ≡ tree_named v pools n ∷ tree_named v pools m ∷ [] = both.trees_are in
+    let first : x ≡ tree_named v pools n = cc all in
+    let second : y ≡ tree_named v pools m = cc all in
+    record {
+      table = both.table ∙ ap (with_all t) (sym (append_assoc (symbols_in pools n) (symbols_in pools m) [])) ∙ ap (λ xs. with_all t (xs ++ [])) (sym (symbols pools n m));
+      trees_are = (λ i. made (first i) (second i) ∷ []) ∙ ap (λ z. z ∷ []) (sym (trees v pools n m));
+    }
+
+pub built-warm_up : (exptime : ℕ) (pools : List (List ℕ)) (t u v : List SymbolValue) (n m : Named) (x y : Tree) → IsBuilt pools t (n ∷ []) u (x ∷ []) → IsBuilt pools u (m ∷ []) v (y ∷ [])
+    → IsBuilt pools t (plan.warm_up n m exptime ∷ []) v (warm_up x y exptime ∷ [])
+built-warm_up exptime = built-two (λ n m. plan.warm_up n m exptime) (λ x y. warm_up x y exptime) (λ pools n m. refl) (λ table pools n m. refl)
+
+pub built-migrate : (start interval : ℕ) (pools : List (List ℕ)) (t u v : List SymbolValue) (n m : Named) (x y : Tree) → IsBuilt pools t (n ∷ []) u (x ∷ []) → IsBuilt pools u (m ∷ []) v (y ∷ [])
+    → IsBuilt pools t (plan.migrate n m start interval ∷ []) v (migrate x y start interval ∷ [])
+built-migrate start interval = built-two (λ n m. plan.migrate n m start interval) (λ x y. migrate x y start interval) (λ pools n m. refl) (λ table pools n m. refl)

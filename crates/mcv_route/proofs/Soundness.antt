@@ -11,33 +11,31 @@ use Rattle.std.proofs.lemmas.List.{get_or-map}
 use Rattle.std.proofs.lemmas.Option.{slice_get-get_or}
 use Rattle.mcv_config.specs.Plan.{Named, Nameds, Plan, nameds_of, no_named, named, IsSound, IsSoundRoute, AreSoundRoutes}
 use Rattle.mcv_config.specs.Plan as plan
+use Rattle.mcv_pools.specs.declared.symbol.HashFunc.{HashFunc}
+use Rattle.mcv_pools.specs.declared.symbol.HashFunc.TheVariants.{Ch3}
 use Rattle.mcv_pools.specs.Symbol.{SymbolValue, same_symbol}
 use Rattle.mcv_pools.specs.Table.{with_entry, number_in}
-use Rattle.mcv_route.specs.Built.{pool_at, server_at, symbol_of, symbols_in, symbols_below, symbols_named, number_of, pool_route, tree_named, trees_named, routes_named}
+use Rattle.mcv_pools.proofs.Sameness.{same_symbol-Decides}
+use Rattle.mcv_route.specs.Built.{pool_at, server_at, symbol_of, symbols_in, symbols_below, symbols_named, number_of, pool_named, tree_named, trees_named, routes_named}
 use Rattle.mcv_route.specs.Routes.{IsSoundPool, IsSoundTree, AreSoundTrees, IsSoundRoutes}
-use Rattle.mcv_route.specs.Tree.{Tree, Trees, pool, none, child}
+use Rattle.mcv_route.specs.Tree.{Pool, Tree, Trees, none, child}
 use Rattle.mcv_route.proofs.Building.{All-unmap}
 use Rattle.mcv_route.proofs.Numbers.{IsKnown, HasSymbols, HaveSymbols, have-walked, position-occurs, with_all, symbols_below-list}
 
--- a symbol that has the same as the pool's has as many servers
-same-n : (servers : List ℕ) (s : SymbolValue) → same_symbol (symbol_of servers) s ≡ true → s.n ≡ length servers
-same-n servers s e = grind (arith, common_steps)
-
-sound-pool_route : (count : ℕ) (table : List SymbolValue) (servers : List ℕ) → 0 < length servers → All (λ s. s < count) servers → IsKnown table (symbol_of servers)
-    → IsSoundTree count table (pool_route table servers)
-sound-pool_route count table servers some known is =
-    let own = symbol_of servers in
+sound-pool_named : (count : ℕ) (table : List SymbolValue) (func : HashFunc) (salt servers : List ℕ) → 0 < length servers → All (λ s. s < count) servers → IsKnown table (symbol_of func salt servers)
+    → IsSoundPool count table (pool_named table func salt servers)
+sound-pool_named count table func salt servers some known is =
+    let own = symbol_of func salt servers in
     let place = position_or_len (same_symbol own) table in
     let found : slice_get table place ≡ Some (get_or table place own) = slice_get-get_or table place own is in
-    let same : (get_or table place own).n ≡ length servers = same-n servers (get_or table place own) (passes_at_first (same_symbol own) table own is) in
-    let number : number_of table own ≡ place = ap (λ n. unwrap_or n 0) (position-occurs (same_symbol own) table is) in (
-      record {
-        some = some;
-        known = known;
-        sized = ap (λ n. option_map (λ s. s.n) (slice_get table n)) number ∙ ap (option_map (λ s. s.n)) found ∙ ap Some same;
-      },
-      tt,
-    )
+    let equal : own ≡ get_or table place own = (same_symbol-Decides own (get_or table place own)).0 (passes_at_first (same_symbol own) table own is) in
+    let same : (get_or table place own).n ≡ length servers = ap (λ s. s.n) (sym equal) in
+    let number : number_of table own ≡ place = ap (λ n. unwrap_or n 0) (position-occurs (same_symbol own) table is) in
+    record {
+      some = some;
+      known = known;
+      sized = ap (λ n. option_map (λ s. s.n) (slice_get table n)) number ∙ ap (option_map (λ s. s.n)) found ∙ ap Some same;
+    }
 
 some_trees : (table : List SymbolValue) (pools : List (List ℕ)) (ts : Nameds) → ts ≢ no_named → trees_named table pools ts ≢ none
 some_trees table pools no_named h = absurd (h refl)
@@ -46,13 +44,23 @@ some_trees table pools (named t ts) h = λ e. cc
 module _ (count : ℕ) (pools : List (List ℕ)) (table : List SymbolValue) (sound : All (plan.IsSoundPool count) pools) where
   mutual
     pub sound-tree : (t : Named) → IsSoundRoute pools t → HasSymbols pools table t → IsSoundTree count table (tree_named table pools t)
-    sound-tree (plan.pool i) inside h = let p = sound i [] inside in sound-pool_route count table (pool_at pools i) p.some p.known h
-    sound-tree (plan.server i k) inside h =
-        let p = sound i [] inside.0 in
-        let known : All (λ s. s < count) (server_at pools i k) = All-cons (λ s. s < count) (slice_index (pool_at pools i) k) [] (p.known k 0 inside.1) (All-nil (λ s. s < count)) in
-        sound-pool_route count table (server_at pools i k) (omega arith) known h
+    sound-tree (plan.pool k func salt ranges targets) inside h =
+        let p = sound k [] inside.0 in
+        (sound-pool_named count table func salt (pool_at pools k) p.some p.known h.0, sound-trees targets inside.1 h.1)
+    sound-tree (plan.server k n) inside h =
+        let p = sound k [] inside.0 in
+        let known : All (λ s. s < count) (server_at pools k n) = All-cons (λ s. s < count) (slice_index (pool_at pools k) n) [] (p.known n 0 inside.1) (All-nil (λ s. s < count)) in
+        (sound-pool_named count table Ch3 [] (server_at pools k n) (omega arith) known h, tt)
     sound-tree plan.null inside h = tt
+    sound-tree plan.error inside h = tt
     sound-tree (plan.all_sync ts) inside h = (some_trees table pools ts inside.0, sound-trees ts inside.1 h)
+    sound-tree (plan.all_initial ts) inside h = (some_trees table pools ts inside.0, sound-trees ts inside.1 h)
+    sound-tree (plan.all_async ts) inside h = (some_trees table pools ts inside.0, sound-trees ts inside.1 h)
+    sound-tree (plan.failover ts) inside h = (some_trees table pools ts inside.0, sound-trees ts inside.1 h)
+    sound-tree (plan.miss_failover ts) inside h = (some_trees table pools ts inside.0, sound-trees ts inside.1 h)
+    sound-tree (plan.warm_up cold warm exptime) inside h = (sound-tree cold inside.0 h.0, sound-tree warm inside.1 h.1)
+    sound-tree (plan.migrate from to start interval) inside h = (sound-tree from inside.0 h.0, sound-tree to inside.1 h.1)
+    sound-tree (plan.prefix_selector prefixes ts) inside h = sound-trees ts inside h
     sound-tree (plan.operation_selector ops ts) inside h = sound-trees ts inside h
 
     pub sound-trees : (ts : Nameds) → AreSoundRoutes pools ts → HaveSymbols pools table ts → AreSoundTrees count table (trees_named table pools ts)

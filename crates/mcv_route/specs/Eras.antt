@@ -2,12 +2,18 @@
 use Rattle.std.specs.Prelude.{◌≡◌, ◌≤◌, ◌<◌, ℕ, ◌+◌, ◌*◌, List, [], ◌∷◌, ◌++◌, Option, Some, None, nat_le, nat_eq, max, filter, length}
 use Rattle.std.specs.Option.{option_map_or}
 use Rattle.std.specs.List.{All, Contains, flat_map}
+use Rattle.std.specs.List.Sorted.{IsStrictlyIncreasing}
 use Rattle.mcv_pools.specs.Table.{numbered}
 use Rattle.mcv_route.specs.Tree.{Tree, Trees, pool, null, error, all_sync, all_initial, all_async, failover, miss_failover, warm_up, migrate, prefix_selector, operation_selector, none, child}
 use Rattle.mcv_route.specs.Routes.{RoutesValue}
+use Rattle.mcv_route.specs.Situation.{has_passed}
+
+-- of a migration its start, and one and two intervals later (mcrouter wiki, MigrateRoute)
+abbrev pub own_breaks : ℕ → ℕ → List ℕ
+own_breaks start interval = start ∷ (start + interval) ∷ (start + 2 * interval) ∷ []
 
 abbrev mutual
-  -- of each migration its start, and one and two intervals later (mcrouter wiki, MigrateRoute)
+  -- those of each migration, and of what is below it
   pub breaks : Tree → List ℕ
   breaks (pool p ranges targets) = breaks_each targets
   breaks null = []
@@ -18,7 +24,7 @@ abbrev mutual
   breaks (failover ts) = breaks_each ts
   breaks (miss_failover ts) = breaks_each ts
   breaks (warm_up cold warm exptime) = breaks cold ++ breaks warm
-  breaks (migrate from to start interval) = start ∷ (start + interval) ∷ (start + 2 * interval) ∷ (breaks from ++ breaks to)
+  breaks (migrate from to start interval) = own_breaks start interval ++ (breaks from ++ breaks to)
   breaks (prefix_selector prefixes ts) = breaks_each ts
   breaks (operation_selector ops ts) = breaks_each ts
 
@@ -29,6 +35,12 @@ abbrev mutual
 -- those of all routes
 abbrev pub breaks_of : RoutesValue → List ℕ
 breaks_of r = flat_map (λ e. breaks e.tree) r.entries
+
+-- in rising order, each break once
+pub record IsBreakTable (bs table : List ℕ) : Type 0 where
+  pub rising : IsStrictlyIncreasing table
+  pub all : All (Contains table) bs
+  pub only : All (Contains bs) table
 
 -- the breaks at the moment or before it
 abbrev pub passed : List ℕ → ℕ → List ℕ
@@ -58,3 +70,7 @@ SinceIsTheLastBreak = (bs : List ℕ) (moment : ℕ) → IsSince bs moment (sinc
 -- moments after the same break are in one era
 abbrev pub ErasAreOpenedByBreaks : Type 0
 ErasAreOpenedByBreaks = (bs : List ℕ) (m n : ℕ) → since_at bs m ≡ since_at bs n → era_at bs m ≡ era_at bs n
+
+-- each break has passed by the one that opened the era where it has passed by the moment: an era tells all that rules ask of a moment
+abbrev pub ErasTellWhatHasPassed : Type 0
+ErasTellWhatHasPassed = (bs : List ℕ) (moment b : ℕ) → Contains bs b → has_passed (since_at bs moment) b ≡ nat_le b moment

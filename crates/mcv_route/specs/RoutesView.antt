@@ -1,5 +1,7 @@
 -- The value of `Routes` from its fields.
-use Rattle.std.specs.Prelude.{List, map}
+use Rattle.std.specs.Prelude.{ℕ, List, map}
+use Rattle.mcv_base.specs.declared.request.Moment.{Moment}
+use Rattle.mcv_route.specs.Eras.{breaks_of, IsBreakTable}
 use Rattle.mcv_route.specs.declared.routes.AliasedRoute.{AliasedRoute}
 use Rattle.mcv_route.specs.declared.routes.Routes.TheInside.{Inside}
 use Rattle.mcv_route.specs.Routes.{RouteEntry, RoutesValue, IsSoundRoutes}
@@ -11,5 +13,11 @@ entry_view e = record { aliases = e.aliases.items; tree = view e.route }
 abbrev pub routes_view : Inside → RoutesValue
 routes_view r = record { servers = r.servers; symbols = r.symbols; entries = map entry_view r.entries.items }
 
-abbrev pub AreSound : Inside → Type 0
-AreSound r = IsSoundRoutes (routes_view r)
+-- the numbers of moments
+abbrev pub numbers_of : List Moment → List ℕ
+numbers_of moments = map (λ m. m.0) moments
+
+-- the trees are sound, and the table of breaks is that of the trees
+pub record AreSound (r : Inside) : Type 0 where
+  pub trees : IsSoundRoutes (routes_view r)
+  pub table : IsBreakTable (breaks_of (routes_view r)) (numbers_of r.break_table.items)

@@ -2,16 +2,13 @@
 -- One constructor for each row of the table of handles (mcrouter wiki, List of Route Handles), in its order.
 use Rattle.std.specs.Prelude.{ℕ, List, Option}
 use Rattle.mcv_base.specs.declared.operation.Op.{Op}
+-- the indexes from the first to the last
+pub use Rattle.mcv_config.specs.Plan.{Range}
 
 -- a pool under one hash: its symbol, and its servers in order
 pub record Pool : Type 0 where
   pub symbol : ℕ
   pub servers : List ℕ
-
--- the indexes from the first to the last
-pub record Range : Type 0 where
-  pub first : ℕ
-  pub last : ℕ
 
 mutual
   pub data Tree : Type 0 where

@@ -3,17 +3,17 @@
 
 ghost use Rattle.std.specs.Prelude.{◌≡◌, ◌<◌, [], ◌∷◌, length, map, IfOk};
 ghost use Rattle.std.specs.List.{All};
-ghost use Rattle.mcv_config.specs.Plan.{IsSoundRoute, named_of, pool_plan, policy_of};
+ghost use Rattle.mcv_config.specs.Plan.{IsSoundRoute, named_of, policy_of, pool_plan, prefix_of, shadow_of};
+ghost use Rattle.mcv_pools.specs.declared.symbol.HashFunc.TheVariants.{Ch3};
 ghost use Rattle.mcv_pools.specs.Symbol.{same_symbol};
 ghost use Rattle.mcv_pools.specs.Table.{with_entry};
-ghost use Rattle.mcv_route.specs.Built.{pool_route, symbol_of};
-ghost use Rattle.mcv_route.specs.Tree.{pool, none};
-ghost use Rattle.mcv_route.specs.View.{operation_view, pool_view, view};
-ghost use Rattle.mcv_route.specs.Walk.{IsBuilt, list_view};
+ghost use Rattle.mcv_route.specs.Built.{pool_at, pool_named, server_at, symbol_of};
+ghost use Rattle.mcv_route.specs.View.{last_view, operation_view, pool_view, prefix_view, shadow_view, view};
+ghost use Rattle.mcv_route.specs.Walk.{IsBuilt, last_named, list_view};
 
-use crate::tree::{Leaf, OperationPolicy, Route};
+use crate::tree::{Leaf, OperationPolicy, PrefixPolicy, Route, Shadow};
 use mcv_base::ServerId;
-use mcv_config::{NamedPolicy, NamedRoute, Pool};
+use mcv_config::{NamedPolicy, NamedPrefix, NamedRoute, NamedShadow, Pool};
 use mcv_pools::{HashFunc, Symbol, Symbols};
 use std::alloc::{AllocError, Global};
 use std::sync::Arc;
@@ -29,21 +29,62 @@ pub fn shared_lists(alloc: Global, pools: Vec<Pool>) -> Result<Vec<Arc<Vec<Serve
     Ok(lists)
 }
 
-/// The leaf of these servers. Its symbol goes into the table.
+/// The leaf of these servers under a hash function and its salt. Its symbol goes into the table.
 fn leaf_of(
-    alloc: Global,
+    func: HashFunc,
+    salt: Vec<u8>,
     servers: Arc<Vec<ServerId>>,
     symbols: &mut Symbols,
 ) -> Result<Leaf, AllocError>
     requires { 0 < length (list_view servers) }
-    ensures leaf { IfOk result (λ l. pool (pool_view l) [] none ≡ pool_route symbols.new (list_view servers)) }
-    ensures table { IfOk result (λ _. symbols.new ≡ with_entry same_symbol symbols.old (symbol_of (list_view servers))) }
+    ensures leaf { IfOk result (λ l. pool_view l ≡ pool_named symbols.new func salt.items (list_view servers)) }
+    ensures table { IfOk result (λ _. symbols.new ≡ with_entry same_symbol symbols.old (symbol_of func salt.items (list_view servers))) }
 {
-    let Some(symbol) = Symbol::new(HashFunc::Ch3, Vec::new(alloc), servers.len()) else {
+    let Some(symbol) = Symbol::new(func, salt, servers.len()) else {
         unreachable!()
     };
     let symbol = symbols.insert(symbol)?;
     Ok(Leaf { symbol, servers })
+}
+
+/// The leaf of the pool of a number.
+fn pool_leaf(
+    alloc: Global,
+    number: usize,
+    func: HashFunc,
+    salt: &[u8],
+    lists: &[Arc<Vec<ServerId>>],
+    symbols: &mut Symbols,
+) -> Result<Leaf, AllocError>
+    requires filled { All (λ servers. 0 < length servers) (map list_view lists.now) }
+    requires inside { number < length lists.now }
+    ensures leaf { IfOk result (λ l. pool_view l ≡ pool_named symbols.new func salt.now (pool_at (map list_view lists.now) number)) }
+    ensures table { IfOk result (λ _. symbols.new ≡ with_entry same_symbol symbols.old (symbol_of func salt.now (pool_at (map list_view lists.now) number))) }
+{
+    let servers = Arc::try_clone(&lists[number])?;
+    let salt = Vec::from_slice(alloc, salt)?;
+    leaf_of(func, salt, servers, symbols)
+}
+
+/// The leaf of one server of a pool, by its index there.
+fn server_leaf(
+    alloc: Global,
+    number: usize,
+    index: usize,
+    lists: &[Arc<Vec<ServerId>>],
+    symbols: &mut Symbols,
+) -> Result<Leaf, AllocError>
+    requires inside { number < length lists.now }
+    requires listed { index < length (pool_at (map list_view lists.now) number) }
+    ensures leaf { IfOk result (λ l. pool_view l ≡ pool_named symbols.new Ch3 [] (server_at (map list_view lists.now) number index)) }
+    ensures table { IfOk result (λ _. symbols.new ≡ with_entry same_symbol symbols.old (symbol_of Ch3 [] (server_at (map list_view lists.now) number index))) }
+{
+    let list = &lists[number];
+    let mut servers = Vec::with_capacity(alloc, 1)?;
+    servers.push(list[index])?;
+    let servers = Arc::new(alloc, servers)?;
+    let salt = Vec::new(alloc);
+    leaf_of(HashFunc::Ch3, salt, servers, symbols)
 }
 
 /// The route that a handle names, over the pools' lists.
@@ -59,32 +100,79 @@ pub fn build_route(
     ensures { IfOk result (λ r. IsBuilt (map list_view lists.now) symbols.old (named_of route.now ∷ []) symbols.new (view r ∷ [])) }
 {
     match route {
-        NamedRoute::Pool(number) => {
-            let servers = Arc::try_clone(&lists[*number])?;
-            Ok(Route::Pool(leaf_of(alloc, servers, symbols)?))
+        NamedRoute::Pool {
+            pool,
+            func,
+            salt,
+            shadows,
+        } => {
+            let leaf = pool_leaf(alloc, *pool, *func, salt, lists, symbols)?;
+            let shadows = build_shadows(alloc, shadows, lists, symbols)?;
+            Ok(Route::Pool { leaf, shadows })
         }
         NamedRoute::Server { pool, index } => {
-            let list = &lists[*pool];
-            let mut servers = Vec::with_capacity(alloc, 1)?;
-            servers.push(list[*index])?;
-            Ok(Route::Pool(leaf_of(alloc, Arc::new(alloc, servers)?, symbols)?))
+            let leaf = server_leaf(alloc, *pool, *index, lists, symbols)?;
+            let shadows = Vec::new(alloc);
+            Ok(Route::Pool { leaf, shadows })
         }
         NamedRoute::Null => Ok(Route::Null),
+        NamedRoute::Error => Ok(Route::Error),
         NamedRoute::AllSync(children) => {
             Ok(Route::AllSync(build_children(alloc, children, lists, symbols)?))
+        }
+        NamedRoute::AllInitial(children) => {
+            Ok(Route::AllInitial(build_children(alloc, children, lists, symbols)?))
+        }
+        NamedRoute::AllAsync(children) => {
+            Ok(Route::AllAsync(build_children(alloc, children, lists, symbols)?))
+        }
+        NamedRoute::Failover(children) => {
+            Ok(Route::Failover(build_children(alloc, children, lists, symbols)?))
+        }
+        NamedRoute::MissFailover(children) => {
+            Ok(Route::MissFailover(build_children(alloc, children, lists, symbols)?))
+        }
+        NamedRoute::WarmUp {
+            cold,
+            warm,
+            exptime,
+        } => {
+            let cold = Box::new(alloc, build_route(alloc, cold, lists, symbols)?)?;
+            let warm = Box::new(alloc, build_route(alloc, warm, lists, symbols)?)?;
+            let exptime = *exptime;
+            Ok(Route::WarmUp {
+                cold,
+                warm,
+                exptime,
+            })
+        }
+        NamedRoute::Migrate {
+            from,
+            to,
+            start,
+            interval,
+        } => {
+            let from = Box::new(alloc, build_route(alloc, from, lists, symbols)?)?;
+            let to = Box::new(alloc, build_route(alloc, to, lists, symbols)?)?;
+            let (start, interval) = (*start, *interval);
+            Ok(Route::Migrate {
+                from,
+                to,
+                start,
+                interval,
+            })
+        }
+        NamedRoute::PrefixSelector { policies, wildcard } => {
+            let policies = build_prefixes(alloc, policies, lists, symbols)?;
+            let wildcard = build_last(alloc, wildcard, lists, symbols)?;
+            Ok(Route::PrefixSelector { policies, wildcard })
         }
         NamedRoute::OperationSelector {
             policies,
             default_policy,
         } => {
             let policies = build_policies(alloc, policies, lists, symbols)?;
-            let default_policy = match default_policy {
-                None => None,
-                Some(route) => {
-                    let route = build_route(alloc, route, lists, symbols)?;
-                    Some(Box::new(alloc, route)?)
-                }
-            };
+            let default_policy = build_last(alloc, default_policy, lists, symbols)?;
             Ok(Route::OperationSelector {
                 policies,
                 default_policy,
@@ -112,6 +200,55 @@ fn build_children(
     Ok(routes)
 }
 
+/// The shadows of a PoolRoute.
+#[cycle(build)]
+fn build_shadows(
+    alloc: Global,
+    shadows: &[NamedShadow],
+    lists: &[Arc<Vec<ServerId>>],
+    symbols: &mut Symbols,
+) -> Result<Vec<Shadow>, AllocError>
+    requires filled { All (λ servers. 0 < length servers) (map list_view lists.now) }
+    requires sound { All (λ s. IsSoundRoute (map list_view lists.now) s.1) (map shadow_of shadows.now) }
+    ensures ranges { IfOk result (λ ss. map (λ s. s.0) (map shadow_view ss.items) ≡ map (λ s. s.0) (map shadow_of shadows.now)) }
+    ensures targets { IfOk result (λ ss. IsBuilt (map list_view lists.now) symbols.old (map (λ s. s.1) (map shadow_of shadows.now))
+        symbols.new (map (λ s. s.1) (map shadow_view ss.items))) }
+{
+    let mut built = Vec::with_capacity(alloc, shadows.len())?;
+    for shadow in shadows {
+        let target = build_route(alloc, &shadow.target, lists, symbols)?;
+        built.push(Shadow {
+            first: shadow.first,
+            last: shadow.last,
+            target,
+        })?;
+    }
+    Ok(built)
+}
+
+/// The policies of a PrefixSelectorRoute.
+#[cycle(build)]
+fn build_prefixes(
+    alloc: Global,
+    policies: &[NamedPrefix],
+    lists: &[Arc<Vec<ServerId>>],
+    symbols: &mut Symbols,
+) -> Result<Vec<PrefixPolicy>, AllocError>
+    requires filled { All (λ servers. 0 < length servers) (map list_view lists.now) }
+    requires sound { All (λ p. IsSoundRoute (map list_view lists.now) p.1) (map prefix_of policies.now) }
+    ensures prefixes { IfOk result (λ ps. map (λ p. p.0) (map prefix_view ps.items) ≡ map (λ p. p.0) (map prefix_of policies.now)) }
+    ensures routes { IfOk result (λ ps. IsBuilt (map list_view lists.now) symbols.old (map (λ p. p.1) (map prefix_of policies.now))
+        symbols.new (map (λ p. p.1) (map prefix_view ps.items))) }
+{
+    let mut built = Vec::with_capacity(alloc, policies.len())?;
+    for policy in policies {
+        let route = build_route(alloc, &policy.route, lists, symbols)?;
+        let prefix = Vec::from_slice(alloc, policy.prefix.as_slice())?;
+        built.push(PrefixPolicy { prefix, route })?;
+    }
+    Ok(built)
+}
+
 /// The policies of an OperationSelectorRoute.
 #[cycle(build)]
 fn build_policies(
@@ -135,4 +272,25 @@ fn build_policies(
         })?;
     }
     Ok(built)
+}
+
+/// The route after all policies, where one is named.
+#[cycle(build)]
+fn build_last(
+    alloc: Global,
+    last: &Option<Box<NamedRoute>>,
+    lists: &[Arc<Vec<ServerId>>],
+    symbols: &mut Symbols,
+) -> Result<Option<Box<Route>>, AllocError>
+    requires filled { All (λ servers. 0 < length servers) (map list_view lists.now) }
+    requires sound { All (IsSoundRoute (map list_view lists.now)) (last_named last.now) }
+    ensures { IfOk result (λ r. IsBuilt (map list_view lists.now) symbols.old (last_named last.now) symbols.new (last_view r)) }
+{
+    match last {
+        None => Ok(None),
+        Some(route) => {
+            let route = build_route(alloc, route, lists, symbols)?;
+            Ok(Some(Box::new(alloc, route)?))
+        }
+    }
 }

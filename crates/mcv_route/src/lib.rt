@@ -4,8 +4,10 @@
 #![tactic(auto)]
 
 mod build;
+mod children;
 mod eras;
 mod launch;
+mod moments;
 mod routes;
 #[cfg(test)]
 mod tests;
@@ -14,4 +16,4 @@ mod tree;
 pub use eras::eras_are_opened_by_breaks;
 pub use launch::{Answered, Launch};
 pub use routes::Routes;
-pub use tree::{Leaf, OperationPolicy, Route};
+pub use tree::{Leaf, OperationPolicy, PrefixPolicy, Route, Shadow};

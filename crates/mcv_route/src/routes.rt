@@ -1,18 +1,20 @@
 //! All routes of a configuration, with the tables of servers and symbols that their leaves name.
 
-ghost use Rattle.std.specs.Prelude.{◌≡◌, ◌<◌, [], ◌∷◌, ◌++◌, Some, None, IfOk, length, map, option_map, position, slice_get};
-ghost use Rattle.std.specs.List.{All};
+ghost use Rattle.std.specs.Prelude.{◌≡◌, ◌<◌, [], ◌∷◌, Some, None, IfOk, length, map, option_map, position, slice_get};
+ghost use Rattle.std.specs.List.{All, flat_map};
 ghost use Rattle.mcv_config.specs.Plan.{IsSound, IsSoundRoute, named_of, plan_of};
 ghost use Rattle.mcv_route.specs.Built.{routes_named};
-ghost use Rattle.mcv_route.specs.Eras.{breaks_of, since_at};
-ghost use Rattle.mcv_route.specs.Places.{children_of, child_at, is_alias, leaf_in, route_of_prefix};
+ghost use Rattle.mcv_route.specs.Eras.{breaks, breaks_of, era_at, since_at, IsBreakTable};
+ghost use Rattle.mcv_route.specs.Places.{is_alias, leaf_in, route_of_prefix};
 ghost use Rattle.mcv_route.specs.Routes.{IsSoundRoutes};
 ghost use Rattle.mcv_route.specs.RoutesView.{entry_view};
-ghost use Rattle.mcv_route.specs.View.{last_view, operation_view, pool_view, view};
+ghost use Rattle.mcv_route.specs.View.{pool_view, view};
 ghost use Rattle.mcv_route.specs.Walk.{IsBuilt, list_view};
 
 use crate::build::{build_route, shared_lists};
-use crate::tree::{Leaf, OperationPolicy, Route};
+use crate::children::child_of;
+use crate::moments::{passed_breaks, push_breaks, table_of};
+use crate::tree::{Leaf, Route};
 use mcv_base::{Moment, Position, Prefix, ServerId};
 use mcv_config::{Config, Entry};
 use mcv_pools::{Servers, Symbols};
@@ -33,6 +35,8 @@ pub struct Routes {
     servers: Servers,
     symbols: Symbols,
     entries: Vec<AliasedRoute>,
+    /// The breaks of all entries, in rising order.
+    break_table: Vec<Moment>,
 }
 
 impl Model for Routes {
@@ -65,10 +69,13 @@ impl Routes {
         let lists = shared_lists(alloc, pools)?;
         let mut symbols = Symbols::new(alloc);
         let entries = build_entries(alloc, entries, lists.as_slice(), &mut symbols)?;
+        let moments = all_breaks(alloc, entries.as_slice())?;
+        let break_table = table_of(alloc, moments)?;
         Ok(Routes {
             servers,
             symbols,
             entries,
+            break_table,
         })
     }
 
@@ -112,9 +119,16 @@ impl Routes {
             here = child_of(here, *step)?;
         }
         match here {
-            Route::Pool(leaf) => Some(leaf),
+            Route::Pool { leaf, shadows: _ } => Some(leaf),
             _ => None,
         }
+    }
+
+    /// The moments at which what some handle sends changes, in rising order, each once.
+    pub fn breaks(&self) -> &[Moment]
+        ensures { IsBreakTable (breaks_of self.now) (map (λ m. m.0) result.now) }
+    {
+        self.break_table.as_slice()
     }
 
     /// The last break of the routes at the moment or before it, which opened the moment's era; None in the
@@ -122,9 +136,31 @@ impl Routes {
     pub fn since(&self, moment: Moment) -> Option<Moment>
         ensures { option_map (λ m. m.0) result ≡ since_at (breaks_of self.now) moment.0 }
     {
-        let _ = &self.entries;
-        None
+        let table = self.break_table.as_slice();
+        let number = passed_breaks(table, moment);
+        if number == 0 {
+            return None;
+        }
+        Some(self.break_table[number - 1])
     }
+
+    /// The number of the moment's era: how many breaks are at the moment or before it.
+    pub fn era_of(&self, moment: Moment) -> usize
+        ensures { result ≡ era_at (breaks_of self.now) moment.0 }
+    {
+        passed_breaks(self.break_table.as_slice(), moment)
+    }
+}
+
+/// The breaks of all entries, in their order.
+fn all_breaks(alloc: Global, entries: &[AliasedRoute]) -> Result<Vec<u64>, AllocError>
+    ensures { IfOk result (λ moments. moments.items ≡ flat_map (λ e. breaks e.tree) (map entry_view entries.now)) }
+{
+    let mut moments = Vec::new(alloc);
+    for entry in entries {
+        push_breaks(&mut moments, &entry.route)?;
+    }
+    Ok(moments)
 }
 
 /// The routes that the entries name, each with the entry's aliases.
@@ -178,40 +214,4 @@ fn has_alias(entry: &AliasedRoute, prefix: &Prefix) -> bool
         .aliases
         .iter()
         .any(|alias| alias.as_bytes() == prefix.as_bytes())
-}
-
-/// The child of a number.
-fn child_of(route: &Route, number: usize) -> Option<&Route>
-    ensures { option_map (λ r. view r.now) result ≡ child_at (children_of (view route.now)) number }
-{
-    match route {
-        Route::Pool(_) => None,
-        Route::Null => None,
-        Route::AllSync(children) => children.get(number),
-        Route::OperationSelector {
-            policies,
-            default_policy,
-        } => policy_route(policies, default_policy, number),
-    }
-}
-
-/// The route of the policy of a number, or after all policies the default's.
-fn policy_route<'a>(
-    policies: &'a [OperationPolicy],
-    default_policy: &'a Option<Box<Route>>,
-    number: usize,
-) -> Option<&'a Route>
-    ensures { option_map (λ r. view r.now) result
-        ≡ slice_get (map (λ p. p.1) (map operation_view policies.now) ++ last_view default_policy.now) number }
-{
-    if number < policies.len() {
-        return Some(&policies[number].route);
-    }
-    if number > policies.len() {
-        return None;
-    }
-    match default_policy {
-        Some(route) => Some(route),
-        None => None,
-    }
 }

@@ -3,17 +3,21 @@ use Rattle.std.proofs.Common.{◌≡◌, ℕ, List, [], ◌∷◌, Some, None, r
 use Rattle.mcv_base.specs.declared.operation.Op.TheVariants.{Get, Delete}
 use Rattle.mcv_base.specs.declared.operation.Mark.{Mark}
 use Rattle.mcv_base.specs.declared.operation.Mark.TheVariants.{Plain, Shadow}
-use Rattle.mcv_base.specs.declared.reply.Outcome.TheVariants.{Good, Soft, Error}
-use Rattle.mcv_base.specs.declared.reply.FixedReply.TheVariants.{NotFound, ErrorRoute}
+use Rattle.mcv_base.specs.declared.reply.Outcome.TheVariants.{Soft, Error}
+use Rattle.mcv_base.specs.declared.reply.FixedReply.{FixedReply}
+use Rattle.mcv_base.specs.declared.reply.FixedReply.TheVariants.{Deleted, NotFound, ErrorRoute, Lost}
+use Rattle.mcv_base.specs.declared.reply.Part.TheVariants as parts
+use Rattle.mcv_route.specs.declared.launch.Answered.{Answered}
 use Rattle.mcv_route.specs.Outcomes.{outcomes}
 use Rattle.mcv_route.specs.Tree.{Tree, Trees, pool, null, all_sync, failover, operation_selector, none, child}
 use Rattle.mcv_route.specs.Situation.{Situation, asked}
 use Rattle.mcv_route.specs.Reply as one
 use Rattle.mcv_rules.specs.Plan.{Leg, Send, Reply, Both, OnError, Shadowed, reply, launched}
 use Rattle.mcv_rules.specs.Plans.{plan}
-use Rattle.mcv_rules.specs.History.{place_of}
+use Rattle.mcv_rules.specs.History.{history_of, place_of}
 use Rattle.mcv_rules.specs.Status.{status_of}
 use Rattle.mcv_rules.specs.declared.status.Source.TheVariants.{Outcome, Fixed}
+use Rattle.mcv_rules.specs.declared.status.Status.{Status}
 use Rattle.mcv_rules.specs.declared.status.Status.TheVariants.{Waits, Replied}
 
 -- a pool of one server
@@ -58,26 +62,40 @@ failover_goes_on = refl
 
 -- ---- the reply that came last
 
-both_faulty : status_of Delete ((0 ∷ [], Error) ∷ (1 ∷ [], Error) ∷ []) (one.reply (all_sync (two (server 7) (server 8))) delete ((0 ∷ [], Error) ∷ (1 ∷ [], Error) ∷ [])) ≡ Replied (Outcome 1)
+abbrev answered : List ℕ → FixedReply → Answered
+answered p f = record { position = p; reply = parts.Fixed f }
+
+-- what a delete replies at these outcomes, in the order in which they came
+abbrev deleted : Tree → List Answered → Status
+deleted t xs = status_of Delete xs (one.reply t delete (history_of xs))
+
+both_faulty : deleted (all_sync (two (server 7) (server 8))) (answered (1 ∷ []) Lost ∷ answered (0 ∷ []) Lost ∷ []) ≡ Replied (Outcome 1)
 both_faulty = refl
 
-one_missing : status_of Delete ((1 ∷ [], Error) ∷ []) (one.reply (all_sync (two (server 7) (server 8))) delete ((1 ∷ [], Error) ∷ [])) ≡ Waits
+one_missing : deleted (all_sync (two (server 7) (server 8))) (answered (1 ∷ []) Lost ∷ []) ≡ Waits
 one_missing = refl
 
-default_and_miss : status_of Delete ((1 ∷ [], Soft) ∷ []) (one.reply (all_sync (two null (server 8))) delete ((1 ∷ [], Soft) ∷ [])) ≡ Replied (Outcome 0)
+default_and_miss : deleted (all_sync (two null (server 8))) (answered (1 ∷ []) NotFound ∷ []) ≡ Replied (Outcome 0)
 default_and_miss = refl
 
-default_and_hit : status_of Delete ((1 ∷ [], Good) ∷ []) (one.reply (all_sync (two null (server 8))) delete ((1 ∷ [], Good) ∷ [])) ≡ Replied (Fixed NotFound)
+default_and_hit : deleted (all_sync (two null (server 8))) (answered (1 ∷ []) Deleted ∷ []) ≡ Replied (Fixed NotFound)
 default_and_hit = refl
 
 -- the middle child is there last, by its second leg; its worst reply is the first of all
-whole_child : status_of Delete ((1 ∷ 1 ∷ [], Good) ∷ (2 ∷ [], Error) ∷ (0 ∷ [], Error) ∷ (1 ∷ 0 ∷ [], Error) ∷ [])
-    (one.reply (all_sync (child (server 7) (two (all_sync (two (server 8) (server 9))) (server 6)))) delete ((1 ∷ 1 ∷ [], Good) ∷ (2 ∷ [], Error) ∷ (0 ∷ [], Error) ∷ (1 ∷ 0 ∷ [], Error) ∷ []))
-    ≡ Replied (Outcome 0)
+whole_child : deleted (all_sync (child (server 7) (two (all_sync (two (server 8) (server 9))) (server 6))))
+    (answered (1 ∷ 0 ∷ []) Lost ∷ answered (0 ∷ []) Lost ∷ answered (2 ∷ []) Lost ∷ answered (1 ∷ 1 ∷ []) Deleted ∷ []) ≡ Replied (Outcome 0)
 whole_child = refl
 
-missing_policy : status_of Delete [] (one.reply (operation_selector [] none) delete []) ≡ Replied (Fixed ErrorRoute)
+missing_policy : deleted (operation_selector [] none) [] ≡ Replied (Fixed ErrorRoute)
 missing_policy = refl
 
-place : place_of ((0 ∷ [], Soft) ∷ (1 ∷ [], Error) ∷ []) (1 ∷ []) ≡ 0
+-- the search within came after the other child, by its second leg
+search_came_last : deleted (all_sync (two (failover (two (server 7) (server 8))) (server 9)))
+    (answered (0 ∷ 0 ∷ []) Lost ∷ answered (1 ∷ []) Lost ∷ answered (0 ∷ 1 ∷ []) Lost ∷ []) ≡ Replied (Outcome 2)
+search_came_last = refl
+
+place : place_of (answered (1 ∷ []) Lost ∷ answered (0 ∷ []) NotFound ∷ []) (0 ∷ []) ≡ 1
 place = refl
+
+first_counts : history_of (answered [] NotFound ∷ answered [] Deleted ∷ []) ≡ ([], Soft) ∷ []
+first_counts = refl

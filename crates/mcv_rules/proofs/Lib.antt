@@ -16,6 +16,16 @@ pub mod Times
 pub mod Own
 pub mod Plans
 pub mod Serving
+pub mod Searching
+pub mod Besides
+pub mod Choosing
+pub mod Stopping
+pub mod Turns
 pub mod True
 pub mod Told
+pub mod Rows
+pub mod Stops
+pub mod Longest
+pub mod Leaves
+pub mod Once
 mod Examples

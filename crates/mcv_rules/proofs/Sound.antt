@@ -1,5 +1,5 @@
 -- Every plan of a route is sound.
-use Rattle.std.proofs.Common.{◌≡◌, ◌≢◌, ◌⊎◌, cond, inl, inr, ⊎_elim, ℕ, zero, suc, ◌<◌, Bool, true, false, List, [], ◌∷◌, ◌++◌, length, refl, sym, ap, ◌∙◌, subst, arith, append_assoc, append-nil, true≢false}
+use Rattle.std.proofs.Common.{◌≡◌, ◌≢◌, ◌⊎◌, cond, inl, inr, ⊎_elim, ℕ, zero, suc, ◌+◌, ◌≤◌, ◌<◌, Bool, true, false, List, [], ◌∷◌, ◌++◌, length, refl, sym, ap, ◌∙◌, subst, arith, append_assoc, append-nil, true≢false}
 use Rattle.std.specs.Prelude.{fold}
 use Rattle.mcv_base.specs.declared.operation.Op.{Op}
 use Rattle.mcv_base.specs.declared.operation.Op.TheVariants.{Get, Gets, Set, Add, Replace, Append, Prepend, Cas, Delete, Touch}
@@ -20,7 +20,7 @@ use Rattle.mcv_route.specs.Children.{child_or, rest_of, together, Way, to_from, 
 use Rattle.mcv_rules.specs.Plans.{leg_of, with_shadows, plan, plan_each}
 use Rattle.mcv_route.specs.WellFormed.{IsWellFormed, AreWellFormed}
 
-in_either : (ps qs : List (List ℕ)) (p : List ℕ) → In (ps ++ qs) p → In ps p ⊎ In qs p
+pub in_either : (ps qs : List (List ℕ)) (p : List ℕ) → In (ps ++ qs) p → In ps p ⊎ In qs p
 in_either [] qs p h = inr h
 in_either (q ∷ ps) qs p (inl e) = inl (inl e)
 in_either (q ∷ ps) qs p (inr h) = ⊎_elim (λ i. inl (inr i)) (λ i. inr i) (in_either ps qs p h)
@@ -309,3 +309,59 @@ plan_sound sizes t op rest since w = let f = plan_fits sizes t (asked op rest si
 
 pub plan_for_delete : (sizes : List ℕ) (t : Tree) (rest : List ℕ) (since : _) → IsWellFormed sizes t → IsForDelete (plan t (asked Delete rest since))
 plan_for_delete sizes t rest since w = (plan_fits sizes t (asked Delete rest since) w).for_delete refl
+
+-- ---- of every tree: some list of sizes is long enough
+
+abbrev mutual
+  -- a number above all symbols
+  above : Tree → ℕ
+  above (pool p ranges targets) = suc p.symbol + above_each targets
+  above null = 0
+  above error = 0
+  above (all_sync ts) = above_each ts
+  above (all_initial ts) = above_each ts
+  above (all_async ts) = above_each ts
+  above (failover ts) = above_each ts
+  above (miss_failover ts) = above_each ts
+  above (warm_up cold warm exptime) = above cold + above warm
+  above (migrate from to start interval) = above from + above to
+  above (prefix_selector prefixes ts) = above_each ts
+  above (operation_selector ops ts) = above_each ts
+
+  above_each : Trees → ℕ
+  above_each none = 0
+  above_each (child t ts) = above t + above_each ts
+
+mutual
+  well : (sizes : List ℕ) (t : Tree) → above t ≤ length sizes → IsWellFormed sizes t
+  well sizes (pool p ranges targets) h = (omega (arith, h), well_each sizes targets (omega (arith, h)))
+  well sizes null h = tt
+  well sizes error h = tt
+  well sizes (all_sync ts) h = well_each sizes ts h
+  well sizes (all_initial ts) h = well_each sizes ts h
+  well sizes (all_async ts) h = well_each sizes ts h
+  well sizes (failover ts) h = well_each sizes ts h
+  well sizes (miss_failover ts) h = well_each sizes ts h
+  well sizes (warm_up cold warm exptime) h = (well sizes cold (omega (arith, h)), well sizes warm (omega (arith, h)))
+  well sizes (migrate from to start interval) h = (well sizes from (omega (arith, h)), well sizes to (omega (arith, h)))
+  well sizes (prefix_selector prefixes ts) h = well_each sizes ts h
+  well sizes (operation_selector ops ts) h = well_each sizes ts h
+
+  well_each : (sizes : List ℕ) (ts : Trees) → above_each ts ≤ length sizes → AreWellFormed sizes ts
+  well_each sizes none h = tt
+  well_each sizes (child t ts) h = (well sizes t (omega (arith, h)), well_each sizes ts (omega (arith, h)))
+
+-- so many sizes
+abbrev sizes_of : ℕ → List ℕ
+sizes_of zero = []
+sizes_of (suc n) = 1 ∷ sizes_of n
+
+length-sizes : (n : ℕ) → n ≤ length (sizes_of n)
+length-sizes zero = omega arith
+length-sizes (suc n) = let more : n ≤ length (sizes_of n) = length-sizes n in omega (arith, more)
+
+pub plan_apart : (t : Tree) (s : Situation) → IsApart (plan t s)
+plan_apart t s = (plan_fits (sizes_of (above t)) t s (well (sizes_of (above t)) t (length-sizes (above t)))).is_apart
+
+pub plan_marked : (t : Tree) (s : Situation) → IsMarked (is_counting s.mark) (plan t s)
+plan_marked t s = (plan_fits (sizes_of (above t)) t s (well (sizes_of (above t)) t (length-sizes (above t)))).is_marked

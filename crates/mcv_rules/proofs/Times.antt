@@ -25,7 +25,7 @@ max_left n m h = grind (arith, h)
 max_right : (n m : ℕ) → m ≤ n → n ≡ max m n
 max_right n m h = grind (arith, h)
 
-came_time : (t : Tree) (s : Situation) (es : History) → came t s es ≡ time (λ h. replies t s (outcomes h)) es
+pub came_time : (t : Tree) (s : Situation) (es : History) → came t s es ≡ time (λ h. replies t s (outcomes h)) es
 came_time t s [] = refl
 came_time t s (e ∷ es) = ap (λ n. cond (is_waiting (replies t s (outcomes es))) (suc (length es)) n) (came_time t s es)
 
@@ -65,7 +65,7 @@ time_of_all_sync t ts s es =
 abbrev Past : List Answer → List Answer → Type 0
 Past now r = (r ≡ []) ⊎ (r ≡ now)
 
-no_cons : (x : Answer) (q : List Answer) → x ∷ q ≡ [] → ⊥
+pub no_cons : (x : Answer) (q : List Answer) → x ∷ q ≡ [] → ⊥
 no_cons x q e = absurd cc
 
 past_back : (f : History → List Answer) (now q r : List Answer) → (q ≢ [] → r ≡ q) → Past now r → Past now q

@@ -8,3 +8,4 @@ pub mod History
 pub mod Status
 pub mod Arrivals
 pub mod Laid
+pub mod Rows

@@ -7,7 +7,6 @@ use Rattle.mcv_base.specs.declared.reply.FixedReply.{FixedReply}
 use Rattle.mcv_base.specs.declared.reply.FixedReply.TheVariants.{Miss, NotFound, NotStored, ErrorRoute}
 use Rattle.mcv_base.specs.Reply.{outcome_of, fixed_value, part_value}
 use Rattle.mcv_route.specs.declared.launch.Answered.{Answered}
-use Rattle.mcv_route.specs.Outcomes.{History}
 use Rattle.mcv_route.specs.Replies.{Answer, leg, fixed, refusal}
 use Rattle.mcv_route.specs.Replies as replies
 use Rattle.mcv_rules.specs.History.{place_of}
@@ -30,14 +29,14 @@ default_reply Delete = NotFound
 default_reply Touch = NotFound
 
 -- the reply recorded at the leg's position, the default reply, or ErrorRoute's
-abbrev pub source_of : Op → History → replies.Source → Source
-source_of op es (leg p) = sources.Outcome (place_of es p)
-source_of op es fixed = sources.Fixed (default_reply op)
-source_of op es refusal = sources.Fixed ErrorRoute
+abbrev pub source_of : Op → List Answered → replies.Source → Source
+source_of op answered (leg p) = sources.Outcome (place_of answered p)
+source_of op answered fixed = sources.Fixed (default_reply op)
+source_of op answered refusal = sources.Fixed ErrorRoute
 
-abbrev pub status_of : Op → History → Option Answer → Status
-status_of op es None = Waits
-status_of op es (Some a) = Replied (source_of op es a.source)
+abbrev pub status_of : Op → List Answered → Option Answer → Status
+status_of op answered None = Waits
+status_of op answered (Some a) = Replied (source_of op answered a.source)
 
 -- what a reply amounts to
 abbrev pub source_outcome : List Answered → Source → Option Outcome

@@ -1,12 +1,10 @@
 //! When a route first had an answer, and which.
 
-ghost use Rattle.std.specs.Prelude.{◌≡◌, ◌<◌};
-ghost use Rattle.mcv_rules.specs.Arrivals.{arrived_at_once, later, own_arrived, own_next, weight};
-ghost use Rattle.mcv_rules.specs.History.{entry_of, history_of};
+ghost use Rattle.std.specs.Prelude.{◌≡◌, option_map};
+ghost use Rattle.mcv_rules.specs.Arrivals.{arrived_at_once, goes_on, goes_on_after, later, next_arrived, weight};
 
 use crate::status::Source;
-use mcv_base::{FixedReply, Outcome, Position};
-use mcv_route::Answered;
+use mcv_base::{FixedReply, Outcome};
 
 /// An answer of a route.
 #[derive(Clone, Copy, Debug, PartialEq, Eq)]
@@ -21,6 +19,36 @@ pub struct Arrival {
     pub answer: Option<Answer>,
     /// How many outcomes had come when the route first had an answer; all of them while it has none.
     pub came: usize,
+}
+
+/// After which replies a search goes on.
+#[derive(Clone, Copy, Debug, PartialEq, Eq)]
+pub enum After {
+    Error,
+    /// All that aren't hits, errors too.
+    Miss,
+}
+
+impl After {
+    /// Whether the search goes on after this outcome.
+    pub fn goes_on(self, outcome: Outcome) -> bool
+        ensures { result ≡ goes_on self outcome }
+    {
+        match self {
+            After::Error => matches!(outcome, Outcome::Error),
+            After::Miss => matches!(outcome, Outcome::Soft | Outcome::Error),
+        }
+    }
+
+    /// Whether it goes on after this reply, once it is there.
+    pub fn goes_on_after(self, reply: Option<Outcome>) -> bool
+        ensures { result ≡ goes_on_after self reply }
+    {
+        match reply {
+            None => false,
+            Some(outcome) => self.goes_on(outcome),
+        }
+    }
 }
 
 impl Arrival {
@@ -38,39 +66,14 @@ impl Arrival {
         }
     }
 
-    /// That of the leg at a position.
-    pub fn own(outcomes: &[Answered], position: &Position) -> Self
-        ensures { result ≡ own_arrived position.now (history_of outcomes.now) }
+    /// What the answer amounts to, if it is there.
+    pub fn outcome(self) -> Option<Outcome>
+        ensures { result ≡ option_map (λ a. a.outcome) self.answer }
     {
-        let mut own = Arrival {
-            answer: None,
-            came: 0,
-        };
-        for (place, answered) in outcomes.iter().enumerate() {
-            own = own.next(place, answered, position);
+        match self.answer {
+            None => None,
+            Some(answer) => Some(answer.outcome),
         }
-        own
-    }
-
-    /// That of the leg at a position, once the entry with this place in the list has come.
-    fn next(self, place: usize, entry: &Answered, position: &Position) -> Self
-        requires { place < usize.MAX }
-        ensures { result ≡ own_next position.now place (entry_of entry.now) self }
-    {
-        let came = if self.answer.is_none() {
-            place + 1
-        } else {
-            self.came
-        };
-        let answer = if entry.position.is(position) {
-            Some(Answer {
-                outcome: entry.reply.outcome(),
-                source: Source::Outcome(place),
-            })
-        } else {
-            self.answer
-        };
-        Arrival { answer, came }
     }
 
     /// The worse of the two, and of two that are as bad the one that came later. One that is missing is worst of all.
@@ -81,6 +84,20 @@ impl Arrival {
         let worse = next.weight();
         if bad < worse || bad == worse && self.came <= next.came {
             next
+        } else {
+            self
+        }
+    }
+
+    /// The first answer, or where the search goes on the second, once both are there.
+    pub fn or_next(self, after: After, next: Arrival) -> Self
+        ensures { result ≡ next_arrived after self next }
+    {
+        if after.goes_on_after(self.outcome()) {
+            Arrival {
+                answer: next.answer,
+                came: self.came.max(next.came),
+            }
         } else {
             self
         }

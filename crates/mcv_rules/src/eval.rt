@@ -9,11 +9,16 @@ ghost use Rattle.mcv_rules.specs.Called.{situation_of};
 ghost use Rattle.mcv_rules.specs.History.{history_of};
 ghost use Rattle.mcv_rules.specs.Status.{status_of, status_outcome};
 
-use crate::plan::{Asked, Plan, arrive, laid_out, send};
+use crate::answers::arrive;
+use crate::asked::Asked;
+use crate::layout::laid_out;
+use crate::legs::send;
+use crate::outcomes::Outcomes;
+use crate::plan::Plan;
 use crate::status::Status;
 use mcv_base::{Mark, Moment, Op, Position, Rest};
 use mcv_pools::Choice;
-use mcv_route::{Answered, Launch, Route};
+use mcv_route::{Launch, Route};
 use std::alloc::{AllocError, Global};
 use std::marker::Model;
 
@@ -73,21 +78,21 @@ impl<'a> Eval<'a> {
     }
 
     /// The legs that the route has sent once these outcomes have come, in the order of their positions.
-    pub fn launched(&self, alloc: Global, outcomes: &[Answered]) -> Result<Vec<Launch>, AllocError>
-        ensures { IfOk result (λ legs. legs.items ≡ launched self.now.tree (situation_of self.now) (slice_index self.now.choice) (known (history_of outcomes.now))) }
+    pub fn launched(&self, alloc: Global, outcomes: &Outcomes) -> Result<Vec<Launch>, AllocError>
+        ensures { IfOk result (λ legs. legs.items ≡ launched self.now.tree (situation_of self.now) (slice_index self.now.choice) (known (history_of outcomes.now.answered.now))) }
     {
         let mut found = Vec::new(alloc);
-        send(alloc, &self.plan, self.choice, &mut found)?;
+        send(alloc, &self.plan, self.choice, outcomes.known(), &mut found)?;
         Ok(found)
     }
 
     /// Whether the route has replied once these outcomes have come, and by which reply: of the replies that could be
     /// it, the one that came last.
-    pub fn status(&self, outcomes: &[Answered]) -> Status
-        ensures status { result ≡ status_of self.now.op (history_of outcomes.now) (reply self.now.tree (situation_of self.now) (history_of outcomes.now)) }
-        ensures outcome { status_outcome outcomes.now result ≡ option_map (λ a. a.outcome) (reply self.now.tree (situation_of self.now) (history_of outcomes.now)) }
+    pub fn status(&self, outcomes: &Outcomes) -> Status
+        ensures status { result ≡ status_of self.now.op outcomes.now.answered.now (reply self.now.tree (situation_of self.now) (history_of outcomes.now.answered.now)) }
+        ensures outcome { status_outcome outcomes.now.answered.now result ≡ option_map (λ a. a.outcome) (reply self.now.tree (situation_of self.now) (history_of outcomes.now.answered.now)) }
     {
-        match arrive(&self.plan, outcomes).answer {
+        match arrive(&self.plan, outcomes.known()).answer {
             None => Status::Waits,
             Some(answer) => Status::Replied(answer.source),
         }

@@ -1,6 +1,7 @@
 //! The laws of routes: what holds of the definitions alone, and so of all code that meets them.
 
 ghost use Rattle.mcv_rules.specs.Laws.{AnswersAreTrue, DeletesSearchOnErrors, HitIsPlanned, LaunchedIsPlanned, OneReplyStays, PlansAreSound, ReachableIsClosed, RepliesAreAlike, ReplyIsOneOf, ReplyIsPlanned, ReplyStays, SentStays, TheLastOfTheWorst};
+ghost use Rattle.mcv_rules.specs.Rows.{AllAsyncRow, AllInitialRow, AllSyncRow, ErrorRow, FailoverReplies, FailoverRow, FirstPolicyCounts, LegsAreOfPools, LegsAreSentOnce, LongestPrefixCounts, MigrateAfter, MigrateBefore, MigrateDeletes, MigrateFirst, MigrateSecond, MissFailoverReads, MissFailoverReplies, MissFailoverWrites, NullRow, OperationSelectorRow, PoolRow, PrefixSelectorRow, ShadowsAreMarked, WarmUpReads, WarmUpWrites};
 ghost use Rattle.mcv_rules.specs.Times.{RepliesAreStable, TimeAfterError, TimeAfterMiss, TimeOfAllSync};
 
 /// The plan of a route sends the legs and gives the replies that its handles say.
@@ -47,4 +48,46 @@ pub fn answers_come_with_children()
     ensures error { TimeAfterError }
     ensures miss { TimeAfterMiss }
     ensures stable { RepliesAreStable }
+{}
+
+/// No leg is sent twice, and each is that of a PoolRoute at its position, to its server at the index that the choice
+/// gives its symbol; what is sent below a shadow is marked so.
+pub fn legs_are_of_pools()
+    ensures once { LegsAreSentOnce }
+    ensures pools { LegsAreOfPools }
+    ensures shadows { ShadowsAreMarked }
+{}
+
+/// What each handle sends by its children, in the order of the table of handles.
+pub fn handles_send_by_their_rows()
+    ensures pool { PoolRow }
+    ensures null { NullRow }
+    ensures error { ErrorRow }
+    ensures all_sync { AllSyncRow }
+    ensures all_initial { AllInitialRow }
+    ensures all_async { AllAsyncRow }
+    ensures failover { FailoverRow }
+    ensures miss_failover_reads { MissFailoverReads }
+    ensures miss_failover_writes { MissFailoverWrites }
+    ensures warm_up_reads { WarmUpReads }
+    ensures warm_up_writes { WarmUpWrites }
+    ensures migrate_before { MigrateBefore }
+    ensures migrate_deletes { MigrateDeletes }
+    ensures migrate_first { MigrateFirst }
+    ensures migrate_second { MigrateSecond }
+    ensures migrate_after { MigrateAfter }
+    ensures prefix_selector { PrefixSelectorRow }
+    ensures operation_selector { OperationSelectorRow }
+{}
+
+/// Where a search stops: its replies are those of the child there.
+pub fn searches_reply_where_they_stop()
+    ensures failover { FailoverReplies }
+    ensures miss_failover { MissFailoverReplies }
+{}
+
+/// Which policy a selector takes: that of the longest prefix, and the operation's first one.
+pub fn policies_are_selected()
+    ensures prefixes { LongestPrefixCounts }
+    ensures operations { FirstPolicyCounts }
 {}

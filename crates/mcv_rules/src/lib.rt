@@ -5,17 +5,26 @@
 //! alone; each is the contract of a function that does nothing.
 #![tactic(auto)]
 
+mod answers;
 mod arrival;
+mod asked;
 mod eval;
+mod known;
 mod laws;
+mod layout;
+mod legs;
+mod outcomes;
 mod plan;
 mod status;
 
 pub use eval::Eval;
 pub use laws::{
-    answers_are_true, answers_come_with_children, later_outcomes_only_add, plans_are_exact,
-    plans_are_sound, reachable_is_closed, the_last_reply_is_one,
+    answers_are_true, answers_come_with_children, handles_send_by_their_rows,
+    later_outcomes_only_add, legs_are_of_pools, plans_are_exact, plans_are_sound,
+    policies_are_selected, reachable_is_closed, searches_reply_where_they_stop,
+    the_last_reply_is_one,
 };
+pub use outcomes::Outcomes;
 pub use status::{Source, Status, default_reply};
 
 #[cfg(test)]

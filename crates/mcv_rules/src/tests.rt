@@ -1,119 +1,88 @@
+//! What routes send and reply, a row a case; the values are those of mcrouter's wiki, List of Route Handles.
+
 use super::*;
-use mcv_base::{FixedReply, Mark, Op, Outcome, Part, Position, Reply, Rest, ServerId, split_key};
+use mcv_base::{FixedReply, Moment, Op, Outcome, Part, Position, Reply, Rest, ServerId, split_key};
 use mcv_pools::Choice;
-use mcv_route::{Answered, Leaf, OperationPolicy, Route};
+use mcv_route::{Answered, Launch, Leaf, OperationPolicy, PrefixPolicy, Route, Shadow};
 use std::alloc::{AllocError, Global};
+use std::process::Abort;
 use std::sync::Arc;
 use std::test::Fail;
 
 /// A pool of these servers under symbol 0.
 fn pool(alloc: Global, servers: &[ServerId]) -> Result<Route, AllocError> {
-    let servers = Vec::from_slice(alloc, servers)?;
-    Ok(Route::Pool(Leaf {
-        symbol: 0,
-        servers: Arc::new(alloc, servers)?,
-    }))
+    shadowed(alloc, servers, Vec::new(alloc))
 }
 
-fn all_sync(alloc: Global, first: Route, second: Route) -> Result<Route, AllocError> {
+fn shadowed(
+    alloc: Global,
+    servers: &[ServerId],
+    shadows: Vec<Shadow>,
+) -> Result<Route, AllocError> {
+    let servers = Vec::from_slice(alloc, servers)?;
+    let leaf = Leaf {
+        symbol: 0,
+        servers: Arc::new(alloc, servers)?,
+    };
+    Ok(Route::Pool { leaf, shadows })
+}
+
+fn two(alloc: Global, first: Route, second: Route) -> Result<Vec<Route>, AllocError> {
     let mut children = Vec::new(alloc);
     children.push(first)?;
     children.push(second)?;
+    Ok(children)
+}
+
+/// A pool of server 1 and one of server 2.
+fn two_pools(alloc: Global) -> Result<Vec<Route>, AllocError> {
+    let first = pool(alloc, &[ServerId(1)])?;
+    two(alloc, first, pool(alloc, &[ServerId(2)])?)
+}
+
+/// A pool of servers 1 and 2; at index 0 server 3 gets a copy, at 1 to 9 server 4.
+fn two_shadows(alloc: Global) -> Result<Route, AllocError> {
+    let mut shadows = Vec::new(alloc);
+    shadows.push(Shadow {
+        first: 0,
+        last: 0,
+        target: pool(alloc, &[ServerId(3)])?,
+    })?;
+    shadows.push(Shadow {
+        first: 1,
+        last: 9,
+        target: pool(alloc, &[ServerId(0), ServerId(4)])?,
+    })?;
+    shadowed(alloc, &[ServerId(1), ServerId(2)], shadows)
+}
+
+/// Three children, the middle one of which is itself such a route.
+fn nested(alloc: Global) -> Result<Route, AllocError> {
+    let within = Route::AllSync(two_pools(alloc)?);
+    let mut children = two(alloc, pool(alloc, &[ServerId(0)])?, within)?;
+    children.push(pool(alloc, &[ServerId(3)])?)?;
     Ok(Route::AllSync(children))
 }
 
-fn faulty(alloc: Global, steps: &[usize], line: &[u8]) -> Result<Answered, AllocError> {
-    let line = Vec::from_slice(alloc, line)?;
-    Ok(Answered {
-        position: Position::at(alloc, steps)?,
-        reply: Part::Owned(Arc::new(alloc, Reply::Fault(line))?),
+/// Server 1 for rests that begin with `a`, server 2 for those with `ab`.
+fn prefixes(alloc: Global) -> Result<Route, AllocError> {
+    let mut policies = Vec::new(alloc);
+    policies.push(PrefixPolicy {
+        prefix: Vec::from_slice(alloc, b"a")?,
+        route: pool(alloc, &[ServerId(1)])?,
+    })?;
+    policies.push(PrefixPolicy {
+        prefix: Vec::from_slice(alloc, b"ab")?,
+        route: pool(alloc, &[ServerId(2)])?,
+    })?;
+    Ok(Route::PrefixSelector {
+        policies,
+        wildcard: None,
     })
 }
 
-fn answered(alloc: Global, steps: &[usize], reply: FixedReply) -> Result<Answered, AllocError> {
-    Ok(Answered {
-        position: Position::at(alloc, steps)?,
-        reply: Part::Fixed(reply),
-    })
-}
-
-fn rest() -> Result<Rest, Fail> {
-    let (_, rest) = split_key(b"a")?;
-    Ok(rest)
-}
-
-/// The choice that gives symbol 0 this index.
-fn choice(alloc: Global, index: usize) -> Result<Choice, AllocError> {
-    let mut indexes = Vec::new(alloc);
-    indexes.push(index)?;
-    Ok(Choice::new(indexes))
-}
-
-/// What a delete of the route replies.
-fn deleted(alloc: Global, route: &Route, outcomes: &[Answered]) -> Result<Status, Fail> {
-    let rest = rest()?;
-    let choice = choice(alloc, 0)?;
-    let eval = Eval::new(alloc, route, Op::Delete, &rest, None, &choice)?;
-    Ok(eval.status(outcomes))
-}
-
-#[test]
-fn the_later_of_two_faults_is_replied(rt: HostRuntime) -> Result<(), Fail> {
-    let alloc = rt.alloc();
-    let route = all_sync(
-        alloc,
-        pool(alloc, &[ServerId(0)])?,
-        pool(alloc, &[ServerId(1)])?,
-    )?;
-    let mut outcomes = Vec::new(alloc);
-    assert_eq!(rt; deleted(alloc, &route, outcomes.as_slice())?, Status::Waits);
-    outcomes.push(faulty(alloc, &[1], b"ERROR")?)?;
-    assert_eq!(rt; deleted(alloc, &route, outcomes.as_slice())?, Status::Waits);
-    outcomes.push(faulty(alloc, &[0], b"SERVER_ERROR x")?)?;
-    let status = deleted(alloc, &route, outcomes.as_slice())?;
-    assert_eq!(rt; status, Status::Replied(Source::Outcome(1)));
-    assert_eq!(rt; status.outcome(outcomes.as_slice()), Some(Outcome::Error));
-    Ok(())
-}
-
-#[test]
-fn a_miss_comes_after_the_default_reply(rt: HostRuntime) -> Result<(), Fail> {
-    let alloc = rt.alloc();
-    let route = all_sync(alloc, Route::Null, pool(alloc, &[ServerId(0)])?)?;
-    let mut outcomes = Vec::new(alloc);
-    outcomes.push(answered(alloc, &[1], FixedReply::NotFound)?)?;
-    let status = deleted(alloc, &route, outcomes.as_slice())?;
-    assert_eq!(rt; status, Status::Replied(Source::Outcome(0)));
-    assert_eq!(rt; status.outcome(outcomes.as_slice()), Some(Outcome::Soft));
-    Ok(())
-}
-
-#[test]
-fn the_child_that_replied_last_counts(rt: HostRuntime) -> Result<(), Fail> {
-    let alloc = rt.alloc();
-    let within = all_sync(
-        alloc,
-        pool(alloc, &[ServerId(1)])?,
-        pool(alloc, &[ServerId(2)])?,
-    )?;
-    let mut children = Vec::new(alloc);
-    children.push(pool(alloc, &[ServerId(0)])?)?;
-    children.push(within)?;
-    children.push(pool(alloc, &[ServerId(3)])?)?;
-    let route = Route::AllSync(children);
-    let mut outcomes = Vec::new(alloc);
-    outcomes.push(faulty(alloc, &[1, 0], b"ERROR")?)?;
-    outcomes.push(faulty(alloc, &[0], b"SERVER_ERROR x")?)?;
-    outcomes.push(faulty(alloc, &[2], b"SERVER_ERROR y")?)?;
-    assert_eq!(rt; deleted(alloc, &route, outcomes.as_slice())?, Status::Waits);
-    outcomes.push(answered(alloc, &[1, 1], FixedReply::Deleted)?)?;
-    let status = deleted(alloc, &route, outcomes.as_slice())?;
-    assert_eq!(rt; status, Status::Replied(Source::Outcome(0)));
-    Ok(())
-}
-
-/// A selector with a policy for delete, and with or without a default.
-fn selector(alloc: Global, default_policy: Option<Box<Route>>) -> Result<Route, AllocError> {
+/// Servers 7 and 8 for delete; a policy whose operation no command has stands before.
+fn operations(alloc: Global, default_policy: Option<Box<Route>>) -> Result<Route, AllocError> {
     let mut policies = Vec::new(alloc);
     policies.push(OperationPolicy {
         op: None,
@@ -129,58 +98,210 @@ fn selector(alloc: Global, default_policy: Option<Box<Route>>) -> Result<Route, 
     })
 }
 
-#[test]
-fn a_policy_goes_before_the_default(rt: HostRuntime) -> Result<(), Fail> {
-    let alloc = rt.alloc();
-    let default = Box::new(alloc, pool(alloc, &[ServerId(9)])?)?;
-    let route = selector(alloc, Some(default))?;
-    let rest = rest()?;
-    let choice = choice(alloc, 1)?;
-    let delete = Eval::new(alloc, &route, Op::Delete, &rest, None, &choice)?;
-    let legs = delete.launched(alloc, &[])?;
-    assert_eq!(rt; legs.len(), 1);
-    let leg = &legs[0];
-    assert_eq!(rt; leg.position.steps(), [1].as_slice());
-    assert_eq!(rt; leg.server, ServerId(8));
-    assert_eq!(rt; leg.op, Op::Delete);
-    assert_eq!(rt; leg.mark, Mark::Plain);
-    let get = Eval::new(alloc, &route, Op::Get, &rest, None, &choice)?;
-    let legs = get.launched(alloc, &[])?;
-    assert_eq!(rt; legs.len(), 1);
-    assert_eq!(rt; legs[0].position.steps(), [2].as_slice());
-    Ok(())
+/// The route that a row's first word names.
+fn route_of(alloc: Global, name: &str) -> Result<Route, AllocError> {
+    let one = Box::new(alloc, pool(alloc, &[ServerId(1)])?)?;
+    let other = Box::new(alloc, pool(alloc, &[ServerId(2)])?)?;
+    Ok(match name {
+        "pool" => pool(alloc, &[ServerId(1), ServerId(2)])?,
+        "shadows" => two_shadows(alloc)?,
+        "null" => Route::Null,
+        "sync" => Route::AllSync(two_pools(alloc)?),
+        "null_sync" => Route::AllSync(two(alloc, Route::Null, pool(alloc, &[ServerId(1)])?)?),
+        "nested" => nested(alloc)?,
+        "initial" => Route::AllInitial(two_pools(alloc)?),
+        "async" => Route::AllAsync(two(alloc, Route::Failover(two_pools(alloc)?), Route::Error)?),
+        "failover" => Route::Failover(two_pools(alloc)?),
+        "miss_failover" => Route::MissFailover(two_pools(alloc)?),
+        "warm_up" => Route::WarmUp {
+            cold: one,
+            warm: other,
+            exptime: 60,
+        },
+        "migrate" => Route::Migrate {
+            from: one,
+            to: other,
+            start: 1000,
+            interval: 3600,
+        },
+        "prefixes" => prefixes(alloc)?,
+        "operations" => operations(alloc, Some(one))?,
+        "no_default" => operations(alloc, None)?,
+        _ => Route::Error,
+    })
 }
 
-#[test]
-fn a_missing_policy_is_an_error(rt: HostRuntime) -> Result<(), Fail> {
-    let alloc = rt.alloc();
-    let route = selector(alloc, None)?;
-    let rest = rest()?;
-    let choice = choice(alloc, 0)?;
-    let get = Eval::new(alloc, &route, Op::Get, &rest, None, &choice)?;
-    assert_eq!(rt; get.launched(alloc, &[])?.len(), 0);
-    let status = get.status(&[]);
-    assert_eq!(rt;
+/// The operations of the rows.
+fn op_of(name: &str) -> Op {
+    Op::named(name.as_bytes()).unwrap_or(Op::Touch)
+}
+
+fn fault(alloc: Global, line: &[u8]) -> Result<Part, AllocError> {
+    let line = Vec::from_slice(alloc, line)?;
+    Ok(Part::Owned(Arc::new(alloc, Reply::Fault(line))?))
+}
+
+fn hit(alloc: Global) -> Result<Part, AllocError> {
+    let body = Vec::from_slice(alloc, b"x")?;
+    let reply = Reply::Hit {
+        flags: 0,
+        cas: None,
+        body: Arc::new(alloc, body)?,
+    };
+    Ok(Part::Owned(Arc::new(alloc, reply)?))
+}
+
+/// An outcome as a row has it: a position, `=` and a word.
+fn answered(alloc: Global, word: &str) -> Result<Answered, AllocError> {
+    let (place, reply) = word.split_once('=').unwrap_or((word, ""));
+    let mut steps = Vec::new(alloc);
+    for step in place.split('.') {
+        if let Ok(step) = step.parse::<usize>() {
+            steps.push(step)?;
+        }
+    }
+    Ok(Answered {
+        position: Position::at(alloc, steps.as_slice())?,
+        reply: match reply {
+            "hit" => hit(alloc)?,
+            "miss" => Part::Fixed(FixedReply::Miss),
+            "not_found" => Part::Fixed(FixedReply::NotFound),
+            "deleted" => Part::Fixed(FixedReply::Deleted),
+            "fault" => fault(alloc, b"SERVER_ERROR x")?,
+            _ => fault(alloc, b"ERROR")?,
+        },
+    })
+}
+
+/// The legs as their positions, servers, operations and marks; the status, and what the reply amounts to.
+fn shown(
+    alloc: Global,
+    legs: &[Launch],
+    status: Status,
+    outcome: Option<Outcome>,
+) -> Result<String, Fail> {
+    let mut text = String::new(alloc);
+    for leg in legs {
+        let steps = leg.position.steps();
+        let server = leg.server.0;
+        let op = leg.op.name();
+        let mark = leg.mark;
+        write!(text, "{steps:?} {server} {op} {mark:?}; ")?;
+    }
+    write!(text, "{status:?} {outcome:?}")?;
+    Ok(text)
+}
+
+/// What a row gives. Its first half is the route, the operation, the key, the index of symbol 0, the break that opened
+/// the era, and the outcomes.
+fn given(alloc: Global, row: &str) -> Result<String, Fail> {
+    let mut words = row.split(' ');
+    let route = route_of(alloc, words.next().unwrap_or(""))?;
+    let op = op_of(words.next().unwrap_or(""));
+    let (_, rest) = split_key(words.next().unwrap_or("").as_bytes())?;
+    let mut indexes = Vec::new(alloc);
+    indexes.push(words.next().unwrap_or("").parse::<usize>().unwrap_or(0))?;
+    let choice = Choice::new(indexes);
+    let since = words.next().unwrap_or("").parse::<u64>().ok().map(Moment);
+    let mut answers = Vec::new(alloc);
+    for word in words {
+        answers.push(answered(alloc, word)?)?;
+    }
+    let eval = Eval::new(alloc, &route, op, &rest, since, &choice)?;
+    let outcomes = Outcomes::of(alloc, answers.as_slice())?;
+    let legs = eval.launched(alloc, &outcomes)?;
+    let status = eval.status(&outcomes);
+    shown(
+        alloc,
+        legs.as_slice(),
         status,
-        Status::Replied(Source::Fixed(FixedReply::ErrorRoute))
-    );
-    assert_eq!(rt; status.outcome(&[]), Some(Outcome::Error));
+        status.outcome(answers.as_slice()),
+    )
+}
+
+fn check_rows(rt: &impl Abort, alloc: Global, table: &str) -> Result<(), Fail> {
+    for row in table.lines() {
+        let Some((asked, wanted)) = row.split_once(" | ") else {
+            return Ok(assert!(rt; false, "{row}"));
+        };
+        let found = given(alloc, asked)?;
+        let found = found.as_str();
+        assert!(rt; found == wanted, "{row}\n{found}");
+    }
     Ok(())
 }
 
+/// Handles that send to all their children, or to none.
+const ALL: &str = "\
+pool get a 1 - | [] 2 get Plain; Waits None
+pool get a 0 - -=miss -=hit | [] 1 get Plain; Replied(Outcome(0)) Some(Soft)
+shadows get a 0 - 0=miss | [] 1 get Plain; [0] 3 get Shadow; Waits None
+shadows get a 1 - -=hit | [] 2 get Plain; [1] 4 get Shadow; Replied(Outcome(0)) Some(Good)
+null get a 0 - | Replied(Fixed(Miss)) Some(Soft)
+null set a 0 - | Replied(Fixed(NotStored)) Some(Soft)
+null delete a 0 - | Replied(Fixed(NotFound)) Some(Soft)
+error get a 0 - | Replied(Fixed(ErrorRoute)) Some(Error)
+sync delete a 0 - 1=error | [0] 1 delete Plain; [1] 2 delete Plain; Waits None
+sync delete a 0 - 1=error 0=fault | [0] 1 delete Plain; [1] 2 delete Plain; Replied(Outcome(1)) Some(Error)
+sync delete a 0 - 1=error 0=deleted | [0] 1 delete Plain; [1] 2 delete Plain; Replied(Outcome(0)) Some(Error)
+null_sync delete a 0 - 1=not_found | [1] 1 delete Plain; Replied(Outcome(0)) Some(Soft)
+nested delete a 0 - 1.0=error 0=fault 2=fault 1.1=deleted | [0] 0 delete Plain; [1, 0] 1 delete Plain; [1, 1] 2 delete Plain; [2] 3 delete Plain; Replied(Outcome(0)) Some(Error)
+initial get a 0 - 1=hit | [0] 1 get Plain; [1] 2 get Async; Waits None
+initial get a 0 - 0=miss | [0] 1 get Plain; [1] 2 get Async; Replied(Outcome(0)) Some(Soft)
+async delete a 0 - | [0, 0] 1 delete Async; Replied(Fixed(NotFound)) Some(Soft)
+async delete a 0 - 0.0=error | [0, 0] 1 delete Async; [0, 1] 2 delete Async; Replied(Fixed(NotFound)) Some(Soft)";
+
+/// Handles that search.
+const SEARCHES: &str = "\
+failover get a 0 - | [0] 1 get Plain; Waits None
+failover get a 0 - 0=miss | [0] 1 get Plain; Replied(Outcome(0)) Some(Soft)
+failover get a 0 - 0=fault | [0] 1 get Plain; [1] 2 get Plain; Waits None
+failover get a 0 - 0=fault 1=miss | [0] 1 get Plain; [1] 2 get Plain; Replied(Outcome(1)) Some(Soft)
+miss_failover get a 0 - 0=miss | [0] 1 get Plain; [1] 2 get Plain; Waits None
+miss_failover get a 0 - 0=error 1=hit | [0] 1 get Plain; [1] 2 get Plain; Replied(Outcome(1)) Some(Good)
+miss_failover delete a 0 - 0=not_found | [0] 1 delete Plain; Replied(Outcome(0)) Some(Soft)
+warm_up get a 0 - | [0] 1 get Plain; Waits None
+warm_up get a 0 - 0=miss | [0] 1 get Plain; [1] 2 get Plain; Waits None
+warm_up get a 0 - 0=miss 1=hit | [0] 1 get Plain; [1] 2 get Plain; [2] 1 add Add; Replied(Outcome(1)) Some(Good)
+warm_up get a 0 - 0=miss 1=miss | [0] 1 get Plain; [1] 2 get Plain; Replied(Outcome(1)) Some(Soft)
+warm_up set a 0 - | [0] 1 set Plain; Waits None";
+
+/// Handles that choose among their children.
+const CHOICES: &str = "\
+migrate delete a 0 - | [0] 1 delete Plain; Waits None
+migrate delete a 0 999 | [0] 1 delete Plain; Waits None
+migrate delete a 0 1000 | [0] 1 delete Plain; [1] 2 delete Plain; Waits None
+migrate delete a 0 8199 1=fault 0=deleted | [0] 1 delete Plain; [1] 2 delete Plain; Replied(Outcome(0)) Some(Error)
+migrate delete a 0 8200 | [1] 2 delete Plain; Waits None
+migrate get a 0 4599 | [0] 1 get Plain; Waits None
+migrate get a 0 4600 | [1] 2 get Plain; Waits None
+prefixes get ac 0 - | [0] 1 get Plain; Waits None
+prefixes get abc 0 - | [1] 2 get Plain; Waits None
+prefixes get b 0 - | Replied(Fixed(ErrorRoute)) Some(Error)
+operations delete a 1 - | [1] 8 delete Plain; Waits None
+operations get a 0 - | [2] 1 get Plain; Waits None
+no_default get a 0 - | Replied(Fixed(ErrorRoute)) Some(Error)";
+
+#[test]
+fn all_are_sent_to(rt: HostRuntime) -> Result<(), Fail> {
+    check_rows(&rt, rt.alloc(), ALL)
+}
+
+#[test]
+fn searches_stop(rt: HostRuntime) -> Result<(), Fail> {
+    check_rows(&rt, rt.alloc(), SEARCHES)
+}
+
+#[test]
+fn one_is_chosen(rt: HostRuntime) -> Result<(), Fail> {
+    check_rows(&rt, rt.alloc(), CHOICES)
+}
+
+/// The default replies of the operations that no row has.
 #[test]
 fn nothing_asked_is_a_miss(rt: HostRuntime) -> Result<(), Fail> {
-    let alloc = rt.alloc();
-    let rest = rest()?;
-    let choice = choice(alloc, 0)?;
-    let set = Eval::new(alloc, &Route::Null, Op::Set, &rest, None, &choice)?;
-    assert_eq!(rt; set.launched(alloc, &[])?.len(), 0);
-    assert_eq!(rt;
-        set.status(&[]),
-        Status::Replied(Source::Fixed(FixedReply::NotStored))
-    );
-    assert_eq!(rt; set.status(&[]).outcome(&[]), Some(Outcome::Soft));
     assert_eq!(rt; default_reply(Op::Gets), FixedReply::Miss);
+    assert_eq!(rt; default_reply(Op::Cas), FixedReply::NotStored);
     assert_eq!(rt; default_reply(Op::Touch), FixedReply::NotFound);
     Ok(())
 }

@@ -14,4 +14,4 @@ returns c =
     let top : app_of c.in_ok-bin_name.field-0 ≡ wanting_a_command (new_app (codes "mcv")) =
     ap app_of_fields (c.in_ok-bin_name.ensures.0) ∙ wanting in
     IfOk-weaker c.subcommand.result _ _
-    (λ m adds. adds.shape c.legs_command-legs.ensures.local ∙ ap₂ with_subcommand top (ap (λ (a : App). a.top) c.legs_command-legs.ensures.app)) c.subcommand.ensures
+    (λ m adds. adds.shape c.in_ok-legs.ensures.local ∙ ap₂ with_subcommand top (ap (λ (a : App). a.top) c.in_ok-legs.ensures.app)) c.subcommand.ensures

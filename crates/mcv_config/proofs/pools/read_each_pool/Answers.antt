@@ -3,13 +3,13 @@ use Rattle.std.proofs.lemmas.List.{map-append}
 use Rattle.std.proofs.lemmas.Grind.{common_steps}
 use Rattle.serde_json.proofs.Views.{Entry}
 use Rattle.serde_json.specs.View.{view, members_view}
-use Rattle.mcv_config.specs.declared.trail.Trail.{the_lemmas}
-use Rattle.mcv_config.specs.Fault.{good}
-use Rattle.mcv_config.specs.Lists.{each_member}
-use Rattle.mcv_config.specs.Path.{path_of, key_step}
+use Rattle.mcv_names.specs.declared.trail.Trail.{the_lemmas}
+use Rattle.mcv_names.specs.Fault.{good}
+use Rattle.mcv_names.specs.Lists.{each_member}
+use Rattle.mcv_names.specs.Path.{path_of, key_step}
 use Rattle.mcv_config.specs.Plan.{pool_plan}
 use Rattle.mcv_config.specs.Pools.{pool_read}
-use Rattle.mcv_config.proofs.Turns.{after, each_member-more}
+use Rattle.mcv_names.proofs.Turns.{after, each_member-more}
 use Rattle.mcv_config.proofs.pools.read_each_pool.Goals as goal
 
 pub loop-name-preserved : goal.loop-name-preserved

@@ -24,13 +24,8 @@ returns-in_default-route_for-clause-large c = λ op prefix rest configuration as
     not_long c.args.input.now c.in-Some.asked.op op c.in-Some.asked.prefix c.in-Some.asked.rest c.in-Some.asked.configuration.now prefix rest configuration c.in-Some.ensures asks
     c.in_ok-routes.ensures.named.1.0 long
 
-pub returns-in_err-legs-clause-large : goal.returns-in_err-legs-clause-large
-returns-in_err-legs-clause-large c = λ op prefix rest configuration asks long.
-    absurd (not_long c.args.input.now c.in-Some.asked.op op c.in-Some.asked.prefix c.in-Some.asked.rest c.in-Some.asked.configuration.now prefix rest configuration c.in-Some.ensures asks
-    c.in_ok-routes.ensures.named.1.0 long)
-
-pub returns-in_err-legs_text-clause-large : goal.returns-in_err-legs_text-clause-large
-returns-in_err-legs_text-clause-large c = λ op prefix rest configuration asks long.
+pub returns-in_err-first_text-clause-large : goal.returns-in_err-first_text-clause-large
+returns-in_err-first_text-clause-large c = λ op prefix rest configuration asks long.
     absurd (not_long c.args.input.now c.in-Some.asked.op op c.in-Some.asked.prefix c.in-Some.asked.rest c.in-Some.asked.configuration.now prefix rest configuration c.in-Some.ensures asks
     c.in_ok-routes.ensures.named.1.0 long)
 
@@ -40,10 +35,9 @@ returns-clause-ok c =
     let named = c.in_ok-routes.ensures.named in
     let found = the_entry (entry_for asked.prefix c.in_ok-routes.routes) (view c.in-Some-route_for.route.now) c.in-Some-route_for.ensures in
     let told =
-    text_is_told c.in_ok-legs_text.field-0.items c.servers.result.now c.as_slice.result.now c.outcome-reply.result c.in_ok-eval.eval c.in_ok-routes.routes found.0
+    text_is_told c.in_ok-first_text.field-0.items c.servers.result.now c.in_ok-eval.eval c.in_ok-routes.routes found.0
     c.args.moment.0 asked.op asked.rest (view c.in-Some-route_for.route.now) (option_map (λ m. m.0) c.since-since.result) c.in_ok-choice.choice c.symbols.result.now c.hashed_part.result.now
-    c.in_ok-legs_text.ensures c.servers.ensures.value (c.as_slice.ensures.value ∙ c.in_ok-legs.ensures) (c.outcome-reply.ensures ∙ c.status.ensures.outcome)
-    c.in_ok-eval.ensures found.2 c.since-since.ensures c.in_ok-choice.ensures c.symbols.ensures.value c.hashed_part.ensures in
+    c.in_ok-first_text.ensures c.servers.ensures.value c.in_ok-eval.ensures found.2 c.since-since.ensures c.in_ok-choice.ensures c.symbols.ensures.value c.hashed_part.ensures in
     let plan = named.0 in
     let is : c.in_ok-routes.routes ≡ routes_named plan = named.2 in
     record {
@@ -56,5 +50,5 @@ returns-clause-ok c =
       names = named.1;
       entry = found.0;
       selected = ap (entry_for asked.prefix) (sym is) ∙ found.1;
-      is = told ∙ ap (λ (r : RoutesValue). text_of found.0 r (situation_at c.args.moment.0 r asked.op asked.rest) (shipped_choice r asked.rest)) is;
+      is = told ∙ ap (λ (r : RoutesValue). text_of r.servers found.0.tree (situation_at c.args.moment.0 r asked.op asked.rest) (shipped_choice r asked.rest)) is;
     }

@@ -1,12 +1,16 @@
-use Rattle.std.proofs.Common.{◌≡◌, ◌<◌, ◌++◌, ◌∷◌, [], length, map, rules, arith, refl, ap, sym, ◌∙◌}
+use Rattle.std.proofs.Common.{◌≡◌, ◌<◌, ◌++◌, ◌∷◌, [], Some, None, length, map, rules, arith, refl, ap, sym, ◌∙◌}
 use Rattle.std.proofs.lemmas.List.{length-map}
+use Rattle.mcv_route.specs.View.{view, operation_view, prefix_view, shadow_view}
 use Rattle.mcv_route.specs.Walk.{list_view}
-use Rattle.mcv_route.proofs.Building.{child-more, policy-more, All-at, sound-server, sound-pool, sound-all_sync, sound-policies, sound-default, sound-policy, length-server, length-pool, built-Pool, built-Server, built-AllSync, built-OperationSelector, built-no_default, built-default}
-use Rattle.mcv_config.specs.Plan.{named_of, IsSoundRoute}
+use Rattle.mcv_route.proofs.Building.{All-at, child-more, item-more, sound-pool, sound-shadows, sound-server, sound-AllSync, sound-AllInitial, sound-AllAsync, sound-Failover, sound-MissFailover, sound-WarmUp, sound-Migrate, sound-prefixes, sound-wildcard, sound-policies, sound-default, sound-last, sound-shadow, sound-prefix, sound-policy, built-Pool, built-Server, built-Null, built-Error, built-AllSync, built-AllInitial, built-AllAsync, built-Failover, built-MissFailover, built-WarmUp, built-Migrate, built-PrefixSelector, built-OperationSelector, built-no_last, built-last}
+use Rattle.mcv_route.proofs.Nameds.{shadow_of-out, prefix_of-out, policy_of-out}
+use Rattle.mcv_config.specs.Plan.{named_of, shadow_of, prefix_of, policy_of, IsSoundRoute}
 use Rattle.mcv_config.specs.declared.config.NamedRoute as asked
+use Rattle.mcv_config.specs.declared.config.NamedPolicy.{out-NamedPolicy}
+use Rattle.mcv_config.specs.declared.config.NamedPrefix.{out-NamedPrefix}
+use Rattle.mcv_config.specs.declared.config.NamedShadow.{out-NamedShadow}
 use Rattle.mcv_route.specs.declared.tree.Route as made
 use Rattle.mcv_route.proofs.build.+build.Goals as goal
-use Rattle.mcv_route.proofs.build.+build.Goals.{build_route-in-None, build_route-in-Some+in_ok-route-in-Some+in_ok-new-in-Some}
 
 pub build_children-build_route-requires : goal.build_children-build_route-requires
 build_children-build_route-requires t c =
@@ -18,6 +22,28 @@ build_children-loop-child-preserved t c =
     (child-more (map list_view c.args.lists.now) c.args.symbols.now c.loop-child.symbols c.build_route.new.symbols c.args.children.now c.loop-child.child-index c.child-item.result
     c.loop-child.routes.items c.in_ok-build_route.field-0 c.loop-child-test.true c.child-item.is c.loop-child.invariant c.in_ok-build_route.ensures)
 
+pub build_shadows-build_route-requires : goal.build_shadows-build_route-requires
+build_shadows-build_route-requires t c =
+    (search (rules, asked.the_lemmas), (c.requires.filled, sound-shadow (map list_view c.args.lists.now) c.args.shadows.now c.loop-shadow.shadow-index c.shadow-item.result c.requires.sound c.loop-shadow-test.true c.shadow-item.is))
+
+pub build_shadows-loop-shadow-preserved : goal.build_shadows-loop-shadow-preserved
+build_shadows-loop-shadow-preserved t c =
+    rw c.in_ok-push.ensures.items
+    (item-more (map list_view c.args.lists.now) c.args.symbols.now c.loop-shadow.symbols c.build_route.new.symbols shadow_of shadow_view c.args.shadows.now c.loop-shadow.shadow-index c.shadow-item.result
+    c.loop-shadow.built.items _ (record { first = (out-NamedShadow c.shadow-item.result).first; last = (out-NamedShadow c.shadow-item.result).last }) (named_of (out-NamedShadow c.shadow-item.result).target) (view c.in_ok-target.target) c.loop-shadow-test.true c.shadow-item.is
+    (shadow_of-out c.shadow-item.result) (search (rules, made.the_lemmas)) c.loop-shadow.invariant c.in_ok-target.ensures)
+
+pub build_prefixes-build_route-requires : goal.build_prefixes-build_route-requires
+build_prefixes-build_route-requires t c =
+    (search (rules, asked.the_lemmas), (c.requires.filled, sound-prefix (map list_view c.args.lists.now) c.args.policies.now c.loop-policy.policy-index c.policy-item.result c.requires.sound c.loop-policy-test.true c.policy-item.is))
+
+pub build_prefixes-loop-policy-preserved : goal.build_prefixes-loop-policy-preserved
+build_prefixes-loop-policy-preserved t c =
+    rw c.in_ok-push.ensures.items
+    (item-more (map list_view c.args.lists.now) c.args.symbols.now c.loop-policy.symbols c.build_route.new.symbols prefix_of prefix_view c.args.policies.now c.loop-policy.policy-index c.policy-item.result
+    c.loop-policy.built.items _ ((out-NamedPrefix c.policy-item.result).«prefix».items) (named_of (out-NamedPrefix c.policy-item.result).route) (view c.in_ok-route.route) c.loop-policy-test.true c.policy-item.is
+    (prefix_of-out c.policy-item.result) (search (rules, made.the_lemmas, c.in_ok-prefix.ensures, c.as_slice.ensures)) c.loop-policy.invariant c.in_ok-route.ensures)
+
 pub build_policies-build_route-requires : goal.build_policies-build_route-requires
 build_policies-build_route-requires t c =
     (search (rules, asked.the_lemmas), (c.requires.filled, sound-policy (map list_view c.args.lists.now) c.args.policies.now c.loop-policy.policy-index c.policy-item.result c.requires.sound c.loop-policy-test.true c.policy-item.is))
@@ -25,92 +51,164 @@ build_policies-build_route-requires t c =
 pub build_policies-loop-policy-preserved : goal.build_policies-loop-policy-preserved
 build_policies-loop-policy-preserved t c =
     rw c.in_ok-push.ensures.items
-    (policy-more (map list_view c.args.lists.now) c.args.symbols.now c.loop-policy.symbols c.build_route.new.symbols c.args.policies.now c.loop-policy.policy-index c.policy-item.result
-    c.loop-policy.built.items _ c.in_ok-route.route c.loop-policy-test.true c.policy-item.is (search (rules, made.the_lemmas)) c.loop-policy.invariant c.in_ok-route.ensures)
+    (item-more (map list_view c.args.lists.now) c.args.symbols.now c.loop-policy.symbols c.build_route.new.symbols policy_of operation_view c.args.policies.now c.loop-policy.policy-index c.policy-item.result
+    c.loop-policy.built.items _ ((out-NamedPolicy c.policy-item.result).op) (named_of (out-NamedPolicy c.policy-item.result).route) (view c.in_ok-route.route) c.loop-policy-test.true c.policy-item.is
+    (policy_of-out c.policy-item.result) (search (rules, made.the_lemmas)) c.loop-policy.invariant c.in_ok-route.ensures)
 
-pub build_route-leaf_of-requires : goal.build_route-leaf_of-requires
-build_route-leaf_of-requires t c =
-    let lists = c.args.lists.now in
-    let h : c.in-Pool.number < length lists =
-    omega (arith, sound-pool (map list_view lists) c.args.route.now c.in-Pool.number c.in-Pool.is c.requires.sound, length-map lists list_view) in
-    length-pool lists c.in-Pool.number c.index-lists-number.result c.in_ok-servers-in-Pool.servers c.requires.filled h c.index-lists-number.is c.in_ok-servers-in-Pool.ensures
+pub build_last-build_route-requires : goal.build_last-build_route-requires
+build_last-build_route-requires t c =
+    (search (rules, asked.the_lemmas), (c.requires.filled, rw c.deref.ensures (sound-last (map list_view c.args.lists.now) c.args.last.now c.in-Some.route c.in-Some.is c.requires.sound)))
 
-pub build_route-bounds-lists-pool : goal.build_route-bounds-lists-pool
-build_route-bounds-lists-pool t c =
-    omega (arith, (sound-server (map list_view c.args.lists.now) c.args.route.now c.in-Server.pool c.in-Server.index c.in-Server.is c.requires.sound).0, length-map c.args.lists.now list_view)
+pub build_last-returns-in-None : goal.build_last-returns-in-None
+build_last-returns-in-None t c = built-no_last (map list_view c.args.lists.now) c.args.symbols.now c.args.symbols.now c.args.last.now None c.in-None.is refl refl
 
-pub build_route-offset_bounds-lists-pool : goal.build_route-offset_bounds-lists-pool
-build_route-offset_bounds-lists-pool t c =
-    let h : c.in-Server.pool < length c.args.lists.now =
-    omega (arith, (sound-server (map list_view c.args.lists.now) c.args.route.now c.in-Server.pool c.in-Server.index c.in-Server.is c.requires.sound).0, length-map c.args.lists.now list_view) in
-    search rules
+pub build_route-pool_leaf-requires : goal.build_route-pool_leaf-requires
+build_route-pool_leaf-requires t c = record {
+  filled = c.requires.filled;
+  inside = omega (arith, sound-pool (map list_view c.args.lists.now) c.args.route.now c.in-Pool.pool c.in-Pool.func c.in-Pool.salt c.in-Pool.shadows c.in-Pool.is c.requires.sound, length-map c.args.lists.now list_view);
+}
 
-pub build_route-index-requires : goal.build_route-index-requires
-build_route-index-requires t c =
-    let lists = c.args.lists.now in
-    let sound = sound-server (map list_view lists) c.args.route.now c.in-Server.pool c.in-Server.index c.in-Server.is c.requires.sound in
-    let h : c.in-Server.pool < length lists = omega (arith, sound.0, length-map lists list_view) in
-    let inside = length-server lists c.in-Server.pool c.in-Server.index c.index-lists-pool.result h c.index-lists-pool.is sound.1 in
-    omega (arith, inside, ap (λ v. length v.items) c.deref.ensures, c.deref.result.now.ok.0)
+pub build_route-server_leaf-requires : goal.build_route-server_leaf-requires
+build_route-server_leaf-requires t c =
+    let sound = sound-server (map list_view c.args.lists.now) c.args.route.now c.in-Server.pool c.in-Server.index c.in-Server.is c.requires.sound in
+    record { inside = omega (arith, sound.0, length-map c.args.lists.now list_view); listed = sound.1 }
+
+pub build_route-build_shadows-requires : goal.build_route-build_shadows-requires
+build_route-build_shadows-requires t c = (
+  search (rules, asked.the_lemmas),
+  (
+    c.requires.filled,
+    rw c.deref-in-Pool.ensures.value
+        (sound-shadows (map list_view c.args.lists.now) c.args.route.now c.in-Pool.pool c.in-Pool.func c.in-Pool.salt c.in-Pool.shadows c.in-Pool.is c.requires.sound),
+  ),
+)
 
 pub build_route-build_children-requires : goal.build_route-build_children-requires
 build_route-build_children-requires t c =
-    (search (rules, asked.the_lemmas), (c.requires.filled, rw c.deref-in-AllSync.ensures.value (sound-all_sync (map list_view c.args.lists.now) c.args.route.now c.in-AllSync.children c.in-AllSync.is c.requires.sound)))
+    (search (rules, asked.the_lemmas), (c.requires.filled, rw c.deref-in-AllSync.ensures.value (sound-AllSync (map list_view c.args.lists.now) c.args.route.now c.in-AllSync.children c.in-AllSync.is c.requires.sound)))
+
+pub build_route-build_children-requires-in-AllInitial : goal.build_route-build_children-requires-in-AllInitial
+build_route-build_children-requires-in-AllInitial t c =
+    (search (rules, asked.the_lemmas), (c.requires.filled, rw c.deref-in-AllInitial.ensures.value (sound-AllInitial (map list_view c.args.lists.now) c.args.route.now c.in-AllInitial.children c.in-AllInitial.is c.requires.sound)))
+
+pub build_route-build_children-requires-in-AllAsync : goal.build_route-build_children-requires-in-AllAsync
+build_route-build_children-requires-in-AllAsync t c =
+    (search (rules, asked.the_lemmas), (c.requires.filled, rw c.deref-in-AllAsync.ensures.value (sound-AllAsync (map list_view c.args.lists.now) c.args.route.now c.in-AllAsync.children c.in-AllAsync.is c.requires.sound)))
+
+pub build_route-build_children-requires-in-Failover : goal.build_route-build_children-requires-in-Failover
+build_route-build_children-requires-in-Failover t c =
+    (search (rules, asked.the_lemmas), (c.requires.filled, rw c.deref-in-Failover.ensures.value (sound-Failover (map list_view c.args.lists.now) c.args.route.now c.in-Failover.children c.in-Failover.is c.requires.sound)))
+
+pub build_route-build_children-requires-in-MissFailover : goal.build_route-build_children-requires-in-MissFailover
+build_route-build_children-requires-in-MissFailover t c =
+    (search (rules, asked.the_lemmas), (c.requires.filled, rw c.deref-in-MissFailover.ensures.value (sound-MissFailover (map list_view c.args.lists.now) c.args.route.now c.in-MissFailover.children c.in-MissFailover.is c.requires.sound)))
+
+pub build_route-build_route-requires : goal.build_route-build_route-requires
+build_route-build_route-requires t c = (
+  search (rules, asked.the_lemmas),
+  (c.requires.filled, rw c.deref-in-WarmUp.ensures (sound-WarmUp (map list_view c.args.lists.now) c.args.route.now c.in-WarmUp.cold c.in-WarmUp.warm c.in-WarmUp.exptime c.in-WarmUp.is c.requires.sound).0),
+)
+
+pub build_route-build_route-requires-in-Migrate : goal.build_route-build_route-requires-in-Migrate
+build_route-build_route-requires-in-Migrate t c = (
+  search (rules, asked.the_lemmas),
+  (c.requires.filled, rw c.deref-in-Migrate.ensures (sound-Migrate (map list_view c.args.lists.now) c.args.route.now c.in-Migrate.from c.in-Migrate.to c.in-Migrate.start c.in-Migrate.interval c.in-Migrate.is c.requires.sound).0),
+)
+
+pub build_route-build_route-requires-in-Migrate-2 : goal.build_route-build_route-requires-in-Migrate-2
+build_route-build_route-requires-in-Migrate-2 t c = (
+  search (rules, asked.the_lemmas),
+  (c.requires.filled, rw c.deref-in-Migrate-2.ensures (sound-Migrate (map list_view c.args.lists.now) c.args.route.now c.in-Migrate.from c.in-Migrate.to c.in-Migrate.start c.in-Migrate.interval c.in-Migrate.is c.requires.sound).1),
+)
+
+pub build_route-build_prefixes-requires : goal.build_route-build_prefixes-requires
+build_route-build_prefixes-requires t c = (
+  search (rules, asked.the_lemmas),
+  (
+    c.requires.filled,
+    rw c.deref-in-PrefixSelector.ensures.value (sound-prefixes (map list_view c.args.lists.now) c.args.route.now c.in-PrefixSelector.policies c.in-PrefixSelector.wildcard c.in-PrefixSelector.is c.requires.sound),
+  ),
+)
+
+pub build_route-build_last-requires : goal.build_route-build_last-requires
+build_route-build_last-requires t c =
+    (search (rules, asked.the_lemmas), (c.requires.filled, sound-wildcard (map list_view c.args.lists.now) c.args.route.now c.in-PrefixSelector.policies c.in-PrefixSelector.wildcard c.in-PrefixSelector.is c.requires.sound))
 
 pub build_route-build_policies-requires : goal.build_route-build_policies-requires
 build_route-build_policies-requires t c = (
   search (rules, asked.the_lemmas),
   (
     c.requires.filled,
-    rw c.deref-in-OperationSelector.ensures.value
-        (sound-policies (map list_view c.args.lists.now) c.args.route.now c.in-OperationSelector.policies c.in-OperationSelector.default_policy c.in-OperationSelector.is c.requires.sound),
+    rw c.deref-in-OperationSelector.ensures.value (sound-policies (map list_view c.args.lists.now) c.args.route.now c.in-OperationSelector.policies c.in-OperationSelector.default_policy c.in-OperationSelector.is c.requires.sound),
   ),
 )
 
-pub build_route-build_route-requires : goal.build_route-build_route-requires
-build_route-build_route-requires t c = (
-  search (rules, asked.the_lemmas),
-  (
-    c.requires.filled,
-    rw c.deref-in-Some.ensures
-        (sound-default (map list_view c.args.lists.now) c.args.route.now c.in-OperationSelector.policies c.in-OperationSelector.default_policy c.in-Some.route c.in-OperationSelector.is c.in-Some.is c.requires.sound),
-  ),
-)
+pub build_route-build_last-requires-in-OperationSelector : goal.build_route-build_last-requires-in-OperationSelector
+build_route-build_last-requires-in-OperationSelector t c =
+    (search (rules, asked.the_lemmas), (c.requires.filled, sound-default (map list_view c.args.lists.now) c.args.route.now c.in-OperationSelector.policies c.in-OperationSelector.default_policy c.in-OperationSelector.is c.requires.sound))
 
-pub build_route-returns-in_ok-leaf_of-in-Pool : goal.build_route-returns-in_ok-leaf_of-in-Pool
-build_route-returns-in_ok-leaf_of-in-Pool t c =
-    let lists = c.args.lists.now in
-    let h : c.in-Pool.number < length lists =
-    omega (arith, sound-pool (map list_view lists) c.args.route.now c.in-Pool.number c.in-Pool.is c.requires.sound, length-map lists list_view) in
-    built-Pool lists c.args.route.now c.in-Pool.number c.index-lists-number.result c.in_ok-servers-in-Pool.servers c.args.symbols.now c.leaf_of.new.symbols c.in_ok-leaf_of-in-Pool.field-0
-    c.in-Pool.is h c.index-lists-number.is c.in_ok-servers-in-Pool.ensures c.in_ok-leaf_of-in-Pool.ensures.table c.in_ok-leaf_of-in-Pool.ensures.leaf
+pub build_route-returns-in-Null : goal.build_route-returns-in-Null
+build_route-returns-in-Null t c = built-Null (map list_view c.args.lists.now) c.args.route.now c.args.symbols.now c.in-Null.is
 
-pub build_route-returns-in_ok-leaf_of-in-Server : goal.build_route-returns-in_ok-leaf_of-in-Server
-build_route-returns-in_ok-leaf_of-in-Server t c =
-    let lists = c.args.lists.now in
-    let sound = sound-server (map list_view lists) c.args.route.now c.in-Server.pool c.in-Server.index c.in-Server.is c.requires.sound in
-    let h : c.in-Server.pool < length lists = omega (arith, sound.0, length-map lists list_view) in
-    let inside = length-server lists c.in-Server.pool c.in-Server.index c.index-lists-pool.result h c.index-lists-pool.is sound.1 in
-    built-Server lists c.args.route.now c.in-Server.pool c.in-Server.index c.index-lists-pool.result c.in_ok-new-in-Server.field-0 c.index.result.now c.args.symbols.now c.leaf_of-in-Server.new.symbols c.in_ok-leaf_of-in-Server.field-0
-    c.in-Server.is h c.index-lists-pool.is inside (rw c.deref.ensures at c.index.ensures)
-    (ap (λ v. v.items) c.in_ok-new-in-Server.ensures.ok ∙ c.in_ok-push-in-Server.ensures.items ∙ ap (λ xs. xs ++ c.index.result.now ∷ []) c.in_ok-servers-in-Server.ensures.items)
-    c.in_ok-leaf_of-in-Server.ensures.table c.in_ok-leaf_of-in-Server.ensures.leaf
+pub build_route-returns-in-Error : goal.build_route-returns-in-Error
+build_route-returns-in-Error t c = built-Error (map list_view c.args.lists.now) c.args.route.now c.args.symbols.now c.in-Error.is
+
+pub build_route-returns-in_ok-shadows-in-Pool : goal.build_route-returns-in_ok-shadows-in-Pool
+build_route-returns-in_ok-shadows-in-Pool t c =
+    built-Pool (map list_view c.args.lists.now) c.args.route.now c.in-Pool.pool c.in-Pool.func c.in-Pool.salt c.in-Pool.shadows c.deref.result.now c.deref-in-Pool.result.now
+    c.args.symbols.now c.pool_leaf.new.symbols c.build_shadows.new.symbols c.in_ok-leaf-in-Pool.leaf c.in_ok-shadows-in-Pool.shadows
+    c.in-Pool.is c.deref.ensures.value c.deref-in-Pool.ensures.value c.in_ok-leaf-in-Pool.ensures.table c.in_ok-leaf-in-Pool.ensures.leaf c.in_ok-shadows-in-Pool.ensures.ranges c.in_ok-shadows-in-Pool.ensures.targets
+
+pub build_route-returns-in_ok-leaf-in-Server : goal.build_route-returns-in_ok-leaf-in-Server
+build_route-returns-in_ok-leaf-in-Server t c =
+    built-Server (map list_view c.args.lists.now) c.args.route.now c.in-Server.pool c.in-Server.index c.args.symbols.now c.server_leaf.new.symbols c.in_ok-leaf-in-Server.leaf c.new-shadows.result
+    c.in-Server.is c.new-shadows.ensures.items c.in_ok-leaf-in-Server.ensures.table c.in_ok-leaf-in-Server.ensures.leaf
 
 pub build_route-returns-in_ok-build_children-in-AllSync : goal.build_route-returns-in_ok-build_children-in-AllSync
 build_route-returns-in_ok-build_children-in-AllSync t c =
     built-AllSync (map list_view c.args.lists.now) c.args.route.now c.in-AllSync.children c.deref-in-AllSync.result.now c.args.symbols.now c.build_children.new.symbols c.in_ok-build_children-in-AllSync.field-0
     c.in-AllSync.is c.deref-in-AllSync.ensures.value c.in_ok-build_children-in-AllSync.ensures
 
-pub build_route-returns-after-default_policy : goal.build_route-returns-after-default_policy
-build_route-returns-after-default_policy t c =
-    let pools = map list_view c.args.lists.now in
-    let d = c.in-OperationSelector.default_policy in
+pub build_route-returns-in_ok-build_children-in-AllInitial : goal.build_route-returns-in_ok-build_children-in-AllInitial
+build_route-returns-in_ok-build_children-in-AllInitial t c =
+    built-AllInitial (map list_view c.args.lists.now) c.args.route.now c.in-AllInitial.children c.deref-in-AllInitial.result.now c.args.symbols.now c.build_children-in-AllInitial.new.symbols c.in_ok-build_children-in-AllInitial.field-0
+    c.in-AllInitial.is c.deref-in-AllInitial.ensures.value c.in_ok-build_children-in-AllInitial.ensures
+
+pub build_route-returns-in_ok-build_children-in-AllAsync : goal.build_route-returns-in_ok-build_children-in-AllAsync
+build_route-returns-in_ok-build_children-in-AllAsync t c =
+    built-AllAsync (map list_view c.args.lists.now) c.args.route.now c.in-AllAsync.children c.deref-in-AllAsync.result.now c.args.symbols.now c.build_children-in-AllAsync.new.symbols c.in_ok-build_children-in-AllAsync.field-0
+    c.in-AllAsync.is c.deref-in-AllAsync.ensures.value c.in_ok-build_children-in-AllAsync.ensures
+
+pub build_route-returns-in_ok-build_children-in-Failover : goal.build_route-returns-in_ok-build_children-in-Failover
+build_route-returns-in_ok-build_children-in-Failover t c =
+    built-Failover (map list_view c.args.lists.now) c.args.route.now c.in-Failover.children c.deref-in-Failover.result.now c.args.symbols.now c.build_children-in-Failover.new.symbols c.in_ok-build_children-in-Failover.field-0
+    c.in-Failover.is c.deref-in-Failover.ensures.value c.in_ok-build_children-in-Failover.ensures
+
+pub build_route-returns-in_ok-build_children-in-MissFailover : goal.build_route-returns-in_ok-build_children-in-MissFailover
+build_route-returns-in_ok-build_children-in-MissFailover t c =
+    built-MissFailover (map list_view c.args.lists.now) c.args.route.now c.in-MissFailover.children c.deref-in-MissFailover.result.now c.args.symbols.now c.build_children-in-MissFailover.new.symbols c.in_ok-build_children-in-MissFailover.field-0
+    c.in-MissFailover.is c.deref-in-MissFailover.ensures.value c.in_ok-build_children-in-MissFailover.ensures
+
+pub build_route-returns-in_ok-warm-in-WarmUp : goal.build_route-returns-in_ok-warm-in-WarmUp
+build_route-returns-in_ok-warm-in-WarmUp t c =
+    built-WarmUp (map list_view c.args.lists.now) c.args.route.now c.in-WarmUp.cold c.in-WarmUp.warm c.in-WarmUp.exptime c.deref-in-WarmUp.result.now c.deref-in-WarmUp-2.result.now
+    c.args.symbols.now c.build_route.new.symbols c.build_route-in-WarmUp.new.symbols c.in_ok-cold-in-WarmUp.cold c.in_ok-warm-in-WarmUp.warm c.in_ok-build_route-in-WarmUp.field-0 c.in_ok-build_route-in-WarmUp-2.field-0
+    c.in-WarmUp.is c.deref-in-WarmUp.ensures c.deref-in-WarmUp-2.ensures c.in_ok-cold-in-WarmUp.ensures.ok c.in_ok-warm-in-WarmUp.ensures.ok c.in_ok-build_route-in-WarmUp.ensures c.in_ok-build_route-in-WarmUp-2.ensures
+
+pub build_route-returns-in_ok-to-in-Migrate : goal.build_route-returns-in_ok-to-in-Migrate
+build_route-returns-in_ok-to-in-Migrate t c =
+    built-Migrate (map list_view c.args.lists.now) c.args.route.now c.in-Migrate.from c.in-Migrate.to c.in-Migrate.start c.in-Migrate.interval c.deref-in-Migrate.result.now c.deref-in-Migrate-2.result.now
+    c.args.symbols.now c.build_route-in-Migrate.new.symbols c.build_route-in-Migrate-2.new.symbols c.in_ok-from-in-Migrate.from c.in_ok-to-in-Migrate.to c.in_ok-build_route-in-Migrate.field-0 c.in_ok-build_route-in-Migrate-2.field-0
+    c.in-Migrate.is c.deref-in-Migrate.ensures c.deref-in-Migrate-2.ensures c.in_ok-from-in-Migrate.ensures.ok c.in_ok-to-in-Migrate.ensures.ok c.in_ok-build_route-in-Migrate.ensures c.in_ok-build_route-in-Migrate-2.ensures
+
+pub build_route-returns-in_ok-wildcard-in-PrefixSelector : goal.build_route-returns-in_ok-wildcard-in-PrefixSelector
+build_route-returns-in_ok-wildcard-in-PrefixSelector t c =
+    let policies = c.in_ok-policies-in-PrefixSelector in
+    built-PrefixSelector (map list_view c.args.lists.now) c.args.route.now c.in-PrefixSelector.policies c.in-PrefixSelector.wildcard c.deref-in-PrefixSelector.result.now c.args.symbols.now c.build_prefixes.new.symbols c.build_last.new.symbols
+    policies.policies c.in_ok-wildcard-in-PrefixSelector.wildcard c.in-PrefixSelector.is c.deref-in-PrefixSelector.ensures.value policies.ensures.prefixes policies.ensures.routes c.in_ok-wildcard-in-PrefixSelector.ensures
+
+pub build_route-returns-in_ok-default_policy-in-OperationSelector : goal.build_route-returns-in_ok-default_policy-in-OperationSelector
+build_route-returns-in_ok-default_policy-in-OperationSelector t c =
     let policies = c.in_ok-policies-in-OperationSelector in
-    built-OperationSelector pools c.args.route.now c.in-OperationSelector.policies d c.deref-in-OperationSelector.result.now c.args.symbols.now c.build_policies.new.symbols c.match-default_policy.symbols
-    policies.policies c.match-default_policy.default_policy c.in-OperationSelector.is c.deref-in-OperationSelector.ensures.value policies.ensures.operations policies.ensures.routes
-    (elim c.match-default_policy.branch [
-      | build_route-in-None w ↦ built-no_default pools c.build_policies.new.symbols c.match-default_policy.symbols d c.match-default_policy.default_policy w.in-None.is w.default_policy-is w.symbols-is
-      | build_route-in-Some+in_ok-route-in-Some+in_ok-new-in-Some w ↦
-          built-default pools c.build_policies.new.symbols c.match-default_policy.symbols d c.match-default_policy.default_policy w.in-Some.route w.in_ok-new-in-Some.field-0 w.deref-in-Some.result.now w.in_ok-route-in-Some.route
-          w.in-Some.is w.default_policy-is w.deref-in-Some.ensures w.in_ok-new-in-Some.ensures.ok (rw w.symbols-is w.in_ok-route-in-Some.ensures)
-    ])
+    built-OperationSelector (map list_view c.args.lists.now) c.args.route.now c.in-OperationSelector.policies c.in-OperationSelector.default_policy c.deref-in-OperationSelector.result.now c.args.symbols.now c.build_policies.new.symbols c.build_last-in-OperationSelector.new.symbols
+    policies.policies c.in_ok-default_policy-in-OperationSelector.default_policy c.in-OperationSelector.is c.deref-in-OperationSelector.ensures.value policies.ensures.operations policies.ensures.routes c.in_ok-default_policy-in-OperationSelector.ensures

@@ -1,7 +1,10 @@
 use Rattle.std.proofs.Common.{◌≡◌, map, refl, ap, sym, subst, ◌∙◌}
+use Rattle.std.specs.List.{flat_map}
 use Rattle.mcv_config.specs.Plan.{plan_of}
 use Rattle.mcv_route.specs.Built.{routes_named}
+use Rattle.mcv_route.specs.Eras.{breaks, IsBreakTable}
 use Rattle.mcv_route.specs.Routes.{IsSoundRoutes, RoutesValue}
+use Rattle.mcv_route.specs.RoutesView.{entry_view, numbers_of}
 use Rattle.mcv_route.specs.Walk.{IsBuilt, list_view}
 use Rattle.mcv_route.proofs.Soundness.{sound-built}
 use Rattle.mcv_route.proofs.Whole.{sound-entries, routes-are}
@@ -16,7 +19,11 @@ invariant_of-result c =
     let pools = map list_view c.as_slice.result.now in
     let is = routes-are c.args.config pools c.build_entries.new.symbols c.in_ok-entries.entries.items (ap (map list_view) c.as_slice.ensures.value ∙ c.in_ok-lists.ensures) c.in_ok-entries.ensures.aliases
     (rw (← c.new-symbols.ensures) c.in_ok-entries.ensures.routes) in
-    subst IsSoundRoutes (sym is) (sound-built (plan_of c.args.config) c.requires)
+    let P : _ → Type 0 = λ bs. IsBreakTable bs (numbers_of c.in_ok-break_table.break_table.items) in
+    record {
+      trees = subst IsSoundRoutes (sym is) (sound-built (plan_of c.args.config) c.requires);
+      table = subst P (c.in_ok-moments.ensures ∙ ap (λ es. flat_map (λ e. breaks e.tree) (map entry_view es)) c.as_slice-2.ensures.value) c.in_ok-break_table.ensures;
+    }
 
 pub returns : goal.returns
 returns c =

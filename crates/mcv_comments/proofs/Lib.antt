@@ -1,0 +1,6 @@
+pub mod Insides
+pub mod Pieces
+pub mod Found
+pub mod Unique
+pub mod Every
+mod Examples

@@ -1,0 +1,5 @@
+use Rattle.mcv_config.proofs.Sound.{read_plans_are_sound}
+use Rattle.mcv_config.proofs.read.read_json.Goals as goal
+
+pub returns-in-Ok-clause-sound : goal.returns-in-Ok-clause-sound
+returns-in-Ok-clause-sound c = read_plans_are_sound _ _ c.read_root.result c.read_root.ensures

@@ -1,0 +1,80 @@
+//! The two handles with times: a warm-up and a migration.
+
+ghost use Rattle.std.specs.Prelude.{◌≡◌, IfOk};
+ghost use Rattle.serde_json.specs.View.{view};
+ghost use Rattle.mcv_names.specs.Fault.{Gives};
+ghost use Rattle.mcv_names.specs.Path.{path_of};
+ghost use Rattle.mcv_config.specs.Plan.{migrate, named_of, warm_up};
+ghost use Rattle.mcv_config.specs.Routes.{exptime_read, interval_read};
+
+use crate::config::NamedRoute;
+use crate::numbers::read_seconds_or;
+use mcv_names::{ConfigFault, Trail};
+use serde_json::Value;
+use std::alloc::{AllocError, Global};
+
+/// The exptime of a warm-up that names none.
+const DEFAULT_EXPTIME: u32 = 0;
+
+/// The interval of a migration that names none: an hour.
+const DEFAULT_INTERVAL: u32 = 3_600;
+
+/// The exptime of a warm-up's add.
+#[tactic(auto, using(mcv_names::proofs::Faults::faults), unfolding(crate::specs::Routes::exptime_read))]
+pub(crate) fn read_exptime(
+    alloc: Global,
+    trail: &Trail<'_>,
+    value: &Value,
+) -> Result<u32, ConfigFault>
+    ensures { Gives (λ n. n) result (exptime_read (path_of trail.now) (view value.now)) }
+{
+    let here = Trail::Key(trail, "exptime");
+    read_seconds_or(alloc, DEFAULT_EXPTIME, &here, value.get("exptime"))
+}
+
+/// The interval of a migration.
+#[tactic(auto, using(mcv_names::proofs::Faults::faults), unfolding(crate::specs::Routes::interval_read))]
+pub(crate) fn read_interval(
+    alloc: Global,
+    trail: &Trail<'_>,
+    value: &Value,
+) -> Result<u32, ConfigFault>
+    ensures { Gives (λ n. n) result (interval_read (path_of trail.now) (view value.now)) }
+{
+    let here = Trail::Key(trail, "interval");
+    read_seconds_or(alloc, DEFAULT_INTERVAL, &here, value.get("interval"))
+}
+
+/// A warm-up of these two.
+pub(crate) fn warm_up(
+    alloc: Global,
+    cold: NamedRoute,
+    warm: NamedRoute,
+    exptime: u32,
+) -> Result<NamedRoute, AllocError>
+    ensures { IfOk result (λ r. named_of r ≡ warm_up (named_of cold) (named_of warm) exptime) }
+{
+    Ok(NamedRoute::WarmUp {
+        cold: Box::new(alloc, cold)?,
+        warm: Box::new(alloc, warm)?,
+        exptime,
+    })
+}
+
+/// A migration between these two.
+pub(crate) fn migrate(
+    alloc: Global,
+    from: NamedRoute,
+    to: NamedRoute,
+    start: u32,
+    interval: u32,
+) -> Result<NamedRoute, AllocError>
+    ensures { IfOk result (λ r. named_of r ≡ migrate (named_of from) (named_of to) start interval) }
+{
+    Ok(NamedRoute::Migrate {
+        from: Box::new(alloc, from)?,
+        to: Box::new(alloc, to)?,
+        start,
+        interval,
+    })
+}

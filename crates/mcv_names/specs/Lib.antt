@@ -1,0 +1,4 @@
+pub mod Fault
+pub mod Path
+pub mod Lists
+pub mod Handles

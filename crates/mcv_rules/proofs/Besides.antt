@@ -1,0 +1,170 @@
+-- Plans of which the first is waited for serve the handles that send beside: shadows, and all children at once.
+use Rattle.std.proofs.Common.{◌≡◌, ◌<◌, ◌+◌, cond, ℕ, suc, List, [], ◌∷◌, ◌++◌, length, map, take, get_or, Vec, Box, Global, refl, sym, ap, ap₂, ◌∙◌, arith, add-one}
+use Rattle.std.proofs.Math.Seq.{take-suc}
+use Rattle.std.proofs.lemmas.List.{length-take-le, length-map, map-append}
+use Rattle.mcv_route.specs.declared.launch.Launch.{Launch}
+use Rattle.mcv_route.specs.declared.tree.Route.{Route}
+use Rattle.mcv_route.specs.declared.tree.Shadow.{Shadow}
+use Rattle.mcv_route.specs.Outcomes.{Outcomes, Choice, History}
+use Rattle.mcv_route.specs.Tree.{Pool, Range, Tree, pool, null, error, all_initial, all_async, none, child}
+use Rattle.mcv_route.specs.Situation.{Situation, under, asynchronous, shadowed}
+use Rattle.mcv_route.specs.Children.{joined, is_within, of_those_holding}
+use Rattle.mcv_route.specs.View.{view, shadow_view, trees_of}
+use Rattle.mcv_route.specs.Replies as replies
+use Rattle.mcv_route.specs.Replies.{outcome_of as outcome_of_all}
+use Rattle.mcv_route.specs.Launched.{launched, launched_each}
+use Rattle.mcv_route.specs.Reply as definition
+use Rattle.mcv_rules.specs.Arrivals.{own_arrived}
+use Rattle.mcv_rules.specs.Laid.{sent, legs_each, ranges_of, targets_of, Serves}
+use Rattle.mcv_rules.specs.declared.plan.Plan.{Plan, Beside, Shadowed}
+use Rattle.mcv_rules.proofs.Plans.{sent-Beside, sent-Shadowed, arrived-Beside}
+use Rattle.mcv_rules.proofs.Serving.{seen-does}
+
+-- the legs of what goes beside, by choice and outcomes
+abbrev pub Legs : Type 0
+Legs = Choice → Outcomes → List Launch
+
+-- each plan sends these legs; no one waits for its reply
+abbrev pub SendEach : List Plan → List Legs → Type 0
+SendEach [] [] = Unit {0}
+SendEach [] (f ∷ fs) = ⊥
+SendEach (p ∷ ps) [] = ⊥
+SendEach (p ∷ ps) (f ∷ fs) = ((c : Choice) (o : Outcomes) → (sent c o p).legs ≡ f c o) × SendEach ps fs
+
+pub send-append : (ps : List Plan) (fs : List Legs) (p : Plan) (f : Legs) → SendEach ps fs → ((c : Choice) (o : Outcomes) → (sent c o p).legs ≡ f c o) → SendEach (ps ++ p ∷ []) (fs ++ f ∷ [])
+send-append [] [] p f a h = (h, tt)
+send-append [] (g ∷ fs) p f a h = absurd a
+send-append (q ∷ ps) [] p f a h = absurd a
+send-append (q ∷ ps) (g ∷ fs) p f a h = (a.0, send-append ps fs p f a.1 h)
+
+send-legs : (ps : List Plan) (fs : List Legs) (c : Choice) (o : Outcomes) → SendEach ps fs → joined (legs_each (map (sent c o) ps)) ≡ joined (map (λ f. f c o) fs)
+send-legs [] [] c o a = refl
+send-legs [] (f ∷ fs) c o a = absurd a
+send-legs (p ∷ ps) [] c o a = absurd a
+send-legs (p ∷ ps) (f ∷ fs) c o a = ap₂ ◌++◌ (a.0 c o) (send-legs ps fs c o a.1)
+
+-- the first serves a route, and the rest sends beside it
+abbrev pub LedBy : (Plan → Type 0) → List Plan → List Legs → Type 0
+LedBy P [] fs = ⊥
+LedBy P (p ∷ ps) fs = P p × SendEach ps fs
+
+pub led-append : (P : Plan → Type 0) (ps : List Plan) (fs : List Legs) (p : Plan) (f : Legs) → LedBy P ps fs → ((c : Choice) (o : Outcomes) → (sent c o p).legs ≡ f c o) → LedBy P (ps ++ p ∷ []) (fs ++ f ∷ [])
+led-append P [] fs p f a h = absurd a
+led-append P (q ∷ ps) fs p f a h = (a.0, send-append ps fs p f a.1 h)
+
+-- the route replies as another does, and sends beside it
+pub record Beyond (t : Tree) (s : Situation) (u : Tree) (v : Situation) (fs : List Legs) : Type 0 where
+  pub op : s.op ≡ v.op
+  pub sends : (c : Choice) (o : Outcomes) → launched t s c o ≡ launched u v c o ++ joined (map (λ f. f c o) fs)
+  pub replies : (o : Outcomes) → replies.replies t s o ≡ replies.replies u v o
+  pub reply : (es : History) → definition.reply t s es ≡ definition.reply u v es
+
+led-serves : (w : Vec Plan Global) (ps : List Plan) (t u : Tree) (s v : Situation) (fs : List Legs) → w.items ≡ ps → Beyond t s u v fs → LedBy (λ p. Serves p u v) ps fs → Serves (Beside w) t s
+led-serves w [] t u s v fs is d a = absurd a
+led-serves w (p ∷ ps) t u s v fs is d a = record {
+  sends = λ c o. rw (sent-Beside c o w, is, a.0.sends c o, send-legs ps fs c o a.1) (sym (d.sends c o));
+  replies = λ c o. rw (sent-Beside c o w, is) (a.0.replies c o ∙ ap outcome_of_all (sym (d.replies o)));
+  answers = λ xs. rw (arrived-Beside (own_arrived xs) w, is) (a.0.answers xs ∙ seen-does t u s v d.op d.replies d.reply xs);
+}
+
+pub serves-beside : (w : Vec Plan Global) (t u : Tree) (s v : Situation) (fs : List Legs) → Beyond t s u v fs → LedBy (λ p. Serves p u v) w.items fs → Serves (Beside w) t s
+serves-beside w t u s v fs d a = led-serves w w.items t u s v fs refl d a
+
+-- ---- children that no one waits for
+
+-- the legs of each child, the first of which has number k
+abbrev pub child_legs : ℕ → List Tree → Situation → List Legs
+child_legs k [] s = []
+child_legs k (t ∷ ts) s = (λ c o. launched t (under k s) c o) ∷ child_legs (suc k) ts s
+
+child_legs-append : (k n : ℕ) (ts : List Tree) (t : Tree) (s : Situation) → n ≡ k + length ts → child_legs k (ts ++ t ∷ []) s ≡ child_legs k ts s ++ (λ c o. launched t (under n s) c o) ∷ []
+child_legs-append k n [] t s e = let same : k ≡ n = omega (arith, e) in rw same refl
+child_legs-append k n (u ∷ ts) t s e = ap (λ fs. (λ c o. launched u (under k s) c o) ∷ fs) (child_legs-append (suc k) n ts t s (omega (arith, e)))
+
+child_legs-launched : (k : ℕ) (ts : List Tree) (s : Situation) (c : Choice) (o : Outcomes) → map (λ f. f c o) (child_legs k ts s) ≡ launched_each k (trees_of ts) s c o
+child_legs-launched k [] s c o = refl
+child_legs-launched k (t ∷ ts) s c o = ap (λ xs. launched t (under k s) c o ∷ xs) (child_legs-launched (suc k) ts s c o)
+
+-- one child more; the first has number k
+pub child-grows : (P : Plan → Type 0) (k m : ℕ) (ps : List Plan) (routes : List Route) (n : ℕ) (route : Route) (p : Plan) (s : Situation) → n < length routes → route ≡ get_or routes n route
+    → LedBy P ps (child_legs k (map view (take n routes)) s) → m ≡ k + n → Serves p (view route) (under m s) → LedBy P (ps ++ p ∷ []) (child_legs k (map view (take (n + 1) routes)) s)
+child-grows P k m ps routes n route p s h is a e f =
+    let count : length (map view (take n routes)) ≡ n = length-map (take n routes) view ∙ length-take-le n routes (omega (arith, h)) in
+    rw (add-one n, take-suc routes n route h, ← is, map-append view (take n routes) (route ∷ []), child_legs-append k m (map view (take n routes)) (view route) s (omega (arith, count, e)))
+    (led-append P ps (child_legs k (map view (take n routes)) s) p (λ c o. launched (view route) (under m s) c o) a f.sends)
+
+-- the first of them
+abbrev pub first_of : List Tree → Tree
+first_of [] = error
+first_of (t ∷ ts) = t
+
+pub initial_beyond : (t : Tree) (ts : List Tree) (s : Situation) → Beyond (all_initial (child t (trees_of ts))) s t (under 0 s) (child_legs 1 ts (asynchronous s))
+initial_beyond t ts s = record {
+  op = refl;
+  sends = λ c o. ap (λ ls. launched t (under 0 s) c o ++ joined ls) (sym (child_legs-launched 1 ts (asynchronous s) c o));
+  replies = λ o. refl;
+  reply = λ es. refl;
+}
+
+pub async_beyond : (ts : List Tree) (s : Situation) → Beyond (all_async (trees_of ts)) s null s (child_legs 0 ts (asynchronous s))
+async_beyond ts s = record {
+  op = refl;
+  sends = λ c o. ap joined (sym (child_legs-launched 0 ts (asynchronous s) c o));
+  replies = λ o. refl;
+  reply = λ es. refl;
+}
+
+-- the first plan alone
+pub led_first : (P : Plan → Type 0) (ps : List Plan) (p : Plan) → ps ≡ p ∷ [] → P p → LedBy P ps []
+led_first P ps p is h = rw is (h, tt)
+
+pub first_served : (p : Plan) (routes : List Route) (first : Route) (others : List Route) (s : Situation) → routes ≡ first ∷ others → Serves p (view first) s → Serves p (first_of (map view routes)) s
+first_served p routes first others s is h = rw is h
+
+pub first_beyond : (routes : List Route) (first : Route) (others : List Route) (s : Situation) → routes ≡ first ∷ others
+    → Beyond (all_initial (trees_of (map view routes))) s (first_of (map view routes)) (under 0 s) (child_legs 1 (map view others) (asynchronous s))
+first_beyond routes first others s is = rw is (initial_beyond (view first) (map view others) s)
+
+-- ---- shadows
+
+-- the legs of each target, the first of which has number k, where the symbol's index is in its range
+abbrev pub shadow_legs : ℕ → ℕ → List (Range × Tree) → Situation → List Legs
+shadow_legs symbol k [] s = []
+shadow_legs symbol k (x ∷ shadows) s = (λ c o. cond (is_within x.0 (c symbol)) (launched x.1 (under k s) c o) []) ∷ shadow_legs symbol (suc k) shadows s
+
+shadow_legs-append : (symbol k n : ℕ) (shadows : List (Range × Tree)) (x : Range × Tree) (s : Situation) → n ≡ k + length shadows
+    → shadow_legs symbol k (shadows ++ x ∷ []) s ≡ shadow_legs symbol k shadows s ++ (λ c o. cond (is_within x.0 (c symbol)) (launched x.1 (under n s) c o) []) ∷ []
+shadow_legs-append symbol k n [] x s e = let same : k ≡ n = omega (arith, e) in rw same refl
+shadow_legs-append symbol k n (y ∷ shadows) x s e =
+    ap (λ fs. (λ c o. cond (is_within y.0 (c symbol)) (launched y.1 (under k s) c o) []) ∷ fs) (shadow_legs-append symbol (suc k) n shadows x s (omega (arith, e)))
+
+shadow_legs-launched : (symbol k : ℕ) (shadows : List (Range × Tree)) (s : Situation) (c : Choice) (o : Outcomes)
+    → joined (map (λ f. f c o) (shadow_legs symbol k shadows s)) ≡ of_those_holding (c symbol) (map (λ x. x.0) shadows) (launched_each k (trees_of (map (λ x. x.1) shadows)) s c o)
+shadow_legs-launched symbol k [] s c o = refl
+shadow_legs-launched symbol k (x ∷ shadows) s c o =
+    ap (λ ls. cond (is_within x.0 (c symbol)) (launched x.1 (under k s) c o) [] ++ ls) (shadow_legs-launched symbol (suc k) shadows s c o)
+
+-- one shadow more
+pub shadow-grows : (P : Plan → Type 0) (symbol : ℕ) (ps : List Plan) (shadows : List Shadow) (n : ℕ) (shadow : Shadow) (target : Box Plan Global) (s : Situation) → n < length shadows → shadow ≡ get_or shadows n shadow
+    → LedBy P ps (shadow_legs symbol 0 (map shadow_view (take n shadows)) s) → Serves target.value (shadow_view shadow).1 (under n s)
+    → LedBy P (ps ++ Shadowed symbol (shadow_view shadow).0.first (shadow_view shadow).0.last target ∷ []) (shadow_legs symbol 0 (map shadow_view (take (n + 1) shadows)) s)
+shadow-grows P symbol ps shadows n shadow target s h is a f =
+    let x = shadow_view shadow in
+    let so_far = map shadow_view (take n shadows) in
+    let count : length so_far ≡ n = length-map (take n shadows) shadow_view ∙ length-take-le n shadows (omega (arith, h)) in
+    rw (add-one n, take-suc shadows n shadow h, ← is, map-append shadow_view (take n shadows) (shadow ∷ []), shadow_legs-append symbol 0 n so_far x s (omega (arith, count)))
+    (led-append P ps (shadow_legs symbol 0 so_far s) (Shadowed symbol x.0.first x.0.last target) (λ c o. cond (is_within x.0 (c symbol)) (launched x.1 (under n s) c o) []) a
+    (λ c o. rw (sent-Shadowed c o symbol x.0.first x.0.last target, f.sends c o) refl))
+
+pub shadows_beyond : (q : Pool) (shadows : List Shadow) (s : Situation) → Beyond (pool q (ranges_of shadows) (targets_of shadows)) s (pool q [] none) s (shadow_legs q.symbol 0 (map shadow_view shadows) (shadowed s))
+shadows_beyond q shadows s = record {
+  op = refl;
+  sends = λ c o. ap (λ ls. launched (pool q [] none) s c o ++ ls) (sym (shadow_legs-launched q.symbol 0 (map shadow_view shadows) (shadowed s) c o));
+  replies = λ o. refl;
+  reply = λ es. refl;
+}
+
+-- a pool without shadows
+pub no_shadows : (p : Plan) (q : Pool) (shadows : List Shadow) (s : Situation) → length shadows ≡ 0 → Serves p (pool q [] none) s → Serves p (pool q (ranges_of shadows) (targets_of shadows)) s
+no_shadows p q [] s n f = f
+no_shadows p q (x ∷ shadows) s n f = absurd (omega (arith, n))

@@ -1,0 +1,309 @@
+//! The plan of a route, laid out for what it is asked at its place: one arm for each handle.
+
+ghost use Rattle.std.specs.Prelude.{◌≡◌, ℕ, IfOk, [], map, true};
+ghost use Rattle.mcv_base.specs.Key.{begins_with};
+ghost use Rattle.mcv_base.specs.Operation.{is_reading};
+ghost use Rattle.mcv_route.specs.Children.{is_policy_for, policy_of, prefix_policy};
+ghost use Rattle.mcv_route.specs.Situation.{Situation, adding, under};
+ghost use Rattle.mcv_route.specs.Tree.{Tree, all_async, all_initial, all_sync, child, miss_failover, none, pool, warm_up};
+ghost use Rattle.mcv_route.specs.View.{operation_view, pool_view, view};
+ghost use Rattle.mcv_rules.specs.Laid.{ServeEach, Serves, children_of, longer_of, operations_of, prefixes_of, ranges_of, situation_at, targets_of};
+
+use crate::arrival::After;
+use crate::asked::{Asked, Way};
+use crate::plan::{Plan, PlannedLeg};
+use crate::status::default_reply;
+use mcv_base::{FixedReply, Op, Position, Rest};
+use mcv_route::{Leaf, OperationPolicy, PrefixPolicy, Route, Shadow};
+use std::alloc::{AllocError, Global};
+use std::sync::Arc;
+
+/// The plan of the route at this position.
+#[cycle(planning)]
+pub fn laid_out(
+    alloc: Global,
+    route: &Route,
+    asked: &Asked,
+    position: &Position,
+) -> Result<Plan, AllocError>
+    ensures { IfOk result (λ p. Serves p (view route.now) (situation_at asked.now position.now)) }
+{
+    match route {
+        Route::Pool { leaf, shadows } => with_shadows(alloc, shadows, leaf, asked, position),
+        Route::Null => Ok(Plan::Reply(default_reply(asked.op))),
+        Route::Error => Ok(Plan::Reply(FixedReply::ErrorRoute)),
+        Route::AllSync(children) => {
+            Ok(Plan::All(each_laid_out(alloc, children, asked, position)?))
+        }
+        Route::AllInitial(children) => first_waited_for(alloc, children, asked, position),
+        Route::AllAsync(children) => none_waited_for(alloc, children, asked, position),
+        Route::Failover(children) => {
+            let plans = each_laid_out(alloc, children, asked, position)?;
+            Ok(Plan::InTurn(After::Error, plans))
+        }
+        Route::MissFailover(children) => misses_passed_on(alloc, children, asked, position),
+        Route::WarmUp {
+            cold,
+            warm,
+            exptime: _,
+        } => {
+            let first = laid_out(alloc, cold, asked, &position.child(alloc, 0)?)?;
+            if asked.op.is_reading() {
+                let second = laid_out(alloc, warm, asked, &position.child(alloc, 1)?)?;
+                let filling = laid_out(alloc, cold, &asked.adding(), &position.child(alloc, 2)?)?;
+                filled(alloc, first, second, filling)
+            } else {
+                Ok(first)
+            }
+        }
+        Route::Migrate {
+            from,
+            to,
+            start,
+            interval,
+        } => match asked.way(*start, *interval) {
+            Way::From => laid_out(alloc, from, asked, &position.child(alloc, 0)?),
+            Way::To => laid_out(alloc, to, asked, &position.child(alloc, 1)?),
+            Way::Both => {
+                let first = laid_out(alloc, from, asked, &position.child(alloc, 0)?)?;
+                let second = laid_out(alloc, to, asked, &position.child(alloc, 1)?)?;
+                both(alloc, first, second)
+            }
+        },
+        Route::PrefixSelector { policies, wildcard } => {
+            let number = prefix_number(policies, asked.rest);
+            let place = position.child(alloc, number)?;
+            if number < policies.len() {
+                let policy = &policies[number];
+                return laid_out(alloc, &policy.route, asked, &place);
+            }
+            match wildcard {
+                Some(route) => laid_out(alloc, route, asked, &place),
+                None => Ok(Plan::Reply(FixedReply::ErrorRoute)),
+            }
+        }
+        Route::OperationSelector {
+            policies,
+            default_policy,
+        } => {
+            let number = policy_number(policies, asked.op);
+            let place = position.child(alloc, number)?;
+            if number < policies.len() {
+                let policy = &policies[number];
+                laid_out(alloc, &policy.route, asked, &place)
+            } else {
+                match default_policy {
+                    Some(route) => laid_out(alloc, route, asked, &place),
+                    None => Ok(Plan::Reply(FixedReply::ErrorRoute)),
+                }
+            }
+        }
+    }
+}
+
+/// The leg of the pool at this position.
+fn leg(alloc: Global, leaf: &Leaf, asked: &Asked, position: &Position) -> Result<Plan, AllocError>
+    ensures { IfOk result (λ p. Serves p (pool (pool_view leaf.now) [] none) (situation_at asked.now position.now)) }
+{
+    Ok(Plan::Send(PlannedLeg {
+        position: position.copy(alloc)?,
+        symbol: leaf.symbol,
+        servers: Arc::try_clone(&leaf.servers)?,
+        op: asked.op,
+        mark: asked.mark,
+    }))
+}
+
+/// The leg of the pool at this position, and beside it what its shadows send.
+#[cycle(planning)]
+fn with_shadows(
+    alloc: Global,
+    shadows: &[Shadow],
+    leaf: &Leaf,
+    asked: &Asked,
+    position: &Position,
+) -> Result<Plan, AllocError>
+    ensures { IfOk result (λ p. Serves p (pool (pool_view leaf.now) (ranges_of shadows.now) (targets_of shadows.now)) (situation_at asked.now position.now)) }
+{
+    let own = leg(alloc, leaf, asked, position)?;
+    if shadows.is_empty() {
+        return Ok(own);
+    }
+    let shadowed = asked.shadowed();
+    let mut plans = Vec::with_capacity(alloc, 1)?;
+    plans.push(own)?;
+    for (number, shadow) in shadows.iter().enumerate() {
+        let place = position.child(alloc, number)?;
+        let target = laid_out(alloc, &shadow.target, &shadowed, &place)?;
+        plans.push(Plan::Shadowed {
+            symbol: leaf.symbol,
+            first: shadow.first,
+            last: shadow.last,
+            target: Box::new(alloc, target)?,
+        })?;
+    }
+    Ok(Plan::Beside(plans))
+}
+
+/// The plan of each child of the handle at this position.
+#[cycle(planning)]
+fn each_laid_out(
+    alloc: Global,
+    children: &[Route],
+    asked: &Asked,
+    position: &Position,
+) -> Result<Vec<Plan>, AllocError>
+    ensures { IfOk result (λ ps. ServeEach 0 ps.items (map view children.now) (situation_at asked.now position.now)) }
+{
+    let mut plans = Vec::with_capacity(alloc, children.len())?;
+    for (number, child) in children.iter().enumerate() {
+        let place = position.child(alloc, number)?;
+        plans.push(laid_out(alloc, child, asked, &place)?)?;
+    }
+    Ok(plans)
+}
+
+/// All children at once, the first of which is waited for.
+#[cycle(planning)]
+fn first_waited_for(
+    alloc: Global,
+    children: &[Route],
+    asked: &Asked,
+    position: &Position,
+) -> Result<Plan, AllocError>
+    ensures { IfOk result (λ p. Serves p (all_initial (children_of children.now)) (situation_at asked.now position.now)) }
+{
+    let Some((first, others)) = children.split_first() else {
+        return Ok(Plan::Reply(FixedReply::ErrorRoute));
+    };
+    let place = position.child(alloc, 0)?;
+    let mut plans = Vec::with_capacity(alloc, 1)?;
+    plans.push(laid_out(alloc, first, asked, &place)?)?;
+    let unheard = asked.asynchronous();
+    for (number, child) in others.iter().enumerate() {
+        let place = position.child(alloc, number + 1)?;
+        plans.push(laid_out(alloc, child, &unheard, &place)?)?;
+    }
+    Ok(Plan::Beside(plans))
+}
+
+/// The default reply, and all children at once, none of which is waited for.
+#[cycle(planning)]
+fn none_waited_for(
+    alloc: Global,
+    children: &[Route],
+    asked: &Asked,
+    position: &Position,
+) -> Result<Plan, AllocError>
+    ensures { IfOk result (λ p. Serves p (all_async (children_of children.now)) (situation_at asked.now position.now)) }
+{
+    let mut plans = Vec::with_capacity(alloc, 1)?;
+    plans.push(Plan::Reply(default_reply(asked.op)))?;
+    let unheard = asked.asynchronous();
+    for (number, child) in children.iter().enumerate() {
+        let place = position.child(alloc, number)?;
+        plans.push(laid_out(alloc, child, &unheard, &place)?)?;
+    }
+    Ok(Plan::Beside(plans))
+}
+
+/// For what reads, the children one after another until one has a hit; for the rest the first child.
+#[cycle(planning)]
+fn misses_passed_on(
+    alloc: Global,
+    children: &[Route],
+    asked: &Asked,
+    position: &Position,
+) -> Result<Plan, AllocError>
+    ensures { IfOk result (λ p. Serves p (miss_failover (children_of children.now)) (situation_at asked.now position.now)) }
+{
+    if !asked.op.is_reading() {
+        return match children.first() {
+            Some(first) => {
+                let place = position.child(alloc, 0)?;
+                laid_out(alloc, first, asked, &place)
+            }
+            None => Ok(Plan::Reply(FixedReply::ErrorRoute)),
+        };
+    }
+    let mut plans = Vec::with_capacity(alloc, children.len())?;
+    for (number, child) in children.iter().enumerate() {
+        let place = position.child(alloc, number)?;
+        plans.push(laid_out(alloc, child, asked, &place)?)?;
+    }
+    Ok(Plan::InTurn(After::Miss, plans))
+}
+
+/// Cold's plan, after a miss warm's, and after its hit the add's.
+fn filled(alloc: Global, cold: Plan, warm: Plan, filling: Plan) -> Result<Plan, AllocError>
+    ensures { (t u : Tree) (exptime : ℕ) (s : Situation) → is_reading s.op ≡ true → Serves cold t (under 0 s) → Serves warm u (under 1 s) → Serves filling t (under 2 (adding s)) → IfOk result (λ p. Serves p (warm_up t u exptime) s) }
+{
+    let filled = Plan::OnHit(Box::new(alloc, warm)?, Box::new(alloc, filling)?);
+    let mut plans = Vec::with_capacity(alloc, 2)?;
+    plans.push(cold)?;
+    plans.push(filled)?;
+    Ok(Plan::InTurn(After::Miss, plans))
+}
+
+/// Two plans, both waited for.
+fn both(alloc: Global, first: Plan, second: Plan) -> Result<Plan, AllocError>
+    ensures { (t u : Tree) (s : Situation) → Serves first t (under 0 s) → Serves second u (under 1 s) → IfOk result (λ p. Serves p (all_sync (child t (child u none))) s) }
+{
+    let mut plans = Vec::with_capacity(alloc, 2)?;
+    plans.push(first)?;
+    plans.push(second)?;
+    Ok(Plan::All(plans))
+}
+
+/// The number of the policy with the longest prefix with which the rest begins, or of the wildcard after all.
+fn prefix_number(policies: &[PrefixPolicy], rest: &Rest) -> usize
+    ensures { result ≡ prefix_policy rest.now (prefixes_of policies.now) }
+{
+    let mut longest = None;
+    for (number, policy) in policies.iter().enumerate() {
+        if begins_with(rest.as_bytes(), &policy.prefix) {
+            longest = longer(longest, number, policy.prefix.len());
+        }
+    }
+    match longest {
+        Some((number, _)) => number,
+        None => policies.len(),
+    }
+}
+
+/// Of the policies so far, and one more, the one with the longer prefix, by number and length; the last of equals.
+fn longer(longest: Option<(usize, usize)>, number: usize, length: usize) -> Option<(usize, usize)>
+    ensures { result ≡ longer_of longest (number, length) }
+{
+    match longest {
+        Some((first, most)) if length < most => Some((first, most)),
+        _ => Some((number, length)),
+    }
+}
+
+fn begins_with(word: &[u8], start: &[u8]) -> bool
+    ensures { result ≡ begins_with word.now start.now }
+{
+    word.starts_with(start)
+}
+
+/// The number of the operation's policy, or of the default policy after all.
+fn policy_number(policies: &[OperationPolicy], op: Op) -> usize
+    ensures { result ≡ policy_of op (operations_of policies.now) }
+{
+    for (number, policy) in policies.iter().enumerate() {
+        if is_policy_for(policy, op) {
+            return number;
+        }
+    }
+    policies.len()
+}
+
+fn is_policy_for(policy: &OperationPolicy, op: Op) -> bool
+    ensures { result ≡ is_policy_for op (operation_view policy.now).0 }
+{
+    match policy.op {
+        Some(named) => named.is(op),
+        None => false,
+    }
+}
