@@ -26,6 +26,3 @@ pub use laws::{
 };
 pub use outcomes::Outcomes;
 pub use status::{Source, Status, default_reply};
-
-#[cfg(test)]
-mod tests;

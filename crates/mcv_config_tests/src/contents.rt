@@ -1,7 +1,7 @@
 //! What a configuration holds once it is read, and its limits.
 
-use super::*;
 use mcv_base::{Op, ServerId};
+use mcv_config::{NamedPolicy, NamedRoute, NamedShadow, Pool, read_config};
 use mcv_pools::HashFunc;
 use std::alloc::Global;
 use std::process::Abort;

@@ -1,4 +1,4 @@
-use super::*;
+use mcv_names::{ConfigFault, FaultKind, Trail, fault_at};
 use std::test::Fail;
 
 #[test]

@@ -1,9 +1,8 @@
 //! Items and texts against the words of memcached's `protocol.txt`. In the tables `~` is CR LF and `^` a LF alone.
 
-use super::*;
-use crate::words::line_words;
 use itoa::Buffer;
 use mcv_base::{FixedReply, LegRequest, Op, Part, Reply, Request, Rest, split_key};
+use mcv_text::{Item, Refusal, RequestReader, TextFault, any_pieces, leg_text, reply_text};
 use std::alloc::{AllocError, Global};
 use std::process::Abort;
 use std::sync::Arc;
@@ -268,8 +267,6 @@ fn want_of_memory_fails_the_reader(rt: HostRuntime) -> Result<(), Fail> {
 #[test]
 fn a_line_takes_one_growth_for_each_key(rt: HostRuntime) -> Result<(), Fail> {
     let alloc = rt.alloc();
-    let words = line_words(alloc, b"get a bb  ccc d e f g h i\r")?;
-    assert!(rt; words.len() == 10 && words.capacity() == 10);
     let mut reader = RequestReader::new(alloc);
     let items = reader.feed(b"get a bb  ccc d e f g h i\r\n")?;
     match items.first() {

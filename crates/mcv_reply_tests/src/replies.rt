@@ -1,7 +1,7 @@
 //! What no clause says: that replies are given at all, and whole ones to whoever takes their parts.
 
-use crate::{ProbeReader, ReplyFault, ReplyReader, one_reply, one_version};
 use mcv_base::{Op, Part, Parts, Reply, Rest};
+use mcv_reply::{ProbeReader, ReplyFault, ReplyReader, one_reply, one_version};
 use std::alloc::{AllocError, Global};
 use std::sync::Arc;
 use std::test::Fail;

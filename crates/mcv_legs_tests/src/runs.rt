@@ -1,5 +1,5 @@
-use super::*;
 use mcv_base::Moment;
+use mcv_legs::{RunFault, requests_have_one_reading, run_legs};
 use std::alloc::Global;
 use std::io;
 use std::io::{Read, Write};

@@ -1,6 +1,6 @@
 //! Texts and what is left of them. In the tables `^` is a LF, `~` a double quote, `&` a backslash and `_` a space.
 
-use super::*;
+use mcv_comments::{CommentFault, strip_comments};
 use std::alloc::{AllocError, Global};
 use std::process::Abort;
 use std::test::Fail;

@@ -1,6 +1,6 @@
-use super::*;
 use mcv_base::{Moment, Position, Prefix};
 use mcv_config::read_config;
+use mcv_route::Routes;
 use std::alloc::{AllocError, Global};
 use std::process::Abort;
 use std::test::Fail;

@@ -3,7 +3,7 @@
 //! A row is what becomes of a text and the text: the first route's handle with the number of its children, policies or
 //! shadows, or the number and path of a fault. In the tables `'` stands for a double quote and `^` for a LF.
 
-use super::*;
+use mcv_config::{NamedRoute, Pool, read_config};
 use std::alloc::{AllocError, Global};
 use std::process::Abort;
 use std::test::Fail;

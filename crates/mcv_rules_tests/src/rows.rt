@@ -1,9 +1,9 @@
 //! What routes send and reply, a row a case; the values are those of mcrouter's wiki, List of Route Handles.
 
-use super::*;
 use mcv_base::{FixedReply, Moment, Op, Outcome, Part, Position, Reply, Rest, ServerId, split_key};
 use mcv_pools::Choice;
 use mcv_route::{Answered, Launch, Leaf, OperationPolicy, PrefixPolicy, Route, Shadow};
+use mcv_rules::{Eval, Outcomes, Status, default_reply};
 use std::alloc::{AllocError, Global};
 use std::process::Abort;
 use std::sync::Arc;

@@ -1,4 +1,7 @@
-use super::*;
+use mcv_base::{
+    FixedReply, KeyFault, Op, Outcome, Part, Parts, Position, Prefix, Reply, Rest, hashed_part,
+    split_key,
+};
 use std::alloc::{AllocError, Global};
 use std::sync::Arc;
 use std::test::Fail;
