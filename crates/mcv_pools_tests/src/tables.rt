@@ -1,5 +1,5 @@
 use mcv_base::ServerId;
-use mcv_pools::{Fnv, HashFunc, Servers, Symbol, Symbols, TableHash, choose};
+use mcv_pools::{Fnv, HashFunc, KeyHash, Servers, Symbol, Symbols, TableHash, choose};
 use std::alloc::Global;
 use std::test::Fail;
 

@@ -1,8 +1,8 @@
 //! What no clause says: the bytes of the worked rows, and runs that fail or stop at each of their calls.
 
-use crate::disk::{Left, Lent, TestDisk, Trouble};
+use super::*;
+use crate::test_disk::{Left, Lent, TestDisk, Trouble};
 use mcv_base::{Rest, ServerText};
-use mcv_spool::{Disk, Spool, SpoolFault, SpoolRecord};
 use std::alloc::Global;
 use std::process::Abort;
 use std::test::Fail;
