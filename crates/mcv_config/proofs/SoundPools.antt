@@ -13,7 +13,7 @@ use Rattle.mcv_names.specs.Handles.{key_fault, keys_read}
 use Rattle.mcv_names.specs.Lists.{each, each_member, items_list, member_names, required, text_read}
 use Rattle.mcv_names.specs.Path.{key_step, item_step}
 use Rattle.mcv_config.specs.Plan.{IsSoundPool}
-use Rattle.mcv_config.specs.Pools.{Pools, Table, entered, is_full, listed_servers, pool_of_members, pool_read, pools_of_members, pools_read, server_read, server_text, servers_of_list, servers_read}
+use Rattle.mcv_config.specs.Pools.{Pools, Table, entered, is_full, listed_servers, name_read, pool_of_members, pool_read, pools_of_members, pools_read, server_read, server_text, servers_of_list, servers_read}
 use Rattle.mcv_names.proofs.Holds.{Holds, holds_bind, holds_then, holds_also, holds_if}
 
 -- ---- a text more in a table
@@ -146,7 +146,9 @@ servers_grown table path d once =
 
 of_members_grown : (table : Table) (path : List ℕ) (d : Data) (o : Option Members) → IsDistinct bytes_eq table → Holds (Grown IsPool table) (pool_of_members table path d o)
 of_members_grown table path d None once = tt
-of_members_grown table path d (Some ms) once = holds_also (Grown IsPool table) (keys_read (key_fault objects.Pool) path ms) (servers_read table path d) (servers_grown table path d once)
+of_members_grown table path d (Some ms) once =
+    holds_also (Grown IsPool table) (keys_read (key_fault objects.Pool) path ms) _
+    (holds_also (Grown IsPool table) (name_read (key_step path (codes "name")) (get (codes "name") d)) (servers_read table path d) (servers_grown table path d once))
 
 pub pool_grown : (table : Table) (path name : List ℕ) (d : Data) → IsDistinct bytes_eq table → Holds (Grown IsPool table) (pool_read table path name d)
 unfolding pool_read
