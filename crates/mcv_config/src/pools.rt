@@ -130,10 +130,10 @@ fn no_pool(value: &Value) -> FaultKind
 
 /// A pool's name, where there is one, is a text. It isn't used.
 #[tactic(auto, using(mcv_names::proofs::Faults::faults))]
-fn check_name(alloc: Global, trail: &Trail<'_>, name: Option<&Value>) -> Result<(), ConfigFault>
-    ensures { Gives (λ _. tt) result (name_read (path_of trail.now) (option_map (λ v. view v.now) name.entry)) }
+fn check_name(alloc: Global, trail: &Trail<'_>, value: Option<&Value>) -> Result<(), ConfigFault>
+    ensures { Gives (λ _. tt) result (name_read (path_of trail.now) (option_map (λ v. view v.now) value.entry)) }
 {
-    let Some(name) = name else {
+    let Some(name) = value else {
         return Ok(());
     };
     match name.as_str() {
