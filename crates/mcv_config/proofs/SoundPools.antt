@@ -9,11 +9,12 @@ use Rattle.mcv_pools.specs.Table.{is_in, number_in, numbered, with_entry}
 use Rattle.mcv_pools.proofs.Tables.{kept, new, grown, numbered_last}
 use Rattle.mcv_names.specs.declared.handle.Object.TheVariants as objects
 use Rattle.mcv_names.specs.Fault.{Read}
+use Rattle.mcv_config.specs.Pools.{name_read}
 use Rattle.mcv_names.specs.Handles.{key_fault, keys_read}
 use Rattle.mcv_names.specs.Lists.{each, each_member, items_list, member_names, required, text_read}
 use Rattle.mcv_names.specs.Path.{key_step, item_step}
 use Rattle.mcv_config.specs.Plan.{IsSoundPool}
-use Rattle.mcv_config.specs.Pools.{Pools, Table, entered, is_full, listed_servers, name_read, pool_of_members, pool_read, pools_of_members, pools_read, server_read, server_text, servers_of_list, servers_read}
+use Rattle.mcv_config.specs.Pools.{Pools, Table, entered, is_full, listed_servers, pool_of_members, pool_read, pools_of_members, pools_read, server_read, server_text, servers_of_list, servers_read}
 use Rattle.mcv_names.proofs.Holds.{Holds, holds_bind, holds_then, holds_also, holds_if}
 
 -- ---- a text more in a table
