@@ -94,6 +94,20 @@ no_such_pool : root [] (two_pools (string (codes "PoolRoute|Z"))) ≡ refused Un
 unfolding root plan_read routing_read pool_read servers_read listed_servers each server_read is_server is_host is_port each_member keys_read key_fault pool_named is_elsewhere route text_route cut handle_named
 no_such_pool = refl
 
+import_for_a_pool : pool_read [] (codes "/pools/A") (codes "A") (string (codes "@import:a.json")) ≡ refused LeftOut (codes "/pools/A")
+unfolding pool_read is_elsewhere
+import_for_a_pool = refl
+
+text_for_a_pool : pool_read [] (codes "/pools/A") (codes "A") (string (codes "a:1")) ≡ refused WrongKind (codes "/pools/A")
+unfolding pool_read is_elsewhere
+text_for_a_pool = refl
+
+-- {"name": 7, "servers": []} has two faults
+name_of_a_pool : pool_read [] (codes "/pools/A") (codes "A") (object (member (codes "name") (number (unsigned 7)) (member (codes "servers") (array no_items) no_members)))
+    ≡ bad (record { kind = WrongKind; path = codes "/pools/A/name" } ∷ record { kind = Empty; path = codes "/pools/A/servers" } ∷ [])
+unfolding pool_read servers_read listed_servers keys_read key_fault
+name_of_a_pool = refl
+
 -- one value with two faults: of its type, and of a key that no handle has
 left_out_type : root [] (two_pools (object (member (codes "pick") (string []) (member (codes "type") (string (codes "RandomRoute")) no_members))))
     ≡ bad (record { kind = UnknownKey; path = codes "/route/pick" } ∷ record { kind = LeftOut; path = codes "/route/type" } ∷ [])

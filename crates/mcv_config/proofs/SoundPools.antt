@@ -9,6 +9,7 @@ use Rattle.mcv_pools.specs.Table.{is_in, number_in, numbered, with_entry}
 use Rattle.mcv_pools.proofs.Tables.{kept, new, grown, numbered_last}
 use Rattle.mcv_names.specs.declared.handle.Object.TheVariants as objects
 use Rattle.mcv_names.specs.Fault.{Read}
+use Rattle.mcv_config.specs.Pools.{name_read}
 use Rattle.mcv_names.specs.Handles.{key_fault, keys_read}
 use Rattle.mcv_names.specs.Lists.{each, each_member, items_list, member_names, required, text_read}
 use Rattle.mcv_names.specs.Path.{key_step, item_step}
@@ -146,7 +147,9 @@ servers_grown table path d once =
 
 of_members_grown : (table : Table) (path : List ℕ) (d : Data) (o : Option Members) → IsDistinct bytes_eq table → Holds (Grown IsPool table) (pool_of_members table path d o)
 of_members_grown table path d None once = tt
-of_members_grown table path d (Some ms) once = holds_also (Grown IsPool table) (keys_read (key_fault objects.Pool) path ms) (servers_read table path d) (servers_grown table path d once)
+of_members_grown table path d (Some ms) once =
+    holds_also (Grown IsPool table) (keys_read (key_fault objects.Pool) path ms) _
+    (holds_also (Grown IsPool table) (name_read (key_step path (codes "name")) (get (codes "name") d)) (servers_read table path d) (servers_grown table path d once))
 
 pub pool_grown : (table : Table) (path name : List ℕ) (d : Data) → IsDistinct bytes_eq table → Holds (Grown IsPool table) (pool_read table path name d)
 unfolding pool_read

@@ -1,8 +1,9 @@
 -- The pools that a JSON value names, and their servers (mcrouter wiki, Config Files; numbers and limits are own).
-use Rattle.std.specs.Prelude.{ℕ, ◌==◌, ◌&&◌, not, nat_lt, Bool, List, [], ◌∷◌, length, Option, Some, None, if◌then◌else◌, codes, bytes_eq, unwrap_or}
+use Rattle.std.specs.Prelude.{ℕ, ◌==◌, ◌&&◌, not, nat_lt, Bool, List, [], ◌∷◌, length, ⊤, Option, Some, None, if◌then◌else◌, codes, bytes_eq, unwrap_or}
 use Rattle.serde_json.specs.Data.{Data, Items, Members}
 use Rattle.serde_json.specs.Find.{get, as_str, as_array, as_object}
 use Rattle.mcv_pools.specs.Table.{is_in, number_in, numbered, server_limit, with_entry}
+use Rattle.mcv_names.specs.declared.fault.FaultKind.{FaultKind}
 use Rattle.mcv_names.specs.declared.fault.FaultKind.TheVariants.{WrongKind, UnknownPool, Empty, Limit, BadServer, LeftOut}
 use Rattle.mcv_names.specs.declared.handle.Object.TheVariants as objects
 use Rattle.mcv_names.specs.Fault.{Read, good, refused, ◌>>=◌, also}
@@ -52,11 +53,23 @@ servers_read table path d =
 
 -- ---- pools
 
-abbrev pub pool_of_members : Table → List ℕ → Data → Option Members → Read (List ℕ × Table)
-pool_of_members table path d None = refused WrongKind path
-pool_of_members table path d (Some ms) = also (keys_read (key_fault objects.Pool) path ms) (servers_read table path d)
+-- a pool's name is a text where it is there; it isn't used
+abbrev pub name_read : List ℕ → Option Data → Read ⊤
+name_read path None = good tt
+name_read path (Some d) = text_read (as_str d) path >>= λ (name : List ℕ). good tt
 
--- the servers of a pool; its name is the key, and what stands under `name` isn't used
+-- a pool is an object: an import or a macro in its place is left out, anything else is of the wrong kind
+abbrev pub no_pool : Option (List ℕ) → FaultKind
+no_pool None = WrongKind
+no_pool (Some text) = if is_elsewhere text then LeftOut else WrongKind
+
+abbrev pub pool_of_members : Table → List ℕ → Data → Option Members → Read (List ℕ × Table)
+pool_of_members table path d None = refused (no_pool (as_str d)) path
+pool_of_members table path d (Some ms) =
+    also (keys_read (key_fault objects.Pool) path ms)
+    (also (name_read (key_step path (codes "name")) (get (codes "name") d)) (servers_read table path d))
+
+-- the servers of a pool; a pool under `pools` has its key as its name
 unfoldable pub pool_read : Table → List ℕ → List ℕ → Data → Read (List ℕ × Table)
 pool_read table path name d = pool_of_members table path d (as_object d)
 

@@ -100,11 +100,17 @@ null 0 = {'route':'NullRoute'}
 3 at /pools = {'pools':[],'route':'NullRoute'}
 3 at /pools/A = {'pools':{'A':['a:1']},'route':'NullRoute'}
 3 at /pools/A = {'pools':{'A':{}},'route':'NullRoute'}
+3 at /pools/A = {'pools':{'A':'a:1'},'route':'NullRoute'}
+3 at /pools/A = {'pools':{'A':''},'route':'NullRoute'}
+3 at /pools/A = {'pools':{'A':7},'route':'NullRoute'}
 3 at /pools/A/servers = {'pools':{'A':{'servers':'a:1'}},'route':'NullRoute'}
 6 at /pools/A/servers = {'pools':{'A':{'servers':[]}},'route':'PoolRoute|A'}
 3 at /pools/A/servers/1 = {'pools':{'A':{'servers':['a:1',2]}},'route':'NullRoute'}
 pool 0 = {'pools':{'A':{'servers':['a:1'],'name':'B'}},'route':'PoolRoute|A'}
 5 at /route = {'pools':{'A':{'servers':['a:1'],'name':'B'}},'route':'PoolRoute|B'}
+pool 0 = {'pools':{'A':{'servers':['a:1'],'name':'@B'}},'route':'PoolRoute|A'}
+3 at /pools/A/name = {'pools':{'A':{'servers':['a:1'],'name':7}},'route':'NullRoute'}
+3 at /pools/A/name = {'pools':{'A':{'servers':['a:1'],'name':null}},'route':'NullRoute'}
 2 at /pools/A/qos = {'pools':{'A':{'servers':['a:1'],'qos':1}},'route':'NullRoute'}
 2 at /Route = {'Route':'NullRoute','route':'NullRoute'}";
 
@@ -204,6 +210,7 @@ pool 0 = {'type':'PoolRoute','pool':{'servers':['d:1'],'name':'D'}}
 3 at /route = {'type':'PoolRoute'}
 6 at /route/pool/servers = {'type':'PoolRoute','pool':{'servers':[]}}
 8 at /route/pool/servers/0 = {'type':'PoolRoute','pool':{'servers':['d']}}
+3 at /route/pool/name = {'type':'PoolRoute','pool':{'servers':['d:1'],'name':['D']}}
 2 at /route/pool/hash = {'type':'PoolRoute','pool':{'servers':['d:1'],'hash':'Ch3'}}
 null 0 = {'type':'NullRoute'}
 error 0 = {'type':'ErrorRoute'}
@@ -369,7 +376,10 @@ const LEFT_OUT: &str = "\
 /route/hash = {'route':{'type':'PoolRoute','pool':{'servers':['a:1']},'hash':'~'}} = Murmur WeightedCh3 ch3 crc32
 /route/hash/hash_func = {'route':{'type':'PoolRoute','pool':{'servers':['a:1']},'hash':{'hash_func':'~'}}} = Murmur WeightedCh3 ch3 crc32
 /route = {'route':'~'} = @import %macro% AllSyncRoute|@import AllSyncRoute|%macro PoolRoute|@pool PoolRoute|%pool FailoverRoute|Pool|@pool
+/pools/A = {'pools':{'A':'~'},'route':'NullRoute'} = @import:a.json %macro% @ %
 /route/pool = {'route':{'type':'PoolRoute','pool':'~'}} = @pool %pool%
+/routes/0/route = {'routes':[{'aliases':['/a/b/'],'route':'~'}]} = @import %macro%
+/route/children = {'route':{'type':'AllSyncRoute','children':'~'}} = @import %macro% Pool|@pool
 /route/children/0 = {'route':{'type':'AllSyncRoute','children':['~']}} = @import %macro%
 /routes/0/aliases/0 = {'routes':[{'aliases':['~'],'route':'NullRoute'}]} = /*/*/ /*/a/ /a/*/";
 
