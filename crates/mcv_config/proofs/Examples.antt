@@ -11,6 +11,7 @@ use Rattle.mcv_config.specs.Aliases.{alias_fault, alias_read, aliases_field, is_
 use Rattle.mcv_config.specs.Config.{plan_read, root}
 use Rattle.mcv_config.specs.Entries.{entries_read, entry_fields, entry_read, routing_read}
 use Rattle.mcv_config.specs.Hash.{func_named, func_read, hash_fields}
+use Rattle.mcv_config.specs.Limits.{handles_in, IsWithin}
 use Rattle.mcv_names.specs.Lists.{each, each_member, some_items}
 use Rattle.mcv_config.specs.Numbers.{index_read, seconds_read}
 use Rattle.mcv_config.specs.Plan.{Named, Plan, pool, server, null, error, all_sync, migrate, operation_selector, no_named, named}
@@ -159,3 +160,16 @@ no_route = refl
 no_servers : servers_read [] (codes "/pools/A") (of_pool (array no_items)) ≡ refused Empty (codes "/pools/A/servers")
 unfolding servers_read listed_servers
 no_servers = refl
+
+abbrev both_servers : Named
+both_servers = all_sync (named (server 0 0) (named (server 0 1) no_named))
+
+-- the servers of a pool are handles too, one level deeper
+three_handles : handles_in both_servers ≡ 3
+three_handles = refl
+
+on_two_levels : IsWithin 2 both_servers
+on_two_levels = (tt, (tt, tt))
+
+not_on_one_level : IsWithin 1 both_servers → ⊥
+not_on_one_level h = h.0

@@ -37,10 +37,14 @@ server_read list table path d =
     server_text path text >>= λ (server : List ℕ).
     (if is_full table server then refused Limit list else good (entered table server))
 
--- one server or more, 4096 at most (own)
+-- servers of one pool (own)
+abbrev pub pool_limit : ℕ
+pool_limit = 4096
+
+-- one server or more, and no more than the limit
 unfoldable pub listed_servers : Table → List ℕ → List Data → Read (List ℕ × Table)
 listed_servers table path [] = refused Empty path
-listed_servers table path (d ∷ ds) = if nat_lt 4096 (length (d ∷ ds)) then refused Limit path else each (server_read path) table path 0 (d ∷ ds)
+listed_servers table path (d ∷ ds) = if nat_lt pool_limit (length (d ∷ ds)) then refused Limit path else each (server_read path) table path 0 (d ∷ ds)
 
 abbrev pub servers_of_list : Table → List ℕ → Option Items → Read (List ℕ × Table)
 servers_of_list table path None = refused WrongKind path
