@@ -10,7 +10,7 @@ use Rattle.mcv_names.specs.Handles.{key_fault, keys_read}
 use Rattle.mcv_names.specs.Lists.{each, each_member, items_list, required, text_read}
 use Rattle.mcv_names.specs.Path.{key_step, item_step}
 use Rattle.mcv_names.proofs.Holds.{Holds, holds_bind, holds_then, holds_also, holds_if}
-use Rattle.mcv_config.specs.Pools.{Pools, Table, entered, is_full, listed_servers, pool_limit, pool_of_members, pool_read, pools_of_members, pools_read, server_read, server_text, servers_of_list, servers_read}
+use Rattle.mcv_config.specs.Pools.{Pools, Table, entered, is_full, listed_servers, name_read, pool_limit, pool_of_members, pool_read, pools_of_members, pools_read, server_read, server_text, servers_of_list, servers_read}
 use Rattle.mcv_config.proofs.Fits.{holds_more, AreSmall, IsFew, IsSmallPool}
 
 -- ---- servers
@@ -75,7 +75,9 @@ servers_small table path d few =
 
 of_members_small : (table : Table) (path : List ℕ) (d : Data) (o : Option Members) → IsFew table → Holds IsSmallRead (pool_of_members table path d o)
 of_members_small table path d None few = tt
-of_members_small table path d (Some ms) few = holds_also IsSmallRead (keys_read (key_fault objects.Pool) path ms) (servers_read table path d) (servers_small table path d few)
+of_members_small table path d (Some ms) few =
+    holds_also IsSmallRead (keys_read (key_fault objects.Pool) path ms) _
+    (holds_also IsSmallRead (name_read (key_step path (codes "name")) (get (codes "name") d)) (servers_read table path d) (servers_small table path d few))
 
 pub pool_small : (table : Table) (path name : List ℕ) (d : Data) → IsFew table → Holds IsSmallRead (pool_read table path name d)
 unfolding pool_read
