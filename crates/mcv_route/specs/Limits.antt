@@ -5,7 +5,7 @@ use Rattle.mcv_pools.specs.Table.{server_limit}
 use Rattle.mcv_config.specs.Aliases.{alias_limit}
 use Rattle.mcv_config.specs.Config.{node_limit}
 use Rattle.mcv_config.specs.Entries.{depth_limit}
-use Rattle.mcv_config.specs.Handles.{prefix_limit}
+use Rattle.mcv_names.specs.Handles.{prefix_limit}
 use Rattle.mcv_config.specs.Hash.{salt_limit}
 use Rattle.mcv_config.specs.Numbers.{seconds_limit}
 use Rattle.mcv_config.specs.Pools.{pool_limit}
