@@ -6,7 +6,7 @@ use Rattle.serde_json.specs.Data.{Data, Items, Members}
 use Rattle.serde_json.specs.Find.{get, as_array, as_object}
 use Rattle.mcv_names.specs.declared.fault.ConfigFault.{ConfigFault}
 use Rattle.mcv_names.specs.declared.handle.Object.TheVariants as objects
-use Rattle.mcv_names.specs.Fault.{Gives, ◌>>=◌}
+use Rattle.mcv_names.specs.Fault.{Gives}
 use Rattle.mcv_names.specs.Handles.{key_fault, keys_read}
 use Rattle.mcv_names.specs.Lists.{each, items_list, some_items}
 use Rattle.mcv_names.specs.Path.{key_step, item_step}

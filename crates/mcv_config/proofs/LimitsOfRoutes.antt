@@ -15,7 +15,7 @@ use Rattle.mcv_names.specs.declared.handle.Selector.TheVariants as selectors
 use Rattle.mcv_names.specs.Fault.{Read, good, bad, ◌>>=◌}
 use Rattle.mcv_names.specs.Handles.{default_key, is_elsewhere, key_fault, keys_read, handle_named, name_fault, policies_key, prefix_limit, stray_fault, type_read}
 use Rattle.mcv_names.specs.Lists.{each, items_list, items_or_none, member_names, required, some_items}
-use Rattle.mcv_names.specs.Path.{key_step, item_step}
+use Rattle.mcv_names.specs.Path.{key_step}
 use Rattle.mcv_names.proofs.Holds.{Holds, holds_bind, holds_then, holds_also, holds_if}
 use Rattle.mcv_config.specs.Hash.{hash_read}
 use Rattle.mcv_config.specs.Limits.{handles_in, handles_below, IsWithin, AreWithin}
@@ -24,7 +24,7 @@ use Rattle.mcv_config.specs.Pools.{pool_named, pool_read}
 use Rattle.mcv_config.specs.Routes.{listed, servers, only_child, plain_pool, cut, pool_prefix, text_children, with_children, of_name, of_name_and_text, of_cut, text_route, pool_object, pool_value, pool_field, pool_fields, children_value, children_field, exptime_read, start_read, interval_read, warm_up_fields, migrate_fields, fields, of_type, object_route, handle_of, in_room, route}
 use Rattle.mcv_config.specs.Selectors.{policy_read, policies_of_members, policies_read, default_read, of_operation, selecting, selector_fields}
 use Rattle.mcv_config.specs.Shadows.{range_read, shadow_fields, shadow_of_members, shadow_read, shadows_read}
-use Rattle.mcv_config.specs.Walk.{SoFar, Reader, route_under, taken, two_under, with_pool}
+use Rattle.mcv_config.specs.Walk.{SoFar, Reader, route_under, taken, two_under}
 use Rattle.mcv_config.proofs.Fits.{holds_both, holds_more, IsSmall, pool_more, Fits, no_handle, still, counts, Each, none_fit, each_fits, each_member_fits}
 use Rattle.mcv_config.proofs.LimitsOfFields.{IsHash, IsName, IsSeconds, exptime_within, start_within, interval_within, hash_within, names_within}
 use Rattle.mcv_config.proofs.LimitsOfPools.{IsSmallRead, pool_small}

@@ -1,12 +1,11 @@
-use Rattle.std.proofs.Common.{◌≡◌, map, refl, ap, sym, subst, ◌∙◌}
+use Rattle.std.proofs.Common.{map, ap, sym, subst, ◌∙◌}
 use Rattle.std.specs.List.{flat_map}
 use Rattle.mcv_config.specs.Plan.{plan_of}
-use Rattle.mcv_route.specs.Built.{routes_named}
 use Rattle.mcv_route.specs.Eras.{breaks, IsBreakTable}
 use Rattle.mcv_route.specs.Limits.{AreWithinLimits}
-use Rattle.mcv_route.specs.Routes.{IsSoundRoutes, RoutesValue}
+use Rattle.mcv_route.specs.Routes.{IsSoundRoutes}
 use Rattle.mcv_route.specs.RoutesView.{entry_view, numbers_of}
-use Rattle.mcv_route.specs.Walk.{IsBuilt, list_view}
+use Rattle.mcv_route.specs.Walk.{list_view}
 use Rattle.mcv_route.proofs.Limits.{within-built}
 use Rattle.mcv_route.proofs.Soundness.{sound-built}
 use Rattle.mcv_route.proofs.Whole.{sound-entries, routes-are}

@@ -1,4 +1,3 @@
-use Rattle.std.proofs.Common.{◌≡◌}
 use Rattle.mcv_route.proofs.routes.Routes.symbols.Goals as goal
 
 pub returns-clause-sound : goal.returns-clause-sound
