@@ -15,6 +15,3 @@ pub use class::Class;
 pub use laws::{alike_are_treated_alike, classes_are_by_members};
 pub use listing::{class_of, classes};
 pub use table::ClassTable;
-
-#[cfg(test)]
-mod tests;

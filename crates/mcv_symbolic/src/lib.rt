@@ -16,6 +16,3 @@ pub use case::Case;
 pub use laws::{
     covered_is_justified, sets_are_exact, sets_ignore_the_choice, symbols_are_independent,
 };
-
-#[cfg(test)]
-mod tests;

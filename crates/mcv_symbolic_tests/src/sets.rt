@@ -1,9 +1,9 @@
 //! What can be read and what is acknowledged, a row a case; the pools A, B and C have one server each.
 
-use super::*;
 use mcv_base::{Op, Rest, ServerId};
 use mcv_route::{Leaf, Route, Shadow};
 use mcv_rules::PlannedLeg;
+use mcv_symbolic::Case;
 use std::alloc::{AllocError, Global};
 use std::sync::Arc;
 use std::test::Fail;
