@@ -19,5 +19,8 @@ returns-clause-step g c = λ model.
 pub returns-in_err-contents-clause-refused : goal.returns-in_err-contents-clause-refused
 returns-in_err-contents-clause-refused g c =
     let gone = err_from_is_err_and c.from_residual.result c.from_residual.ensures.1 in
-    rw (gone.1) (λ model. (c.recover.new.disk, Call.not_found (shut c.args.disk) (shut c.recover.new.disk) (c.recover.ensures.any_moment model) refl,
-    λ is. c.in_err-contents.ensures.device model (ap Err (sym gone.2 ∙ is))))
+    rw (gone.1) (λ model. (
+      c.recover.new.disk,
+      Call.not_found (shut c.args.disk) (shut c.recover.new.disk) (c.recover.ensures.any_moment model) refl,
+      λ is. c.in_err-contents.ensures.device model (ap Err (sym gone.2 ∙ is)),
+    ))
