@@ -1,5 +1,5 @@
 use mcv_base::Rest;
-use mcv_classes::{ClassTable, class_of, classes};
+use mcv_classes::ClassTable;
 use mcv_route::{PrefixPolicy, Route};
 use std::alloc::{AllocError, Global};
 use std::test::Fail;
