@@ -1,0 +1,77 @@
+-- A text is cut at the ends of its lines.
+use Rattle.std.proofs.Common.{◌≡◌, ◌≢◌, ◌∙◌, ℕ, suc, ◌+◌, ◌<◌, ◌≤◌, true, List, [], ◌∷◌, ◌++◌, length, take, drop, Some, None, refl, sym, ap, arith, append_assoc, append-nil, length-append}
+use Rattle.std.specs.Prelude.{codes}
+use Rattle.std.specs.List.{All, flat_map, join_with_byte}
+use Rattle.std.proofs.lemmas.Grind.{flat_map-append}
+use Rattle.std.proofs.lemmas.List.{take_at, take-append-drop}
+use Rattle.std.proofs.lemmas.List.Elements.{All-push}
+use Rattle.memchr.specs.Find.{IsFirstByte, is_byte}
+use Rattle.mcv_base.specs.Key.{lacks}
+use Rattle.mcv_base.proofs.Cuts.{first_at_cut, none_at_cut}
+use Rattle.mcv_cert.specs.Pair.{AreRising, IsPair, PairValue, is_behind}
+use Rattle.mcv_cert.specs.Reading.{IsNoLine, Reading, Reads, Stops, at_end, broken, pairs}
+use Rattle.mcv_cert.specs.Text.{last_line, pair_line, pair_words}
+use Rattle.mcv_cert.proofs.Clean.{clean_words, joined_lacks}
+use Rattle.mcv_cert.proofs.Rising.{rising_push}
+use Rattle.mcv_cert.proofs.Spelled.{line_cut}
+
+-- the first line of a text
+cut_is : (text line more : List ℕ) (end : ℕ) → lacks 10 line ≡ true → text ≡ line ++ 10 ∷ more → IsFirstByte (is_byte 10) text (Some end)
+    → (take end text ≡ line) × (take (end + 1) text ≡ line ++ codes "\n")
+cut_is text line more end bare is first =
+    let at : end ≡ length line = first_at_cut 10 text line more end is bare first in
+    let whole : text ≡ (line ++ codes "\n") ++ more = is ∙ sym (append_assoc line (10 ∷ []) more) in (
+      ap (take end) is ∙ take_at line (10 ∷ more) end (sym at),
+      ap (take (end + 1)) whole ∙ take_at (line ++ codes "\n") more (end + 1) (omega (arith, length-append line (10 ∷ []))),
+    )
+
+pub line_is : (p : PairValue) → pair_line p ≡ join_with_byte 32 (pair_words p) ++ codes "\n"
+unfolding pair_line
+line_is p = refl
+
+-- no line without an end
+pub no_end : (text : List ℕ) → IsFirstByte (is_byte 10) text None → IsNoLine text
+no_end text none = record {
+  pair = λ p more is e. none_at_cut 10 text (join_with_byte 32 (pair_words p)) more (e ∙ line_cut p more) none;
+  last = λ more e. none_at_cut 10 text (codes "end") more e none;
+}
+
+pub no_line : (text : List ℕ) (end : ℕ) → IsFirstByte (is_byte 10) text (Some end) → take end text ≢ codes "end" → ((p : PairValue) → IsPair p → take (end + 1) text ≢ pair_line p) → IsNoLine text
+no_line text end first other none = record {
+  pair = λ p more is e. none p is ((cut_is text (join_with_byte 32 (pair_words p)) more end (joined_lacks (pair_words p) (clean_words p is)) (e ∙ line_cut p more) first).1 ∙ sym (line_is p));
+  last = λ more e. other (cut_is text (codes "end") more end refl e first).0;
+}
+
+-- a text with an end of a line is that line and the rest
+pub line_at : (text line : List ℕ) (end : ℕ) → take (end + 1) text ≡ line → text ≡ line ++ drop (end + 1) text
+line_at text line end is = sym (take-append-drop (end + 1) text) ∙ ap (λ xs. xs ++ drop (end + 1) text) is
+
+-- ---- from line to line
+
+-- what the reader knows when it has read so many pairs
+pub record IsSoFar (body : List ℕ) (ps : List PairValue) (rest : List ℕ) : Type 0 where
+  pub lines : body ≡ flat_map pair_line ps ++ rest
+  pub are_pairs : All IsPair ps
+  pub rising : AreRising ps
+
+pub so_far_more : (body rest later : List ℕ) (ps : List PairValue) (p : PairValue) → IsSoFar body ps rest → IsPair p → rest ≡ pair_line p ++ later → is_behind ps p ≡ true → IsSoFar body (ps ++ p ∷ []) later
+so_far_more body rest later ps p so_far is line behind = record {
+  lines =
+      so_far.lines ∙ ap (λ xs. flat_map pair_line ps ++ xs) line
+      ∙ sym (append_assoc (flat_map pair_line ps) (pair_line p) later)
+      ∙ ap (λ xs. xs ++ later) (sym (flat_map-append pair_line ps (p ∷ []) ∙ ap (λ xs. flat_map pair_line ps ++ xs) (append-nil (pair_line p))));
+  are_pairs = All-push IsPair ps p so_far.are_pairs is;
+  rising = rising_push ps p so_far.rising behind;
+}
+
+pub stopped : (body rest : List ℕ) (ps : List PairValue) (r : Reading) → IsSoFar body ps rest → Stops ps rest r → Reads body r
+stopped body rest ps r so_far stops = record { ps = ps; rest = rest; lines = so_far.lines; are_pairs = so_far.are_pairs; rising = so_far.rising; stops = stops }
+
+-- what is said at the last line
+pub nothing_behind : (ps : List PairValue) (behind : List ℕ) → length behind ≡ 0 → at_end ps behind ≡ pairs ps
+nothing_behind ps [] none = refl
+nothing_behind ps (b ∷ bs) none = absurd (let h : ⊥ = omega arith in h)
+
+pub more_behind : (ps : List PairValue) (behind : List ℕ) → (length behind ≡ 0 → ⊥) → at_end ps behind ≡ broken (length ps + 3)
+more_behind ps [] some = absurd (some refl)
+more_behind ps (b ∷ bs) some = refl

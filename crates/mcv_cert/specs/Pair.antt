@@ -1,0 +1,108 @@
+-- Pairs of a certificate, and their order (own).
+use Rattle.std.specs.Prelude.{◌≡◌, ℕ, ◌<◌, ◌^◌, Bool, true, false, List, [], ◌∷◌, AllPairs, All}
+use Rattle.std.specs.List.{list_all}
+use Rattle.std.specs.Cmp.Lexicographic.{slice_cmp}
+use Rattle.std.specs.Ordering.{is_lt, nat_cmp, ordering_then}
+use Rattle.std.specs.declared.cmp.Ordering.{Ordering}
+use Rattle.std.specs.declared.cmp.Ordering.TheVariants.{Less}
+use Rattle.mcv_cert.specs.declared.pair.Reason.{Reason}
+use Rattle.mcv_cert.specs.declared.pair.Reason.TheVariants as reasons
+use Rattle.mcv_cert.specs.declared.pair.Pair.{Pair}
+
+-- why each delete that is acknowledged was sent to a leaf's server. Legs are named by their positions
+pub data ReasonValue : Type 0 where
+  never : ReasonValue  -- none can be acknowledged
+  twin : (leg : List ℕ) → ReasonValue  -- the leg has the leaf's symbol and servers
+  same : (index : ℕ) → (leg : List ℕ) → ReasonValue  -- the leg has the leaf's symbol, and its server at the index
+  all : (index : ℕ) → (legs : List (List ℕ)) → ReasonValue  -- one of the legs has the server that the leaf has at the index
+
+-- a leaf that can be read, at one index or at all, and why a delete reaches its server
+pub record PairValue : Type 0 where
+  pub route : ℕ
+  pub class : List ℕ
+  pub era : ℕ
+  pub leaf : List ℕ
+  pub reason : ReasonValue
+
+-- ---- what the code's values stand for
+
+abbrev pub reason_of : Reason → ReasonValue
+reason_of reasons.Never = never
+reason_of (reasons.Twin leg) = twin leg
+reason_of (reasons.Same index leg) = same index leg
+reason_of (reasons.All index legs) = all index legs.items
+
+abbrev pub pair_of : Pair → PairValue
+pair_of p = record { route = p.route; class = p.class.items; era = p.era; leaf = p.leaf; reason = reason_of p.reason }
+
+-- ---- order
+
+-- where a leaf stands
+pub record Place : Type 0 where
+  pub route : ℕ
+  pub class : List ℕ
+  pub era : ℕ
+  pub leaf : List ℕ
+
+abbrev pub place_of : PairValue → Place
+place_of p = record { route = p.route; class = p.class; era = p.era; leaf = p.leaf }
+
+-- lists of numbers, a prefix before its longer ones
+abbrev pub list_cmp : List ℕ → List ℕ → Ordering
+list_cmp = slice_cmp nat_cmp
+
+abbrev pub place_cmp : Place → Place → Ordering
+place_cmp p q = ordering_then (nat_cmp p.route q.route) (ordering_then (list_cmp p.class q.class) (ordering_then (nat_cmp p.era q.era) (list_cmp p.leaf q.leaf)))
+
+-- a reason that speaks of all indexes stands at 0
+abbrev pub index_of : ReasonValue → ℕ
+index_of never = 0
+index_of (twin leg) = 0
+index_of (same index leg) = index
+index_of (all index legs) = index
+
+-- by route, class, era, leaf and index
+abbrev pub pair_cmp : PairValue → PairValue → Ordering
+pair_cmp p q = ordering_then (place_cmp (place_of p) (place_of q)) (nat_cmp (index_of p.reason) (index_of q.reason))
+
+-- each pair stands before all later ones
+abbrev pub AreRising : List PairValue → Type 0
+AreRising ps = AllPairs (λ p q. pair_cmp p q ≡ Less) ps
+
+-- the pair stands behind all of them
+abbrev pub is_behind : List PairValue → PairValue → Bool
+is_behind ps p = list_all (λ q. is_lt (pair_cmp q p)) ps
+
+-- ---- which pairs there are
+
+-- `all` names a leg or more
+abbrev pub names_legs : ReasonValue → Bool
+names_legs never = true
+names_legs (twin leg) = true
+names_legs (same index leg) = true
+names_legs (all index []) = false
+names_legs (all index (leg ∷ legs)) = true
+
+-- what every certificate is
+pub record IsCertificate (ps : List PairValue) : Type 0 where
+  pub rising : AreRising ps
+  pub legs : All (λ p. names_legs p.reason ≡ true) ps
+
+-- a position's numbers have 64 bits
+abbrev pub FitsPosition : List ℕ → Type 0
+FitsPosition position = All (λ n. n < 2 ^ 64) position
+
+abbrev pub FitsReason : ReasonValue → Type 0
+FitsReason never = Unit {0}
+FitsReason (twin leg) = FitsPosition leg
+FitsReason (same index leg) = (index < 2 ^ 64) × FitsPosition leg
+FitsReason (all index legs) = (index < 2 ^ 64) × All FitsPosition legs
+
+-- a pair whose numbers have 64 bits, and that names a leg where it has to: such pairs have a text
+pub record IsPair (p : PairValue) : Type 0 where
+  pub route : p.route < 2 ^ 64
+  pub class : All (λ b. b < 256) p.class
+  pub era : p.era < 2 ^ 64
+  pub leaf : FitsPosition p.leaf
+  pub reason : FitsReason p.reason
+  pub legs : names_legs p.reason ≡ true

@@ -1,0 +1,182 @@
+//! What a pair's line is read as. It is read leniently: the line of a pair gives that pair, and another line may
+//! give any or none; `read` prints what was read again and compares.
+
+ghost use Rattle.std.specs.Prelude.{◌≡◌, ◌==◌, ◌∷◌, ◌<◌, ◌^◌, ◌++◌, ℕ, List, All, Some, codes, decimal, map, true, IfOk, IfSome, IsSomeAnd};
+ghost use Rattle.std.specs.List.{join_with_byte, slice_split};
+ghost use Rattle.std.specs.Option.{option_map};
+ghost use Rattle.mcv_base.specs.Position.{position_text};
+ghost use Rattle.mcv_cert.specs.Pair.{FitsPosition, FitsReason, IsPair, PairValue, ReasonValue, names_legs, pair_of, reason_of};
+ghost use Rattle.mcv_cert.specs.Text.{pair_words, reason_words};
+
+use crate::escape::unescaped;
+use crate::pair::{Pair, Reason};
+use mcv_base::Position;
+use std::alloc::{AllocError, Global};
+use std::str;
+
+/// The parts between spaces.
+fn words_of(alloc: Global, line: &[u8]) -> Result<Vec<&[u8]>, AllocError>
+    ensures { IfOk result (λ v. map (λ w. w.now) v.items ≡ slice_split (λ b. b == 32) line.now) }
+{
+    line.split(|b| *b == b' ').collect(alloc)
+}
+
+/// The number whose text the word is. Another word may give any.
+fn read_number(word: &[u8]) -> Option<usize>
+    ensures { (n : ℕ) → n < 2 ^ 64 → word.now ≡ decimal n → result ≡ Some n }
+{
+    let text = str::from_utf8(word).ok()?;
+    text.parse().ok()
+}
+
+/// Reads the numbers between dots into `steps`; whether they are numbers.
+fn read_steps(word: &[u8], steps: &mut Vec<usize>) -> Result<bool, AllocError>
+    ensures { (ns : List ℕ) → FitsPosition ns → slice_split (λ b. b == 46) word.now ≡ map decimal ns → IfOk result (λ are. (are ≡ true) × (steps.new.items ≡ ns)) }
+{
+    steps.clear();
+    for part in word.split(|b| *b == b'.') {
+        let Some(step) = read_number(part) else {
+            return Ok(false);
+        };
+        steps.push(step)?;
+    }
+    Ok(true)
+}
+
+/// The position whose text the word is; `steps` is a buffer. Another word may give any.
+fn read_position(
+    alloc: Global,
+    word: &[u8],
+    steps: &mut Vec<usize>,
+) -> Result<Option<Position>, AllocError>
+    ensures meant { (p : List ℕ) → FitsPosition p → word.now ≡ position_text p → IfOk result (λ o. IsSomeAnd o (λ x. x ≡ p)) }
+    ensures fits { IfOk result (λ o. IfSome o (λ x. FitsPosition x)) }
+{
+    if word == b"-".as_slice() {
+        return Ok(Some(Position::root(alloc)));
+    }
+    if !read_steps(word, steps)? {
+        return Ok(None);
+    }
+    Ok(Some(Position::at(alloc, steps.as_slice())?))
+}
+
+/// The positions whose texts the words are.
+fn read_positions(
+    alloc: Global,
+    words: &[&[u8]],
+    steps: &mut Vec<usize>,
+) -> Result<Option<Vec<Position>>, AllocError>
+    ensures meant { (ps : List (List ℕ)) → All FitsPosition ps → map (λ w. w.now) words.now ≡ map position_text ps → IfOk result (λ o. IsSomeAnd o (λ v. v.items ≡ ps)) }
+    ensures fits { IfOk result (λ o. IfSome o (λ v. All FitsPosition v.items)) }
+{
+    let mut positions = Vec::new(alloc);
+    for word in words {
+        let Some(position) = read_position(alloc, word, steps)? else {
+            return Ok(None);
+        };
+        positions.push(position)?;
+    }
+    Ok(Some(positions))
+}
+
+/// The reason whose words these are. Other words may give any.
+fn read_reason(
+    alloc: Global,
+    words: &[&[u8]],
+    steps: &mut Vec<usize>,
+) -> Result<Option<Reason>, AllocError>
+    ensures meant { (r : ReasonValue) → FitsReason r → names_legs r ≡ true → map (λ w. w.now) words.now ≡ reason_words r → IfOk result (λ o. IsSomeAnd o (λ x. reason_of x ≡ r)) }
+    ensures fits { IfOk result (λ o. IfSome o (λ x. FitsReason (reason_of x))) }
+    ensures legs { IfOk result (λ o. IfSome o (λ x. names_legs (reason_of x) ≡ true)) }
+{
+    match words {
+        [b"never"] => Ok(Some(Reason::Never)),
+        [b"twin", leg] => {
+            let Some(leg) = read_position(alloc, leg, steps)? else {
+                return Ok(None);
+            };
+            Ok(Some(Reason::Twin(leg)))
+        }
+        [b"same", index, leg] => {
+            let Some(index) = read_number(index) else {
+                return Ok(None);
+            };
+            let Some(leg) = read_position(alloc, leg, steps)? else {
+                return Ok(None);
+            };
+            Ok(Some(Reason::Same(index, leg)))
+        }
+        [b"all", index, legs @ ..] => {
+            let Some(index) = read_number(index) else {
+                return Ok(None);
+            };
+            let Some(legs) = read_positions(alloc, legs, steps)? else {
+                return Ok(None);
+            };
+            if legs.is_empty() {
+                return Ok(None);
+            }
+            Ok(Some(Reason::All(index, legs)))
+        }
+        _ => Ok(None),
+    }
+}
+
+/// The bytes behind an equals sign.
+fn behind_sign(word: &[u8]) -> Option<&[u8]>
+    ensures { (bytes : List ℕ) → word.now ≡ codes "=" ++ bytes → IsSomeAnd result (λ x. x.now ≡ bytes) }
+{
+    match word.split_first() {
+        Some((b'=', later)) => Some(later),
+        _ => None,
+    }
+}
+
+/// The pair whose words these are. Other words may give any.
+fn pair_of_words(
+    alloc: Global,
+    words: &[&[u8]],
+    steps: &mut Vec<usize>,
+) -> Result<Option<Pair>, AllocError>
+    ensures meant { (p : PairValue) → IsPair p → map (λ w. w.now) words.now ≡ pair_words p → IfOk result (λ o. IsSomeAnd o (λ x. pair_of x ≡ p)) }
+    ensures fits { IfOk result (λ o. IfSome o (λ x. IsPair (pair_of x))) }
+{
+    let [route, class, era, leaf, reason @ ..] = words else {
+        return Ok(None);
+    };
+    let Some(route) = read_number(route) else {
+        return Ok(None);
+    };
+    let Some(class) = behind_sign(class) else {
+        return Ok(None);
+    };
+    let Some(era) = read_number(era) else {
+        return Ok(None);
+    };
+    let Some(class) = unescaped(alloc, class)? else {
+        return Ok(None);
+    };
+    let Some(leaf) = read_position(alloc, leaf, steps)? else {
+        return Ok(None);
+    };
+    let Some(reason) = read_reason(alloc, reason, steps)? else {
+        return Ok(None);
+    };
+    Ok(Some(Pair {
+        route,
+        class,
+        era,
+        leaf,
+        reason,
+    }))
+}
+
+/// The pair whose line it is, without its end; `steps` is a buffer. Another line may give any.
+pub fn parse(alloc: Global, line: &[u8], steps: &mut Vec<usize>) -> Result<Option<Pair>, AllocError>
+    ensures meant { (p : PairValue) → IsPair p → line.now ≡ join_with_byte 32 (pair_words p) → IfOk result (λ o. IsSomeAnd o (λ x. pair_of x ≡ p)) }
+    ensures fits { IfOk result (λ o. IfSome o (λ x. IsPair (pair_of x))) }
+{
+    let words = words_of(alloc, line)?;
+    pair_of_words(alloc, words.as_slice(), steps)
+}
