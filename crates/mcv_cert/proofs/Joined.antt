@@ -11,6 +11,20 @@ use Rattle.mcv_base.specs.Position.{position_text}
 use Rattle.mcv_cert.specs.Pair.{FitsPosition}
 use Rattle.mcv_cert.proofs.Clean.{AreClean, bare}
 
+pub first_is : (x y : List ℕ) (xs ys : List (List ℕ)) → x ∷ xs ≡ y ∷ ys → x ≡ y
+first_is x y xs ys is = cc
+
+pub others_are : (x y : List ℕ) (xs ys : List (List ℕ)) → x ∷ xs ≡ y ∷ ys → xs ≡ ys
+others_are x y xs ys is = cc
+
+abbrev pub first_of : List ℕ → ℕ
+first_of xs = get_or xs 0 0
+
+-- reasons are told apart by the first byte of their words
+abbrev pub first_byte : List (List ℕ) → ℕ
+first_byte [] = 0
+first_byte (w ∷ ws) = first_of w
+
 pub split_joined : (w : List ℕ) (ws : List (List ℕ)) → AreClean (w ∷ ws) → slice_split (λ b. b == 32) (join_with_byte 32 (w ∷ ws)) ≡ w ∷ ws
 split_joined w [] clean = slice_split_none (λ b. b == 32) w (bare 32 w (omega arith) clean.0)
 split_joined w (v ∷ ws) clean =

@@ -1,10 +1,10 @@
 -- A text is cut at the ends of its lines.
-use Rattle.std.proofs.Common.{◌≡◌, ◌≢◌, ◌∙◌, ℕ, suc, ◌+◌, ◌<◌, ◌≤◌, true, List, [], ◌∷◌, ◌++◌, length, take, drop, Some, None, refl, sym, ap, arith, append_assoc, append-nil, length-append}
+use Rattle.std.proofs.Common.{◌≡◌, ◌≢◌, ◌∙◌, ℕ, suc, ◌+◌, ◌<◌, ◌≤◌, true, List, [], ◌∷◌, ◌++◌, length, take, drop, Some, None, refl, sym, ap, subst, arith, append_assoc, append-nil, length-append}
 use Rattle.std.specs.Prelude.{codes}
 use Rattle.std.specs.List.{All, flat_map, join_with_byte}
 use Rattle.std.proofs.lemmas.Grind.{flat_map-append}
 use Rattle.std.proofs.lemmas.List.{take_at, take-append-drop}
-use Rattle.std.proofs.lemmas.List.Elements.{All-push}
+use Rattle.std.proofs.lemmas.List.Elements.{All-nil, All-push}
 use Rattle.memchr.specs.Find.{IsFirstByte, is_byte}
 use Rattle.mcv_base.specs.Key.{lacks}
 use Rattle.mcv_base.proofs.Cuts.{first_at_cut, none_at_cut}
@@ -53,6 +53,11 @@ pub record IsSoFar (body : List ℕ) (ps : List PairValue) (rest : List ℕ) : T
   pub lines : body ≡ flat_map pair_line ps ++ rest
   pub are_pairs : All IsPair ps
   pub rising : AreRising ps
+
+pub so_far_none : (body : List ℕ) (ps : List PairValue) → ps ≡ [] → IsSoFar body ps body
+so_far_none body ps is =
+    subst (λ (qs : List PairValue). IsSoFar body qs body) (sym is)
+    (record { lines = refl; are_pairs = All-nil IsPair; rising = λ i j d before within. absurd (let h : ⊥ = omega arith in h) })
 
 pub so_far_more : (body rest later : List ℕ) (ps : List PairValue) (p : PairValue) → IsSoFar body ps rest → IsPair p → rest ≡ pair_line p ++ later → is_behind ps p ≡ true → IsSoFar body (ps ++ p ∷ []) later
 so_far_more body rest later ps p so_far is line behind = record {

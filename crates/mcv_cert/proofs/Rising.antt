@@ -8,6 +8,7 @@ use Rattle.std.specs.declared.cmp.Ordering.TheVariants.{Less, Equal, Greater}
 use Rattle.std.proofs.lemmas.Cmp.{nat_cmp_total, nat_list_cmp_total, on_total, then_total}
 use Rattle.std.proofs.Math.Seq.{get_or-append_seam}
 use Rattle.std.proofs.lemmas.Bool.{and_from, and_right, cases_Bool, true_from_ne_false, true≢false}
+use Rattle.std.proofs.lemmas.List.{get_or-map, length-map}
 use Rattle.std.proofs.lemmas.List.Elements.{All-push}
 use Rattle.std.proofs.lemmas.List.Folds.{list_all_at}
 use Rattle.std.proofs.lemmas.List.Quantifiers.{all_pairs_push}
@@ -15,13 +16,16 @@ use Rattle.mcv_cert.specs.Pair.{AreRising, IsCertificate, PairValue, names_legs,
 
 pub pairs_total : IsTotalOrder pair_cmp
 pairs_total =
-    then_total (then_total (on_total (λ p. p.route) nat_cmp_total) (then_total (on_total (λ p. p.class) nat_list_cmp_total) (then_total (on_total (λ p. p.era) nat_cmp_total) (on_total (λ p. p.leaf) nat_list_cmp_total))))
-    (on_total (λ p. index_of p.reason) nat_cmp_total)
+    then_total
+    (then_total (on_total (λ (p : PairValue). p.route) nat_cmp_total)
+    (then_total (on_total (λ (p : PairValue). p.class) nat_list_cmp_total)
+    (then_total (on_total (λ (p : PairValue). p.era) nat_cmp_total) (on_total (λ (p : PairValue). p.leaf) nat_list_cmp_total))))
+    (on_total (λ (p : PairValue). index_of p.reason) nat_cmp_total)
 
 less_is : (o : Ordering) → is_lt o ≡ true → o ≡ Less
 less_is Less is = refl
-less_is Equal is = cc
-less_is Greater is = cc
+less_is Equal is = absurd (true≢false (sym is))
+less_is Greater is = absurd (true≢false (sym is))
 
 and_true : (b : Bool) → (b && true) ≡ b
 and_true true = refl
@@ -40,29 +44,36 @@ behind_front (q ∷ done) p ps up =
 
 -- one more pair
 pub rising_push : (ps : List PairValue) (p : PairValue) → AreRising ps → is_behind ps p ≡ true → AreRising (ps ++ p ∷ [])
-rising_push ps p up behind = all_pairs_push (λ q r. pair_cmp q r ≡ Less) ps p up (λ k d l. less_is (pair_cmp (get_or ps k d) p) (each k d l))
+rising_push ps p up behind = all_pairs_push (λ (q r : PairValue). pair_cmp q r ≡ Less) ps p up (λ k d l. less_is (pair_cmp (get_or ps k d) p) (each k d l))
   where
     each : (k : ℕ) (d : PairValue) → k < length ps → is_lt (pair_cmp (get_or ps k d) p) ≡ true
     each k d l = true_from_ne_false (is_lt (pair_cmp (get_or ps k d) p)) (λ no. true≢false (sym behind ∙ list_all_at (λ q. is_lt (pair_cmp q p)) ps k d l no))
 
 -- a pair that stands behind the last one stands behind all, since they rise
-pub last_decides : (ps : List PairValue) (q p : PairValue) → 0 < length ps → q ≡ get_or ps (length ps - 1) q → AreRising ps → is_lt (pair_cmp q p) ≡ is_behind ps p
-last_decides [] q p some is up = absurd (let h : ⊥ = omega arith in h)
-last_decides (r ∷ []) q p some is up = ap (λ x. is_lt (pair_cmp x p)) is ∙ sym (and_true (is_lt (pair_cmp r p)))
-last_decides (r ∷ s ∷ ps) q p some is up =
-    let last : q ≡ get_or (s ∷ ps) (length (s ∷ ps) - 1) q = is ∙ one_on r (s ∷ ps) q (omega arith) in
-    let more = last_decides (s ∷ ps) q p (omega arith) last (later_rising r (s ∷ ps) up) in
+last_decides : (ps : List PairValue) (n : ℕ) (q p : PairValue) → length ps ≡ suc n → q ≡ get_or ps n q → AreRising ps → is_lt (pair_cmp q p) ≡ is_behind ps p
+last_decides [] n q p some is up = absurd (let h : ⊥ = omega arith in h)
+last_decides (r ∷ []) zero q p some is up = ap (λ x. is_lt (pair_cmp x p)) is ∙ sym (and_true (is_lt (pair_cmp r p)))
+last_decides (r ∷ []) (suc n) q p some is up = absurd (let h : ⊥ = omega arith in h)
+last_decides (r ∷ s ∷ ps) zero q p some is up = absurd (let h : ⊥ = omega arith in h)
+last_decides (r ∷ s ∷ ps) (suc n) q p some is up =
+    let more = last_decides (s ∷ ps) n q p (omega arith) is (later_rising r (s ∷ ps) up) in
     elim (cases_Bool (is_lt (pair_cmp q p))) [
       | inl yes ↦
-          let before : pair_cmp r q ≡ Less = ap (pair_cmp r) is ∙ up 0 (length (r ∷ s ∷ ps) - 1) q (omega arith) (omega arith) in
+          let before : pair_cmp r q ≡ Less = ap (pair_cmp r) is ∙ up 0 (suc n) q (omega arith) (omega arith) in
           let first = pairs_total.trans r q p before (less_is (pair_cmp q p) yes) in
           yes ∙ sym (and_from (is_lt (pair_cmp r p)) (is_behind (s ∷ ps) p) (ap is_lt first) (sym more ∙ yes))
       | inr no ↦ no ∙ sym (and_right (is_lt (pair_cmp r p)) (is_behind (s ∷ ps) p) (sym more ∙ no))
     ]
-  where
-    one_on : (x : PairValue) (xs : List PairValue) (d : PairValue) → 0 < length xs → get_or (x ∷ xs) (length (x ∷ xs) - 1) d ≡ get_or xs (length xs - 1) d
-    one_on x [] d l = absurd (let h : ⊥ = omega arith in h)
-    one_on x (y ∷ ys) d l = refl
+
+pub last_of : {X : Type 0} (f : X → PairValue) (xs : List X) (x : X) (p : PairValue) → 0 < length xs → x ≡ get_or xs (length xs - 1) x → AreRising (map f xs) → is_lt (pair_cmp (f x) p) ≡ is_behind (map f xs) p
+last_of f xs x p some is up =
+    let within : length xs - 1 < length xs = omega arith in
+    let sized : length (map f xs) ≡ suc (length xs - 1) = omega (arith, length-map xs f) in
+    last_decides (map f xs) (length xs - 1) (f x) p sized (ap f is ∙ sym (get_or-map f xs (length xs - 1) x (f x) within)) up
+
+pub none_before : {X : Type 0} (f : X → PairValue) (xs : List X) (p : PairValue) → length xs ≤ 0 → is_behind (map f xs) p ≡ true
+none_before f [] p none = refl
+none_before f (x ∷ xs) p none = absurd (let h : ⊥ = omega arith in h)
 
 -- the certificate that a push leaves
 pub certificate_push : (ps : List PairValue) (p : PairValue) → IsCertificate ps → names_legs p.reason ≡ true → is_behind ps p ≡ true → IsCertificate (ps ++ p ∷ [])

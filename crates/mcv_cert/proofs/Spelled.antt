@@ -1,5 +1,5 @@
 -- A line of a pair is the line of one pair.
-use Rattle.std.proofs.Common.{◌≡◌, ◌≢◌, ◌∙◌, ℕ, suc, zero, ◌<◌, ◌≤◌, ◌^◌, Bool, true, false, ◌==◌, List, [], ◌∷◌, ◌++◌, length, get_or, refl, sym, ap, ap₂, subst, arith, map, append_assoc}
+use Rattle.std.proofs.Common.{◌≡◌, ◌≢◌, ◌∙◌, ℕ, suc, zero, ◌<◌, ◌≤◌, ◌^◌, Bool, true, false, ◌==◌, List, [], ◌∷◌, ◌++◌, length, get_or, drop, refl, sym, ap, ap₂, subst, arith, map, append_assoc}
 use Rattle.std.specs.Prelude.{codes, decimal}
 use Rattle.std.specs.List.{All, join_with_byte, slice_split}
 use Rattle.std.proofs.lemmas.List.Elements.{All-head, All-tail}
@@ -12,15 +12,9 @@ use Rattle.mcv_cert.specs.Escape.{escaped}
 use Rattle.mcv_cert.specs.Text.{last_line, pair_line, pair_words, reason_words}
 use Rattle.mcv_cert.proofs.Clean.{clean_words, joined_lacks}
 use Rattle.mcv_cert.proofs.Escapes.{escaped_one}
-use Rattle.mcv_cert.proofs.Joined.{position_split, split_joined}
+use Rattle.mcv_cert.proofs.Joined.{first_byte, first_is, first_of, others_are, position_split, split_joined}
 
 -- ---- words
-
-first_is : (x y : List ℕ) (xs ys : List (List ℕ)) → x ∷ xs ≡ y ∷ ys → x ≡ y
-first_is x y xs ys is = cc
-
-others_are : (x y : List ℕ) (xs ys : List (List ℕ)) → x ∷ xs ≡ y ∷ ys → xs ≡ ys
-others_are x y xs ys is = cc
 
 numbers_one : (ms ns : List ℕ) → FitsPosition ms → FitsPosition ns → map decimal ms ≡ map decimal ns → ms ≡ ns
 numbers_one [] [] f g e = refl
@@ -30,9 +24,6 @@ numbers_one (m ∷ ms) (n ∷ ns) f g e =
     ap₂ (λ (x : ℕ) (xs : List ℕ). x ∷ xs)
     (decimal_injective m n (All-head (λ n. n < 2 ^ 64) m ms f) (All-head (λ n. n < 2 ^ 64) n ns g) (first_is (decimal m) (decimal n) (map decimal ms) (map decimal ns) e))
     (numbers_one ms ns (All-tail (λ n. n < 2 ^ 64) m ms f) (All-tail (λ n. n < 2 ^ 64) n ns g) (others_are (decimal m) (decimal n) (map decimal ms) (map decimal ns) e))
-
-abbrev first_of : List ℕ → ℕ
-first_of xs = get_or xs 0 0
 
 front_first : (xs ys : List ℕ) → 0 < length xs → first_of (xs ++ ys) ≡ first_of xs
 front_first [] ys some = absurd (let h : ⊥ = omega arith in h)
@@ -63,11 +54,6 @@ positions_one (p ∷ ps) (q ∷ qs) f g e =
     (positions_one ps qs (All-tail FitsPosition p ps f) (All-tail FitsPosition q qs g) (others_are (position_text p) (position_text q) (map position_text ps) (map position_text qs) e))
 
 -- ---- reasons
-
--- reasons are told apart by the first byte of their words
-abbrev first_byte : List (List ℕ) → ℕ
-first_byte [] = 0
-first_byte (w ∷ ws) = first_of w
 
 apart : {G : Type 0} (m n : ℕ) → m ≡ n → (m ≡ n → ⊥) → G
 apart m n e ne = absurd (ne e)
@@ -117,7 +103,7 @@ words_one p q f g e =
     λ i. record { route = route i; class = class i; era = era i; leaf = leaf i; reason = reason i }
   where
     behind_sign : (xs ys : List ℕ) → codes "=" ++ xs ≡ codes "=" ++ ys → xs ≡ ys
-    behind_sign xs ys is = cc
+    behind_sign xs ys is = ap (drop 1) is
 
 -- what stands before the end of a line, and the end
 pub line_cut : (p : PairValue) (more : List ℕ) → pair_line p ++ more ≡ join_with_byte 32 (pair_words p) ++ 10 ∷ more

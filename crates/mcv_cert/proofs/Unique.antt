@@ -1,5 +1,5 @@
 -- A text says one thing.
-use Rattle.std.proofs.Common.{◌≡◌, ◌≢◌, ◌∙◌, ℕ, suc, ◌+◌, ◌<◌, ◌≤◌, Bool, true, false, List, [], ◌∷◌, ◌++◌, length, refl, sym, ap, ap₂, subst, arith, append_assoc, append-nil, map}
+use Rattle.std.proofs.Common.{◌≡◌, ◌≢◌, ◌∙◌, ℕ, suc, ◌+◌, ◌<◌, ◌≤◌, Bool, true, false, List, [], ◌∷◌, ◌++◌, length, drop, refl, sym, ap, ap₂, subst, arith, append_assoc, append-nil, map}
 use Rattle.std.specs.List.{All, AllPairs, flat_map, list_all}
 use Rattle.std.proofs.lemmas.Bool.{true≢false}
 use Rattle.std.proofs.lemmas.List.Elements.{All-head, All-tail, All-append, All-cons, All-nil}
@@ -14,7 +14,7 @@ stops_one : (ps : List PairValue) (rest : List ℕ) (r s : Reading) → Stops ps
 stops_one ps rest r s (ended more is) (ended other is2) = ap (at_end ps) (same_end more other (sym is ∙ is2))
   where
     same_end : (xs ys : List ℕ) → last_line ++ xs ≡ last_line ++ ys → xs ≡ ys
-    same_end xs ys e = cc
+    same_end xs ys e = ap (drop 4) e
 stops_one ps rest r s (ended more is) (breaks none) = absurd (none.last more is)
 stops_one ps rest r s (ended more is) (falls p other f is2 no) = absurd (not_last p more other f (sym is ∙ is2))
 stops_one ps rest r s (breaks none) (ended more is) = absurd (none.last more is)
@@ -71,10 +71,10 @@ says_one text r s (headless short none) (reads body s2 short2 is b) = absurd (no
 says_one text r s (reads body r2 short is a) (over long) = not_both text long short
 says_one text r s (reads body r2 short is a) (headless short2 none) = absurd (none body is)
 says_one text r s (reads body r2 short is a) (reads other s2 short2 is2 b) =
-    reads_one body r s a (subst (λ t. Reads t s) (same_body other body (sym is2 ∙ is)) b)
+    reads_one body r2 s2 a (subst (λ t. Reads t s2) (same_body other body (sym is2 ∙ is)) b)
   where
     same_body : (xs ys : List ℕ) → first_line ++ xs ≡ first_line ++ ys → xs ≡ ys
-    same_body xs ys e = cc
+    same_body xs ys e = ap (drop 11) e
 
 -- the text of pairs that rise says them
 pub says_text : (ps : List PairValue) → AreRising ps → All IsPair ps → length (certificate_text ps) ≤ text_limit → Says (certificate_text ps) (pairs ps)
