@@ -11,7 +11,7 @@ use Rattle.mcv_base.specs.Position.{position_text}
 use Rattle.mcv_base.proofs.Cuts.{joined, lacks-append}
 use Rattle.mcv_cert.specs.Escape.{escaped, escaped_byte, hex_digit, is_plain}
 use Rattle.mcv_cert.specs.Pair.{FitsPosition, FitsReason, IsPair, PairValue, ReasonValue, never, twin, same, all}
-use Rattle.mcv_cert.specs.Text.{pair_words, reason_words}
+use Rattle.mcv_cert.specs.Text.{pair_text, pair_words, reason_words}
 
 abbrev pub IsClean : List ℕ → Type 0
 IsClean word = All (λ b. 32 < b) word
@@ -91,7 +91,11 @@ clean_lacks (b ∷ w) clean =
     joined (not (b == 10)) (lacks 10 w) (not_line_feed b (All-head (λ b. 32 < b) b w clean)) (clean_lacks w (All-tail (λ b. 32 < b) b w clean))
 
 -- no end of a line in words with spaces between them
-pub joined_lacks : (ws : List (List ℕ)) → AreClean ws → lacks 10 (join_with_byte 32 ws) ≡ true
+joined_lacks : (ws : List (List ℕ)) → AreClean ws → lacks 10 (join_with_byte 32 ws) ≡ true
 joined_lacks [] clean = refl
 joined_lacks (w ∷ []) clean = clean_lacks w clean.0
 joined_lacks (w ∷ v ∷ ws) clean = lacks-append 10 w (32 ∷ join_with_byte 32 (v ∷ ws)) (clean_lacks w clean.0) (joined_lacks (v ∷ ws) clean.1)
+
+pub text_lacks : (p : PairValue) → IsPair p → lacks 10 (pair_text p) ≡ true
+unfolding pair_text
+text_lacks p is = joined_lacks (pair_words p) (clean_words p is)

@@ -1,12 +1,9 @@
 -- What the types of numbers say of pairs, one after the other.
-use Rattle.std.proofs.Common.{◌≡◌, ◌∙◌, ℕ, ◌+◌, ◌<◌, true, List, [], ◌∷◌, ◌++◌, length, get_or, take, map, sym, ap, subst}
+use Rattle.std.proofs.Common.{◌≡◌, ◌∙◌, ℕ, ◌+◌, ◌<◌, List, [], ◌∷◌, ◌++◌, length, get_or, take, map, sym, ap, subst}
 use Rattle.std.specs.List.{All}
 use Rattle.std.proofs.lemmas.List.{get_or-map, length-map, map-append, take_more}
 use Rattle.std.proofs.lemmas.List.Elements.{All-get_or, All-push}
-use Rattle.mcv_cert.specs.Pair.{IsPair, PairValue, names_legs}
-
-abbrev pub NamesLegs : PairValue → Type 0
-NamesLegs p = names_legs p.reason ≡ true
+use Rattle.mcv_cert.specs.Pair.{IsPair, NamesLegs, PairValue}
 
 pub fit_more : {X : Type 0} (f : X → PairValue) (xs : List X) (i : ℕ) (x : X) → i < length xs → x ≡ get_or xs i x → All NamesLegs (map f xs) → (NamesLegs (f x) → IsPair (f x))
     → All IsPair (map f (take i xs)) → All IsPair (map f (take (i + 1) xs))

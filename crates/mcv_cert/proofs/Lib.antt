@@ -7,3 +7,4 @@ pub mod Meant
 pub mod Rising
 pub mod Spelled
 pub mod Unique
+pub mod Written

@@ -1,50 +1,45 @@
 -- A text is cut at the ends of its lines.
 use Rattle.std.proofs.Common.{◌≡◌, ◌≢◌, ◌∙◌, ℕ, suc, ◌+◌, ◌<◌, ◌≤◌, true, List, [], ◌∷◌, ◌++◌, length, take, drop, Some, None, refl, sym, ap, subst, arith, append_assoc, append-nil, length-append}
 use Rattle.std.specs.Prelude.{codes}
-use Rattle.std.specs.List.{All, flat_map, join_with_byte}
+use Rattle.std.specs.List.{All, flat_map}
 use Rattle.std.proofs.lemmas.Grind.{flat_map-append}
-use Rattle.std.proofs.lemmas.List.{take_at, take-append-drop}
+use Rattle.std.proofs.lemmas.List.{take_at}
 use Rattle.std.proofs.lemmas.List.Elements.{All-nil, All-push}
 use Rattle.memchr.specs.Find.{IsFirstByte, is_byte}
 use Rattle.mcv_base.specs.Key.{lacks}
-use Rattle.mcv_base.proofs.Cuts.{first_at_cut, none_at_cut}
+use Rattle.mcv_base.proofs.Cuts.{first_at_cut, first_cuts, none_at_cut}
 use Rattle.mcv_cert.specs.Pair.{AreRising, IsPair, PairValue, is_behind}
 use Rattle.mcv_cert.specs.Reading.{IsNoLine, Reading, Reads, Stops, at_end, broken, pairs}
-use Rattle.mcv_cert.specs.Text.{last_line, pair_line, pair_words}
-use Rattle.mcv_cert.proofs.Clean.{clean_words, joined_lacks}
+use Rattle.mcv_cert.specs.Text.{last_line, pair_line, pair_text}
+use Rattle.mcv_cert.proofs.Clean.{text_lacks}
 use Rattle.mcv_cert.proofs.Rising.{rising_push}
 use Rattle.mcv_cert.proofs.Spelled.{line_cut}
 
 -- the first line of a text
-cut_is : (text line more : List ℕ) (end : ℕ) → lacks 10 line ≡ true → text ≡ line ++ 10 ∷ more → IsFirstByte (is_byte 10) text (Some end)
-    → (take end text ≡ line) × (take (end + 1) text ≡ line ++ codes "\n")
-cut_is text line more end bare is first =
+first_line_is : (text line more : List ℕ) (end : ℕ) → lacks 10 line ≡ true → text ≡ line ++ 10 ∷ more → IsFirstByte (is_byte 10) text (Some end) → take end text ≡ line
+first_line_is text line more end bare is first =
     let at : end ≡ length line = first_at_cut 10 text line more end is bare first in
-    let whole : text ≡ (line ++ codes "\n") ++ more = is ∙ sym (append_assoc line (10 ∷ []) more) in (
-      ap (take end) is ∙ take_at line (10 ∷ more) end (sym at),
-      ap (take (end + 1)) whole ∙ take_at (line ++ codes "\n") more (end + 1) (omega (arith, length-append line (10 ∷ []))),
-    )
-
-pub line_is : (p : PairValue) → pair_line p ≡ join_with_byte 32 (pair_words p) ++ codes "\n"
-unfolding pair_line
-line_is p = refl
+    ap (take end) is ∙ take_at line (10 ∷ more) end (sym at)
 
 -- no line without an end
 pub no_end : (text : List ℕ) → IsFirstByte (is_byte 10) text None → IsNoLine text
 no_end text none = record {
-  pair = λ p more is e. none_at_cut 10 text (join_with_byte 32 (pair_words p)) more (e ∙ line_cut p more) none;
+  pair = λ p more is e. none_at_cut 10 text (pair_text p) more (e ∙ line_cut p more) none;
   last = λ more e. none_at_cut 10 text (codes "end") more e none;
 }
 
-pub no_line : (text : List ℕ) (end : ℕ) → IsFirstByte (is_byte 10) text (Some end) → take end text ≢ codes "end" → ((p : PairValue) → IsPair p → take (end + 1) text ≢ pair_line p) → IsNoLine text
+pub no_line : (text : List ℕ) (end : ℕ) → IsFirstByte (is_byte 10) text (Some end) → take end text ≢ codes "end" → ((p : PairValue) → IsPair p → take end text ≢ pair_text p) → IsNoLine text
 no_line text end first other none = record {
-  pair = λ p more is e. none p is ((cut_is text (join_with_byte 32 (pair_words p)) more end (joined_lacks (pair_words p) (clean_words p is)) (e ∙ line_cut p more) first).1 ∙ sym (line_is p));
-  last = λ more e. other (cut_is text (codes "end") more end refl e first).0;
+  pair = λ p more is e. none p is (first_line_is text (pair_text p) more end (text_lacks p is) (e ∙ line_cut p more) first);
+  last = λ more e. other (first_line_is text (codes "end") more end refl e first);
 }
 
--- a text with an end of a line is that line and the rest
-pub line_at : (text line : List ℕ) (end : ℕ) → take (end + 1) text ≡ line → text ≡ line ++ drop (end + 1) text
-line_at text line end is = sym (take-append-drop (end + 1) text) ∙ ap (λ xs. xs ++ drop (end + 1) text) is
+-- a text is its first line, the end of it, and the rest
+pub line_at : (text line : List ℕ) (end : ℕ) → IsFirstByte (is_byte 10) text (Some end) → take end text ≡ line → text ≡ (line ++ codes "\n") ++ drop (end + 1) text
+line_at text line end first is =
+    let cut = first_cuts 10 text end first.0.high first.1 (λ j below. first.0.before j (omega arith) below) in
+    let next : suc end ≡ end + 1 = omega arith in
+    cut.1 ∙ ap (λ xs. xs ++ 10 ∷ drop (suc end) text) is ∙ ap (λ n. line ++ 10 ∷ drop n text) next ∙ sym (append_assoc line (10 ∷ []) (drop (end + 1) text))
 
 -- ---- from line to line
 

@@ -12,7 +12,7 @@ use Rattle.std.proofs.lemmas.List.{get_or-map, length-map}
 use Rattle.std.proofs.lemmas.List.Elements.{All-push}
 use Rattle.std.proofs.lemmas.List.Folds.{list_all_at}
 use Rattle.std.proofs.lemmas.List.Quantifiers.{all_pairs_push}
-use Rattle.mcv_cert.specs.Pair.{AreRising, IsCertificate, PairValue, names_legs, index_of, is_behind, pair_cmp, place_cmp, place_of}
+use Rattle.mcv_cert.specs.Pair.{AreRising, IsCertificate, NamesLegs, PairValue, names_legs, index_of, is_behind, pair_cmp, place_cmp, place_of}
 
 pub pairs_total : IsTotalOrder pair_cmp
 pairs_total =
@@ -79,5 +79,5 @@ none_before f (x ∷ xs) p none = absurd (let h : ⊥ = omega arith in h)
 pub certificate_push : (ps : List PairValue) (p : PairValue) → IsCertificate ps → names_legs p.reason ≡ true → is_behind ps p ≡ true → IsCertificate (ps ++ p ∷ [])
 certificate_push ps p is legs behind = record {
   rising = rising_push ps p is.rising behind;
-  legs = All-push (λ p. names_legs p.reason ≡ true) ps p is.legs legs;
+  legs = All-push NamesLegs ps p is.legs legs;
 }

@@ -1,7 +1,7 @@
 -- A line of a pair is the line of one pair.
 use Rattle.std.proofs.Common.{◌≡◌, ◌≢◌, ◌∙◌, ℕ, suc, zero, ◌<◌, ◌≤◌, ◌^◌, Bool, true, false, ◌==◌, List, [], ◌∷◌, ◌++◌, length, get_or, drop, refl, sym, ap, ap₂, subst, arith, map, append_assoc}
 use Rattle.std.specs.Prelude.{codes, decimal}
-use Rattle.std.specs.List.{All, join_with_byte, slice_split}
+use Rattle.std.specs.List.{All, slice_split}
 use Rattle.std.proofs.lemmas.List.Elements.{All-head, All-tail}
 use Rattle.std.proofs.lemmas.Fmt.{decimal_injective, decimal_is_IsNumeral}
 use Rattle.std.proofs.lemmas.Str.Parse.{digit_at}
@@ -9,8 +9,8 @@ use Rattle.mcv_base.specs.Position.{position_text}
 use Rattle.mcv_base.proofs.Prefixes.{one_cut}
 use Rattle.mcv_cert.specs.Pair.{FitsPosition, FitsReason, IsPair, PairValue, ReasonValue, never, twin, same, all}
 use Rattle.mcv_cert.specs.Escape.{escaped}
-use Rattle.mcv_cert.specs.Text.{last_line, pair_line, pair_words, reason_words}
-use Rattle.mcv_cert.proofs.Clean.{clean_words, joined_lacks}
+use Rattle.mcv_cert.specs.Text.{last_line, pair_line, pair_text, pair_words, reason_words}
+use Rattle.mcv_cert.proofs.Clean.{clean_words, text_lacks}
 use Rattle.mcv_cert.proofs.Escapes.{escaped_one}
 use Rattle.mcv_cert.proofs.Joined.{first_byte, first_is, first_of, others_are, position_split, split_joined}
 
@@ -106,26 +106,28 @@ words_one p q f g e =
     behind_sign xs ys is = ap (drop 1) is
 
 -- what stands before the end of a line, and the end
-pub line_cut : (p : PairValue) (more : List ℕ) → pair_line p ++ more ≡ join_with_byte 32 (pair_words p) ++ 10 ∷ more
-unfolding pair_line
-line_cut p more = append_assoc (join_with_byte 32 (pair_words p)) (10 ∷ []) more
+pub line_cut : (p : PairValue) (more : List ℕ) → pair_line p ++ more ≡ pair_text p ++ 10 ∷ more
+line_cut p more = append_assoc (pair_text p) (10 ∷ []) more
 
-pub line_words : (p : PairValue) → IsPair p → slice_split (λ b. b == 32) (join_with_byte 32 (pair_words p)) ≡ pair_words p
-line_words p is = split_joined (decimal p.route) _ (clean_words p is)
+pub text_words : (p : PairValue) → IsPair p → slice_split (λ b. b == 32) (pair_text p) ≡ pair_words p
+unfolding pair_text
+text_words p is = split_joined (decimal p.route) _ (clean_words p is)
 
--- no two pairs have one line, nor does the line of one begin that of another
+-- no two pairs have one text
+pub text_one : (p q : PairValue) → IsPair p → IsPair q → pair_text p ≡ pair_text q → p ≡ q
+text_one p q f g e = words_one p q f g (sym (text_words p f) ∙ ap (slice_split (λ b. b == 32)) e ∙ text_words q g)
+
+-- nor one line, nor does the line of one begin that of another
 pub line_one : (p q : PairValue) (xs ys : List ℕ) → IsPair p → IsPair q → pair_line p ++ xs ≡ pair_line q ++ ys → (p ≡ q) × (xs ≡ ys)
 line_one p q xs ys f g e =
-    let cut = one_cut 10 (join_with_byte 32 (pair_words p)) xs (join_with_byte 32 (pair_words q)) ys
-    (joined_lacks (pair_words p) (clean_words p f)) (joined_lacks (pair_words q) (clean_words q g))
-    (sym (line_cut p xs) ∙ e ∙ line_cut q ys) in
-    (words_one p q f g (sym (line_words p f) ∙ ap (slice_split (λ b. b == 32)) cut.0 ∙ line_words q g), cut.1)
+    let cut = one_cut 10 (pair_text p) xs (pair_text q) ys (text_lacks p f) (text_lacks q g) (sym (line_cut p xs) ∙ e ∙ line_cut q ys) in
+    (text_one p q f g cut.0, cut.1)
 
 -- the last line is no pair's
 pub not_last : (p : PairValue) (xs ys : List ℕ) → IsPair p → last_line ++ xs ≢ pair_line p ++ ys
 not_last p xs ys f e =
-    let cut = one_cut 10 (codes "end") xs (join_with_byte 32 (pair_words p)) ys refl (joined_lacks (pair_words p) (clean_words p f)) (e ∙ line_cut p ys) in
-    digit_not_e p.route f.route (first_is (codes "end") (decimal p.route) [] _ (ap (slice_split (λ b. b == 32)) cut.0 ∙ line_words p f))
+    let cut = one_cut 10 (codes "end") xs (pair_text p) ys refl (text_lacks p f) (e ∙ line_cut p ys) in
+    digit_not_e p.route f.route (first_is (codes "end") (decimal p.route) [] _ (ap (slice_split (λ b. b == 32)) cut.0 ∙ text_words p f))
   where
     digit_not_e : (n : ℕ) → n < 2 ^ 64 → codes "end" ≢ decimal n
     digit_not_e n l is =

@@ -67,11 +67,11 @@ pair_cmp p q = ordering_then (place_cmp (place_of p) (place_of q)) (nat_cmp (ind
 
 -- each pair stands before all later ones
 abbrev pub AreRising : List PairValue → Type 0
-AreRising ps = AllPairs (λ p q. pair_cmp p q ≡ Less) ps
+AreRising ps = AllPairs (λ (p q : PairValue). pair_cmp p q ≡ Less) ps
 
 -- the pair stands behind all of them
 abbrev pub is_behind : List PairValue → PairValue → Bool
-is_behind ps p = list_all (λ q. is_lt (pair_cmp q p)) ps
+is_behind ps p = list_all (λ (q : PairValue). is_lt (pair_cmp q p)) ps
 
 -- ---- which pairs there are
 
@@ -83,10 +83,13 @@ names_legs (same index leg) = true
 names_legs (all index []) = false
 names_legs (all index (leg ∷ legs)) = true
 
+abbrev pub NamesLegs : PairValue → Type 0
+NamesLegs p = names_legs p.reason ≡ true
+
 -- what every certificate is
 pub record IsCertificate (ps : List PairValue) : Type 0 where
   pub rising : AreRising ps
-  pub legs : All (λ p. names_legs p.reason ≡ true) ps
+  pub legs : All NamesLegs ps
 
 -- a position's numbers have 64 bits
 abbrev pub FitsPosition : List ℕ → Type 0
@@ -105,4 +108,4 @@ pub record IsPair (p : PairValue) : Type 0 where
   pub era : p.era < 2 ^ 64
   pub leaf : FitsPosition p.leaf
   pub reason : FitsReason p.reason
-  pub legs : names_legs p.reason ≡ true
+  pub legs : NamesLegs p

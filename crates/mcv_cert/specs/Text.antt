@@ -15,9 +15,12 @@ reason_words (all index legs) = codes "all" ∷ decimal index ∷ map position_t
 abbrev pub pair_words : PairValue → List (List ℕ)
 pair_words p = decimal p.route ∷ (codes "=" ++ escaped p.class) ∷ decimal p.era ∷ position_text p.leaf ∷ reason_words p.reason
 
--- the words with single spaces between them, and the end of the line
-unfoldable pub pair_line : PairValue → List ℕ
-pair_line p = join_with_byte 32 (pair_words p) ++ codes "\n"
+-- the words with single spaces between them
+unfoldable pub pair_text : PairValue → List ℕ
+pair_text p = join_with_byte 32 (pair_words p)
+
+abbrev pub pair_line : PairValue → List ℕ
+pair_line p = pair_text p ++ codes "\n"
 
 abbrev pub first_line : List ℕ
 first_line = codes "mcv-cert 1\n"

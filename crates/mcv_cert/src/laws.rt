@@ -1,7 +1,7 @@
 //! Laws of what texts say.
 
-ghost use Rattle.std.specs.Prelude.{◌≡◌, ◌≤◌, true, ℕ, List, All, length, map};
-ghost use Rattle.mcv_cert.specs.Pair.{FitsPosition, IsPair, names_legs, pair_of};
+ghost use Rattle.std.specs.Prelude.{◌≡◌, ◌≤◌, ℕ, List, All, length, map};
+ghost use Rattle.mcv_cert.specs.Pair.{FitsPosition, IsPair, NamesLegs, pair_of};
 ghost use Rattle.mcv_cert.specs.Reading.{Reading, Says, pairs, text_limit};
 ghost use Rattle.mcv_cert.specs.Text.{certificate_text};
 
@@ -25,7 +25,7 @@ pub fn text_is_read(certificate: &Certificate)
 // What follows computes nothing: it brings out what the types of numbers say.
 
 fn pairs_fit(pairs: &[Pair])
-    requires { All (λ p. names_legs p.reason ≡ true) (map pair_of pairs.now) }
+    requires { All NamesLegs (map pair_of pairs.now) }
     ensures { All IsPair (map pair_of pairs.now) }
 {
     for pair in pairs {
@@ -34,7 +34,7 @@ fn pairs_fit(pairs: &[Pair])
 }
 
 fn pair_fits(pair: &Pair)
-    ensures { names_legs (pair_of pair.now).reason ≡ true → IsPair (pair_of pair.now) }
+    ensures { NamesLegs (pair_of pair.now) → IsPair (pair_of pair.now) }
 {
     let _leaf = pair.leaf.steps();
     match &pair.reason {

@@ -2,11 +2,11 @@
 //! give any or none; `read` prints what was read again and compares.
 
 ghost use Rattle.std.specs.Prelude.{◌≡◌, ◌==◌, ◌∷◌, ◌<◌, ◌^◌, ◌++◌, ℕ, List, All, Some, codes, decimal, map, true, IfOk, IfSome, IsSomeAnd};
-ghost use Rattle.std.specs.List.{join_with_byte, slice_split};
+ghost use Rattle.std.specs.List.{slice_split};
 ghost use Rattle.std.specs.Option.{option_map};
 ghost use Rattle.mcv_base.specs.Position.{position_text};
 ghost use Rattle.mcv_cert.specs.Pair.{FitsPosition, FitsReason, IsPair, PairValue, ReasonValue, names_legs, pair_of, reason_of};
-ghost use Rattle.mcv_cert.specs.Text.{pair_words, reason_words};
+ghost use Rattle.mcv_cert.specs.Text.{pair_text, pair_words, reason_words};
 
 use crate::escape::unescaped;
 use crate::pair::{Pair, Reason};
@@ -174,7 +174,7 @@ fn pair_of_words(
 
 /// The pair whose line it is, without its end; `steps` is a buffer. Another line may give any.
 pub fn parse(alloc: Global, line: &[u8], steps: &mut Vec<usize>) -> Result<Option<Pair>, AllocError>
-    ensures meant { (p : PairValue) → IsPair p → line.now ≡ join_with_byte 32 (pair_words p) → IfOk result (λ o. IsSomeAnd o (λ x. pair_of x ≡ p)) }
+    ensures meant { (p : PairValue) → IsPair p → line.now ≡ pair_text p → IfOk result (λ o. IsSomeAnd o (λ x. pair_of x ≡ p)) }
     ensures fits { IfOk result (λ o. IfSome o (λ x. IsPair (pair_of x))) }
 {
     let words = words_of(alloc, line)?;

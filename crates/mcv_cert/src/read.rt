@@ -5,7 +5,7 @@ ghost use Rattle.mcv_cert.specs.Fault.{IsTold};
 ghost use Rattle.mcv_cert.specs.Fronts.{IsFront};
 ghost use Rattle.mcv_cert.specs.Pair.{IsPair, PairValue, pair_of};
 ghost use Rattle.mcv_cert.specs.Reading.{Reads, Says, at_end, pairs};
-ghost use Rattle.mcv_cert.specs.Text.{pair_line};
+ghost use Rattle.mcv_cert.specs.Text.{pair_text};
 
 use crate::certificate::Certificate;
 use crate::fault::CertFault;
@@ -104,20 +104,17 @@ fn read_front<'a>(
     if line == b"end".as_slice() {
         return Ok(Front::Last(later));
     }
-    let Some(pair) = read_pair(alloc, &text[..end + 1], buffers)? else {
+    let Some(pair) = read_pair(alloc, line, buffers)? else {
         return Ok(Front::Nothing);
     };
     Ok(Front::Line(pair, later))
 }
 
-/// The pair whose line it is, with its end.
+/// The pair whose text it is.
 fn read_pair(alloc: Global, line: &[u8], buffers: &mut Buffers) -> Result<Option<Pair>, AllocError>
-    ensures { IfOk result (λ o. MatchOption o ((p : PairValue) → IsPair p → line.now ≢ pair_line p) (λ x. IsPair (pair_of x) × (line.now ≡ pair_line (pair_of x)))) }
+    ensures { IfOk result (λ o. MatchOption o ((p : PairValue) → IsPair p → line.now ≢ pair_text p) (λ x. IsPair (pair_of x) × (line.now ≡ pair_text (pair_of x)))) }
 {
-    let Some(words) = line.strip_suffix(b"\n") else {
-        return Ok(None);
-    };
-    let Some(pair) = parse(alloc, words, &mut buffers.steps)? else {
+    let Some(pair) = parse(alloc, line, &mut buffers.steps)? else {
         return Ok(None);
     };
     buffers.line.clear();

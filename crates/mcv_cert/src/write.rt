@@ -4,7 +4,7 @@ ghost use Rattle.std.specs.Prelude.{◌≡◌, ◌++◌, decimal, map, OnOk};
 ghost use Rattle.std.specs.List.{flat_map, join_with_byte};
 ghost use Rattle.mcv_base.specs.Position.{position_text};
 ghost use Rattle.mcv_cert.specs.Pair.{pair_of, reason_of};
-ghost use Rattle.mcv_cert.specs.Text.{pair_line, reason_words};
+ghost use Rattle.mcv_cert.specs.Text.{pair_line, pair_text, reason_words};
 
 use crate::escape::push_escaped;
 use crate::pair::{Pair, Reason};
@@ -48,14 +48,15 @@ fn push_reason(text: &mut Vec<u8>, reason: &Reason) -> Result<(), AllocError>
         Reason::All(index, legs) => {
             text.extend_from_slice(b"all ")?;
             push_number(text, *index)?;
-            push_positions(text, legs.as_slice())
+            push_positions(text, legs)?;
+            Ok(())
         }
     }
 }
 
-/// Adds the line of a pair. On an error part of it may be there.
+/// Adds the text of a pair, without the end of its line. On an error part of it may be there.
 pub fn push_pair(text: &mut Vec<u8>, pair: &Pair) -> Result<(), AllocError>
-    ensures { OnOk result (text.new.items ≡ text.old.items ++ pair_line (pair_of pair.now)) }
+    ensures { OnOk result (text.new.items ≡ text.old.items ++ pair_text (pair_of pair.now)) }
 {
     push_number(text, pair.route)?;
     text.extend_from_slice(b" =")?;
@@ -66,7 +67,7 @@ pub fn push_pair(text: &mut Vec<u8>, pair: &Pair) -> Result<(), AllocError>
     pair.leaf.push_text(text)?;
     text.extend_from_slice(b" ")?;
     push_reason(text, &pair.reason)?;
-    text.extend_from_slice(b"\n")
+    Ok(())
 }
 
 /// Adds the lines of pairs. On an error some may be there.
@@ -75,6 +76,7 @@ pub fn push_pairs(text: &mut Vec<u8>, pairs: &[Pair]) -> Result<(), AllocError>
 {
     for pair in pairs {
         push_pair(text, pair)?;
+        text.extend_from_slice(b"\n")?;
     }
     Ok(())
 }

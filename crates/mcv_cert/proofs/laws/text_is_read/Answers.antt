@@ -1,8 +1,7 @@
-use Rattle.std.proofs.Common.{map, subst, sym}
+use Rattle.std.proofs.Common.{subst, sym}
 use Rattle.std.specs.List.{All}
-use Rattle.mcv_cert.specs.Pair.{IsPair, PairValue, pair_of}
+use Rattle.mcv_cert.specs.Pair.{IsPair, NamesLegs}
 use Rattle.mcv_cert.specs.Reading.{pairs}
-use Rattle.mcv_cert.proofs.Fitting.{NamesLegs}
 use Rattle.mcv_cert.proofs.Unique.{says_one, says_text}
 use Rattle.mcv_cert.proofs.laws.text_is_read.Goals as goal
 
