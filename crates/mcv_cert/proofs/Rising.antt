@@ -47,7 +47,7 @@ pub rising_push : (ps : List PairValue) (p : PairValue) → AreRising ps → is_
 rising_push ps p up behind = all_pairs_push (λ (q r : PairValue). pair_cmp q r ≡ Less) ps p up (λ k d l. less_is (pair_cmp (get_or ps k d) p) (each k d l))
   where
     each : (k : ℕ) (d : PairValue) → k < length ps → is_lt (pair_cmp (get_or ps k d) p) ≡ true
-    each k d l = true_from_ne_false (is_lt (pair_cmp (get_or ps k d) p)) (λ no. true≢false (sym behind ∙ list_all_at (λ q. is_lt (pair_cmp q p)) ps k d l no))
+    each k d l = true_from_ne_false (is_lt (pair_cmp (get_or ps k d) p)) (λ low. true≢false (sym behind ∙ list_all_at (λ q. is_lt (pair_cmp q p)) ps k d l low))
 
 -- a pair that stands behind the last one stands behind all, since they rise
 last_decides : (ps : List PairValue) (n : ℕ) (q p : PairValue) → length ps ≡ suc n → q ≡ get_or ps n q → AreRising ps → is_lt (pair_cmp q p) ≡ is_behind ps p
@@ -58,11 +58,11 @@ last_decides (r ∷ s ∷ ps) zero q p some is up = absurd (let h : ⊥ = omega 
 last_decides (r ∷ s ∷ ps) (suc n) q p some is up =
     let more = last_decides (s ∷ ps) n q p (omega arith) is (later_rising r (s ∷ ps) up) in
     elim (cases_Bool (is_lt (pair_cmp q p))) [
-      | inl yes ↦
+      | inl above ↦
           let before : pair_cmp r q ≡ Less = ap (pair_cmp r) is ∙ up 0 (suc n) q (omega arith) (omega arith) in
-          let first = pairs_total.trans r q p before (less_is (pair_cmp q p) yes) in
-          yes ∙ sym (and_from (is_lt (pair_cmp r p)) (is_behind (s ∷ ps) p) (ap is_lt first) (sym more ∙ yes))
-      | inr no ↦ no ∙ sym (and_right (is_lt (pair_cmp r p)) (is_behind (s ∷ ps) p) (sym more ∙ no))
+          let first = pairs_total.trans r q p before (less_is (pair_cmp q p) above) in
+          above ∙ sym (and_from (is_lt (pair_cmp r p)) (is_behind (s ∷ ps) p) (ap is_lt first) (sym more ∙ above))
+      | inr below ↦ below ∙ sym (and_right (is_lt (pair_cmp r p)) (is_behind (s ∷ ps) p) (sym more ∙ below))
     ]
 
 pub last_of : {X : Type 0} (f : X → PairValue) (xs : List X) (x : X) (p : PairValue) → 0 < length xs → x ≡ get_or xs (length xs - 1) x → AreRising (map f xs) → is_lt (pair_cmp (f x) p) ≡ is_behind (map f xs) p

@@ -16,21 +16,21 @@ stops_one ps rest r s (ended more is) (ended other is2) = ap (at_end ps) (same_e
     same_end : (xs ys : List ℕ) → last_line ++ xs ≡ last_line ++ ys → xs ≡ ys
     same_end xs ys e = ap (drop 4) e
 stops_one ps rest r s (ended more is) (breaks none) = absurd (none.last more is)
-stops_one ps rest r s (ended more is) (falls p other f is2 no) = absurd (not_last p more other f (sym is ∙ is2))
+stops_one ps rest r s (ended more is) (falls p other f is2 low) = absurd (not_last p more other f (sym is ∙ is2))
 stops_one ps rest r s (breaks none) (ended more is) = absurd (none.last more is)
 stops_one ps rest r s (breaks none) (breaks none2) = refl
-stops_one ps rest r s (breaks none) (falls p other f is no) = absurd (none.pair p other f is)
-stops_one ps rest r s (falls p other f is no) (ended more is2) = absurd (not_last p more other f (sym is2 ∙ is))
-stops_one ps rest r s (falls p other f is no) (breaks none) = absurd (none.pair p other f is)
-stops_one ps rest r s (falls p other f is no) (falls q other2 g is2 no2) = refl
+stops_one ps rest r s (breaks none) (falls p other f is low) = absurd (none.pair p other f is)
+stops_one ps rest r s (falls p other f is low) (ended more is2) = absurd (not_last p more other f (sym is2 ∙ is))
+stops_one ps rest r s (falls p other f is low) (breaks none) = absurd (none.pair p other f is)
+stops_one ps rest r s (falls p other f is low) (falls q other2 g is2 low2) = refl
 
 -- it doesn't stop before the line of a pair that stands behind the others
 goes_on : (ps : List PairValue) (rest more : List ℕ) (r : Reading) (p : PairValue) → Stops ps rest r → IsPair p → rest ≡ pair_line p ++ more → is_behind ps p ≡ true → ⊥
 goes_on ps rest more r p (ended other is) f e behind = not_last p other more f (sym is ∙ e)
 goes_on ps rest more r p (breaks none) f e behind = none.pair p more f e
-goes_on ps rest more r p (falls q other g is no) f e behind =
+goes_on ps rest more r p (falls q other g is low) f e behind =
     let same_pair = (line_one p q more other f g (sym e ∙ is)).0 in
-    true≢false (sym behind ∙ ap (is_behind ps) same_pair ∙ no)
+    true≢false (sym behind ∙ ap (is_behind ps) same_pair ∙ low)
 
 -- two readings that agree so far
 onward : (done ps qs : List PairValue) (rest other : List ℕ) (r s : Reading)

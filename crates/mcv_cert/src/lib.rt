@@ -8,6 +8,7 @@
 mod certificate;
 mod escape;
 mod fault;
+mod fits;
 mod laws;
 mod pair;
 mod parse;

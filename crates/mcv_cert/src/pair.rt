@@ -33,7 +33,7 @@ impl Reason {
     }
 
     /// Whether a leg is named where one has to be: `All` names one or more.
-    pub fn names_legs(&self) -> bool
+    pub(crate) fn names_legs(&self) -> bool
         ensures { result ≡ names_legs (reason_of self.now) }
     {
         match self {

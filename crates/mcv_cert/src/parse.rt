@@ -9,6 +9,7 @@ ghost use Rattle.mcv_cert.specs.Pair.{FitsPosition, FitsReason, IsPair, PairValu
 ghost use Rattle.mcv_cert.specs.Text.{pair_text, pair_words, reason_words};
 
 use crate::escape::unescaped;
+use crate::fits::pair_fits;
 use crate::pair::{Pair, Reason};
 use mcv_base::Position;
 use std::alloc::{AllocError, Global};
@@ -25,8 +26,10 @@ fn words_of(alloc: Global, line: &[u8]) -> Result<Vec<&[u8]>, AllocError>
 fn read_number(word: &[u8]) -> Option<usize>
     ensures { (n : ℕ) → n < 2 ^ 64 → word.now ≡ decimal n → result ≡ Some n }
 {
-    let text = str::from_utf8(word).ok()?;
-    text.parse().ok()
+    match str::from_utf8(word) {
+        Ok(text) => text.parse().ok(),
+        Err(_) => None,
+    }
 }
 
 /// Reads the numbers between dots into `steps`; whether they are numbers.
@@ -49,8 +52,7 @@ fn read_position(
     word: &[u8],
     steps: &mut Vec<usize>,
 ) -> Result<Option<Position>, AllocError>
-    ensures meant { (p : List ℕ) → FitsPosition p → word.now ≡ position_text p → IfOk result (λ o. IsSomeAnd o (λ x. x ≡ p)) }
-    ensures fits { IfOk result (λ o. IfSome o (λ x. FitsPosition x)) }
+    ensures { (p : List ℕ) → FitsPosition p → word.now ≡ position_text p → IfOk result (λ o. IsSomeAnd o (λ x. x ≡ p)) }
 {
     if word == b"-".as_slice() {
         return Ok(Some(Position::root(alloc)));
@@ -67,8 +69,7 @@ fn read_positions(
     words: &[&[u8]],
     steps: &mut Vec<usize>,
 ) -> Result<Option<Vec<Position>>, AllocError>
-    ensures meant { (ps : List (List ℕ)) → All FitsPosition ps → map (λ w. w.now) words.now ≡ map position_text ps → IfOk result (λ o. IsSomeAnd o (λ v. v.items ≡ ps)) }
-    ensures fits { IfOk result (λ o. IfSome o (λ v. All FitsPosition v.items)) }
+    ensures { (ps : List (List ℕ)) → All FitsPosition ps → map (λ w. w.now) words.now ≡ map position_text ps → IfOk result (λ o. IsSomeAnd o (λ v. v.items ≡ ps)) }
 {
     let mut positions = Vec::new(alloc);
     for word in words {
@@ -87,7 +88,6 @@ fn read_reason(
     steps: &mut Vec<usize>,
 ) -> Result<Option<Reason>, AllocError>
     ensures meant { (r : ReasonValue) → FitsReason r → names_legs r ≡ true → map (λ w. w.now) words.now ≡ reason_words r → IfOk result (λ o. IsSomeAnd o (λ x. reason_of x ≡ r)) }
-    ensures fits { IfOk result (λ o. IfSome o (λ x. FitsReason (reason_of x))) }
     ensures legs { IfOk result (λ o. IfSome o (λ x. names_legs (reason_of x) ≡ true)) }
 {
     match words {
@@ -163,13 +163,15 @@ fn pair_of_words(
     let Some(reason) = read_reason(alloc, reason, steps)? else {
         return Ok(None);
     };
-    Ok(Some(Pair {
+    let pair = Pair {
         route,
         class,
         era,
         leaf,
         reason,
-    }))
+    };
+    pair_fits(&pair);
+    Ok(Some(pair))
 }
 
 /// The pair whose line it is, without its end; `steps` is a buffer. Another line may give any.

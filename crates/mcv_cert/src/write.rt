@@ -1,9 +1,9 @@
 //! The lines of pairs.
 
-ghost use Rattle.std.specs.Prelude.{◌≡◌, ◌++◌, decimal, map, OnOk};
+ghost use Rattle.std.specs.Prelude.{codes, ◌≡◌, ◌++◌, decimal, map, OnOk};
 ghost use Rattle.std.specs.List.{flat_map, join_with_byte};
 ghost use Rattle.mcv_base.specs.Position.{position_text};
-ghost use Rattle.mcv_cert.specs.Pair.{pair_of, reason_of};
+ghost use Rattle.mcv_cert.specs.Pair.{all, pair_of, reason_of};
 ghost use Rattle.mcv_cert.specs.Text.{pair_line, pair_text, reason_words};
 
 use crate::escape::push_escaped;
@@ -30,6 +30,15 @@ fn push_positions(text: &mut Vec<u8>, positions: &[Position]) -> Result<(), Allo
     Ok(())
 }
 
+fn push_all(text: &mut Vec<u8>, index: usize, legs: &[Position]) -> Result<(), AllocError>
+    ensures { OnOk result (text.new.items ≡ text.old.items ++ join_with_byte 32 (reason_words (all index legs.now))) }
+{
+    text.extend_from_slice(b"all ")?;
+    push_number(text, index)?;
+    push_positions(text, legs)?;
+    Ok(())
+}
+
 fn push_reason(text: &mut Vec<u8>, reason: &Reason) -> Result<(), AllocError>
     ensures { OnOk result (text.new.items ≡ text.old.items ++ join_with_byte 32 (reason_words (reason_of reason.now))) }
 {
@@ -45,12 +54,7 @@ fn push_reason(text: &mut Vec<u8>, reason: &Reason) -> Result<(), AllocError>
             text.extend_from_slice(b" ")?;
             leg.push_text(text)
         }
-        Reason::All(index, legs) => {
-            text.extend_from_slice(b"all ")?;
-            push_number(text, *index)?;
-            push_positions(text, legs)?;
-            Ok(())
-        }
+        Reason::All(index, legs) => push_all(text, *index, legs),
     }
 }
 

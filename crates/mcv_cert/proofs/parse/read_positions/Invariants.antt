@@ -5,7 +5,4 @@ use Rattle.mcv_cert.specs.Pair.{FitsPosition}
 use Rattle.mcv_cert.proofs.parse.read_positions.Given as goal
 
 abbrev pub invariant-loop-word : goal.invariant-loop-word
-invariant-loop-word l = record {
-  meant : (ps : List (List ℕ)) → All FitsPosition ps → map (λ w. w.now) l.words ≡ map position_text ps → l.positions.items ≡ take l.word-index ps;
-  fits : All FitsPosition l.positions.items;
-}
+invariant-loop-word l = (ps : List (List ℕ)) → All FitsPosition ps → map (λ w. w.now) l.words ≡ map position_text ps → l.positions.items ≡ take l.word-index ps

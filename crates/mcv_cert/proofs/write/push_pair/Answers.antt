@@ -1,6 +1,8 @@
 use Rattle.mcv_cert.specs.Pair.{pair_of}
-use Rattle.mcv_cert.proofs.Written.{text_written}
+use Rattle.mcv_cert.proofs.Written.{written}
 use Rattle.mcv_cert.proofs.write.push_pair.Goals as goal
 
 pub returns : goal.returns
-returns c = let e = text_written c.args.text.now.items (pair_of c.args.pair.now) in cc
+returns c =
+    written _ _ _ _ _ _ _ _ _ _ (pair_of c.args.pair.now) c.in_ok-push_number.ensures c.in_ok-extend_from_slice.ensures.items c.in_ok-push_escaped.ensures c.in_ok-extend_from_slice-2.ensures.items
+    c.in_ok-push_number-2.ensures c.in_ok-extend_from_slice-3.ensures.items c.in_ok-push_text.ensures c.in_ok-extend_from_slice-4.ensures.items c.in_ok-push_reason.ensures
