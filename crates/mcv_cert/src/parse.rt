@@ -1,11 +1,11 @@
 //! What a pair's line is read as. It is read leniently: the line of a pair gives that pair, and another line may
 //! give any or none; `read` prints what was read again and compares.
 
-ghost use Rattle.std.specs.Prelude.{◌≡◌, ◌==◌, ◌∷◌, ◌<◌, ◌^◌, ◌++◌, ℕ, List, All, Some, codes, decimal, map, true, IfOk, IfSome, IsSomeAnd};
+ghost use Rattle.std.specs.Prelude.{◌≡◌, ◌==◌, [], ◌∷◌, ◌<◌, ◌^◌, ◌++◌, ℕ, List, All, Some, codes, decimal, map, true, IfOk, IfSome, IsSomeAnd};
 ghost use Rattle.std.specs.List.{slice_split};
 ghost use Rattle.std.specs.Option.{option_map};
 ghost use Rattle.mcv_base.specs.Position.{position_text};
-ghost use Rattle.mcv_cert.specs.Pair.{FitsPosition, FitsReason, IsPair, PairValue, ReasonValue, names_legs, pair_of, reason_of};
+ghost use Rattle.mcv_cert.specs.Pair.{FitsPosition, FitsReason, IsPair, PairValue, ReasonValue, all, names_legs, never, pair_of, reason_of, same, twin};
 ghost use Rattle.mcv_cert.specs.Text.{pair_text, pair_words, reason_words};
 
 use crate::escape::unescaped;
@@ -90,36 +90,97 @@ fn read_reason(
     ensures meant { (r : ReasonValue) → FitsReason r → names_legs r ≡ true → map (λ w. w.now) words.now ≡ reason_words r → IfOk result (λ o. IsSomeAnd o (λ x. reason_of x ≡ r)) }
     ensures legs { IfOk result (λ o. IfSome o (λ x. names_legs (reason_of x) ≡ true)) }
 {
-    match words {
-        [b"never"] => Ok(Some(Reason::Never)),
-        [b"twin", leg] => {
-            let Some(leg) = read_position(alloc, leg, steps)? else {
-                return Ok(None);
-            };
-            Ok(Some(Reason::Twin(leg)))
-        }
-        [b"same", index, leg] => {
-            let Some(index) = read_number(index) else {
-                return Ok(None);
-            };
-            let Some(leg) = read_position(alloc, leg, steps)? else {
-                return Ok(None);
-            };
-            Ok(Some(Reason::Same(index, leg)))
-        }
-        [b"all", index, legs @ ..] => {
-            let Some(index) = read_number(index) else {
-                return Ok(None);
-            };
-            let Some(legs) = read_positions(alloc, legs, steps)? else {
-                return Ok(None);
-            };
-            if legs.is_empty() {
-                return Ok(None);
-            }
-            Ok(Some(Reason::All(index, legs)))
-        }
-        _ => Ok(None),
+    reason_of_words(alloc, words, steps)
+}
+
+fn reason_of_words(
+    alloc: Global,
+    words: &[&[u8]],
+    steps: &mut Vec<usize>,
+) -> Result<Option<Reason>, AllocError>
+    ensures never { map (λ w. w.now) words.now ≡ codes "never" ∷ [] → IfOk result (λ o. IsSomeAnd o (λ x. reason_of x ≡ never)) }
+    ensures twin { (p : List ℕ) → FitsPosition p → map (λ w. w.now) words.now ≡ codes "twin" ∷ position_text p ∷ [] → IfOk result (λ o. IsSomeAnd o (λ x. reason_of x ≡ twin p)) }
+    ensures same { (i : ℕ) (p : List ℕ) → i < 2 ^ 64 → FitsPosition p → map (λ w. w.now) words.now ≡ codes "same" ∷ decimal i ∷ position_text p ∷ [] → IfOk result (λ o. IsSomeAnd o (λ x. reason_of x ≡ same i p)) }
+    ensures all { (i : ℕ) (ps : List (List ℕ)) → i < 2 ^ 64 → All FitsPosition ps → names_legs (all i ps) ≡ true → map (λ w. w.now) words.now ≡ codes "all" ∷ decimal i ∷ map position_text ps → IfOk result (λ o. IsSomeAnd o (λ x. reason_of x ≡ all i ps)) }
+    ensures legs { IfOk result (λ o. IfSome o (λ x. names_legs (reason_of x) ≡ true)) }
+{
+    let Some((kind, arguments)) = words.split_first() else {
+        return Ok(None);
+    };
+    if *kind == b"twin".as_slice() {
+        return read_twin(alloc, arguments, steps);
+    }
+    if *kind == b"same".as_slice() {
+        return read_same(alloc, arguments, steps);
+    }
+    if *kind == b"all".as_slice() {
+        return read_all(alloc, arguments, steps);
+    }
+    if *kind == b"never".as_slice() && arguments.is_empty() {
+        return Ok(Some(Reason::Never));
+    }
+    Ok(None)
+}
+
+fn read_twin(
+    alloc: Global,
+    arguments: &[&[u8]],
+    steps: &mut Vec<usize>,
+) -> Result<Option<Reason>, AllocError>
+    ensures meant { (p : List ℕ) → FitsPosition p → map (λ w. w.now) arguments.now ≡ position_text p ∷ [] → IfOk result (λ o. IsSomeAnd o (λ x. reason_of x ≡ twin p)) }
+    ensures legs { IfOk result (λ o. IfSome o (λ x. names_legs (reason_of x) ≡ true)) }
+{
+    let [leg] = arguments else {
+        return Ok(None);
+    };
+    let Some(leg) = read_position(alloc, leg, steps)? else {
+        return Ok(None);
+    };
+    Ok(Some(Reason::Twin(leg)))
+}
+
+fn read_same(
+    alloc: Global,
+    arguments: &[&[u8]],
+    steps: &mut Vec<usize>,
+) -> Result<Option<Reason>, AllocError>
+    ensures meant { (i : ℕ) (p : List ℕ) → i < 2 ^ 64 → FitsPosition p → map (λ w. w.now) arguments.now ≡ decimal i ∷ position_text p ∷ [] → IfOk result (λ o. IsSomeAnd o (λ x. reason_of x ≡ same i p)) }
+    ensures legs { IfOk result (λ o. IfSome o (λ x. names_legs (reason_of x) ≡ true)) }
+{
+    let [index, leg] = arguments else {
+        return Ok(None);
+    };
+    let Some(index) = read_number(index) else {
+        return Ok(None);
+    };
+    let Some(leg) = read_position(alloc, leg, steps)? else {
+        return Ok(None);
+    };
+    Ok(Some(Reason::Same(index, leg)))
+}
+
+fn read_all(
+    alloc: Global,
+    arguments: &[&[u8]],
+    steps: &mut Vec<usize>,
+) -> Result<Option<Reason>, AllocError>
+    ensures meant { (i : ℕ) (ps : List (List ℕ)) → i < 2 ^ 64 → All FitsPosition ps → names_legs (all i ps) ≡ true → map (λ w. w.now) arguments.now ≡ decimal i ∷ map position_text ps → IfOk result (λ o. IsSomeAnd o (λ x. reason_of x ≡ all i ps)) }
+    ensures legs { IfOk result (λ o. IfSome o (λ x. names_legs (reason_of x) ≡ true)) }
+{
+    let [index, legs @ ..] = arguments else {
+        return Ok(None);
+    };
+    let Some(index) = read_number(index) else {
+        return Ok(None);
+    };
+    let Some(legs) = read_positions(alloc, legs, steps)? else {
+        return Ok(None);
+    };
+    let reason = Reason::All(index, legs);
+    if reason.names_legs() {
+        Ok(Some(reason))
+    } else {
+        Ok(None)
     }
 }
 

@@ -1,5 +1,4 @@
-use Rattle.std.proofs.Common.{sym, take}
-use Rattle.std.specs.Prelude.{codes}
+use Rattle.std.proofs.Common.{◌∙◌, sym, take}
 use Rattle.std.proofs.lemmas.Bool.{true≢false}
 use Rattle.std.proofs.lemmas.Bool.Decides.{Decides-eqb}
 use Rattle.std.proofs.lemmas.Slice.Eq.{slice_eq-Decides}
@@ -13,5 +12,5 @@ pub returns-in_default-2 : goal.returns-in_default-2
 returns-in_default-2 c =
     let none = rw c.in_default-2.is at c.in_ok-pair.ensures in
     no_line c.args.text.now c.in-Some.end c.in-Some.ensures
-    (λ e. true≢false (sym ((slice_eq-Decides Decides-eqb (take c.in-Some.end c.args.text.now) (codes "end") _ c.if-eq.ensures).1 e)))
+    (λ e. true≢false (sym ((slice_eq-Decides Decides-eqb (take c.in-Some.end c.args.text.now) c.as_slice.result.now _ c.if-eq.ensures).1 (e ∙ sym c.as_slice.ensures))))
     (λ p is. none p is)
