@@ -1,7 +1,8 @@
 -- A text is cut at the ends of its lines.
-use Rattle.std.proofs.Common.{◌≡◌, ◌≢◌, ◌∙◌, ℕ, suc, ◌+◌, ◌<◌, ◌≤◌, true, List, [], ◌∷◌, ◌++◌, length, take, drop, Some, None, refl, sym, ap, subst, arith, append_assoc, append-nil, length-append}
+use Rattle.std.proofs.Common.{◌≡◌, ◌≢◌, ◌∙◌, ℕ, suc, ◌+◌, ◌<◌, ◌≤◌, ◌&&◌, Bool, true, false, List, [], ◌∷◌, ◌++◌, length, take, drop, Some, None, refl, sym, ap, subst, arith, append_assoc, append-nil, length-append}
 use Rattle.std.specs.Prelude.{codes}
 use Rattle.std.specs.List.{All, flat_map}
+use Rattle.std.proofs.lemmas.Bool.{and_parts, true≢false}
 use Rattle.std.proofs.lemmas.Grind.{flat_map-append}
 use Rattle.std.proofs.lemmas.List.{take_at}
 use Rattle.std.proofs.lemmas.List.Elements.{All-nil, All-push}
@@ -9,7 +10,10 @@ use Rattle.memchr.specs.Find.{IsFirstByte, is_byte}
 use Rattle.mcv_base.specs.Key.{lacks}
 use Rattle.mcv_base.proofs.Cuts.{first_at_cut, first_cuts, none_at_cut}
 use Rattle.mcv_cert.specs.Pair.{AreRising, IsPair, PairValue, is_behind}
-use Rattle.mcv_cert.specs.Reading.{IsNoLine, Reading, Reads, Stops, at_end, broken, pairs}
+use Rattle.mcv_cert.specs.Reading.{IsNoLine, Reading, Reads, Stops, at_end, broken, pairs, too_long, unordered}
+use Rattle.mcv_cert.specs.Fault.{IsTold}
+use Rattle.mcv_cert.specs.declared.fault.CertFault.{CertFault}
+use Rattle.mcv_cert.specs.declared.fault.CertFault.TheVariants.{Syntax, Order, Limit, Memory}
 use Rattle.mcv_cert.specs.Text.{last_line, pair_line, pair_text}
 use Rattle.mcv_cert.proofs.Clean.{text_lacks}
 use Rattle.mcv_cert.proofs.Rising.{rising_push}
@@ -75,3 +79,25 @@ nothing_behind ps (b ∷ bs) none = absurd (let h : ⊥ = omega arith in h)
 pub more_behind : (ps : List PairValue) (behind : List ℕ) → (length behind ≡ 0 → ⊥) → at_end ps behind ≡ broken (length ps + 3)
 more_behind ps [] some = absurd (some refl)
 more_behind ps (b ∷ bs) some = refl
+
+-- ---- what the reader answers
+
+-- a pair that isn't taken though it names its legs doesn't stand behind the others
+pub low_is : (a b r : Bool) → a ≡ true → r ≡ (a && b) → r ≡ false → b ≡ false
+low_is true b r named is none = sym is ∙ none
+low_is false b r named is none = absurd (true≢false (sym named))
+
+pub high_is : (a b r : Bool) → r ≡ (a && b) → r ≡ true → b ≡ true
+high_is a b r is all = (and_parts a b (sym is ∙ all)).1
+
+pub told_is : (f : CertFault) (x : Reading) (P : Reading → Type 0) → IsTold (λ s. x ≡ s) f → P x → IsTold P f
+told_is (Syntax n) x P e p = subst P e p
+told_is (Order n) x P e p = subst P e p
+told_is Limit x P e p = subst P e p
+told_is Memory x P e p = tt
+
+pub told_more : (f : CertFault) (P Q : Reading → Type 0) → ((r : Reading) → P r → Q r) → IsTold P f → IsTold Q f
+told_more (Syntax n) P Q more p = more (broken n) p
+told_more (Order n) P Q more p = more (unordered n) p
+told_more Limit P Q more p = more too_long p
+told_more Memory P Q more p = tt
