@@ -1,7 +1,7 @@
 -- Words that are joined are those words again.
-use Rattle.std.proofs.Common.{◌≡◌, ◌∙◌, ℕ, suc, zero, ◌<◌, ◌≤◌, ◌^◌, Bool, true, false, ◌==◌, List, [], ◌∷◌, ◌++◌, get_or, refl, sym, ap, arith, map, append_assoc, append-nil}
+use Rattle.std.proofs.Common.{◌≡◌, ◌∙◌, ℕ, ◌<◌, ◌^◌, false, ◌==◌, List, [], ◌∷◌, ◌++◌, get_or, refl, ap, arith, map, append-nil}
 use Rattle.std.specs.Prelude.{codes, decimal}
-use Rattle.std.specs.List.{All, AllByRecursion, flat_map, join_with_byte, slice_split}
+use Rattle.std.specs.List.{All, flat_map, join_with_byte, slice_split}
 use Rattle.std.proofs.lemmas.Bool.{ne_eqb}
 use Rattle.std.proofs.lemmas.List.Splits.{slice_split_none, slice_split_at}
 use Rattle.std.proofs.lemmas.List.Elements.{All-head, All-tail, All-from_get_or}

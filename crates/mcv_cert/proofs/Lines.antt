@@ -1,5 +1,5 @@
 -- A text is cut at the ends of its lines.
-use Rattle.std.proofs.Common.{◌≡◌, ◌≢◌, ◌∙◌, ℕ, suc, ◌+◌, ◌<◌, ◌≤◌, ◌&&◌, Bool, true, false, List, [], ◌∷◌, ◌++◌, length, take, drop, Some, None, refl, sym, ap, subst, arith, append_assoc, append-nil, length-append}
+use Rattle.std.proofs.Common.{◌≡◌, ◌≢◌, ◌∙◌, ℕ, suc, ◌+◌, ◌&&◌, Bool, true, false, List, [], ◌∷◌, ◌++◌, length, take, drop, Some, None, refl, sym, ap, subst, arith, append_assoc, append-nil}
 use Rattle.std.specs.Prelude.{codes}
 use Rattle.std.specs.List.{All, flat_map}
 use Rattle.std.proofs.lemmas.Bool.{and_parts, true≢false}
@@ -14,7 +14,7 @@ use Rattle.mcv_cert.specs.Reading.{IsNoLine, Reading, Reads, Stops, at_end, brok
 use Rattle.mcv_cert.specs.Fault.{IsTold}
 use Rattle.mcv_cert.specs.declared.fault.CertFault.{CertFault}
 use Rattle.mcv_cert.specs.declared.fault.CertFault.TheVariants.{Syntax, Order, Limit, Memory}
-use Rattle.mcv_cert.specs.Text.{last_line, pair_line, pair_text}
+use Rattle.mcv_cert.specs.Text.{pair_line, pair_text}
 use Rattle.mcv_cert.proofs.Clean.{text_lacks}
 use Rattle.mcv_cert.proofs.Rising.{rising_push}
 use Rattle.mcv_cert.proofs.Spelled.{line_cut}

@@ -1,10 +1,10 @@
 -- A text says one thing.
-use Rattle.std.proofs.Common.{◌≡◌, ◌≢◌, ◌∙◌, ℕ, suc, ◌+◌, ◌<◌, ◌≤◌, Bool, true, false, List, [], ◌∷◌, ◌++◌, length, drop, refl, sym, ap, ap₂, subst, arith, append_assoc, append-nil, map}
-use Rattle.std.specs.List.{All, AllPairs, flat_map, list_all}
+use Rattle.std.proofs.Common.{◌≡◌, ◌∙◌, ℕ, ◌<◌, ◌≤◌, true, List, [], ◌∷◌, ◌++◌, length, drop, refl, sym, ap, subst, arith, append_assoc, append-nil}
+use Rattle.std.specs.List.{All, flat_map}
 use Rattle.std.proofs.lemmas.Bool.{true≢false}
-use Rattle.std.proofs.lemmas.List.Elements.{All-head, All-tail, All-append, All-cons, All-nil}
-use Rattle.mcv_cert.specs.Pair.{AreRising, IsPair, PairValue, is_behind, pair_cmp}
-use Rattle.mcv_cert.specs.Reading.{IsNoLine, Reading, Reads, Says, Stops, at_end, broken, ended, breaks, falls, over, headless, pairs, reads, text_limit, too_long, unordered}
+use Rattle.std.proofs.lemmas.List.Elements.{All-head, All-tail}
+use Rattle.mcv_cert.specs.Pair.{AreRising, IsPair, PairValue, is_behind}
+use Rattle.mcv_cert.specs.Reading.{Reading, Reads, Says, Stops, at_end, ended, breaks, falls, over, headless, pairs, reads, text_limit}
 use Rattle.mcv_cert.specs.Text.{certificate_text, first_line, last_line, pair_line}
 use Rattle.mcv_cert.proofs.Spelled.{line_one, not_last}
 use Rattle.mcv_cert.proofs.Rising.{behind_front}

@@ -5,7 +5,7 @@ use Rattle.std.specs.List.{flat_map, join_with_byte}
 use Rattle.mcv_base.specs.Position.{position_text}
 use Rattle.mcv_cert.specs.Escape.{escaped}
 use Rattle.mcv_cert.specs.Pair.{PairValue, ReasonValue, never, twin, same, all}
-use Rattle.mcv_cert.specs.Text.{pair_text, pair_words, reason_words}
+use Rattle.mcv_cert.specs.Text.{pair_text, reason_words}
 
 -- words with a space before each but the first
 pub join_positions : (w : List ℕ) (ps : List (List ℕ)) → join_with_byte 32 (w ∷ map position_text ps) ≡ w ++ flat_map (λ p. codes " " ++ position_text p) ps

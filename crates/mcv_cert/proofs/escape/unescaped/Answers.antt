@@ -1,4 +1,4 @@
-use Rattle.std.proofs.Common.{◌≡◌, ◌<◌, ℕ, Some, arith, length, ap}
+use Rattle.std.proofs.Common.{◌≡◌, ◌<◌, Some, arith, length, ap}
 use Rattle.std.proofs.lemmas.Bool.Decides.{nat_tests}
 use Rattle.mcv_cert.proofs.Escapes.{next, stops, ended}
 use Rattle.mcv_cert.proofs.escape.unescaped.Goals as goal

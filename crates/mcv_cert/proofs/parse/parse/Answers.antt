@@ -1,4 +1,4 @@
-use Rattle.std.proofs.Common.{◌≡◌, ◌∙◌, ap, map}
+use Rattle.std.proofs.Common.{◌∙◌, ap, map}
 use Rattle.std.specs.List.{slice_split}
 use Rattle.mcv_cert.proofs.Spelled.{text_words}
 use Rattle.mcv_cert.proofs.parse.parse.Goals as goal

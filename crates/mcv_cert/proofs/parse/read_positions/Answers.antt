@@ -1,4 +1,4 @@
-use Rattle.std.proofs.Common.{◌≡◌, ◌∙◌, [], get_or, Bor, List, ℕ}
+use Rattle.std.proofs.Common.{◌∙◌, [], get_or}
 use Rattle.mcv_cert.proofs.Meant.{more_taken, word_is}
 use Rattle.mcv_cert.proofs.parse.read_positions.Goals as goal
 

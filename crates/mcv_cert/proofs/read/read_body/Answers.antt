@@ -1,8 +1,8 @@
-use Rattle.std.proofs.Common.{◌≡◌, ◌+◌, sym, subst}
+use Rattle.std.proofs.Common.{◌+◌, sym, subst}
 use Rattle.std.proofs.lemmas.Result.{MatchResult-weaker}
 use Rattle.mcv_cert.specs.Pair.{pair_of}
-use Rattle.mcv_cert.specs.Reading.{Reads, at_end, breaks, broken, ended, falls, pairs, unordered}
-use Rattle.mcv_cert.proofs.Lines.{IsSoFar, high_is, low_is, so_far_more, so_far_none, stopped, told_is}
+use Rattle.mcv_cert.specs.Reading.{Reads, at_end, breaks, broken, ended, falls, unordered}
+use Rattle.mcv_cert.proofs.Lines.{IsSoFar, high_is, low_is, so_far_more, stopped, told_is}
 use Rattle.mcv_cert.proofs.read.read_body.Goals as goal
 
 pub returns-then-not-takes-clause-faulty : goal.returns-then-not-takes-clause-faulty
