@@ -1,0 +1,7 @@
+pub mod Open
+pub mod First
+pub mod Order
+pub mod Bridge
+pub mod Lookup
+pub mod Steps
+mod Examples

@@ -1,0 +1,6 @@
+pub mod Pair
+pub mod Reason
+pub mod Faults
+pub mod InMemory
+pub mod Numbers
+pub mod Walk
