@@ -102,3 +102,9 @@ carried pairs rest blocks later f same h = (h.0, h.1, same h.0 h.1 ∙ h.2, λ t
 pub carried_result : (pairs rest : List PairValue) (blocks later : List BlockValue) → HaveSameFaults pairs blocks rest later → (x : Result (Unit {0}) PairFault) → MatchResult x (λ _. IsFaultless rest later) (λ f. IsFirstFault rest later f) → MatchResult x (λ _. IsFaultless pairs blocks) (λ f. IsFirstFault pairs blocks f)
 carried_result pairs rest blocks later same (Ok u) h = λ s i. same s i ∙ h s i
 carried_result pairs rest blocks later same (Err f) h = carried pairs rest blocks later f same h
+
+pub next_same : (all pairs rest : List PairValue) (blocks left later : List BlockValue) (b : BlockValue) → HaveSameFaults all blocks pairs left → left ≡ b ∷ later → HaveSameFaults pairs (b ∷ later) rest later → HaveSameFaults all blocks rest later
+next_same all pairs rest blocks left later b before is now = λ s i. before s i ∙ ap (λ bs. fault_at pairs bs s i) is ∙ now s i
+
+pub next_first : (all pairs : List PairValue) (blocks left later : List BlockValue) (b : BlockValue) (f : PairFault) → HaveSameFaults all blocks pairs left → left ≡ b ∷ later → IsFirstFault pairs (b ∷ later) f → IsFirstFault all blocks f
+next_first all pairs blocks left later b f before is now = carried all pairs blocks left f before (subst (λ bs. IsFirstFault pairs bs f) (sym is) now)

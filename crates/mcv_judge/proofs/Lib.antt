@@ -4,4 +4,5 @@ pub mod Order
 pub mod Bridge
 pub mod Lookup
 pub mod Steps
+pub mod Servers
 mod Examples

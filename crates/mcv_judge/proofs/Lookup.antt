@@ -12,7 +12,7 @@ use Rattle.std.proofs.lemmas.List.Recursion.{found_at, found_nowhere}
 use Rattle.std.proofs.Math.ListN.{get_or-map}
 use Rattle.mcv_judge.specs.declared.block.Leg.{Leg}
 use Rattle.mcv_judge.specs.Pair.{list_cmp}
-use Rattle.mcv_judge.specs.Reason.{LegValue, is_same_list, leg_at}
+use Rattle.mcv_judge.specs.Reason.{is_same_list, leg_at}
 use Rattle.mcv_judge.specs.Faults.{AreLegsRising}
 use Rattle.mcv_judge.specs.InMemory.{leg_of, legs_of}
 

@@ -1,6 +1,6 @@
 -- The order of places, and lists that rise, taken apart from the front.
-use Rattle.std.proofs.Common.{◌≡◌, ℕ, zero, suc, ◌+◌, ◌<◌, List, [], ◌∷◌, ◌++◌, length, map, get_or, drop, refl, sym, ap, ◌∙◌, subst, arith}
-use Rattle.std.specs.Prelude.{All, AllPairs, flat_map, ⊤}
+use Rattle.std.proofs.Common.{◌≡◌, ℕ, zero, suc, ◌+◌, ◌<◌, List, [], ◌∷◌, ◌++◌, length, map, drop, refl, sym, ap, ◌∙◌, subst, arith}
+use Rattle.std.specs.Prelude.{All, AllPairs, flat_map}
 use Rattle.std.specs.Cmp.{IsTotalOrder}
 use Rattle.std.specs.declared.cmp.Ordering.{Ordering}
 use Rattle.std.specs.declared.cmp.Ordering.TheVariants.{Less, Equal, Greater}
@@ -11,7 +11,7 @@ use Rattle.std.proofs.lemmas.List.Kept.{AllPairs-cons}
 use Rattle.std.proofs.lemmas.List.{map-append}
 use Rattle.mcv_judge.specs.Pair.{Place, PairValue, AreRising, index_of, place_of, list_cmp, place_cmp, index_cmp}
 use Rattle.mcv_judge.specs.Reason.{LegValue, BlockValue}
-use Rattle.mcv_judge.specs.Faults.{Owed, AreInOrder, AreLegsRising, IsInOrder, block_cmp, owed_by}
+use Rattle.mcv_judge.specs.Faults.{Owed, AreInOrder, AreLegsRising, IsInOrder, block_cmp, owe, owed_by}
 use Rattle.mcv_judge.specs.Walk.{Entry, entries}
 use Rattle.mcv_judge.proofs.Open.{IsBelowPairs, ArePairsAscending, IsBelowEntries, AreEntriesRising}
 
@@ -75,7 +75,7 @@ unfolding place_cmp
 in_two_blocks b c p q h = then_more (nat_cmp b.route c.route) (list_cmp b.class c.class) (nat_cmp b.era c.era) (list_cmp p q) h
 
 abbrev owing : BlockValue → List LegValue → List Owed
-owing b ls = map (λ l. record { block = b; leaf = l }) ls
+owing b ls = map (owe b) ls
 
 below_leaves : (s : Place) (b : BlockValue) (ls : List LegValue) → ((l : LegValue) → place_cmp s (place_in b l.position) ≡ Less) → (es : List Entry) → IsBelowEntries s es → IsBelowEntries s (entries (owing b ls) ++ es)
 below_leaves s b [] h es more = more

@@ -5,7 +5,7 @@ use Rattle.std.specs.declared.cmp.Ordering.{Ordering}
 use Rattle.std.specs.declared.cmp.Ordering.TheVariants.{Less, Equal, Greater}
 use Rattle.mcv_judge.specs.Pair.{PairValue, index_of, place_of, index_cmp}
 use Rattle.mcv_judge.specs.Reason.{BlockValue, LegValue, fault_of, is_whole}
-use Rattle.mcv_judge.specs.Faults.{place_owed}
+use Rattle.mcv_judge.specs.Faults.{owe, place_owed}
 use Rattle.mcv_judge.specs.Walk.{Entry, after, entries, entries_from, entry_from, or_else, walk}
 use Rattle.mcv_judge.specs.declared.fault.PairFault.{PairFault}
 use Rattle.mcv_judge.specs.declared.fault.PairFault.TheVariants.{Missing, Stray}
@@ -17,8 +17,8 @@ goes_on r pairs e es at fine whole more =
     ap by at ∙ rw (fine, whole, more) refl
 
 pub next_index : (b : BlockValue) (from : ℕ) (leaf : LegValue) (later : List LegValue) (r : PairValue) (pairs : List PairValue) →
-    index_cmp (place_of r) (index_of r.reason) (place_owed (record { block = b; leaf = leaf })) from ≡ Equal →
+    index_cmp (place_of r) (index_of r.reason) (place_owed (owe b leaf)) from ≡ Equal →
     fault_of b leaf r.reason ≡ None → is_whole r.reason ≡ false → from + 1 < length leaf.servers →
     walk (r ∷ pairs) (entries_from b from (leaf ∷ later)) ≡ walk pairs (entries_from b (from + 1) (leaf ∷ later))
 next_index b from leaf later r pairs at fine whole more =
-    goes_on r pairs (entry_from from (record { block = b; leaf = leaf })) (entries (map (λ m. record { block = b; leaf = m }) later)) at fine whole (lt-ltb (suc from) (length leaf.servers) (omega arith)) ∙ rw add-one refl
+    goes_on r pairs (entry_from from (owe b leaf)) (entries (map (owe b) later)) at fine whole (lt-ltb (suc from) (length leaf.servers) (omega arith)) ∙ rw add-one refl

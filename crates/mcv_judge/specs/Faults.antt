@@ -17,8 +17,11 @@ pub record Owed : Type 0 where
 abbrev pub place_owed : Owed → Place
 place_owed o = record { route = o.block.route; class = o.block.class; era = o.block.era; leaf = o.leaf.position }
 
+abbrev pub owe : BlockValue → LegValue → Owed
+owe b l = record { block = b; leaf = l }
+
 abbrev pub owed_by : BlockValue → List Owed
-owed_by b = map (λ l. record { block = b; leaf = l }) b.readable
+owed_by b = map (owe b) b.readable
 
 abbrev pub owed_at : List Owed → Place → Option Owed
 owed_at os s = find (λ o. is_eq (place_cmp (place_owed o) s)) os

@@ -1,10 +1,10 @@
 -- How the code goes through pairs and readable leaves side by side. Only private contracts cite this.
-use Rattle.std.specs.Prelude.{ℕ, suc, Bool, List, [], ◌∷◌, Option, Some, None, Result, Ok, Err, if◌then◌else◌, length, map, nat_lt}
+use Rattle.std.specs.Prelude.{ℕ, suc, List, [], ◌∷◌, Option, Some, None, Result, Ok, Err, if◌then◌else◌, length, map, nat_lt}
 use Rattle.std.specs.declared.cmp.Ordering.TheVariants.{Less, Equal, Greater}
 use Rattle.std.specs.Borrow.{Bor}
 use Rattle.mcv_judge.specs.Pair.{ReasonValue, Place, PairValue, index_of, place_of, index_cmp}
 use Rattle.mcv_judge.specs.Reason.{LegValue, BlockValue, fault_of, is_whole}
-use Rattle.mcv_judge.specs.Faults.{Owed, place_owed, owed_by}
+use Rattle.mcv_judge.specs.Faults.{Owed, owe, place_owed}
 use Rattle.mcv_judge.specs.InMemory.{pairs_of}
 use Rattle.mcv_judge.specs.declared.fault.PairFault.{PairFault}
 use Rattle.mcv_judge.specs.declared.fault.PairFault.TheVariants.{Missing, Stray}
@@ -26,7 +26,7 @@ entries os = map (entry_from 0) os
 -- the entries of a block's leaves, the first one from an index on
 abbrev pub entries_from : BlockValue → ℕ → List LegValue → List Entry
 entries_from b i [] = []
-entries_from b i (l ∷ ls) = entry_from i (record { block = b; leaf = l }) ∷ entries (map (λ m. record { block = b; leaf = m }) ls)
+entries_from b i (l ∷ ls) = entry_from i (owe b l) ∷ entries (map (owe b) ls)
 
 -- what is left once a reason was given for the first entry's index
 abbrev pub after : ReasonValue → Entry → List Entry → List Entry

@@ -2,7 +2,7 @@
 
 ghost use Rattle.std.specs.Ordering.{nat_cmp, ordering_then};
 ghost use Rattle.std.specs.Prelude.{◌≡◌, ◌∷◌, List, [], map, IfOk, IfErr, MatchResult};
-ghost use Rattle.mcv_judge.specs.Faults.{AreInOrder, HaveSameFaults, IsFaultless, IsFirstFault, IsInOrder, owed_by, place_owed};
+ghost use Rattle.mcv_judge.specs.Faults.{AreInOrder, HaveSameFaults, IsFaultless, IsFirstFault, IsInOrder, owe, owed_by, place_owed};
 ghost use Rattle.mcv_judge.specs.InMemory.{block_of, leg_of, pairs_of};
 ghost use Rattle.mcv_judge.specs.Pair.{AreRising, index_of, index_cmp, pair_of, place_of};
 ghost use Rattle.mcv_judge.specs.Reason.{BlockValue};
@@ -17,7 +17,7 @@ use std::cmp::Ordering;
 /// Where a pair stands against an index of a leaf.
 #[tactic(auto, unfolding(crate::specs::Pair::place_cmp))]
 fn compare(pair: &Pair, block: &Block, leaf: &Leg, index: usize) -> Ordering
-    ensures { let r = pair_of pair.now in result ≡ index_cmp (place_of r) (index_of r.reason) (place_owed (record { block = block_of block.now; leaf = leg_of leaf.now })) index }
+    ensures { let r = pair_of pair.now in result ≡ index_cmp (place_of r) (index_of r.reason) (place_owed (owe (block_of block.now) (leg_of leaf.now))) index }
 {
     pair.route
         .cmp(&block.route)

@@ -1,7 +1,7 @@
 //! Legs among those of a block, which rise by position.
 
 ghost use Rattle.std.specs.Option.{option_map};
-ghost use Rattle.std.specs.Prelude.{◌≡◌, ◌<◌, length, slice_index_or, map, Some, None, MatchResult};
+ghost use Rattle.std.specs.Prelude.{◌≡◌, ◌<◌, length, slice_index_or, map, Some, None, MatchOption, MatchResult};
 ghost use Rattle.mcv_judge.specs.Faults.{AreLegsRising};
 ghost use Rattle.mcv_judge.specs.InMemory.{leg_of, legs_of};
 ghost use Rattle.mcv_judge.specs.Pair.{list_cmp};
@@ -29,7 +29,7 @@ fn search(legs: &[Leg], position: &Position) -> Result<usize, usize>
 /// The leg at a position.
 pub fn find_leg<'a>(legs: &'a [Leg<'a>], position: &Position) -> Option<&'a Leg<'a>>
     requires { AreLegsRising (legs_of legs.now) }
-    ensures { option_map (λ l. leg_of l.now) result ≡ leg_at (legs_of legs.now) position.now }
+    ensures { MatchOption result (leg_at (legs_of legs.now) position.now ≡ None) (λ l. leg_at (legs_of legs.now) position.now ≡ Some (leg_of l.now)) }
 {
     match search(legs, position) {
         Ok(index) => Some(&legs[index]),
@@ -38,6 +38,7 @@ pub fn find_leg<'a>(legs: &'a [Leg<'a>], position: &Position) -> Option<&'a Leg<
 }
 
 /// The server of a leg at an index.
+#[tactic(auto, using(crate::proofs::Servers::server_of))]
 pub fn server_at(leg: &Leg, index: usize) -> Option<ServerId>
     ensures { option_map (λ s. s.0) result ≡ server_at (leg_of leg.now) index }
 {
@@ -55,6 +56,7 @@ pub fn is_same_server(first: Option<ServerId>, second: Option<ServerId>) -> bool
 }
 
 /// Whether the two have the same servers, index by index.
+#[tactic(auto, using(crate::proofs::Servers::by_numbers))]
 pub fn have_same_servers(leg: &Leg, other: &Leg) -> bool
     ensures { result ≡ is_same_list (leg_of leg.now).servers (leg_of other.now).servers }
 {

@@ -63,6 +63,7 @@ fn have_server(
 }
 
 /// Whether the legs have one symbol, are as many as it has indexes, and have the server, each at its own index.
+#[tactic(auto, using(crate::proofs::Servers::servers_counted))]
 fn fill_a_symbol(legs: &[Leg], server: Option<ServerId>, positions: &[Position]) -> bool
     requires { AreLegsRising (legs_of legs.now) }
     ensures { result ≡ fill_a_symbol (legs_of legs.now) (option_map (λ s. s.0) server) positions.now }

@@ -1,0 +1,4 @@
+pub mod Equal
+pub mod Found
+pub mod Slots
+pub mod Least
