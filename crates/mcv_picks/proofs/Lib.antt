@@ -2,3 +2,4 @@ pub mod Equal
 pub mod Found
 pub mod Slots
 pub mod Least
+pub mod Hold

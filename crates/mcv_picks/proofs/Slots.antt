@@ -1,10 +1,9 @@
 -- A leg's servers put into the table of slots one after another: each goes where no leg is yet.
-use Rattle.std.proofs.Common.{◌≡◌, ◌≢◌, ◌+◌, ◌<◌, ◌≤◌, ◌&&◌, ℕ, Bool, true, false, cond, nat_eq, nat_lt, List, length, map, get_or, Option, Some, None, inl, inr, refl, sym, ap, ◌∙◌, subst, true≢false, arith}
+use Rattle.std.proofs.Common.{◌≡◌, ◌≢◌, ◌+◌, ◌<◌, ◌≤◌, ◌&&◌, ℕ, Bool, true, false, cond, nat_eq, nat_lt, List, length, map, get_or, Option, Some, None, inl, inr, refl, sym, ap, ◌∙◌, arith}
 use Rattle.std.specs.Prelude.{is_some, slice_get}
 use Rattle.std.specs.Ordering.{is_eq}
 use Rattle.std.specs.Option.{option_map, option_or}
 use Rattle.std.proofs.lemmas.Bool.{and_parts, cases_Bool, eqb-true, eqb-false, eq-eqb, lt-ltb, le-ltb, ltb-true, ltb-false}
-use Rattle.std.proofs.lemmas.List.{length-map}
 use Rattle.std.proofs.lemmas.Option.{slice_get-map, slice_get_read, slice_get_past}
 use Rattle.mcv_base.specs.declared.request.ServerId.{ServerId}
 use Rattle.mcv_judge.specs.Reason.{LegValue}
@@ -58,8 +57,8 @@ module _ (d : LegValue) (i x : ℕ) (there : slice_get d.servers i ≡ Some x) w
   elsewhere : (q : Slot) → is_eq (slot_cmp (d.symbol, i, x) q) ≡ false → given d (i + 1) q ≡ given d i q
   elsewhere q h = elim (cases_Bool (nat_eq i q.1)) [
     | inl e ↦
-        let at = at_index d i x there q (sym (eqb-true i q.1 e)) in
-        let no : is_at q d ≡ false = at ∙ ap (λ b. nat_eq d.symbol q.0 && (b && nat_eq x q.2)) (sym e) ∙ sym (slot_level (d.symbol, i, x) q) ∙ h in
+        let own = at_index d i x there q (sym (eqb-true i q.1 e)) in
+        let no : is_at q d ≡ false = own ∙ ap (λ b. nat_eq d.symbol q.0 && (b && nat_eq x q.2)) (sym e) ∙ sym (slot_level (d.symbol, i, x) q) ∙ h in
         rw (no, and_false (nat_lt q.1 (i + 1)), and_false (nat_lt q.1 i)) refl
     | inr n ↦ rw (later q.1 i (eqb-false i q.1 n)) refl
   ]

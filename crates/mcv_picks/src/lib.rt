@@ -3,9 +3,11 @@
 #![tactic(auto)]
 
 mod classes;
+mod laws;
 mod least;
 mod picks;
 mod slots;
 mod tables;
 
+pub use laws::{no_other_reason_holds, picked_reasons_hold};
 pub use picks::Picks;
