@@ -4,7 +4,7 @@ use Rattle.std.specs.Prelude.{flat_map, IfOk, IfErr, MatchResult}
 use Rattle.std.specs.Borrow.{Bor}
 use Rattle.std.specs.Option.{option_map}
 use Rattle.std.specs.Ordering.{is_eq}
-use Rattle.std.proofs.lemmas.Bool.{cases_Bool, le-leb, eqb-true, eqb-false}
+use Rattle.std.proofs.lemmas.Bool.{cases_Bool, le-leb, eqb-true}
 use Rattle.std.proofs.lemmas.List.{drop-map}
 use Rattle.mcv_judge.specs.Pair.{Place, PairValue, AreRising, pair_of, place_cmp}
 use Rattle.mcv_judge.specs.Reason.{BlockValue}
@@ -82,7 +82,7 @@ some_left r pairs up = first_of_blocks (r ∷ pairs) [] Stray (end_stray places_
 pub ended : (pairs : List Pair) → AreRising (pairs_of pairs) → (empty : Bool) → empty ≡ nat_eq (length pairs) 0 → (x : Result (Unit {0}) PairFault) → fault_in x ≡ unless empty Stray → MatchResult x (λ _. IsFaultless (pairs_of pairs) []) (λ f. IsFirstFault (pairs_of pairs) [] f)
 ended [] up empty is (Ok u) told = none_left
 ended [] up true is (Err f) told = absurd cc
-ended [] up false is (Err f) told = let no : length {A = Pair} [] ≡ 0 → ⊥ = eqb-false 0 0 (sym is) in absurd (no refl)
+ended [] up false is (Err f) told = absurd cc
 ended (r ∷ pairs) up true is x told = let none = eqb-true (length (r ∷ pairs)) 0 (sym is) in absurd (omega arith)
 ended (r ∷ pairs) up false is (Ok u) told = absurd cc
 ended (r ∷ pairs) up false is (Err f) told = let stray : f ≡ Stray = cc in rw stray (some_left (pair_of r) (pairs_of pairs) up)

@@ -1,5 +1,5 @@
 -- Servers in memory and their numbers.
-use Rattle.std.proofs.Common.{◌≡◌, ℕ, List, [], ◌∷◌, length, map, refl, ap}
+use Rattle.std.proofs.Common.{◌≡◌, ℕ, List, [], ◌∷◌, length, refl, ap}
 use Rattle.std.specs.Prelude.{slice_get}
 use Rattle.std.specs.Cmp.Lexicographic.{slice_cmp}
 use Rattle.std.specs.Option.{option_map}
@@ -7,15 +7,16 @@ use Rattle.std.specs.Ordering.{nat_cmp, ordering_then}
 use Rattle.std.proofs.lemmas.List.{length-map}
 use Rattle.std.proofs.lemmas.Option.{slice_get-map}
 use Rattle.mcv_base.specs.declared.request.ServerId.{ServerId}
+use Rattle.mcv_judge.specs.InMemory.{numbers}
 
-pub servers_counted : (servers : List ServerId) → length (map (λ s. s.0) servers) ≡ length servers
-servers_counted servers = length-map servers (λ s. s.0)
+pub servers_counted : (servers : List ServerId) → length (numbers servers) ≡ length servers
+servers_counted servers = length-map servers (λ (s : ServerId). s.0)
 
-pub server_of : (servers : List ServerId) (i : ℕ) → slice_get (map (λ s. s.0) servers) i ≡ option_map (λ s. s.0) (slice_get servers i)
-server_of servers i = slice_get-map (λ s. s.0) servers i
+pub server_of : (servers : List ServerId) (i : ℕ) → slice_get (numbers servers) i ≡ option_map (λ (s : ServerId). s.0) (slice_get servers i)
+server_of servers i = slice_get-map (λ (s : ServerId). s.0) servers i
 
 -- compared one by one as their numbers are
-pub by_numbers : (xs ys : List ServerId) → slice_cmp (λ x y. nat_cmp x.0 y.0) xs ys ≡ slice_cmp nat_cmp (map (λ s. s.0) xs) (map (λ s. s.0) ys)
+pub by_numbers : (xs ys : List ServerId) → slice_cmp (λ (x y : ServerId). nat_cmp x.0 y.0) xs ys ≡ slice_cmp nat_cmp (numbers xs) (numbers ys)
 by_numbers [] [] = refl
 by_numbers [] (y ∷ ys) = refl
 by_numbers (x ∷ xs) [] = refl

@@ -1,5 +1,6 @@
 -- What pairs and blocks in memory stand for.
-use Rattle.std.specs.Prelude.{List, map}
+use Rattle.std.specs.Prelude.{ℕ, List, map}
+use Rattle.mcv_base.specs.declared.request.ServerId.{ServerId}
 use Rattle.mcv_judge.specs.Pair.{PairValue, pair_of}
 use Rattle.mcv_judge.specs.Reason.{LegValue, BlockValue}
 use Rattle.mcv_judge.specs.declared.pair.Pair.{Pair}
@@ -9,8 +10,12 @@ use Rattle.mcv_judge.specs.declared.block.Block.{Block}
 abbrev pub pairs_of : List Pair → List PairValue
 pairs_of rs = map pair_of rs
 
+-- servers by their numbers
+abbrev pub numbers : List ServerId → List ℕ
+numbers servers = map (λ (s : ServerId). s.0) servers
+
 abbrev pub leg_of : Leg → LegValue
-leg_of l = record { position = l.position.now; symbol = l.symbol; servers = map (λ s. s.0) l.servers.now }
+leg_of l = record { position = l.position.now; symbol = l.symbol; servers = numbers l.servers.now }
 
 abbrev pub legs_of : List Leg → List LegValue
 legs_of ls = map leg_of ls

@@ -28,6 +28,7 @@ fn compare(pair: &Pair, block: &Block, leaf: &Leg, index: usize) -> Ordering
 }
 
 /// The pairs behind those of the block.
+#[tactic(auto, using(crate::proofs::Servers::servers_counted))]
 fn walk_block<'a>(block: &Block, pairs: &'a [Pair]) -> Result<&'a [Pair], PairFault>
     requires { IsInOrder (block_of block.now) }
     ensures { walked result ≡ walk (pairs_of pairs.now) (entries (owed_by (block_of block.now))) }
@@ -46,7 +47,10 @@ fn walk_block<'a>(block: &Block, pairs: &'a [Pair]) -> Result<&'a [Pair], PairFa
         }
         judge_reason(block, leaf, &pair.reason)?;
         pairs = rest;
-        if !is_whole(&pair.reason) && index + 1 < leaf.servers.len() {
+        if is_whole(&pair.reason) {
+            leaves = later;
+            index = 0;
+        } else if index + 1 < leaf.servers.len() {
             index += 1;
         } else {
             leaves = later;

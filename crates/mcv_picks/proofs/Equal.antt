@@ -1,13 +1,15 @@
 -- Twins have equal symbols and equal servers; keys that tie are of one class, or one slot.
-use Rattle.std.proofs.Common.{◌≡◌, ◌<◌, ◌&&◌, ℕ, Bool, true, false, nat_eq, List, [], ◌∷◌, map, Some, refl, ap, ◌∙◌, arith}
+use Rattle.std.proofs.Common.{◌≡◌, ◌<◌, ◌&&◌, ℕ, Bool, true, false, nat_eq, List, [], ◌∷◌, refl, ap, ◌∙◌, arith}
 use Rattle.std.specs.Cmp.Lexicographic.{slice_cmp}
 use Rattle.std.specs.Ordering.{is_eq, nat_cmp, ordering_then, MatchOrdering}
 use Rattle.std.specs.declared.cmp.Ordering.{Ordering}
 use Rattle.std.specs.declared.cmp.Ordering.TheVariants.{Less, Equal, Greater}
 use Rattle.std.proofs.lemmas.Bool.{and_parts, eqb-true, eq-eqb}
 use Rattle.std.proofs.lemmas.Bool.Decides.{nat_tests}
-use Rattle.std.proofs.lemmas.Cmp.{nat_cmp_total, nat_list_cmp_total, tied_itself, ranked}
+use Rattle.std.proofs.lemmas.Cmp.{nat_list_cmp_total, tied_itself, ranked}
 use Rattle.mcv_base.specs.declared.request.ServerId.{ServerId}
+use Rattle.mcv_judge.specs.InMemory.{numbers}
+use Rattle.mcv_judge.proofs.Servers.{by_numbers}
 use Rattle.mcv_judge.specs.Reason.{LegValue, is_same_list, is_twin}
 use Rattle.mcv_picks.specs.Tables.{Class, Slot, TellsNoTwins, class_cmp, is_at, is_of, slot_cmp}
 
@@ -23,16 +25,9 @@ and_three : (a b c : Bool) → ((a && b) && c) ≡ (a && (b && c))
 and_three true b c = refl
 and_three false b c = refl
 
--- servers compared by their numbers
-by_numbers : (xs ys : List ServerId) → slice_cmp (λ x y. nat_cmp x.0 y.0) xs ys ≡ slice_cmp nat_cmp (map (λ x. x.0) xs) (map (λ x. x.0) ys)
-by_numbers [] [] = refl
-by_numbers [] (y ∷ ys) = refl
-by_numbers (x ∷ xs) [] = refl
-by_numbers (x ∷ xs) (y ∷ ys) = ap (ordering_then (nat_cmp x.0 y.0)) (by_numbers xs ys)
-
-pub class_level : (j k : Class) → is_eq (class_cmp j k) ≡ (nat_eq j.0 k.0 && is_same_list (map (λ x. x.0) j.1.now) (map (λ x. x.0) k.1.now))
+pub class_level : (j k : Class) → is_eq (class_cmp j k) ≡ (nat_eq j.0 k.0 && is_same_list (numbers j.1.now) (numbers k.1.now))
 class_level j k =
-    then_eq (nat_cmp j.0 k.0) (slice_cmp (λ x y. nat_cmp x.0 y.0) j.1.now k.1.now)
+    then_eq (nat_cmp j.0 k.0) (slice_cmp (λ (x y : ServerId). nat_cmp x.0 y.0) j.1.now k.1.now)
     ∙ rw (nat_level j.0 k.0, by_numbers j.1.now k.1.now) refl
 
 pub slot_level : (j k : Slot) → is_eq (slot_cmp j k) ≡ (nat_eq j.0 k.0 && (nat_eq j.1 k.1 && nat_eq j.2 k.2))
@@ -76,10 +71,10 @@ twin_parts d e h =
     let both = and_parts (nat_eq e.symbol d.symbol) (is_same_list e.servers d.servers) h in
     (eqb-true e.symbol d.symbol both.0, same_list e.servers d.servers both.1)
 
-pub of_parts : (k : Class) (d : LegValue) → is_of k d ≡ true → (d.symbol ≡ k.0) × (d.servers ≡ map (λ x. x.0) k.1.now)
+pub of_parts : (k : Class) (d : LegValue) → is_of k d ≡ true → (d.symbol ≡ k.0) × (d.servers ≡ numbers k.1.now)
 of_parts k d h =
-    let both = and_parts (nat_eq d.symbol k.0) (is_same_list d.servers (map (λ x. x.0) k.1.now)) h in
-    (eqb-true d.symbol k.0 both.0, same_list d.servers (map (λ x. x.0) k.1.now) both.1)
+    let both = and_parts (nat_eq d.symbol k.0) (is_same_list d.servers (numbers k.1.now)) h in
+    (eqb-true d.symbol k.0 both.0, same_list d.servers (numbers k.1.now) both.1)
 
 pub is_of-twins : (k : Class) → TellsNoTwins (is_of k)
 is_of-twins k d e h = let p = twin_parts d e h in rw (p.0, p.1) refl
@@ -91,4 +86,4 @@ is_at-twins q d e h = let p = twin_parts d e h in rw (p.0, p.1) refl
 pub of_both : (k : Class) (d e : LegValue) → is_of k d ≡ true → is_of k e ≡ true → is_twin d e ≡ true
 of_both k d e h g =
     let p = of_parts k d h in let q = of_parts k e g in
-    rw (p.0, q.0, p.1, q.1, eq-eqb k.0 k.0 refl, same_itself (map (λ x. x.0) k.1.now)) refl
+    rw (p.0, q.0, p.1, q.1, eq-eqb k.0 k.0 refl, same_itself (numbers k.1.now)) refl

@@ -1,5 +1,5 @@
 -- How the tables are read. Only private contracts cite this.
-use Rattle.std.specs.Prelude.{ℕ, Bool, true, List, Option, Some, None, ◌≡◌, ◌<◌, ◌&&◌, if◌then◌else◌, map, nat_eq, nat_lt, find, is_some}
+use Rattle.std.specs.Prelude.{ℕ, Bool, true, List, Option, Some, None, ◌≡◌, ◌<◌, ◌&&◌, if◌then◌else◌, nat_eq, nat_lt, find, is_some}
 use Rattle.std.specs.Borrow.{Bor}
 use Rattle.std.specs.BTreeMap.{BTreeMap, get}
 use Rattle.std.specs.Option.{option_map}
@@ -8,6 +8,7 @@ use Rattle.std.specs.Ordering.{nat_cmp, ordering_then}
 use Rattle.std.specs.declared.cmp.Ordering.{Ordering}
 use Rattle.mcv_base.specs.declared.request.ServerId.{ServerId}
 use Rattle.mcv_judge.specs.declared.block.Leg.{Leg}
+use Rattle.mcv_judge.specs.InMemory.{numbers}
 use Rattle.mcv_judge.specs.Reason.{LegValue, is_same_list, is_same_server, is_twin, has_server, server_at}
 use Rattle.mcv_picks.specs.Picks.{filling, lent}
 
@@ -16,11 +17,11 @@ abbrev pub Class : Type 0
 Class = ℕ × Bor (List ServerId)
 
 abbrev pub class_cmp : Class → Class → Ordering
-class_cmp j k = ordering_then (nat_cmp j.0 k.0) (slice_cmp (λ x y. nat_cmp x.0 y.0) j.1.now k.1.now)
+class_cmp j k = ordering_then (nat_cmp j.0 k.0) (slice_cmp (λ (x y : ServerId). nat_cmp x.0 y.0) j.1.now k.1.now)
 
 -- a leg of the class
 abbrev pub is_of : Class → LegValue → Bool
-is_of k d = nat_eq d.symbol k.0 && is_same_list d.servers (map (λ x. x.0) k.1.now)
+is_of k d = nat_eq d.symbol k.0 && is_same_list d.servers (numbers k.1.now)
 
 -- a symbol, an index and a server
 abbrev pub Slot : Type 0
