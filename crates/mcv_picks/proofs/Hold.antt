@@ -1,5 +1,5 @@
 -- A reason that is picked has no fault, and where none is picked each has one.
-use Rattle.std.proofs.Common.{◌≡◌, ◌≢◌, ◌⊎◌, ◌&&◌, ◌<◌, ℕ, zero, suc, Bool, true, false, nat_eq, List, [], ◌∷◌, length, map, Option, Some, None, inl, inr, refl, sym, ap, ◌∙◌, subst, true≢false, arith}
+use Rattle.std.proofs.Common.{◌≡◌, ◌≢◌, ◌⊎◌, ◌&&◌, ◌<◌, ℕ, suc, Bool, true, false, nat_eq, List, [], ◌∷◌, length, map, Option, Some, None, inl, inr, refl, sym, ap, ◌∙◌, subst, true≢false, arith}
 use Rattle.std.specs.Prelude.{All, find, if◌then◌else◌, is_some, slice_get, slice_index}
 use Rattle.std.specs.Option.{option_and_then, option_map, option_or}
 use Rattle.std.specs.Ordering.{is_eq}
@@ -89,20 +89,17 @@ module _ (legs : List LegValue) (up : AreLegsRising legs) where
       let has = passes (has_server s (Some x) i) legs d is in
       subst (AreThere s x i (suc n)) whole (ap suc rest.0, rw own rest.1, rw (own, has) rest.2)
 
-  each_there : (s x i n : ℕ) (ds : List LegValue) → each_with legs s x i n ≡ Some ds → AreThere s x i n ds
-  each_there s x i zero ds h = let none : [] ≡ ds = cc in subst (AreThere s x i zero) none (refl, refl, refl)
-  each_there s x i (suc n) ds h = there_before s x i n (first_with legs s x i) (each_with legs s x (suc i) n) ds refl (λ es is. each_there s x (suc i) n es is) h
-
-  some_server : (x : ℕ) (servers : List ℕ) → is_same_server (slice_get servers 0) (Some x) ≡ true → (n : ℕ) × (length servers ≡ suc n)
-  some_server x [] h = absurd cc
-  some_server x (y ∷ ys) h = (length ys, refl)
+  each_there : (s x i : ℕ) (ys : List ℕ) (ds : List LegValue) → each_with legs s x i ys ≡ Some ds → AreThere s x i (length ys) ds
+  each_there s x i [] ds h = let none : [] ≡ ds = cc in subst (AreThere s x i 0) none (refl, refl, refl)
+  each_there s x i (y ∷ ys) ds h = there_before s x i (length ys) (first_with legs s x i) (each_with legs s x (suc i) ys) ds refl (λ es is. each_there s x (suc i) ys es is) h
 
   begins : (d : LegValue) (more : Option (List LegValue)) (ds : List LegValue) → before_others (Some d) more ≡ Some ds → (es : List LegValue) × (d ∷ es ≡ ds)
   begins d None ds h = absurd cc
   begins d (Some es) ds h = (es, cc)
 
-  first_begins : (s x n : ℕ) (d : LegValue) (ds : List LegValue) → first_with legs s x 0 ≡ Some d → each_with legs s x 0 (suc n) ≡ Some ds → (es : List LegValue) × (d ∷ es ≡ ds)
-  first_begins s x n d ds is h = begins d (each_with legs s x 1 n) ds (ap (λ o. before_others o (each_with legs s x 1 n)) (sym is) ∙ h)
+  first_begins : (s x : ℕ) (ys : List ℕ) (d : LegValue) (ds : List LegValue) → is_same_server (slice_get ys 0) (Some x) ≡ true → first_with legs s x 0 ≡ Some d → each_with legs s x 0 ys ≡ Some ds → (es : List LegValue) × (d ∷ es ≡ ds)
+  first_begins s x [] d ds some is h = absurd cc
+  first_begins s x (y ∷ ys) d ds some is h = begins d (each_with legs s x 1 ys) ds (ap (λ o. before_others o (each_with legs s x 1 ys)) (sym is) ∙ h)
 
   -- what fills a symbol
   abbrev Fills : ℕ → List LegValue → Type 0
@@ -116,13 +113,12 @@ module _ (legs : List LegValue) (up : AreLegsRising legs) where
       let count : length (map (λ (e : LegValue). e.position) (d ∷ es)) ≡ length d.servers = length-map (d ∷ es) (λ e. e.position) ∙ there.0 in
       (there.1, rw (own, symbol, eq-eqb (length (map (λ (e : LegValue). e.position) (d ∷ es))) (length d.servers) count) there.2)
 
-  all_holds : (s x : ℕ) (ds : List LegValue) (o : Option LegValue) → first_with legs s x 0 ≡ o → option_and_then (λ d. each_with legs s x 0 (length d.servers)) o ≡ Some ds → Fills x ds
+  all_holds : (s x : ℕ) (ds : List LegValue) (o : Option LegValue) → first_with legs s x 0 ≡ o → option_and_then (λ d. each_with legs s x 0 d.servers) o ≡ Some ds → Fills x ds
   all_holds s x ds None is h = absurd cc
   all_holds s x ds (Some d) is h =
       let has = and_parts (nat_eq d.symbol s) (is_same_server (server_at d 0) (Some x)) (passes (has_server s (Some x) 0) legs d is) in
-      let some = some_server x d.servers has.1 in
-      let begin = first_begins s x some.0 d ds is (ap (each_with legs s x 0) (sym some.1) ∙ h) in
-      subst (Fills x) begin.1 (filled s x d begin.0 is (subst (AreThere s x 0 (length d.servers)) (sym begin.1) (each_there s x 0 (length d.servers) ds h)))
+      let begin = first_begins s x d.servers d ds has.1 is h in
+      subst (Fills x) begin.1 (filled s x d begin.0 is (subst (AreThere s x 0 (length d.servers)) (sym begin.1) (each_there s x 0 d.servers ds h)))
 
   -- at an index
   at_holds : (leaf : LegValue) (b : BlockValue) → b.acknowledged ≡ legs → (i x : ℕ) (r : ReasonValue) → server_at leaf i ≡ Some x → (found : Option (List LegValue)) → IsFirstFilling legs x found → (o : Option LegValue) → first_with legs leaf.symbol x i ≡ o → Some r ≡ option_or (option_map (same_leg i) o) (option_map (all_legs i) found) → fault_of b leaf r ≡ None
@@ -181,12 +177,14 @@ both_there (Some d) None h g = absurd cc
 both_there (Some d) (Some ds) h g = refl
 
 module _ (legs : List LegValue) where
-  each_some : (s x i : ℕ) (ps : List (List ℕ)) → have_server legs s (Some x) i ps ≡ true → is_some (each_with legs s x i (length ps)) ≡ true
-  each_some s x i [] h = refl
-  each_some s x i (p ∷ ps) h =
+  each_some : (s x i : ℕ) (ps : List (List ℕ)) (ys : List ℕ) → length ps ≡ length ys → have_server legs s (Some x) i ps ≡ true → is_some (each_with legs s x i ys) ≡ true
+  each_some s x i [] [] e h = refl
+  each_some s x i [] (y ∷ ys) e h = absurd (omega arith)
+  each_some s x i (p ∷ ps) [] e h = absurd (omega arith)
+  each_some s x i (p ∷ ps) (y ∷ ys) e h =
       let both = and_parts (is_there_with (has_server s (Some x) i) (leg_at legs p)) (have_server legs s (Some x) (suc i) ps) h in
       let there = there_with (has_server s (Some x) i) (leg_at legs p) both.0 in
-      both_there (first_with legs s x i) (each_with legs s x (suc i) (length ps)) (found_too (λ d. is_same_list d.position p) (has_server s (Some x) i) legs there.0 there.1 there.2) (each_some s x (suc i) ps both.1)
+      both_there (first_with legs s x i) (each_with legs s x (suc i) ys) (found_too (λ d. is_same_list d.position p) (has_server s (Some x) i) legs there.0 there.1 there.2) (each_some s x (suc i) ps ys (omega arith) both.1)
 
   -- no symbol's legs have the server at all indexes
   fills_none : (sizes : List ℕ) → AreSized sizes legs → (x : ℕ) → ((s : ℕ) → filling legs s x ≡ None) → (ps : List (List ℕ)) → fill_a_symbol legs (Some x) ps ≡ true → ⊥
@@ -196,20 +194,19 @@ module _ (legs : List LegValue) where
       let both = and_parts (nat_eq (length (p ∷ ps)) (length there.0.servers)) (have_server legs there.0.symbol (Some x) 0 (p ∷ ps)) there.2 in
       let count = eqb-true (length (p ∷ ps)) (length there.0.servers) both.0 in
       let size = (found_all (λ d. is_same_list d.position p) (λ d. length d.servers ≡ slice_index sizes d.symbol) legs there.0 there.1 sized).1 in
-      let each = each_some there.0.symbol x 0 (p ∷ ps) both.1 in
       let parts = and_parts (is_there_with (has_server there.0.symbol (Some x) 0) (leg_at legs p)) (have_server legs there.0.symbol (Some x) 1 ps) both.1 in
       let own = there_with (has_server there.0.symbol (Some x) 0) (leg_at legs p) parts.0 in
       let some = found_too (λ d. is_same_list d.position p) (has_server there.0.symbol (Some x) 0) legs own.0 own.1 own.2 in
-      found_first there.0.symbol (length (p ∷ ps)) (count ∙ size) each (first_with legs there.0.symbol x 0) refl some
+      found_first there.0.symbol (p ∷ ps) (count ∙ size) both.1 (first_with legs there.0.symbol x 0) refl some
     where
-      found_first : (s n : ℕ) → n ≡ slice_index sizes s → is_some (each_with legs s x 0 n) ≡ true → (o : Option LegValue) → first_with legs s x 0 ≡ o → is_some o ≡ true → ⊥
-      found_first s n size each None is some = absurd cc
-      found_first s n size each (Some e) is some =
+      found_first : (s : ℕ) (qs : List (List ℕ)) → length qs ≡ slice_index sizes s → have_server legs s (Some x) 0 qs ≡ true → (o : Option LegValue) → first_with legs s x 0 ≡ o → is_some o ≡ true → ⊥
+      found_first s qs size have None is some = absurd cc
+      found_first s qs size have (Some e) is some =
           let of = found_all (has_server s (Some x) 0) (λ d. length d.servers ≡ slice_index sizes d.symbol) legs e is sized in
           let symbol = eqb-true e.symbol s (and_parts (nat_eq e.symbol s) (is_same_server (server_at e 0) (Some x)) of.0).0 in
-          let count : length e.servers ≡ n = of.1 ∙ ap (slice_index sizes) symbol ∙ sym size in
-          let fills : filling legs s x ≡ each_with legs s x 0 n = ap (option_and_then (λ d. each_with legs s x 0 (length d.servers))) is ∙ ap (each_with legs s x 0) count in
-          none_of (filling legs s x) (none s) (ap is_some fills ∙ each)
+          let count : length qs ≡ length e.servers = size ∙ ap (slice_index sizes) (sym symbol) ∙ sym of.1 in
+          let fills : filling legs s x ≡ each_with legs s x 0 e.servers = ap (option_and_then (λ d. each_with legs s x 0 d.servers)) is in
+          none_of (filling legs s x) (none s) (ap is_some fills ∙ each_some s x 0 qs e.servers count have)
 
 no_some : {X Y : Type 0} (f : X → Y) (o : Option X) → option_map f o ≡ None → o ≡ None
 no_some f None h = refl

@@ -82,7 +82,7 @@ module _ (legs : List LegValue) (x : ℕ) where
     -- a symbol that fills isn't less than what is kept
     at_most : (o : Option ℕ) → All (IsNoLess legs x o) firsts → (t : ℕ) → is_some (filling legs t x) ≡ true → IsSomeAnd o (λ s. s ≤ t)
     at_most o all t fills =
-        let there = and_then_some (λ d. each_with legs t x 0 (length d.servers)) (first_with legs t x 0) fills in
+        let there = and_then_some (λ d. each_with legs t x 0 d.servers) (first_with legs t x 0) fills in
         let first = ap is_some (stand (is_at (t, 0, x)) (is_at-twins (t, 0, x))) ∙ there in
         let found = found_in (is_at (t, 0, x)) (IsNoLess legs x o) firsts first all in
         let both = and_parts (nat_eq found.0.symbol t) (is_same_server (server_at found.0 0) (Some x)) found.1 in

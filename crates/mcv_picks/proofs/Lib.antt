@@ -3,3 +3,4 @@ pub mod Found
 pub mod Slots
 pub mod Least
 pub mod Hold
+pub mod Each

@@ -1,5 +1,5 @@
 -- Which legs a certificate names where several would do: the first ones, and for `all` those of the symbol with the least number (own).
-use Rattle.std.specs.Prelude.{◌≡◌, ◌<◌, ℕ, zero, suc, List, [], ◌∷◌, Option, Some, None, length, find}
+use Rattle.std.specs.Prelude.{◌≡◌, ◌<◌, ℕ, suc, List, [], ◌∷◌, Option, Some, None, find}
 use Rattle.std.specs.Option.{option_and_then}
 use Rattle.std.specs.Borrow.{Bor}
 use Rattle.mcv_judge.specs.declared.block.Leg.{Leg}
@@ -24,14 +24,14 @@ before_others None ds = None
 before_others (Some d) None = None
 before_others (Some d) (Some ds) = Some (d ∷ ds)
 
--- such a leg for each of a number of indexes, from one on; nothing if there is none for one of them
-abbrev pub each_with : List LegValue → (symbol server index : ℕ) → (count : ℕ) → Option (List LegValue)
-each_with legs s x i zero = Some []
-each_with legs s x i (suc n) = before_others (first_with legs s x i) (each_with legs s x (suc i) n)
+-- such a leg for each index of a list of servers, the first being this one; nothing where there is none for one of them
+abbrev pub each_with : List LegValue → (symbol server index : ℕ) → List ℕ → Option (List LegValue)
+each_with legs s x i [] = Some []
+each_with legs s x i (y ∷ ys) = before_others (first_with legs s x i) (each_with legs s x (suc i) ys)
 
 -- such a leg for each index of the symbol
 abbrev pub filling : List LegValue → (symbol server : ℕ) → Option (List LegValue)
-filling legs s x = option_and_then (λ d. each_with legs s x 0 (length d.servers)) (first_with legs s x 0)
+filling legs s x = option_and_then (λ d. each_with legs s x 0 d.servers) (first_with legs s x 0)
 
 -- the legs of the symbol with the least number that has one for each index; nothing where no symbol has
 abbrev pub IsFirstFilling : List LegValue → (server : ℕ) → Option (List LegValue) → Type 0

@@ -74,7 +74,8 @@ impl<'a> Tables<'a> {
         let Some(first) = self.with(symbol, server, 0) else {
             return false;
         };
-        for index in 0..first.servers.len() {
+        let servers = first.servers;
+        for (index, _server) in servers.iter().enumerate() {
             if self.with(symbol, server, index).is_none() {
                 return false;
             }
@@ -95,7 +96,8 @@ impl<'a> Tables<'a> {
             return Ok(None);
         };
         let mut legs = Vec::new(alloc);
-        for index in 0..first.servers.len() {
+        let servers = first.servers;
+        for (index, _server) in servers.iter().enumerate() {
             let Some(leg) = self.with(symbol, server, index) else {
                 return Ok(None);
             };
