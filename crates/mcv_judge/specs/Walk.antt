@@ -3,8 +3,8 @@ use Rattle.std.specs.Prelude.{ℕ, suc, List, [], ◌∷◌, Option, Some, None,
 use Rattle.std.specs.declared.cmp.Ordering.TheVariants.{Less, Equal, Greater}
 use Rattle.std.specs.Borrow.{Bor}
 use Rattle.mcv_judge.specs.Pair.{ReasonValue, Place, PairValue, index_of, place_of, index_cmp}
-use Rattle.mcv_judge.specs.Reason.{LegValue, BlockValue, fault_of, is_whole}
-use Rattle.mcv_judge.specs.Faults.{Owed, owe, place_owed}
+use Rattle.mcv_judge.specs.Reason.{fault_of, is_whole}
+use Rattle.mcv_judge.specs.Faults.{Owed, place_owed}
 use Rattle.mcv_judge.specs.InMemory.{pairs_of}
 use Rattle.mcv_judge.specs.declared.fault.PairFault.{PairFault}
 use Rattle.mcv_judge.specs.declared.fault.PairFault.TheVariants.{Missing, Stray}
@@ -23,10 +23,9 @@ entry_from i o = record { place = place_owed o; from = i; size = length o.leaf.s
 abbrev pub entries : List Owed → List Entry
 entries os = map (entry_from 0) os
 
--- the entries of a block's leaves, the first one from an index on
-abbrev pub entries_from : BlockValue → ℕ → List LegValue → List Entry
-entries_from b i [] = []
-entries_from b i (l ∷ ls) = entry_from i (owe b l) ∷ entries (map (owe b) ls)
+-- the entry of a leaf from an index on, if there are indexes left
+abbrev pub entries_left : ℕ → Owed → List Entry
+entries_left i o = if nat_lt i (length o.leaf.servers) then entry_from i o ∷ [] else []
 
 -- what is left once a reason was given for the first entry's index
 abbrev pub after : ReasonValue → Entry → List Entry → List Entry

@@ -2,11 +2,11 @@
 
 ghost use Rattle.std.specs.Ordering.{nat_cmp, ordering_then};
 ghost use Rattle.std.specs.Prelude.{◌≡◌, ◌∷◌, List, [], map, IfOk, IfErr, MatchResult};
-ghost use Rattle.mcv_judge.specs.Faults.{AreInOrder, HaveSameFaults, IsFaultless, IsFirstFault, IsInOrder, owe, owed_by, place_owed};
-ghost use Rattle.mcv_judge.specs.InMemory.{block_of, leg_of, pairs_of};
+ghost use Rattle.mcv_judge.specs.Faults.{AreInOrder, AreLegsRising, HaveSameFaults, IsFaultless, IsFirstFault, IsInOrder, owe, owed_by, place_owed};
+ghost use Rattle.mcv_judge.specs.InMemory.{block_of, leg_of, legs_of, pairs_of};
 ghost use Rattle.mcv_judge.specs.Pair.{AreRising, index_of, index_cmp, pair_of, place_of};
 ghost use Rattle.mcv_judge.specs.Reason.{BlockValue};
-ghost use Rattle.mcv_judge.specs.Walk.{entries, walk, walked};
+ghost use Rattle.mcv_judge.specs.Walk.{entries, entries_left, walk, walked};
 
 use crate::block::{Block, Leg};
 use crate::fault::PairFault;
@@ -27,16 +27,14 @@ fn compare(pair: &Pair, block: &Block, leaf: &Leg, index: usize) -> Ordering
         .then(pair.reason.index().cmp(&index))
 }
 
-/// The pairs behind those of the block.
+/// The pairs behind those of a readable leaf: one for all its indexes, or one for each.
 #[tactic(auto, using(crate::proofs::Servers::servers_counted))]
-fn walk_block<'a>(block: &Block, pairs: &'a [Pair]) -> Result<&'a [Pair], PairFault>
-    requires { IsInOrder (block_of block.now) }
-    ensures { walked result ≡ walk (pairs_of pairs.now) (entries (owed_by (block_of block.now))) }
+fn walk_leaf<'a>(block: &Block, leaf: &Leg, pairs: &'a [Pair]) -> Result<&'a [Pair], PairFault>
+    requires { AreLegsRising (legs_of block.now.acknowledged.now) }
+    ensures { walked result ≡ walk (pairs_of pairs.now) (entries_left 0 (owe (block_of block.now) (leg_of leaf.now))) }
 {
     let mut pairs = pairs;
-    let mut leaves = block.readable;
-    let mut index = 0;
-    while let Some((leaf, later)) = leaves.split_first() {
+    for index in 0..leaf.servers.len() {
         let Some((pair, rest)) = pairs.split_first() else {
             return Err(PairFault::Missing);
         };
@@ -48,14 +46,21 @@ fn walk_block<'a>(block: &Block, pairs: &'a [Pair]) -> Result<&'a [Pair], PairFa
         judge_reason(block, leaf, &pair.reason)?;
         pairs = rest;
         if is_whole(&pair.reason) {
-            leaves = later;
-            index = 0;
-        } else if index + 1 < leaf.servers.len() {
-            index += 1;
-        } else {
-            leaves = later;
-            index = 0;
+            return Ok(pairs);
         }
+    }
+    Ok(pairs)
+}
+
+/// The pairs behind those of the block.
+fn walk_block<'a>(block: &Block, pairs: &'a [Pair]) -> Result<&'a [Pair], PairFault>
+    requires { IsInOrder (block_of block.now) }
+    ensures { walked result ≡ walk (pairs_of pairs.now) (entries (owed_by (block_of block.now))) }
+{
+    let mut pairs = pairs;
+    let leaves = block.readable;
+    for leaf in leaves {
+        pairs = walk_leaf(block, leaf, pairs)?;
     }
     Ok(pairs)
 }

@@ -19,7 +19,7 @@ fn by_position(leg: &Leg, position: &Position) -> Ordering
 }
 
 /// The number of the leg at a position, or where one would stand.
-fn search(legs: &[Leg], position: &Position) -> Result<usize, usize>
+fn search<'a>(legs: &'a [Leg<'a>], position: &Position) -> Result<usize, usize>
     requires { AreLegsRising (legs_of legs.now) }
     ensures { MatchResult result (λ i. (i < length legs.now) × ((d : Leg) → leg_at (legs_of legs.now) position.now ≡ Some (leg_of (slice_index_or legs.now i d)))) (λ _. leg_at (legs_of legs.now) position.now ≡ None) }
 {

@@ -22,7 +22,7 @@ pub fn is_whole(reason: &Reason) -> bool
 }
 
 /// Whether no leg stands at one of the positions.
-fn is_one_missing(legs: &[Leg], positions: &[Position]) -> bool
+fn is_one_missing<'a>(legs: &'a [Leg<'a>], positions: &[Position]) -> bool
     requires { AreLegsRising (legs_of legs.now) }
     ensures { result ≡ is_one_missing (legs_of legs.now) positions.now }
 {
@@ -42,8 +42,8 @@ fn has_server(leg: &Leg, symbol: usize, server: Option<ServerId>, index: usize) 
 }
 
 /// Whether the legs have the symbol and the server, each at its own index.
-fn have_server(
-    legs: &[Leg],
+fn have_server<'a>(
+    legs: &'a [Leg<'a>],
     symbol: usize,
     server: Option<ServerId>,
     positions: &[Position],
@@ -64,7 +64,7 @@ fn have_server(
 
 /// Whether the legs have one symbol, are as many as it has indexes, and have the server, each at its own index.
 #[tactic(auto, using(crate::proofs::Servers::servers_counted))]
-fn fill_a_symbol(legs: &[Leg], server: Option<ServerId>, positions: &[Position]) -> bool
+fn fill_a_symbol<'a>(legs: &'a [Leg<'a>], server: Option<ServerId>, positions: &[Position]) -> bool
     requires { AreLegsRising (legs_of legs.now) }
     ensures { result ≡ fill_a_symbol (legs_of legs.now) (option_map (λ s. s.0) server) positions.now }
 {
