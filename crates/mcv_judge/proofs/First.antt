@@ -335,7 +335,7 @@ module _ (o : IsTotalOrder place_cmp) where
   -- the same faults stand in both
   carry : (rows : List PairValue) (es : List Entry) (rows2 : List PairValue) (es2 fs : List Entry) → ((q : Place) (j : ℕ) → fault_from rows (es ++ fs) q j ≡ fault_from rows2 (es2 ++ fs) q j) → (x : Result (List PairValue) PairFault) → Judges rows2 es2 fs x → Judges rows es fs x
   carry rows es rows2 es2 fs alike (Ok rest) h = (h.0, λ q j. alike q j ∙ h.1 q j)
-  carry rows es rows2 es2 fs alike (Err f) h = (h.0, h.1, alike h.0 h.1 ∙ h.2, λ q j l. same q j ∙ h.3 q j l)
+  carry rows es rows2 es2 fs alike (Err f) h = (h.0, h.1, alike h.0 h.1 ∙ h.2, λ q j l. alike q j ∙ h.3 q j l)
 
   module _ (r : PairValue) (rows : List PairValue) (e : Entry) (es fs : List Entry) (up : ArePairsAscending (r ∷ rows)) (rising : AreEntriesRising (e ∷ (es ++ fs))) where
     judged : (at : index_cmp (place_of r) (index_of r.reason) e.place e.from ≡ Equal) → (next : Result (List PairValue) PairFault) → Judges rows (after r.reason e es) fs next → (f : Option PairFault) → e.judge r.reason ≡ f → Judges (r ∷ rows) (e ∷ es) fs (or_else f next)

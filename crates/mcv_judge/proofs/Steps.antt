@@ -1,6 +1,9 @@
 -- The walk, a pair or a leaf at a time.
-use Rattle.std.proofs.Common.{◌≡◌, ◌+◌, ◌<◌, ℕ, suc, false, true, List, [], ◌∷◌, ◌++◌, length, map, get_or, drop, drop-cons, nat_lt, Option, Some, None, Result, Ok, Err, inl, inr, ap, refl, sym, ◌∙◌, arith, add-one}
+use Rattle.std.proofs.Common.{◌≡◌, ◌+◌, ◌<◌, ℕ, suc, false, true, List, [], ◌∷◌, ◌++◌, length, map, get_or, drop, drop-cons, nat_lt, Option, Some, None, Result, Ok, Err, inl, inr, ap, refl, sym, ◌∙◌, subst, arith, add-one}
 use Rattle.std.specs.Borrow.{Bor}
+use Rattle.std.specs.Prelude.{All}
+use Rattle.std.proofs.Math.ListN.{get_or-map}
+use Rattle.std.proofs.lemmas.List.{length-map}
 use Rattle.std.proofs.lemmas.Bool.{cases_Bool, lt-ltb, le-ltb}
 use Rattle.std.specs.declared.cmp.Ordering.{Ordering}
 use Rattle.std.specs.declared.cmp.Ordering.TheVariants.{Less, Equal, Greater}
@@ -98,3 +101,9 @@ module _ (b : BlockValue) (leaves : List Leg) (n : ℕ) (leaf : Leg) (l : n < le
 
   pub leaf_wrong : (f : PairFault) → walked (Err f) ≡ walk pairs (entries_left 0 (owe b (leg_of leaf))) → walk pairs (entries (map (owe b) (legs_of (drop n leaves)))) ≡ Err f
   leaf_wrong f e = walks (Err f) e
+
+-- a leaf of those that have a server
+pub some_server : (leaves : List Leg) (n : ℕ) (leaf : Leg) → n < length leaves → leaf ≡ get_or leaves n leaf → All (λ l. 0 < length l.servers) (legs_of leaves) → 0 < length (leg_of leaf).servers
+some_server leaves n leaf l is every =
+    let here = every n (leg_of leaf) (subst (λ k. n < k) (sym (length-map leaves leg_of)) l) in
+    subst (λ d. 0 < length d.servers) (get_or-map leg_of leaves n leaf ∙ ap leg_of (sym is)) here
