@@ -1,7 +1,7 @@
 -- What a search finds once a leg comes last.
-use Rattle.std.proofs.Common.{◌≡◌, ◌+◌, ◌<◌, ◌&&◌, ℕ, Bool, true, false, cond, List, [], ◌∷◌, ◌++◌, length, map, get_or, take, Option, Some, None, inl, inr, refl, sym, ap, ◌∙◌, subst, true≢false}
+use Rattle.std.proofs.Common.{◌≡◌, ◌+◌, ◌<◌, ◌&&◌, ℕ, Bool, true, false, cond, List, [], ◌∷◌, ◌++◌, length, get_or, take, Option, Some, None, inl, inr, refl, sym, ap, ◌∙◌, true≢false}
 use Rattle.std.specs.Prelude.{find, is_some}
-use Rattle.std.specs.Option.{option_or}
+use Rattle.std.specs.Option.{option_map, option_or}
 use Rattle.std.proofs.lemmas.Bool.{cases_Bool}
 use Rattle.std.proofs.lemmas.List.{map_more}
 use Rattle.std.proofs.lemmas.List.Folds.{find-append}
@@ -57,10 +57,40 @@ stand_more firsts xs d stand test alike = last test firsts d ∙ ap (λ o. optio
 pub class_begins : (k : Class) (xs : List LegValue) (d : LegValue) → is_some (find (is_twin d) xs) ≡ false → find (is_of k) (xs ++ d ∷ []) ≡ cond (is_of k d) (Some d) (find (is_of k) xs)
 class_begins k xs d none = last (is_of k) xs d ∙ elim (cases_Bool (is_of k d)) [
   | inl is ↦
-      let no : is_some (find (is_of k) xs) ≡ false = elim (cases_Bool (is_some (find (is_of k) xs))) [
+      let absent : is_some (find (is_of k) xs) ≡ false = elim (cases_Bool (is_some (find (is_of k) xs))) [
         | inl some ↦ absurd (true≢false (sym (also_found (is_of k) (is_twin d) (λ e g. of_both k d e is g) xs some) ∙ none))
-        | inr no ↦ no
+        | inr isnt ↦ isnt
       ] in
-      rw (is, nothing (find (is_of k) xs) no) refl
+      rw (is, nothing (find (is_of k) xs) absent) refl
   | inr isnt ↦ rw isnt (or_nothing (find (is_of k) xs))
 ]
+
+-- ---- the table of classes and its first legs, one leg further
+
+pub mapped_some : {X Y : Type 0} (f : X → Y) (o : Option X) → is_some (option_map f o) ≡ is_some o
+mapped_some f None = refl
+mapped_some f (Some x) = refl
+
+pub mapped_cond : {X Y : Type 0} (f : X → Y) (b : Bool) (x : X) (o : Option X) → option_map f (cond b (Some x) o) ≡ cond b (Some (f x)) (option_map f o)
+mapped_cond f true x o = refl
+mapped_cond f false x o = refl
+
+module _ (legs : List Leg) (i : ℕ) (leg : Leg) (l : i < length legs) (is : leg ≡ get_or legs i leg) where
+  further : (test : LegValue → Bool) → find test (legs_of (take i legs) ++ leg_of leg ∷ []) ≡ find test (legs_of (take (i + 1) legs))
+  further test = ap (find test) (sym (one_more legs i leg l is))
+
+  pub table_still : (k : Class) → is_some (find (is_twin (leg_of leg)) (legs_of (take i legs))) ≡ true → find (is_of k) (legs_of (take i legs)) ≡ find (is_of k) (legs_of (take (i + 1) legs))
+  table_still k found = sym (twin_again (is_of k) (is_of-twins k) (legs_of (take i legs)) (leg_of leg) found) ∙ further (is_of k)
+
+  pub firsts_still : (firsts : List LegValue) → is_some (find (is_twin (leg_of leg)) (legs_of (take i legs))) ≡ true → StandFor firsts (legs_of (take i legs)) → StandFor firsts (legs_of (take (i + 1) legs))
+  firsts_still firsts found stand test alike = stand_still firsts (legs_of (take i legs)) (leg_of leg) found stand test alike ∙ further test
+
+  pub table_more : (k : Class) (b : Bool) (old : Option LegValue) → b ≡ is_of k (leg_of leg) → is_some (find (is_twin (leg_of leg)) (legs_of (take i legs))) ≡ false → old ≡ find (is_of k) (legs_of (take i legs)) → cond b (Some (leg_of leg)) old ≡ find (is_of k) (legs_of (take (i + 1) legs))
+  table_more k b old same none before =
+      ap (λ c. cond c (Some (leg_of leg)) old) same
+      ∙ ap (cond (is_of k (leg_of leg)) (Some (leg_of leg))) before
+      ∙ sym (class_begins k (legs_of (take i legs)) (leg_of leg) none)
+      ∙ further (is_of k)
+
+  pub firsts_more : (firsts : List LegValue) → StandFor firsts (legs_of (take i legs)) → StandFor (firsts ++ leg_of leg ∷ []) (legs_of (take (i + 1) legs))
+  firsts_more firsts stand test alike = stand_more firsts (legs_of (take i legs)) (leg_of leg) stand test alike ∙ further test

@@ -111,7 +111,7 @@ module _ (legs : List LegValue) (up : AreLegsRising legs) where
       let has = and_parts (nat_eq d.symbol s) (is_same_server (server_at d 0) (Some x)) (passes (has_server s (Some x) 0) legs d is) in
       let symbol = eqb-true d.symbol s has.0 in
       let count : length (map (λ (e : LegValue). e.position) (d ∷ es)) ≡ length d.servers = length-map (d ∷ es) (λ e. e.position) ∙ there.0 in
-      (there.1, rw (own, symbol, eq-eqb (length (map (λ (e : LegValue). e.position) (d ∷ es))) (length d.servers) count) there.2)
+      (there.1, rw (own, eq-eqb (length (map (λ (e : LegValue). e.position) (d ∷ es))) (length d.servers) count) (subst (λ n. have_server legs n (Some x) 0 (map (λ (e : LegValue). e.position) (d ∷ es)) ≡ true) (sym symbol) there.2))
 
   all_holds : (s x : ℕ) (ds : List LegValue) (o : Option LegValue) → first_with legs s x 0 ≡ o → option_and_then (λ d. each_with legs s x 0 d.servers) o ≡ Some ds → Fills x ds
   all_holds s x ds None is h = absurd cc
@@ -255,4 +255,4 @@ none_holds sizes b leaf i x r sized server whole picked index h = by r index h
         (rw (own, server) at h)
     by (all j ps) index h =
         let own : j ≡ i = at_index (all j ps) i refl index in
-        fills_none b.acknowledged sizes sized x unfilled ps (rw (own, server) at fine_all b.acknowledged (server_at leaf j) ps h)
+        fills_none b.acknowledged sizes sized x unfilled ps (fine_all b.acknowledged (Some x) ps (rw (own, server) at h))

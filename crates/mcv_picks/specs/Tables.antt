@@ -58,6 +58,11 @@ IsLeast legs x (Some s) = (is_some (filling legs s x) ≡ true) × ((t : ℕ) �
 abbrev pub IsByServer : BTreeMap ℕ ℕ → List LegValue → Type 0
 IsByServer table legs = (x : ℕ) → IsLeast legs x (get nat_cmp table x)
 
+-- there is none, or this one is less
+abbrev pub is_lesser : Option ℕ → ℕ → Bool
+is_lesser None s = true
+is_lesser (Some t) s = nat_lt s t
+
 -- the lesser one
 abbrev pub least : Option ℕ → ℕ → ℕ
 least None s = s

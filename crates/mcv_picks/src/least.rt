@@ -5,7 +5,7 @@ ghost use Rattle.std.specs.Ordering.{nat_cmp};
 ghost use Rattle.std.specs.Prelude.{◌≡◌, ℕ, IfOk, OnOk, Some, if◌then◌else◌, map};
 ghost use Rattle.mcv_judge.specs.InMemory.{leg_of};
 ghost use Rattle.mcv_picks.specs.Picks.{lent};
-ghost use Rattle.mcv_picks.specs.Tables.{IsByServer, StandFor, is_filled_by, least};
+ghost use Rattle.mcv_picks.specs.Tables.{IsByServer, StandFor, is_filled_by, is_lesser, least};
 
 use crate::tables::Tables;
 use mcv_judge::Leg;
@@ -13,9 +13,11 @@ use std::alloc::{AllocError, Global};
 use std::collections::BTreeMap;
 
 /// Whether the symbol's number is less than the one that is kept, or none is.
-fn is_less(kept: Option<&usize>, symbol: usize) -> bool {
+fn is_less(kept: Option<usize>, symbol: usize) -> bool
+    ensures { result ≡ is_lesser kept symbol }
+{
     match kept {
-        Some(least) => symbol < *least,
+        Some(least) => symbol < least,
         None => true,
     }
 }
@@ -27,7 +29,7 @@ fn keep(table: &mut BTreeMap<u32, usize>, tables: &Tables, leg: &Leg) -> Result<
     let Some(server) = leg.servers.first() else {
         return Ok(());
     };
-    if is_less(table.get(&server.0), leg.symbol) && tables.fills(leg.symbol, *server) {
+    if is_less(table.get(&server.0).copied(), leg.symbol) && tables.fills(leg.symbol, *server) {
         table.insert(server.0, leg.symbol)?;
     }
     Ok(())

@@ -75,7 +75,7 @@ impl<'a> Tables<'a> {
             return false;
         };
         let servers = first.servers;
-        for (index, _server) in servers.iter().enumerate() {
+        for (index, _) in servers.iter().enumerate() {
             if self.with(symbol, server, index).is_none() {
                 return false;
             }
@@ -97,7 +97,7 @@ impl<'a> Tables<'a> {
         };
         let mut legs = Vec::new(alloc);
         let servers = first.servers;
-        for (index, _server) in servers.iter().enumerate() {
+        for (index, _) in servers.iter().enumerate() {
             let Some(leg) = self.with(symbol, server, index) else {
                 return Ok(None);
             };

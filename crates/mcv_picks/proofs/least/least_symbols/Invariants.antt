@@ -3,7 +3,7 @@ use Rattle.std.specs.BTreeMap.{get}
 use Rattle.std.specs.Ordering.{nat_cmp}
 use Rattle.std.specs.Prelude.{All}
 use Rattle.mcv_picks.specs.Picks.{lent}
-use Rattle.mcv_picks.proofs.Least.{IsKept, IsNoLess}
+use Rattle.mcv_picks.proofs.LeastSymbol.{IsKept, IsNoLess}
 use Rattle.mcv_picks.proofs.least.least_symbols.Given as goal
 
 abbrev pub invariant-loop-leg : goal.invariant-loop-leg

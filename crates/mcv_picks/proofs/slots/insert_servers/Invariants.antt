@@ -4,7 +4,7 @@ use Rattle.std.specs.Option.{option_map, option_or}
 use Rattle.mcv_judge.specs.InMemory.{leg_of}
 use Rattle.mcv_picks.specs.Picks.{lent}
 use Rattle.mcv_picks.specs.Tables.{Slot, slot_cmp}
-use Rattle.mcv_picks.proofs.Slots.{given}
+use Rattle.mcv_picks.proofs.Filled.{given}
 use Rattle.mcv_picks.proofs.slots.insert_servers.Given as goal
 
 abbrev pub invariant-loop-index : goal.invariant-loop-index

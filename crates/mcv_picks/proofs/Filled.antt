@@ -4,7 +4,7 @@ use Rattle.std.specs.Prelude.{is_some, slice_get}
 use Rattle.std.specs.Ordering.{is_eq}
 use Rattle.std.specs.Option.{option_map, option_or}
 use Rattle.std.proofs.lemmas.Bool.{and_parts, cases_Bool, eqb-true, eqb-false, eq-eqb, lt-ltb, le-ltb, ltb-true, ltb-false}
-use Rattle.std.proofs.lemmas.Option.{slice_get_read, slice_get_past}
+use Rattle.std.proofs.lemmas.Option.{slice_get-get_or, slice_get_past}
 use Rattle.mcv_base.specs.declared.request.ServerId.{ServerId}
 use Rattle.mcv_judge.specs.InMemory.{numbers}
 use Rattle.mcv_judge.proofs.Servers.{server_of}
@@ -28,8 +28,8 @@ pub none_there : {X : Type 0} (o : Option X) → is_some o ≡ false → o ≡ N
 none_there None h = refl
 none_there (Some x) h = absurd cc
 
-pub server_read : (servers : List ServerId) (i : ℕ) (x : ServerId) → i < length servers → x ≡ get_or servers i x → slice_get (numbers servers) i ≡ Some x.0
-server_read servers i x l is = server_of servers i ∙ ap (option_map (λ (s : ServerId). s.0)) (slice_get_read servers (length servers) i x refl l is)
+pub server_read : (servers : List ServerId) (i : ℕ) (d : ServerId) → i < length servers → slice_get (numbers servers) i ≡ Some (get_or servers i d).0
+server_read servers i d l = server_of servers i ∙ ap (option_map (λ (s : ServerId). s.0)) (slice_get-get_or servers i d l)
 
 at_index : (d : LegValue) (i x : ℕ) → slice_get d.servers i ≡ Some x → (q : Slot) → q.1 ≡ i → is_at q d ≡ (nat_eq d.symbol q.0 && nat_eq x q.2)
 at_index d i x there q e = rw (e, there) refl

@@ -1,14 +1,14 @@
 -- The symbol with the least number, out of the first legs of all classes.
-use Rattle.std.proofs.Common.{◌≡◌, ◌≢◌, ◌+◌, ◌<◌, ◌≤◌, ◌&&◌, ℕ, suc, Bool, true, false, cond, nat_eq, nat_lt, List, [], ◌∷◌, ◌++◌, length, get_or, Option, Some, None, inl, inr, refl, sym, ap, ◌∙◌, subst, true≢false, arith}
+use Rattle.std.proofs.Common.{◌≡◌, ◌≢◌, ◌+◌, ◌<◌, ◌≤◌, ◌&&◌, ℕ, Bool, true, false, cond, nat_eq, nat_lt, List, [], ◌∷◌, ◌++◌, length, get_or, Option, Some, None, inl, inr, refl, sym, ap, ◌∙◌, subst, arith, ◌⊎◌}
 use Rattle.std.specs.Prelude.{All, IsSomeAnd, find, is_some}
 use Rattle.std.specs.Option.{option_and_then}
 use Rattle.std.proofs.lemmas.Bool.{and_parts, cases_Bool, eqb-true, ltb-true, ltb-false}
 use Rattle.std.proofs.lemmas.List.Elements.{All-append, All-cons, All-head, All-nil, All-tail}
-use Rattle.mcv_judge.specs.Reason.{LegValue, has_server, is_same_server, server_at}
+use Rattle.mcv_judge.specs.Reason.{LegValue, is_same_server, server_at}
 use Rattle.mcv_picks.specs.Picks.{each_with, filling, first_with}
-use Rattle.mcv_picks.specs.Tables.{IsLeast, Slot, StandFor, is_at, is_filled_by, least}
+use Rattle.mcv_picks.specs.Tables.{IsLeast, StandFor, is_at, is_filled_by, is_lesser, least}
 use Rattle.mcv_picks.proofs.Equal.{is_at-twins}
-use Rattle.mcv_picks.proofs.Slots.{none_there}
+use Rattle.mcv_picks.proofs.Filled.{none_there}
 
 -- what is kept for a server once some legs were seen: a symbol that fills, and none of theirs that fills is less
 abbrev pub IsKept : List LegValue → (server : ℕ) → Option ℕ → Type 0
@@ -40,10 +40,10 @@ module _ (legs : List LegValue) (x : ℕ) where
   filled_parts d h = (and_parts (is_same_server (server_at d 0) (Some x)) (is_some (filling legs d.symbol x)) h).1
 
   -- what is kept once a further leg was seen
-  abbrev with_leg : Option ℕ → LegValue → Option ℕ
+  abbrev pub with_leg : Option ℕ → LegValue → Option ℕ
   with_leg old d = cond (is_filled_by legs x d) (Some (least old d.symbol)) old
 
-  kept_more : (old : Option ℕ) (d : LegValue) → IsKept legs x old → IsKept legs x (with_leg old d)
+  pub kept_more : (old : Option ℕ) (d : LegValue) → IsKept legs x old → IsKept legs x (with_leg old d)
   kept_more old d kept = elim (cases_Bool (is_filled_by legs x d)) [
     | inl h ↦ rw h (kept_lesser old d.symbol (filled_parts d h) kept)
     | inr h ↦ rw h kept
@@ -66,6 +66,37 @@ module _ (legs : List LegValue) (x : ℕ) where
   no_less_more old xs d before =
       All-append (IsNoLess legs x (with_leg old d)) xs (d ∷ []) (λ k e l. le_more old d (get_or xs k e) (before k e l))
       (All-cons (IsNoLess legs x (with_leg old d)) d [] (le_own old d) (All-nil (IsNoLess legs x (with_leg old d))))
+
+  own_server : (d : LegValue) (y : ℕ) → server_at d 0 ≡ Some y → is_filled_by legs x d ≡ (nat_eq y x && is_some (filling legs d.symbol x))
+  own_server d y is = ap (λ o. is_same_server o (Some x) && is_some (filling legs d.symbol x)) is
+
+  lesser_is : (old : Option ℕ) (s : ℕ) → is_lesser old s ≡ true → least old s ≡ s
+  lesser_is None s h = refl
+  lesser_is (Some t) s h = rw h refl
+
+  no_lesser : (old : Option ℕ) (s : ℕ) → is_lesser old s ≡ false → Some (least old s) ≡ old
+  no_lesser None s h = absurd cc
+  no_lesser (Some t) s h = rw h refl
+
+  -- the leg's symbol goes in for its server
+  pub inserted : (d : LegValue) (y : ℕ) (old : Option ℕ) (b : Bool) → b ≡ nat_eq y x → server_at d 0 ≡ Some y → (y ≡ x → is_some (filling legs d.symbol x) ≡ true) → (y ≡ x → is_lesser old d.symbol ≡ true) → cond b (Some d.symbol) old ≡ with_leg old d
+  inserted d y old true e is fills lesser =
+      let one = eqb-true y x (sym e) in
+      rw (own_server d y is, ← e, fills one, lesser_is old d.symbol (lesser one)) refl
+  inserted d y old false e is fills lesser = rw (own_server d y is, ← e) refl
+
+  -- it doesn't
+  pub left : (d : LegValue) (y : ℕ) (old : Option ℕ) → server_at d 0 ≡ Some y → (y ≡ x → (is_lesser old d.symbol ≡ false) ⊎ (is_some (filling legs d.symbol x) ≡ false)) → old ≡ with_leg old d
+  left d y old is why = elim (cases_Bool (nat_eq y x)) [
+    | inl e ↦ elim (why (eqb-true y x e)) [
+      | inl more ↦ elim (cases_Bool (is_some (filling legs d.symbol x))) [
+        | inl f ↦ rw (own_server d y is, e, f) (sym (no_lesser old d.symbol more))
+        | inr f ↦ rw (own_server d y is, e, f) refl
+      ]
+      | inr f ↦ rw (own_server d y is, e, f) refl
+    ]
+    | inr e ↦ rw (own_server d y is, e) refl
+  ]
 
   and_then_some : {X Y : Type 0} (f : X → Option Y) (o : Option X) → is_some (option_and_then f o) ≡ true → is_some o ≡ true
   and_then_some f None h = absurd cc
