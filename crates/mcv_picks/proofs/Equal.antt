@@ -18,7 +18,7 @@ then_eq Less b = refl
 then_eq Equal b = refl
 then_eq Greater b = refl
 
-nat_level : (x y : ℕ) → is_eq (nat_cmp x y) ≡ nat_eq x y
+pub nat_level : (x y : ℕ) → is_eq (nat_cmp x y) ≡ nat_eq x y
 nat_level x y = grind (arith, nat_tests)
 
 and_three : (a b c : Bool) → ((a && b) && c) ≡ (a && (b && c))

@@ -2,8 +2,8 @@
 
 ghost use Rattle.std.specs.Option.{option_map};
 ghost use Rattle.std.specs.Prelude.{◌≡◌, IfOk, is_some, map};
-ghost use Rattle.mcv_judge.specs.InMemory.{leg_of, legs_of};
-ghost use Rattle.mcv_picks.specs.Picks.{filling, first_twin, first_with, lent};
+ghost use Rattle.mcv_judge.specs.InMemory.{leg_of, legs_of, numbers};
+ghost use Rattle.mcv_picks.specs.Picks.{each_with, filling, first_twin, first_with, lent};
 ghost use Rattle.mcv_picks.specs.Tables.{StandFor};
 
 use crate::classes::classes;
@@ -71,16 +71,10 @@ impl<'a> Tables<'a> {
     pub fn fills(&self, symbol: usize, server: ServerId) -> bool
         ensures { result ≡ is_some (filling self.now symbol server.0) }
     {
-        let Some(first) = self.with(symbol, server, 0) else {
-            return false;
-        };
-        let servers = first.servers;
-        for (index, _) in servers.iter().enumerate() {
-            if self.with(symbol, server, index).is_none() {
-                return false;
-            }
+        match self.with(symbol, server, 0) {
+            Some(first) => is_each_there(self, symbol, server, first.servers),
+            None => false,
         }
-        true
     }
 
     /// For each index of the symbol the first leg that has the server there, or None where an index has none.
@@ -92,17 +86,41 @@ impl<'a> Tables<'a> {
     ) -> Result<Option<Vec<&'a Leg<'a>>>, AllocError>
         ensures { IfOk result (λ o. option_map (λ v. map lent v.items) o ≡ filling self.now symbol server.0) }
     {
-        let Some(first) = self.with(symbol, server, 0) else {
-            return Ok(None);
-        };
-        let mut legs = Vec::new(alloc);
-        let servers = first.servers;
-        for (index, _) in servers.iter().enumerate() {
-            let Some(leg) = self.with(symbol, server, index) else {
-                return Ok(None);
-            };
-            legs.push(leg)?;
+        match self.with(symbol, server, 0) {
+            Some(first) => each_with(alloc, self, symbol, server, first.servers),
+            None => Ok(None),
         }
-        Ok(Some(legs))
     }
+}
+
+/// Whether each index of the servers has a leg of the symbol with the server there.
+fn is_each_there(tables: &Tables, symbol: usize, server: ServerId, servers: &[ServerId]) -> bool
+    ensures { result ≡ is_some (each_with tables.now symbol server.0 0 (numbers servers.now)) }
+{
+    for (index, _) in servers.iter().enumerate() {
+        if tables.with(symbol, server, index).is_none() {
+            return false;
+        }
+    }
+    true
+}
+
+/// For each index of the servers the first leg of the symbol that has the server there, or None where one has none.
+fn each_with<'a>(
+    alloc: Global,
+    tables: &Tables<'a>,
+    symbol: usize,
+    server: ServerId,
+    servers: &[ServerId],
+) -> Result<Option<Vec<&'a Leg<'a>>>, AllocError>
+    ensures { IfOk result (λ o. option_map (λ v. map lent v.items) o ≡ each_with tables.now symbol server.0 0 (numbers servers.now)) }
+{
+    let mut legs = Vec::new(alloc);
+    for (index, _) in servers.iter().enumerate() {
+        match tables.with(symbol, server, index) {
+            Some(leg) => legs.push(leg)?,
+            None => return Ok(None),
+        }
+    }
+    Ok(Some(legs))
 }

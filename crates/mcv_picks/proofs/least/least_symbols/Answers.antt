@@ -2,7 +2,7 @@ use Rattle.std.proofs.Common.{◌≡◌, ◌∷◌, [], ◌++◌, map, take, ap,
 use Rattle.std.specs.BTreeMap.{get}
 use Rattle.std.specs.Ordering.{nat_cmp}
 use Rattle.std.specs.Prelude.{All}
-use Rattle.std.proofs.lemmas.List.{map_more}
+use Rattle.std.proofs.lemmas.List.{map_more, take_all}
 use Rattle.mcv_picks.specs.Picks.{lent}
 use Rattle.mcv_picks.proofs.LeastSymbol.{IsKept, IsNoLess, kept_more, no_less_more, is_least}
 use Rattle.mcv_picks.proofs.least.least_symbols.Goals as goal
@@ -23,4 +23,9 @@ loop-leg-preserved c =
     }
 
 pub returns : goal.returns
-returns c = λ x. ?
+returns c =
+    let firsts = c.args.firsts.now in
+    let whole = take_all c.loop-leg.leg-index firsts c.loop-leg-test.false in
+    λ x.
+    is_least c.args.tables.now x (map lent firsts) c.requires (get nat_cmp c.loop-leg.table x) (c.loop-leg.invariant.kept x)
+    (subst (λ ds. All (IsNoLess c.args.tables.now x (get nat_cmp c.loop-leg.table x)) (map lent ds)) whole (c.loop-leg.invariant.no_less x))
