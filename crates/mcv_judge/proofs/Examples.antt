@@ -1,5 +1,5 @@
 -- The definitions at a small certificate. Gets go to a leaf with two servers by its hash, deletes to each server by a leg of its own.
-use Rattle.std.proofs.Common.{◌≡◌, ℕ, true, List, [], ◌∷◌, Some, None, refl}
+use Rattle.std.proofs.Common.{◌≡◌, true, [], ◌∷◌, Some, None, refl}
 use Rattle.mcv_judge.specs.Pair.{ReasonValue, never, twin, same, all, Place, PairValue, place_cmp}
 use Rattle.mcv_judge.specs.Reason.{LegValue, BlockValue, fault_of}
 use Rattle.mcv_judge.specs.Faults.{fault_at}

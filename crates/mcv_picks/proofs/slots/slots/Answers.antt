@@ -1,4 +1,4 @@
-use Rattle.std.proofs.Common.{◌≡◌, cond, Some, None, ◌∷◌, [], ◌++◌, map, take, ap, sym, ◌∙◌}
+use Rattle.std.proofs.Common.{cond, Some, None, ◌∷◌, [], ◌++◌, map, take, ap, sym, ◌∙◌}
 use Rattle.std.specs.Option.{option_or}
 use Rattle.std.specs.Prelude.{find}
 use Rattle.std.proofs.lemmas.List.{map_more}
