@@ -1,7 +1,7 @@
 -- A reason that is picked has no fault, and where none is picked each has one.
 use Rattle.std.proofs.Common.{◌≡◌, ◌≢◌, ◌⊎◌, ℕ, suc, Bool, true, false, nat_eq, List, [], ◌∷◌, length, map, Option, Some, None, inl, inr, refl, sym, ap, ◌∙◌, subst, true≢false, arith}
 use Rattle.std.specs.Prelude.{All, find, if◌then◌else◌, is_some, slice_get, slice_index}
-use Rattle.std.specs.Option.{option_and_then, option_map, option_or}
+use Rattle.std.specs.Option.{option_and_then, option_map}
 use Rattle.std.specs.Ordering.{is_eq}
 use Rattle.std.specs.declared.cmp.Ordering.TheVariants.{Less}
 use Rattle.std.proofs.lemmas.Bool.{and_parts, cases_Bool, eqb-true, eq-eqb}
@@ -13,7 +13,7 @@ use Rattle.mcv_judge.specs.Faults.{AreLegsRising}
 use Rattle.mcv_judge.specs.declared.fault.PairFault.{PairFault}
 use Rattle.mcv_judge.specs.declared.fault.PairFault.TheVariants.{CanBeAcknowledged, NotAcknowledged, OtherServer}
 use Rattle.mcv_picks.specs.Picks.{IsFirstFilling, before_others, each_with, filling, first_twin, first_with}
-use Rattle.mcv_picks.specs.Reasons.{AreSized, IsReasonAt, all_legs, same_leg, whole_reason}
+use Rattle.mcv_picks.specs.Reasons.{AreSized, IsReasonAt, IsReasonBeside, whole_reason}
 use Rattle.mcv_picks.proofs.Equal.{same_itself}
 
 -- ---- what a search found
@@ -121,15 +121,18 @@ module _ (legs : List LegValue) (up : AreLegsRising legs) where
       subst (Fills x) begin.1 (filled s x d begin.0 is (subst (AreThere s x 0 (length d.servers)) (sym begin.1) (each_there s x 0 d.servers ds h)))
 
   -- at an index
-  at_holds : (leaf : LegValue) (b : BlockValue) → b.acknowledged ≡ legs → (i x : ℕ) (r : ReasonValue) → server_at leaf i ≡ Some x → (found : Option (List LegValue)) → IsFirstFilling legs x found → (o : Option LegValue) → first_with legs leaf.symbol x i ≡ o → Some r ≡ option_or (option_map (same_leg i) o) (option_map (all_legs i) found) → fault_of b leaf r ≡ None
-  at_holds leaf b same_legs i x r server found least (Some d) is h =
-      let one : r ≡ same_leg i d = cc in
-      rw (one, same_legs, server) (leg_holds (has_server leaf.symbol (Some x) i) d is)
-  at_holds leaf b same_legs i x r server None least None is h = absurd cc
-  at_holds leaf b same_legs i x r server (Some ds) least None is h =
-      let one : r ≡ all_legs i ds = cc in
+  all_hold : (leaf : LegValue) (b : BlockValue) → b.acknowledged ≡ legs → (i x : ℕ) (r : ReasonValue) → server_at leaf i ≡ Some x → (found : Option (List LegValue)) → IsFirstFilling legs x found → Some r ≡ option_map (λ ds. all i (map (λ d. d.position) ds)) found → fault_of b leaf r ≡ None
+  all_hold leaf b same_legs i x r server None least h = absurd cc
+  all_hold leaf b same_legs i x r server (Some ds) least h =
+      let one : r ≡ all i (map (λ (d : LegValue). d.position) ds) = cc in
       let fills = all_holds least.0 x ds (first_with legs least.0 x 0) refl least.1 in
       rw (one, same_legs, server, fills.0, fills.1) refl
+
+  at_holds : (leaf : LegValue) (b : BlockValue) → b.acknowledged ≡ legs → (i x : ℕ) (r : ReasonValue) → server_at leaf i ≡ Some x → (o : Option LegValue) → first_with legs leaf.symbol x i ≡ o → IsReasonBeside o legs i x (Some r) → fault_of b leaf r ≡ None
+  at_holds leaf b same_legs i x r server (Some d) is h =
+      let one : r ≡ same i d.position = cc in
+      rw (one, same_legs, server) (leg_holds (has_server leaf.symbol (Some x) i) d is)
+  at_holds leaf b same_legs i x r server None is h = all_hold leaf b same_legs i x r server h.0 h.1 h.2
 
 -- for all indexes
 twin_holds : (b : BlockValue) (leaf : LegValue) (r : ReasonValue) → AreLegsRising b.acknowledged → (o : Option LegValue) → first_twin b.acknowledged leaf ≡ o → option_map (λ d. twin d.position) o ≡ Some r → fault_of b leaf r ≡ None
@@ -150,7 +153,7 @@ whole_holds b leaf r up h = elim (cases_Bool b.can_be_acknowledged) [
 pub picked_hold : (b : BlockValue) (leaf : LegValue) (r : ReasonValue) → AreLegsRising b.acknowledged →
     (whole_reason b.can_be_acknowledged b.acknowledged leaf ≡ Some r) ⊎ ((i : ℕ) × (x : ℕ) × (server_at leaf i ≡ Some x) × IsReasonAt b.acknowledged leaf i x (Some r)) → fault_of b leaf r ≡ None
 picked_hold b leaf r up (inl h) = whole_holds b leaf r up h
-picked_hold b leaf r up (inr h) = at_holds b.acknowledged up leaf b refl h.0 h.1 r h.2 h.3.0 h.3.1 (first_with b.acknowledged leaf.symbol h.1 h.0) refl h.3.2
+picked_hold b leaf r up (inr h) = at_holds b.acknowledged up leaf b refl h.0 h.1 r h.2 (first_with b.acknowledged leaf.symbol h.1 h.0) refl h.3
 
 -- ---- where none is picked
 
@@ -212,9 +215,9 @@ no_some : {X Y : Type 0} (f : X → Y) (o : Option X) → option_map f o ≡ Non
 no_some f None h = refl
 no_some f (Some x) h = absurd cc
 
-none_first : {X : Type 0} (o p : Option X) → None ≡ option_or o p → (o ≡ None) × (p ≡ None)
-none_first None p h = (refl, sym h)
-none_first (Some x) p h = absurd cc
+beside_none : (legs : List LegValue) (i x : ℕ) (o : Option LegValue) → IsReasonBeside o legs i x None → (o ≡ None) × ((s : ℕ) → filling legs s x ≡ None)
+beside_none legs i x (Some d) h = absurd cc
+beside_none legs i x None h = (refl, subst (IsFirstFilling legs x) (no_some (λ ds. all i (map (λ d. d.position) ds)) h.0 (sym h.2)) h.1)
 
 fine_all : (legs : List LegValue) (x : Option ℕ) (ps : List (List ℕ)) → (if is_one_missing legs ps then Some NotAcknowledged else unless (fill_a_symbol legs x ps) OtherServer) ≡ None → fill_a_symbol legs x ps ≡ true
 fine_all legs x ps h = elim (cases_Bool (is_one_missing legs ps)) [
@@ -240,19 +243,16 @@ none_holds sizes b leaf i x r sized server whole picked index h = by r index h
     no : (b.can_be_acknowledged ≡ true) × (first_twin b.acknowledged leaf ≡ None)
     no = no_twin b.can_be_acknowledged b.acknowledged leaf whole
 
-    none : (option_map (same_leg i) (first_with b.acknowledged leaf.symbol x i) ≡ None) × (option_map (all_legs i) picked.0 ≡ None)
-    none = none_first (option_map (same_leg i) (first_with b.acknowledged leaf.symbol x i)) (option_map (all_legs i) picked.0) picked.2
-
-    unfilled : (s : ℕ) → filling b.acknowledged s x ≡ None
-    unfilled = subst (IsFirstFilling b.acknowledged x) (no_some (all_legs i) picked.0 none.1) picked.1
+    none : (first_with b.acknowledged leaf.symbol x i ≡ None) × ((s : ℕ) → filling b.acknowledged s x ≡ None)
+    none = beside_none b.acknowledged i x (first_with b.acknowledged leaf.symbol x i) picked
 
     by : (q : ReasonValue) → (index_of q ≡ i) ⊎ (is_whole q ≡ true) → fault_of b leaf q ≡ None → ⊥
     by never index h = absurd (let some : ◌≡◌ {A = Option PairFault} (Some CanBeAcknowledged) None = rw no.0 at h in cc)
     by (twin p) index h = stands b.acknowledged p (is_twin leaf) no.1 h
     by (same j p) index h =
         let own : j ≡ i = at_index (same j p) i refl index in
-        stands b.acknowledged p (has_server leaf.symbol (Some x) i) (no_some (same_leg i) (first_with b.acknowledged leaf.symbol x i) none.0)
+        stands b.acknowledged p (has_server leaf.symbol (Some x) i) none.0
         (rw (own, server) at h)
     by (all j ps) index h =
         let own : j ≡ i = at_index (all j ps) i refl index in
-        fills_none b.acknowledged sizes sized x unfilled ps (fine_all b.acknowledged (Some x) ps (rw (own, server) at h))
+        fills_none b.acknowledged sizes sized x none.1 ps (fine_all b.acknowledged (Some x) ps (rw (own, server) at h))

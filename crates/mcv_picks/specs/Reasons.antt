@@ -1,6 +1,6 @@
 -- The reason that a certificate gives: the first that holds in the order never, twin, same, all (own).
 use Rattle.std.specs.Prelude.{All, ◌≡◌, ◌≢◌, ◌⊎◌, ℕ, Bool, true, List, Option, Some, None, if◌then◌else◌, length, map, slice_index}
-use Rattle.std.specs.Option.{option_map, option_or}
+use Rattle.std.specs.Option.{option_map}
 use Rattle.mcv_judge.specs.Pair.{ReasonValue, never, twin, same, all, index_of}
 use Rattle.mcv_judge.specs.Reason.{LegValue, BlockValue, fault_of, is_whole, server_at}
 use Rattle.mcv_judge.specs.Faults.{AreLegsRising}
@@ -10,15 +10,13 @@ use Rattle.mcv_picks.specs.Picks.{IsFirstFilling, first_twin, first_with}
 abbrev pub whole_reason : (can_be_acknowledged : Bool) → List LegValue → LegValue → Option ReasonValue
 whole_reason can legs leaf = if can then option_map (λ d. twin d.position) (first_twin legs leaf) else Some never
 
-abbrev pub same_leg : ℕ → LegValue → ReasonValue
-same_leg i d = same i d.position
+-- the one at an index, where the leaf has this server, if there is one: that of the first leg that has the server at the index, or else of those that have it at all indexes of one symbol
+abbrev pub IsReasonBeside : Option LegValue → List LegValue → (index server : ℕ) → Option ReasonValue → Type 0
+IsReasonBeside (Some d) legs i x r = r ≡ Some (same i d.position)
+IsReasonBeside None legs i x r = (found : Option (List LegValue)) × IsFirstFilling legs x found × (r ≡ option_map (λ ds. all i (map (λ d. d.position) ds)) found)
 
-abbrev pub all_legs : ℕ → List LegValue → ReasonValue
-all_legs i ds = all i (map (λ d. d.position) ds)
-
--- the one at an index, where the leaf has this server, if there is one
 abbrev pub IsReasonAt : List LegValue → LegValue → (index server : ℕ) → Option ReasonValue → Type 0
-IsReasonAt legs leaf i x r = (found : Option (List LegValue)) × IsFirstFilling legs x found × (r ≡ option_or (option_map (same_leg i) (first_with legs leaf.symbol x i)) (option_map (all_legs i) found))
+IsReasonAt legs leaf i x r = IsReasonBeside (first_with legs leaf.symbol x i) legs i x r
 
 -- each leg has as many servers as its symbol has indexes
 abbrev pub AreSized : (sizes : List ℕ) → List LegValue → Type 0

@@ -3,12 +3,14 @@
 ghost use Rattle.std.specs.Option.{option_map};
 ghost use Rattle.std.specs.Prelude.{◌≡◌, IfOk, map};
 ghost use Rattle.mcv_judge.specs.InMemory.{leg_of, legs_of};
+ghost use Rattle.mcv_judge.specs.Pair.{reason_of};
+ghost use Rattle.mcv_picks.specs.Reasons.{IsReasonAt, whole_reason};
 ghost use Rattle.mcv_picks.specs.Picks.{IsFirstFilling, first_twin, first_with, lent};
 
 use crate::least::least_symbols;
 use crate::tables::Tables;
-use mcv_base::ServerId;
-use mcv_judge::Leg;
+use mcv_base::{Position, ServerId};
+use mcv_judge::{Leg, Reason};
 use std::alloc::{AllocError, Global};
 use std::collections::BTreeMap;
 use std::marker::Model;
@@ -71,4 +73,53 @@ impl<'a> Picks<'a> {
         };
         self.tables.filling(alloc, *symbol, server)
     }
+
+    /// The reason for all indexes of a leaf, if there is one: no delete can be acknowledged, or the leaf has a twin.
+    pub fn whole_reason(
+        &self,
+        alloc: Global,
+        can_be_acknowledged: bool,
+        leaf: &Leg<'a>,
+    ) -> Result<Option<Reason>, AllocError>
+        ensures { IfOk result (λ r. option_map reason_of r ≡ whole_reason can_be_acknowledged self.now (leg_of leaf.now)) }
+    {
+        if !can_be_acknowledged {
+            return Ok(Some(Reason::Never));
+        }
+        match self.twin(leaf) {
+            Some(leg) => Ok(Some(Reason::Twin(leg.position.copy(alloc)?))),
+            None => Ok(None),
+        }
+    }
+
+    /// The reason at an index where the leaf has the server, if there is one: one leg has it there, or those of one
+    /// symbol have it at all their indexes.
+    pub fn reason_at(
+        &self,
+        alloc: Global,
+        leaf: &Leg<'a>,
+        index: usize,
+        server: ServerId,
+    ) -> Result<Option<Reason>, AllocError>
+        ensures { IfOk result (λ r. IsReasonAt self.now (leg_of leaf.now) index server.0 (option_map reason_of r)) }
+    {
+        if let Some(leg) = self.same(leaf.symbol, server, index) {
+            return Ok(Some(Reason::Same(index, leg.position.copy(alloc)?)));
+        }
+        match self.all(alloc, server)? {
+            Some(legs) => Ok(Some(Reason::All(index, positions(alloc, legs.as_slice())?))),
+            None => Ok(None),
+        }
+    }
+}
+
+/// The positions of the legs.
+fn positions<'a>(alloc: Global, legs: &[&'a Leg<'a>]) -> Result<Vec<Position>, AllocError>
+    ensures { IfOk result (λ v. v.items ≡ map (λ d. d.position) (map lent legs.now)) }
+{
+    let mut positions = Vec::new(alloc);
+    for leg in legs {
+        positions.push(leg.position.copy(alloc)?)?;
+    }
+    Ok(positions)
 }
