@@ -20,6 +20,3 @@ pub use position::Position;
 pub use reply::{FixedReply, Outcome, Part, Parts, Reply};
 pub use request::{Ask, CallId, LegId, LegRequest, Moment, Request, ServerId};
 pub use server::{ServerText, is_server, server_law};
-
-#[cfg(test)]
-mod tests;

@@ -40,6 +40,10 @@ no_command : faults (codes "mcv" ∷ []) ≡ MissingSubcommand ∷ []
 unfolding clap_on_literals
 no_command = refl
 
+no_words : faults [] ≡ MissingSubcommand ∷ []
+unfolding clap_on_literals
+no_words = refl
+
 unknown_command : faults (codes "mcv" ∷ codes "run" ∷ []) ≡ UnknownArgument ∷ InvalidSubcommand ∷ []
 unfolding clap_on_literals
 unknown_command = refl

@@ -1,7 +1,7 @@
 -- What the words of a command line ask for. The words are those of the shell, the program's name
 -- first; how they are read is clap's: `fault_of` lists the kinds of fault that it finds with words,
 -- and `subcommand_of` the subcommand that they name.
-use Rattle.std.specs.Prelude.{◌≡◌, ◌≢◌, ⊤, ℕ, true, List, [], ◌∷◌, Option, Some, codes}
+use Rattle.std.specs.Prelude.{◌≡◌, ◌≢◌, ◌⊎◌, ⊤, ℕ, true, List, [], ◌∷◌, Option, Some, codes}
 use Rattle.std.specs.Str.Parse.{IsNumeral, digits_value, without_leading_plus}
 use Rattle.clap.specs.Words.{App, IsAmong, Kinds, Row, Rule, Text, fault_of, new_app, new_rule, one_of, subcommand_of, with_rule, with_subcommand}
 use Rattle.clap.specs.declared.builder.value_parser.ValueParser.TheVariants as parsers
@@ -61,10 +61,10 @@ IsLineFault words BadLine = (kind : ErrorKind) × (kind ≢ DisplayHelp) × IsAm
 IsLineFault words Memory = ⊤
 IsLineFault words (Help text) = IsAmong DisplayHelp (faults words)
 
--- which fault clap's kind of error is
+-- which fault clap's kind of error is; the text of the help takes memory too
 abbrev pub IsFaultOfKind : ErrorKind → LineFault → Type 0
 IsFaultOfKind kind BadLine = (kind ≢ OutOfMemory) × (kind ≢ DisplayHelp)
-IsFaultOfKind kind Memory = ⊤
+IsFaultOfKind kind Memory = (kind ≡ OutOfMemory) ⊎ (kind ≡ DisplayHelp)
 IsFaultOfKind kind (Help text) = kind ≡ DisplayHelp
 
 abbrev pub line_fault_number : LineFault → ℕ

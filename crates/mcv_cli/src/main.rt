@@ -2,6 +2,10 @@
 //! standard output is written.
 #![tactic(auto)]
 
+ghost use Rattle.std.specs.Prelude.{◌≡◌, ◌⊎◌, IfErr};
+ghost use Rattle.mcv_cli.specs.declared.stop.Stop.TheVariants.{BadLine, Run as stopped_run};
+ghost use Rattle.mcv_legs.specs.declared.fault.RunFault.TheVariants.{Memory as out_of_memory};
+
 mod program;
 mod stop;
 mod words;
@@ -23,8 +27,10 @@ fn main(rt: HostRuntime) -> ExitCode {
     }
 }
 
-/// The words of the command line, of which the first is the program's name.
-fn given_words<R: Env + AllocGlobal>(rt: &R) -> Result<Vec<String>, Stop> {
+/// The words of the command line, of which the first is the program's name; a bad line where one isn't UTF-8.
+fn given_words<R: Env + AllocGlobal>(rt: &R) -> Result<Vec<String>, Stop>
+    ensures { IfErr result (λ stop. (stop ≡ BadLine) ⊎ (stop ≡ stopped_run out_of_memory)) }
+{
     match env::args(rt) {
         Ok(words) => Ok(words.collect(rt.alloc())?),
         Err(error) if error.kind() == io::ErrorKind::OutOfMemory => {

@@ -12,6 +12,3 @@ mod strip;
 pub use fault::CommentFault;
 pub use laws::{one_reading, one_stripping, open_or_stripped, stripped_or_open};
 pub use strip::strip_comments;
-
-#[cfg(test)]
-mod tests;

@@ -1,5 +1,5 @@
 -- The definitions at small values.
-use Rattle.std.proofs.Common.{◌≡◌, [], ◌∷◌, true, false, Some, None, refl, codes}
+use Rattle.std.proofs.Common.{◌≡◌, [], ◌∷◌, false, Some, None, refl, codes}
 use Rattle.serde_json.specs.Data.{Data, number, unsigned, string, array, object, no_items, item, no_members, member}
 use Rattle.mcv_base.specs.declared.operation.Op.TheVariants.{Delete}
 use Rattle.mcv_pools.specs.declared.symbol.HashFunc.TheVariants.{Crc32}
@@ -11,6 +11,7 @@ use Rattle.mcv_config.specs.Aliases.{alias_fault, alias_read, aliases_field, is_
 use Rattle.mcv_config.specs.Config.{plan_read, root}
 use Rattle.mcv_config.specs.Entries.{entries_read, entry_fields, entry_read, routing_read}
 use Rattle.mcv_config.specs.Hash.{func_named, func_read, hash_fields}
+use Rattle.mcv_config.specs.Limits.{handles_in, IsWithin}
 use Rattle.mcv_names.specs.Lists.{each, each_member, some_items}
 use Rattle.mcv_config.specs.Numbers.{index_read, seconds_read}
 use Rattle.mcv_config.specs.Plan.{Named, Plan, pool, server, null, error, all_sync, migrate, operation_selector, no_named, named}
@@ -94,6 +95,20 @@ no_such_pool : root [] (two_pools (string (codes "PoolRoute|Z"))) ≡ refused Un
 unfolding root plan_read routing_read pool_read servers_read listed_servers each server_read is_server is_host is_port each_member keys_read key_fault pool_named is_elsewhere route text_route cut handle_named
 no_such_pool = refl
 
+import_for_a_pool : pool_read [] (codes "/pools/A") (codes "A") (string (codes "@import:a.json")) ≡ refused LeftOut (codes "/pools/A")
+unfolding pool_read is_elsewhere
+import_for_a_pool = refl
+
+text_for_a_pool : pool_read [] (codes "/pools/A") (codes "A") (string (codes "a:1")) ≡ refused WrongKind (codes "/pools/A")
+unfolding pool_read is_elsewhere
+text_for_a_pool = refl
+
+-- {"name": 7, "servers": []} has two faults
+name_of_a_pool : pool_read [] (codes "/pools/A") (codes "A") (object (member (codes "name") (number (unsigned 7)) (member (codes "servers") (array no_items) no_members)))
+    ≡ bad (record { kind = WrongKind; path = codes "/pools/A/name" } ∷ record { kind = Empty; path = codes "/pools/A/servers" } ∷ [])
+unfolding pool_read servers_read listed_servers keys_read key_fault
+name_of_a_pool = refl
+
 -- one value with two faults: of its type, and of a key that no handle has
 left_out_type : root [] (two_pools (object (member (codes "pick") (string []) (member (codes "type") (string (codes "RandomRoute")) no_members))))
     ≡ bad (record { kind = UnknownKey; path = codes "/route/pick" } ∷ record { kind = LeftOut; path = codes "/route/type" } ∷ [])
@@ -145,3 +160,16 @@ no_route = refl
 no_servers : servers_read [] (codes "/pools/A") (of_pool (array no_items)) ≡ refused Empty (codes "/pools/A/servers")
 unfolding servers_read listed_servers
 no_servers = refl
+
+abbrev both_servers : Named
+both_servers = all_sync (named (server 0 0) (named (server 0 1) no_named))
+
+-- the servers of a pool are handles too, one level deeper
+three_handles : handles_in both_servers ≡ 3
+three_handles = refl
+
+on_two_levels : IsWithin 2 both_servers
+on_two_levels = (tt, (tt, tt))
+
+not_on_one_level : IsWithin 1 both_servers → ⊥
+not_on_one_level h = h.0

@@ -8,4 +8,9 @@ pub mod RoutingPrefixes
 pub mod SoundAliases
 pub mod SoundEntries
 pub mod Sound
+pub mod Fits
+pub mod LimitsOfFields
+pub mod LimitsOfPools
+pub mod LimitsOfRoutes
+pub mod Limits
 mod Examples

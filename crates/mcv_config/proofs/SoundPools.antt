@@ -9,11 +9,12 @@ use Rattle.mcv_pools.specs.Table.{is_in, number_in, numbered, with_entry}
 use Rattle.mcv_pools.proofs.Tables.{kept, new, grown, numbered_last}
 use Rattle.mcv_names.specs.declared.handle.Object.TheVariants as objects
 use Rattle.mcv_names.specs.Fault.{Read}
+use Rattle.mcv_config.specs.Pools.{name_read}
 use Rattle.mcv_names.specs.Handles.{key_fault, keys_read}
 use Rattle.mcv_names.specs.Lists.{each, each_member, items_list, member_names, required, text_read}
 use Rattle.mcv_names.specs.Path.{key_step, item_step}
 use Rattle.mcv_config.specs.Plan.{IsSoundPool}
-use Rattle.mcv_config.specs.Pools.{Pools, Table, entered, is_full, listed_servers, pool_of_members, pool_read, pools_of_members, pools_read, server_read, server_text, servers_of_list, servers_read}
+use Rattle.mcv_config.specs.Pools.{Pools, Table, entered, is_full, listed_servers, pool_limit, pool_of_members, pool_read, pools_of_members, pools_read, server_read, server_text, servers_of_list, servers_read}
 use Rattle.mcv_names.proofs.Holds.{Holds, holds_bind, holds_then, holds_also, holds_if}
 
 -- ---- a text more in a table
@@ -133,7 +134,7 @@ servers_some list table path d ds once =
 listed_grown : (table : Table) (path : List ℕ) (ds : List Data) → IsDistinct bytes_eq table → Holds (Grown IsPool table) (listed_servers table path ds)
 unfolding listed_servers
 listed_grown table path [] once = tt
-listed_grown table path (d ∷ ds) once = holds_if (Grown IsPool table) (nat_lt 4096 (length (d ∷ ds))) _ _ (λ _. tt) (λ _. servers_some path table path d ds once)
+listed_grown table path (d ∷ ds) once = holds_if (Grown IsPool table) (nat_lt pool_limit (length (d ∷ ds))) _ _ (λ _. tt) (λ _. servers_some path table path d ds once)
 
 of_list_grown : (table : Table) (path : List ℕ) (o : Option Items) → IsDistinct bytes_eq table → Holds (Grown IsPool table) (servers_of_list table path o)
 of_list_grown table path None once = tt
@@ -146,7 +147,9 @@ servers_grown table path d once =
 
 of_members_grown : (table : Table) (path : List ℕ) (d : Data) (o : Option Members) → IsDistinct bytes_eq table → Holds (Grown IsPool table) (pool_of_members table path d o)
 of_members_grown table path d None once = tt
-of_members_grown table path d (Some ms) once = holds_also (Grown IsPool table) (keys_read (key_fault objects.Pool) path ms) (servers_read table path d) (servers_grown table path d once)
+of_members_grown table path d (Some ms) once =
+    holds_also (Grown IsPool table) (keys_read (key_fault objects.Pool) path ms) _
+    (holds_also (Grown IsPool table) (name_read (key_step path (codes "name")) (get (codes "name") d)) (servers_read table path d) (servers_grown table path d once))
 
 pub pool_grown : (table : Table) (path name : List ℕ) (d : Data) → IsDistinct bytes_eq table → Holds (Grown IsPool table) (pool_read table path name d)
 unfolding pool_read

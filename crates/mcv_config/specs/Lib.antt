@@ -14,4 +14,5 @@ pub mod Selectors
 pub mod Routes
 pub mod Entries
 pub mod Config
+pub mod Limits
 pub mod View

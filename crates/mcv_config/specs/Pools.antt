@@ -1,8 +1,9 @@
 -- The pools that a JSON value names, and their servers (mcrouter wiki, Config Files; numbers and limits are own).
-use Rattle.std.specs.Prelude.{ℕ, ◌==◌, ◌&&◌, not, nat_lt, Bool, List, [], ◌∷◌, length, Option, Some, None, if◌then◌else◌, codes, bytes_eq, unwrap_or}
+use Rattle.std.specs.Prelude.{ℕ, ◌==◌, ◌&&◌, not, nat_lt, Bool, List, [], ◌∷◌, length, ⊤, Option, Some, None, if◌then◌else◌, codes, bytes_eq, unwrap_or}
 use Rattle.serde_json.specs.Data.{Data, Items, Members}
 use Rattle.serde_json.specs.Find.{get, as_str, as_array, as_object}
 use Rattle.mcv_pools.specs.Table.{is_in, number_in, numbered, server_limit, with_entry}
+use Rattle.mcv_names.specs.declared.fault.FaultKind.{FaultKind}
 use Rattle.mcv_names.specs.declared.fault.FaultKind.TheVariants.{WrongKind, UnknownPool, Empty, Limit, BadServer, LeftOut}
 use Rattle.mcv_names.specs.declared.handle.Object.TheVariants as objects
 use Rattle.mcv_names.specs.Fault.{Read, good, refused, ◌>>=◌, also}
@@ -36,10 +37,14 @@ server_read list table path d =
     server_text path text >>= λ (server : List ℕ).
     (if is_full table server then refused Limit list else good (entered table server))
 
--- one server or more, 4096 at most (own)
+-- servers of one pool (own)
+abbrev pub pool_limit : ℕ
+pool_limit = 4096
+
+-- one server or more, and no more than the limit
 unfoldable pub listed_servers : Table → List ℕ → List Data → Read (List ℕ × Table)
 listed_servers table path [] = refused Empty path
-listed_servers table path (d ∷ ds) = if nat_lt 4096 (length (d ∷ ds)) then refused Limit path else each (server_read path) table path 0 (d ∷ ds)
+listed_servers table path (d ∷ ds) = if nat_lt pool_limit (length (d ∷ ds)) then refused Limit path else each (server_read path) table path 0 (d ∷ ds)
 
 abbrev pub servers_of_list : Table → List ℕ → Option Items → Read (List ℕ × Table)
 servers_of_list table path None = refused WrongKind path
@@ -52,11 +57,23 @@ servers_read table path d =
 
 -- ---- pools
 
-abbrev pub pool_of_members : Table → List ℕ → Data → Option Members → Read (List ℕ × Table)
-pool_of_members table path d None = refused WrongKind path
-pool_of_members table path d (Some ms) = also (keys_read (key_fault objects.Pool) path ms) (servers_read table path d)
+-- a pool's name is a text where it is there; it isn't used
+abbrev pub name_read : List ℕ → Option Data → Read ⊤
+name_read path None = good tt
+name_read path (Some d) = text_read (as_str d) path >>= λ (name : List ℕ). good tt
 
--- the servers of a pool; its name is the key, and what stands under `name` isn't used
+-- a pool is an object: an import or a macro in its place is left out, anything else is of the wrong kind
+abbrev pub no_pool : Option (List ℕ) → FaultKind
+no_pool None = WrongKind
+no_pool (Some text) = if is_elsewhere text then LeftOut else WrongKind
+
+abbrev pub pool_of_members : Table → List ℕ → Data → Option Members → Read (List ℕ × Table)
+pool_of_members table path d None = refused (no_pool (as_str d)) path
+pool_of_members table path d (Some ms) =
+    also (keys_read (key_fault objects.Pool) path ms)
+    (also (name_read (key_step path (codes "name")) (get (codes "name") d)) (servers_read table path d))
+
+-- the servers of a pool; a pool under `pools` has its key as its name
 unfoldable pub pool_read : Table → List ℕ → List ℕ → Data → Read (List ℕ × Table)
 pool_read table path name d = pool_of_members table path d (as_object d)
 

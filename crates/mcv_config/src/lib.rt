@@ -22,8 +22,3 @@ pub use aliases::alias_law;
 pub use config::{Config, Entry, NamedPolicy, NamedPrefix, NamedRoute, NamedShadow, Pool};
 pub use mcv_names::{ConfigFault, FaultKind};
 pub use read::read_config;
-
-#[cfg(test)]
-mod page_tests;
-#[cfg(test)]
-mod tests;

@@ -1,13 +1,14 @@
 //! The pools that a JSON value names, and their servers.
 
 ghost use Rattle.std.specs.Prelude.{◌≡◌, ◌<◌, List, ℕ, [], length, map, option_map, IfOk, OnOk, bytes_eq, slice_index_or};
+ghost use Rattle.serde_json.specs.Find.{as_str};
 ghost use Rattle.serde_json.specs.View.{view, items_view, members_view};
 ghost use Rattle.mcv_pools.specs.Table.{number_in, numbered, with_entry};
 ghost use Rattle.mcv_names.specs.Fault.{Gives};
 ghost use Rattle.mcv_names.specs.Lists.{each, each_member, items_list, member_names};
 ghost use Rattle.mcv_names.specs.Path.{path_of};
 ghost use Rattle.mcv_config.specs.Plan.{pool_plan};
-ghost use Rattle.mcv_config.specs.Pools.{listed_servers, pool_named, pool_read, pools_read, server_read, servers_read};
+ghost use Rattle.mcv_config.specs.Pools.{listed_servers, name_read, no_pool, pool_named, pool_read, pools_read, server_read, servers_read};
 ghost use Rattle.mcv_config.specs.View.{pools_of};
 
 use crate::config::Pool;
@@ -104,11 +105,41 @@ pub(crate) fn read_pool(
     ensures { Gives (λ p. (pool_plan p, servers.new)) result (pool_read servers.old (path_of trail.now) name.now (view value.now)) }
 {
     let Some(members) = value.as_object() else {
-        return Err(fault_at(alloc, FaultKind::WrongKind, trail));
+        return Err(fault_at(alloc, no_pool(value), trail));
     };
     check_keys(alloc, trail, Object::Pool, members)?;
+    let in_name = Trail::Key(trail, "name");
+    check_name(alloc, &in_name, value.get("name"))?;
     let servers = read_servers(alloc, servers, trail, value)?;
     Ok(Pool { servers })
+}
+
+/// What is wrong with a value that is no object where a pool is wanted.
+fn no_pool(value: &Value) -> FaultKind
+    ensures { result ≡ no_pool (as_str (view value.now)) }
+{
+    let Some(text) = value.as_str() else {
+        return FaultKind::WrongKind;
+    };
+    if is_elsewhere(text) {
+        FaultKind::LeftOut
+    } else {
+        FaultKind::WrongKind
+    }
+}
+
+/// A pool's name, where there is one, is a text. It isn't used.
+#[tactic(auto, using(mcv_names::proofs::Faults::faults))]
+fn check_name(alloc: Global, trail: &Trail<'_>, value: Option<&Value>) -> Result<(), ConfigFault>
+    ensures { Gives (λ _. tt) result (name_read (path_of trail.now) (option_map (λ v. view v.now) value.entry)) }
+{
+    let Some(name) = value else {
+        return Ok(());
+    };
+    match name.as_str() {
+        Some(_) => Ok(()),
+        None => Err(fault_at(alloc, FaultKind::WrongKind, trail)),
+    }
 }
 
 #[tactic(auto, using(mcv_names::proofs::Faults::faults), unfolding(crate::specs::Pools::servers_read))]

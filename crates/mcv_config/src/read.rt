@@ -6,6 +6,7 @@ ghost use Rattle.mcv_names.specs.declared.fault.ConfigFault.TheVariants.{Memory}
 ghost use Rattle.mcv_names.specs.Fault.{Gives, Refuses};
 ghost use Rattle.mcv_names.specs.Path.{path_of};
 ghost use Rattle.mcv_config.specs.Config.{Faulty, FaultyAsJson, Names, NamesAsJson, plan_read, root};
+ghost use Rattle.mcv_config.specs.Limits.{IsWithinLimits};
 ghost use Rattle.mcv_config.specs.Plan.{IsSound, Plan, plan_of};
 
 use crate::config::Config;
@@ -34,6 +35,8 @@ pub fn read_config(alloc: Global, text: &[u8]) -> Result<Config, ConfigFault>
     ensures faulty { IfErr result (λ e. Refuses e (Faulty text.now)) }
     // Every number in it names something, and nothing is empty.
     ensures sound { IfOk result (λ config. IsSound (plan_of config)) }
+    // It is no larger than the limits.
+    ensures limits { IfOk result (λ config. IsWithinLimits (plan_of config)) }
 {
     if text.len() > SIZE_LIMIT {
         return Err(fault_at(alloc, FaultKind::Limit, &Trail::Root));
@@ -51,6 +54,7 @@ fn read_json(alloc: Global, json: &[u8]) -> Result<Config, ConfigFault>
     ensures only { (plan : Plan) → NamesAsJson json.now plan → IfErr result (λ e. e ≡ Memory) }
     ensures faulty { IfErr result (λ e. Refuses e (FaultyAsJson json.now)) }
     ensures sound { IfOk result (λ config. IsSound (plan_of config)) }
+    ensures limits { IfOk result (λ config. IsWithinLimits (plan_of config)) }
 {
     match Value::from_slice(alloc, json) {
         Ok(value) => read_root(alloc, &Trail::Root, &value),

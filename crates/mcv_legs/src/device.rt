@@ -1,14 +1,15 @@
 //! What is read of an input, and how a text is written.
 
-ghost use Rattle.std.specs.Prelude.{◌≡◌, IfSome, IfOk, OnOk, IfErr, take};
+ghost use Rattle.std.specs.Prelude.{◌≡◌, ◌≢◌, IfSome, IfOk, OnOk, IfErr, take};
 ghost use Rattle.std.specs.Io.KnownBytes.{Appends};
+ghost use Rattle.std.specs.IoError.{error_kind};
 ghost use Rattle.mcv_legs.specs.Limits.{input_limit};
 ghost use Rattle.mcv_legs.specs.Fault.{IsOutside};
 
 use crate::fault::RunFault;
 use std::alloc::Global;
 use std::io;
-use std::io::{Read, Write};
+use std::io::{ErrorKind, Read, Write};
 
 /// The most bytes of a configuration.
 pub const CONFIGURATION_LIMIT: usize = 16_777_216;
@@ -19,13 +20,15 @@ const LINE_LIMIT: usize = 259;
 /// The most bytes that are read: a request line, and a configuration of one byte more than one may have.
 const INPUT_LIMIT: u64 = (LINE_LIMIT + CONFIGURATION_LIMIT + 1) as u64;
 
+/// Want of memory is told as such, and all else as a failure of the device.
 fn device_fault(error: &io::Error) -> RunFault
-    ensures { IsOutside result }
+    ensures memory { error_kind error.now ≡ ErrorKind.OutOfMemory → result ≡ RunFault.Memory }
+    ensures device { error_kind error.now ≢ ErrorKind.OutOfMemory → result ≡ RunFault.Device }
+    ensures outside { IsOutside result }
 {
-    if error.kind() == io::ErrorKind::OutOfMemory {
-        RunFault::Memory
-    } else {
-        RunFault::Device
+    match error.kind() {
+        ErrorKind::OutOfMemory => RunFault::Memory,
+        _ => RunFault::Device,
     }
 }
 

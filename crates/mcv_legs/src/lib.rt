@@ -14,6 +14,3 @@ mod text;
 pub use fault::RunFault;
 pub use legs::run_legs;
 pub use request::requests_have_one_reading;
-
-#[cfg(test)]
-mod tests;

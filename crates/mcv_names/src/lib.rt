@@ -19,6 +19,3 @@ pub use names::{
     read_type,
 };
 pub use trail::{Trail, fault_at};
-
-#[cfg(test)]
-mod tests;

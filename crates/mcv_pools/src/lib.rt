@@ -15,6 +15,3 @@ pub use hash::{Fnv, KeyHash, TableHash};
 pub use servers::{Servers, ServersFault};
 pub use symbol::{HashFunc, Symbol};
 pub use symbols::Symbols;
-
-#[cfg(test)]
-mod tests;

@@ -18,6 +18,3 @@ pub use fault::ReplyFault;
 pub use laws::{one_reply, one_version};
 pub use probe::ProbeReader;
 pub use reader::ReplyReader;
-
-#[cfg(test)]
-mod tests;

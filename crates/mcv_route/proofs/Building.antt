@@ -1,13 +1,12 @@
 -- What is built of a handle from what is built of those below it.
 use Rattle.std.proofs.Common.{◌≡◌, ℕ, ◌+◌, ◌<◌, List, [], ◌∷◌, ◌++◌, length, map, take, get_or, Vec, Box, Global, Option, Some, None, refl, ap, sym, subst, ◌∙◌, arith}
 use Rattle.std.specs.List.{All}
-use Rattle.std.specs.Prelude.{slice_index, slice_index_or}
+use Rattle.std.specs.Prelude.{slice_index}
 use Rattle.std.specs.declared.sync.Arc.{Arc}
 use Rattle.std.proofs.lemmas.List.{map-append, take_more, get_or-map, length-map}
 use Rattle.std.proofs.lemmas.List.Elements.{All-nil, All-cons, All-head}
-use Rattle.mcv_base.specs.declared.operation.Op.{Op}
 use Rattle.mcv_base.specs.declared.request.ServerId.{ServerId}
-use Rattle.mcv_config.specs.Plan.{Range, Named, Nameds, named_of, policy_of, prefix_of, shadow_of, nameds_of, IsSoundRoute, AreSoundRoutes}
+use Rattle.mcv_config.specs.Plan.{Named, named_of, policy_of, prefix_of, shadow_of, nameds_of, IsSoundRoute, AreSoundRoutes}
 use Rattle.mcv_config.specs.Plan as plan
 use Rattle.mcv_config.specs.declared.config.NamedRoute as config
 use Rattle.mcv_config.specs.declared.config.NamedRoute.{NamedRoute}
@@ -21,15 +20,15 @@ use Rattle.mcv_pools.specs.declared.symbol.HashFunc.TheVariants.{Ch3}
 use Rattle.mcv_route.specs.Built.{pool_at, server_at, symbol_of, pool_named}
 use Rattle.mcv_route.specs.View.{view, operation_view, prefix_view, shadow_view, pool_view}
 use Rattle.mcv_route.specs.Walk.{IsBuilt, last_named, list_view}
-use Rattle.mcv_route.specs.Tree.{Tree, Trees, pool, null, error, warm_up, migrate, none}
+use Rattle.mcv_route.specs.Tree.{Tree, pool, warm_up, migrate}
 use Rattle.mcv_route.specs.declared.tree.Leaf.{Leaf}
 use Rattle.mcv_route.specs.declared.tree.Route.{Route, Pool, Null, Error, AllSync, AllInitial, AllAsync, Failover, MissFailover, WarmUp, Migrate, PrefixSelector, OperationSelector}
-use Rattle.mcv_route.specs.declared.tree.OperationPolicy.{OperationPolicy, out-OperationPolicy}
-use Rattle.mcv_route.specs.declared.tree.PrefixPolicy.{PrefixPolicy, out-PrefixPolicy}
-use Rattle.mcv_route.specs.declared.tree.Shadow.{Shadow, out-Shadow}
+use Rattle.mcv_route.specs.declared.tree.OperationPolicy.{OperationPolicy}
+use Rattle.mcv_route.specs.declared.tree.PrefixPolicy.{PrefixPolicy}
+use Rattle.mcv_route.specs.declared.tree.Shadow.{Shadow}
 use Rattle.mcv_route.proofs.Nameds.{children_of, names_of, policies_of, policy_of-out, prefix_of-out, shadow_of-out, prefix_routes_of, named_of-Pool, named_of-Server, named_of-Null, named_of-Error, named_of-AllSync, named_of-AllInitial, named_of-AllAsync, named_of-Failover, named_of-MissFailover, named_of-WarmUp, named_of-Migrate, named_of-PrefixSelector, named_of-OperationSelector}
 use Rattle.mcv_route.proofs.Nameds.{ranges_of as asked_ranges, targets_of as asked_targets, prefixes_of as asked_prefixes}
-use Rattle.mcv_route.proofs.Views.{operations_of, prefixes_of, ranges_of, targets_of, last_view, operation_view-out, prefix_view-out, shadow_view-out, view-Pool, view-Null, view-Error, view-AllSync, view-AllInitial, view-AllAsync, view-Failover, view-MissFailover, view-WarmUp, view-Migrate, view-PrefixSelector, view-OperationSelector}
+use Rattle.mcv_route.proofs.Views.{operations_of, prefixes_of, ranges_of, targets_of, last_view, view-Pool, view-Null, view-Error, view-AllSync, view-AllInitial, view-AllAsync, view-Failover, view-MissFailover, view-WarmUp, view-Migrate, view-PrefixSelector, view-OperationSelector}
 use Rattle.mcv_route.proofs.Numbers.{built-append, built-none, built-pool, built-server, built-all_sync, built-all_initial, built-all_async, built-failover, built-miss_failover, built-warm_up, built-migrate, built-prefix_selector, built-operation_selector}
 
 -- ---- lists

@@ -13,6 +13,7 @@ use Rattle.mcv_pools.specs.Symbol.{same_symbol}
 use Rattle.mcv_pools.specs.Table.{numbered}
 use Rattle.mcv_route.specs.Built.{symbols_in, tree_named}
 use Rattle.mcv_route.specs.Eras.{breaks, since_at, era_at}
+use Rattle.mcv_route.specs.Limits.{handles_in, IsWithin}
 use Rattle.mcv_route.specs.Places.{tree_at}
 use Rattle.mcv_route.specs.Tree.{Tree, Trees, pool, null, error, all_sync, all_initial, all_async, failover, miss_failover, warm_up, migrate, prefix_selector, operation_selector, none, child}
 use Rattle.mcv_route.specs.Situation.{Situation, asked}
@@ -264,3 +265,10 @@ warm_up_walk = refl
 
 named_migration : tree_named [] pools (plan.migrate plan.null plan.error 100 10) ≡ migrate null error 100 10
 named_migration = refl
+
+-- the add that goes to the cold side is no handle of its own
+warm_up_handles : handles_in (warm_up (one 7) (one 8) 60) ≡ 3
+warm_up_handles = refl
+
+not_on_one_level : IsWithin 1 (failover (two (one 7) (one 8))) → ⊥
+not_on_one_level h = h.0

@@ -1,7 +1,7 @@
 -- Numbers by first appearance stay as a table grows.
-use Rattle.std.proofs.Common.{◌≡◌, ℕ, zero, suc, ◌+◌, ◌<◌, List, [], ◌∷◌, ◌++◌, length, Bool, true, false, not, cond, Option, Some, None, refl, ap, sym, subst, ◌∙◌, arith, rules, fold, map, eq-eqb, length-append, append-nil, append_assoc}
-use Rattle.std.specs.Prelude.{position, unwrap_or, nat_lt, nat_eq, if◌then◌else◌, slice_index, slice_index_or}
-use Rattle.std.specs.List.{position_or_len, list_any, All, flat_map}
+use Rattle.std.proofs.Common.{◌≡◌, ℕ, ◌+◌, ◌<◌, List, [], ◌∷◌, ◌++◌, length, Bool, true, false, not, Option, Some, refl, ap, sym, subst, ◌∙◌, arith, fold, map, length-append, append-nil, append_assoc}
+use Rattle.std.specs.Prelude.{position, unwrap_or, if◌then◌else◌}
+use Rattle.std.specs.List.{position_or_len, list_any, flat_map}
 use Rattle.std.proofs.lemmas.Grind.{common_steps}
 use Rattle.std.proofs.lemmas.List.{map-append}
 use Rattle.std.proofs.lemmas.List.Concat.{flat_map-append}
@@ -13,7 +13,7 @@ use Rattle.mcv_config.specs.Plan as plan
 use Rattle.mcv_pools.specs.declared.symbol.HashFunc.{HashFunc}
 use Rattle.mcv_pools.specs.declared.symbol.HashFunc.TheVariants.{Ch3}
 use Rattle.mcv_pools.specs.Symbol.{SymbolValue, same_symbol}
-use Rattle.mcv_pools.specs.Table.{is_in, number_in, with_entry}
+use Rattle.mcv_pools.specs.Table.{is_in, with_entry}
 use Rattle.mcv_pools.proofs.Sameness.{same_symbol-Decides}
 use Rattle.mcv_route.specs.Built.{pool_at, server_at, symbol_of, symbols_in, symbols_below, number_of, pool_named, tree_named, trees_named}
 use Rattle.mcv_route.specs.Tree.{Pool, Tree, Trees, pool, null, error, all_sync, all_initial, all_async, failover, miss_failover, warm_up, migrate, prefix_selector, operation_selector, none, child}

@@ -1,12 +1,12 @@
 -- The break that opened an era, and the number of the era.
-use Rattle.std.proofs.Common.{◌≡◌, ℕ, suc, ◌+◌, ◌<◌, ◌≤◌, List, [], ◌∷◌, Bool, true, false, cond, Option, Some, None, max, refl, ap, sym, subst, ◌∙◌, arith, length, get_or}
-use Rattle.std.specs.Prelude.{nat_le, nat_lt, nat_eq, filter}
+use Rattle.std.proofs.Common.{◌≡◌, ℕ, suc, ◌<◌, ◌≤◌, List, [], ◌∷◌, Bool, true, false, cond, Option, Some, None, max, refl, ap, sym, subst, arith, length, get_or}
+use Rattle.std.specs.Prelude.{nat_le, nat_eq}
 use Rattle.std.specs.List.{All, Contains}
 use Rattle.std.specs.Option.{option_map_or}
 use Rattle.std.proofs.lemmas.Grind.{common_steps}
 use Rattle.std.proofs.lemmas.List.Elements.{All-nil, All-cons, All-tail, All-head, All-contains}
 use Rattle.mcv_pools.specs.Table.{numbered}
-use Rattle.mcv_route.specs.Eras.{passed, greatest, since_at, era_at, IsSince, SinceIsTheLastBreak, ErasAreOpenedByBreaks, ErasTellWhatHasPassed}
+use Rattle.mcv_route.specs.Eras.{passed, greatest, since_at, IsSince, SinceIsTheLastBreak, ErasAreOpenedByBreaks, ErasTellWhatHasPassed}
 use Rattle.mcv_route.specs.Situation.{has_passed}
 
 -- a break is among the breaks, before another one too

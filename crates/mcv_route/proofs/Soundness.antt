@@ -1,24 +1,20 @@
 -- The routes of a sound plan are sound.
-use Rattle.std.proofs.Common.{◌≡◌, ◌≢◌, ℕ, ◌+◌, ◌<◌, List, [], ◌∷◌, ◌++◌, length, map, get_or, Bool, true, false, Option, Some, None, refl, ap, sym, subst, ◌∙◌, arith, rules, fold, eqb→eq}
-use Rattle.std.specs.List.{All, position_or_len, flat_map}
-use Rattle.std.specs.Prelude.{slice_get, slice_index, slice_index_or, option_map, nat_eq, unwrap_or}
-use Rattle.std.proofs.lemmas.Grind.{common_steps}
-use Rattle.std.proofs.lemmas.List.{length-map}
-use Rattle.std.proofs.lemmas.List.Elements.{All-nil, All-cons, All-head, All-tail, All-map}
+use Rattle.std.proofs.Common.{◌≡◌, ◌≢◌, ℕ, ◌<◌, List, [], ◌∷◌, length, map, get_or, Some, refl, ap, sym, subst, ◌∙◌, arith}
+use Rattle.std.specs.List.{All, position_or_len}
+use Rattle.std.specs.Prelude.{slice_get, slice_index, slice_index_or, option_map, unwrap_or}
+use Rattle.std.proofs.lemmas.List.Elements.{All-nil, All-cons, All-map}
 use Rattle.std.proofs.lemmas.List.Sums.{passes_at_first}
 use Rattle.std.proofs.lemmas.List.Folds.{flat_map-map}
-use Rattle.std.proofs.lemmas.List.{get_or-map}
 use Rattle.std.proofs.lemmas.Option.{slice_get-get_or}
 use Rattle.mcv_config.specs.Plan.{Named, Nameds, Plan, nameds_of, no_named, named, IsSound, IsSoundRoute, AreSoundRoutes}
 use Rattle.mcv_config.specs.Plan as plan
 use Rattle.mcv_pools.specs.declared.symbol.HashFunc.{HashFunc}
 use Rattle.mcv_pools.specs.declared.symbol.HashFunc.TheVariants.{Ch3}
 use Rattle.mcv_pools.specs.Symbol.{SymbolValue, same_symbol}
-use Rattle.mcv_pools.specs.Table.{with_entry, number_in}
 use Rattle.mcv_pools.proofs.Sameness.{same_symbol-Decides}
 use Rattle.mcv_route.specs.Built.{pool_at, server_at, symbol_of, symbols_in, symbols_below, symbols_named, number_of, pool_named, tree_named, trees_named, routes_named}
 use Rattle.mcv_route.specs.Routes.{IsSoundPool, IsSoundTree, AreSoundTrees, IsSoundRoutes}
-use Rattle.mcv_route.specs.Tree.{Pool, Tree, Trees, none, child}
+use Rattle.mcv_route.specs.Tree.{none}
 use Rattle.mcv_route.proofs.Building.{All-unmap}
 use Rattle.mcv_route.proofs.Numbers.{IsKnown, HasSymbols, HaveSymbols, have-walked, position-occurs, with_all, symbols_below-list}
 

@@ -1,9 +1,9 @@
 -- The tree of a route, one level at a time.
-use Rattle.std.proofs.Common.{◌≡◌, ℕ, List, [], ◌∷◌, ◌++◌, map, Vec, Box, Global, Option, Some, None, option_map, refl, ap, rules, ◌∙◌}
+use Rattle.std.proofs.Common.{◌≡◌, ℕ, List, ◌++◌, map, Vec, Box, Global, Option, Some, None, rules}
 use Rattle.mcv_base.specs.declared.operation.Op.{Op}
-use Rattle.mcv_route.specs.Tree.{Range, Tree, Trees, pool, null, error, all_sync, all_initial, all_async, failover, miss_failover, warm_up, migrate, prefix_selector, operation_selector, none}
+use Rattle.mcv_route.specs.Tree.{Range, Trees, pool, null, error, all_sync, all_initial, all_async, failover, miss_failover, warm_up, migrate, prefix_selector, operation_selector}
 pub use Rattle.mcv_route.specs.View.{last_view}
-use Rattle.mcv_route.specs.View.{trees_of, last_of, pool_view, view, operation_view, prefix_view, shadow_view, OperationView, PrefixView, ShadowView, view_step, operation_step, prefix_step, shadow_step}
+use Rattle.mcv_route.specs.View.{trees_of, pool_view, view, operation_view, prefix_view, shadow_view}
 use Rattle.mcv_route.specs.declared.tree.Leaf.{Leaf}
 use Rattle.mcv_route.specs.declared.tree.OperationPolicy.{OperationPolicy, out-OperationPolicy}
 use Rattle.mcv_route.specs.declared.tree.PrefixPolicy.{PrefixPolicy, out-PrefixPolicy}

@@ -1,16 +1,16 @@
 -- What stands below a handle, and its breaks.
-use Rattle.std.proofs.Common.{◌≡◌, ◌≢◌, ℕ, zero, suc, ◌+◌, ◌<◌, ◌≤◌, List, [], ◌∷◌, ◌++◌, length, map, take, get_or, Bor, Vec, Box, Global, Option, Some, None, option_map, refl, ap, sym, subst, ◌∙◌, arith, append-nil, append_assoc}
+use Rattle.std.proofs.Common.{◌≡◌, ◌≢◌, ℕ, zero, suc, ◌+◌, ◌<◌, ◌≤◌, List, [], ◌∷◌, ◌++◌, length, map, take, get_or, Bor, Vec, Box, Global, Option, Some, None, option_map, refl, ap, sym, ◌∙◌, arith, append-nil, append_assoc}
 use Rattle.std.specs.Prelude.{slice_get}
 use Rattle.std.specs.Slice.{IsItemAt}
 use Rattle.std.specs.List.{flat_map}
 use Rattle.std.proofs.lemmas.Option.{slice_get-map, slice_get-get_or, slice_get_past}
-use Rattle.std.proofs.lemmas.List.{length-map, map-append}
+use Rattle.std.proofs.lemmas.List.{length-map}
 use Rattle.std.proofs.lemmas.List.Concat.{flat_map-append}
 use Rattle.std.proofs.lemmas.Simd.{map-map}
 use Rattle.mcv_route.specs.Eras.{breaks, breaks_each, own_breaks}
 use Rattle.mcv_route.specs.Places.{child_at, children_of}
 use Rattle.mcv_route.specs.RoutesView.{entry_view}
-use Rattle.mcv_route.specs.Tree.{Tree, Trees, none, child}
+use Rattle.mcv_route.specs.Tree.{Tree, none, child}
 use Rattle.mcv_route.specs.View.{view, operation_view, prefix_view, shadow_view, trees_of, last_view}
 use Rattle.mcv_route.specs.declared.routes.AliasedRoute.{AliasedRoute}
 use Rattle.mcv_route.specs.declared.tree.Leaf.{Leaf}
@@ -19,7 +19,7 @@ use Rattle.mcv_route.specs.declared.tree.PrefixPolicy.{PrefixPolicy}
 use Rattle.mcv_route.specs.declared.tree.Shadow.{Shadow}
 use Rattle.mcv_route.specs.declared.tree.Route.{Route, Pool, Null, Error, AllSync, AllInitial, AllAsync, Failover, MissFailover, WarmUp, Migrate, PrefixSelector, OperationSelector}
 use Rattle.mcv_route.proofs.Building.{map-more}
-use Rattle.mcv_route.proofs.Views.{targets_of, prefix_routes_of, routes_of, children_view, view-Pool, view-Null, view-Error, view-AllSync, view-AllInitial, view-AllAsync, view-Failover, view-MissFailover, view-WarmUp, view-Migrate, view-PrefixSelector, view-OperationSelector}
+use Rattle.mcv_route.proofs.Views.{targets_of, children_view, view-Pool, view-Null, view-Error, view-AllSync, view-AllInitial, view-AllAsync, view-Failover, view-MissFailover, view-WarmUp, view-Migrate, view-PrefixSelector, view-OperationSelector}
 
 -- what `get` of a slice lends
 pub lent-at : {X Y : Type 0} (f : X → Y) (xs : List X) (i : ℕ) (r : Option (Bor X)) → IsItemAt xs i r → option_map (λ x. f x.now) r ≡ option_map f (slice_get xs i)

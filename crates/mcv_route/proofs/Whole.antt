@@ -1,23 +1,19 @@
 -- The routes that were built, as a whole, are those that the plan names.
-use Rattle.std.proofs.Common.{◌≡◌, ℕ, ◌+◌, ◌<◌, List, [], ◌∷◌, ◌++◌, length, map, fold, refl, ap, sym, subst, ◌∙◌, Vec, Global}
-use Rattle.std.specs.List.{All, flat_map, position_or_len, prefix_len}
+use Rattle.std.proofs.Common.{◌≡◌, ℕ, ◌+◌, List, [], ◌∷◌, ◌++◌, map, fold, refl, ap, sym, subst, ◌∙◌}
+use Rattle.std.specs.List.{All, position_or_len}
 use Rattle.std.specs.Prelude.{Bool, not, cond, position, nat_lt, Some, None}
-use Rattle.std.specs.declared.sync.Arc.{Arc}
 use Rattle.std.proofs.lemmas.List.{length-map, map-append}
 use Rattle.std.proofs.lemmas.Simd.{map-map}
 use Rattle.std.proofs.lemmas.List.Folds.{flat_map-map}
-use Rattle.std.proofs.lemmas.List.Elements.{All-rest}
-use Rattle.mcv_base.specs.declared.request.ServerId.{ServerId}
-use Rattle.mcv_config.specs.Plan.{Plan, IsSound, IsSoundRoute, named_of, plan_of, entry_plan, pool_plan}
+use Rattle.mcv_config.specs.Plan.{IsSound, IsSoundRoute, named_of, plan_of, entry_plan, pool_plan}
 use Rattle.mcv_config.specs.declared.config.Config.{Config}
 use Rattle.mcv_config.specs.declared.config.Entry.{Entry}
 use Rattle.mcv_pools.specs.Symbol.{SymbolValue, same_symbol}
 use Rattle.mcv_pools.specs.Table.{with_entry}
 use Rattle.mcv_route.specs.Built.{routes_named, symbols_in, symbols_named, tree_named}
-use Rattle.mcv_route.specs.Routes.{RoutesValue, RouteEntry}
 use Rattle.mcv_route.specs.RoutesView.{entry_view}
 use Rattle.mcv_route.specs.View.{view}
-use Rattle.mcv_route.specs.Walk.{IsBuilt, list_view}
+use Rattle.mcv_route.specs.Walk.{IsBuilt}
 use Rattle.mcv_route.specs.declared.routes.AliasedRoute.{AliasedRoute}
 use Rattle.mcv_route.proofs.Building.{All-unmap}
 use Rattle.mcv_route.proofs.Numbers.{built-append}

@@ -8,6 +8,7 @@ pub mod Launched
 pub mod Reply
 pub mod Verdict
 pub mod View
+pub mod Limits
 pub mod Routes
 pub mod Codes
 pub mod RoutesView

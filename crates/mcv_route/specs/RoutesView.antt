@@ -4,6 +4,7 @@ use Rattle.mcv_base.specs.declared.request.Moment.{Moment}
 use Rattle.mcv_route.specs.Eras.{breaks_of, IsBreakTable}
 use Rattle.mcv_route.specs.declared.routes.AliasedRoute.{AliasedRoute}
 use Rattle.mcv_route.specs.declared.routes.Routes.TheInside.{Inside}
+use Rattle.mcv_route.specs.Limits.{AreWithinLimits}
 use Rattle.mcv_route.specs.Routes.{RouteEntry, RoutesValue, IsSoundRoutes}
 use Rattle.mcv_route.specs.View.{view}
 
@@ -17,7 +18,8 @@ routes_view r = record { servers = r.servers; symbols = r.symbols; entries = map
 abbrev pub numbers_of : List Moment → List ℕ
 numbers_of moments = map (λ m. m.0) moments
 
--- the trees are sound, and the table of breaks is that of the trees
+-- the trees are sound and within their limits, and the table of breaks is that of the trees
 pub record AreSound (r : Inside) : Type 0 where
   pub trees : IsSoundRoutes (routes_view r)
+  pub limits : AreWithinLimits (routes_view r)
   pub table : IsBreakTable (breaks_of (routes_view r)) (numbers_of r.break_table.items)

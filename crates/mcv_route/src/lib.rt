@@ -9,8 +9,6 @@ mod eras;
 mod launch;
 mod moments;
 mod routes;
-#[cfg(test)]
-mod tests;
 mod tree;
 
 pub use eras::eras_are_opened_by_breaks;

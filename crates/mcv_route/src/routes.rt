@@ -2,9 +2,11 @@
 
 ghost use Rattle.std.specs.Prelude.{◌≡◌, ◌<◌, [], ◌∷◌, Some, None, IfOk, length, map, option_map, position, slice_get};
 ghost use Rattle.std.specs.List.{All, flat_map};
+ghost use Rattle.mcv_config.specs.Limits.{IsWithinLimits};
 ghost use Rattle.mcv_config.specs.Plan.{IsSound, IsSoundRoute, named_of, plan_of};
 ghost use Rattle.mcv_route.specs.Built.{routes_named};
 ghost use Rattle.mcv_route.specs.Eras.{breaks, breaks_of, era_at, since_at, IsBreakTable};
+ghost use Rattle.mcv_route.specs.Limits.{AreWithinLimits};
 ghost use Rattle.mcv_route.specs.Places.{is_alias, leaf_in, route_of_prefix};
 ghost use Rattle.mcv_route.specs.Routes.{IsSoundRoutes};
 ghost use Rattle.mcv_route.specs.RoutesView.{entry_view};
@@ -58,7 +60,8 @@ impl Routes {
     /// The routes that a configuration names, its symbols numbered in the order in which the walk of the
     /// routes meets them. An error where memory runs out.
     pub fn build(alloc: Global, config: Config) -> Result<Routes, AllocError>
-        requires { IsSound (plan_of config) }
+        requires sound { IsSound (plan_of config) }
+        requires limits { IsWithinLimits (plan_of config) }
         ensures { IfOk result (λ r. r ≡ routes_named (plan_of config)) }
     {
         let Config {
@@ -83,6 +86,7 @@ impl Routes {
     pub fn servers(&self) -> &Servers
         ensures value { result.now ≡ self.now.servers }
         ensures sound { IsSoundRoutes self.now }
+        ensures limits { AreWithinLimits self.now }
     {
         &self.servers
     }
@@ -91,6 +95,7 @@ impl Routes {
     pub fn symbols(&self) -> &Symbols
         ensures value { result.now ≡ self.now.symbols }
         ensures sound { IsSoundRoutes self.now }
+        ensures limits { AreWithinLimits self.now }
     {
         &self.symbols
     }

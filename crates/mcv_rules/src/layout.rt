@@ -256,7 +256,7 @@ fn both(alloc: Global, first: Plan, second: Plan) -> Result<Plan, AllocError>
 }
 
 /// The number of the policy with the longest prefix with which the rest begins, or of the wildcard after all.
-fn prefix_number(policies: &[PrefixPolicy], rest: &Rest) -> usize
+pub fn prefix_number(policies: &[PrefixPolicy], rest: &Rest) -> usize
     ensures { result ≡ prefix_policy rest.now (prefixes_of policies.now) }
 {
     let mut longest = None;
@@ -288,7 +288,7 @@ fn begins_with(word: &[u8], start: &[u8]) -> bool
 }
 
 /// The number of the operation's policy, or of the default policy after all.
-fn policy_number(policies: &[OperationPolicy], op: Op) -> usize
+pub fn policy_number(policies: &[OperationPolicy], op: Op) -> usize
     ensures { result ≡ policy_of op (operations_of policies.now) }
 {
     for (number, policy) in policies.iter().enumerate() {

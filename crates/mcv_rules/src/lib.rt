@@ -17,6 +17,7 @@ mod outcomes;
 mod plan;
 mod status;
 
+pub use asked::{Asked, Way};
 pub use eval::Eval;
 pub use laws::{
     answers_are_true, answers_come_with_children, handles_send_by_their_rows,
@@ -24,8 +25,7 @@ pub use laws::{
     policies_are_selected, reachable_is_closed, searches_reply_where_they_stop,
     the_last_reply_is_one,
 };
+pub use layout::{policy_number, prefix_number};
 pub use outcomes::Outcomes;
+pub use plan::PlannedLeg;
 pub use status::{Source, Status, default_reply};
-
-#[cfg(test)]
-mod tests;

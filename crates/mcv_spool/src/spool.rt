@@ -1,6 +1,6 @@
 //! The spool: its file, and the records that are pending.
 
-ghost use Rattle.std.specs.Prelude.{◌≡◌, ◌≢◌, ◌⊎◌, ◌↔◌, ℕ, ◌+◌, ◌*◌, ◌<◌, ◌≤◌, ◌==◌, not, false, true, None, Some, List, [], ◌∷◌, ◌++◌, length, filter, IfOk, OnOk, OnErr, IsOk, IsErrOf};
+ghost use Rattle.std.specs.Prelude.{◌≡◌, ◌≢◌, ◌⊎◌, ◌↔◌, ℕ, ◌+◌, ◌*◌, ◌<◌, ◌≤◌, ◌==◌, not, false, true, None, Some, List, [], ◌∷◌, ◌++◌, length, filter, IfOk, IfErr, OnOk, OnErr, IsOk, IsErrOf};
 ghost use Rattle.std.specs.List.{Contains, list_any};
 ghost use Rattle.mcv_spool.specs.Disk.{LeavesOnly, Only};
 ghost use Rattle.mcv_spool.specs.File.{IsClosed, damage, marked, pending_from, slot_of, slots};
@@ -37,8 +37,10 @@ impl<D: Disk> Spool<D> {
         ensures damaged { D.keeps_model → (k : ℕ) → result ≡ Err (SpoolFault.Damaged k) → damage 0 (slots (D.seen disk)) ≡ Some k }
         // A crash at any moment of the call leaves the records that one before it could have left.
         ensures any_moment { D.keeps_model → IfOk result (λ spool. LeavesOnly D.moment D.left_since disk spool.disk (HasSlotsOf (D.may_leave disk))) }
-        // An `open` that is refused drops its disk, which no clause can name then; what it does to the disk is that of `recover`.
         ensures step { D.keeps_model → IfOk result (λ spool. Call D.seen D.may_leave D.moment D.left_since (shut disk) (world spool.disk spool.needs_reopen) (told_found (records_of (slots (D.seen disk)))) (λ t. t)) }
+        // An `open` that is refused drops its disk. As the disk stood last, a call of it had failed where the fault is Device,
+        // and a crash at any moment of the call leaves the records that one before it could have left.
+        ensures refused { D.keeps_model → IfErr result (λ fault. (last : D) × Call D.seen D.may_leave D.moment D.left_since (shut disk) (shut last) (λ t. t) (λ t. t) × (fault ≡ SpoolFault.Device → D.failures disk < D.failures last)) }
         ensures alone { IsOpenFault result }
     {
         let mut disk = disk;

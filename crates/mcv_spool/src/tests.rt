@@ -6,6 +6,7 @@ use mcv_base::{Rest, ServerText};
 use std::alloc::Global;
 use std::process::Abort;
 use std::test::Fail;
+use std::{env, fs, process};
 
 fn record(server: &[u8], rest: &[u8]) -> Option<SpoolRecord> {
     Some(SpoolRecord {
@@ -210,5 +211,45 @@ fn the_second_record_counts_after_the_second_sync(rt: HostRuntime) -> Result<(),
             "stop at call {k}"
         );
     }
+    Ok(())
+}
+
+/// A path that no other run of the tests has.
+fn own_path(rt: &HostRuntime) -> Result<String, Fail> {
+    let number = process::id(rt.process());
+    let temporary = env::temp_dir(rt)?;
+    let folder = temporary.as_str();
+    Ok(format!(in rt.alloc(); "{folder}/mcv_spool_{number}")?)
+}
+
+fn open_file(rt: &HostRuntime, path: &str) -> Result<Spool<FileDisk>, Fail> {
+    Ok(Spool::open(rt.alloc(), FileDisk::open(rt, path)?)?)
+}
+
+/// Appends two records to the spool of a file, and marks the first as done.
+fn append_two_to(rt: &HostRuntime, path: &str) -> Result<(), Fail> {
+    let mut spool = open_file(rt, path)?;
+    spool.append(record(b"a:11211", b"a").ok_or("record")?)?;
+    spool.append(record(b"b:11211", b"ab").ok_or("record")?)?;
+    spool.done(0)?;
+    Ok(())
+}
+
+#[test]
+fn a_file_of_the_system_keeps_records(rt: HostRuntime) -> Result<(), Fail> {
+    let path = own_path(&rt)?;
+    fs::write(&rt, path.as_str(), "\x01torn")?;
+    assert!(rt; open_file(&rt, path.as_str())?.pending().is_empty());
+    assert!(rt; fs::read(&rt, path.as_str())?.as_slice() == b"\x00".as_slice());
+    append_two_to(&rt, path.as_str())?;
+    let spool = open_file(&rt, path.as_str())?;
+    assert!(rt; spool.contents.count == 2 && spool.pending().len() == 1);
+    assert!(rt;
+        spool
+            .pending()
+            .iter()
+            .all(|p| p.0 == 1 && p.1.rest.as_bytes() == b"ab".as_slice())
+    );
+    fs::remove_file(&rt, path.as_str())?;
     Ok(())
 }

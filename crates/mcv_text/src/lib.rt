@@ -18,6 +18,3 @@ pub use item::{Item, Refusal, TextFault};
 pub use laws::{any_pieces, failing_is_refused, leg_texts_are_read, one_reading};
 pub use leg::leg_text;
 pub use reader::RequestReader;
-
-#[cfg(test)]
-mod tests;

@@ -1,5 +1,3 @@
-use Rattle.std.proofs.Common.{◌≡◌, map}
-use Rattle.mcv_route.specs.Walk.{list_view}
 use Rattle.mcv_route.proofs.Building.{length-pool, list-at}
 use Rattle.mcv_route.proofs.build.pool_leaf.Goals as goal
 

@@ -1,4 +1,4 @@
-use Rattle.std.proofs.Common.{◌≡◌, rules, sym, ap, ◌∙◌, map, ◌++◌, refl}
+use Rattle.std.proofs.Common.{refl}
 use Rattle.mcv_route.specs.View.{view}
 use Rattle.mcv_route.proofs.Ways.{child_at-Pool, child_at-Null, child_at-Error, child_at-AllSync, child_at-AllInitial, child_at-AllAsync, child_at-Failover, child_at-MissFailover, child-of-WarmUp, child-of-Migrate, child_at-PrefixSelector, child_at-OperationSelector, lent-at}
 use Rattle.mcv_route.proofs.children.child_of.Goals as goal

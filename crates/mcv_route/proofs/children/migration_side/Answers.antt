@@ -1,4 +1,4 @@
-use Rattle.std.proofs.Common.{◌≡◌, arith}
+use Rattle.std.proofs.Common.{arith}
 use Rattle.mcv_route.specs.View.{view}
 use Rattle.mcv_route.proofs.Ways.{past-two}
 use Rattle.mcv_route.proofs.children.migration_side.Goals as goal

@@ -1,4 +1,4 @@
-use Rattle.std.proofs.Common.{◌≡◌, ap, get_or}
+use Rattle.std.proofs.Common.{ap, get_or}
 use Rattle.mcv_route.specs.View.{shadow_view}
 use Rattle.mcv_route.proofs.Views.{shadow_view-out}
 use Rattle.mcv_route.proofs.Ways.{item-at, no-item}

@@ -1,8 +1,6 @@
-use Rattle.std.proofs.Common.{◌≡◌, ℕ, List, ◌++◌, map, rules, refl, subst, append-nil}
+use Rattle.std.proofs.Common.{◌≡◌, ℕ, List, refl, subst, append-nil}
 use Rattle.std.specs.Prelude.{OnOk}
-use Rattle.mcv_route.specs.Eras.{breaks, breaks_each, own_breaks}
-use Rattle.mcv_route.specs.View.{view, operation_view, prefix_view, shadow_view, trees_of, last_view}
-use Rattle.mcv_route.specs.declared.tree.Route as made
+use Rattle.mcv_route.specs.View.{view, operation_view, prefix_view, shadow_view}
 use Rattle.mcv_route.specs.declared.tree.Shadow.{out-Shadow}
 use Rattle.mcv_route.specs.declared.tree.PrefixPolicy.{out-PrefixPolicy}
 use Rattle.mcv_route.specs.declared.tree.OperationPolicy.{out-OperationPolicy}

@@ -1,4 +1,3 @@
-use Rattle.std.proofs.Common.{◌≡◌}
 use Rattle.mcv_route.proofs.Breaks.{made-table}
 use Rattle.mcv_route.proofs.moments.table_of.Goals as goal
 

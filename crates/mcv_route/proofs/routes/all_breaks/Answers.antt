@@ -1,4 +1,3 @@
-use Rattle.std.proofs.Common.{◌≡◌, ◌++◌, ◌∷◌, [], map, take, ap, sym, ◌∙◌, append-nil}
 use Rattle.mcv_route.proofs.Ways.{entry-breaks-more}
 use Rattle.mcv_route.proofs.routes.all_breaks.Goals as goal
 

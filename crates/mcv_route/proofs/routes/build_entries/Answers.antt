@@ -1,4 +1,4 @@
-use Rattle.std.proofs.Common.{◌≡◌, map}
+use Rattle.std.proofs.Common.{map}
 use Rattle.std.proofs.lemmas.List.Elements.{All-rest}
 use Rattle.mcv_config.specs.Plan.{IsSoundRoute, named_of}
 use Rattle.mcv_route.specs.Walk.{list_view}

@@ -1,4 +1,3 @@
-use Rattle.std.proofs.Common.{◌≡◌}
 use Rattle.mcv_route.proofs.routes.Routes.breaks.Goals as goal
 
 pub returns : goal.returns

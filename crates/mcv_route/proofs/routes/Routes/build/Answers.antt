@@ -1,18 +1,19 @@
-use Rattle.std.proofs.Common.{◌≡◌, map, refl, ap, sym, subst, ◌∙◌}
+use Rattle.std.proofs.Common.{map, ap, sym, subst, ◌∙◌}
 use Rattle.std.specs.List.{flat_map}
 use Rattle.mcv_config.specs.Plan.{plan_of}
-use Rattle.mcv_route.specs.Built.{routes_named}
 use Rattle.mcv_route.specs.Eras.{breaks, IsBreakTable}
-use Rattle.mcv_route.specs.Routes.{IsSoundRoutes, RoutesValue}
+use Rattle.mcv_route.specs.Limits.{AreWithinLimits}
+use Rattle.mcv_route.specs.Routes.{IsSoundRoutes}
 use Rattle.mcv_route.specs.RoutesView.{entry_view, numbers_of}
-use Rattle.mcv_route.specs.Walk.{IsBuilt, list_view}
+use Rattle.mcv_route.specs.Walk.{list_view}
+use Rattle.mcv_route.proofs.Limits.{within-built}
 use Rattle.mcv_route.proofs.Soundness.{sound-built}
 use Rattle.mcv_route.proofs.Whole.{sound-entries, routes-are}
 use Rattle.mcv_route.proofs.routes.Routes.build.Goals as goal
 
 pub build_entries-requires-clause-sound : goal.build_entries-requires-clause-sound
 build_entries-requires-clause-sound c =
-    sound-entries c.args.config (map list_view c.as_slice.result.now) (ap (map list_view) c.as_slice.ensures.value ∙ c.in_ok-lists.ensures) c.requires
+    sound-entries c.args.config (map list_view c.as_slice.result.now) (ap (map list_view) c.as_slice.ensures.value ∙ c.in_ok-lists.ensures) c.requires.sound
 
 pub invariant_of-result : goal.invariant_of-result
 invariant_of-result c =
@@ -21,7 +22,8 @@ invariant_of-result c =
     (rw (← c.new-symbols.ensures) c.in_ok-entries.ensures.routes) in
     let P : _ → Type 0 = λ bs. IsBreakTable bs (numbers_of c.in_ok-break_table.break_table.items) in
     record {
-      trees = subst IsSoundRoutes (sym is) (sound-built (plan_of c.args.config) c.requires);
+      trees = subst IsSoundRoutes (sym is) (sound-built (plan_of c.args.config) c.requires.sound);
+      limits = subst AreWithinLimits (sym is) (within-built (plan_of c.args.config) c.requires.sound c.requires.limits);
       table = subst P (c.in_ok-moments.ensures ∙ ap (λ es. flat_map (λ e. breaks e.tree) (map entry_view es)) c.as_slice-2.ensures.value) c.in_ok-break_table.ensures;
     }
 

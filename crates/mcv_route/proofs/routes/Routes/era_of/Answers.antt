@@ -1,7 +1,5 @@
-use Rattle.std.proofs.Common.{◌≡◌, ◌<◌, arith, length, sym, subst}
-use Rattle.mcv_base.specs.declared.request.Moment.{Moment}
-use Rattle.mcv_route.specs.Eras.{breaks_of, IsBreakTable}
-use Rattle.mcv_route.specs.RoutesView.{numbers_of, routes_view}
+use Rattle.mcv_route.specs.Eras.{breaks_of}
+use Rattle.mcv_route.specs.RoutesView.{routes_view}
 use Rattle.mcv_route.proofs.Breaks.{era-of}
 use Rattle.mcv_route.proofs.routes.Routes.era_of.Goals as goal
 

@@ -1,4 +1,5 @@
-use Rattle.std.proofs.Common.{false, refl}
+use Rattle.std.proofs.Common.{Err, false, refl, sym, ap, ◌∙◌}
+use Rattle.std.proofs.lemmas.Result.{err_from_is_err_and}
 use Rattle.mcv_spool.specs.File.{slots}
 use Rattle.mcv_spool.specs.History.{Call, records_of, shut, world}
 use Rattle.mcv_spool.proofs.Histories.{all_read}
@@ -14,3 +15,12 @@ returns-clause-step g c = λ model.
       durable = c.in_ok-contents.ensures.durable model;
       any_moment = c.recover.ensures.any_moment model;
     }) refl
+
+pub returns-in_err-contents-clause-refused : goal.returns-in_err-contents-clause-refused
+returns-in_err-contents-clause-refused g c =
+    let gone = err_from_is_err_and c.from_residual.result c.from_residual.ensures.1 in
+    rw (gone.1) (λ model. (
+      c.recover.new.disk,
+      Call.not_found (shut c.args.disk) (shut c.recover.new.disk) (c.recover.ensures.any_moment model) refl,
+      λ is. c.in_err-contents.ensures.device model (ap Err (sym gone.2 ∙ is)),
+    ))

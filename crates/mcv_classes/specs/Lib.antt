@@ -1,0 +1,4 @@
+pub mod Words
+pub mod Class
+pub mod Table
+pub mod Laws

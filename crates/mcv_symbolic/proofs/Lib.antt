@@ -1,0 +1,20 @@
+pub mod Later
+pub mod Pushed
+pub mod Exact
+pub mod Marks
+pub mod OnPlans
+pub mod Symbols
+pub mod Covered
+pub mod Unique
+pub mod Planned
+pub mod Sized
+pub mod Exactness
+pub mod Placed
+pub mod Stated
+pub mod Alike
+pub mod Whole
+pub mod Rising
+pub mod Found
+pub mod Selected
+pub mod Asked
+mod Examples

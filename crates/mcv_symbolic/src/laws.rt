@@ -1,0 +1,34 @@
+//! The laws by which finitely many comparisons decide coverage. They hold of the definitions alone.
+
+ghost use Rattle.mcv_symbolic.specs.Covered.{CoveredByMembers};
+ghost use Rattle.mcv_symbolic.specs.Justified.{SymbolsAreIndependent};
+ghost use Rattle.mcv_symbolic.specs.Laws.{AcknowledgedIgnoresTheChoice, AcknowledgedIsExact, AcknowledgedIsLeast, AlikeAreCovered, CoveredIsJustified, DoneIgnoresTheChoice, DoneIsExact, HitsAreExact, HitsIgnoreTheChoice};
+
+/// The sets are the same under every choice.
+pub fn sets_ignore_the_choice()
+    ensures hits { HitsIgnoreTheChoice }
+    ensures done { DoneIgnoresTheChoice }
+    ensures acknowledged { AcknowledgedIgnoresTheChoice }
+{}
+
+/// The sets are those that the structure of the route gives, one handle at a time.
+pub fn sets_are_exact()
+    ensures hits { HitsAreExact }
+    ensures done { DoneIsExact }
+    ensures acknowledged { AcknowledgedIsExact }
+    ensures least { AcknowledgedIsLeast }
+{}
+
+/// Under some choice no acknowledged leg has the server of a leaf at an index just where each symbol by itself has
+/// an index at which none of its acknowledged legs has it; the leaf's own symbol, at that index.
+pub fn symbols_are_independent()
+    ensures { SymbolsAreIndependent }
+{}
+
+/// A route is covered at a rest just where a delete can't be acknowledged, or each leaf that can be read is answered
+/// for at each index; a whole class is where one of its rests is; so all rests are where a member of each class is.
+pub fn covered_is_justified()
+    ensures justified { CoveredIsJustified }
+    ensures class { AlikeAreCovered }
+    ensures members { CoveredByMembers }
+{}
