@@ -1,0 +1,5 @@
+pub mod Reason
+pub mod Faults
+pub mod InMemory
+pub mod Numbers
+pub mod Walk
