@@ -11,7 +11,7 @@ use Rattle.mcv_names.specs.Handles.{key_fault, keys_read}
 use Rattle.mcv_names.specs.Lists.{each, items_list, some_items}
 use Rattle.mcv_names.specs.Path.{key_step, item_step}
 use Rattle.mcv_names.proofs.Holds.{Holds, holds_bind, holds_then, holds_also}
-use Rattle.mcv_config.specs.declared.config.Config.{Config}
+use Rattle.mcv_config.specs.declared.config.ConfigParts.{ConfigParts}
 use Rattle.mcv_config.specs.Aliases.{aliases_field}
 use Rattle.mcv_config.specs.Config.{at_first, node_limit, plan_of_members, plan_read, plan_with, root}
 use Rattle.mcv_config.specs.Entries.{Turn, depth_limit, entries_of_list, entries_read, entry_fields, entry_of_members, entry_read, routing, routing_read}
@@ -118,6 +118,6 @@ root_within : (path : List ℕ) (d : Data) → Holds IsWithinLimits (root path d
 unfolding root
 root_within path d = members_within path d (as_object d)
 
-pub read_plans_keep_to_limits : (path : List ℕ) (d : Data) (r : Result Config ConfigFault) → Gives plan_of r (root path d) → IfOk r (λ config. IsWithinLimits (plan_of config))
-read_plans_keep_to_limits path d (Ok config) h = subst (Holds IsWithinLimits) h (root_within path d)
+pub read_plans_keep_to_limits : (path : List ℕ) (d : Data) (r : Result ConfigParts ConfigFault) → Gives plan_of r (root path d) → IfOk r (λ parts. IsWithinLimits (plan_of parts))
+read_plans_keep_to_limits path d (Ok parts) h = subst (Holds IsWithinLimits) h (root_within path d)
 read_plans_keep_to_limits path d (Err e) h = tt

@@ -10,7 +10,7 @@ use Rattle.mcv_names.specs.Fault.{Gives}
 use Rattle.mcv_names.specs.Handles.{key_fault, keys_read}
 use Rattle.mcv_names.specs.Path.{key_step}
 use Rattle.mcv_names.proofs.Holds.{Holds, holds_bind, holds_also}
-use Rattle.mcv_config.specs.declared.config.Config.{Config}
+use Rattle.mcv_config.specs.declared.config.ConfigParts.{ConfigParts}
 use Rattle.mcv_config.specs.Config.{at_first, plan_of_members, plan_read, plan_with, root}
 use Rattle.mcv_config.specs.Entries.{routing_read}
 use Rattle.mcv_config.specs.Plan.{EntryPlan, IsSound, all_aliases, plan_of}
@@ -48,6 +48,6 @@ root_sound : (path : List ℕ) (d : Data) → Holds IsSound (root path d)
 unfolding root
 root_sound path d = members_sound path d (as_object d)
 
-pub read_plans_are_sound : (path : List ℕ) (d : Data) (r : Result Config ConfigFault) → Gives plan_of r (root path d) → IfOk r (λ config. IsSound (plan_of config))
-read_plans_are_sound path d (Ok config) h = subst (Holds IsSound) h (root_sound path d)
+pub read_plans_are_sound : (path : List ℕ) (d : Data) (r : Result ConfigParts ConfigFault) → Gives plan_of r (root path d) → IfOk r (λ parts. IsSound (plan_of parts))
+read_plans_are_sound path d (Ok parts) h = subst (Holds IsSound) h (root_sound path d)
 read_plans_are_sound path d (Err e) h = tt
