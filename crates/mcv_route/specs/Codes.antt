@@ -1,5 +1,5 @@
 -- That a tree can be told from another, by which values that hold trees may stand in clauses. It says nothing of what a tree means.
-use Rattle.std.specs.Prelude.{◌≡◌, ℕ, ◌==◌, List, [], ◌∷◌, Option, if◌then◌else◌, refl}
+use Rattle.std.specs.Prelude.{◌≡◌, ℕ, ◌==◌, List, [], Option, if◌then◌else◌, refl}
 use Rattle.std.specs.Coded.{Coded, code_by, coded×, coded_ℕ, coded_list, coded_option}
 use Rattle.std.proofs.Common.{ap}
 use Rattle.mcv_base.specs.declared.operation.Op.{Op}
@@ -8,7 +8,7 @@ use Rattle.mcv_pools.specs.Symbol.{SymbolValue}
 use Rattle.mcv_config.specs.Labels.{Node, Nodes, node, no_node, beside, node_code}
 use Rattle.mcv_pools.specs.contracts.symbol.Symbol.{the_row as symbol_row}
 use Rattle.mcv_route.specs.Routes.{RouteEntry, RoutesValue}
-use Rattle.mcv_route.specs.Tree.{Pool, Range, Tree, Trees, pool, null, error, all_sync, all_initial, all_async, failover, miss_failover, warm_up, migrate, prefix_selector, operation_selector, none, child}
+use Rattle.mcv_route.specs.Tree.{Range, Tree, Trees, pool, null, error, all_sync, all_initial, all_async, failover, miss_failover, warm_up, migrate, prefix_selector, operation_selector, none, child}
 
 -- what a handle is, but for its children
 pub record Label : Type 0 where
