@@ -7,18 +7,16 @@ ghost use Rattle.mcv_legs.specs.Limits.{input_limit};
 ghost use Rattle.mcv_legs.specs.Fault.{IsOutside};
 
 use crate::fault::RunFault;
+use mcv_config::SIZE_LIMIT;
 use std::alloc::Global;
 use std::io;
 use std::io::{ErrorKind, Read, Write};
-
-/// The most bytes of a configuration.
-pub const CONFIGURATION_LIMIT: usize = 16_777_216;
 
 /// The most bytes of a request line: the longest name, a space, the longest key word and LF.
 const LINE_LIMIT: usize = 259;
 
 /// The most bytes that are read: a request line, and a configuration of one byte more than one may have.
-const INPUT_LIMIT: u64 = (LINE_LIMIT + CONFIGURATION_LIMIT + 1) as u64;
+const INPUT_LIMIT: u64 = (LINE_LIMIT + SIZE_LIMIT + 1) as u64;
 
 /// Want of memory is told as such, and all else as a failure of the device.
 fn device_fault(error: &io::Error) -> RunFault

@@ -12,12 +12,12 @@ ghost use Rattle.mcv_legs.specs.Answer.{IsAnswer, entry_for, text_of};
 ghost use Rattle.mcv_legs.specs.Fault.{IsRefusal, IsRunFault, IsTooLong};
 ghost use Rattle.mcv_legs.specs.Request.{Asks};
 
-use crate::device::{CONFIGURATION_LIMIT, read_input, write_text};
+use crate::device::{read_input, write_text};
 use crate::fault::RunFault;
 use crate::request::read_request;
 use crate::text::legs_text;
 use mcv_base::{Moment, Prefix, hashed_part};
-use mcv_config::{ConfigFault, FaultKind, read_config};
+use mcv_config::{ConfigFault, FaultKind, SIZE_LIMIT, read_config};
 use mcv_pools::{Fnv, Servers, choose};
 use mcv_route::{Route, Routes};
 use mcv_rules::{Eval, Outcomes};
@@ -94,7 +94,7 @@ fn read_routes(alloc: Global, configuration: &[u8]) -> Result<Routes, RunFault>
     ensures fault { IfErr result (λ fault. IsRefusal configuration.now fault) }
     ensures large { size_limit < length configuration.now → IfErr result IsTooLong }
 {
-    if configuration.len() > CONFIGURATION_LIMIT {
+    if configuration.len() > SIZE_LIMIT {
         return Err(too_long(alloc));
     }
     let config = read_config(alloc, configuration)?;
