@@ -49,9 +49,9 @@ IsEraOf r (suc k) since = (table : List ℕ) × IsBreakTable (breaks_of r) table
 pub record IsPlaceOf (r : RoutesValue) (route : ℕ) (class : List ℕ) (era : ℕ) (t : Tree) (member : List ℕ) (since : Option ℕ) : Type 0 where
   pub entry : RouteEntry
   pub numbered : slice_get r.entries route ≡ Some entry
-  pub tree : entry.tree ≡ t
-  pub word : Contains (class_words t) class
-  pub member : IsMember (class_words t) class (Some member)
+  pub has_tree : entry.tree ≡ t
+  pub listed : Contains (class_words t) class
+  pub has_member : IsMember (class_words t) class (Some member)
   pub opened : IsEraOf r era since
 
 -- the block is that of its route, class and era
@@ -62,11 +62,15 @@ pub record IsBlockOf (r : RoutesValue) (b : BlockValue) : Type 0 where
   pub place : IsPlaceOf r b.route b.class b.era tree member since
   pub has : IsBlockAt tree member since b
 
+-- one of the blocks is of this route, class and era
+abbrev pub HasBlockFor : List BlockValue → (route : ℕ) → (class : List ℕ) → (era : ℕ) → Type 0
+HasBlockFor blocks route class era = (b : BlockValue) × Contains blocks b × (b.route ≡ route) × (b.class ≡ class) × (b.era ≡ era)
+
 -- a block for each route, class with a member and era, by route, class and era, each once
 pub record AreBlocksOf (r : RoutesValue) (blocks : List BlockValue) : Type 0 where
   pub rising : AllPairs (λ b c. block_cmp b c ≡ Less) blocks
   pub only : All (IsBlockOf r) blocks
-  pub all : (b : BlockValue) → IsBlockOf r b → Contains blocks b
+  pub all : (route : ℕ) (class : List ℕ) (era : ℕ) (t : Tree) (member : List ℕ) (since : Option ℕ) → IsPlaceOf r route class era t member since → HasBlockFor blocks route class era
 
 -- a certificate with these pairs is justified: no fault stands in it
 abbrev pub IsJustifiedBy : RoutesValue → List PairValue → Type 0

@@ -36,6 +36,14 @@ impl Certificate {
         }
     }
 
+    /// The certificate of pairs whose order is known.
+    pub fn of(pairs: Vec<Pair>) -> Self
+        requires { IsCertificate (map pair_of pairs.items) }
+        ensures { result ≡ map pair_of pairs.items }
+    {
+        Certificate { pairs }
+    }
+
     /// Whether the pair may come next: it stands behind those that are there, and an `All` names a leg.
     pub fn takes(&self, pair: &Pair) -> bool
         ensures { result ≡ (names_legs (reason_of pair.now.reason) && is_behind self.now (pair_of pair.now)) }

@@ -20,6 +20,3 @@ pub use fault::CertFault;
 pub use laws::{one_answer, text_is_read};
 pub use pair::{Pair, Reason};
 pub use read::read_certificate;
-
-#[cfg(test)]
-mod tests;

@@ -34,7 +34,7 @@ all_open None (Some r) whole i = refl
 all_open (Some o) None whole i = rw (le-leb 0 i (omega arith)) refl
 all_open (Some o) (Some r) whole i = rw (le-leb 0 i (omega arith)) refl
 
-of_blocks : (pairs : List PairValue) (blocks : List BlockValue) (s : Place) (i : ℕ) → fault_from pairs (entries (flat_map owed_by blocks)) s i ≡ fault_at pairs blocks s i
+pub of_blocks : (pairs : List PairValue) (blocks : List BlockValue) (s : Place) (i : ℕ) → fault_from pairs (entries (flat_map owed_by blocks)) s i ≡ fault_at pairs blocks s i
 of_blocks pairs blocks s i =
     ap (λ e. fault_beside e (pair_at pairs s i) (is_answered_whole pairs s) i) (entry_of_owed (flat_map owed_by blocks) s)
     ∙ all_open (owed_at (flat_map owed_by blocks) s) (pair_at pairs s i) (is_answered_whole pairs s) i

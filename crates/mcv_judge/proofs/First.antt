@@ -95,6 +95,15 @@ still : (e : Entry) (row : Option PairValue) (said : Bool) (j : ℕ) → nat_le 
 still e None said j s = rw s refl
 still e (Some r) said j s = rw s refl
 
+pub rising_after : (r : ReasonValue) (e : Entry) (es : List Entry) → AreEntriesRising (e ∷ es) → AreEntriesRising (after r e es)
+rising_after r e es rising = elim (cases_Bool (is_whole r)) [
+  | inl w ↦ rw w rising.2
+  | inr w ↦ elim (cases_Bool (nat_lt (suc e.from) e.size)) [
+    | inl l ↦ rw (w, l) (ltb-true (suc e.from) e.size l, rising.1, rising.2)
+    | inr l ↦ rw (w, l) rising.2
+  ]
+]
+
 module _ (o : IsTotalOrder place_cmp) where
   pairs : IsTotalOrder (λ (x y : Place × ℕ). ordering_then (place_cmp x.0 y.0) (nat_cmp x.1 y.1))
   pairs = then_total (on_total (λ (x : Place × ℕ). x.0) o) (on_total (λ (x : Place × ℕ). x.1) nat_cmp_total)
@@ -105,7 +114,7 @@ module _ (o : IsTotalOrder place_cmp) where
   turn_back : (p : Place) (i : ℕ) (q : Place) (j : ℕ) → index_cmp p i q j ≡ Greater → index_cmp q j p i ≡ Less
   turn_back p i q j e = pairs.antisymm (q, j) (p, i) ∙ ap ordering_reverse e
 
-  chain : (p : Place) (i : ℕ) (q : Place) (j : ℕ) (s : Place) (k : ℕ) → index_cmp p i q j ≡ Less → index_cmp q j s k ≡ Less → index_cmp p i s k ≡ Less
+  pub chain : (p : Place) (i : ℕ) (q : Place) (j : ℕ) (s : Place) (k : ℕ) → index_cmp p i q j ≡ Less → index_cmp q j s k ≡ Less → index_cmp p i s k ≡ Less
   chain p i q j s k e f = pairs.trans (p, i) (q, j) (s, k) e f
 
   level : (p : Place) (i : ℕ) (q : Place) (j : ℕ) (s : Place) (k : ℕ) → index_cmp p i q j ≡ Equal → index_cmp p i s k ≡ index_cmp q j s k
@@ -170,7 +179,7 @@ module _ (o : IsTotalOrder place_cmp) where
         | inr a ↦ rw (ap is_eq (tied_back o (place_of r) e.place a.0), before_index e j (nat_less j e.from a.1)) refl
       ]
 
-  self : (p : Place) (i : ℕ) → index_cmp p i p i ≡ Equal
+  pub self : (p : Place) (i : ℕ) → index_cmp p i p i ≡ Equal
   self p i = tied_itself pairs (p, i)
 
   -- the first row at its own place
@@ -317,15 +326,6 @@ module _ (o : IsTotalOrder place_cmp) where
         ]
       ]
 
-    rising_after : AreEntriesRising (after r.reason e es)
-    rising_after = elim (cases_Bool (is_whole r.reason)) [
-      | inl w ↦ rw w rising.2
-      | inr w ↦ elim (cases_Bool (nat_lt (suc e.from) e.size)) [
-        | inl l ↦ rw (w, l) (ltb-true (suc e.from) e.size l, rising.1, rising.2)
-        | inr l ↦ rw (w, l) rising.2
-      ]
-    ]
-
   after_both : (r : ReasonValue) (e : Entry) (es fs : List Entry) → after r e (es ++ fs) ≡ after r e es ++ fs
   after_both r e es fs = elim (cases_Bool (is_whole r)) [
     | inl w ↦ rw w refl
@@ -345,7 +345,7 @@ module _ (o : IsTotalOrder place_cmp) where
     step : (next : Result (List PairValue) PairFault) → (AreEntriesRising (after r.reason e es ++ fs) → Judges rows (after r.reason e es) fs next) → (c : Ordering) → index_cmp (place_of r) (index_of r.reason) e.place e.from ≡ c →
         Judges (r ∷ rows) (e ∷ es) fs (elim c [ Less ↦ Err Stray | Equal ↦ or_else (e.judge r.reason) next | Greater ↦ Err Missing ])
     step next h Less at = stray r rows e (es ++ fs) at up rising
-    step next h Equal at = judged at next (h (subst AreEntriesRising (after_both r.reason e es fs) (rising_after r rows e (es ++ fs) at up rising))) (e.judge r.reason) refl
+    step next h Equal at = judged at next (h (subst AreEntriesRising (after_both r.reason e es fs) (rising_after r.reason e (es ++ fs) rising))) (e.judge r.reason) refl
     step next h Greater at =
         let below = turn_back (place_of r) (index_of r.reason) e.place e.from at in
         missing (r ∷ rows) e (es ++ fs) (below, below_more e.place e.from (place_of r) (index_of r.reason) below rows up.0) rising

@@ -18,7 +18,7 @@ use Rattle.mcv_judge.specs.declared.fault.PairFault.{PairFault}
 use Rattle.mcv_judge.specs.declared.fault.PairFault.TheVariants.{Missing, Stray}
 
 -- one step, by how the pair stands against the entry
-abbrev by : PairValue → List PairValue → Entry → List Entry → Ordering → Result (List PairValue) PairFault
+abbrev pub by : PairValue → List PairValue → Entry → List Entry → Ordering → Result (List PairValue) PairFault
 by r pairs e es x = elim x [ Less ↦ Err Stray | Equal ↦ or_else (e.judge r.reason) (walk pairs (after r.reason e es)) | Greater ↦ Err Missing ]
 
 pub ended : (pairs : List PairValue) → walk pairs [] ≡ Ok pairs

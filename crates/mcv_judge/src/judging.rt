@@ -10,8 +10,8 @@ ghost use Rattle.mcv_judge.specs.Walk.{entries, entries_left, walk, walked};
 
 use crate::block::{Block, Leg};
 use crate::fault::PairFault;
-use mcv_cert::Pair;
 use crate::reasons::{is_whole, judge_reason, unless};
+use mcv_cert::Pair;
 use std::cmp::Ordering;
 
 /// Where a pair stands against an index of a leaf.

@@ -9,9 +9,11 @@
 mod block;
 mod fault;
 mod judging;
+mod laws;
 mod looking;
 mod reasons;
 
 pub use block::{Block, Leg};
 pub use fault::PairFault;
 pub use judging::{judge, judge_block, judge_end};
+pub use laws::answered_is_faultless;

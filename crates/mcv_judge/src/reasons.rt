@@ -11,8 +11,8 @@ ghost use Rattle.mcv_judge.specs.Walk.{fault_in};
 use crate::block::{Block, Leg};
 use crate::fault::PairFault;
 use crate::looking::{find_leg, have_same_servers, is_same_server, server_at};
-use mcv_cert::Reason;
 use mcv_base::{Position, ServerId};
+use mcv_cert::Reason;
 
 /// Whether the reason speaks of all indexes of the leaf.
 pub fn is_whole(reason: &Reason) -> bool

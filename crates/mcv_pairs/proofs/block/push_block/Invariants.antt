@@ -1,0 +1,8 @@
+use Rattle.std.proofs.Common.{take}
+use Rattle.mcv_judge.specs.Answers.{AnswersLeaves}
+use Rattle.mcv_judge.specs.InMemory.{block_of, legs_of, pairs_of}
+use Rattle.mcv_pairs.specs.Adds.{Adds}
+use Rattle.mcv_pairs.proofs.block.push_block.Given as goal
+
+abbrev pub invariant-loop-number : goal.invariant-loop-number
+invariant-loop-number l = Adds (AnswersLeaves (block_of l.block) (legs_of (take l.number l.leaves))) (pairs_of l.fn.pairs.items) (pairs_of l.pairs.items)

@@ -1,0 +1,12 @@
+pub mod Each
+pub mod Regions
+pub mod Spread
+pub mod Tests
+pub mod Gathered
+pub mod Right
+pub mod Fronts
+pub mod Selected
+pub mod Judged
+pub mod Confirmed
+pub mod Losses
+pub mod Examples
