@@ -16,6 +16,7 @@ mod read;
 mod write;
 
 pub use certificate::Certificate;
+pub use escape::push_escaped;
 pub use fault::CertFault;
 pub use laws::{one_answer, text_is_read};
 pub use pair::{Pair, Reason};
