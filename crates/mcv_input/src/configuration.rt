@@ -6,13 +6,16 @@ ghost use Rattle.mcv_input.specs.Fault.{AreNamedBy, IsInputFault, IsRefusal, IsT
 
 use crate::device::read_at_most;
 use crate::fault::InputFault;
-use mcv_config::{ConfigFault, FaultKind, SIZE_LIMIT, read_config};
+use mcv_config::{ConfigFault, FaultKind, read_config};
 use mcv_route::Routes;
 use std::alloc::Global;
 use std::io::Read;
 
+/// The most bytes of a configuration.
+pub const CONFIGURATION_LIMIT: usize = 16_777_216;
+
 /// The most bytes that are read of a configuration: one more than it may have.
-const READ_LIMIT: u64 = (SIZE_LIMIT + 1) as u64;
+const READ_LIMIT: u64 = (CONFIGURATION_LIMIT + 1) as u64;
 
 /// The fault of a configuration that is longer than any may be.
 fn too_long(alloc: Global) -> InputFault
@@ -34,7 +37,7 @@ pub fn read_routes(alloc: Global, configuration: &[u8]) -> Result<Routes, InputF
     ensures fault { IfErr result (IsRefusal configuration.now) }
     ensures large { size_limit < length configuration.now → IfErr result IsTooLong }
 {
-    if configuration.len() > SIZE_LIMIT {
+    if configuration.len() > CONFIGURATION_LIMIT {
         return Err(too_long(alloc));
     }
     let config = read_config(alloc, configuration)?;

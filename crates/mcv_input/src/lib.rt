@@ -8,6 +8,6 @@ mod configuration;
 mod device;
 mod fault;
 
-pub use configuration::{read_configuration, read_routes};
+pub use configuration::{CONFIGURATION_LIMIT, read_configuration, read_routes};
 pub use device::{read_at_most, write_text};
 pub use fault::InputFault;

@@ -4,8 +4,7 @@ ghost use Rattle.std.specs.Prelude.{◌≡◌, IfSome, IfOk, IfErr, take};
 ghost use Rattle.mcv_input.specs.Fault.{IsOutside};
 ghost use Rattle.mcv_legs.specs.Limits.{input_limit};
 
-use mcv_config::SIZE_LIMIT;
-use mcv_input::{InputFault, read_at_most};
+use mcv_input::{CONFIGURATION_LIMIT, InputFault, read_at_most};
 use std::alloc::Global;
 use std::io::Read;
 
@@ -13,7 +12,7 @@ use std::io::Read;
 const LINE_LIMIT: usize = 259;
 
 /// The most bytes that are read: a request line, and a configuration of one byte more than one may have.
-const INPUT_LIMIT: u64 = (LINE_LIMIT + SIZE_LIMIT + 1) as u64;
+const INPUT_LIMIT: u64 = (LINE_LIMIT + CONFIGURATION_LIMIT + 1) as u64;
 
 /// The first bytes that the reader has left, as many as can matter.
 pub fn read_input<R: Read>(alloc: Global, reader: &mut R) -> Result<Vec<u8>, InputFault>
