@@ -98,17 +98,18 @@ Any certificate can be checked again, also one that another program made:
   mcv check < mcrouter.json | tail -n +2 > mcrouter.cert
   mcv check --cert mcrouter.cert < mcrouter.json
 
-Where it isn't covered, the exit status is 3, and four lines name the server that
-an acknowledged delete can leave with the old value, the route's number, the
-class of keys (those that begin with the word; none is the rest of the keys),
-and the era, which is the number of moments that migrations have passed:
+Where it isn't covered, the exit status is 3, and four lines name the server
+that an acknowledged delete can leave with the old value, the route's number,
+the class of keys (those that begin with the word; none is the rest of the
+keys), and the era, which is the number of moments that migrations have passed:
 
   lost b:11211
   route 0
   class =
   era 0
 
-A certificate that isn't read is told as `mcv: certificate text NUMBER line LINE`:
+A certificate that isn't read is told by a number and by the line at fault, from
+1, as `mcv: certificate text NUMBER line LINE`:
 
   1  the line breaks the form     3  the text is over 268435456 bytes
   2  the line is out of order

@@ -1,6 +1,6 @@
 //! Where a delete can be lost.
 
-ghost use Rattle.std.specs.Prelude.{◌≡◌, IfOk};
+ghost use Rattle.std.specs.Prelude.{◌≡◌, ◌<◌, All, IfOk};
 ghost use Rattle.mcv_judge.specs.InMemory.{block_of};
 ghost use Rattle.mcv_pairs.specs.Gaps.{IsFirstGapIn};
 ghost use Rattle.mcv_make.specs.Made.{TellsGapOf};
@@ -46,16 +46,25 @@ impl From<AllocError> for MakeFault {
     }
 }
 
+/// The bytes of a word, in memory of their own.
+fn copied(alloc: Global, word: &[u8]) -> Result<Vec<u8>, AllocError>
+    ensures same { IfOk result (λ v. v.items ≡ word.now) }
+    ensures bytes { IfOk result (λ v. All (λ c. c < 256) v.items) }
+{
+    Vec::from_slice(alloc, word)
+}
+
 /// What is told of the first gap of a block.
 pub fn told(alloc: Global, block: &Block, gap: BlockGap) -> Result<Finding, AllocError>
     requires { IsFirstGapIn (block_of block.now) gap.leaf gap.at }
     ensures { IfOk result (λ f. TellsGapOf (block_of block.now) f) }
 {
     let leaf = &block.readable[gap.leaf];
-    let server = leaf.servers[gap.at];
+    let servers = leaf.servers;
+    let server = servers[gap.at];
     Ok(Finding {
         route: block.route,
-        class: Vec::from_slice(alloc, block.class)?,
+        class: copied(alloc, block.class)?,
         era: block.era,
         leaf: leaf.position.copy(alloc)?,
         at: gap.at,

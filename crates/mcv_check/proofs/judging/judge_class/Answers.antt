@@ -21,7 +21,7 @@ loop-era-preserved c = record {
 
 pub returns-in_err-rest-clause-fault : goal.returns-in_err-rest-clause-fault
 returns-in_err-rest-clause-fault c =
-    let stops = era_stops c.args.routes.now c.args.class.now c.args.eras (pairs_of c.args.pairs.now) c.loop-era.era c.loop-era-test.true (pairs_of c.loop-era.rest.now) c.loop-era.invariant.so_far c.in_err-rest.field-0 c.in_err-rest.ensures.fault in
+    let stops = era_stops c.args.routes.now c.args.class.now c.args.eras (pairs_of c.args.pairs.now) c.loop-era.era c.loop-era-test.true (pairs_of c.loop-era.rest.now) c.loop-era.invariant.so_far c.in_err-rest.field-0.0 c.in_err-rest.ensures.fault in
     let p = err_from_is_err_and c.from_residual.result c.from_residual.ensures.1 in
     rw (p.1, p.2) stops
 

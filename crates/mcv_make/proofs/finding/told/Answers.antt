@@ -10,11 +10,8 @@ use Rattle.mcv_pairs.proofs.Picked.{server_there}
 use Rattle.mcv_make.proofs.Told.{leg_there, placed_at}
 use Rattle.mcv_make.proofs.finding.told.Goals as goal
 
-pub offset_bounds-leaf-gap : goal.offset_bounds-leaf-gap
-offset_bounds-leaf-gap c = let h = c.fits-block in let w = c.well_formed in ?
-
-pub bounds-leaf-gap : goal.bounds-leaf-gap
-bounds-leaf-gap c =
+pub bounds-servers-gap : goal.bounds-servers-gap
+bounds-servers-gap c =
     let legs = c.args.block.now.readable.now in
     let leg = get_or legs c.args.gap.leaf c.index-block-gap.result in
     let same : leg_of leg ≡ c.requires.leaf = leg_there legs c.args.gap.leaf c.index-block-gap.result c.requires.leaf c.requires.numbered in
@@ -34,7 +31,7 @@ returns c =
     record {
       number = c.args.gap.leaf;
       gap = c.requires;
-      placed = placed_at (block_of c.args.block.now) c.requires.leaf c.in_ok-from_slice.field-0.items c.in_ok-copy.field-0 c.in_ok-from_slice.ensures.items (c.in_ok-copy.ensures ∙ ap (λ (l : LegValue). l.position) same);
+      placed = placed_at (block_of c.args.block.now) c.requires.leaf c.in_ok-copied.field-0.items c.in_ok-copy.field-0 c.in_ok-copied.ensures.same (c.in_ok-copy.ensures ∙ ap (λ (l : LegValue). l.position) same);
       has = subst (λ (l : LegValue). server_at l c.args.gap.at ≡ Some (get_or leg.servers.now c.args.gap.at zero).0) same has;
-      bytes = let h = c.type_inv.block in let i = c.in_ok-from_slice.ensures.items in let p = c.in_ok-copy.ensures in ?;
+      bytes = c.in_ok-copied.ensures.bytes;
     }
