@@ -1,0 +1,14 @@
+//! Findings: what shows that a delete can be lost, for anyone to replay by hand.
+//!
+//! A `Finding` names a key, the indexes that its hash picks, and what each server answered: to a get that is
+//! read from a leaf, and to a delete that was acknowledged and never sent to the leaf's server. When it shows what
+//! it says is a definition over the rules of handles (`specs/Breaks.antt`); `finding_text` writes it.
+#![tactic(auto)]
+
+mod finding;
+mod laws;
+mod text;
+
+pub use finding::{Finding, LegOutcome};
+pub use laws::findings_are_losses;
+pub use text::finding_text;
