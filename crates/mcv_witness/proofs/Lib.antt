@@ -1,2 +1,7 @@
+pub mod Each
+pub mod Regions
+pub mod Spread
+pub mod Tests
+pub mod Gathered
 pub mod Losses
 mod Examples

@@ -1,3 +1,4 @@
 pub mod Finding
 pub mod Breaks
 pub mod Text
+pub mod Walk

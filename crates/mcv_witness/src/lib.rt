@@ -6,8 +6,11 @@
 #![tactic(auto)]
 
 mod finding;
+mod known;
 mod laws;
+mod seen;
 mod text;
+mod walk;
 
 pub use finding::{Finding, LegOutcome};
 pub use laws::findings_are_losses;
