@@ -4,7 +4,7 @@ use Rattle.std.specs.Prelude.{if◌then◌else◌, fold, option_and_then}
 use Rattle.std.proofs.lemmas.Bool.{cases_Bool, false≢true}
 use Rattle.mcv_base.specs.declared.reply.Outcome.{Outcome}
 use Rattle.mcv_base.specs.declared.reply.Outcome.TheVariants.{Good, Soft, Error}
-use Rattle.mcv_base.specs.Reply.{is_error, is_missed}
+use Rattle.mcv_base.specs.Reply.{is_error, is_good, is_missed}
 use Rattle.mcv_route.specs.Children.{joined, is_within, of_those_holding}
 use Rattle.mcv_route.specs.Launched.{in_turn, launched, launched_each, once}
 use Rattle.mcv_route.specs.Outcomes.{Choice, History, Outcomes, is_same, outcomes}
@@ -25,7 +25,7 @@ use Rattle.mcv_witness.proofs.Tests.{Avoids, after, fold_stops, join_answers, le
 
 -- ---- outcomes by parts
 
-known_none : (es : History) (q : List ℕ) → Each (λ e. e.0 ≡ q → ⊥) es → outcomes es q ≡ None
+pub known_none : (es : History) (q : List ℕ) → Each (λ e. e.0 ≡ q → ⊥) es → outcomes es q ≡ None
 known_none [] q h = refl
 known_none (e ∷ es) q h = by_test (is_same e.0 q) refl (known_none es q h.1)
   where
@@ -95,7 +95,7 @@ module _ (base : List ℕ) (n d : ℕ) (es : History) (o : Outcomes) (fits : Fit
 abbrev pub moved : List ℕ → Situation → Situation
 moved base s = record s { position = base }
 
-legs_after_from : (leaf : List ℕ) (how : Join) (base : List ℕ) (n : ℕ) (r : List Answer) (rs : List (List Answer)) (lss : List (List Launch)) → EachFrom base n lss → AllFrom base n (legs_after leaf how r rs lss)
+pub legs_after_from : (leaf : List ℕ) (how : Join) (base : List ℕ) (n : ℕ) (r : List Answer) (rs : List (List Answer)) (lss : List (List Launch)) → EachFrom base n lss → AllFrom base n (legs_after leaf how r rs lss)
 legs_after_from leaf how base n r [] lss h = tt
 legs_after_from leaf how base n r (q ∷ rs) [] h = tt
 legs_after_from leaf how base n r (q ∷ rs) (ls ∷ lss) h = by_test (goes_on how (told leaf r)) (legs_after_from leaf how base n (join_answers how r q) rs lss h.1)
@@ -167,3 +167,78 @@ module _ (leaf : List ℕ) (server : ℕ) (c : Choice) where
           (legs_after_from leaf how base (suc n) (join_answers how r q) rs (launched_each (suc n) ts (moved base s) c o) (launched_from c o (suc n) ts (moved base s)))
           (ap (λ x. gather how (suc n) (pass_each leaf server c ts s) (record { reply = x; sent = b || reaches server ls }) (record { legs = behind d n es; depth = d })) (sym (told_join leaf how r q e))
           ∙ ih (b || reaches server ls))
+
+  -- ---- what the legs after a first child are
+
+  pub both_after : (ts : Trees) (base : List ℕ) (n : ℕ) (o : Outcomes) (s : Situation) (r : List Answer) →
+      legs_after leaf Both r (replies_each n ts (moved base s) o) (launched_each n ts (moved base s) c o) ≡ joined (launched_each n ts (moved base s) c o)
+  both_after none base n o s r = refl
+  both_after (child t ts) base n o s r = ap (λ x. launched t (under n (moved base s)) c o ++ x) (both_after ts base (suc n) o s (join_answers Both r (replies t (under n (moved base s)) o)))
+
+  pub beside_after : (ts : Trees) (base : List ℕ) (n : ℕ) (o : Outcomes) (s : Situation) (r : List Answer) →
+      legs_after leaf Beside r (replies_each n ts (moved base s) o) (launched_each n ts (moved base s) c o) ≡ joined (launched_each n ts (moved base s) c o)
+  beside_after none base n o s r = refl
+  beside_after (child t ts) base n o s r = ap (λ x. launched t (under n (moved base s)) c o ++ x) (beside_after ts base (suc n) o s r)
+
+  pub beside_replies : (r : List Answer) (rs : List (List Answer)) → fold (join_answers Beside) r rs ≡ r
+  beside_replies r [] = refl
+  beside_replies r (q ∷ rs) = beside_replies r rs
+
+  pub error_after : (ts : Trees) (base : List ℕ) (n : ℕ) (o : Outcomes) (s : Situation) (r : List Answer) →
+      legs_after leaf OnError r (replies_each n ts (moved base s) o) (launched_each n ts (moved base s) c o)
+      ≡ once is_error r (in_turn is_error (replies_each n ts (moved base s) o) (launched_each n ts (moved base s) c o))
+  error_after none base n o s [] = refl
+  error_after none base n o s (a ∷ r) = by_test (is_error a.outcome)
+    where
+      by_test : (b : Bool) → [] ≡ cond b [] []
+      by_test true = refl
+      by_test false = refl
+  error_after (child t ts) base n o s [] = refl
+  error_after (child t ts) base n o s (a ∷ r) = by_test (is_error a.outcome) (error_after ts base (suc n) o s q)
+    where
+      q : List Answer
+      q = replies t (under n (moved base s)) o
+
+      ls : List Launch
+      ls = launched t (under n (moved base s)) c o
+
+      rs : List (List Answer)
+      rs = replies_each (suc n) ts (moved base s) o
+
+      lss : List (List Launch)
+      lss = launched_each (suc n) ts (moved base s) c o
+
+      by_test : (b : Bool) → legs_after leaf OnError q rs lss ≡ once is_error q (in_turn is_error rs lss) →
+          cond b (ls ++ legs_after leaf OnError (cond b q (a ∷ r)) rs lss) [] ≡ cond b (ls ++ once is_error q (in_turn is_error rs lss)) []
+      by_test true h = ap (λ x. ls ++ x) h
+      by_test false h = refl
+
+  pub miss_after : (ts : Trees) (base : List ℕ) (n : ℕ) (o : Outcomes) (s : Situation) (r : List Answer) →
+      legs_after leaf OnMiss r (replies_each n ts (moved base s) o) (launched_each n ts (moved base s) c o)
+      ≡ once is_missed r (in_turn is_missed (replies_each n ts (moved base s) o) (launched_each n ts (moved base s) c o))
+  miss_after none base n o s [] = refl
+  miss_after none base n o s (a ∷ r) = by_test (is_missed a.outcome)
+    where
+      by_test : (b : Bool) → [] ≡ cond b [] []
+      by_test true = refl
+      by_test false = refl
+  miss_after (child t ts) base n o s [] = refl
+  miss_after (child t ts) base n o s (a ∷ r) = by_outcome a.outcome (miss_after ts base (suc n) o s q)
+    where
+      q : List Answer
+      q = replies t (under n (moved base s)) o
+
+      ls : List Launch
+      ls = launched t (under n (moved base s)) c o
+
+      rs : List (List Answer)
+      rs = replies_each (suc n) ts (moved base s) o
+
+      lss : List (List Launch)
+      lss = launched_each (suc n) ts (moved base s) c o
+
+      by_outcome : (x : Outcome) → legs_after leaf OnMiss q rs lss ≡ once is_missed q (in_turn is_missed rs lss) →
+          cond (is_missed x) (ls ++ legs_after leaf OnMiss (cond (is_good x) (a ∷ r) q) rs lss) [] ≡ cond (is_missed x) (ls ++ once is_missed q (in_turn is_missed rs lss)) []
+      by_outcome Good h = refl
+      by_outcome Soft h = ap (λ x. ls ++ x) h
+      by_outcome Error h = ap (λ x. ls ++ x) h

@@ -138,6 +138,7 @@ module _ (c : Choice) (o : Outcomes) where
 
   pub launched_from : (k : ℕ) (ts : Trees) (s : Situation) → EachFrom s.position k (launched_each k ts s c o)
   launched_from k none s = tt
-  launched_from k (child t ts) s =
-      (below_all s.position k (launched t (under k s) c o) (launched_below t k s),
-      each_map (AllFrom s.position (suc k)) (AllFrom s.position k) (launched_each (suc k) ts s c o) (λ ls. later_all s.position k ls) (launched_from (suc k) ts s))
+  launched_from k (child t ts) s = (
+    below_all s.position k (launched t (under k s) c o) (launched_below t k s),
+    each_map (AllFrom s.position (suc k)) (AllFrom s.position k) (launched_each (suc k) ts s c o) (λ ls. later_all s.position k ls) (launched_from (suc k) ts s),
+  )

@@ -138,7 +138,7 @@ reach_append server (l ∷ ls) ms =
     let own = (l.server.0 == server) && is_counting l.mark in
     ap (λ b. own || b) (reach_append server ls ms) ∙ sym (or_assoc own (reaches server ls) (reaches server ms))
 
-all_append : (ls : List Launch) (es fs : History) → all_sent ls (es ++ fs) ≡ (all_sent ls es && all_sent ls fs)
+pub all_append : (ls : List Launch) (es fs : History) → all_sent ls (es ++ fs) ≡ (all_sent ls es && all_sent ls fs)
 all_append ls [] fs = refl
 all_append ls (e ∷ es) fs = ap (λ b. sent_at e.0 ls && b) (all_append ls es fs) ∙ sym (and_assoc (sent_at e.0 ls) (all_sent ls es) (all_sent ls fs))
 

@@ -148,9 +148,9 @@ filled h r x k = if is_told is_good r then option_and_then (λ z. finish (joined
 abbrev pub warmed : Pass → Pass → Pass → Known → Option Seen
 warmed f g h k =
     option_and_then (λ x.
-        if goes_on OnMiss x.reply
-        then option_and_then (λ y. filled h y.reply (joined_seen OnMiss x y) (past (past k 0) 1)) (g (below (past k 0) 1))
-        else finish x (past k 0).legs)
+    if goes_on OnMiss x.reply
+    then option_and_then (λ y. filled h y.reply (joined_seen OnMiss x y) (past (past k 0) 1)) (g (below (past k 0) 1))
+    else finish x (past k 0).legs)
     (f (below k 0))
 
 -- ---- the walk

@@ -19,8 +19,8 @@ pub struct Known<'a> {
 impl<'a> Known<'a> {
     /// Those at the front that are below child `number`, as its own, and those behind them.
     pub fn split(self, number: usize) -> (Known<'a>, Known<'a>)
-        ensures below { known_of result.0 ≡ below (known_of self) number }
-        ensures past { known_of result.1 ≡ past (known_of self) number }
+        ensures below { known_of result.0 ≡ below (known_of self.entry) number }
+        ensures past { known_of result.1 ≡ past (known_of self.entry) number }
     {
         let count = lead(self.legs, self.depth, number);
         let own = &self.legs[..count];
@@ -35,8 +35,8 @@ impl<'a> Known<'a> {
 
     /// The outcome at the handle itself, if it stands first, and those behind it.
     pub fn own(self, leaf: &Position) -> (Option<Told>, Known<'a>)
-        ensures told { result.0 ≡ own_told leaf.now (known_of self) }
-        ensures past { known_of result.1 ≡ past_own (known_of self) }
+        ensures told { result.0 ≡ own_told leaf.now (known_of self.entry) }
+        ensures past { known_of result.1 ≡ past_own (known_of self.entry) }
     {
         let Some((first, others)) = self.legs.split_first() else {
             return (None, self);
@@ -58,7 +58,7 @@ impl<'a> Known<'a> {
 
     /// What was seen, if no outcome is left over.
     pub fn finish(self, seen: Seen) -> Option<Seen>
-        ensures { result ≡ finish seen (known_of self).legs }
+        ensures { result ≡ finish seen (known_of self.entry).legs }
     {
         if self.legs.is_empty() {
             Some(seen)

@@ -1,6 +1,6 @@
 //! The text of a finding.
 
-ghost use Rattle.std.specs.Prelude.{◌≡◌, ◌++◌, codes, decimal, if◌then◌else◌, IfOk, OnOk};
+ghost use Rattle.std.specs.Prelude.{◌≡◌, ◌<◌, ◌++◌, codes, decimal, if◌then◌else◌, IfOk, OnOk};
 ghost use Rattle.std.specs.List.{flat_map};
 ghost use Rattle.mcv_base.specs.Operation.{is_reading, op_name};
 ghost use Rattle.mcv_base.specs.Position.{position_text};

@@ -32,7 +32,7 @@ pub struct Sought<'a> {
 /// What is seen of a route; None where an outcome is left over.
 #[cycle(walking)]
 pub fn walk(route: &Route, asked: &Asked, sought: &Sought, known: Known) -> Option<Seen>
-    ensures { result ≡ walked sought.now (view route.now) (situation_at asked.now []) (known_of known) }
+    ensures { result ≡ walked sought.now (view route.now) (situation_at asked.now []) (known_of known.entry) }
 {
     match route {
         Route::Pool { leaf, shadows } => walk_pool(leaf, shadows, asked, sought, known),
@@ -110,7 +110,7 @@ fn walk_only(
     sought: &Sought,
     known: Known,
 ) -> Option<Seen>
-    ensures { result ≡ only (walked sought.now (view route.now) (situation_at asked.now [])) number (known_of known) }
+    ensures { result ≡ only (walked sought.now (view route.now) (situation_at asked.now [])) number (known_of known.entry) }
 {
     let (own, past) = known.split(number);
     if !past.legs.is_empty() {
@@ -128,7 +128,7 @@ fn walk_pool(
     sought: &Sought,
     known: Known,
 ) -> Option<Seen>
-    ensures { result ≡ walked sought.now (pool (pool_view leaf.now) (ranges_of shadows.now) (targets_of shadows.now)) (situation_at asked.now []) (known_of known) }
+    ensures { result ≡ walked sought.now (pool (pool_view leaf.now) (ranges_of shadows.now) (targets_of shadows.now)) (situation_at asked.now []) (known_of known.entry) }
 {
     let index = sought.choice.index(leaf.symbol);
     let (reply, past) = known.own(sought.leaf);
@@ -163,7 +163,7 @@ fn walk_shadows(
     before: Seen,
     known: Known,
 ) -> Option<Seen>
-    ensures { result ≡ shade index 0 (ranges_of shadows.now) (walked_each sought.now (targets_of shadows.now) (situation_at asked.now [])) before (known_of known) }
+    ensures { result ≡ shade index 0 (ranges_of shadows.now) (walked_each sought.now (targets_of shadows.now) (situation_at asked.now [])) before (known_of known.entry) }
 {
     let mut seen = before;
     let mut rest = known;
@@ -188,7 +188,7 @@ fn walk_rest(
     before: Seen,
     known: Known,
 ) -> Option<Seen>
-    ensures { result ≡ gather how 1 (walked_each sought.now (children_of children.now) (situation_at asked.now [])) before (known_of known) }
+    ensures { result ≡ gather how 1 (walked_each sought.now (children_of children.now) (situation_at asked.now [])) before (known_of known.entry) }
 {
     let mut seen = before;
     let mut rest = known;
@@ -206,13 +206,8 @@ fn walk_rest(
 
 /// All children, none of which is waited for.
 #[cycle(walking)]
-fn walk_unheard(
-    children: &[Route],
-    asked: &Asked,
-    sought: &Sought,
-    known: Known,
-) -> Option<Seen>
-    ensures { result ≡ gather beside 0 (walked_each sought.now (children_of children.now) (situation_at asked.now [])) (at_once Missed) (known_of known) }
+fn walk_unheard(children: &[Route], asked: &Asked, sought: &Sought, known: Known) -> Option<Seen>
+    ensures { result ≡ gather beside 0 (walked_each sought.now (children_of children.now) (situation_at asked.now [])) (at_once Missed) (known_of known.entry) }
 {
     let mut seen = Seen::at_once(Outcome::Soft);
     let mut rest = known;
@@ -234,7 +229,7 @@ fn walk_joined(
     how: Join,
     known: Known,
 ) -> Option<Seen>
-    ensures { let passes = walked_each sought.now (children_of children.now) (situation_at asked.now []) in result ≡ gather_all how passes (rest_of passes) (known_of known) }
+    ensures { let passes = walked_each sought.now (children_of children.now) (situation_at asked.now []) in result ≡ gather_all how passes (rest_of passes) (known_of known.entry) }
 {
     let Some((first, rest)) = children.split_first() else {
         return known.finish(Seen::at_once(Outcome::Error));
@@ -246,34 +241,30 @@ fn walk_joined(
 
 /// All children, the first of which is waited for.
 #[cycle(walking)]
-fn walk_initial(
-    children: &[Route],
-    asked: &Asked,
-    sought: &Sought,
-    known: Known,
-) -> Option<Seen>
+fn walk_initial(children: &[Route], asked: &Asked, sought: &Sought, known: Known) -> Option<Seen>
     ensures { let s = situation_at asked.now [] in
-        result ≡ gather_all beside (walked_each sought.now (children_of children.now) s) (rest_of (walked_each sought.now (children_of children.now) (asynchronous s))) (known_of known) }
+        result ≡ gather_all beside (walked_each sought.now (children_of children.now) s) (rest_of (walked_each sought.now (children_of children.now) (asynchronous s))) (known_of known.entry) }
 {
     let Some((first, rest)) = children.split_first() else {
         return known.finish(Seen::at_once(Outcome::Error));
     };
     let (own, past) = known.split(0);
     let seen = walk(first, asked, sought, own)?;
-    walk_rest(rest, &asked.asynchronous(), sought, Join::Beside, seen, past)
+    walk_rest(
+        rest,
+        &asked.asynchronous(),
+        sought,
+        Join::Beside,
+        seen,
+        past,
+    )
 }
 
 /// Both sides of a migration.
 #[cycle(walking)]
-fn walk_both(
-    from: &Route,
-    to: &Route,
-    asked: &Asked,
-    sought: &Sought,
-    known: Known,
-) -> Option<Seen>
+fn walk_both(from: &Route, to: &Route, asked: &Asked, sought: &Sought, known: Known) -> Option<Seen>
     ensures { let s = situation_at asked.now [] in
-        result ≡ gather_all both (walked sought.now (view from.now) s ∷ walked sought.now (view to.now) s ∷ []) (walked sought.now (view to.now) s ∷ []) (known_of known) }
+        result ≡ gather_all both (walked sought.now (view from.now) s ∷ walked sought.now (view to.now) s ∷ []) (walked sought.now (view to.now) s ∷ []) (known_of known.entry) }
 {
     let (own, past) = known.split(0);
     let first = walk(from, asked, sought, own)?;
@@ -292,7 +283,7 @@ fn walk_warm_up(
     known: Known,
 ) -> Option<Seen>
     ensures { let s = situation_at asked.now [] in
-        result ≡ warmed (walked sought.now (view cold.now) s) (walked sought.now (view warm.now) s) (walked sought.now (view cold.now) (adding s)) (known_of known) }
+        result ≡ warmed (walked sought.now (view cold.now) s) (walked sought.now (view warm.now) s) (walked sought.now (view cold.now) (adding s)) (known_of known.entry) }
 {
     let (own, past) = known.split(0);
     let seen = walk(cold, asked, sought, own)?;
