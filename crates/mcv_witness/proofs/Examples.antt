@@ -64,7 +64,7 @@ choice_is : IsChoice (sizes_of routes) (chosen finding)
 choice_is zero h = omega arith
 choice_is (suc s) h = absurd (omega (arith, h))
 
-warm_up_breaks : BreaksCoverage routes finding
+pub warm_up_breaks : BreaksCoverage routes finding
 warm_up_breaks = record {
   tree = tree;
   rest = rest;
@@ -102,5 +102,5 @@ warm_up_breaks = record {
   };
 }
 
-warm_up_text : finding_text routes finding ≡ codes "lost b:11211\nroute 0\nclass =\nera 0\nkey /././!\nget 0=miss 1=hit\ndelete 0=deleted\n"
+pub warm_up_text : finding_text routes finding ≡ codes "lost b:11211\nroute 0\nclass =\nera 0\nkey /././!\nget 0=miss 1=hit\ndelete 0=deleted\n"
 warm_up_text = refl

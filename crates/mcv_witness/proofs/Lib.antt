@@ -5,5 +5,6 @@ pub mod Tests
 pub mod Gathered
 pub mod Right
 pub mod Selected
+pub mod Judged
 pub mod Losses
-mod Examples
+pub mod Examples
