@@ -1,6 +1,7 @@
 -- A warm-up's finding: a get that misses in the cold pool is answered by the warm one, to which no delete is sent.
 use Rattle.std.proofs.Common.{◌≡◌, inl, inr, ⊎_elim, ℕ, zero, suc, ◌<◌, ◌≤◌, List, [], ◌∷◌, length, None, refl, arith}
-use Rattle.std.specs.Prelude.{codes, slice_index}
+use Rattle.std.specs.Fmt.{digits}
+use Rattle.std.specs.Prelude.{codes}
 use Rattle.std.specs.List.{All, AllPairs}
 use Rattle.std.proofs.lemmas.List.Elements.{All-cons, All-nil, All-contains}
 use Rattle.std.proofs.lemmas.List.Kept.{AllPairs-cons}
@@ -103,4 +104,5 @@ warm_up_breaks = record {
 }
 
 pub warm_up_text : finding_text routes finding ≡ codes "lost b:11211\nroute 0\nclass =\nera 0\nkey /././!\nget 0=miss 1=hit\ndelete 0=deleted\n"
+unfolding digits
 warm_up_text = refl

@@ -184,13 +184,16 @@ module _ (leaf : List ℕ) (server : ℕ) (c : Choice) where
   beside_replies r [] = refl
   beside_replies r (q ∷ rs) = beside_replies r rs
 
+  abbrev no_legs : List Launch
+  no_legs = []
+
   pub error_after : (ts : Trees) (base : List ℕ) (n : ℕ) (o : Outcomes) (s : Situation) (r : List Answer) →
       legs_after leaf OnError r (replies_each n ts (moved base s) o) (launched_each n ts (moved base s) c o)
       ≡ once is_error r (in_turn is_error (replies_each n ts (moved base s) o) (launched_each n ts (moved base s) c o))
   error_after none base n o s [] = refl
   error_after none base n o s (a ∷ r) = by_test (is_error a.outcome)
     where
-      by_test : (b : Bool) → [] ≡ cond b [] []
+      by_test : (b : Bool) → no_legs ≡ cond b no_legs no_legs
       by_test true = refl
       by_test false = refl
   error_after (child t ts) base n o s [] = refl
@@ -219,7 +222,7 @@ module _ (leaf : List ℕ) (server : ℕ) (c : Choice) where
   miss_after none base n o s [] = refl
   miss_after none base n o s (a ∷ r) = by_test (is_missed a.outcome)
     where
-      by_test : (b : Bool) → [] ≡ cond b [] []
+      by_test : (b : Bool) → no_legs ≡ cond b no_legs no_legs
       by_test true = refl
       by_test false = refl
   miss_after (child t ts) base n o s [] = refl

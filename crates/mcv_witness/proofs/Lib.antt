@@ -4,6 +4,7 @@ pub mod Spread
 pub mod Tests
 pub mod Gathered
 pub mod Right
+pub mod Fronts
 pub mod Selected
 pub mod Judged
 pub mod Losses

@@ -106,18 +106,21 @@ numbers_rise base p q i j h g b =
       | inr l ↦ l
     ]
 
--- what comes after a child, or after the base itself, is at a child
+-- what comes after a child, or after the base itself, isn't the base
+not_base : (base p q : List ℕ) → At base p → q ≡ base ++ [] → IsBefore p q → ⊥
+not_base base p q h e b = by_first h.0 h.1
+  where
+    by_first : (first : List ℕ) → p ≡ base ++ first → ⊥
+    by_first [] f = not-itself p (subst (λ x. IsBefore p x) (e ∙ sym f) b)
+    by_first (i ∷ first) f = never_back p q b (subst (λ x. IsBefore q x) (sym f) (subst (λ x. IsBefore x (base ++ i ∷ first)) (sym e) (before_own base i first)))
+
+-- so it is at a child
 pub after_from : (base p q : List ℕ) → At base p → At base q → IsBefore p q → From base 0 q
 after_from base p q h g b = by_more g.0 g.1
   where
     by_more : (more : List ℕ) → q ≡ base ++ more → From base 0 q
+    by_more [] e = absurd (not_base base p q h e b)
     by_more (j ∷ more) e = (j, omega arith, (more, e))
-    by_more [] e = by_first h.0 h.1
-      where
-        by_first : (first : List ℕ) → p ≡ base ++ first → From base 0 q
-        by_first [] f = absurd (not-itself p (subst (λ x. IsBefore p x) (e ∙ sym f) b))
-        by_first (i ∷ first) f =
-            absurd (never_back p q b (subst (λ x. IsBefore q x) (sym f) (subst (λ x. IsBefore x (base ++ i ∷ first)) (sym e) (before_own base i first))))
 
 -- ---- rising outcomes
 

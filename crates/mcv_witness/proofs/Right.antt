@@ -86,11 +86,11 @@ shade_stray index (r ∷ rs) (f ∷ fs) n d x e es h =
 -- behind the front of a child stands no outcome below it
 behind_head : (d n : ℕ) (es : History) (e : List ℕ × Outcome) (more : History) → behind d n es ≡ e ∷ more → is_below d n e.0 ≡ false
 behind_head d n [] e more is = absurd (let g : ◌≡◌ {A = History} [] (e ∷ more) = is in cc)
-behind_head d n (f ∷ es) e more is = by_test (is_below d n f.0) refl is
+behind_head d n (f ∷ es) e more is = by_test (is_below d n f.0) refl is (λ g. behind_head d n es e more g)
   where
-    by_test : (b : Bool) → is_below d n f.0 ≡ b → cond b (behind d n es) (f ∷ es) ≡ e ∷ more → is_below d n e.0 ≡ false
-    by_test true t g = behind_head d n es e more g
-    by_test false t g = let same : f ≡ e = cc in ap (λ x. is_below d n x.0) (sym same) ∙ t
+    by_test : (b : Bool) → is_below d n f.0 ≡ b → cond b (behind d n es) (f ∷ es) ≡ e ∷ more → (behind d n es ≡ e ∷ more → is_below d n e.0 ≡ false) → is_below d n e.0 ≡ false
+    by_test true t g ih = ih g
+    by_test false t g ih = let same : f ≡ e = cc in ap (λ (x : List ℕ × Outcome). is_below d n x.0) (sym same) ∙ t
 
 module _ (leaf : List ℕ) (server : ℕ) (c : Choice) where
   -- ---- all children

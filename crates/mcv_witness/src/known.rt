@@ -18,6 +18,7 @@ pub struct Known<'a> {
 
 impl<'a> Known<'a> {
     /// Those at the front that are below child `number`, as its own, and those behind them.
+    #[tactic(auto, using(crate::proofs::Fronts::depth_counted))]
     pub fn split(self, number: usize) -> (Known<'a>, Known<'a>)
         ensures below { known_of result.0 ≡ below (known_of self.entry) number }
         ensures past { known_of result.1 ≡ past (known_of self.entry) number }
@@ -25,7 +26,7 @@ impl<'a> Known<'a> {
         let count = lead(self.legs, self.depth, number);
         let own = &self.legs[..count];
         let others = &self.legs[count..];
-        let depth = if own.is_empty() { 0 } else { self.depth + 1 };
+        let depth = if count == 0 { 0 } else { self.depth + 1 };
         let past = Known {
             legs: others,
             depth: self.depth,
