@@ -7,5 +7,6 @@ pub mod Right
 pub mod Fronts
 pub mod Selected
 pub mod Judged
+pub mod Confirmed
 pub mod Losses
 pub mod Examples
