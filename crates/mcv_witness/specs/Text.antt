@@ -1,5 +1,5 @@
 -- The text of a finding, line by line (own).
-use Rattle.std.specs.Prelude.{ℕ, suc, List, [], ◌∷◌, ◌++◌, ◌==◌, codes, decimal, if◌then◌else◌, nat_lt, slice_index, slice_index_or}
+use Rattle.std.specs.Prelude.{ℕ, suc, List, [], ◌∷◌, ◌++◌, ◌==◌, codes, decimal, if◌then◌else◌, nat_lt, slice_get, slice_index, unwrap_or}
 use Rattle.std.specs.List.{flat_map}
 use Rattle.mcv_base.specs.declared.operation.Op.{Op}
 use Rattle.mcv_base.specs.declared.operation.Op.TheVariants.{Delete}
@@ -65,8 +65,9 @@ answers_text op (e ∷ es) = answer_text op e ++ flat_map (λ x. codes " " ++ an
 
 -- ---- the whole
 
+-- the text of the server, and none where it isn't in the table
 abbrev pub lost_line : RoutesValue → FindingValue → List ℕ
-lost_line r f = line (codes "lost") (slice_index_or r.servers f.server [])
+lost_line r f = line (codes "lost") (unwrap_or (slice_get r.servers f.server) [])
 
 abbrev pub finding_text : RoutesValue → FindingValue → List ℕ
 finding_text r f =

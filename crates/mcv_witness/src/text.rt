@@ -1,6 +1,6 @@
 //! The text of a finding.
 
-ghost use Rattle.std.specs.Prelude.{◌≡◌, ◌<◌, ◌++◌, codes, decimal, if◌then◌else◌, IfOk, OnOk};
+ghost use Rattle.std.specs.Prelude.{◌≡◌, ◌<◌, ◌++◌, [], codes, decimal, if◌then◌else◌, slice_get, unwrap_or, IfOk, OnOk};
 ghost use Rattle.std.specs.List.{flat_map};
 ghost use Rattle.mcv_base.specs.Operation.{is_reading, op_name};
 ghost use Rattle.mcv_base.specs.Position.{position_text};
@@ -10,7 +10,7 @@ ghost use Rattle.mcv_witness.specs.Text.{answer_text, answers_text, done_word, f
 
 use crate::finding::{Finding, LegOutcome};
 use itoa::Buffer;
-use mcv_base::{Op, Outcome};
+use mcv_base::{Op, Outcome, ServerId};
 use mcv_pools::{Choice, HashFunc, Symbol};
 use mcv_route::Routes;
 use std::alloc::{AllocError, Global};
@@ -35,14 +35,22 @@ pub fn finding_text(
     Ok(text)
 }
 
+/// The text of a server, empty where it isn't in the table.
+fn server_text(routes: &Routes, server: ServerId) -> &[u8]
+    ensures { result.now ≡ unwrap_or (slice_get routes.now.servers server.0) [] }
+{
+    match routes.servers().text(server) {
+        Some(text) => text.as_bytes(),
+        None => b"",
+    }
+}
+
 /// Adds the line of the server.
 fn push_lost(text: &mut Vec<u8>, finding: &Finding, routes: &Routes) -> Result<(), AllocError>
     ensures { OnOk result (text.new.items ≡ text.old.items ++ lost_line routes.now (finding_of finding.now)) }
 {
     text.extend_from_slice(b"lost ")?;
-    if let Some(server) = routes.servers().text(finding.server) {
-        text.extend_from_slice(server.as_bytes())?;
-    }
+    text.extend_from_slice(server_text(routes, finding.server))?;
     text.extend_from_slice(b"\n")
 }
 
