@@ -9,4 +9,4 @@ pub mod Selected
 pub mod Judged
 pub mod Confirmed
 pub mod Losses
-pub mod Examples
+mod Examples
