@@ -1,4 +1,4 @@
-"""What bench/legs and bench/config share: pools of servers, and how long `mcv legs` takes on a configuration."""
+"""What bench/legs, bench/config and bench/check share: pools of servers, and how long the program takes on a configuration."""
 import json
 import os
 import random
@@ -39,18 +39,28 @@ def best(*calls, runs=5):
     return [min(times) for times in zip(*rounds)]
 
 
-def legs(text):
-    """A call that shows the legs of a delete under the configuration. The program is built where it isn't yet."""
+def running(words, given_text):
+    """A call that runs the program on words and a text. The program is built where it isn't yet."""
     if not os.access(PROGRAM, os.X_OK):
         subprocess.run([os.path.join(TOP, "mcv"), "--help"], stdout=subprocess.DEVNULL, check=True)
     given = tempfile.TemporaryFile()
-    given.write(b"delete a\n" + text.encode())
+    given.write(given_text.encode())
 
     def run():
         given.seek(0)
-        subprocess.run([PROGRAM, "legs"], stdin=given, stdout=subprocess.DEVNULL, check=True)
+        subprocess.run([PROGRAM] + words, stdin=given, stdout=subprocess.DEVNULL, check=True)
 
     return run
+
+
+def legs(text):
+    """A call that shows the legs of a delete under the configuration."""
+    return running(["legs"], "delete a\n" + text)
+
+
+def check(text):
+    """A call that judges the configuration, which has to be covered."""
+    return running(["check"], text)
 
 
 def print_beside_python(plain, whole, half):

@@ -1,6 +1,6 @@
 -- What clap makes of short command lines.
-use Rattle.std.proofs.Common.{◌≡◌, [], ◌∷◌, List, Option, Some, refl, codes, option_map}
-use Rattle.clap.specs.Words.{Row, Text, one_of}
+use Rattle.std.proofs.Common.{◌≡◌, [], ◌∷◌, List, Option, Some, None, refl, codes, option_map}
+use Rattle.clap.specs.Words.{Row, Text, first_of, one_of}
 use Rattle.clap.specs.declared.error.kind.ErrorKind.TheVariants.{ArgumentConflict, DisplayHelp, InvalidSubcommand, MissingSubcommand, UnknownArgument, ValueValidation}
 use Rattle.clap.proofs.OnLiterals.{clap_on_literals}
 use Rattle.mcv_cli.specs.Words.{faults, named}
@@ -68,3 +68,22 @@ help_of_a_command = refl
 help_command : faults (codes "mcv" ∷ codes "help" ∷ []) ≡ DisplayHelp ∷ InvalidSubcommand ∷ []
 unfolding clap_on_literals
 help_command = refl
+
+check : faults (codes "mcv" ∷ codes "check" ∷ []) ≡ []
+unfolding clap_on_literals
+check = refl
+
+abbrev cert_of : Option (Text × List Row) → Option (Option Text)
+cert_of = option_map (λ p. first_of (codes "cert") p.1)
+
+check_named : cert_of (named (codes "mcv" ∷ codes "check" ∷ [])) ≡ Some None
+unfolding clap_on_literals
+check_named = refl
+
+cert_named : cert_of (named (codes "mcv" ∷ codes "check" ∷ codes "--cert" ∷ codes "a.cert" ∷ [])) ≡ Some (Some (codes "a.cert"))
+unfolding clap_on_literals
+cert_named = refl
+
+cert_twice : faults (codes "mcv" ∷ codes "check" ∷ codes "--cert" ∷ codes "a" ∷ codes "--cert" ∷ codes "b" ∷ []) ≡ ArgumentConflict ∷ []
+unfolding clap_on_literals
+cert_twice = refl

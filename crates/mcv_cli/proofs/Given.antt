@@ -20,7 +20,7 @@ use Rattle.clap.specs.declared.builder.value_parser.Reading.TheVariants.{AsWritt
 use Rattle.clap.specs.declared.parser.matches.ValueSource.{ValueSource}
 use Rattle.clap.specs.declared.parser.matches.ValueSource.TheVariants.{CommandLine, DefaultValue}
 use Rattle.mcv_cli.specs.Words.{at_rule, faults, legs_app, mcv_app, named}
-use Rattle.mcv_cli.proofs.Taken.{StopsAtLegs, none_below, none_of, some_kind, stop_of, stops_at_legs}
+use Rattle.mcv_cli.proofs.Taken.{StopsAtCommand, none_below, none_of, some_kind, stop_of, stops_at_command}
 
 abbrev at : Rule
 at = with_index 1 (filled at_rule)
@@ -252,15 +252,24 @@ entered_with rows = Some (codes "legs", rows)
 rows_there : (rows more : List Row) → entered_with rows ≡ entered_with more → rows ≡ more
 rows_there rows more is = ap (λ (o : Option (Text × List Row)). option_map_or (λ p. p.1) o []) is
 
+abbrev check_with : List Row → Option (Text × List Row)
+check_with rows = Some (codes "check", rows)
+
+check_is_not_legs : (rows more : List Row) → check_with rows ≡ entered_with more → ⊥
+check_is_not_legs rows more is =
+    true≢false (ap (λ (o : Option (Text × List Row)). option_map_or (λ p. bytes_eq p.0 (codes "check")) o false) is)
+
 -- where the walk stopped at `legs`, with the words behind it
-at_legs : (stop : Option (Text × List Text)) (rows : List Row) → StopsAtLegs stop → entered (built mcv_app) stop ≡ Some (codes "legs", rows)
+at_legs : (stop : Option (Text × List Text)) (rows : List Row) → StopsAtCommand stop → entered (built mcv_app) stop ≡ Some (codes "legs", rows)
     → entered_fault (built mcv_app) stop ≡ [] → HasValue rows
 at_legs None rows at is none = absurd (cc)
-at_legs (Some p) rows at is none =
+at_legs (Some p) rows (inl check) is none =
+    absurd (check_is_not_legs _ rows (subst (λ (name : Text). entered (built mcv_app) (Some (name, p.1)) ≡ Some (codes "legs", rows)) check is))
+at_legs (Some p) rows (inr at) is none =
     let same : rows_after rules [] p.1 ≡ rows =
     rows_there (rows_after rules [] p.1) rows (subst (λ (name : Text). entered (built mcv_app) (Some (name, p.1)) ≡ Some (codes "legs", rows)) at is) in
     subst HasValue same (leaf_given p.1 (subst (λ (name : Text). entered_fault (built mcv_app) (Some (name, p.1)) ≡ []) at none))
 
 -- words that clap takes and that name `legs` give `--at` a value
 pub given : (words : List Text) (rows : List Row) → faults words ≡ [] → named words ≡ Some (codes "legs", rows) → HasValue rows
-given words rows none is = at_legs (stop_of words) rows (stops_at_legs words none) is (none_below words none)
+given words rows none is = at_legs (stop_of words) rows (stops_at_command words none) is (none_below words none)

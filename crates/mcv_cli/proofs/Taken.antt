@@ -1,6 +1,6 @@
--- Words with which clap finds no fault name the command `legs`: `mcv` wants a command, and the only
--- other one, `help`, is always a fault.
-use Rattle.std.proofs.Common.{◌≡◌, ◌∙◌, ℕ, Bool, cond, true, false, List, [], ◌∷◌, drop, Option, Some, None, ap, codes, fold, is_some, option_map, refl, subst, sym, true≢false}
+-- Words with which clap finds no fault name the command `check` or `legs`: `mcv` wants a command, and the
+-- only other one, `help`, is always a fault.
+use Rattle.std.proofs.Common.{◌≡◌, ◌∙◌, ◌⊎◌, inl, inr, ℕ, Bool, cond, true, false, List, [], ◌∷◌, drop, Option, Some, None, ap, codes, fold, is_some, option_map, refl, subst, sym, true≢false}
 use Rattle.std.specs.Prelude.{IfSome, ⊤}
 use Rattle.std.specs.Str.{bytes_eq}
 use Rattle.clap.specs.Words.{App, Kinds, Row, Rule, Shape, Text, built}
@@ -14,8 +14,8 @@ use Rattle.clap.specs.declared.error.kind.ErrorKind.{ErrorKind}
 use Rattle.clap.specs.declared.error.kind.ErrorKind.TheVariants.{DisplayHelp, InvalidSubcommand, MissingSubcommand}
 use Rattle.mcv_cli.specs.Words.{faults, mcv_app, named as named_by}
 
-abbrev pub NamesLegs : List Text → Type 0
-NamesLegs words = (rows : List Row) × (named_by words ≡ Some (codes "legs", rows))
+abbrev pub NamesCommand : List Text → Text → Type 0
+NamesCommand words name = (rows : List Row) × (named_by words ≡ Some (name, rows))
 
 abbrev top : Shape
 top = (built mcv_app).top
@@ -23,15 +23,15 @@ top = (built mcv_app).top
 abbrev names : Names
 names = names_of (built mcv_app)
 
-abbrev is_legs : Text → Type 0
-is_legs name = name ≡ codes "legs"
+abbrev pub IsCommand : Text → Type 0
+IsCommand name = (name ≡ codes "check") ⊎ (name ≡ codes "legs")
 
-abbrev pub StopsAtLegs : Option (Text × List Text) → Type 0
-StopsAtLegs stop = IfSome stop (λ p. is_legs p.0)
+abbrev pub StopsAtCommand : Option (Text × List Text) → Type 0
+StopsAtCommand stop = IfSome stop (λ p. IsCommand p.0)
 
-abbrev EntersLegs : Step → Type 0
-EntersLegs (subcommand name) = is_legs name
-EntersLegs _ = ⊤
+abbrev EntersCommand : Step → Type 0
+EntersCommand (subcommand name) = IsCommand name
+EntersCommand _ = ⊤
 
 pub some_kind : (k : ErrorKind) (ks : Kinds) → k ∷ ks ≡ [] → ⊥
 some_kind k ks e = cc
@@ -42,76 +42,78 @@ none_of (k ∷ ks) b e = absurd (some_kind k ks e)
 
 -- ---- one word
 
--- the command of the two that answers
-abbrev answering : Bool → Bool → Option Text
-answering legs help = option_map (λ (s : Text × List Text). s.0) (cond legs (Some (codes "legs", [])) (cond help (Some (codes "help", [])) None))
+-- the command of the three that answers
+abbrev answering : Bool → Bool → Bool → Option Text
+answering check legs help =
+    option_map (λ (s : Text × List Text). s.0) (cond check (Some (codes "check", [])) (cond legs (Some (codes "legs", [])) (cond help (Some (codes "help", [])) None)))
 
-named : (waiting : Waiting) (word : Text) (h : Held) → other_fault top (subcommand_met names waiting word) word h ≡ [] → IfSome (subcommand_met names waiting word) is_legs
+named : (waiting : Waiting) (word : Text) (h : Held) → other_fault top (subcommand_met names waiting word) word h ≡ [] → IfSome (subcommand_met names waiting word) IsCommand
 named (option id) word h none = tt
 named positional word h none = tt
-named idle word h none = go (answers_to word (codes "legs", [])) (answers_to word (codes "help", [])) none
+named idle word h none = go (answers_to word (codes "check", [])) (answers_to word (codes "legs", [])) (answers_to word (codes "help", [])) none
   where
-    go : (a b : Bool) → other_fault top (answering a b) word h ≡ [] → IfSome (answering a b) is_legs
-    go true b none = refl
-    go false true none = absurd (some_kind DisplayHelp (InvalidSubcommand ∷ []) none)
-    go false false none = tt
+    go : (a b c : Bool) → other_fault top (answering a b c) word h ≡ [] → IfSome (answering a b c) IsCommand
+    go true b c none = inl refl
+    go false true c none = inr refl
+    go false false true none = absurd (some_kind DisplayHelp (InvalidSubcommand ∷ []) none)
+    go false false false none = tt
 
-after_plain : (c : List Rule) (waiting : Waiting) (word : Text) (h : Held) → EntersLegs (plain_word c waiting word h).1
+after_plain : (c : List Rule) (waiting : Waiting) (word : Text) (h : Held) → EntersCommand (plain_word c waiting word h).1
 after_plain c (option id) word h = tt
 after_plain c idle word h = tt
 after_plain c positional word h = tt
 
-flag_enters_none : (c : List Rule) (waiting : Waiting) (word : Text) (h : Held) (outcome : Outcome) → EntersLegs (after_flag c waiting word h outcome).1
+flag_enters_none : (c : List Rule) (waiting : Waiting) (word : Text) (h : Held) (outcome : Outcome) → EntersCommand (after_flag c waiting word h outcome).1
 flag_enters_none c waiting word h done = tt
 flag_enters_none c waiting word h (waits id) = tt
 flag_enters_none c waiting word h plain = after_plain c waiting word h
 flag_enters_none c waiting word h refused = after_plain c waiting word h
 
-short_enters_none : (c : List Rule) (waiting : Waiting) (word : Text) (flags : Option Text) (h : Held) → EntersLegs (short_or_plain c waiting word flags h).1
+short_enters_none : (c : List Rule) (waiting : Waiting) (word : Text) (flags : Option Text) (h : Held) → EntersCommand (short_or_plain c waiting word flags h).1
 short_enters_none c waiting word (Some flags) h = flag_enters_none c waiting word (bundle c flags h).0 (bundle c flags h).1
 short_enters_none c waiting word None h = after_plain c waiting word h
 
-other_enters_none : (c : List Rule) (waiting : Waiting) (word : Text) (long : Option (Text × Option Text)) (h : Held) → EntersLegs (long_or_other c waiting word long h).1
+other_enters_none : (c : List Rule) (waiting : Waiting) (word : Text) (long : Option (Text × Option Text)) (h : Held) → EntersCommand (long_or_other c waiting word long h).1
 other_enters_none c waiting word (Some p) h = flag_enters_none c waiting word (long_met c (arg_by_long c p.0) p.1 h).0 (long_met c (arg_by_long c p.0) p.1 h).1
 other_enters_none c waiting word None h = short_enters_none c waiting word (short_of word) h
 
-enters : (c : List Rule) (name : Option Text) (waiting : Waiting) (position : ℕ) (word : Text) (h : Held) → IfSome name is_legs
-    → EntersLegs (subcommand_or_other c name waiting position word h).1
+enters : (c : List Rule) (name : Option Text) (waiting : Waiting) (position : ℕ) (word : Text) (h : Held) → IfSome name IsCommand
+    → EntersCommand (subcommand_or_other c name waiting position word h).1
 enters c (Some name) waiting position word h is = is
 enters c None waiting position word h is = go (bytes_eq word (45 ∷ 45 ∷ []))
   where
-    go : (b : Bool) → EntersLegs (cond b (h, trailing position) (long_or_other c waiting word (long_of word) h)).1
+    go : (b : Bool) → EntersCommand (cond b (h, trailing position) (long_or_other c waiting word (long_of word) h)).1
     go true = tt
     go false = other_enters_none c waiting word (long_of word) h
 
 word_enters : (is_trailing : Bool) (waiting : Waiting) (position : ℕ) (word : Text) (h : Held) → word_fault top names is_trailing waiting word h ≡ []
-    → EntersLegs (word_met top.rules names is_trailing waiting position word h).1
+    → EntersCommand (word_met top.rules names is_trailing waiting position word h).1
 word_enters true waiting position word h none = tt
 word_enters false waiting position word h none = enters top.rules (subcommand_met names waiting word) waiting position word h (named waiting word h none)
 
 -- ---- the walk
 
-after : (c : List Rule) (word : Text) (w : Walk) (h : Held) (step : Step) → StopsAtLegs w.stopped → EntersLegs step → StopsAtLegs (after_step c word w h step).stopped
+after : (c : List Rule) (word : Text) (w : Walk) (h : Held) (step : Step) → StopsAtCommand w.stopped → EntersCommand step → StopsAtCommand (after_step c word w h step).stopped
 after c word w h (next waiting) before here = before
 after c word w h (trailing position) before here = before
 after c word w h (subcommand name) before here = here
 after c word w h value before here = go (arg_by_index c w.position)
   where
-    go : (o : Option Rule) → StopsAtLegs (to_positional c o word w h).stopped
+    go : (o : Option Rule) → StopsAtCommand (to_positional c o word w h).stopped
     go None = before
     go (Some a) = tt
 
-one_more : (stop : Option (Text × List Text)) (w : Walk) (word : Text) → w.stopped ≡ stop → StopsAtLegs stop → turn_fault top names w word ≡ []
-    → StopsAtLegs (walked_from top.rules names stop w word).stopped
+one_more : (stop : Option (Text × List Text)) (w : Walk) (word : Text) → w.stopped ≡ stop → StopsAtCommand stop → turn_fault top names w word ≡ []
+    → StopsAtCommand (walked_from top.rules names stop w word).stopped
 one_more (Some p) w word is before none = before
 one_more None w word is before none =
     let met : Held × Step = word_met top.rules names w.is_trailing w.waiting w.position word w.held in
     let word_kinds : Kinds = word_fault top names w.is_trailing w.waiting word w.held in
     let step_kinds : Kinds = step_fault top w.position met.0 met.1 in
     let here : or_else word_kinds step_kinds ≡ [] = ap (λ (o : Option (Text × List Text)). cond (is_some o) [] (or_else word_kinds step_kinds)) (sym is) ∙ none in
-    after top.rules word w met.0 met.1 (subst StopsAtLegs (sym is) tt) (word_enters w.is_trailing w.waiting w.position word w.held (none_of word_kinds step_kinds here).0)
+    after top.rules word w met.0 met.1 (subst StopsAtCommand (sym is) tt) (word_enters w.is_trailing w.waiting w.position word w.held (none_of word_kinds step_kinds here).0)
 
-stops : (words : List Text) (w : Walk) → StopsAtLegs w.stopped → walk_fault top names w words ≡ [] → StopsAtLegs (fold (walked top.rules names) w words).stopped
+stops : (words : List Text) (w : Walk) → StopsAtCommand w.stopped → walk_fault top names w words ≡ [] → StopsAtCommand (fold (walked top.rules names) w words).stopped
 unfolding walk_fault walked
 stops [] w before none = before
 stops (word ∷ rest) w before none =
@@ -136,10 +138,13 @@ wanted : (has : Bool) (rows : List Row) → check_fault top rows has ≡ [] → 
 wanted true rows none = refl
 wanted false rows none = absurd (some_kind MissingSubcommand [] none)
 
-entered_legs : (stop : Option (Text × List Text)) → StopsAtLegs stop → is_some (entered (built mcv_app) stop) ≡ true
-    → (rows : List Row) × (entered (built mcv_app) stop ≡ Some (codes "legs", rows))
-entered_legs None at has = absurd (true≢false (sym has))
-entered_legs (Some p) at has = subst (λ (name : Text). (rows : List Row) × (entered (built mcv_app) (Some (name, p.1)) ≡ Some (codes "legs", rows))) (sym at) (_, refl)
+abbrev Enters : Option (Text × List Text) → Text → Type 0
+Enters stop name = (rows : List Row) × (entered (built mcv_app) stop ≡ Some (name, rows))
+
+entered_command : (stop : Option (Text × List Text)) → StopsAtCommand stop → is_some (entered (built mcv_app) stop) ≡ true → Enters stop (codes "check") ⊎ Enters stop (codes "legs")
+entered_command None at has = absurd (true≢false (sym has))
+entered_command (Some p) (inl check) has = inl (subst (λ (name : Text). (rows : List Row) × (entered (built mcv_app) (Some (name, p.1)) ≡ Some (codes "check", rows))) (sym check) (_, refl))
+entered_command (Some p) (inr legs) has = inr (subst (λ (name : Text). (rows : List Row) × (entered (built mcv_app) (Some (name, p.1)) ≡ Some (codes "legs", rows))) (sym legs) (_, refl))
 
 -- where the walk over the words stops
 abbrev pub stop_of : List Text → Option (Text × List Text)
@@ -153,12 +158,12 @@ free : (words : List Text) → faults words ≡ []
     × (check_fault top (finished top.rules (walk top.rules names nothing_held (drop 1 words)).held) (meets words) ≡ [])
 free words none = level top names nothing_held (drop 1 words) (meets words) (entered_fault (built mcv_app) (stop_of words)) none
 
-pub stops_at_legs : (words : List Text) → faults words ≡ [] → StopsAtLegs (stop_of words)
-stops_at_legs words none = stops (drop 1 words) (walk_from nothing_held) tt (free words none).0
+pub stops_at_command : (words : List Text) → faults words ≡ [] → StopsAtCommand (stop_of words)
+stops_at_command words none = stops (drop 1 words) (walk_from nothing_held) tt (free words none).0
 
 pub none_below : (words : List Text) → faults words ≡ [] → entered_fault (built mcv_app) (stop_of words) ≡ []
 none_below words none = (free words none).1
 
-pub taken : (words : List Text) → faults words ≡ [] → NamesLegs words
+pub taken : (words : List Text) → faults words ≡ [] → NamesCommand words (codes "check") ⊎ NamesCommand words (codes "legs")
 taken words none =
-    entered_legs (stop_of words) (stops_at_legs words none) (wanted (meets words) (finished top.rules (walk top.rules names nothing_held (drop 1 words)).held) (free words none).2)
+    entered_command (stop_of words) (stops_at_command words none) (wanted (meets words) (finished top.rules (walk top.rules names nothing_held (drop 1 words)).held) (free words none).2)

@@ -3,23 +3,24 @@
 #![tactic(auto)]
 
 ghost use Rattle.std.specs.Prelude.{◌≡◌, ◌⊎◌, IfErr};
-ghost use Rattle.mcv_cli.specs.declared.stop.Stop.TheVariants.{BadLine, Run as stopped_run};
-ghost use Rattle.mcv_legs.specs.declared.fault.RunFault.TheVariants.{Memory as out_of_memory};
+ghost use Rattle.mcv_cli.specs.declared.stop.Stop.TheVariants.{BadLine, Memory as out_of_memory};
 
+mod files;
 mod program;
 mod stop;
 mod words;
 
+use crate::files::SystemFiles;
 use crate::program::run_words;
-use crate::stop::Stop;
-use mcv_legs::RunFault;
+use crate::stop::{Ending, Stop};
+use std::fs::Files;
 use std::process::ExitCode;
 use std::rt::Env;
 use std::{env, io};
 
 fn main(rt: HostRuntime) -> ExitCode {
     match run(&rt) {
-        Ok(()) => ExitCode::SUCCESS,
+        Ok(ending) => ExitCode::from(ending.status()),
         Err(stop) => {
             let _ = eprintln!(rt; "{stop}");
             ExitCode::from(stop.status())
@@ -29,24 +30,23 @@ fn main(rt: HostRuntime) -> ExitCode {
 
 /// The words of the command line, of which the first is the program's name; a bad line where one isn't UTF-8.
 fn given_words<R: Env + AllocGlobal>(rt: &R) -> Result<Vec<String>, Stop>
-    ensures { IfErr result (λ stop. (stop ≡ BadLine) ⊎ (stop ≡ stopped_run out_of_memory)) }
+    ensures { IfErr result (λ stop. (stop ≡ BadLine) ⊎ (stop ≡ out_of_memory)) }
 {
     match env::args(rt) {
         Ok(words) => Ok(words.collect(rt.alloc())?),
-        Err(error) if error.kind() == io::ErrorKind::OutOfMemory => {
-            Err(Stop::Run(RunFault::Memory))
-        }
+        Err(error) if error.kind() == io::ErrorKind::OutOfMemory => Err(Stop::Memory),
         Err(_) => Err(Stop::BadLine),
     }
 }
 
-fn run<R: Env + AllocGlobal + Input + Print>(rt: &R) -> Result<(), Stop> {
+fn run<R: Env + AllocGlobal + Input + Print + Files>(rt: &R) -> Result<Ending, Stop> {
     let alloc = rt.alloc();
     let words = given_words(rt)?;
     let texts: Vec<&str> = words.iter().map(|word| word.as_str()).collect(alloc)?;
     run_words(
         alloc,
         texts.as_slice(),
+        &SystemFiles { system: rt },
         &mut rt.reader(),
         &mut io::writer(rt),
     )

@@ -1,5 +1,9 @@
+ghost use Rattle.std.specs.Prelude.{None};
+
 use super::*;
+use crate::files::NamedFiles;
 use crate::words::{Job, LineFault, read_words};
+use mcv_input::{InputFault, read_at_most};
 use std::alloc::{AllocError, Global};
 use std::test::Fail;
 
@@ -13,9 +17,16 @@ mcv legs --at soon: bad line
 mcv legs --at: bad line
 mcv legs --at 1 --at 1: bad line
 mcv --at 1 legs: bad line
+mcv check: check
+mcv check --cert a.cert: check by a.cert
+mcv check --cert=: check by 
+mcv check --cert: bad line
+mcv check --cert a --cert b: bad line
+mcv check a.cert: bad line
+mcv check --at 1: bad line
+mcv legs --cert a: bad line
 mcv: bad line
 mcv run: bad line
-mcv check: bad line
 mcv legs x: bad line
 mcv legs legs: bad line
 mcv --version: bad line
@@ -24,6 +35,8 @@ mcv --help: help
 mcv -h: help
 mcv help: help
 mcv help legs: help
+mcv check --help: help
+mcv help check: help
 mcv legs --help: help
 mcv legs -h: help";
 
@@ -34,6 +47,8 @@ fn asked(alloc: Global, line: &str) -> Result<String, AllocError> {
             let seconds = at.0;
             format!(in alloc; "legs at {seconds}")
         }
+        Ok(Job::Check { cert: None }) => String::from_str(alloc, "check"),
+        Ok(Job::Check { cert: Some(name) }) => format!(in alloc; "check by {name}"),
         Err(LineFault::BadLine) => String::from_str(alloc, "bad line"),
         Err(LineFault::Memory) => String::from_str(alloc, "memory"),
         Err(LineFault::Help(_)) => String::from_str(alloc, "help"),
@@ -49,10 +64,29 @@ fn command_lines_ask_for_their_job(rt: HostRuntime) -> Result<(), Fail> {
     Ok(())
 }
 
+/// Files of which one is there, `a.cert`.
+#[derive(Drop)]
+struct OneFile<'a> {
+    held: &'a [u8],
+}
+
+impl<'a> NamedFiles for OneFile<'a> {
+    ghost held = { λ _ _. None };
+
+    fn read_named(&self, alloc: Global, name: &str, limit: u64) -> Result<Vec<u8>, InputFault> {
+        if name != "a.cert" {
+            return Err(InputFault::Device);
+        }
+        let mut held = self.held;
+        read_at_most(alloc, &mut held, limit)
+    }
+}
+
 fn help(alloc: Global, words: &[&str]) -> Result<String, AllocError> {
     let mut shown = Vec::new(alloc);
-    match run_words(alloc, words, &mut b"".as_slice(), &mut shown) {
-        Ok(()) => Ok(String::from_utf8(shown).unwrap_or(String::new(alloc))),
+    let files = OneFile { held: b"" };
+    match run_words(alloc, words, &files, &mut b"".as_slice(), &mut shown) {
+        Ok(_) => Ok(String::from_utf8(shown).unwrap_or(String::new(alloc))),
         Err(_) => Ok(String::new(alloc)),
     }
 }
@@ -63,9 +97,23 @@ fn help_names_input_and_exit_statuses(rt: HostRuntime) -> Result<(), Fail> {
     for part in [
         "Usage: mcv <COMMAND>",
         "mcrouter",
+        "  check  ",
         "  legs  ",
+        "\n  mcv check < mcrouter.json\n",
         "\n  (echo 'delete a'; cat mcrouter.json) | mcv legs\n",
         "Exit status:",
+    ] {
+        assert!(rt; text.as_str().contains(part), "{text}");
+    }
+    let text = help(rt.alloc(), &["mcv_cli", "check", "--help"])?;
+    for part in [
+        "Usage: mcv check [--cert FILE] < FILE",
+        "--cert <FILE>",
+        "\n  covered 1\n",
+        "\n  lost b:11211\n",
+        "mcv check --cert mcrouter.cert < mcrouter.json",
+        "mcv: certificate text NUMBER line LINE",
+        "mcv: certificate fault NUMBER",
     ] {
         assert!(rt; text.as_str().contains(part), "{text}");
     }
@@ -92,7 +140,8 @@ fn help_names_each_handle_within_eighty_columns(rt: HostRuntime) -> Result<(), F
     for handle in HANDLES.split(' ') {
         assert!(rt; text.as_str().contains(handle), "{handle}");
     }
-    for line in text.as_str().lines() {
+    let more = help(rt.alloc(), &["mcv", "check", "--help"])?;
+    for line in text.as_str().lines().chain(more.as_str().lines()) {
         assert!(rt; line.len() <= 80, "{line}");
     }
     Ok(())
@@ -100,13 +149,27 @@ fn help_names_each_handle_within_eighty_columns(rt: HostRuntime) -> Result<(), F
 
 const POOL: &str = "{\"pools\":{\"A\":{\"servers\":[\"a:11211\"]}},\"route\":\"PoolRoute|A\"}";
 
-/// What the program says on the words and the input, and its exit status.
-fn said(alloc: Global, words: &[&str], input: &str) -> Result<(String, u8), AllocError> {
+/// What the program says on the words, the file and the input, and its exit status.
+fn said_by(
+    alloc: Global,
+    words: &[&str],
+    file: &[u8],
+    input: &str,
+) -> Result<(String, u8), AllocError> {
     let mut written = Vec::new(alloc);
-    match run_words(alloc, words, &mut input.as_bytes(), &mut written) {
-        Ok(()) => Ok((String::from_utf8(written).unwrap_or(String::new(alloc)), 0)),
+    let files = OneFile { held: file };
+    match run_words(alloc, words, &files, &mut input.as_bytes(), &mut written) {
+        Ok(ending) => {
+            let text = String::from_utf8(written).unwrap_or(String::new(alloc));
+            Ok((text, ending.status()))
+        }
         Err(stop) => Ok((format!(in alloc; "{stop}")?, stop.status())),
     }
+}
+
+/// What the program says on the words and the input, and its exit status.
+fn said(alloc: Global, words: &[&str], input: &str) -> Result<(String, u8), AllocError> {
+    said_by(alloc, words, b"", input)
 }
 
 #[test]
@@ -172,12 +235,62 @@ fn bad_words_and_full_devices_stop_the_program(rt: HostRuntime) -> Result<(), Fa
         (["mcv", "help"], "mcv: device failed", 4),
     ] {
         let mut writer = room.as_mut_slice();
-        let Err(stop) = run_words(alloc, &words, &mut b"".as_slice(), &mut writer) else {
+        let files = OneFile { held: b"" };
+        let Err(stop) = run_words(alloc, &words, &files, &mut b"".as_slice(), &mut writer) else {
             return Err(Fail::from("a stop"));
         };
         let text = format!(in alloc; "{stop}")?;
         assert!(rt; text.as_str() == expected, "{text}");
         assert!(rt; stop.status() == status, "{text}");
     }
+    Ok(())
+}
+
+const WARM_UP: &str =
+    "{\"pools\":{\"A\":{\"servers\":[\"a:11211\"]},\"B\":{\"servers\":[\"b:11211\"]}},\"route\":{\"type\":\"WarmUpRoute\",\"cold\":\"PoolRoute|A\",\"warm\":\"PoolRoute|B\"}}";
+
+#[test]
+fn configurations_are_judged(rt: HostRuntime) -> Result<(), Fail> {
+    let alloc = rt.alloc();
+    let covered = "covered 1\nmcv-cert 1\n0 = 0 - twin -\nend\n";
+    let lost = "lost b:11211\nroute 0\nclass =\nera 0\n";
+    for (configuration, expected, status) in [
+        (POOL, covered, 0),
+        (WARM_UP, lost, 3),
+        ("{", "mcv: configuration 1 at .", 2),
+    ] {
+        let (text, found) = said(alloc, &["mcv", "check"], configuration)?;
+        assert!(rt; text.as_str() == expected, "{text}");
+        assert!(rt; found == status, "{found}");
+    }
+    Ok(())
+}
+
+/// A certificate, with semicolons between its lines, and what the program says of it for a pool of one server.
+const CERTIFICATES: &str = "\
+mcv-cert 1;0 = 0 - twin -;end;: covered 1;: 0
+mcv-cert 1;0 = 0 - twin -;: mcv: certificate text 1 line 3: 5
+mcv-cert 1;end;: mcv: certificate fault 1: 5
+mcv-cert 1;0 = 0 - never;end;: mcv: certificate fault 5: 5";
+
+#[test]
+fn certificates_of_files_are_judged(rt: HostRuntime) -> Result<(), Fail> {
+    let alloc = rt.alloc();
+    for case in CERTIFICATES.lines() {
+        let (certificate, more) = case.split_once(": ").ok_or("no case")?;
+        let (expected, status) = more.rsplit_once(": ").ok_or("no case")?;
+        let file = certificate.replace(alloc, ";", "\n")?;
+        let words = ["mcv", "check", "--cert", "a.cert"];
+        let (text, found) = said_by(alloc, &words, file.as_bytes(), POOL)?;
+        assert!(rt;
+            text.replace(alloc, "\n", ";")?.as_str() == expected,
+            "{text}"
+        );
+        assert!(rt; format!(in alloc; "{found}")?.as_str() == status, "{text}");
+    }
+    let words = ["mcv", "check", "--cert", "b.cert"];
+    let (text, found) = said_by(alloc, &words, b"", "{")?;
+    assert!(rt; text.as_str() == "mcv: device failed", "{text}");
+    assert!(rt; found == 4, "{found}");
     Ok(())
 }

@@ -4,7 +4,7 @@
 ghost use Rattle.std.specs.Prelude.{◌≡◌, false, IfOk, IfErr, map};
 ghost use Rattle.clap.specs.Words.{app_of, kind_of, rule_of};
 ghost use Rattle.clap.specs.declared.builder.command.Command.TheViews.{out-Command as fields_of};
-ghost use Rattle.mcv_cli.specs.Words.{at_rule, mcv_app, legs_app, line_fault_number, IsFaultOfKind, IsJobOf, IsLineFault};
+ghost use Rattle.mcv_cli.specs.Words.{at_rule, cert_rule, check_app, mcv_app, legs_app, line_fault_number, IsFaultOfKind, IsJobOf, IsLineFault};
 ghost use Rattle.mcv_cli.specs.declared.words.LineFault.TheVariants.{Memory as out_of_memory};
 
 use clap::error::ErrorKind;
@@ -14,19 +14,26 @@ use std::alloc::{AllocError, Global};
 use thiserror::Error;
 
 const ABOUT: &str = "Verifies configurations of mcrouter, the routing proxy for memcached.
-`mcv legs` shows to which servers a configuration sends a request.";
+`mcv check` decides whether a delete can be acknowledged while a server that is
+read keeps the old value. `mcv legs` shows to which servers a configuration
+sends a request.";
 
-const EXAMPLE: &str = "Example: which servers does a delete of the key `a` reach?
+const EXAMPLE: &str =
+    "Examples: can a configuration lose a delete? Which servers does a delete of the
+key `a` reach?
 
+  mcv check < mcrouter.json
   (echo 'delete a'; cat mcrouter.json) | mcv legs
 
 Exit status:
   0  done, or help was asked for
   1  bad command line, or bad request line
   2  the configuration is refused, or has no route for the key
+  3  the configuration can lose a delete
   4  out of memory, or reading or writing failed
+  5  the certificate is refused
 
-Where the status isn't 0, one line on standard error says why.";
+Where the status is neither 0 nor 3, one line on standard error says why.";
 
 const LEGS_ABOUT: &str = "Shows to which servers a request is sent at once";
 
@@ -66,11 +73,63 @@ the whole. The numbers:
    4  unknown route handle              9  an alias that stands twice
    5  unknown pool                     10  mcrouter's, but not read by mcv";
 
+const CHECK_ABOUT: &str = "Decides whether a configuration can lose a delete";
+
+const CERT: &str = "A certificate in place of one that mcv makes";
+
+const CHECK_FORM: &str =
+    "Standard input has the configuration as JSON; `mcv legs --help` says which route
+handles are read. A configuration is covered if at each moment at which a delete
+has an answer that isn't an error, every server from which a get or gets of the
+key could be answered has been sent a delete. That is decided for all keys, all
+choices of a hash and every start_time of a migration.
+
+Where it is covered, standard output has the number of pairs of a certificate,
+and then the certificate, which says for each server that can be read why a
+delete reaches it:
+
+  covered 1
+  mcv-cert 1
+  0 = 0 - twin -
+  end
+
+Any certificate can be checked again, also one that another program made:
+
+  mcv check < mcrouter.json | tail -n +2 > mcrouter.cert
+  mcv check --cert mcrouter.cert < mcrouter.json
+
+Where it isn't covered, the exit status is 3, and four lines name the server
+that an acknowledged delete can leave with the old value, the route's number,
+the class of keys (those that begin with the word; none is the rest of the
+keys), and the era, which is the number of moments that migrations have passed:
+
+  lost b:11211
+  route 0
+  class =
+  era 0
+
+A certificate that isn't read is told by a number and by the line at fault, from
+1, as `mcv: certificate text NUMBER line LINE`:
+
+  1  the line breaks the form     3  the text is over 268435456 bytes
+  2  the line is out of order
+
+One that is read and doesn't fit, by its first fault in the order of the lines,
+as `mcv: certificate fault NUMBER`:
+
+  1  a server that can be read has no line
+  2  a line for what can't be read
+  3  a leg that an acknowledged delete may not have sent
+  4  another pool, number of legs or server than the line says
+  5  `never`, where a delete can be acknowledged";
+
 /// What the program is asked to do.
 #[derive(Clone, Copy, Debug, PartialEq, Eq)]
-pub enum Job {
+pub enum Job<'a> {
     /// To show the legs of a request that comes at a moment.
     Legs { at: Moment },
+    /// To judge a configuration, by the certificate in the file of this name where one is given.
+    Check { cert: Option<&'a str> },
 }
 
 /// Why there is nothing to do.
@@ -129,15 +188,38 @@ fn legs_command<'a>(alloc: Global) -> Result<Command<'a>, AllocError>
         .arg(at_option(alloc))
 }
 
+fn cert_option<'a>(alloc: Global) -> Arg<'a>
+    ensures rule { rule_of result ≡ cert_rule }
+    ensures local { result.global ≡ false }
+{
+    Arg::new(alloc, "cert")
+        .long("cert")
+        .value_name("FILE")
+        .help(CERT)
+}
+
+fn check_command<'a>(alloc: Global) -> Result<Command<'a>, AllocError>
+    ensures app { IfOk result (λ c. app_of c ≡ check_app) }
+    ensures local { IfOk result (λ c. (fields_of c).has_globals ≡ false) }
+{
+    Command::new(alloc, "check")
+        .about(CHECK_ABOUT)
+        .override_usage("mcv check [--cert FILE] < FILE")
+        .after_help(CHECK_FORM)
+        .arg(cert_option(alloc))
+}
+
 fn command<'a>(alloc: Global) -> Result<Command<'a>, AllocError>
     ensures { IfOk result (λ c. app_of c ≡ mcv_app) }
 {
+    let check = check_command(alloc)?;
     let legs = legs_command(alloc)?;
     Command::new(alloc, "mcv")
         .about(ABOUT)
         .after_help(EXAMPLE)
         .subcommand_required(true)
         .bin_name("mcv")?
+        .subcommand(check)?
         .subcommand(legs)
 }
 
@@ -156,7 +238,7 @@ fn line_fault(alloc: Global, error: &ClapError) -> LineFault
 }
 
 /// Reads the words of a command line, of which the first is the program's name.
-pub fn read_words<'a>(alloc: Global, words: &'a [&'a str]) -> Result<Job, LineFault>
+pub fn read_words<'a>(alloc: Global, words: &'a [&'a str]) -> Result<Job<'a>, LineFault>
     ensures job { IfOk result (IsJobOf (map (λ w. w.now) words.entry.now)) }
     ensures fault { IfErr result (IsLineFault (map (λ w. w.now) words.entry.now)) }
 {
@@ -165,6 +247,10 @@ pub fn read_words<'a>(alloc: Global, words: &'a [&'a str]) -> Result<Job, LineFa
         Ok(matches) => matches,
         Err(error) => return Err(line_fault(alloc, &error)),
     };
+    if let Some(found) = matches.subcommand_matches("check") {
+        let cert = found.get_str("cert");
+        return Ok(Job::Check { cert });
+    }
     let Some(found) = matches.subcommand_matches("legs") else {
         return Err(LineFault::BadLine);
     };

@@ -1,22 +1,20 @@
 -- Every plan that a value names keeps to the limits.
-use Rattle.std.proofs.Common.{◌≡◌, ℕ, ◌+◌, ◌≤◌, List, [], ◌∷◌, Option, Some, None, Ok, Err, Result, IfOk, codes, refl, ap, sym, subst, ◌∙◌, arith}
+use Rattle.std.proofs.Common.{◌≡◌, ℕ, ◌+◌, ◌≤◌, List, [], ◌∷◌, Option, Some, None, codes, refl, ap, sym, subst, ◌∙◌, arith}
 use Rattle.std.specs.List.{sum_by}
 use Rattle.std.proofs.lemmas.List.Sums.{sum_by-cons}
 use Rattle.serde_json.specs.Data.{Data, Items, Members}
 use Rattle.serde_json.specs.Find.{get, as_array, as_object}
-use Rattle.mcv_names.specs.declared.fault.ConfigFault.{ConfigFault}
 use Rattle.mcv_names.specs.declared.handle.Object.TheVariants as objects
-use Rattle.mcv_names.specs.Fault.{Gives}
+use Rattle.mcv_names.specs.Fault.{good}
 use Rattle.mcv_names.specs.Handles.{key_fault, keys_read}
 use Rattle.mcv_names.specs.Lists.{each, items_list, some_items}
 use Rattle.mcv_names.specs.Path.{key_step, item_step}
 use Rattle.mcv_names.proofs.Holds.{Holds, holds_bind, holds_then, holds_also}
-use Rattle.mcv_config.specs.declared.config.Config.{Config}
 use Rattle.mcv_config.specs.Aliases.{aliases_field}
 use Rattle.mcv_config.specs.Config.{at_first, node_limit, plan_of_members, plan_read, plan_with, root}
 use Rattle.mcv_config.specs.Entries.{Turn, depth_limit, entries_of_list, entries_read, entry_fields, entry_of_members, entry_read, routing, routing_read}
 use Rattle.mcv_config.specs.Limits.{handles_in, IsWithin, IsWithinLimits}
-use Rattle.mcv_config.specs.Plan.{EntryPlan, plan_of}
+use Rattle.mcv_config.specs.Plan.{EntryPlan, Plan}
 use Rattle.mcv_config.specs.Pools.{pools_read}
 use Rattle.mcv_config.specs.Routes.{route}
 use Rattle.mcv_config.specs.Walk.{SoFar, route_under}
@@ -118,6 +116,5 @@ root_within : (path : List ℕ) (d : Data) → Holds IsWithinLimits (root path d
 unfolding root
 root_within path d = members_within path d (as_object d)
 
-pub read_plans_keep_to_limits : (path : List ℕ) (d : Data) (r : Result Config ConfigFault) → Gives plan_of r (root path d) → IfOk r (λ config. IsWithinLimits (plan_of config))
-read_plans_keep_to_limits path d (Ok config) h = subst (Holds IsWithinLimits) h (root_within path d)
-read_plans_keep_to_limits path d (Err e) h = tt
+pub read_plans_keep_to_limits : (path : List ℕ) (d : Data) (plan : Plan) → root path d ≡ good plan → IsWithinLimits plan
+read_plans_keep_to_limits path d plan h = subst (Holds IsWithinLimits) h (root_within path d)

@@ -1,19 +1,17 @@
 -- Every plan that a value names is sound.
-use Rattle.std.proofs.Common.{ℕ, List, Option, Some, None, Ok, Err, Result, IfOk, bytes_eq, codes, subst}
+use Rattle.std.proofs.Common.{◌≡◌, ℕ, List, Option, Some, None, bytes_eq, codes, subst}
 use Rattle.std.specs.Cmp.Lexicographic.{bytes_decides}
 use Rattle.serde_json.specs.Data.{Data, Members}
 use Rattle.serde_json.specs.Find.{get, as_object}
 use Rattle.mcv_pools.proofs.Tables.{one_to_one}
-use Rattle.mcv_names.specs.declared.fault.ConfigFault.{ConfigFault}
 use Rattle.mcv_names.specs.declared.handle.Object.TheVariants as objects
-use Rattle.mcv_names.specs.Fault.{Gives}
+use Rattle.mcv_names.specs.Fault.{good}
 use Rattle.mcv_names.specs.Handles.{key_fault, keys_read}
 use Rattle.mcv_names.specs.Path.{key_step}
 use Rattle.mcv_names.proofs.Holds.{Holds, holds_bind, holds_also}
-use Rattle.mcv_config.specs.declared.config.Config.{Config}
 use Rattle.mcv_config.specs.Config.{at_first, plan_of_members, plan_read, plan_with, root}
 use Rattle.mcv_config.specs.Entries.{routing_read}
-use Rattle.mcv_config.specs.Plan.{EntryPlan, IsSound, all_aliases, plan_of}
+use Rattle.mcv_config.specs.Plan.{EntryPlan, IsSound, Plan, all_aliases}
 use Rattle.mcv_config.specs.Pools.{Pools, Table, pools_read}
 use Rattle.mcv_config.specs.Walk.{SoFar}
 use Rattle.mcv_config.proofs.Later.{IsSoFar}
@@ -48,6 +46,5 @@ root_sound : (path : List ℕ) (d : Data) → Holds IsSound (root path d)
 unfolding root
 root_sound path d = members_sound path d (as_object d)
 
-pub read_plans_are_sound : (path : List ℕ) (d : Data) (r : Result Config ConfigFault) → Gives plan_of r (root path d) → IfOk r (λ config. IsSound (plan_of config))
-read_plans_are_sound path d (Ok config) h = subst (Holds IsSound) h (root_sound path d)
-read_plans_are_sound path d (Err e) h = tt
+pub read_plans_are_sound : (path : List ℕ) (d : Data) (plan : Plan) → root path d ≡ good plan → IsSound plan
+read_plans_are_sound path d plan h = subst (Holds IsSound) h (root_sound path d)

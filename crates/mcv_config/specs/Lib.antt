@@ -5,6 +5,8 @@ pub use Rattle.mcv_names.specs.Lists
 pub use Rattle.mcv_names.specs.Handles
 pub mod Aliases
 pub mod Plan
+pub mod Labels
+pub mod Codes
 pub mod Pools
 pub mod Walk
 pub mod Numbers

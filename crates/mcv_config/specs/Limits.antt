@@ -1,5 +1,5 @@
 -- How large what a configuration names may be: limits that every plan that a text names keeps (own).
-use Rattle.std.specs.Prelude.{ℕ, zero, suc, ◌+◌, ◌≤◌, List, length}
+use Rattle.std.specs.Prelude.{ℕ, zero, suc, ◌+◌, ◌≤◌, length}
 use Rattle.std.specs.List.{All, sum_by}
 use Rattle.mcv_pools.specs.Table.{server_limit}
 use Rattle.mcv_names.specs.Handles.{prefix_limit}

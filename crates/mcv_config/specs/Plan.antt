@@ -5,7 +5,7 @@ use Rattle.mcv_base.specs.declared.operation.Op.{Op}
 use Rattle.mcv_pools.specs.declared.symbol.HashFunc.{HashFunc}
 use Rattle.mcv_pools.specs.Table.{IsOneToOne}
 use Rattle.mcv_config.specs.Aliases.{IsAlias, alias_limit}
-use Rattle.mcv_config.specs.declared.config.Config.{Config}
+use Rattle.mcv_config.specs.declared.config.ConfigParts.{ConfigParts}
 use Rattle.mcv_config.specs.declared.config.Entry.{Entry}
 use Rattle.mcv_config.specs.declared.config.Pool.{Pool}
 use Rattle.mcv_config.specs.declared.config.NamedRoute.{NamedRoute}
@@ -58,7 +58,7 @@ pub record Plan : Type 0 where
   pub pools : List (List ℕ)
   pub entries : List EntryPlan
 
--- ---- the plan of a `Config`
+-- ---- the plan of a `ConfigParts`
 
 abbrev pub nameds_of : List Named → Nameds
 nameds_of [] = no_named
@@ -126,7 +126,7 @@ pool_plan p = map (λ s. s.0) p.servers.items
 abbrev pub entry_plan : Entry → EntryPlan
 entry_plan e = record { aliases = e.aliases.items; route = named_of e.route }
 
-abbrev pub plan_of : Config → Plan
+abbrev pub plan_of : ConfigParts → Plan
 plan_of c = record { servers = c.servers; pools = map pool_plan c.pools.items; entries = map entry_plan c.entries.items }
 
 -- ---- what every plan that a text names is

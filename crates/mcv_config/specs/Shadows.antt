@@ -1,5 +1,5 @@
 -- The shadows of a PoolRoute: where requests go too, when their server's index is in a range (mcrouter wiki, Shadowing; `first` at most `last` is own).
-use Rattle.std.specs.Prelude.{ℕ, nat_lt, List, [], Option, Some, None, if◌then◌else◌, codes}
+use Rattle.std.specs.Prelude.{ℕ, nat_lt, List, Option, Some, None, if◌then◌else◌, codes}
 use Rattle.serde_json.specs.Data.{Data, Members}
 use Rattle.serde_json.specs.Find.{get, at, as_object}
 use Rattle.mcv_names.specs.declared.fault.FaultKind.TheVariants.{WrongKind}

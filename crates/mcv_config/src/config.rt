@@ -2,8 +2,13 @@
 //!
 //! A tree names pools and servers by number, so that no tree has a copy of a list of servers.
 
+ghost use Rattle.std.specs.Prelude.{◌≡◌};
+ghost use Rattle.mcv_config.specs.Limits.{IsWithinLimits};
+ghost use Rattle.mcv_config.specs.Plan.{IsSound, plan_of};
+
 use mcv_base::{Op, Prefix, ServerId};
 use mcv_pools::{HashFunc, Servers};
+use std::marker::Model;
 
 /// The servers of a pool, one or more, in the order of its list.
 #[derive(Drop)]
@@ -93,12 +98,52 @@ pub struct Entry {
     pub route: NamedRoute,
 }
 
-/// What a configuration text names.
+/// The servers, pools and routes of a configuration.
 #[derive(Drop)]
-pub struct Config {
+pub struct ConfigParts {
     /// Numbered by first appearance, in the walk of the pools and then of the routes.
     pub servers: Servers,
     /// Those of `pools` in the byte order of their names, then those that routes hold. A pool's number is its place.
     pub pools: Vec<Pool>,
     pub entries: Vec<Entry>,
+}
+
+/// What a configuration text names, sound and within the limits. Clauses see a `Plan`.
+#[derive(Drop)]
+pub struct Config {
+    pub(crate) parts: ConfigParts,
+}
+
+impl Model for Config {
+    ghost use Rattle.mcv_config.specs.Codes.{plan_code};
+    ghost use Rattle.mcv_config.specs.Plan.{IsSound, Plan, plan_of};
+    ghost use Rattle.mcv_config.specs.Limits.{IsWithinLimits};
+
+    ghost Value = { Plan };
+
+    ghost coded = { plan_code };
+
+    ghost view = { λ c. plan_of c.parts };
+
+    ghost invariant = { λ c. IsSound (plan_of c.parts) × IsWithinLimits (plan_of c.parts) };
+}
+
+impl Config {
+    /// The servers, pools and routes.
+    pub fn parts(&self) -> &ConfigParts
+        ensures plan { plan_of result.now ≡ self.now }
+        ensures sound { IsSound self.now }
+        ensures limits { IsWithinLimits self.now }
+    {
+        &self.parts
+    }
+
+    /// The servers, pools and routes, to be changed or given away.
+    pub fn into_parts(self) -> ConfigParts
+        ensures plan { plan_of result ≡ self }
+        ensures sound { IsSound self }
+        ensures limits { IsWithinLimits self }
+    {
+        self.parts
+    }
 }

@@ -19,6 +19,8 @@ mod texts;
 mod timed;
 
 pub use aliases::alias_law;
-pub use config::{Config, Entry, NamedPolicy, NamedPrefix, NamedRoute, NamedShadow, Pool};
+pub use config::{
+    Config, ConfigParts, Entry, NamedPolicy, NamedPrefix, NamedRoute, NamedShadow, Pool,
+};
 pub use mcv_names::{ConfigFault, FaultKind};
-pub use read::read_config;
+pub use read::{SIZE_LIMIT, read_config};

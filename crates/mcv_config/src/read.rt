@@ -9,7 +9,7 @@ ghost use Rattle.mcv_config.specs.Config.{Faulty, FaultyAsJson, Names, NamesAsJs
 ghost use Rattle.mcv_config.specs.Limits.{IsWithinLimits};
 ghost use Rattle.mcv_config.specs.Plan.{IsSound, Plan, plan_of};
 
-use crate::config::Config;
+use crate::config::{Config, ConfigParts};
 use crate::entries::read_routing;
 use crate::pools::{NamedPools, read_pools};
 use crate::progress::Progress;
@@ -19,8 +19,8 @@ use mcv_pools::Servers;
 use serde_json::Value;
 use std::alloc::Global;
 
-/// The most bytes of a configuration.
-const SIZE_LIMIT: usize = 16_777_216;
+/// The most bytes of a configuration, its comments among them.
+pub const SIZE_LIMIT: usize = 16_777_216;
 
 /// The most handles of all routes together.
 const NODE_LIMIT: usize = 4_096;
@@ -28,15 +28,15 @@ const NODE_LIMIT: usize = 4_096;
 /// The configuration that a text names, which may have comments. A text has at most 16,777,216 bytes with them.
 pub fn read_config(alloc: Global, text: &[u8]) -> Result<Config, ConfigFault>
     // What is read is what the text names.
-    ensures named { IfOk result (λ config. Names text.now (plan_of config)) }
+    ensures named { IfOk result (λ config. Names text.now config) }
     // Where the text names a configuration, it is read, unless memory runs out.
     ensures only { (plan : Plan) → Names text.now plan → IfErr result (λ e. e ≡ Memory) }
     // A fault is one that stands in the text.
     ensures faulty { IfErr result (λ e. Refuses e (Faulty text.now)) }
     // Every number in it names something, and nothing is empty.
-    ensures sound { IfOk result (λ config. IsSound (plan_of config)) }
+    ensures sound { IfOk result IsSound }
     // It is no larger than the limits.
-    ensures limits { IfOk result (λ config. IsWithinLimits (plan_of config)) }
+    ensures limits { IfOk result IsWithinLimits }
 {
     if text.len() > SIZE_LIMIT {
         return Err(fault_at(alloc, FaultKind::Limit, &Trail::Root));
@@ -50,14 +50,17 @@ pub fn read_config(alloc: Global, text: &[u8]) -> Result<Config, ConfigFault>
 
 /// The configuration that a text without comments names.
 fn read_json(alloc: Global, json: &[u8]) -> Result<Config, ConfigFault>
-    ensures named { IfOk result (λ config. NamesAsJson json.now (plan_of config)) }
+    ensures named { IfOk result (λ config. NamesAsJson json.now config) }
     ensures only { (plan : Plan) → NamesAsJson json.now plan → IfErr result (λ e. e ≡ Memory) }
     ensures faulty { IfErr result (λ e. Refuses e (FaultyAsJson json.now)) }
-    ensures sound { IfOk result (λ config. IsSound (plan_of config)) }
-    ensures limits { IfOk result (λ config. IsWithinLimits (plan_of config)) }
+    ensures sound { IfOk result IsSound }
+    ensures limits { IfOk result IsWithinLimits }
 {
     match Value::from_slice(alloc, json) {
-        Ok(value) => read_root(alloc, &Trail::Root, &value),
+        Ok(value) => {
+            let parts = read_root(alloc, &Trail::Root, &value)?;
+            Ok(Config { parts })
+        }
         Err(e) => {
             if e.is_memory() {
                 return Err(ConfigFault::Memory);
@@ -68,7 +71,7 @@ fn read_json(alloc: Global, json: &[u8]) -> Result<Config, ConfigFault>
 }
 
 #[tactic(auto, using(mcv_names::proofs::Faults::faults), unfolding(crate::specs::Config::root))]
-fn read_root(alloc: Global, trail: &Trail<'_>, value: &Value) -> Result<Config, ConfigFault>
+fn read_root(alloc: Global, trail: &Trail<'_>, value: &Value) -> Result<ConfigParts, ConfigFault>
     ensures { Gives plan_of result (root (path_of trail.now) (view value.now)) }
 {
     let Some(members) = value.as_object() else {
@@ -80,7 +83,7 @@ fn read_root(alloc: Global, trail: &Trail<'_>, value: &Value) -> Result<Config, 
 
 /// The pools, and then the routes.
 #[tactic(auto, using(mcv_names::proofs::Faults::faults), unfolding(crate::specs::Config::plan_read))]
-fn read_plan(alloc: Global, trail: &Trail<'_>, value: &Value) -> Result<Config, ConfigFault>
+fn read_plan(alloc: Global, trail: &Trail<'_>, value: &Value) -> Result<ConfigParts, ConfigFault>
     ensures { Gives plan_of result (plan_read (path_of trail.now) (view value.now)) }
 {
     let in_pools = Trail::Key(trail, "pools");
@@ -98,7 +101,7 @@ fn read_plan(alloc: Global, trail: &Trail<'_>, value: &Value) -> Result<Config, 
         servers,
     } = so_far;
     let NamedPools { names: _, pools } = pools;
-    Ok(Config {
+    Ok(ConfigParts {
         servers,
         pools,
         entries,

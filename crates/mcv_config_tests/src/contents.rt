@@ -193,9 +193,10 @@ const ROUTED: &str = "{
 #[test]
 fn routes_have_their_aliases(rt: HostRuntime) -> Result<(), Fail> {
     let config = read_config(rt.alloc(), ROUTED.as_bytes())?;
-    assert_eq!(rt; config.pools.len(), 3);
-    assert_eq!(rt; config.servers.len(), 2);
-    let [first, second] = config.entries.as_slice() else {
+    let parts = config.parts();
+    assert_eq!(rt; parts.pools.len(), 3);
+    assert_eq!(rt; parts.servers.len(), 2);
+    let [first, second] = parts.entries.as_slice() else {
         return Err(Fail::from("two routes"));
     };
     let [one, other] = first.aliases.as_slice() else {
@@ -228,11 +229,12 @@ const WHOLE: &str = "{
 #[test]
 fn servers_are_numbered_by_first_appearance(rt: HostRuntime) -> Result<(), Fail> {
     let config = read_config(rt.alloc(), WHOLE.as_bytes())?;
-    assert_eq!(rt; config.servers.len(), 3);
-    assert_eq!(rt; config.servers.find("c:1"), Some(ServerId(0)));
-    assert_eq!(rt; config.servers.find("b:1"), Some(ServerId(1)));
-    assert_eq!(rt; config.servers.find("a:1"), Some(ServerId(2)));
-    let pools = config.pools.as_slice();
+    let parts = config.parts();
+    assert_eq!(rt; parts.servers.len(), 3);
+    assert_eq!(rt; parts.servers.find("c:1"), Some(ServerId(0)));
+    assert_eq!(rt; parts.servers.find("b:1"), Some(ServerId(1)));
+    assert_eq!(rt; parts.servers.find("a:1"), Some(ServerId(2)));
+    let pools = parts.pools.as_slice();
     assert_eq!(rt; pools.len(), 2);
     assert_eq!(rt;
         pools[0].servers.as_slice(),
@@ -242,7 +244,7 @@ fn servers_are_numbered_by_first_appearance(rt: HostRuntime) -> Result<(), Fail>
         pools[1].servers.as_slice(),
         [ServerId(1), ServerId(2)].as_slice()
     );
-    let entries = config.entries.as_slice();
+    let entries = parts.entries.as_slice();
     assert_eq!(rt; entries.len(), 1);
     assert_eq!(rt; entries[0].aliases.len(), 1);
     assert_eq!(rt;
@@ -292,7 +294,7 @@ fn check_policies(
 #[test]
 fn policies_stand_in_byte_order(rt: HostRuntime) -> Result<(), Fail> {
     let config = read_config(rt.alloc(), WHOLE.as_bytes())?;
-    let entry = config.entries.as_slice().first().ok_or("an entry")?;
+    let entry = config.parts().entries.as_slice().first().ok_or("an entry")?;
     match &entry.route {
         NamedRoute::OperationSelector {
             policies,
@@ -325,9 +327,10 @@ fn check_shadow(rt: &impl Abort, shadows: &[NamedShadow]) -> Result<(), Fail> {
 #[test]
 fn a_pool_has_a_hash_and_shadows(rt: HostRuntime) -> Result<(), Fail> {
     let config = read_config(rt.alloc(), SHADOWED.as_bytes())?;
-    assert_eq!(rt; config.pools.len(), 2);
-    assert_eq!(rt; config.servers.find("c:1"), Some(ServerId(2)));
-    let entry = config.entries.as_slice().first().ok_or("an entry")?;
+    let parts = config.parts();
+    assert_eq!(rt; parts.pools.len(), 2);
+    assert_eq!(rt; parts.servers.find("c:1"), Some(ServerId(2)));
+    let entry = parts.entries.as_slice().first().ok_or("an entry")?;
     match &entry.route {
         NamedRoute::Pool {
             pool,
@@ -357,7 +360,7 @@ const IN_PHASES: &str = "{
 #[test]
 fn a_migration_takes_an_hour(rt: HostRuntime) -> Result<(), Fail> {
     let config = read_config(rt.alloc(), IN_PHASES.as_bytes())?;
-    let entry = config.entries.as_slice().first().ok_or("an entry")?;
+    let entry = config.parts().entries.as_slice().first().ok_or("an entry")?;
     match &entry.route {
         NamedRoute::Migrate {
             from,
@@ -387,7 +390,7 @@ const BY_PREFIX: &str = "{
 #[test]
 fn prefixes_stand_in_byte_order(rt: HostRuntime) -> Result<(), Fail> {
     let config = read_config(rt.alloc(), BY_PREFIX.as_bytes())?;
-    let entry = config.entries.as_slice().first().ok_or("an entry")?;
+    let entry = config.parts().entries.as_slice().first().ok_or("an entry")?;
     match &entry.route {
         NamedRoute::PrefixSelector { policies, wildcard } => {
             let [first, second] = policies.as_slice() else {

@@ -44,7 +44,7 @@ fn head(route: &NamedRoute) -> (&'static str, usize) {
 fn outcome(alloc: Global, text: &str) -> Result<String, Fail> {
     match read_config(alloc, text.as_bytes()) {
         Ok(config) => {
-            let entry = config.entries.as_slice().first().ok_or("a route")?;
+            let entry = config.parts().entries.as_slice().first().ok_or("a route")?;
             let (name, count) = head(&entry.route);
             Ok(format!(in alloc; "{name} {count}")?)
         }

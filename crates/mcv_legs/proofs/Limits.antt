@@ -1,19 +1,16 @@
 -- What the first bytes of an input say of all of it.
-use Rattle.std.proofs.Common.{◌≡◌, ◌∙◌, ℕ, zero, suc, ◌+◌, ◌-◌, ◌<◌, ◌≤◌, ◌⊎◌, inl, inr, true, List, [], ◌∷◌, ◌++◌, length, take, drop, Option, Some, None, IfSome, refl, sym, ap, ap₂, subst, arith, length-append, append_assoc}
+use Rattle.std.proofs.Common.{◌≡◌, ◌∙◌, ℕ, zero, suc, ◌+◌, ◌-◌, ◌<◌, ◌≤◌, ◌⊎◌, inl, inr, true, List, [], ◌∷◌, ◌++◌, length, take, drop, sym, ap, subst, arith, length-append, append_assoc}
 use native.Mathlib.Numerals.{unary_clauses}
 use Rattle.std.proofs.lemmas.Bool.{cases_lt}
 use Rattle.std.proofs.lemmas.Bool.Decides.{nat_tests}
 use Rattle.std.proofs.lemmas.List.{take-append-drop}
-use Rattle.std.specs.Option.{option_map}
-use Rattle.std.specs.Io.Take.{take_limit, take_inner, take_remaining}
-use Rattle.std.specs.declared.io.traits.Take.{Take}
 use Rattle.mcv_base.specs.declared.operation.Op.{Op}
 use Rattle.mcv_base.specs.declared.operation.Op.TheVariants.{Get, Gets, Set, Add, Replace, Append, Prepend, Cas, Delete, Touch}
 use Rattle.mcv_base.specs.Operation.{op_name}
 use Rattle.mcv_base.specs.Key.{is_key_word}
 use Rattle.mcv_names.specs.declared.fault.ConfigFault.{ConfigFault}
-use Rattle.mcv_names.specs.declared.fault.ConfigFault.TheVariants as config_faults
 use Rattle.mcv_config.specs.Config.{size_limit}
+use Rattle.mcv_input.proofs.Whole.{too_long_stands, whole}
 use Rattle.mcv_legs.specs.declared.fault.RunFault.{RunFault}
 use Rattle.mcv_legs.specs.declared.fault.RunFault.TheVariants.{Line, NoRoute, Config, Memory, Device}
 use Rattle.mcv_legs.specs.Answer.{IsAnswer, IsWithoutRoute}
@@ -22,28 +19,7 @@ use Rattle.mcv_legs.specs.Limits.{input_limit, line_limit}
 use Rattle.mcv_legs.specs.Request.{Asks, IsNoRequest, space, line_feed}
 use Rattle.mcv_legs.proofs.Lines.{key_bytes}
 
--- ---- reading through a limit
-
-known_first : (n : ℕ) (start items : List ℕ) (known : Option (List ℕ)) → start ≡ [] → IfSome (option_map (take n) known) (λ xs. items ≡ start ++ xs)
-    → IfSome known (λ bytes. items ≡ take n bytes)
-known_first n start items None none h = h
-known_first n start items (Some bytes) none h = h ∙ ap (λ (xs : List ℕ). xs ++ take n bytes) none
-
--- what is read through a limit into an empty list is the first bytes of what there is
-pub limited_first : {T : Type 0} (remaining : T → Option (List ℕ)) (t : Take T) (known : Option (List ℕ)) (n : ℕ) (start items : List ℕ) → take_limit t ≡ n
-    → remaining (take_inner t) ≡ known → start ≡ [] → IfSome (take_remaining remaining t) (λ xs. items ≡ start ++ xs) → IfSome known (λ bytes. items ≡ take n bytes)
-limited_first remaining t known n start items limit_is known_is none h =
-    subst (λ (k : Option (List ℕ)). IfSome k (λ bytes. items ≡ take n bytes)) known_is
-    (subst (λ (m : ℕ). IfSome (remaining (take_inner t)) (λ bytes. items ≡ take m bytes)) limit_is
-    (known_first (take_limit t) start items (remaining (take_inner t)) none h))
-
 -- ---- what the first bytes ask
-
--- a list that a limit doesn't reach is whole
-pub whole : (n : ℕ) (xs : List ℕ) → length (take n xs) < n → take n xs ≡ xs
-whole zero xs lt = absurd (let h : ⊥ = omega arith in h)
-whole (suc n) [] lt = refl
-whole (suc n) (x ∷ xs) lt = ap (λ (ys : List ℕ). x ∷ ys) (whole n xs (omega arith))
 
 name_len : (op : Op) → length (op_name op) ≤ 7
 name_len Get = omega arith
@@ -131,8 +107,7 @@ without_route_of_all bytes w = subst IsWithoutRoute (read_whole bytes w.op w.pre
 
 too_long_of_all : (bytes : List ℕ) (fault : ConfigFault) (m : IsMisconfigured (take input_limit bytes) fault) → size_limit < length m.configuration
     → IsTooLong (Config fault) → IsMisconfigured bytes fault
-too_long_of_all bytes config_faults.Memory m long is = absurd is
-too_long_of_all bytes (config_faults.At kind path) m long is =
+too_long_of_all bytes fault m long is =
     let more = drop input_limit bytes in
     let longer : size_limit < length (m.configuration ++ more) = omega (arith, length-append m.configuration more) in
     record {
@@ -142,7 +117,7 @@ too_long_of_all bytes (config_faults.At kind path) m long is =
       configuration = m.configuration ++ more;
       asks = subst (λ (input : List ℕ). Asks input m.op m.prefix m.rest (m.configuration ++ more)) (take-append-drop input_limit bytes)
           (asks_more (take input_limit bytes) more m.op m.prefix m.rest m.configuration m.asks);
-      faulty = inl (longer, ap₂ (λ k (p : List ℕ). record { kind = k; path = p }) is.0 is.1);
+      faulty = too_long_stands (m.configuration ++ more) fault longer is;
     }
 
 misconfigured_of_all : (bytes : List ℕ) (fault : ConfigFault) (m : IsMisconfigured (take input_limit bytes) fault)

@@ -1,10 +1,10 @@
 -- Which fault of a run stands in an input, the numbers of the faults, and the exit statuses of the program (own).
-use Rattle.std.specs.Prelude.{◌≡◌, ℕ, List, ⊤, codes, string_bytes}
+use Rattle.std.specs.Prelude.{ℕ, List, ⊤}
 use Rattle.mcv_base.specs.declared.operation.Op.{Op}
 use Rattle.mcv_names.specs.declared.fault.ConfigFault.{ConfigFault}
-use Rattle.mcv_names.specs.declared.fault.ConfigFault.TheVariants as config_faults
-use Rattle.mcv_names.specs.declared.fault.FaultKind.TheVariants.{Limit}
-use Rattle.mcv_config.specs.Config.{Faulty}
+use Rattle.mcv_input.specs.declared.fault.InputFault.{InputFault}
+use Rattle.mcv_input.specs.declared.fault.InputFault.TheVariants as input_faults
+use Rattle.mcv_input.specs.Fault.{IsConfigFault, SaysTooLong}
 use Rattle.mcv_legs.specs.declared.fault.RunFault.{RunFault}
 use Rattle.mcv_legs.specs.declared.fault.RunFault.TheVariants.{Line, NoRoute, Config, Memory, Device}
 use Rattle.mcv_legs.specs.Request.{Asks, IsNoRequest}
@@ -25,15 +25,11 @@ run_fault_status (Config fault) = 2
 run_fault_status Memory = 4
 run_fault_status Device = 4
 
--- want of memory is no fault of a configuration
-abbrev pub of_configuration : ConfigFault → RunFault
-of_configuration config_faults.Memory = Memory
-of_configuration (config_faults.At kind path) = Config (config_faults.At kind path)
-
--- the fault stands in the text of a configuration
-abbrev pub IsConfigFault : List ℕ → ConfigFault → Type 0
-IsConfigFault text config_faults.Memory = ⊥
-IsConfigFault text (config_faults.At kind path) = Faulty text (record { kind = kind; path = string_bytes path })
+-- what an input's fault is to a run
+abbrev pub of_input : InputFault → RunFault
+of_input (input_faults.Config fault) = Config fault
+of_input input_faults.Memory = Memory
+of_input input_faults.Device = Device
 
 -- the input asks, and the fault stands in its configuration
 pub record IsMisconfigured (input : List ℕ) (fault : ConfigFault) : Type 0 where
@@ -52,27 +48,10 @@ IsRunFault input (Config fault) = IsMisconfigured input fault
 IsRunFault input Memory = ⊤
 IsRunFault input Device = ⊤
 
--- memory ran out, or the reader or the writer failed
-abbrev pub IsOutside : RunFault → Type 0
-IsOutside Line = ⊥
-IsOutside NoRoute = ⊥
-IsOutside (Config fault) = ⊥
-IsOutside Memory = ⊤
-IsOutside Device = ⊤
-
--- memory ran out, or the fault stands in the text
-abbrev pub IsRefusal : List ℕ → RunFault → Type 0
-IsRefusal text Line = ⊥
-IsRefusal text NoRoute = ⊥
-IsRefusal text (Config fault) = IsConfigFault text fault
-IsRefusal text Memory = ⊤
-IsRefusal text Device = ⊥
-
--- memory ran out, or the text is too long
+-- memory ran out, or the configuration is too long
 abbrev pub IsTooLong : RunFault → Type 0
 IsTooLong Line = ⊥
 IsTooLong NoRoute = ⊥
-IsTooLong (Config config_faults.Memory) = ⊥
-IsTooLong (Config (config_faults.At kind path)) = (kind ≡ Limit) × (string_bytes path ≡ codes ".")
+IsTooLong (Config fault) = SaysTooLong fault
 IsTooLong Memory = ⊤
 IsTooLong Device = ⊥

@@ -1,10 +1,11 @@
 //! Why no legs were written.
 
 ghost use Rattle.std.specs.Prelude.{◌≡◌};
-ghost use Rattle.mcv_legs.specs.Fault.{of_configuration, run_fault_number, run_fault_status};
+ghost use Rattle.mcv_legs.specs.Fault.{of_input, run_fault_number, run_fault_status};
 ghost use Rattle.mcv_legs.specs.declared.fault.RunFault.TheVariants.{Memory as out_of_memory};
 
 use mcv_config::ConfigFault;
+use mcv_input::InputFault;
 use std::alloc::AllocError;
 use thiserror::Error;
 
@@ -36,13 +37,14 @@ impl From<AllocError> for RunFault {
     }
 }
 
-impl From<ConfigFault> for RunFault {
-    ghost from_gives = { λ fault e. e ≡ of_configuration fault };
+impl From<InputFault> for RunFault {
+    ghost from_gives = { λ fault e. e ≡ of_input fault };
 
-    fn from(fault: ConfigFault) -> RunFault {
+    fn from(fault: InputFault) -> RunFault {
         match fault {
-            ConfigFault::Memory => RunFault::Memory,
-            ConfigFault::At { kind, path } => RunFault::Config(ConfigFault::At { kind, path }),
+            InputFault::Config(fault) => RunFault::Config(fault),
+            InputFault::Memory => RunFault::Memory,
+            InputFault::Device => RunFault::Device,
         }
     }
 }

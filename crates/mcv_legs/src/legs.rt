@@ -1,23 +1,21 @@
 //! The path from the bytes read to the bytes written.
 
-ghost use Rattle.std.specs.Prelude.{◌≡◌, ◌≢◌, ◌<◌, ℕ, List, length, find, option_map, IfSome, IfOk, IfErr, OnOk, slice_index};
+ghost use Rattle.std.specs.Prelude.{◌≡◌, ◌≢◌, ◌<◌, ℕ, List, length, option_map, IfSome, IfOk, IfErr, OnOk, slice_index};
 ghost use Rattle.std.specs.Io.KnownBytes.{Appends};
-ghost use Rattle.mcv_config.specs.Config.{Names, size_limit};
-ghost use Rattle.mcv_config.specs.Plan.{Plan};
-ghost use Rattle.mcv_route.specs.Built.{routes_named};
+ghost use Rattle.mcv_config.specs.Config.{size_limit};
 ghost use Rattle.mcv_route.specs.View.{view};
 ghost use Rattle.mcv_base.specs.declared.operation.Op.{Op};
 ghost use Rattle.mcv_rules.specs.Called.{situation_of};
 ghost use Rattle.mcv_legs.specs.Answer.{IsAnswer, entry_for, text_of};
-ghost use Rattle.mcv_legs.specs.Fault.{IsRefusal, IsRunFault, IsTooLong};
+ghost use Rattle.mcv_legs.specs.Fault.{IsRunFault, IsTooLong};
 ghost use Rattle.mcv_legs.specs.Request.{Asks};
 
-use crate::device::{CONFIGURATION_LIMIT, read_input, write_text};
+use crate::device::read_input;
 use crate::fault::RunFault;
 use crate::request::read_request;
 use crate::text::legs_text;
 use mcv_base::{Moment, Prefix, hashed_part};
-use mcv_config::{ConfigFault, FaultKind, read_config};
+use mcv_input::{read_routes, write_text};
 use mcv_pools::{Fnv, Servers, choose};
 use mcv_route::{Route, Routes};
 use mcv_rules::{Eval, Outcomes};
@@ -41,7 +39,7 @@ pub fn run_legs<R: Read, W: Write>(
 {
     let input = read_input(alloc, reader)?;
     let text = answer_text(alloc, input.as_slice(), moment)?;
-    write_text(writer, text.as_slice())
+    Ok(write_text(writer, text.as_slice())?)
 }
 
 /// The text that answers an input.
@@ -72,33 +70,6 @@ fn first_text(alloc: Global, eval: &Eval, servers: &Servers) -> Result<Vec<u8>, 
     let legs = eval.launched(alloc, &none)?;
     let reply = eval.status(&none).outcome(&[]);
     legs_text(alloc, servers, legs.as_slice(), reply)
-}
-
-/// The fault of a configuration that is longer than any may be.
-fn too_long(alloc: Global) -> RunFault
-    ensures { IsTooLong result }
-{
-    match String::from_str(alloc, ".") {
-        Ok(path) => RunFault::Config(ConfigFault::At {
-            kind: FaultKind::Limit,
-            path,
-        }),
-        Err(_) => RunFault::Memory,
-    }
-}
-
-/// The routes that a configuration names. One that is too long may have been cut by the reader, so nothing else of it
-/// is judged.
-fn read_routes(alloc: Global, configuration: &[u8]) -> Result<Routes, RunFault>
-    ensures named { IfOk result (λ routes. (plan : Plan) × Names configuration.now plan × (routes ≡ routes_named plan)) }
-    ensures fault { IfErr result (λ fault. IsRefusal configuration.now fault) }
-    ensures large { size_limit < length configuration.now → IfErr result IsTooLong }
-{
-    if configuration.len() > CONFIGURATION_LIMIT {
-        return Err(too_long(alloc));
-    }
-    let config = read_config(alloc, configuration)?;
-    Ok(Routes::build(alloc, config)?)
 }
 
 /// The first route that has the prefix among its aliases.

@@ -6,7 +6,7 @@ use Rattle.std.proofs.lemmas.List.{length-map, map-append}
 use Rattle.std.proofs.lemmas.Simd.{map-map}
 use Rattle.std.proofs.lemmas.List.Folds.{flat_map-map}
 use Rattle.mcv_config.specs.Plan.{IsSound, IsSoundRoute, named_of, plan_of, entry_plan, pool_plan}
-use Rattle.mcv_config.specs.declared.config.Config.{Config}
+use Rattle.mcv_config.specs.declared.config.ConfigParts.{ConfigParts}
 use Rattle.mcv_config.specs.declared.config.Entry.{Entry}
 use Rattle.mcv_pools.specs.Symbol.{SymbolValue, same_symbol}
 use Rattle.mcv_pools.specs.Table.{with_entry}
@@ -48,12 +48,12 @@ entries-are symbols pools (e ∷ entries) (r ∷ built) a t =
     let others = entries-are symbols pools entries built aliases trees in
     λ i. record { aliases = own i; tree = tree i } ∷ others i
 
-pub sound-entries : (c : Config) (pools : List (List ℕ)) → pools ≡ map pool_plan c.pools.items → IsSound (plan_of c) → All (λ e. IsSoundRoute pools (named_of e.route)) c.entries.items
+pub sound-entries : (c : ConfigParts) (pools : List (List ℕ)) → pools ≡ map pool_plan c.pools.items → IsSound (plan_of c) → All (λ e. IsSoundRoute pools (named_of e.route)) c.entries.items
 sound-entries c pools is sound =
     let P : List (List ℕ) → Type 0 = λ ps. All (λ e. IsSoundRoute ps (named_of e.route)) c.entries.items in
     subst P (sym is) (All-unmap (λ e. IsSoundRoute (plan_of c).pools e.route) entry_plan c.entries.items sound.routes)
 
-pub routes-are : (c : Config) (pools : List (List ℕ)) (symbols : List SymbolValue) (built : List AliasedRoute) → pools ≡ map pool_plan c.pools.items
+pub routes-are : (c : ConfigParts) (pools : List (List ℕ)) (symbols : List SymbolValue) (built : List AliasedRoute) → pools ≡ map pool_plan c.pools.items
     → map (λ r. r.aliases.items) built ≡ map (λ e. e.aliases.items) c.entries.items
     → IsBuilt pools [] (map (λ e. named_of e.route) c.entries.items) symbols (map (λ r. view r.route) built)
     → record { servers = c.servers; symbols = symbols; entries = map entry_view built } ≡ routes_named (plan_of c)

@@ -8,7 +8,7 @@ use Rattle.mcv_pools.specs.Table.{number_in, numbered}
 use Rattle.mcv_config.specs.Plan.{Named, Nameds, Plan, no_named, named}
 use Rattle.mcv_config.specs.Plan as plan
 use Rattle.mcv_route.specs.Tree.{Pool, Tree, Trees, pool, null, error, all_sync, all_initial, all_async, failover, miss_failover, warm_up, migrate, prefix_selector, operation_selector, none, child}
-use Rattle.mcv_route.specs.Routes.{RouteEntry, RoutesValue}
+use Rattle.mcv_route.specs.Routes.{RoutesValue}
 
 abbrev pub pool_at : List (List ℕ) → ℕ → List ℕ
 pool_at pools i = slice_index_or pools i []

@@ -1,5 +1,5 @@
 -- Rules over what each child of a handle does, in the order of the children.
-use Rattle.std.specs.Prelude.{ℕ, zero, suc, ◌+◌, ◌*◌, List, [], ◌∷◌, ◌++◌, Bool, true, false, Option, Some, None, nat_le, ◌&&◌, ◌==◌, if◌then◌else◌, not, length, unwrap_or, option_map, fold}
+use Rattle.std.specs.Prelude.{ℕ, zero, suc, ◌+◌, ◌*◌, List, [], ◌∷◌, ◌++◌, Bool, true, false, Option, Some, None, nat_le, ◌&&◌, if◌then◌else◌, not, length, unwrap_or, option_map, fold}
 use Rattle.mcv_base.specs.declared.operation.Op.{Op}
 use Rattle.mcv_base.specs.Operation.{is_same_op, is_delete}
 use Rattle.mcv_base.specs.Key.{begins_with}

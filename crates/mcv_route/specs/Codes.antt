@@ -1,14 +1,14 @@
 -- That a tree can be told from another, by which values that hold trees may stand in clauses. It says nothing of what a tree means.
-use Rattle.std.specs.Prelude.{◌≡◌, ℕ, ◌==◌, List, [], ◌∷◌, Option, if◌then◌else◌, refl}
+use Rattle.std.specs.Prelude.{◌≡◌, ℕ, ◌==◌, List, [], Option, if◌then◌else◌, refl}
 use Rattle.std.specs.Coded.{Coded, code_by, coded×, coded_ℕ, coded_list, coded_option}
-use base.Stored.{Gv, gnil, gnum, gcons}
-use Rattle.std.proofs.Common.{ap, subst, sym}
+use Rattle.std.proofs.Common.{ap}
 use Rattle.mcv_base.specs.declared.operation.Op.{Op}
 use Rattle.mcv_base.specs.contracts.operation.Op.{the_row}
 use Rattle.mcv_pools.specs.Symbol.{SymbolValue}
+use Rattle.mcv_config.specs.Labels.{Node, Nodes, node, no_node, beside, node_code}
 use Rattle.mcv_pools.specs.contracts.symbol.Symbol.{the_row as symbol_row}
 use Rattle.mcv_route.specs.Routes.{RouteEntry, RoutesValue}
-use Rattle.mcv_route.specs.Tree.{Pool, Range, Tree, Trees, pool, null, error, all_sync, all_initial, all_async, failover, miss_failover, warm_up, migrate, prefix_selector, operation_selector, none, child}
+use Rattle.mcv_route.specs.Tree.{Range, Tree, Trees, pool, null, error, all_sync, all_initial, all_async, failover, miss_failover, warm_up, migrate, prefix_selector, operation_selector, none, child}
 
 -- what a handle is, but for its children
 pub record Label : Type 0 where
@@ -20,19 +20,11 @@ pub record Label : Type 0 where
   pub prefixes : List (List ℕ)
   pub operations : List (Option Op)
 
-mutual
-  pub data Node : Type 0 where
-    node : Label → Nodes → Node
-
-  pub data Nodes : Type 0 where
-    no_node : Nodes
-    beside : Node → Nodes → Nodes
-
 abbrev pub plain : ℕ → Label
 plain kind = record { kind = kind; first = 0; second = 0; servers = []; ranges = []; prefixes = []; operations = [] }
 
 abbrev mutual
-  pub node_of : Tree → Node
+  pub node_of : Tree → Node Label
   node_of (pool p ranges targets) = node (record { kind = 0; first = p.symbol; second = 0; servers = p.servers; ranges = ranges; prefixes = []; operations = [] }) (nodes_of targets)
   node_of null = node (plain 1) no_node
   node_of error = node (plain 2) no_node
@@ -50,7 +42,7 @@ abbrev mutual
   node_of (operation_selector ops ts) =
       node (record { kind = 11; first = 0; second = 0; servers = []; ranges = []; prefixes = []; operations = ops }) (nodes_of ts)
 
-  pub nodes_of : Trees → Nodes
+  pub nodes_of : Trees → Nodes Label
   nodes_of none = no_node
   nodes_of (child t ts) = beside (node_of t) (nodes_of ts)
 
@@ -78,10 +70,10 @@ tree_by l ts =
     else operation_selector l.operations ts
 
 abbrev mutual
-  pub tree_of : Node → Tree
+  pub tree_of : Node Label → Tree
   tree_of (node l ns) = tree_by l (trees_of ns)
 
-  pub trees_of : Nodes → Trees
+  pub trees_of : Nodes Label → Trees
   trees_of no_node = none
   trees_of (beside n ns) = child (tree_of n) (trees_of ns)
 
@@ -118,44 +110,8 @@ label_code =
     code_by Parts parts_code (λ l. ((l.kind, (l.first, l.second)), ((l.servers, l.ranges), (l.prefixes, l.operations))))
     (λ p. record { kind = p.0.0; first = p.0.1.0; second = p.0.1.1; servers = p.1.0.0; ranges = p.1.0.1; prefixes = p.1.1.0; operations = p.1.1.1 }) (λ _. refl)
 
-abbrev mutual
-  pub code_of : Node → Gv
-  code_of (node l ns) = gcons (label_code.code l) (codes_of ns)
-
-  pub codes_of : Nodes → Gv
-  codes_of no_node = gnil
-  codes_of (beside n ns) = gcons (code_of n) (codes_of ns)
-
-abbrev head : Gv → Gv
-head gnil = gnil
-head (gnum n) = gnil
-head (gcons a b) = a
-
-abbrev tail : Gv → Gv
-tail gnil = gnil
-tail (gnum n) = gnil
-tail (gcons a b) = b
-
-abbrev IsCons : Gv → Type 0
-IsCons gnil = ⊥
-IsCons (gnum n) = ⊥
-IsCons (gcons a b) = Unit {0}
-
-mutual
-  pub code_of-inj : (m n : Node) → code_of m ≡ code_of n → m ≡ n
-  code_of-inj (node k ms) (node l ns) e = λ i. node (label_code.inj k l (ap head e) i) (codes_of-inj ms ns (ap tail e) i)
-
-  pub codes_of-inj : (ms ns : Nodes) → codes_of ms ≡ codes_of ns → ms ≡ ns
-  codes_of-inj no_node no_node e = refl
-  codes_of-inj no_node (beside n ns) e = absurd (subst IsCons (sym e) tt)
-  codes_of-inj (beside m ms) no_node e = absurd (subst IsCons e tt)
-  codes_of-inj (beside m ms) (beside n ns) e = λ i. beside (code_of-inj m n (ap head e) i) (codes_of-inj ms ns (ap tail e) i)
-
-abbrev pub node_code : Coded Node
-node_code = record { code = code_of; inj = code_of-inj }
-
 abbrev pub tree_code : Coded Tree
-tree_code = code_by Node node_code node_of tree_of tree_of-node_of
+tree_code = code_by (Node Label) (node_code label_code) node_of tree_of tree_of-node_of
 
 abbrev pub entry_code : Coded RouteEntry
 entry_code =

@@ -1,5 +1,5 @@
 -- How large routes may be (own).
-use Rattle.std.specs.Prelude.{ℕ, zero, suc, ◌+◌, ◌≤◌, List, length}
+use Rattle.std.specs.Prelude.{ℕ, zero, suc, ◌+◌, ◌≤◌, length}
 use Rattle.std.specs.List.{All, sum_by}
 use Rattle.mcv_pools.specs.Table.{server_limit}
 use Rattle.mcv_config.specs.Aliases.{alias_limit}

@@ -1,5 +1,5 @@
 -- What the rules of a handle depend on beside the tree.
-use Rattle.std.specs.Prelude.{ℕ, List, [], ◌∷◌, ◌++◌, Bool, true, false, Option, Some, None, nat_le}
+use Rattle.std.specs.Prelude.{ℕ, List, [], ◌∷◌, ◌++◌, Bool, false, Option, Some, None, nat_le}
 use Rattle.mcv_base.specs.declared.operation.Op.{Op}
 use Rattle.mcv_base.specs.declared.operation.Op.TheVariants.{Add}
 use Rattle.mcv_base.specs.declared.operation.Mark.{Mark}

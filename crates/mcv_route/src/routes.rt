@@ -2,8 +2,7 @@
 
 ghost use Rattle.std.specs.Prelude.{◌≡◌, ◌<◌, [], ◌∷◌, Some, None, IfOk, length, map, option_map, position, slice_get};
 ghost use Rattle.std.specs.List.{All, flat_map};
-ghost use Rattle.mcv_config.specs.Limits.{IsWithinLimits};
-ghost use Rattle.mcv_config.specs.Plan.{IsSound, IsSoundRoute, named_of, plan_of};
+ghost use Rattle.mcv_config.specs.Plan.{IsSoundRoute, named_of};
 ghost use Rattle.mcv_route.specs.Built.{routes_named};
 ghost use Rattle.mcv_route.specs.Eras.{breaks, breaks_of, era_at, since_at, IsBreakTable};
 ghost use Rattle.mcv_route.specs.Limits.{AreWithinLimits};
@@ -18,7 +17,7 @@ use crate::children::child_of;
 use crate::moments::{passed_breaks, push_breaks, table_of};
 use crate::tree::{Leaf, Route};
 use mcv_base::{Moment, Position, Prefix, ServerId};
-use mcv_config::{Config, Entry};
+use mcv_config::{Config, ConfigParts, Entry};
 use mcv_pools::{Servers, Symbols};
 use std::alloc::{AllocError, Global};
 use std::marker::Model;
@@ -60,15 +59,13 @@ impl Routes {
     /// The routes that a configuration names, its symbols numbered in the order in which the walk of the
     /// routes meets them. An error where memory runs out.
     pub fn build(alloc: Global, config: Config) -> Result<Routes, AllocError>
-        requires sound { IsSound (plan_of config) }
-        requires limits { IsWithinLimits (plan_of config) }
-        ensures { IfOk result (λ r. r ≡ routes_named (plan_of config)) }
+        ensures { IfOk result (λ r. r ≡ routes_named config) }
     {
-        let Config {
+        let ConfigParts {
             servers,
             pools,
             entries,
-        } = config;
+        } = config.into_parts();
         let lists = shared_lists(alloc, pools)?;
         let mut symbols = Symbols::new(alloc);
         let entries = build_entries(alloc, entries, lists.as_slice(), &mut symbols)?;

@@ -1,6 +1,6 @@
 use Rattle.std.proofs.Common.{◌≡◌, ◌∙◌, List, ℕ, take, sym, subst, IfSome}
 use Rattle.std.proofs.lemmas.Option.{IfSome_then}
-use Rattle.std.proofs.lemmas.Result.{IfOk-weaker, err_from_is_err_and}
+use Rattle.std.proofs.lemmas.Result.{err_from_is_err_and}
 use Rattle.mcv_legs.specs.Answer.{IsAnswer}
 use Rattle.mcv_legs.specs.Fault.{IsRunFault}
 use Rattle.mcv_legs.specs.Request.{Asks}
@@ -9,15 +9,14 @@ use Rattle.mcv_legs.proofs.Limits.{answer_of_all, fault_of_all}
 use Rattle.mcv_legs.proofs.legs.run_legs.Goals as goal
 
 pub returns-clause-ok : goal.returns-clause-ok
-returns-clause-ok g c =
-    IfOk-weaker c.write_text.result _ _ (λ x wrote. (
-      c.as_slice-2.result.now,
-      IfSome_then (g.R.Read.remaining c.args.reader.now) c.in_ok-input.ensures.read (λ bytes is.
-          answer_of_all c.args.moment.0 bytes c.as_slice-2.result.now
-          (subst (λ (input : List ℕ). IsAnswer c.args.moment.0 input c.as_slice-2.result.now) (c.as_slice.ensures.value ∙ is)
-          (subst (λ (text : List ℕ). IsAnswer c.args.moment.0 c.as_slice.result.now text) (sym c.as_slice-2.ensures.value) c.in_ok-text.ensures.ok))),
-      wrote,
-    )) c.write_text.ensures.written
+returns-clause-ok g c = (
+  c.as_slice-2.result.now,
+  IfSome_then (g.R.Read.remaining c.args.reader.now) c.in_ok-input.ensures.read (λ bytes is.
+      answer_of_all c.args.moment.0 bytes c.as_slice-2.result.now
+      (subst (λ (input : List ℕ). IsAnswer c.args.moment.0 input c.as_slice-2.result.now) (c.as_slice.ensures.value ∙ is)
+      (subst (λ (text : List ℕ). IsAnswer c.args.moment.0 c.as_slice.result.now text) (sym c.as_slice-2.ensures.value) c.in_ok-text.ensures.ok))),
+  c.in_ok-write_text.ensures.written,
+)
 
 pub returns-in_err-text-clause-fault : goal.returns-in_err-text-clause-fault
 returns-in_err-text-clause-fault g c =

@@ -1,6 +1,7 @@
 use Rattle.std.proofs.Common.{map, ap, sym, subst, ◌∙◌}
 use Rattle.std.specs.List.{flat_map}
-use Rattle.mcv_config.specs.Plan.{plan_of}
+use Rattle.mcv_config.specs.Plan.{IsSound}
+use Rattle.mcv_route.specs.Built.{routes_named}
 use Rattle.mcv_route.specs.Eras.{breaks, IsBreakTable}
 use Rattle.mcv_route.specs.Limits.{AreWithinLimits}
 use Rattle.mcv_route.specs.Routes.{IsSoundRoutes}
@@ -13,21 +14,22 @@ use Rattle.mcv_route.proofs.routes.Routes.build.Goals as goal
 
 pub build_entries-requires-clause-sound : goal.build_entries-requires-clause-sound
 build_entries-requires-clause-sound c =
-    sound-entries c.args.config (map list_view c.as_slice.result.now) (ap (map list_view) c.as_slice.ensures.value ∙ c.in_ok-lists.ensures) c.requires.sound
+    sound-entries c.into_parts-servers.result (map list_view c.as_slice.result.now) (ap (map list_view) c.as_slice.ensures.value ∙ c.in_ok-lists.ensures)
+    (subst IsSound (sym c.into_parts-servers.ensures.plan) c.into_parts-servers.ensures.sound)
 
 pub invariant_of-result : goal.invariant_of-result
 invariant_of-result c =
     let pools = map list_view c.as_slice.result.now in
-    let is = routes-are c.args.config pools c.build_entries.new.symbols c.in_ok-entries.entries.items (ap (map list_view) c.as_slice.ensures.value ∙ c.in_ok-lists.ensures) c.in_ok-entries.ensures.aliases
-    (rw (← c.new-symbols.ensures) c.in_ok-entries.ensures.routes) in
+    let is = routes-are c.into_parts-servers.result pools c.build_entries.new.symbols c.in_ok-entries.entries.items (ap (map list_view) c.as_slice.ensures.value ∙ c.in_ok-lists.ensures) c.in_ok-entries.ensures.aliases
+    (rw (← c.new-symbols.ensures) c.in_ok-entries.ensures.routes) ∙ ap routes_named c.into_parts-servers.ensures.plan in
     let P : _ → Type 0 = λ bs. IsBreakTable bs (numbers_of c.in_ok-break_table.break_table.items) in
     record {
-      trees = subst IsSoundRoutes (sym is) (sound-built (plan_of c.args.config) c.requires.sound);
-      limits = subst AreWithinLimits (sym is) (within-built (plan_of c.args.config) c.requires.sound c.requires.limits);
+      trees = subst IsSoundRoutes (sym is) (sound-built c.args.config c.into_parts-servers.ensures.sound);
+      limits = subst AreWithinLimits (sym is) (within-built c.args.config c.into_parts-servers.ensures.sound c.into_parts-servers.ensures.limits);
       table = subst P (c.in_ok-moments.ensures ∙ ap (λ es. flat_map (λ e. breaks e.tree) (map entry_view es)) c.as_slice-2.ensures.value) c.in_ok-break_table.ensures;
     }
 
 pub returns : goal.returns
 returns c =
-    routes-are c.args.config (map list_view c.as_slice.result.now) c.build_entries.new.symbols c.in_ok-entries.entries.items (ap (map list_view) c.as_slice.ensures.value ∙ c.in_ok-lists.ensures) c.in_ok-entries.ensures.aliases
-    (rw (← c.new-symbols.ensures) c.in_ok-entries.ensures.routes)
+    routes-are c.into_parts-servers.result (map list_view c.as_slice.result.now) c.build_entries.new.symbols c.in_ok-entries.entries.items (ap (map list_view) c.as_slice.ensures.value ∙ c.in_ok-lists.ensures) c.in_ok-entries.ensures.aliases
+    (rw (← c.new-symbols.ensures) c.in_ok-entries.ensures.routes) ∙ ap routes_named c.into_parts-servers.ensures.plan

@@ -1,0 +1,81 @@
+-- The blocks of a configuration: what a certificate is judged against, said by the sets of positions (own).
+use Rattle.std.specs.Prelude.{◌≡◌, ◌≢◌, ◌↔◌, ℕ, zero, suc, false, List, Option, Some, None, map, slice_get}
+use Rattle.std.specs.List.{All, AllPairs, Contains}
+use Rattle.std.specs.declared.cmp.Ordering.TheVariants.{Less}
+use Rattle.mcv_route.specs.Eras.{IsBreakTable, breaks_of}
+use Rattle.mcv_route.specs.Outcomes.{Choice}
+use Rattle.mcv_route.specs.Places.{pool_at_position}
+use Rattle.mcv_route.specs.Routes.{RouteEntry, RoutesValue}
+use Rattle.mcv_route.specs.Tree.{Pool, Tree}
+use Rattle.mcv_classes.specs.Class.{IsMember}
+use Rattle.mcv_classes.specs.Words.{class_words}
+use Rattle.mcv_symbolic.specs.Justified.{IsNeverAcknowledged, IsReadableAt}
+use Rattle.mcv_symbolic.specs.Sets.{IsAcknowledged}
+use Rattle.mcv_judge.specs.Faults.{AreLegsRising, IsFaultless, IsFirstFault, block_cmp}
+use Rattle.mcv_judge.specs.Reason.{BlockValue, LegValue}
+use Rattle.mcv_judge.specs.declared.fault.PairFault.{PairFault}
+use Rattle.mcv_cert.specs.Pair.{PairValue}
+
+-- the pool that a leaf stands for
+abbrev pub pool_for : LegValue → Pool
+pool_for l = record { symbol = l.symbol; servers = l.servers }
+
+abbrev pub positions_of : List LegValue → List (List ℕ)
+positions_of leaves = map (λ l. l.position) leaves
+
+-- the leaves are those at the positions with the property, in the order of their positions, each with the symbol and the servers of the pool that stands there
+pub record AreLeavesAt (t : Tree) (P : List ℕ → Type 0) (leaves : List LegValue) : Type 0 where
+  pub pools : All (λ l. pool_at_position t l.position ≡ Some (pool_for l)) leaves
+  pub rising : AreLegsRising leaves
+  pub only : All P (positions_of leaves)
+  pub all : (p : List ℕ) → P p → Contains (positions_of leaves) p
+
+-- to the position each delete that has a reply has been sent, under every choice
+abbrev pub IsAcknowledgedAt : Tree → List ℕ → Option ℕ → List ℕ → Type 0
+IsAcknowledgedAt t rest since p = (c : Choice) → IsAcknowledged t rest since c p
+
+-- the block has what the route has at a rest in an era
+pub record IsBlockAt (t : Tree) (rest : List ℕ) (since : Option ℕ) (b : BlockValue) : Type 0 where
+  pub readable : AreLeavesAt t (IsReadableAt t rest since) b.readable
+  pub acknowledged : AreLeavesAt t (IsAcknowledgedAt t rest since) b.acknowledged
+  pub never : (b.can_be_acknowledged ≡ false) ↔ IsNeverAcknowledged t rest since
+
+-- the break that opened the era of this number: none opened era 0, and the later ones were opened by the breaks in rising order
+abbrev pub IsEraOf : RoutesValue → ℕ → Option ℕ → Type 0
+IsEraOf r zero since = since ≡ None
+IsEraOf r (suc k) since = (table : List ℕ) × IsBreakTable (breaks_of r) table × (slice_get table k ≡ since) × (since ≢ None)
+
+-- the routes have a route of this number, it has a class of this word, and an era of this number; and then its tree, the class's member and the break that opened the era
+pub record IsPlaceOf (r : RoutesValue) (route : ℕ) (class : List ℕ) (era : ℕ) (t : Tree) (member : List ℕ) (since : Option ℕ) : Type 0 where
+  pub entry : RouteEntry
+  pub numbered : slice_get r.entries route ≡ Some entry
+  pub has_tree : entry.tree ≡ t
+  pub listed : Contains (class_words t) class
+  pub has_member : IsMember (class_words t) class (Some member)
+  pub opened : IsEraOf r era since
+
+-- the block is that of its route, class and era
+pub record IsBlockOf (r : RoutesValue) (b : BlockValue) : Type 0 where
+  pub tree : Tree
+  pub member : List ℕ
+  pub since : Option ℕ
+  pub place : IsPlaceOf r b.route b.class b.era tree member since
+  pub has : IsBlockAt tree member since b
+
+-- one of the blocks is of this route, class and era
+abbrev pub HasBlockFor : List BlockValue → (route : ℕ) → (class : List ℕ) → (era : ℕ) → Type 0
+HasBlockFor blocks route class era = (b : BlockValue) × Contains blocks b × (b.route ≡ route) × (b.class ≡ class) × (b.era ≡ era)
+
+-- a block for each route, class with a member and era, by route, class and era, each once
+pub record AreBlocksOf (r : RoutesValue) (blocks : List BlockValue) : Type 0 where
+  pub rising : AllPairs (λ b c. block_cmp b c ≡ Less) blocks
+  pub only : All (IsBlockOf r) blocks
+  pub all : (route : ℕ) (class : List ℕ) (era : ℕ) (t : Tree) (member : List ℕ) (since : Option ℕ) → IsPlaceOf r route class era t member since → HasBlockFor blocks route class era
+
+-- a certificate with these pairs is justified: no fault stands in it
+abbrev pub IsJustifiedBy : RoutesValue → List PairValue → Type 0
+IsJustifiedBy r pairs = (blocks : List BlockValue) × AreBlocksOf r blocks × IsFaultless pairs blocks
+
+-- the fault is the first that stands in a certificate with these pairs
+abbrev pub IsFirstFaultOf : RoutesValue → List PairValue → PairFault → Type 0
+IsFirstFaultOf r pairs f = (blocks : List BlockValue) × AreBlocksOf r blocks × IsFirstFault pairs blocks f

@@ -1,0 +1,10 @@
+pub mod Clean
+pub mod Escapes
+pub mod Fitting
+pub mod Joined
+pub mod Lines
+pub mod Meant
+pub mod Rising
+pub mod Spelled
+pub mod Unique
+pub mod Written

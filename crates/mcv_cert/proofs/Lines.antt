@@ -1,0 +1,103 @@
+-- A text is cut at the ends of its lines.
+use Rattle.std.proofs.Common.{◌≡◌, ◌≢◌, ◌∙◌, ℕ, suc, ◌+◌, ◌&&◌, Bool, true, false, List, [], ◌∷◌, ◌++◌, length, take, drop, Some, None, refl, sym, ap, subst, arith, append_assoc, append-nil}
+use Rattle.std.specs.Prelude.{codes}
+use Rattle.std.specs.List.{All, flat_map}
+use Rattle.std.proofs.lemmas.Bool.{and_parts, true≢false}
+use Rattle.std.proofs.lemmas.Grind.{flat_map-append}
+use Rattle.std.proofs.lemmas.List.{take_at}
+use Rattle.std.proofs.lemmas.List.Elements.{All-nil, All-push}
+use Rattle.memchr.specs.Find.{IsFirstByte, is_byte}
+use Rattle.mcv_base.specs.Key.{lacks}
+use Rattle.mcv_base.proofs.Cuts.{first_at_cut, first_cuts, none_at_cut}
+use Rattle.mcv_cert.specs.Pair.{AreRising, IsPair, PairValue, is_behind}
+use Rattle.mcv_cert.specs.Reading.{IsNoLine, Reading, Reads, Stops, at_end, broken, pairs, too_long, unordered}
+use Rattle.mcv_cert.specs.Fault.{IsTold}
+use Rattle.mcv_cert.specs.declared.fault.CertFault.{CertFault}
+use Rattle.mcv_cert.specs.declared.fault.CertFault.TheVariants.{Syntax, Order, Limit, Memory}
+use Rattle.mcv_cert.specs.Text.{pair_line, pair_text}
+use Rattle.mcv_cert.proofs.Clean.{text_lacks}
+use Rattle.mcv_cert.proofs.Rising.{rising_push}
+use Rattle.mcv_cert.proofs.Spelled.{line_cut}
+
+-- the first line of a text
+first_line_is : (text line more : List ℕ) (end : ℕ) → lacks 10 line ≡ true → text ≡ line ++ 10 ∷ more → IsFirstByte (is_byte 10) text (Some end) → take end text ≡ line
+first_line_is text line more end bare is first =
+    let at : end ≡ length line = first_at_cut 10 text line more end is bare first in
+    ap (take end) is ∙ take_at line (10 ∷ more) end (sym at)
+
+-- no line without an end
+pub no_end : (text : List ℕ) → IsFirstByte (is_byte 10) text None → IsNoLine text
+no_end text none = record {
+  pair = λ p more is e. none_at_cut 10 text (pair_text p) more (e ∙ line_cut p more) none;
+  last = λ more e. none_at_cut 10 text (codes "end") more e none;
+}
+
+pub no_line : (text : List ℕ) (end : ℕ) → IsFirstByte (is_byte 10) text (Some end) → take end text ≢ codes "end" → ((p : PairValue) → IsPair p → take end text ≢ pair_text p) → IsNoLine text
+no_line text end first other none = record {
+  pair = λ p more is e. none p is (first_line_is text (pair_text p) more end (text_lacks p is) (e ∙ line_cut p more) first);
+  last = λ more e. other (first_line_is text (codes "end") more end refl e first);
+}
+
+-- a text is its first line, the end of it, and the rest
+pub line_at : (text line : List ℕ) (end : ℕ) → IsFirstByte (is_byte 10) text (Some end) → take end text ≡ line → text ≡ (line ++ codes "\n") ++ drop (end + 1) text
+line_at text line end first is =
+    let cut = first_cuts 10 text end first.0.high first.1 (λ j below. first.0.before j (omega arith) below) in
+    let next : suc end ≡ end + 1 = omega arith in
+    cut.1 ∙ ap (λ xs. xs ++ 10 ∷ drop (suc end) text) is ∙ ap (λ n. line ++ 10 ∷ drop n text) next ∙ sym (append_assoc line (10 ∷ []) (drop (end + 1) text))
+
+-- ---- from line to line
+
+-- what the reader knows when it has read so many pairs
+pub record IsSoFar (body : List ℕ) (ps : List PairValue) (rest : List ℕ) : Type 0 where
+  pub lines : body ≡ flat_map pair_line ps ++ rest
+  pub are_pairs : All IsPair ps
+  pub rising : AreRising ps
+
+pub so_far_none : (body : List ℕ) (ps : List PairValue) → ps ≡ [] → IsSoFar body ps body
+so_far_none body ps is =
+    subst (λ (qs : List PairValue). IsSoFar body qs body) (sym is)
+    (record { lines = refl; are_pairs = All-nil IsPair; rising = λ i j d before within. absurd (let h : ⊥ = omega arith in h) })
+
+pub so_far_more : (body rest later : List ℕ) (ps : List PairValue) (p : PairValue) → IsSoFar body ps rest → IsPair p → rest ≡ pair_line p ++ later → is_behind ps p ≡ true → IsSoFar body (ps ++ p ∷ []) later
+so_far_more body rest later ps p so_far is line behind = record {
+  lines =
+      so_far.lines ∙ ap (λ xs. flat_map pair_line ps ++ xs) line
+      ∙ sym (append_assoc (flat_map pair_line ps) (pair_line p) later)
+      ∙ ap (λ xs. xs ++ later) (sym (flat_map-append pair_line ps (p ∷ []) ∙ ap (λ xs. flat_map pair_line ps ++ xs) (append-nil (pair_line p))));
+  are_pairs = All-push IsPair ps p so_far.are_pairs is;
+  rising = rising_push ps p so_far.rising behind;
+}
+
+pub stopped : (body rest : List ℕ) (ps : List PairValue) (r : Reading) → IsSoFar body ps rest → Stops ps rest r → Reads body r
+stopped body rest ps r so_far stops = record { ps = ps; rest = rest; lines = so_far.lines; are_pairs = so_far.are_pairs; rising = so_far.rising; stops = stops }
+
+-- what is said at the last line
+pub nothing_behind : (ps : List PairValue) (behind : List ℕ) → length behind ≡ 0 → at_end ps behind ≡ pairs ps
+nothing_behind ps [] none = refl
+nothing_behind ps (b ∷ bs) none = absurd (let h : ⊥ = omega arith in h)
+
+pub more_behind : (ps : List PairValue) (behind : List ℕ) → (length behind ≡ 0 → ⊥) → at_end ps behind ≡ broken (length ps + 3)
+more_behind ps [] some = absurd (some refl)
+more_behind ps (b ∷ bs) some = refl
+
+-- ---- what the reader answers
+
+-- a pair that isn't taken though it names its legs doesn't stand behind the others
+pub low_is : (a b r : Bool) → a ≡ true → r ≡ (a && b) → r ≡ false → b ≡ false
+low_is true b r named is none = sym is ∙ none
+low_is false b r named is none = absurd (true≢false (sym named))
+
+pub high_is : (a b r : Bool) → r ≡ (a && b) → r ≡ true → b ≡ true
+high_is a b r is all = (and_parts a b (sym is ∙ all)).1
+
+pub told_is : (f : CertFault) (x : Reading) (P : Reading → Type 0) → IsTold (λ s. x ≡ s) f → P x → IsTold P f
+told_is (Syntax n) x P e p = subst P e p
+told_is (Order n) x P e p = subst P e p
+told_is Limit x P e p = subst P e p
+told_is Memory x P e p = tt
+
+pub told_more : (f : CertFault) (P Q : Reading → Type 0) → ((r : Reading) → P r → Q r) → IsTold P f → IsTold Q f
+told_more (Syntax n) P Q more p = more (broken n) p
+told_more (Order n) P Q more p = more (unordered n) p
+told_more Limit P Q more p = more too_long p
+told_more Memory P Q more p = tt

@@ -1,0 +1,12 @@
+-- What the reader found at the front of a text. No public contract cites it.
+use Rattle.std.specs.Prelude.{◌≡◌, ℕ, ◌<◌, List, ◌++◌, length}
+use Rattle.mcv_cert.specs.declared.read.Front.{Front}
+use Rattle.mcv_cert.specs.declared.read.Front.TheVariants.{Line, Last, Nothing}
+use Rattle.mcv_cert.specs.Pair.{IsPair, pair_of}
+use Rattle.mcv_cert.specs.Reading.{IsNoLine}
+use Rattle.mcv_cert.specs.Text.{last_line, pair_line}
+
+abbrev pub IsFront : List ℕ → Front → Type 0
+IsFront text (Line pair later) = IsPair (pair_of pair) × (text ≡ pair_line (pair_of pair) ++ later.now) × (length later.now < length text)
+IsFront text (Last later) = text ≡ last_line ++ later.now
+IsFront text Nothing = IsNoLine text

@@ -1,0 +1,86 @@
+//! The lines of pairs.
+
+ghost use Rattle.std.specs.Prelude.{codes, ◌≡◌, ◌++◌, decimal, map, OnOk};
+ghost use Rattle.std.specs.List.{flat_map, join_with_byte};
+ghost use Rattle.mcv_base.specs.Position.{position_text};
+ghost use Rattle.mcv_cert.specs.Pair.{all, pair_of, reason_of};
+ghost use Rattle.mcv_cert.specs.Text.{pair_line, pair_text, reason_words};
+
+use crate::escape::push_escaped;
+use crate::pair::{Pair, Reason};
+use itoa::Buffer;
+use mcv_base::Position;
+use std::alloc::AllocError;
+
+fn push_number(text: &mut Vec<u8>, number: usize) -> Result<(), AllocError>
+    ensures { OnOk result (text.new.items ≡ text.old.items ++ decimal number) }
+{
+    let mut buffer = Buffer::new();
+    text.extend_from_slice(buffer.format(number).as_bytes())
+}
+
+/// Adds the positions, a space before each.
+fn push_positions(text: &mut Vec<u8>, positions: &[Position]) -> Result<(), AllocError>
+    ensures { OnOk result (text.new.items ≡ text.old.items ++ flat_map (λ p. codes " " ++ position_text p) positions.now) }
+{
+    for position in positions {
+        text.extend_from_slice(b" ")?;
+        position.push_text(text)?;
+    }
+    Ok(())
+}
+
+fn push_all(text: &mut Vec<u8>, index: usize, legs: &[Position]) -> Result<(), AllocError>
+    ensures { OnOk result (text.new.items ≡ text.old.items ++ join_with_byte 32 (reason_words (all index legs.now))) }
+{
+    text.extend_from_slice(b"all ")?;
+    push_number(text, index)?;
+    push_positions(text, legs)?;
+    Ok(())
+}
+
+fn push_reason(text: &mut Vec<u8>, reason: &Reason) -> Result<(), AllocError>
+    ensures { OnOk result (text.new.items ≡ text.old.items ++ join_with_byte 32 (reason_words (reason_of reason.now))) }
+{
+    match reason {
+        Reason::Never => text.extend_from_slice(b"never"),
+        Reason::Twin(leg) => {
+            text.extend_from_slice(b"twin ")?;
+            leg.push_text(text)
+        }
+        Reason::Same(index, leg) => {
+            text.extend_from_slice(b"same ")?;
+            push_number(text, *index)?;
+            text.extend_from_slice(b" ")?;
+            leg.push_text(text)
+        }
+        Reason::All(index, legs) => push_all(text, *index, legs),
+    }
+}
+
+/// Adds the text of a pair, without the end of its line. On an error part of it may be there.
+pub fn push_pair(text: &mut Vec<u8>, pair: &Pair) -> Result<(), AllocError>
+    ensures { OnOk result (text.new.items ≡ text.old.items ++ pair_text (pair_of pair.now)) }
+{
+    push_number(text, pair.route)?;
+    text.extend_from_slice(b" =")?;
+    push_escaped(text, pair.class.as_slice())?;
+    text.extend_from_slice(b" ")?;
+    push_number(text, pair.era)?;
+    text.extend_from_slice(b" ")?;
+    pair.leaf.push_text(text)?;
+    text.extend_from_slice(b" ")?;
+    push_reason(text, &pair.reason)?;
+    Ok(())
+}
+
+/// Adds the lines of pairs. On an error some may be there.
+pub fn push_pairs(text: &mut Vec<u8>, pairs: &[Pair]) -> Result<(), AllocError>
+    ensures { OnOk result (text.new.items ≡ text.old.items ++ flat_map pair_line (map pair_of pairs.now)) }
+{
+    for pair in pairs {
+        push_pair(text, pair)?;
+        text.extend_from_slice(b"\n")?;
+    }
+    Ok(())
+}

@@ -1,0 +1,70 @@
+-- How far a certificate has been judged, from class to class.
+use Rattle.std.proofs.Common.{◌≡◌, ◌↔◌, ℕ, ◌+◌, ◌<◌, ◌≤◌, List, [], ◌∷◌, ◌++◌, length, get_or, drop, drop-cons, add-one, refl, sym, ◌∙◌, subst}
+use Rattle.std.proofs.lemmas.List.{drop_all}
+use Rattle.mcv_cert.specs.Pair.{PairValue}
+use Rattle.mcv_judge.specs.Faults.{IsFaultless, IsFirstFault}
+use Rattle.mcv_judge.specs.declared.fault.PairFault.{PairFault}
+use Rattle.mcv_route.specs.Routes.{RoutesValue}
+use Rattle.mcv_blocks.specs.Blocks.{IsFirstFaultOf, IsJustifiedBy}
+use Rattle.mcv_blocks.specs.Places.{AreRouteClasses, HasEra, IsRouteClass}
+use Rattle.mcv_blocks.specs.Spots.{AreSpotsOf, eras_from, spots_of}
+use Rattle.mcv_blocks.specs.declared.classes.RouteClass.{RouteClass}
+use Rattle.mcv_blocks.proofs.Along.{blocks_of_spots, spots_are, spots_behind}
+use Rattle.mcv_check.specs.Fault.{IsTold}
+use Rattle.mcv_check.specs.Judged.{IsJudged, Leaves, Stops}
+use Rattle.mcv_check.specs.declared.fault.CheckFault.{CheckFault}
+use Rattle.mcv_check.specs.declared.fault.CheckFault.TheVariants.{Memory, Pair}
+use Rattle.mcv_check.proofs.Steps.{IsFirstAt, brought-back, further, nothing_judged}
+
+-- the class at the place is the next
+next : (cs : List RouteClass) (k : ℕ) (c : RouteClass) → k < length cs → c ≡ get_or cs k c → drop k cs ≡ c ∷ drop (k + 1) cs
+next cs k c low is = rw (add-one, drop-cons cs k c, ← is) refl
+
+-- judged up to the classes left
+pub record IsJudgedBefore (r : RoutesValue) (cs : List RouteClass) (n : ℕ) (pairs : List PairValue) (left : List RouteClass) (rest : List PairValue) : Type 0 where
+  pub order : AreSpotsOf r (spots_of left n)
+  pub judged : IsJudged r pairs (spots_of cs n) rest (spots_of left n)
+
+module _ (r : RoutesValue) (cs : List RouteClass) (n : ℕ) (pairs : List PairValue) where
+  pub first_class : AreRouteClasses r cs → ((era : ℕ) → (era < n) ↔ HasEra r era) → IsJudgedBefore r cs n pairs cs pairs
+  first_class are count = record { order = spots_are r cs n are count; judged = nothing_judged r pairs (spots_of cs n) }
+
+  there : (k : ℕ) (c : RouteClass) → k < length cs → c ≡ get_or cs k c → (rest : List PairValue) → IsJudgedBefore r cs n pairs (drop k cs) rest → IsJudgedBefore r cs n pairs (c ∷ drop (k + 1) cs) rest
+  there k c low is rest so_far = subst (λ left. IsJudgedBefore r cs n pairs left rest) (next cs k c low is) so_far
+
+  pub next_class : (k : ℕ) (c : RouteClass) → k < length cs → c ≡ get_or cs k c → (rest last : List PairValue) → IsJudgedBefore r cs n pairs (drop k cs) rest → Leaves r rest (eras_from c 0 n) last → IsJudgedBefore r cs n pairs (drop (k + 1) cs) last
+  next_class k c low is rest last so_far leaves =
+      let later = spots_of (drop (k + 1) cs) n in
+      let at = there k c low is rest so_far in
+      record {
+        order = spots_behind r (eras_from c 0 n) later at.order;
+        judged = further r pairs rest last (spots_of cs n) (eras_from c 0 n ++ later) later at.judged (leaves later at.order);
+      }
+
+  module _ (are : AreRouteClasses r cs) (count : (era : ℕ) → (era < n) ↔ HasEra r era) where
+    told : (fault : PairFault) → IsFirstAt r pairs (spots_of cs n) fault → IsFirstFaultOf r pairs fault
+    told fault h = (h.0, blocks_of_spots r cs n h.0 are count h.1, h.2)
+
+    pub class_stops : (k : ℕ) (c : RouteClass) → k < length cs → c ≡ get_or cs k c → (rest : List PairValue) → IsJudgedBefore r cs n pairs (drop k cs) rest → (fault : CheckFault) → Stops r rest (eras_from c 0 n) fault → IsTold r pairs fault
+    class_stops k c low is rest so_far (Pair fault) stops =
+        let later = spots_of (drop (k + 1) cs) n in
+        let at = there k c low is rest so_far in
+        told fault (brought-back r pairs rest (spots_of cs n) (eras_from c 0 n ++ later) fault at.judged (stops later at.order))
+    class_stops k c low is rest so_far Memory stops = tt
+
+    -- no class is left
+    pub all_classes : (rest : List PairValue) → IsJudgedBefore r cs n pairs [] rest → IsFaultless rest [] → IsJustifiedBy r pairs
+    all_classes rest so_far none =
+        let w = so_far.judged [] tt in
+        (w.0, blocks_of_spots r cs n w.0 are count w.1, λ s i. w.2 s i ∙ none s i)
+
+    pub end_stops : (rest : List PairValue) → IsJudgedBefore r cs n pairs [] rest → (fault : PairFault) → IsFirstFault rest [] fault → IsFirstFaultOf r pairs fault
+    end_stops rest so_far fault first = told fault (brought-back r pairs rest (spots_of cs n) [] fault so_far.judged ([], tt, first))
+
+-- the class at a place of the list
+pub class_at : (r : RoutesValue) (cs : List RouteClass) → AreRouteClasses r cs → (k : ℕ) (c : RouteClass) → k < length cs → c ≡ get_or cs k c → IsRouteClass r c
+class_at r cs are k c low is = subst (IsRouteClass r) (sym is) (are.only k c low)
+
+-- no class is left behind the last
+pub past_classes : (r : RoutesValue) (cs : List RouteClass) (n : ℕ) (pairs : List PairValue) (k : ℕ) → length cs ≤ k → (rest : List PairValue) → IsJudgedBefore r cs n pairs (drop k cs) rest → IsJudgedBefore r cs n pairs [] rest
+past_classes r cs n pairs k high rest so_far = subst (λ left. IsJudgedBefore r cs n pairs left rest) (drop_all k cs high) so_far

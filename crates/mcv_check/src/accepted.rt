@@ -1,0 +1,67 @@
+//! Routes with a justified certificate.
+
+ghost use Rattle.std.specs.Prelude.{◌≡◌, IfErr, IfOk};
+ghost use Rattle.mcv_blocks.specs.Blocks.{IsJustifiedBy};
+ghost use Rattle.mcv_check.specs.Fault.{IsTold};
+ghost use Rattle.mcv_check.specs.declared.fault.CheckFault.TheVariants.{Memory as OutOfMemory};
+
+use crate::fault::CheckFault;
+use crate::judging::judge_routes;
+use mcv_blocks::{justified_is_covered, one_list_of_blocks};
+use mcv_cert::Certificate;
+use mcv_route::Routes;
+use std::alloc::Global;
+use std::marker::Model;
+
+/// Routes for which a justified certificate was seen: they are covered. Clauses see the routes.
+#[derive(Drop)]
+pub struct Accepted {
+    routes: Routes,
+}
+
+impl Model for Accepted {
+    ghost use Rattle.mcv_route.specs.Codes.{routes_code};
+    ghost use Rattle.mcv_route.specs.Routes.{RoutesValue};
+    ghost use Rattle.mcv_symbolic.specs.Covered.{AreCovered};
+
+    ghost Value = { RoutesValue };
+
+    ghost coded = { routes_code };
+
+    ghost view = { λ a. a.routes };
+
+    ghost invariant = { λ a. AreCovered a.routes };
+}
+
+impl Accepted {
+    ghost use Rattle.mcv_symbolic.specs.Covered.{AreCovered};
+
+    /// The routes. They are covered at every rest, in every era.
+    pub fn routes(&self) -> &Routes
+        ensures value { result.now ≡ self.now }
+        ensures covered { AreCovered self.now }
+    {
+        &self.routes
+    }
+}
+
+/// Judges the certificate against the routes: accepts it just where it is justified, or else tells the first fault that
+/// stands in it.
+///
+/// An error drops the routes. `Memory` may come for any certificate.
+pub fn check(
+    alloc: Global,
+    routes: Routes,
+    certificate: &Certificate,
+) -> Result<Accepted, CheckFault>
+    ensures accepted { IfOk result (λ a. (a ≡ routes) × IsJustifiedBy routes certificate.now) }
+    ensures fault { IfErr result (IsTold routes certificate.now) }
+    ensures justified { IsJustifiedBy routes certificate.now → IfErr result (λ f. f ≡ OutOfMemory) }
+{
+    one_list_of_blocks();
+    justified_is_covered();
+    // Routes are sound.
+    let _servers = routes.servers();
+    judge_routes(alloc, &routes, certificate.pairs())?;
+    Ok(Accepted { routes })
+}

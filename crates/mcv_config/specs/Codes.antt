@@ -1,0 +1,131 @@
+-- That a plan can be told from another, by which values that hold one may stand in clauses. It says nothing of what a plan means.
+use Rattle.std.specs.Prelude.{◌≡◌, ℕ, ◌==◌, List, [], Option, if◌then◌else◌, refl}
+use Rattle.std.specs.Coded.{Coded, code_by, coded×, coded_ℕ, coded_list, coded_option}
+use Rattle.std.proofs.Common.{ap}
+use Rattle.mcv_base.specs.declared.operation.Op.{Op}
+use Rattle.mcv_base.specs.contracts.operation.Op.{the_row}
+use Rattle.mcv_pools.specs.declared.symbol.HashFunc.{HashFunc}
+use Rattle.mcv_pools.specs.declared.symbol.HashFunc.TheVariants.{Ch3}
+use Rattle.mcv_pools.specs.contracts.symbol.HashFunc.{the_row as hash_row}
+use Rattle.mcv_config.specs.Labels.{Node, Nodes, node, no_node, beside, node_code}
+use Rattle.mcv_config.specs.Plan.{EntryPlan, Named, Nameds, Plan, Range, pool, server, null, error, all_sync, all_initial, all_async, failover, miss_failover, warm_up, migrate, prefix_selector, operation_selector, no_named, named}
+
+-- what a handle is, but for its children
+pub record Label : Type 0 where
+  pub kind : ℕ
+  pub first : ℕ
+  pub second : ℕ
+  pub func : HashFunc
+  pub salt : List ℕ
+  pub ranges : List Range
+  pub prefixes : List (List ℕ)
+  pub operations : List (Option Op)
+
+-- a handle with two numbers and nothing else
+abbrev pub numbered : ℕ → ℕ → ℕ → Label
+numbered kind first second = record { kind = kind; first = first; second = second; func = Ch3; salt = []; ranges = []; prefixes = []; operations = [] }
+
+abbrev pub plain : ℕ → Label
+plain kind = numbered kind 0 0
+
+abbrev mutual
+  pub node_of : Named → Node Label
+  node_of (pool i func salt ranges targets) = node (record { kind = 0; first = i; second = 0; func = func; salt = salt; ranges = ranges; prefixes = []; operations = [] }) (nodes_of targets)
+  node_of null = node (plain 1) no_node
+  node_of error = node (plain 2) no_node
+  node_of (all_sync ts) = node (plain 3) (nodes_of ts)
+  node_of (all_initial ts) = node (plain 4) (nodes_of ts)
+  node_of (all_async ts) = node (plain 5) (nodes_of ts)
+  node_of (failover ts) = node (plain 6) (nodes_of ts)
+  node_of (miss_failover ts) = node (plain 7) (nodes_of ts)
+  node_of (warm_up cold warm exptime) = node (numbered 8 exptime 0) (beside (node_of cold) (beside (node_of warm) no_node))
+  node_of (migrate from to start interval) = node (numbered 9 start interval) (beside (node_of from) (beside (node_of to) no_node))
+  node_of (prefix_selector prefixes ts) = node (record { kind = 10; first = 0; second = 0; func = Ch3; salt = []; ranges = []; prefixes = prefixes; operations = [] }) (nodes_of ts)
+  node_of (operation_selector ops ts) = node (record { kind = 11; first = 0; second = 0; func = Ch3; salt = []; ranges = []; prefixes = []; operations = ops }) (nodes_of ts)
+  node_of (server i k) = node (numbered 12 i k) no_node
+
+  pub nodes_of : Nameds → Nodes Label
+  nodes_of no_named = no_node
+  nodes_of (named t ts) = beside (node_of t) (nodes_of ts)
+
+abbrev pub first_of : Nameds → Named
+first_of no_named = null
+first_of (named t ts) = t
+
+abbrev pub others_of : Nameds → Nameds
+others_of no_named = no_named
+others_of (named t ts) = ts
+
+abbrev pub named_by : Label → Nameds → Named
+named_by l ts =
+    if l.kind == 0 then pool l.first l.func l.salt l.ranges ts
+    else if l.kind == 1 then null
+    else if l.kind == 2 then error
+    else if l.kind == 3 then all_sync ts
+    else if l.kind == 4 then all_initial ts
+    else if l.kind == 5 then all_async ts
+    else if l.kind == 6 then failover ts
+    else if l.kind == 7 then miss_failover ts
+    else if l.kind == 8 then warm_up (first_of ts) (first_of (others_of ts)) l.first
+    else if l.kind == 9 then migrate (first_of ts) (first_of (others_of ts)) l.first l.second
+    else if l.kind == 10 then prefix_selector l.prefixes ts
+    else if l.kind == 11 then operation_selector l.operations ts
+    else server l.first l.second
+
+abbrev mutual
+  pub named_at : Node Label → Named
+  named_at (node l ns) = named_by l (nameds_at ns)
+
+  pub nameds_at : Nodes Label → Nameds
+  nameds_at no_node = no_named
+  nameds_at (beside n ns) = named (named_at n) (nameds_at ns)
+
+mutual
+  pub named_at-node_of : (t : Named) → named_at (node_of t) ≡ t
+  named_at-node_of (pool i func salt ranges targets) = ap (pool i func salt ranges) (nameds_at-nodes_of targets)
+  named_at-node_of (server i k) = refl
+  named_at-node_of null = refl
+  named_at-node_of error = refl
+  named_at-node_of (all_sync ts) = ap all_sync (nameds_at-nodes_of ts)
+  named_at-node_of (all_initial ts) = ap all_initial (nameds_at-nodes_of ts)
+  named_at-node_of (all_async ts) = ap all_async (nameds_at-nodes_of ts)
+  named_at-node_of (failover ts) = ap failover (nameds_at-nodes_of ts)
+  named_at-node_of (miss_failover ts) = ap miss_failover (nameds_at-nodes_of ts)
+  named_at-node_of (warm_up cold warm exptime) = λ i. warm_up (named_at-node_of cold i) (named_at-node_of warm i) exptime
+  named_at-node_of (migrate from to start interval) = λ i. migrate (named_at-node_of from i) (named_at-node_of to i) start interval
+  named_at-node_of (prefix_selector prefixes ts) = ap (prefix_selector prefixes) (nameds_at-nodes_of ts)
+  named_at-node_of (operation_selector ops ts) = ap (operation_selector ops) (nameds_at-nodes_of ts)
+
+  pub nameds_at-nodes_of : (ts : Nameds) → nameds_at (nodes_of ts) ≡ ts
+  nameds_at-nodes_of no_named = refl
+  nameds_at-nodes_of (named t ts) = λ i. named (named_at-node_of t i) (nameds_at-nodes_of ts i)
+
+abbrev pub range_code : Coded Range
+range_code = code_by (ℕ × ℕ) (coded× coded_ℕ coded_ℕ) (λ r. (r.first, r.last)) (λ p. record { first = p.0; last = p.1 }) (λ _. refl)
+
+abbrev pub Parts : Type 0
+Parts = (ℕ × (ℕ × ℕ)) × ((HashFunc × (List ℕ × List Range)) × (List (List ℕ) × List (Option Op)))
+
+abbrev pub parts_code : Coded Parts
+parts_code =
+    coded× (coded× coded_ℕ (coded× coded_ℕ coded_ℕ))
+    (coded× (coded× hash_row.coded (coded× (coded_list coded_ℕ) (coded_list range_code))) (coded× (coded_list (coded_list coded_ℕ)) (coded_list (coded_option the_row.coded))))
+
+abbrev pub label_code : Coded Label
+label_code =
+    code_by Parts parts_code (λ l. ((l.kind, (l.first, l.second)), ((l.func, (l.salt, l.ranges)), (l.prefixes, l.operations))))
+    (λ p. record { kind = p.0.0; first = p.0.1.0; second = p.0.1.1; func = p.1.0.0; salt = p.1.0.1.0; ranges = p.1.0.1.1; prefixes = p.1.1.0; operations = p.1.1.1 }) (λ _. refl)
+
+abbrev pub named_code : Coded Named
+named_code = code_by (Node Label) (node_code label_code) node_of named_at named_at-node_of
+
+abbrev pub entry_code : Coded EntryPlan
+entry_code =
+    code_by (List (List ℕ) × Named) (coded× (coded_list (coded_list coded_ℕ)) named_code) (λ e. (e.aliases, e.route))
+    (λ p. record { aliases = p.0; route = p.1 }) (λ _. refl)
+
+abbrev pub plan_code : Coded Plan
+plan_code =
+    code_by (List (List ℕ) × (List (List ℕ) × List EntryPlan))
+    (coded× (coded_list (coded_list coded_ℕ)) (coded× (coded_list (coded_list coded_ℕ)) (coded_list entry_code)))
+    (λ p. (p.servers, (p.pools, p.entries))) (λ p. record { servers = p.0; pools = p.1.0; entries = p.1.1 }) (λ _. refl)

@@ -1,0 +1,77 @@
+-- What the first bytes of an input say of all of it.
+use Rattle.std.proofs.Common.{◌≡◌, ◌∙◌, ℕ, zero, suc, ◌+◌, ◌<◌, ◌≤◌, ◌⊎◌, inl, inr, List, [], ◌∷◌, ◌++◌, length, take, Option, Some, None, Result, Ok, Err, IfSome, IfErr, refl, sym, ap, ap₂, subst, arith}
+use Rattle.std.proofs.lemmas.Bool.{cases_lt}
+use Rattle.std.specs.Option.{option_map}
+use Rattle.std.specs.Io.Take.{take_limit, take_inner, take_remaining}
+use Rattle.std.specs.declared.io.traits.Take.{Take}
+use Rattle.mcv_names.specs.declared.fault.ConfigFault.{ConfigFault}
+use Rattle.mcv_names.specs.declared.fault.ConfigFault.TheVariants as config_faults
+use Rattle.mcv_config.specs.Config.{size_limit}
+use Rattle.mcv_route.specs.Routes.{RoutesValue}
+use Rattle.mcv_input.specs.declared.fault.InputFault.{InputFault}
+use Rattle.mcv_input.specs.declared.fault.InputFault.TheVariants.{Config, Memory, Device}
+use Rattle.mcv_input.specs.Fault.{AreNamedBy, IsConfigFault, IsInputFault, IsRefusal, IsTooLong, SaysTooLong}
+
+-- ---- reading through a limit
+
+known_first : (n : ℕ) (start items : List ℕ) (known : Option (List ℕ)) → start ≡ [] → IfSome (option_map (take n) known) (λ xs. items ≡ start ++ xs)
+    → IfSome known (λ bytes. items ≡ take n bytes)
+known_first n start items None none h = h
+known_first n start items (Some bytes) none h = h ∙ ap (λ (xs : List ℕ). xs ++ take n bytes) none
+
+-- what is read through a limit into an empty list is the first bytes of what there is
+pub limited_first : {T : Type 0} (remaining : T → Option (List ℕ)) (t : Take T) (known : Option (List ℕ)) (n : ℕ) (start items : List ℕ) → take_limit t ≡ n
+    → remaining (take_inner t) ≡ known → start ≡ [] → IfSome (take_remaining remaining t) (λ xs. items ≡ start ++ xs) → IfSome known (λ bytes. items ≡ take n bytes)
+limited_first remaining t known n start items limit_is known_is none h =
+    subst (λ (k : Option (List ℕ)). IfSome k (λ bytes. items ≡ take n bytes)) known_is
+    (subst (λ (m : ℕ). IfSome (remaining (take_inner t)) (λ bytes. items ≡ take m bytes)) limit_is
+    (known_first (take_limit t) start items (remaining (take_inner t)) none h))
+
+-- a list that a limit doesn't reach is whole
+pub whole : (n : ℕ) (xs : List ℕ) → length (take n xs) < n → take n xs ≡ xs
+whole zero xs lt = absurd (let h : ⊥ = omega arith in h)
+whole (suc n) [] lt = refl
+whole (suc n) (x ∷ xs) lt = ap (λ (ys : List ℕ). x ∷ ys) (whole n xs (omega arith))
+
+-- a list is no shorter than its first elements
+longer : (n : ℕ) (xs : List ℕ) → length (take n xs) ≤ length xs
+longer zero xs = omega arith
+longer (suc n) [] = omega arith
+longer (suc n) (x ∷ xs) = let h = longer n xs in omega arith
+
+-- ---- a configuration that is read up to one byte more than it may have
+
+abbrev pub read_limit : ℕ
+read_limit = size_limit + 1
+
+read_whole : (bytes : List ℕ) → length (take read_limit bytes) ≤ size_limit → take read_limit bytes ≡ bytes
+read_whole bytes short = whole read_limit bytes (omega arith)
+
+pub named_by_all : (bytes : List ℕ) (routes : RoutesValue) → AreNamedBy (take read_limit bytes) routes → AreNamedBy bytes routes
+named_by_all bytes routes named = subst (λ (text : List ℕ). AreNamedBy text routes) (read_whole bytes named.1.0) named
+
+-- a fault that says so stands in a text that is too long
+pub too_long_stands : (bytes : List ℕ) (fault : ConfigFault) → size_limit < length bytes → SaysTooLong fault → IsConfigFault bytes fault
+too_long_stands bytes config_faults.Memory long is = absurd is
+too_long_stands bytes (config_faults.At kind path) long is = inl (long, ap₂ (λ k (p : List ℕ). record { kind = k; path = p }) is.0 is.1)
+
+config_fault_of_all : (bytes : List ℕ) (fault : ConfigFault) → IsConfigFault (take read_limit bytes) fault → (size_limit < length (take read_limit bytes) → SaysTooLong fault)
+    → (size_limit < length (take read_limit bytes)) ⊎ (length (take read_limit bytes) ≤ size_limit) → IsConfigFault bytes fault
+config_fault_of_all bytes fault is large (inr short) = subst (λ (text : List ℕ). IsConfigFault text fault) (read_whole bytes short) is
+config_fault_of_all bytes fault is large (inl long) =
+    let more = longer read_limit bytes in
+    too_long_stands bytes fault (omega arith) (large long)
+
+pub fault_of_all : (bytes : List ℕ) (fault : InputFault) → IsRefusal (take read_limit bytes) fault → (size_limit < length (take read_limit bytes) → IsTooLong fault)
+    → IsInputFault bytes fault
+fault_of_all bytes (Config fault) is large = config_fault_of_all bytes fault is large (cases_lt size_limit (length (take read_limit bytes)))
+fault_of_all bytes Memory is large = tt
+fault_of_all bytes Device is large = tt
+
+-- what was read is the first bytes of what there is, where that is known; and a fault that stands in what was read stands in it
+pub fault_of_known : {X : Type 0} (known : Option (List ℕ)) (text : List ℕ) (r : Result X InputFault) → IfSome known (λ bytes. text ≡ take read_limit bytes)
+    → IfErr r (IsRefusal text) → (size_limit < length text → IfErr r IsTooLong) → IfErr r (λ fault. IfSome known (λ bytes. IsInputFault bytes fault))
+fault_of_known known text (Ok x) read is large = tt
+fault_of_known None text (Err fault) read is large = tt
+fault_of_known (Some bytes) text (Err fault) read is large =
+    fault_of_all bytes fault (subst (λ (xs : List ℕ). IsRefusal xs fault) read is) (λ long. large (subst (λ (xs : List ℕ). size_limit < length xs) (sym read) long))

@@ -1,0 +1,52 @@
+//! The routes that a configuration names.
+
+ghost use Rattle.std.specs.Prelude.{◌<◌, length, IfSome, IfOk, IfErr};
+ghost use Rattle.mcv_config.specs.Config.{size_limit};
+ghost use Rattle.mcv_input.specs.Fault.{AreNamedBy, IsInputFault, IsRefusal, IsTooLong};
+
+use crate::device::read_at_most;
+use crate::fault::InputFault;
+use mcv_config::{ConfigFault, FaultKind, SIZE_LIMIT, read_config};
+use mcv_route::Routes;
+use std::alloc::Global;
+use std::io::Read;
+
+/// The most bytes that are read of a configuration: one more than it may have.
+const READ_LIMIT: u64 = (SIZE_LIMIT + 1) as u64;
+
+/// The fault of a configuration that is longer than any may be.
+fn too_long(alloc: Global) -> InputFault
+    ensures { IsTooLong result }
+{
+    match String::from_str(alloc, ".") {
+        Ok(path) => InputFault::Config(ConfigFault::At {
+            kind: FaultKind::Limit,
+            path,
+        }),
+        Err(_) => InputFault::Memory,
+    }
+}
+
+/// The routes that a configuration names. One that is too long may have been cut by the reader, so nothing else of it
+/// is judged.
+pub fn read_routes(alloc: Global, configuration: &[u8]) -> Result<Routes, InputFault>
+    ensures named { IfOk result (AreNamedBy configuration.now) }
+    ensures fault { IfErr result (IsRefusal configuration.now) }
+    ensures large { size_limit < length configuration.now → IfErr result IsTooLong }
+{
+    if configuration.len() > SIZE_LIMIT {
+        return Err(too_long(alloc));
+    }
+    let config = read_config(alloc, configuration)?;
+    Ok(Routes::build(alloc, config)?)
+}
+
+/// The routes that the configuration names which is all that the reader has left. No more is read than can matter,
+/// so bytes may be left behind one that is too long.
+pub fn read_configuration<R: Read>(alloc: Global, reader: &mut R) -> Result<Routes, InputFault>
+    ensures named { IfOk result (λ routes. IfSome (R.remaining reader.old) (λ input. AreNamedBy input routes)) }
+    ensures fault { IfErr result (λ fault. IfSome (R.remaining reader.old) (λ input. IsInputFault input fault)) }
+{
+    let input = read_at_most(alloc, reader, READ_LIMIT)?;
+    read_routes(alloc, input.as_slice())
+}

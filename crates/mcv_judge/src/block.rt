@@ -1,0 +1,27 @@
+//! What a route has for one class and era. What it stands for: `block_of` of specs/InMemory.antt.
+
+use mcv_base::{Position, ServerId};
+
+/// A leg at its place.
+#[derive(Clone, Copy)]
+pub struct Leg<'a> {
+    pub position: &'a Position,
+    /// The number of its symbol.
+    pub symbol: usize,
+    /// Its servers, one for each index of the symbol.
+    pub servers: &'a [ServerId],
+}
+
+/// What a route has for the rests of a class, in an era.
+#[derive(Clone, Copy)]
+pub struct Block<'a> {
+    pub route: usize,
+    /// The class word.
+    pub class: &'a [u8],
+    pub era: usize,
+    /// The legs from which a get or gets can be answered, in the order of their positions.
+    pub readable: &'a [Leg<'a>],
+    /// The legs that every acknowledged delete has sent, in the order of their positions.
+    pub acknowledged: &'a [Leg<'a>],
+    pub can_be_acknowledged: bool,
+}

@@ -1,0 +1,125 @@
+//! Certificates beside one block. Gets go to the leaf 1 with the servers 7 and 8 by its hash; each acknowledged delete
+//! has been sent to the legs 0.0 to 0.3.
+
+ghost use Rattle.std.specs.Prelude.{◌<◌, length, All};
+ghost use Rattle.mcv_judge.specs.Faults.{AreLegsRising};
+ghost use Rattle.mcv_judge.specs.InMemory.{legs_of};
+
+use mcv_base::{Position, ServerId};
+use mcv_cert::{Certificate, read_certificate};
+use mcv_judge::{Block, Leg, judge};
+use std::alloc::{AllocError, Global};
+use std::test::Fail;
+
+/// The number of the first fault of a certificate, 0 where none stands in it.
+fn number_told<'a>(
+    class: &'a [u8],
+    readable: &'a [Leg<'a>],
+    acknowledged: &'a [Leg<'a>],
+    certificate: &Certificate,
+) -> u8
+    requires readable { AreLegsRising (legs_of readable.now) }
+    requires indexed { All (λ l. 0 < length l.servers) (legs_of readable.now) }
+    requires acknowledged { AreLegsRising (legs_of acknowledged.now) }
+{
+    let blocks = [Block {
+        route: 0,
+        class,
+        era: 0,
+        readable,
+        acknowledged,
+        can_be_acknowledged: true,
+    }];
+    match judge(&blocks, certificate.pairs()) {
+        Ok(()) => 0,
+        Err(fault) => fault.number(),
+    }
+}
+
+/// What is told of the certificate with this text.
+fn text_judged(alloc: Global, text: &[u8]) -> Result<u8, Fail> {
+    let certificate = read_certificate(alloc, text)?;
+    let leaf = Position::at(alloc, &[1])?;
+    let first = Position::at(alloc, &[0, 0])?;
+    let second = Position::at(alloc, &[0, 1])?;
+    let third = Position::at(alloc, &[0, 2])?;
+    let fourth = Position::at(alloc, &[0, 3])?;
+    let both = [ServerId(7), ServerId(8)];
+    let others = [ServerId(7), ServerId(9)];
+    let seven = [ServerId(7)];
+    let eight = [ServerId(8)];
+    let readable = [Leg {
+        position: &leaf,
+        symbol: 0,
+        servers: &both,
+    }];
+    let acknowledged = [
+        Leg {
+            position: &first,
+            symbol: 1,
+            servers: &seven,
+        },
+        Leg {
+            position: &second,
+            symbol: 1,
+            servers: &eight,
+        },
+        Leg {
+            position: &third,
+            symbol: 0,
+            servers: &others,
+        },
+        Leg {
+            position: &fourth,
+            symbol: 0,
+            servers: &both,
+        },
+    ];
+    Ok(number_told(b"", &readable, &acknowledged, &certificate))
+}
+
+/// The text of a certificate with the pairs of a row, each ended by a `^`.
+fn certificate_of(alloc: Global, row: &str) -> Result<Vec<u8>, AllocError> {
+    let mut text = Vec::new(alloc);
+    text.extend_from_slice(b"mcv-cert 1\n")?;
+    for byte in row.as_bytes() {
+        text.push(if *byte == b'^' { b'\n' } else { *byte })?;
+    }
+    text.extend_from_slice(b"end\n")?;
+    Ok(text)
+}
+
+/// Pairs with the number of the first fault.
+const ROWS: &str = "0 = 0 1 all 0 0.0^0 = 0 1 all 1 0.1^|0
+0 = 0 1 same 0 0.2^0 = 0 1 all 1 0.1^|0
+0 = 0 1 twin 0.3^|0
+|1
+0 = 0 1 all 0 0.0^|1
+0 = 0 1 all 1 0.4^|1
+0 =a 0 1 never^|1
+0 = 0 0 never^0 = 0 1 never^|2
+0 = 0 1 all 0 0.0^0 = 0 1 all 1 0.1^0 = 0 1 same 2 0.2^|2
+0 = 0 1 twin 0.3^0 = 0 1 same 1 0.3^|2
+0 = 0 1 twin 0.3^1 = 0 1 never^|2
+0 = 0 1 twin 0.4^|3
+0 = 0 1 all 0 0.1 0.4^|3
+0 = 0 1 all 0 0.1^0 = 0 1 same 1 0.4^|4
+0 = 0 1 all 0 0.0 0.0^|4
+0 = 0 1 all 0 0.0^0 = 0 1 same 1 0.2^|4
+0 = 0 1 twin 0.2^|4
+0 = 0 1 never^|5";
+
+#[test]
+fn the_first_fault_is_told(rt: HostRuntime) -> Result<(), Fail> {
+    let alloc = rt.alloc();
+    for row in ROWS.lines() {
+        let Some((pairs, expected)) = row.split_once('|') else {
+            return Ok(assert!(rt; false, "{row}"));
+        };
+        let text = certificate_of(alloc, pairs)?;
+        let number = text_judged(alloc, text.as_slice())?;
+        let told = format!(in alloc; "{number}")?;
+        assert!(rt; told.as_str() == expected, "{row}");
+    }
+    Ok(())
+}

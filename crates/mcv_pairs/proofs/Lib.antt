@@ -1,0 +1,4 @@
+pub mod Added
+pub mod One
+pub mod Picked
+pub mod Reasoned

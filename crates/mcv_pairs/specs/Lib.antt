@@ -1,0 +1,3 @@
+pub mod Adds
+pub mod Gaps
+pub mod Reasons

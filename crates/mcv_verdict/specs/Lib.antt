@@ -1,0 +1,3 @@
+pub mod Text
+pub mod Verdict
+pub mod Fault

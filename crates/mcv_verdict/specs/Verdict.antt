@@ -1,0 +1,45 @@
+-- Which verdict there is on a configuration, and what is written of it.
+use Rattle.std.specs.Prelude.{◌≡◌, ℕ, List, ◌++◌, Option, Some, None, length, slice_get}
+use Rattle.mcv_cert.specs.Pair.{PairValue, Place}
+use Rattle.mcv_cert.specs.Reading.{Says, pairs}
+use Rattle.mcv_cert.specs.Text.{certificate_text}
+use Rattle.mcv_route.specs.Routes.{RoutesValue}
+use Rattle.mcv_symbolic.specs.Covered.{AreCovered}
+use Rattle.mcv_blocks.specs.Blocks.{IsJustifiedBy}
+use Rattle.mcv_make.specs.Gap.{IsFirstGap}
+use Rattle.mcv_input.specs.Fault.{AreNamedBy}
+use Rattle.mcv_verdict.specs.declared.verdict.Verdict.{Verdict}
+use Rattle.mcv_verdict.specs.declared.verdict.Verdict.TheVariants.{Covered, Lost}
+use Rattle.mcv_verdict.specs.Text.{covered_line, lost_text}
+
+-- each acknowledged delete was sent to every server that can be read, and a certificate with these pairs says why
+pub record AreCoveredBy (r : RoutesValue) (ps : List PairValue) : Type 0 where
+  pub covered : AreCovered r
+  pub justified : IsJustifiedBy r ps
+
+-- some acknowledged delete wasn't sent to a server that can be read: the leaf at the place has this server at some index, and that is the first gap
+pub record IsLossAt (r : RoutesValue) (place : Place) (server : List ℕ) : Type 0 where
+  pub uncovered : ¬ AreCovered r
+  pub at : ℕ
+  pub number : ℕ
+  pub first : IsFirstGap r place at number
+  pub named : slice_get r.servers number ≡ Some server
+
+-- where no certificate is given: the routes are covered, and the number of pairs of a certificate is written, and then the certificate; or they aren't, and the first place at which a delete can be lost is written
+abbrev pub IsVerdict : RoutesValue → Verdict → (text : List ℕ) → Type 0
+IsVerdict r (Covered n) text = (ps : List PairValue) × AreCoveredBy r ps × (n ≡ length ps) × (text ≡ covered_line n ++ certificate_text ps)
+IsVerdict r Lost text = (place : Place) × (server : List ℕ) × IsLossAt r place server × (text ≡ lost_text server place)
+
+-- where a certificate's text is given: it says pairs by which the routes are covered, and their number is written
+abbrev pub IsVerdictBy : RoutesValue → (certificate : List ℕ) → Verdict → (text : List ℕ) → Type 0
+IsVerdictBy r certificate (Covered n) text = (ps : List PairValue) × Says certificate (pairs ps) × AreCoveredBy r ps × (n ≡ length ps) × (text ≡ covered_line n)
+IsVerdictBy r certificate Lost text = ⊥
+
+-- by the certificate's text that is given, or by none
+abbrev pub IsVerdictFor : RoutesValue → (certificate : Option (List ℕ)) → Verdict → (text : List ℕ) → Type 0
+IsVerdictFor r None verdict text = IsVerdict r verdict text
+IsVerdictFor r (Some certificate) verdict text = IsVerdictBy r certificate verdict text
+
+-- the input is a configuration that names routes, and this is the verdict on them
+abbrev pub IsVerdictOn : (input : List ℕ) → (certificate : Option (List ℕ)) → Verdict → (text : List ℕ) → Type 0
+IsVerdictOn input certificate verdict text = (r : RoutesValue) × AreNamedBy input r × IsVerdictFor r certificate verdict text

@@ -1,0 +1,15 @@
+//! A configuration in, the verdict on it out: whether each delete that is acknowledged was sent to every server that
+//! can be read.
+//!
+//! `run_check` is the path from the bytes read to the bytes written. Which verdict there is on routes, and its text,
+//! stands in `specs/Verdict.antt`; which fault stands in what was read, in `specs/Fault.antt`.
+#![tactic(auto)]
+
+mod fault;
+mod run;
+mod text;
+mod verdict;
+
+pub use fault::RunFault;
+pub use run::run_check;
+pub use verdict::Verdict;

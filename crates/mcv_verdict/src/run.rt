@@ -1,0 +1,144 @@
+//! The path from the bytes read to the bytes written.
+
+ghost use Rattle.std.specs.Prelude.{◌≡◌, ◌≢◌, ◌<◌, ◌++◌, ℕ, List, length, option_map, slice_get, Some, IfSome, IfOk, IfErr};
+ghost use Rattle.std.specs.Io.KnownBytes.{Appends};
+ghost use Rattle.mcv_cert.specs.Text.{certificate_text};
+ghost use Rattle.mcv_make.specs.Gap.{IsFirstGap, place_of_finding};
+ghost use Rattle.mcv_symbolic.specs.Covered.{AreCovered};
+ghost use Rattle.mcv_verdict.specs.Fault.{IsRefusedBy, IsRefusedFor, IsRunFault};
+ghost use Rattle.mcv_verdict.specs.Text.{covered_line};
+ghost use Rattle.mcv_verdict.specs.Verdict.{IsVerdict, IsVerdictBy, IsVerdictFor, IsVerdictOn};
+
+use crate::fault::RunFault;
+use crate::text::{covered_line, lost_text};
+use crate::verdict::Verdict;
+use mcv_base::ServerId;
+use mcv_cert::{Certificate, read_certificate};
+use mcv_check::{Accepted, check};
+use mcv_input::{read_configuration, write_text};
+use mcv_make::{Finding, MakeFault, make};
+use mcv_pools::Servers;
+use mcv_route::Routes;
+use std::alloc::{AllocError, Global};
+use std::io::{Read, Write};
+
+/// A verdict, and the text that tells it.
+#[derive(Drop)]
+struct Told {
+    verdict: Verdict,
+    text: Vec<u8>,
+}
+
+/// Reads a configuration and writes the verdict on it. Where no certificate's text is given, one is made and checked,
+/// and written behind the verdict; else that one is checked. The configuration is judged first, then the certificate's
+/// text, then the certificate. Where one of them is at fault, nothing is written. The reader may be left with bytes
+/// behind a configuration that is too long.
+pub fn run_check<R: Read, W: Write>(
+    alloc: Global,
+    reader: &mut R,
+    writer: &mut W,
+    certificate: Option<&[u8]>,
+) -> Result<Verdict, RunFault>
+    ensures ok { IfOk result (λ verdict. (text : List ℕ)
+        × IfSome (R.remaining reader.old) (λ input. IsVerdictOn input (option_map (λ given. given.now) certificate.entry) verdict text)
+        × Appends (W.contents writer.old) (W.contents writer.new) text) }
+    ensures fault { IfErr result (λ fault.
+        IfSome (R.remaining reader.old) (λ input. IsRunFault input (option_map (λ given. given.now) certificate.entry) fault)) }
+    ensures silent { IfErr result (λ fault. fault ≢ RunFault.Device → W.contents writer.new ≡ W.contents writer.old) }
+{
+    let routes = read_configuration(alloc, reader)?;
+    let told = verdict_for(alloc, routes, certificate)?;
+    write_text(writer, told.text.as_slice())?;
+    Ok(told.verdict)
+}
+
+/// The verdict on routes, by the certificate whose text is given, or else by one made here.
+fn verdict_for(alloc: Global, routes: Routes, certificate: Option<&[u8]>) -> Result<Told, RunFault>
+    ensures told { IfOk result (λ told. IsVerdictFor routes (option_map (λ given. given.now) certificate.entry) told.verdict told.text.items) }
+    ensures fault { IfErr result (λ fault. IsRefusedFor routes (option_map (λ given. given.now) certificate.entry) fault) }
+{
+    match certificate {
+        None => verdict_on(alloc, routes),
+        Some(text) => verdict_by(alloc, routes, text),
+    }
+}
+
+/// The verdict on routes, by a certificate made here. Who made it isn't trusted: it is checked like any other.
+fn verdict_on(alloc: Global, routes: Routes) -> Result<Told, RunFault>
+    ensures told { IfOk result (λ told. IsVerdict routes told.verdict told.text.items) }
+    ensures fault { IfErr result (λ fault. fault ≡ RunFault.Memory) }
+{
+    match make(alloc, &routes) {
+        Ok(certificate) => {
+            let accepted = check(alloc, routes, &certificate)?;
+            Ok(covered_with(alloc, &accepted, &certificate)?)
+        }
+        Err(MakeFault::Lost(finding)) => Ok(lost(alloc, &routes, &finding)?),
+        Err(MakeFault::Memory) => Err(RunFault::Memory),
+    }
+}
+
+/// The verdict on routes, by the certificate that the text says.
+fn verdict_by(alloc: Global, routes: Routes, text: &[u8]) -> Result<Told, RunFault>
+    ensures told { IfOk result (λ told. IsVerdictBy routes text.now told.verdict told.text.items) }
+    ensures fault { IfErr result (λ fault. IsRefusedBy routes text.now fault) }
+{
+    let certificate = read_certificate(alloc, text)?;
+    let accepted = check(alloc, routes, &certificate)?;
+    Ok(covered(alloc, &accepted, &certificate)?)
+}
+
+/// That a certificate covers routes. Only what the checker accepted is said to be covered.
+fn covered(
+    alloc: Global,
+    accepted: &Accepted,
+    certificate: &Certificate,
+) -> Result<Told, AllocError>
+    ensures covered { AreCovered accepted.now }
+    ensures verdict { IfOk result (λ told. told.verdict ≡ Verdict.Covered (length certificate.now)) }
+    ensures text { IfOk result (λ told. told.text.items ≡ covered_line (length certificate.now)) }
+{
+    let _ = accepted.routes();
+    let pairs = certificate.len();
+    Ok(Told {
+        verdict: Verdict::Covered(pairs as u64),
+        text: covered_line(alloc, pairs)?,
+    })
+}
+
+/// That a certificate covers routes, and behind it the certificate.
+fn covered_with(
+    alloc: Global,
+    accepted: &Accepted,
+    certificate: &Certificate,
+) -> Result<Told, AllocError>
+    ensures covered { AreCovered accepted.now }
+    ensures verdict { IfOk result (λ told. told.verdict ≡ Verdict.Covered (length certificate.now)) }
+    ensures text { IfOk result (λ told. told.text.items ≡ covered_line (length certificate.now) ++ certificate_text certificate.now) }
+{
+    let mut told = covered(alloc, accepted, certificate)?;
+    let text = certificate.text(alloc)?;
+    told.text.extend_from_slice(text.as_slice())?;
+    Ok(told)
+}
+
+/// That a delete can be lost, and where.
+fn lost(alloc: Global, routes: &Routes, finding: &Finding) -> Result<Told, AllocError>
+    requires uncovered { ¬ AreCovered routes.now }
+    requires first { IsFirstGap routes.now (place_of_finding finding.now) finding.now.at finding.now.server.0 }
+    ensures { IfOk result (λ told. IsVerdict routes.now told.verdict told.text.items) }
+{
+    let server = server_text(routes.servers(), finding.server);
+    Ok(Told {
+        verdict: Verdict::Lost,
+        text: lost_text(alloc, server, finding)?,
+    })
+}
+
+/// The text of a server of the table.
+fn server_text(servers: &Servers, server: ServerId) -> &str
+    requires { server.0 < length servers.now }
+    ensures { slice_get servers.now server.0 ≡ Some result.now }
+{
+    servers.text(server).unwrap_or("")
+}
