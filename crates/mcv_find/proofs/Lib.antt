@@ -1,0 +1,14 @@
+pub mod Shows
+pub mod Ordered
+pub mod Leading
+pub mod Gathered
+pub mod Missed
+pub mod Reading
+pub mod Chosen
+pub mod Unanswered
+pub mod KeyWord
+pub mod Breaks
+pub mod Finding
+pub mod Under
+pub mod Hitting
+pub mod Gaps
