@@ -1,3 +1,4 @@
-pub mod Gap
-pub mod Made
-pub mod Picked
+pub mod Free
+pub mod Place
+pub mod First
+pub mod Told

@@ -1,14 +1,15 @@
-//! Makes the certificate of covered routes, or tells the first place where a delete can be lost.
+//! A certificate of covered routes, or the first finding that shows how a delete is lost.
 //!
-//! `make` goes from block to block: a block's readable leaves get their pairs, or one of them has an index for which
-//! no reason answers. What such a gap is: specs/Gap.antt. Routes with a gap aren't covered (`gap_is_loss`).
+//! `make` asks `mcv_certify` for the certificate; where that tells a gap, `find` builds the finding of it: a key, the
+//! indexes and the outcomes. Which finding it builds: specs/Told.antt. That it is the first: specs/First.antt.
 #![tactic(auto)]
 
-mod block;
-mod finding;
-mod laws;
+mod fault;
+mod finder;
+mod free;
 mod making;
+mod scene;
 
-pub use finding::{Finding, MakeFault};
-pub use laws::gap_is_loss;
+pub use fault::MakeFault;
+pub use finder::find;
 pub use making::make;

@@ -1,0 +1,141 @@
+//! The finding of a gap.
+
+ghost use Rattle.std.specs.Prelude.{◌≡◌, ◌++◌, ◌<◌, ◌≤◌, All, Some, IfOk, length};
+ghost use Rattle.mcv_classes.specs.Class.{IsMember};
+ghost use Rattle.mcv_classes.specs.Words.{class_words};
+ghost use Rattle.mcv_config.specs.Aliases.{IsAlias, alias_limit};
+ghost use Rattle.mcv_certify.specs.Gap.{IsGap, place_of_gap};
+ghost use Rattle.mcv_route.specs.Places.{route_of_prefix};
+ghost use Rattle.mcv_route.specs.View.{view};
+ghost use Rattle.mcv_symbolic.specs.Covered.{IsRest, sizes_of};
+ghost use Rattle.mcv_witness.specs.Breaks.{BreaksCoverage};
+ghost use Rattle.mcv_witness.specs.Finding.{finding_of};
+ghost use Rattle.mcv_make.specs.Place.{HasMember, StandsAtGap};
+ghost use Rattle.mcv_make.specs.Told.{IsTold, IsToldWith};
+
+use crate::scene::{Reading, Scene};
+use mcv_base::{Prefix, Rest};
+use mcv_blocks::opened;
+use mcv_certify::Gap;
+use mcv_classes::ClassTable;
+use mcv_route::{Route, Routes};
+use mcv_witness::Finding;
+use std::alloc::{AllocError, Global};
+
+/// The member of the class of this word, which has one.
+fn member_of(alloc: Global, route: &Route, word: &[u8]) -> Result<Rest, AllocError>
+    requires { HasMember (class_words (view route.now)) word.now }
+    ensures { IfOk result (λ m. IsMember (class_words (view route.now)) word.now (Some m)) }
+{
+    let table = ClassTable::new(alloc, route)?;
+    let Some(member) = table.member_of(word) else {
+        unreachable!()
+    };
+    Ok(member)
+}
+
+/// The prefix followed by the rest.
+fn key_of(alloc: Global, prefix: &Prefix, rest: &Rest) -> Result<Vec<u8>, AllocError>
+    ensures { IfOk result (λ key. key.items ≡ prefix.now ++ rest.now) }
+{
+    let mut key = Vec::new(alloc);
+    key.extend_from_slice(prefix.as_bytes())?;
+    key.extend_from_slice(rest.as_bytes())?;
+    Ok(key)
+}
+
+/// Each symbol has an index: its number of servers says so.
+fn read_sizes(routes: &Routes)
+    ensures { All (λ n. 0 < n) (sizes_of routes.now) }
+{
+    let symbols = routes.symbols().as_slice();
+    for symbol in symbols {
+        let _servers = symbol.n();
+    }
+}
+
+/// What the type of bytes says of them; nothing here computes.
+fn bytes_fit(bytes: &[u8])
+    ensures { All (λ b. b < 256) bytes.now }
+{
+    let _ = bytes;
+}
+
+/// What the type of a rest says of it; nothing here computes.
+fn rest_fits(rest: &Rest)
+    ensures { IsRest rest.now }
+{
+    bytes_fit(rest.as_bytes());
+}
+
+/// The bytes of a word, in memory of their own.
+fn copied(alloc: Global, word: &[u8]) -> Result<Vec<u8>, AllocError>
+    ensures { IfOk result (λ v. v.items ≡ word.now) }
+{
+    Vec::from_slice(alloc, word)
+}
+
+/// The finding that shows a gap with a key behind the prefix, which selects the gap's route.
+fn find_behind(
+    alloc: Global,
+    routes: &Routes,
+    prefix: &Prefix,
+    gap: &Gap,
+) -> Result<Finding, AllocError>
+    requires gap { IsGap routes.now (place_of_gap gap.now) gap.now.at gap.now.server.0 }
+    requires alias { IsAlias prefix.now }
+    requires short { length prefix.now ≤ alias_limit }
+    requires selects { route_of_prefix prefix.now routes.now.entries ≡ Some gap.now.route }
+    ensures breaks { IfOk result (λ f. BreaksCoverage routes.now (finding_of f)) }
+    ensures stands { IfOk result (λ f. StandsAtGap gap.now (finding_of f)) }
+    ensures told { IfOk result (λ f. IsToldWith routes.now prefix.now (finding_of f)) }
+{
+    // Both say of the routes what the proof wants: they are sound and within the limits, and each symbol has an index.
+    let _servers = routes.servers();
+    read_sizes(routes);
+    let Some(route) = routes.route(gap.route) else {
+        unreachable!()
+    };
+    let Some(leaf) = routes.leaf_at(gap.route, &gap.leaf) else {
+        unreachable!()
+    };
+    let symbols = routes.symbols().as_slice();
+    let rest = member_of(alloc, route, gap.class.as_slice())?;
+    rest_fits(&rest);
+    let scene = Scene {
+        route,
+        rest: &rest,
+        since: opened(routes, gap.era),
+    };
+    let Reading { op, legs: gets } = scene.reading(alloc, &gap.leaf)?;
+    Ok(Finding {
+        route: gap.route,
+        class: copied(alloc, gap.class.as_slice())?,
+        era: gap.era,
+        key: key_of(alloc, prefix, &rest)?,
+        leaf: gap.leaf.copy(alloc)?,
+        at: gap.at,
+        server: gap.server,
+        choice: scene.choice(alloc, symbols, gap.server, leaf.symbol, gap.at)?,
+        op,
+        gets,
+        deletes: scene.deletes(alloc)?,
+    })
+}
+
+/// The finding that shows a gap: the member of its class behind the first routing prefix of its route.
+///
+/// The leaf hits under get, or under gets where get can't read it. Takes time and memory in proportion to the route,
+/// its classes, the symbols and the servers of its legs; of a handle's n children that stand before the leaf, up to
+/// n times n steps.
+pub fn find(alloc: Global, routes: &Routes, gap: &Gap) -> Result<Finding, AllocError>
+    requires gap { IsGap routes.now (place_of_gap gap.now) gap.now.at gap.now.server.0 }
+    ensures breaks { IfOk result (λ f. BreaksCoverage routes.now (finding_of f)) }
+    ensures stands { IfOk result (λ f. StandsAtGap gap.now (finding_of f)) }
+    ensures told { IfOk result (λ f. IsTold routes.now (finding_of f)) }
+{
+    let Some(prefix) = routes.first_alias(gap.route) else {
+        unreachable!()
+    };
+    find_behind(alloc, routes, prefix, gap)
+}

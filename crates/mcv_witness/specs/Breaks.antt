@@ -1,0 +1,73 @@
+-- When a finding breaks coverage: a get can be answered by a server to which an acknowledged delete of the same key was never sent (own).
+use Rattle.std.specs.Prelude.{◌≡◌, ℕ, true, List, Option, Some, map, option_map, slice_get, slice_index}
+use Rattle.std.specs.List.{AllPairs}
+use Rattle.mcv_base.specs.declared.operation.Op.TheVariants.{Delete}
+use Rattle.mcv_base.specs.Key.{IsCut, is_key_word}
+use Rattle.mcv_base.specs.Operation.{is_reading}
+use Rattle.mcv_blocks.specs.Blocks.{IsEraOf}
+use Rattle.mcv_classes.specs.Class.{IsBefore, IsClassWord}
+use Rattle.mcv_classes.specs.Words.{class_words}
+use Rattle.mcv_route.specs.Outcomes.{Choice, History, IsChoice, outcomes}
+use Rattle.mcv_route.specs.Places.{pool_at_position, route_of_prefix}
+use Rattle.mcv_route.specs.Routes.{RoutesValue}
+use Rattle.mcv_route.specs.Situation.{asked}
+use Rattle.mcv_route.specs.Tree.{Pool, Tree}
+use Rattle.mcv_route.specs.Verdict.{IsDone, IsHit, IsReachable, IsSent}
+use Rattle.mcv_symbolic.specs.Covered.{AreCovered, IsRest, sizes_of}
+use Rattle.mcv_witness.specs.Finding.{FindingValue}
+
+-- the finding's route has this tree, its key has this rest, of the route and the class named, and this break opened its era
+pub record StandsAt (r : RoutesValue) (f : FindingValue) (t : Tree) (rest : List ℕ) (since : Option ℕ) : Type 0 where
+  pub prefix : List ℕ
+  pub route : option_map (λ e. e.tree) (slice_get r.entries f.route) ≡ Some t
+  pub word : is_key_word f.key ≡ true
+  pub cut : IsCut f.key prefix rest
+  pub rest_is : IsRest rest
+  pub selects : route_of_prefix prefix r.entries ≡ Some f.route
+  pub class : IsClassWord (class_words t) rest f.class
+  pub era : IsEraOf r f.era since
+
+-- the index that the finding gives each symbol
+abbrev pub chosen : FindingValue → Choice
+chosen f = slice_index f.choice
+
+-- a pool stands at the leaf, and has under the choice the index and the server named
+pub record IsLeafOf (f : FindingValue) (t : Tree) : Type 0 where
+  pub pool : Pool
+  pub stands : pool_at_position t f.leaf ≡ Some pool
+  pub index : chosen f pool.symbol ≡ f.at
+  pub server : slice_get pool.servers f.at ≡ Some f.server
+
+-- outcomes stand in the order of their positions, one for each
+abbrev pub AreRising : History → Type 0
+AreRising es = AllPairs IsBefore (map (λ e. e.0) es)
+
+-- the outcomes of the get can come about, and a hit of the leaf is among its replies
+pub record IsRead (f : FindingValue) (t : Tree) (rest : List ℕ) (since : Option ℕ) : Type 0 where
+  pub reading : is_reading f.op ≡ true
+  pub rising : AreRising f.gets
+  pub reachable : IsReachable t (asked f.op rest since) (chosen f) (outcomes f.gets)
+  pub hit : IsHit t (asked f.op rest since) (outcomes f.gets) f.leaf
+
+-- the outcomes of the delete can come about, it has a reply that isn't an error, and by then it wasn't sent to the server
+pub record IsMissed (f : FindingValue) (t : Tree) (rest : List ℕ) (since : Option ℕ) : Type 0 where
+  pub rising : AreRising f.deletes
+  pub reachable : IsReachable t (asked Delete rest since) (chosen f) (outcomes f.deletes)
+  pub done : IsDone t rest since (outcomes f.deletes)
+  pub unsent : IsSent t rest since (chosen f) (outcomes f.deletes) f.server → ⊥
+
+-- the finding breaks coverage
+pub record BreaksCoverage (r : RoutesValue) (f : FindingValue) : Type 0 where
+  pub tree : Tree
+  pub rest : List ℕ
+  pub since : Option ℕ
+  pub stands : StandsAt r f tree rest since
+  -- each symbol has an index below its number of servers
+  pub choice : IsChoice (sizes_of r) (chosen f)
+  pub leaf : IsLeafOf f tree
+  pub read : IsRead f tree rest since
+  pub missed : IsMissed f tree rest since
+
+-- routes with such a finding aren't covered
+abbrev pub FindingsAreLosses : Type 0
+FindingsAreLosses = (r : RoutesValue) (f : FindingValue) → BreaksCoverage r f → AreCovered r → ⊥

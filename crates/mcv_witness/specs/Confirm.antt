@@ -1,0 +1,55 @@
+-- How the code tells a finding. Nothing but private contracts cites this.
+use Rattle.std.specs.Prelude.{ℕ, suc, Bool, true, false, ◌&&◌, not, List, [], ◌∷◌, Option, Some, None, nat_lt, slice_index}
+use Rattle.std.specs.Cmp.Lexicographic.{slice_cmp}
+use Rattle.std.specs.Ordering.{is_lt, nat_cmp}
+use Rattle.mcv_base.specs.Reply.{is_error}
+use Rattle.mcv_pools.specs.Symbol.{SymbolValue}
+use Rattle.mcv_route.specs.Outcomes.{History}
+use Rattle.mcv_route.specs.Routes.{RoutesValue}
+use Rattle.mcv_route.specs.Tree.{Tree}
+use Rattle.mcv_witness.specs.Breaks.{StandsAt}
+use Rattle.mcv_witness.specs.Finding.{FindingValue}
+use Rattle.mcv_witness.specs.declared.seen.Seen.{Seen}
+use Rattle.mcv_witness.specs.declared.seen.Told.{Told}
+
+-- there is no place as the finding names it
+abbrev pub IsNowhere : RoutesValue → FindingValue → Type 0
+IsNowhere r f = (t : Tree) (rest : List ℕ) (since : Option ℕ) → StandsAt r f t rest since → ⊥
+
+-- ---- tests of what was seen
+
+abbrev pub hit_told : Option Told → Bool
+hit_told None = false
+hit_told (Some x) = x.is_hit
+
+-- a hit of the leaf is among the replies
+abbrev pub hit_seen : Option Seen → Bool
+hit_seen None = false
+hit_seen (Some x) = hit_told x.reply
+
+abbrev pub fine_told : Option Told → Bool
+fine_told None = false
+fine_told (Some x) = not (is_error x.outcome)
+
+-- there is a reply that isn't an error, and no leg was sent to the server
+abbrev pub missed_seen : Option Seen → Bool
+missed_seen None = false
+missed_seen (Some x) = not x.sent && fine_told x.reply
+
+-- ---- rising positions
+
+-- each position comes before the next, the first of which is p
+abbrev pub rising_from : List ℕ → History → Bool
+rising_from p [] = true
+rising_from p (e ∷ es) = is_lt (slice_cmp nat_cmp p e.0) && rising_from e.0 es
+
+abbrev pub are_rising : History → Bool
+are_rising [] = true
+are_rising (e ∷ es) = rising_from e.0 es
+
+-- ---- choices
+
+-- each of the symbols, the first of which has number k, has an index below its number of servers
+abbrev pub has_indexes : List ℕ → ℕ → List SymbolValue → Bool
+has_indexes choice k [] = true
+has_indexes choice k (s ∷ symbols) = nat_lt (slice_index choice k) s.n && has_indexes choice (suc k) symbols

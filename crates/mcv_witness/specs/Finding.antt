@@ -1,0 +1,45 @@
+-- A finding: a key, a get and a delete of it, by which a server can keep what was deleted (own).
+use Rattle.std.specs.Prelude.{ℕ, List, map}
+use Rattle.mcv_base.specs.declared.operation.Op.{Op}
+use Rattle.mcv_route.specs.Outcomes.{History}
+use Rattle.mcv_witness.specs.declared.finding.Finding.{Finding}
+use Rattle.mcv_witness.specs.declared.finding.LegOutcome.{LegOutcome}
+
+pub record FindingValue : Type 0 where
+  -- the number of the route, the word of the class, and the number of the era
+  pub route : ℕ
+  pub class : List ℕ
+  pub era : ℕ
+  -- the key word
+  pub key : List ℕ
+  -- the position of the leaf that is read, its index, and the number of its server there
+  pub leaf : List ℕ
+  pub at : ℕ
+  pub server : ℕ
+  -- the index of each symbol, by the symbol's number
+  pub choice : List ℕ
+  -- how the key is read: get or gets
+  pub op : Op
+  -- what the legs of the get have answered, and those of the delete, each with its position
+  pub gets : History
+  pub deletes : History
+
+-- outcomes as they are kept
+abbrev pub outcomes_of : List LegOutcome → History
+outcomes_of legs = map (λ l. (l.position, l.outcome)) legs
+
+-- the finding that is kept so
+abbrev pub finding_of : Finding → FindingValue
+finding_of f = record {
+  route = f.route;
+  class = f.class.items;
+  era = f.era;
+  key = f.key.items;
+  leaf = f.leaf;
+  at = f.at;
+  server = f.server.0;
+  choice = f.choice;
+  op = f.op;
+  gets = outcomes_of f.gets.items;
+  deletes = outcomes_of f.deletes.items;
+}
