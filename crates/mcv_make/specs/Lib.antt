@@ -1,3 +1,4 @@
-pub mod Gap
-pub mod Made
-pub mod Picked
+pub mod Shown
+pub mod Walks
+pub mod Free
+pub mod Place

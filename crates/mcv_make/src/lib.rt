@@ -1,14 +1,13 @@
-//! Makes the certificate of covered routes, or tells the first place where a delete can be lost.
+//! Findings of gaps: for a place where a delete can be lost, a key, the indexes and the outcomes that show it.
 //!
-//! `make` goes from block to block: a block's readable leaves get their pairs, or one of them has an index for which
-//! no reason answers. What such a gap is: specs/Gap.antt. Routes with a gap aren't covered (`gap_is_loss`).
+//! `find` takes a gap, as `mcv_certify` tells it, and builds the outcomes from the root of the route down to the leaf.
+//! Which ones it builds: specs/Shown.antt, over the plan of what is asked. Which indexes: specs/Free.antt.
 #![tactic(auto)]
 
-mod block;
-mod finding;
-mod laws;
-mod making;
+mod answers;
+mod asking;
+mod finder;
+mod free;
+mod hits;
 
-pub use finding::{Finding, MakeFault};
-pub use laws::gap_is_loss;
-pub use making::make;
+pub use finder::find;

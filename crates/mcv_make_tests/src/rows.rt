@@ -1,36 +1,38 @@
-//! Configurations with their certificates, or with the first place where a delete can be lost.
+//! Configurations that aren't covered, and the text of what shows it.
 
+use mcv_base::Prefix;
 use mcv_config::read_config;
-use mcv_make::{Finding, MakeFault, make};
+use mcv_make::find;
+use mcv_certify::{CertifyFault, certify};
 use mcv_route::Routes;
-use std::alloc::{AllocError, Global};
+use mcv_witness::finding_text;
+use std::alloc::Global;
 use std::process::Abort;
 use std::test::Fail;
 
-/// A configuration and the lines of its certificate, a case a line: a replicated delete over a hashed pool; twins behind a warm-up; deletes that fail over after an error; deletes that are never acknowledged; a migration in its four eras; pools of the same servers; nothing that can be read; a delete that is sent in the background too; two pools that have one server each.
-const COVERED: &str = "\
-{\"pools\":{\"A\":{\"servers\":[\"a:11211\",\"b:11211\"]}},\"route\":{\"type\":\"OperationSelectorRoute\",\"operation_policies\":{\"delete\":\"AllSyncRoute|Pool|A\"},\"default_policy\":\"PoolRoute|A\"}} => mcv-cert 1 / 0 = 0 1 all 0 0.0 / 0 = 0 1 all 1 0.1 / end
-{\"pools\":{\"A\":{\"servers\":[\"a:11211\"]},\"B\":{\"servers\":[\"b:11211\"]}},\"route\":{\"type\":\"OperationSelectorRoute\",\"operation_policies\":{\"delete\":{\"type\":\"AllSyncRoute\",\"children\":[\"PoolRoute|A\",\"PoolRoute|B\"]}},\"default_policy\":{\"type\":\"WarmUpRoute\",\"cold\":\"PoolRoute|A\",\"warm\":\"PoolRoute|B\"}}} => mcv-cert 1 / 0 = 0 1.0 twin 0.0 / 0 = 0 1.1 twin 0.1 / end
-{\"pools\":{\"A\":{\"servers\":[\"a:11211\"]},\"B\":{\"servers\":[\"b:11211\"]}},\"route\":{\"type\":\"OperationSelectorRoute\",\"operation_policies\":{\"delete\":{\"type\":\"AllSyncRoute\",\"children\":[{\"type\":\"FailoverRoute\",\"children\":[{\"type\":\"AllSyncRoute\",\"children\":[\"PoolRoute|A\",\"ErrorRoute\"]},\"PoolRoute|B\"]}]}},\"default_policy\":{\"type\":\"MissFailoverRoute\",\"children\":[\"PoolRoute|A\",\"PoolRoute|B\"]}}} => mcv-cert 1 / 0 = 0 1.0 twin 0.0.0.0 / 0 = 0 1.1 twin 0.0.1 / end
-{\"pools\":{\"A\":{\"servers\":[\"a:11211\"]},\"B\":{\"servers\":[\"b:11211\"]}},\"route\":{\"type\":\"OperationSelectorRoute\",\"operation_policies\":{\"delete\":{\"type\":\"AllSyncRoute\",\"children\":[\"PoolRoute|A\",\"ErrorRoute\"]}},\"default_policy\":\"PoolRoute|B\"}} => mcv-cert 1 / 0 = 0 1 never / end
-{\"pools\":{\"A\":{\"servers\":[\"a:11211\"]},\"B\":{\"servers\":[\"b:11211\"]}},\"route\":{\"type\":\"MigrateRoute\",\"from\":\"PoolRoute|A\",\"to\":\"PoolRoute|B\",\"start_time\":1000,\"interval\":3600}} => mcv-cert 1 / 0 = 0 0 twin 0 / 0 = 1 0 twin 0 / 0 = 2 1 twin 1 / 0 = 3 1 twin 1 / end
-{\"pools\":{\"A\":{\"servers\":[\"a:11211\",\"b:11211\"]},\"B\":{\"servers\":[\"a:11211\",\"b:11211\"]}},\"route\":{\"type\":\"OperationSelectorRoute\",\"operation_policies\":{\"delete\":\"PoolRoute|B\"},\"default_policy\":\"PoolRoute|A\"}} => mcv-cert 1 / 0 = 0 1 twin 0 / end
-{\"pools\":{\"A\":{\"servers\":[\"a:11211\"]},\"B\":{\"servers\":[\"b:11211\"]}},\"route\":{\"type\":\"OperationSelectorRoute\",\"operation_policies\":{\"delete\":\"NullRoute\"},\"default_policy\":{\"type\":\"AllSyncRoute\",\"children\":[\"PoolRoute|A\",\"NullRoute\"]}}} => mcv-cert 1 / end
-{\"pools\":{\"A\":{\"servers\":[\"a:11211\"]},\"B\":{\"servers\":[\"b:11211\"]}},\"route\":{\"type\":\"OperationSelectorRoute\",\"operation_policies\":{\"delete\":{\"type\":\"AllInitialRoute\",\"children\":[\"PoolRoute|A\",\"PoolRoute|B\"]}},\"default_policy\":\"PoolRoute|B\"}} => mcv-cert 1 / 0 = 0 1 twin 0.1 / end
-{\"pools\":{\"A\":{\"servers\":[\"a:11211\",\"b:11211\"]},\"B\":{\"servers\":[\"a:11211\",\"c:11211\"]},\"C\":{\"servers\":[\"c:11211\",\"b:11211\"]}},\"route\":{\"type\":\"OperationSelectorRoute\",\"operation_policies\":{\"delete\":{\"type\":\"AllSyncRoute\",\"children\":[\"PoolRoute|B\",\"PoolRoute|C\"]}},\"default_policy\":\"PoolRoute|A\"}} => mcv-cert 1 / 0 = 0 1 same 0 0.0 / 0 = 0 1 same 1 0.1 / end";
-
-/// A configuration, and of its first gap the server, the route, the length of the class word, the era, the leaf and the
-/// index: the warm pool gets no delete; a delete that is acknowledged before it is sent on; a shadow isn't waited for; another salt; only gets reads the other pool.
+/// The first alias of the route that is lost, a configuration, and the text of its finding, a case a line: a warm-up;
+/// the next pool after an error; a delete that isn't waited for; one that is sent to the other pool by a shadow alone;
+/// a delete under another salt; a pool of its own for gets; a warm-up behind the policy of a prefix; a hit beside
+/// another one; a route of errors before the leaf; a delete that goes to two pools and no further; a migration's last
+/// era; a delete that fails over to a second pool, and no third; the second of two routes.
 const LOST: &str = "\
-{\"pools\":{\"A\":{\"servers\":[\"a:11211\"]},\"B\":{\"servers\":[\"b:11211\"]}},\"route\":{\"type\":\"WarmUpRoute\",\"cold\":\"PoolRoute|A\",\"warm\":\"PoolRoute|B\"}} => b:11211 0 0 0 .1 0
-{\"pools\":{\"A\":{\"servers\":[\"a:11211\"]},\"B\":{\"servers\":[\"b:11211\"]}},\"route\":{\"type\":\"OperationSelectorRoute\",\"operation_policies\":{\"delete\":{\"type\":\"AllAsyncRoute\",\"children\":[{\"type\":\"FailoverRoute\",\"children\":[{\"type\":\"AllSyncRoute\",\"children\":[\"PoolRoute|A\",\"ErrorRoute\"]},\"PoolRoute|B\"]}]}},\"default_policy\":{\"type\":\"MissFailoverRoute\",\"children\":[\"PoolRoute|A\",\"PoolRoute|B\"]}}} => b:11211 0 0 0 .1.1 0
-{\"pools\":{\"A\":{\"servers\":[\"a:11211\"]},\"B\":{\"servers\":[\"b:11211\"]}},\"route\":{\"type\":\"OperationSelectorRoute\",\"operation_policies\":{\"delete\":{\"type\":\"PoolRoute\",\"pool\":\"A\",\"shadows\":[{\"target\":\"PoolRoute|B\",\"index_range\":[0,0]}]}},\"default_policy\":{\"type\":\"MissFailoverRoute\",\"children\":[\"PoolRoute|A\",\"PoolRoute|B\"]}}} => b:11211 0 0 0 .1.1 0
-{\"pools\":{\"A\":{\"servers\":[\"a:11211\",\"b:11211\"]},\"B\":{\"servers\":[\"a:11211\",\"b:11211\"]}},\"route\":{\"type\":\"OperationSelectorRoute\",\"operation_policies\":{\"delete\":{\"type\":\"PoolRoute\",\"pool\":\"B\",\"hash\":{\"hash_func\":\"Ch3\",\"salt\":\"x\"}}},\"default_policy\":\"PoolRoute|A\"}} => a:11211 0 0 0 .1 0
-{\"pools\":{\"A\":{\"servers\":[\"a:11211\"]},\"B\":{\"servers\":[\"b:11211\"]}},\"route\":{\"type\":\"OperationSelectorRoute\",\"operation_policies\":{\"delete\":\"PoolRoute|A\",\"get\":\"PoolRoute|A\",\"gets\":\"PoolRoute|B\"}}} => b:11211 0 0 0 .2 0";
+/././ {\"pools\":{\"A\":{\"servers\":[\"a:11211\"]},\"B\":{\"servers\":[\"b:11211\"]}},\"route\":{\"type\":\"WarmUpRoute\",\"cold\":\"PoolRoute|A\",\"warm\":\"PoolRoute|B\"}} => lost b:11211 / route 0 / class = / era 0 / key /././! / get 0=miss 1=hit / delete 0=deleted
+/././ {\"pools\":{\"A\":{\"servers\":[\"a:11211\"]},\"B\":{\"servers\":[\"b:11211\"]}},\"route\":{\"type\":\"FailoverRoute\",\"children\":[\"PoolRoute|A\",\"PoolRoute|B\"]}} => lost b:11211 / route 0 / class = / era 0 / key /././! / get 0=error 1=hit / delete 0=deleted
+/././ {\"pools\":{\"A\":{\"servers\":[\"a:11211\"]},\"B\":{\"servers\":[\"b:11211\"]}},\"route\":{\"type\":\"OperationSelectorRoute\",\"operation_policies\":{\"delete\":{\"type\":\"AllAsyncRoute\",\"children\":[{\"type\":\"FailoverRoute\",\"children\":[{\"type\":\"AllSyncRoute\",\"children\":[\"PoolRoute|A\",\"ErrorRoute\"]},\"PoolRoute|B\"]}]}},\"default_policy\":{\"type\":\"MissFailoverRoute\",\"children\":[\"PoolRoute|A\",\"PoolRoute|B\"]}}} => lost b:11211 / route 0 / class = / era 0 / key /././! / get 1.0=miss 1.1=hit / delete -
+/././ {\"pools\":{\"A\":{\"servers\":[\"a:11211\"]},\"B\":{\"servers\":[\"b:11211\"]}},\"route\":{\"type\":\"OperationSelectorRoute\",\"operation_policies\":{\"delete\":{\"type\":\"PoolRoute\",\"pool\":\"A\",\"shadows\":[{\"target\":\"PoolRoute|B\",\"index_range\":[0,0]}]}},\"default_policy\":{\"type\":\"MissFailoverRoute\",\"children\":[\"PoolRoute|A\",\"PoolRoute|B\"]}}} => lost b:11211 / route 0 / class = / era 0 / key /././! / get 1.0=miss 1.1=hit / delete 0=deleted
+/././ {\"pools\":{\"A\":{\"servers\":[\"a:11211\",\"b:11211\"]},\"B\":{\"servers\":[\"a:11211\",\"b:11211\"]}},\"route\":{\"type\":\"OperationSelectorRoute\",\"operation_policies\":{\"delete\":{\"type\":\"PoolRoute\",\"pool\":\"B\",\"hash\":{\"hash_func\":\"Ch3\",\"salt\":\"x\"}}},\"default_policy\":\"PoolRoute|A\"}} => lost a:11211 / route 0 / class = / era 0 / key /././! / index Ch3/x/2=1 / index Ch3//2=0 / get 1=hit / delete 0=deleted
+/././ {\"pools\":{\"A\":{\"servers\":[\"a:11211\"]},\"B\":{\"servers\":[\"b:11211\"]}},\"route\":{\"type\":\"OperationSelectorRoute\",\"operation_policies\":{\"delete\":\"PoolRoute|A\",\"get\":\"PoolRoute|A\",\"gets\":\"PoolRoute|B\"}}} => lost b:11211 / route 0 / class = / era 0 / key /././! / gets 2=hit / delete 0=deleted
+/a/b/ {\"pools\":{\"A\":{\"servers\":[\"a:11211\"]},\"B\":{\"servers\":[\"b:11211\"]}},\"routes\":[{\"aliases\":[\"/a/b/\"],\"route\":{\"type\":\"PrefixSelectorRoute\",\"policies\":{\"ab\":{\"type\":\"WarmUpRoute\",\"cold\":\"PoolRoute|A\",\"warm\":\"PoolRoute|B\"}},\"wildcard\":\"NullRoute\"}}]} => lost b:11211 / route 0 / class =ab / era 0 / key /a/b/ab / get 0.0=miss 0.1=hit / delete 0.0=deleted
+/././ {\"pools\":{\"A\":{\"servers\":[\"a:11211\"]},\"B\":{\"servers\":[\"b:11211\"]}},\"route\":{\"type\":\"OperationSelectorRoute\",\"operation_policies\":{\"delete\":\"PoolRoute|A\"},\"default_policy\":{\"type\":\"AllSyncRoute\",\"children\":[{\"type\":\"FailoverRoute\",\"children\":[{\"type\":\"AllSyncRoute\",\"children\":[\"PoolRoute|A\",\"ErrorRoute\"]},\"PoolRoute|A\"]},\"PoolRoute|B\"]}}} => lost b:11211 / route 0 / class = / era 0 / key /././! / get 1.0.0.0=error 1.0.1=hit 1.1=hit / delete 0=deleted
+/././ {\"pools\":{\"A\":{\"servers\":[\"a:11211\"]},\"B\":{\"servers\":[\"b:11211\"]}},\"route\":{\"type\":\"OperationSelectorRoute\",\"operation_policies\":{\"delete\":\"PoolRoute|A\"},\"default_policy\":{\"type\":\"MissFailoverRoute\",\"children\":[\"ErrorRoute\",\"NullRoute\",{\"type\":\"AllInitialRoute\",\"children\":[\"PoolRoute|B\",\"PoolRoute|A\"]}]}}} => lost b:11211 / route 0 / class = / era 0 / key /././! / get 1.2.0=hit / delete 0=deleted
+/././ {\"pools\":{\"A\":{\"servers\":[\"a:11211\"]},\"B\":{\"servers\":[\"b:11211\"]},\"C\":{\"servers\":[\"c:11211\"]}},\"route\":{\"type\":\"OperationSelectorRoute\",\"operation_policies\":{\"delete\":{\"type\":\"AllSyncRoute\",\"children\":[\"PoolRoute|A\",{\"type\":\"AllInitialRoute\",\"children\":[\"PoolRoute|B\",\"PoolRoute|A\"]}]}},\"default_policy\":{\"type\":\"MissFailoverRoute\",\"children\":[\"PoolRoute|A\",\"PoolRoute|B\",\"PoolRoute|C\"]}}} => lost c:11211 / route 0 / class = / era 0 / key /././! / get 1.0=miss 1.1=miss 1.2=hit / delete 0.0=deleted 0.1.0=deleted
+/././ {\"pools\":{\"A\":{\"servers\":[\"a:11211\"]},\"B\":{\"servers\":[\"b:11211\"]}},\"route\":{\"type\":\"OperationSelectorRoute\",\"operation_policies\":{\"delete\":\"PoolRoute|A\"},\"default_policy\":{\"type\":\"MigrateRoute\",\"from\":\"PoolRoute|A\",\"to\":\"PoolRoute|B\",\"start_time\":1000,\"interval\":3600}}} => lost b:11211 / route 0 / class = / era 2 / key /././! / get 1.1=hit / delete 0=deleted
+/././ {\"pools\":{\"A\":{\"servers\":[\"a:11211\"]},\"B\":{\"servers\":[\"b:11211\"]},\"C\":{\"servers\":[\"c:11211\"]}},\"route\":{\"type\":\"OperationSelectorRoute\",\"operation_policies\":{\"delete\":{\"type\":\"FailoverRoute\",\"children\":[{\"type\":\"AllSyncRoute\",\"children\":[\"PoolRoute|A\",\"ErrorRoute\"]},\"PoolRoute|B\",\"PoolRoute|C\"]}},\"default_policy\":{\"type\":\"FailoverRoute\",\"children\":[\"PoolRoute|A\",\"PoolRoute|B\",\"PoolRoute|C\"]}}} => lost c:11211 / route 0 / class = / era 0 / key /././! / get 1.0=error 1.1=error 1.2=hit / delete 0.0.0=deleted 0.1=deleted
+/b/b/ {\"pools\":{\"A\":{\"servers\":[\"a:11211\"]},\"B\":{\"servers\":[\"b:11211\"]}},\"routes\":[{\"aliases\":[\"/a/a/\"],\"route\":\"PoolRoute|A\"},{\"aliases\":[\"/b/b/\",\"/c/c/\"],\"route\":{\"type\":\"WarmUpRoute\",\"cold\":\"PoolRoute|A\",\"warm\":\"PoolRoute|B\"}}]} => lost b:11211 / route 1 / class = / era 0 / key /b/b/! / get 0=miss 1=hit / delete 0=deleted";
 
-fn routes(rt: &impl Abort, alloc: Global, text: &str) -> Result<Routes, AllocError> {
+fn routes(rt: &impl Abort, alloc: Global, text: &str) -> Result<Routes, Fail> {
     match read_config(alloc, text.as_bytes()) {
-        Ok(config) => Routes::build(alloc, config),
+        Ok(config) => Ok(Routes::build(alloc, config)?),
         Err(_) => panic!(rt; "the text is refused"),
     }
 }
@@ -45,54 +47,20 @@ fn lines(alloc: Global, lines: &str) -> Result<Vec<u8>, Fail> {
     Ok(text)
 }
 
-/// The finding in a line.
-fn shown(alloc: Global, routes: &Routes, finding: &Finding) -> Result<String, Fail> {
-    let mut text = String::new(alloc);
-    let server = routes.servers().text(finding.server).unwrap_or("none");
-    let route = finding.route;
-    let word = finding.class.len();
-    let era = finding.era;
-    write!(text, "{server} {route} {word} {era} ")?;
-    for step in finding.leaf.steps() {
-        write!(text, ".{step}")?;
-    }
-    let at = finding.at;
-    write!(text, " {at}")?;
-    Ok(text)
-}
-
 #[test]
-fn covered_routes_have_their_certificate(rt: HostRuntime) -> Result<(), Fail> {
-    let alloc = rt.alloc();
-    for case in COVERED.lines() {
-        let Some((text, certificate)) = case.split_once(" => ") else {
-            panic!(rt; "a case in two parts");
-        };
-        let routes = routes(&rt, alloc, text)?;
-        match make(alloc, &routes) {
-            Ok(made) => {
-                let found = made.text(alloc)?;
-                let wanted = lines(alloc, certificate)?;
-                assert!(rt; found.as_slice() == wanted.as_slice(), "{certificate}");
-            }
-            Err(_) => panic!(rt; "no certificate"),
-        }
-    }
-    Ok(())
-}
-
-#[test]
-fn other_routes_have_a_first_gap(rt: HostRuntime) -> Result<(), Fail> {
+fn gaps_are_shown(rt: HostRuntime) -> Result<(), Fail> {
     let alloc = rt.alloc();
     for case in LOST.lines() {
-        let Some((text, gap)) = case.split_once(" => ") else {
-            panic!(rt; "a case in two parts");
-        };
+        let (head, wanted) = case.split_once(" => ").ok_or("a case in two parts")?;
+        let (alias, text) = head.split_once(' ').ok_or("an alias")?;
         let routes = routes(&rt, alloc, text)?;
-        match make(alloc, &routes) {
-            Err(MakeFault::Lost(finding)) => {
-                let found = shown(alloc, &routes, &finding)?;
-                assert_eq!(rt; found.as_str(), gap);
+        let prefix = Prefix::of(alias.as_bytes());
+        match certify(alloc, &routes) {
+            Err(CertifyFault::Lost(gap)) => {
+                let finding = find(alloc, &routes, &prefix, &gap)?;
+                let found = finding_text(alloc, &finding, &routes)?;
+                let text = lines(alloc, wanted)?;
+                assert!(rt; found.as_slice() == text.as_slice(), "{wanted}");
             }
             _ => panic!(rt; "no gap"),
         }

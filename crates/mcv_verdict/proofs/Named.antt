@@ -5,7 +5,7 @@ use Rattle.std.proofs.lemmas.Option.{get_or_from_slice_get, option_and_then_some
 use Rattle.mcv_blocks.specs.Blocks.{pool_for}
 use Rattle.mcv_cert.specs.Pair.{Place}
 use Rattle.mcv_judge.specs.Reason.{LegValue}
-use Rattle.mcv_make.specs.Gap.{IsGap}
+use Rattle.mcv_certify.specs.Gap.{IsGap}
 use Rattle.mcv_pools.specs.Symbol.{SymbolValue}
 use Rattle.mcv_route.specs.Places.{child_at, children_of, pool_at_position, pool_of, tree_at}
 use Rattle.mcv_route.specs.Routes.{AreSoundTrees, IsSoundPool, IsSoundRoutes, IsSoundTree, RouteEntry, RoutesValue}

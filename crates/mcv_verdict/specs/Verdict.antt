@@ -6,7 +6,7 @@ use Rattle.mcv_cert.specs.Text.{certificate_text}
 use Rattle.mcv_route.specs.Routes.{RoutesValue}
 use Rattle.mcv_symbolic.specs.Covered.{AreCovered}
 use Rattle.mcv_blocks.specs.Blocks.{IsJustifiedBy}
-use Rattle.mcv_make.specs.Gap.{IsFirstGap}
+use Rattle.mcv_certify.specs.Gap.{IsFirstGap}
 use Rattle.mcv_input.specs.Fault.{AreNamedBy}
 use Rattle.mcv_verdict.specs.declared.verdict.Verdict.{Verdict}
 use Rattle.mcv_verdict.specs.declared.verdict.Verdict.TheVariants.{Covered, Lost}

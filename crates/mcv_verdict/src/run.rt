@@ -3,7 +3,7 @@
 ghost use Rattle.std.specs.Prelude.{◌≡◌, ◌≢◌, ◌<◌, ◌++◌, ℕ, List, length, option_map, slice_get, Some, IfSome, IfOk, IfErr};
 ghost use Rattle.std.specs.Io.KnownBytes.{Appends};
 ghost use Rattle.mcv_cert.specs.Text.{certificate_text};
-ghost use Rattle.mcv_make.specs.Gap.{IsFirstGap, place_of_finding};
+ghost use Rattle.mcv_certify.specs.Gap.{IsFirstGap, place_of_gap};
 ghost use Rattle.mcv_symbolic.specs.Covered.{AreCovered};
 ghost use Rattle.mcv_verdict.specs.Fault.{IsRefusedBy, IsRefusedFor, IsRunFault};
 ghost use Rattle.mcv_verdict.specs.Text.{covered_line};
@@ -16,7 +16,7 @@ use mcv_base::ServerId;
 use mcv_cert::{Certificate, read_certificate};
 use mcv_check::{Accepted, check};
 use mcv_input::{read_configuration, write_text};
-use mcv_make::{Finding, MakeFault, make};
+use mcv_certify::{CertifyFault, Gap, certify};
 use mcv_pools::Servers;
 use mcv_route::Routes;
 use std::alloc::{AllocError, Global};
@@ -68,13 +68,13 @@ fn verdict_on(alloc: Global, routes: Routes) -> Result<Told, RunFault>
     ensures told { IfOk result (λ told. IsVerdict routes told.verdict told.text.items) }
     ensures fault { IfErr result (λ fault. fault ≡ RunFault.Memory) }
 {
-    match make(alloc, &routes) {
+    match certify(alloc, &routes) {
         Ok(certificate) => {
             let accepted = check(alloc, routes, &certificate)?;
             Ok(covered_with(alloc, &accepted, &certificate)?)
         }
-        Err(MakeFault::Lost(finding)) => Ok(lost(alloc, &routes, &finding)?),
-        Err(MakeFault::Memory) => Err(RunFault::Memory),
+        Err(CertifyFault::Lost(finding)) => Ok(lost(alloc, &routes, &finding)?),
+        Err(CertifyFault::Memory) => Err(RunFault::Memory),
     }
 }
 
@@ -123,9 +123,9 @@ fn covered_with(
 }
 
 /// That a delete can be lost, and where.
-fn lost(alloc: Global, routes: &Routes, finding: &Finding) -> Result<Told, AllocError>
+fn lost(alloc: Global, routes: &Routes, finding: &Gap) -> Result<Told, AllocError>
     requires uncovered { ¬ AreCovered routes.now }
-    requires first { IsFirstGap routes.now (place_of_finding finding.now) finding.now.at finding.now.server.0 }
+    requires first { IsFirstGap routes.now (place_of_gap finding.now) finding.now.at finding.now.server.0 }
     ensures { IfOk result (λ told. IsVerdict routes.now told.verdict told.text.items) }
 {
     let server = server_text(routes.servers(), finding.server);

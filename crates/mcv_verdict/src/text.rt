@@ -1,12 +1,12 @@
 //! The text of a verdict.
 
 ghost use Rattle.std.specs.Prelude.{◌≡◌, ◌++◌, IfOk, OnOk, decimal};
-ghost use Rattle.mcv_make.specs.Gap.{place_of_finding};
+ghost use Rattle.mcv_certify.specs.Gap.{place_of_gap};
 ghost use Rattle.mcv_verdict.specs.Text.{covered_line, lost_text};
 
 use itoa::Buffer;
 use mcv_cert::push_escaped;
-use mcv_make::Finding;
+use mcv_certify::Gap;
 use std::alloc::{AllocError, Global};
 
 fn push_number(text: &mut Vec<u8>, number: usize) -> Result<(), AllocError>
@@ -28,8 +28,8 @@ pub fn covered_line(alloc: Global, pairs: usize) -> Result<Vec<u8>, AllocError>
 }
 
 /// The lines that say which server can be left without a delete, and where it is read.
-pub fn lost_text(alloc: Global, server: &str, finding: &Finding) -> Result<Vec<u8>, AllocError>
-    ensures { IfOk result (λ text. text.items ≡ lost_text server.now (place_of_finding finding.now)) }
+pub fn lost_text(alloc: Global, server: &str, finding: &Gap) -> Result<Vec<u8>, AllocError>
+    ensures { IfOk result (λ text. text.items ≡ lost_text server.now (place_of_gap finding.now)) }
 {
     let mut text = Vec::new(alloc);
     text.extend_from_slice(b"lost ")?;

@@ -1,5 +1,5 @@
 use Rattle.std.proofs.Common.{◌≡◌, ◌<◌, ℕ, List, Some, length, slice_get, subst, sym}
-use Rattle.mcv_make.specs.Gap.{place_of_finding}
+use Rattle.mcv_certify.specs.Gap.{place_of_gap}
 use Rattle.mcv_verdict.proofs.Named.{server_known}
 use Rattle.mcv_verdict.proofs.run.lost.Goals as goal
 
@@ -7,12 +7,12 @@ pub server_text-server-requires : goal.server_text-server-requires
 server_text-server-requires c =
     let finding = c.args.finding.now in
     subst (λ (servers : List (List ℕ)). finding.server.0 < length servers) (sym c.servers.ensures.value)
-    (server_known c.args.routes.now (place_of_finding finding) finding.at finding.server.0 c.servers.ensures.sound c.requires.first.gap)
+    (server_known c.args.routes.now (place_of_gap finding) finding.at finding.server.0 c.servers.ensures.sound c.requires.first.gap)
 
 pub returns : goal.returns
 returns c =
     let finding = c.args.finding.now in (
-      place_of_finding finding,
+      place_of_gap finding,
       c.server_text-server.result.now,
       record {
         uncovered = c.requires.uncovered;

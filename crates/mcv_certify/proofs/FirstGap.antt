@@ -1,0 +1,98 @@
+-- The gap that is told is the first of all.
+use Rattle.std.proofs.Common.{◌≡◌, ◌↔◌, ◌<◌, ℕ, List, ◌∷◌, length, Some, inl, inr, refl, sym, ◌∙◌, subst}
+use Rattle.std.specs.List.{All, Contains}
+use Rattle.std.specs.declared.cmp.Ordering.TheVariants.{Less}
+use Rattle.std.proofs.lemmas.List.Elements.{All-contains, All-from_recursion, Contains-append_cases}
+use Rattle.std.proofs.lemmas.Option.{get_or_from_slice_get, slice_get_within}
+use Rattle.mcv_cert.specs.Pair.{Place, index_cmp}
+use Rattle.mcv_judge.specs.Faults.{block_cmp}
+use Rattle.mcv_judge.specs.Reason.{BlockValue, HasReason, HasReasons, LegValue}
+use Rattle.mcv_route.specs.Routes.{RoutesValue}
+use Rattle.mcv_blocks.specs.Blocks.{IsBlockOf}
+use Rattle.mcv_blocks.specs.Places.{AreRouteClasses, HasEra}
+use Rattle.mcv_blocks.specs.Spots.{AreSpotsOf, IsBlockFor, Spot, spot, spot_cmp, spots_of}
+use Rattle.mcv_blocks.specs.declared.classes.RouteClass.{RouteClass}
+use Rattle.mcv_blocks.proofs.Along.{class-there, in-spots, same-cmp, spots_are, spots_behind}
+use Rattle.mcv_blocks.proofs.RisingLists.{first_or_behind}
+use Rattle.mcv_blocks.proofs.Unique.{one_block}
+use Rattle.mcv_certify.specs.Gap.{IsFirstGap, IsGap, place_of_gap}
+use Rattle.mcv_certify.specs.Made.{TellsGapIn}
+use Rattle.mcv_certify.specs.declared.gap.Gap.{Gap}
+use Rattle.mcv_certify.proofs.BlockGap.{before_gap}
+use Rattle.mcv_certify.proofs.Lists.{zip_there}
+use Rattle.mcv_certify.proofs.Places.{in_two_blocks, not_before, place_in}
+
+module _ (r : RoutesValue) (cs : List RouteClass) (n : ℕ) (classes : AreRouteClasses r cs) (count : (era : ℕ) → (era < n) ↔ HasEra r era) where
+  -- the spot of a block
+  spot_of : (b : BlockValue) → IsBlockOf r b → (s : Spot) × Contains (spots_of cs n) s × IsBlockFor r s b
+  spot_of b own =
+      let c : RouteClass = record { route = b.route; class = record { word = b.class; member = Some own.member } } in (
+        spot c b.era,
+        in-spots cs n b.era c ((count b.era).1 (own.since, own.place.opened)) (classes.all c (class-there r b.route b.class b.era own.tree own.member own.since own.place)),
+        record { route = refl; class = refl; era = refl; is = own },
+      )
+
+  same_block : (s : Spot) (b c : BlockValue) → IsBlockFor r s b → IsBlockFor r s c → b ≡ c
+  same_block s b c h g = one_block r b c h.is g.is (h.route ∙ sym g.route) (h.class ∙ sym g.class) (h.era ∙ sym g.era)
+
+  module _ (f : Gap) (t : TellsGapIn r (spots_of cs n) f) where
+    abbrev here : BlockValue
+    here = t.tells.block
+
+    abbrev leaf : LegValue
+    leaf = t.tells.tells.gap.leaf
+
+    pub own : IsGap r (place_of_gap f) f.at f.server.0
+    own =
+        let told = t.tells.tells in
+        record {
+          block = here;
+          leaf = leaf;
+          stands = t.tells.stands.is;
+          readable = (told.number, slice_get_within here.readable told.number leaf told.gap.numbered, get_or_from_slice_get here.readable told.number leaf leaf told.gap.numbered);
+          placed = told.placed;
+          has = told.has;
+          unanswered = told.gap.first.gap;
+        }
+
+    -- in the told block
+    in_own : (b : BlockValue) → here ≡ b → (l : LegValue) (j : ℕ) → Contains b.readable l → j < length l.servers → index_cmp (place_in b l) j (place_in here leaf) f.at ≡ Less → HasReason b l j
+    in_own b same =
+        subst (λ (c : BlockValue). (l : LegValue) (j : ℕ) → Contains c.readable l → j < length l.servers → index_cmp (place_in c l) j (place_in here leaf) f.at ≡ Less → HasReason c l j) same
+        (λ l j has low less. before_gap here t.tells.stands.is.has.readable.rising t.tells.tells.number f.at t.tells.tells.gap l j has low less)
+
+    -- in a block before it
+    in_before : (b : BlockValue) (s : Spot) → Contains t.before s → IsBlockFor r s b → (l : LegValue) (j : ℕ) → Contains b.readable l → j < length l.servers → HasReason b l j
+    in_before b s at stands l j has low =
+        let c = zip_there (IsBlockFor r) t.before t.blocks s t.stand at in
+        let reasons : All (HasReasons c.0) c.0.readable = All-contains (λ d. All (HasReasons d) d.readable) t.blocks c.0 t.reasons c.1 in
+        let same : c.0 ≡ b = same_block s c.0 b c.2 stands in
+        let own_reasons : All (HasReasons b) b.readable = subst (λ (d : BlockValue). All (HasReasons d) d.readable) same reasons in
+        All-contains (HasReasons b) b.readable l own_reasons has j low
+
+    -- a block behind it stands behind
+    in_behind : (b : BlockValue) (s : Spot) → Contains t.behind s → IsBlockFor r s b → block_cmp here b ≡ Less
+    in_behind b s at stands =
+        let rise = spots_behind r t.before (t.spot ∷ t.behind) (subst (AreSpotsOf r) t.parts (spots_are r cs n classes count)) in
+        let later : spot_cmp t.spot s ≡ Less = All-contains (λ u. spot_cmp t.spot u ≡ Less) t.behind s (All-from_recursion (λ u. spot_cmp t.spot u ≡ Less) t.behind rise.1) at in
+        same-cmp r t.spot s here b t.tells.stands stands ∙ later
+
+    none_before : (s : Place) (j x : ℕ) → index_cmp s j (place_of_gap f) f.at ≡ Less → IsGap r s j x → ⊥
+    none_before s j x less g =
+        let b = g.block in
+        let at = spot_of b g.stands in
+        let low = slice_get_within g.leaf.servers j x g.has in
+        let before : index_cmp (place_in b g.leaf) j (place_in here leaf) f.at ≡ Less =
+        subst (λ p. index_cmp p j (place_in here leaf) f.at ≡ Less) (sym g.placed) (subst (λ p. index_cmp s j p f.at ≡ Less) (sym t.tells.tells.placed) less) in
+        elim (Contains-append_cases t.before (t.spot ∷ t.behind) at.0 (subst (λ ss. Contains ss at.0) t.parts at.1)) [
+          | inl h ↦ g.unanswered (in_before b at.0 h at.2 g.leaf j g.readable low)
+          | inr h ↦ elim (first_or_behind t.spot t.behind at.0 h) [
+            | inl is ↦
+                let same = same_block at.0 here b (subst (λ u. IsBlockFor r u here) is t.tells.stands) at.2 in
+                g.unanswered (in_own b same g.leaf j g.readable low before)
+            | inr later ↦ not_before (place_in b g.leaf) j (place_in here leaf) f.at before (in_two_blocks here b leaf g.leaf (in_behind b at.0 later at.2))
+          ]
+        ]
+
+    pub first_gap : IsFirstGap r (place_of_gap f) f.at f.server.0
+    first_gap = record { gap = own; first = λ s j x less g. none_before s j x less g }

@@ -1,0 +1,13 @@
+pub mod Lists
+pub mod Spots
+pub mod Along
+pub mod Places
+pub mod BlockGap
+pub mod FirstGap
+pub mod Standing
+pub mod Known
+pub mod Told
+pub mod Loss
+pub mod Lost
+pub mod Certified
+pub mod Verdicts

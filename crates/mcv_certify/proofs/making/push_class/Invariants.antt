@@ -1,0 +1,11 @@
+use Rattle.std.proofs.Common.{◌≤◌}
+use Rattle.mcv_judge.specs.InMemory.{pairs_of}
+use Rattle.mcv_blocks.specs.Spots.{eras_from}
+use Rattle.mcv_certify.specs.Made.{AddsFor}
+use Rattle.mcv_certify.proofs.making.push_class.Given as goal
+
+abbrev pub invariant-loop-era : goal.invariant-loop-era
+invariant-loop-era l = record {
+  within : l.era ≤ l.eras;
+  so_far : AddsFor l.routes (eras_from l.class 0 l.era) (pairs_of l.fn.pairs.items) (pairs_of l.pairs.items);
+}

@@ -1,0 +1,3 @@
+pub mod Gap
+pub mod Made
+pub mod Picked

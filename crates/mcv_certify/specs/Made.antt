@@ -1,0 +1,81 @@
+-- How the code goes from block to block. Only private contracts cite this.
+use Rattle.std.specs.Prelude.{All, ◌≡◌, ◌<◌, ◌++◌, ◌∷◌, ℕ, List, Some}
+use Rattle.std.specs.List.{AllZip}
+use Rattle.mcv_cert.specs.Pair.{PairValue}
+use Rattle.mcv_judge.specs.Answers.{AnswersAll, AnswersBlock}
+use Rattle.mcv_judge.specs.Faults.{owe, place_owed}
+use Rattle.mcv_judge.specs.Reason.{BlockValue, HasReasons, LegValue, server_at}
+use Rattle.mcv_route.specs.Routes.{RoutesValue}
+use Rattle.mcv_pairs.specs.Adds.{Adds}
+use Rattle.mcv_pairs.specs.Gaps.{IsFirstGapIn, IsSized}
+use Rattle.mcv_pairs.specs.Reasons.{IsPickedIn}
+use Rattle.mcv_blocks.specs.Blocks.{AreLeavesAt, IsAcknowledgedAt, IsBlockAt}
+use Rattle.mcv_blocks.specs.Sets.{SetsValue}
+use Rattle.mcv_blocks.specs.Spots.{IsBlockFor, Spot}
+use Rattle.mcv_blocks.specs.declared.classes.RouteClass.{RouteClass}
+use Rattle.mcv_certify.specs.Gap.{place_of_gap}
+use Rattle.mcv_certify.specs.Picked.{IsPickedOf}
+use Rattle.mcv_certify.specs.declared.gap.Gap.{Gap}
+use Rattle.mcv_certify.specs.declared.gap.CertifyFault.{CertifyFault}
+use Rattle.mcv_certify.specs.declared.gap.CertifyFault.TheVariants.{Lost, Memory}
+
+-- the block has what the sets have, and is of this class and era
+pub record IsBlockWith (s : SetsValue) (c : RouteClass) (number : ℕ) (b : BlockValue) : Type 0 where
+  pub route : b.route ≡ c.route
+  pub class : b.class ≡ c.class.word
+  pub era : b.era ≡ number
+  pub has : IsBlockAt s.tree s.rest s.since b
+
+-- the legs that each acknowledged delete has sent have as many servers as their symbols have indexes
+abbrev pub AreLegsSized : SetsValue → Type 0
+AreLegsSized s = (legs : List LegValue) → AreLeavesAt s.tree (IsAcknowledgedAt s.tree s.rest s.since) legs → IsSized legs
+
+-- pairs were added that answer the block of the sets
+pub record AddsWith (s : SetsValue) (c : RouteClass) (number : ℕ) (old new : List PairValue) : Type 0 where
+  pub block : BlockValue
+  pub is : IsBlockWith s c number block
+  pub adds : Adds (AnswersBlock block) old new
+  pub picked : Adds (All (IsPickedIn block)) old new
+
+-- pairs were added that answer blocks at these spots
+pub record AddsFor (r : RoutesValue) (spots : List Spot) (old new : List PairValue) : Type 0 where
+  pub blocks : List BlockValue
+  pub stand : AllZip (IsBlockFor r) spots blocks
+  pub adds : Adds (AnswersAll blocks) old new
+  pub picked : Adds (All (IsPickedOf r)) old new
+
+-- the first gap of the block is told
+pub record TellsGapOf (b : BlockValue) (f : Gap) : Type 0 where
+  pub number : ℕ
+  pub gap : IsFirstGapIn b number f.at
+  pub placed : place_owed (owe b gap.leaf) ≡ place_of_gap f
+  pub has : server_at gap.leaf f.at ≡ Some f.server.0
+  pub bytes : All (λ c. c < 256) f.class.items
+
+-- that of the block of the sets
+pub record TellsGapWith (s : SetsValue) (c : RouteClass) (number : ℕ) (f : Gap) : Type 0 where
+  pub block : BlockValue
+  pub is : IsBlockWith s c number block
+  pub tells : TellsGapOf block f
+
+-- that of the block at the spot
+pub record TellsGapAt (r : RoutesValue) (s : Spot) (f : Gap) : Type 0 where
+  pub block : BlockValue
+  pub stands : IsBlockFor r s block
+  pub tells : TellsGapOf block f
+
+-- that of the block at one of the spots, and blocks at those before it have a reason for each index
+pub record TellsGapIn (r : RoutesValue) (spots : List Spot) (f : Gap) : Type 0 where
+  pub before : List Spot
+  pub spot : Spot
+  pub behind : List Spot
+  pub parts : spots ≡ before ++ spot ∷ behind
+  pub blocks : List BlockValue
+  pub stand : AllZip (IsBlockFor r) before blocks
+  pub reasons : All (λ b. All (HasReasons b) b.readable) blocks
+  pub tells : TellsGapAt r spot f
+
+-- what holds of the gap, if there is one
+abbrev pub IfLost : CertifyFault → (Gap → Type 0) → Type 0
+IfLost (Lost f) P = P f
+IfLost Memory P = Unit {0}

@@ -1,0 +1,97 @@
+//! Makes certificates, block by block.
+
+ghost use Rattle.std.specs.Prelude.{◌≡◌, ◌<◌, ℕ, [], ◌∷◌, All, IfErr, IfOk, OnOk, length};
+ghost use Rattle.mcv_blocks.specs.Blocks.{IsJustifiedBy};
+ghost use Rattle.mcv_blocks.specs.Places.{HasEra, IsRouteClass};
+ghost use Rattle.mcv_blocks.specs.Spots.{IsSpotOf, eras_from, spot};
+ghost use Rattle.mcv_judge.specs.InMemory.{pairs_of};
+ghost use Rattle.mcv_route.specs.Routes.{IsSoundRoutes};
+ghost use Rattle.mcv_symbolic.specs.Covered.{AreCovered, sizes_of};
+ghost use Rattle.mcv_certify.specs.Gap.{IsRightFault};
+ghost use Rattle.mcv_certify.specs.Made.{AddsFor, IfLost, TellsGapAt, TellsGapIn};
+ghost use Rattle.mcv_certify.specs.Picked.{IsPickedOf};
+ghost use Rattle.mcv_certify.specs.declared.gap.CertifyFault.TheVariants.{Memory as out_of_memory};
+
+use crate::block::push_sets;
+use crate::gap::CertifyFault;
+use mcv_blocks::{RouteClass, Sets, era_count, opened, route_classes};
+use mcv_cert::{Certificate, Pair};
+use mcv_route::Routes;
+use std::alloc::Global;
+
+/// Adds the pairs of the block of a class in an era, or tells the first gap in it.
+fn push_era(
+    alloc: Global,
+    routes: &Routes,
+    class: &RouteClass,
+    era: usize,
+    pairs: &mut Vec<Pair>,
+) -> Result<(), CertifyFault>
+    requires sound { IsSoundRoutes routes.now }
+    requires spot { IsSpotOf routes.now (spot class.now era) }
+    ensures added { OnOk result (AddsFor routes.now (spot class.now era ∷ []) (pairs_of pairs.old.items) (pairs_of pairs.new.items)) }
+    ensures lost { IfErr result (λ f. IfLost f (TellsGapAt routes.now (spot class.now era))) }
+{
+    let Some(route) = routes.route(class.route) else {
+        unreachable!()
+    };
+    let Some(member) = class.class.member() else {
+        unreachable!()
+    };
+    let sets = Sets::new(alloc, route, &member, opened(routes, era))?;
+    push_sets(alloc, &sets, class, era, pairs)
+}
+
+/// Adds the pairs of the blocks of a class, era by era, or tells the first gap in them.
+fn push_class(
+    alloc: Global,
+    routes: &Routes,
+    class: &RouteClass,
+    eras: usize,
+    pairs: &mut Vec<Pair>,
+) -> Result<(), CertifyFault>
+    requires sound { IsSoundRoutes routes.now }
+    requires class { IsRouteClass routes.now class.now }
+    requires eras { (era : ℕ) → era < eras → HasEra routes.now era }
+    ensures added { OnOk result (AddsFor routes.now (eras_from class.now 0 eras) (pairs_of pairs.old.items) (pairs_of pairs.new.items)) }
+    ensures lost { IfErr result (λ f. IfLost f (TellsGapIn routes.now (eras_from class.now 0 eras))) }
+{
+    for era in 0..eras {
+        push_era(alloc, routes, class, era, pairs)?;
+    }
+    Ok(())
+}
+
+/// Each symbol has an index: its number of servers says so.
+fn read_sizes(routes: &Routes)
+    ensures { All (λ n. 0 < n) (sizes_of routes.now) }
+{
+    let symbols = routes.symbols().as_slice();
+    for symbol in symbols {
+        let _servers = symbol.n();
+    }
+}
+
+/// The certificate of the routes, if they are covered. Else the first place where a delete can be lost.
+///
+/// Of the reasons that hold for a leaf the certificate names the first in the order never, twin, same and all, with
+/// the least positions. Takes time and memory in proportion to the nodes of the routes times their classes and eras,
+/// and to the servers of their legs.
+pub fn certify(alloc: Global, routes: &Routes) -> Result<Certificate, CertifyFault>
+    ensures justified { IfOk result (λ c. IsJustifiedBy routes.now c) }
+    ensures picked { IfOk result (λ c. All (IsPickedOf routes.now) c) }
+    ensures lost { IfErr result (λ f. IsRightFault routes.now f) }
+    ensures known { IfErr result (λ f. IfLost f (λ g. g.server.0 < length routes.now.servers)) }
+    ensures covered { AreCovered routes.now → IfErr result (λ f. f ≡ out_of_memory) }
+{
+    // Both say of the routes what it takes that those with a gap aren't covered: they are sound, and each symbol has an index.
+    let _servers = routes.servers();
+    read_sizes(routes);
+    let eras = era_count(routes);
+    let classes = route_classes(alloc, routes)?;
+    let mut pairs = Vec::new(alloc);
+    for class in &classes {
+        push_class(alloc, routes, class, eras, &mut pairs)?;
+    }
+    Ok(Certificate::of(pairs))
+}

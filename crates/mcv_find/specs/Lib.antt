@@ -1,4 +1,0 @@
-pub mod Shown
-pub mod Walks
-pub mod Free
-pub mod Place

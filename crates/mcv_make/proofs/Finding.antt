@@ -1,0 +1,171 @@
+-- What is built of a gap breaks coverage.
+use Rattle.std.proofs.Common.{◌≡◌, ◌<◌, ◌≤◌, ℕ, true, List, [], ◌∷◌, ◌++◌, length, Option, Some, option_map, refl, sym, ap, ◌∙◌, subst, arith}
+use Rattle.std.specs.Prelude.{slice_get, slice_index}
+use Rattle.std.specs.List.{All, Contains}
+use Rattle.std.proofs.lemmas.List.Elements.{All-contains}
+use Rattle.std.proofs.lemmas.Option.{get_or_from_slice_get, same_Some, slice_get_within}
+use Rattle.mcv_base.specs.Key.{IsCut, IsRoutingPrefix, is_key_word, routed, slash}
+use Rattle.mcv_base.specs.Operation.{is_reading}
+use Rattle.mcv_base.specs.declared.operation.Op.TheVariants.{Delete}
+use Rattle.mcv_base.specs.declared.reply.Outcome.TheVariants.{Good}
+use Rattle.mcv_blocks.specs.Blocks.{IsBlockAt, IsEraOf, IsPlaceOf, pool_for}
+use Rattle.mcv_blocks.proofs.PoolSizes.{AreSized, entry_sized}
+use Rattle.mcv_blocks.proofs.Unique.{block_has, pool_of_leg}
+use Rattle.mcv_cert.specs.Pair.{Place}
+use Rattle.mcv_classes.specs.Class.{IsMember}
+use Rattle.mcv_classes.specs.Words.{class_words}
+use Rattle.mcv_classes.proofs.Members.{members_are_inside}
+use Rattle.mcv_config.specs.Aliases.{IsAlias, alias_limit}
+use Rattle.mcv_config.specs.Entries.{depth_limit}
+use Rattle.mcv_judge.specs.Reason.{BlockValue, LegValue}
+use Rattle.mcv_certify.specs.Gap.{IsGap}
+use Rattle.mcv_route.specs.Limits.{AreWithinLimits, IsWithin}
+use Rattle.mcv_route.specs.Outcomes.{Choice, History, IsChoice}
+use Rattle.mcv_route.specs.Places.{pool_at_position, route_of_prefix}
+use Rattle.mcv_route.specs.Routes.{RouteEntry, RoutesValue, IsSoundRoutes}
+use Rattle.mcv_route.specs.Situation.{asked}
+use Rattle.mcv_route.specs.Tree.{Pool, Tree}
+use Rattle.mcv_rules.specs.Plans.{plan}
+use Rattle.mcv_rules.specs.declared.plan.PlannedLeg.{PlannedLeg}
+use Rattle.mcv_symbolic.specs.Covered.{IsRest, sizes_of}
+use Rattle.mcv_symbolic.specs.Justified.{IsReadableAt}
+use Rattle.mcv_symbolic.specs.Sets.{AreLegsAt, IsAcknowledged}
+use Rattle.mcv_witness.specs.Breaks.{BreaksCoverage, IsLeafOf, IsMissed, IsRead, StandsAt}
+use Rattle.mcv_witness.specs.Finding.{FindingValue}
+use Rattle.mcv_make.specs.Free.{free_indexes}
+use Rattle.mcv_make.specs.Shown.{answers, leading}
+use Rattle.mcv_make.proofs.Breaks as gaps
+use Rattle.mcv_make.proofs.KeyWord.{key-word}
+use Rattle.mcv_make.proofs.Missed
+use Rattle.mcv_make.proofs.Reading
+
+nil-cons : (x : ℕ) (xs : List ℕ) → [] ≡ x ∷ xs → ⊥
+nil-cons x xs e = cc
+
+prefix-some : (p : List ℕ) → IsRoutingPrefix p → 0 < length p
+prefix-some [] h = absurd (nil-cons slash (h.first ++ slash ∷ h.second ++ slash ∷ []) h.is)
+prefix-some (x ∷ p) h = omega arith
+
+-- the place of a finding
+abbrev pub place_of : FindingValue → Place
+place_of f = record { route = f.route; class = f.class; era = f.era; leaf = f.leaf }
+
+-- what the walks have found, and where
+pub record IsBuilt (r : RoutesValue) (f : FindingValue) (prefix : List ℕ) : Type 0 where
+  pub entry : RouteEntry
+  pub rest : List ℕ
+  pub since : Option ℕ
+  pub pool : Pool
+  pub legs : List PlannedLeg
+  pub numbered : slice_get r.entries f.route ≡ Some entry
+  pub listed : Contains (class_words entry.tree) f.class
+  pub member : IsMember (class_words entry.tree) f.class (Some rest)
+  pub rest_is : IsRest rest
+  pub opened : IsEraOf r f.era since
+  pub key : f.key ≡ prefix ++ rest
+  pub stands : pool_at_position entry.tree f.leaf ≡ Some pool
+  pub are : (c : Choice) → AreLegsAt entry.tree (IsAcknowledged entry.tree rest since c) legs
+  pub choice : f.choice ≡ free_indexes legs f.server pool.symbol f.at 0 r.symbols
+  pub reading : is_reading f.op ≡ true
+  pub gets : leading f.leaf (plan entry.tree (asked f.op rest since)) ≡ Some f.gets
+  pub deletes : f.deletes ≡ answers Good (plan entry.tree (asked Delete rest since))
+
+module _ (r : RoutesValue) (sound : IsSoundRoutes r) (limits : AreWithinLimits r) (positive : All (λ n. 0 < n) (sizes_of r)) (f : FindingValue) (prefix : List ℕ) (gap : IsGap r (place_of f) f.at f.server)
+    (alias : IsAlias prefix) (short : length prefix ≤ alias_limit) (selects : route_of_prefix prefix r.entries ≡ Some f.route) (built : IsBuilt r f prefix) where
+  abbrev tree : Tree
+  tree = built.entry.tree
+
+  abbrev b : BlockValue
+  b = gap.block
+
+  abbrev leaf : LegValue
+  leaf = gap.leaf
+
+  at-leaf : leaf.position ≡ f.leaf
+  at-leaf = ap (λ (p : Place). p.leaf) gap.placed
+
+  there : Contains r.entries built.entry
+  there = (f.route, slice_get_within r.entries f.route built.entry built.numbered, get_or_from_slice_get r.entries f.route built.entry built.entry built.numbered)
+
+  place : IsPlaceOf r f.route f.class f.era tree built.rest built.since
+  place = record { entry = built.entry; numbered = built.numbered; has_tree = refl; listed = built.listed; has_member = built.member; opened = built.opened }
+
+  block : IsBlockAt tree built.rest built.since b
+  block = block_has r f.route f.class f.era tree built.rest built.since place b gap.stands (ap (λ (p : Place). p.route) gap.placed) (ap (λ (p : Place). p.class) gap.placed) (ap (λ (p : Place). p.era) gap.placed)
+
+  leaf-stands : pool_at_position tree leaf.position ≡ Some (pool_for leaf)
+  leaf-stands = pool_of_leg tree (IsReadableAt tree built.rest built.since) b.readable block.readable leaf gap.readable
+
+  same-pool : built.pool ≡ pool_for leaf
+  same-pool = same_Some built.pool (pool_for leaf) (sym built.stands ∙ ap (pool_at_position tree) (sym at-leaf) ∙ leaf-stands)
+
+  sized : AreSized (sizes_of r) tree
+  sized = entry_sized r built.entry sound there
+
+  size : (leaf.symbol < length (sizes_of r)) × (slice_index (sizes_of r) leaf.symbol ≡ length leaf.servers)
+  size = sized leaf.position (pool_for leaf) leaf-stands
+
+  low : f.at < slice_index (sizes_of r) leaf.symbol
+  low = let within = slice_get_within leaf.servers f.at f.server gap.has in omega (arith, within, size.1)
+
+  same-choice : free_indexes built.legs f.server leaf.symbol f.at 0 r.symbols ≡ f.choice
+  same-choice = sym (built.choice ∙ ap (λ (q : Pool). free_indexes built.legs f.server q.symbol f.at 0 r.symbols) same-pool)
+
+  stands : StandsAt r f tree built.rest built.since
+  stands =
+      let inside = members_are_inside tree f.class built.rest built.member built.listed in
+      let within : IsWithin depth_limit tree = All-contains (λ (e : RouteEntry). IsWithin depth_limit e.tree) r.entries built.entry limits.levels there in
+      let word = key-word depth_limit tree f.class built.rest prefix within built.listed built.member inside.1 alias (prefix-some prefix alias.prefix) short in
+      record {
+        prefix = prefix;
+        route = ap (option_map (λ (e : RouteEntry). e.tree)) built.numbered;
+        word = ap is_key_word built.key ∙ word;
+        cut = routed alias.prefix built.key;
+        rest_is = built.rest_is;
+        selects = selects;
+        class = inside.0;
+        era = built.opened;
+      }
+
+  is-leaf : IsLeafOf f tree
+  is-leaf = record {
+    pool = built.pool;
+    stands = built.stands;
+    index =
+        ap (λ (q : Pool). slice_index f.choice q.symbol) same-pool
+        ∙ ap (λ (ns : List ℕ). slice_index ns leaf.symbol) (sym same-choice)
+        ∙ gaps.own-at (sizes_of r) tree built.rest built.since positive sized b block leaf f.at f.server gap.has gap.unanswered built.legs built.are r.symbols refl size.0 low;
+    server = ap (λ (q : Pool). slice_get q.servers f.at) same-pool ∙ gap.has;
+  }
+
+  read : IsRead f tree built.rest built.since
+  read = record {
+    reading = built.reading;
+    rising = Reading.rises tree f.op built.rest built.since f.leaf f.gets built.gets;
+    reachable = Reading.reached tree f.op built.rest built.since f.leaf f.gets built.gets (slice_index f.choice);
+    hit = Reading.hits tree f.op built.rest built.since f.leaf f.gets built.gets;
+  }
+
+  missed : IsMissed f tree built.rest built.since
+  missed =
+      subst (λ (es : History). IsMissed (record f { deletes = es }) tree built.rest built.since) (sym built.deletes)
+      (subst (λ (ns : List ℕ). IsMissed (record f { deletes = answers Good (plan tree (asked Delete built.rest built.since)); choice = ns }) tree built.rest built.since) same-choice
+      (record {
+        rising = Missed.rises tree built.rest built.since (slice_index (free_indexes built.legs f.server leaf.symbol f.at 0 r.symbols));
+        reachable = Missed.reached tree built.rest built.since (slice_index (free_indexes built.legs f.server leaf.symbol f.at 0 r.symbols));
+        done = Missed.done tree built.rest built.since (slice_index (free_indexes built.legs f.server leaf.symbol f.at 0 r.symbols)) (gaps.can (sizes_of r) tree built.rest built.since positive sized b block leaf f.at f.server gap.has gap.unanswered built.legs built.are);
+        unsent = gaps.unsent (sizes_of r) tree built.rest built.since positive sized b block leaf f.at f.server gap.has gap.unanswered built.legs built.are r.symbols refl size.0 low;
+      }))
+
+  pub breaks : BreaksCoverage r f
+  breaks = record {
+    tree = tree;
+    rest = built.rest;
+    since = built.since;
+    stands = stands;
+    choice = subst (λ (ns : List ℕ). IsChoice (sizes_of r) (slice_index ns)) same-choice
+        (gaps.is-choice (sizes_of r) tree built.rest built.since positive sized b block leaf f.at f.server gap.has gap.unanswered built.legs built.are r.symbols refl size.0 low);
+    leaf = is-leaf;
+    read = read;
+    missed = missed;
+  }

@@ -1,0 +1,77 @@
+-- What a gap says of its place: the route, the class and the leaf are there, and the leaf can be read.
+use Rattle.std.proofs.Common.{◌≡◌, ℕ, List, Option, Some, None, option_map, refl, sym, ap, ◌∙◌, subst}
+use Rattle.std.specs.Prelude.{option_and_then, slice_get}
+use Rattle.std.specs.List.{Contains}
+use Rattle.std.proofs.lemmas.Option.{same_Some}
+use Rattle.mcv_cert.specs.Pair.{Place}
+use Rattle.mcv_classes.specs.Class.{IsMember}
+use Rattle.mcv_classes.specs.Words.{class_words}
+use Rattle.mcv_judge.specs.Reason.{BlockValue, LegValue}
+use Rattle.mcv_blocks.specs.Blocks.{IsBlockAt, IsEraOf, IsPlaceOf, pool_for}
+use Rattle.mcv_blocks.specs.Places.{HasEra}
+use Rattle.mcv_blocks.proofs.Unique.{block_has, has_property, pool_of_leg}
+use Rattle.mcv_certify.specs.Gap.{IsGap, place_of_gap}
+use Rattle.mcv_certify.specs.declared.gap.Gap.{Gap}
+use Rattle.mcv_route.specs.Places.{leaf_in, pool_at_position}
+use Rattle.mcv_route.specs.Routes.{RouteEntry, RoutesValue}
+use Rattle.mcv_route.specs.Tree.{Pool, Tree}
+use Rattle.mcv_symbolic.specs.Justified.{IsReadableAt}
+use Rattle.mcv_make.specs.Place.{HasClass, IsMemberOf}
+
+module _ (r : RoutesValue) (g : Gap) (gap : IsGap r (place_of_gap g) g.at g.server.0) where
+  abbrev b : BlockValue
+  b = gap.block
+
+  abbrev leaf : LegValue
+  leaf = gap.leaf
+
+  at-route : b.route ≡ g.route
+  at-route = ap (λ (p : Place). p.route) gap.placed
+
+  at-class : b.class ≡ g.class.items
+  at-class = ap (λ (p : Place). p.class) gap.placed
+
+  at-era : b.era ≡ g.era
+  at-era = ap (λ (p : Place). p.era) gap.placed
+
+  at-leaf : leaf.position ≡ g.leaf
+  at-leaf = ap (λ (p : Place). p.leaf) gap.placed
+
+  -- the entry of the gap's route
+  abbrev pub entry : RouteEntry
+  entry = gap.stands.place.entry
+
+  pub numbered : slice_get r.entries g.route ≡ Some entry
+  numbered = subst (λ n. slice_get r.entries n ≡ Some entry) at-route gap.stands.place.numbered
+
+  pub has_class : HasClass r g.route g.class.items
+  has_class =
+      let place = gap.stands.place in
+      record {
+        entry = entry;
+        numbered = numbered;
+        class = record { word = b.class; member = Some gap.stands.member };
+        listed = record {
+          word = subst (λ t. Contains (class_words t) b.class) (sym place.has_tree) place.listed;
+          member = subst (λ t. IsMember (class_words t) b.class (Some gap.stands.member)) (sym place.has_tree) place.has_member;
+          some = refl;
+        };
+        is = at-class;
+      }
+
+  pub has_era : HasEra r g.era
+  has_era = (gap.stands.since, subst (λ n. IsEraOf r n gap.stands.since) at-era gap.stands.place.opened)
+
+  module _ (e : RouteEntry) (rest : List ℕ) (since : Option ℕ) (here : slice_get r.entries g.route ≡ Some e) (listed : Contains (class_words e.tree) g.class.items) (member : IsMember (class_words e.tree) g.class.items (Some rest)) (opened : IsEraOf r g.era since) where
+    block : IsBlockAt e.tree rest since b
+    block = block_has r g.route g.class.items g.era e.tree rest since (record { entry = e; numbered = here; has_tree = refl; listed = listed; has_member = member; opened = opened }) b gap.stands at-route at-class at-era
+
+    -- the leaf can be read at the member, and a pool stands there
+    pub readable : IsReadableAt e.tree rest since g.leaf
+    readable = subst (IsReadableAt e.tree rest since) at-leaf (has_property e.tree (IsReadableAt e.tree rest since) b.readable block.readable leaf gap.readable)
+
+    pub stands : pool_at_position e.tree g.leaf ≡ Some (pool_for leaf)
+    stands = ap (pool_at_position e.tree) (sym at-leaf) ∙ pool_of_leg e.tree (IsReadableAt e.tree rest since) b.readable block.readable leaf gap.readable
+
+    pub leaf-there : leaf_in r g.route g.leaf ≡ Some (pool_for leaf)
+    leaf-there = ap (option_and_then (λ (x : RouteEntry). pool_at_position x.tree g.leaf)) here ∙ stands

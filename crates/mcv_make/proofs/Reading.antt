@@ -1,0 +1,42 @@
+-- The outcomes that are shown of a get: its answer can be the leaf's hit.
+use Rattle.std.proofs.Common.{◌≡◌, ℕ, List, Option, Some, refl}
+use Rattle.mcv_base.specs.declared.operation.Op.{Op}
+use Rattle.mcv_route.specs.Outcomes.{Choice, History, outcomes}
+use Rattle.mcv_route.specs.Situation.{asked}
+use Rattle.mcv_route.specs.Tree.{Tree}
+use Rattle.mcv_route.specs.Verdict.{IsHit, IsReachable}
+use Rattle.mcv_rules.specs.Plan.{Plan}
+use Rattle.mcv_rules.specs.Plans.{plan}
+use Rattle.mcv_rules.specs.Sound.{positions, IsApart, IsHonest}
+use Rattle.mcv_rules.proofs.Orders
+use Rattle.mcv_rules.proofs.Sound
+use Rattle.mcv_rules.proofs.Verdicts
+use Rattle.mcv_symbolic.specs.Sets.{CanHitAt}
+use Rattle.mcv_symbolic.proofs.Exactness.{hits_are_exact}
+use Rattle.mcv_symbolic.proofs.Rising.{plan_rises}
+use Rattle.mcv_symbolic.proofs.Sized.{formed, sizes_for}
+use Rattle.mcv_witness.specs.Breaks.{AreRising}
+use Rattle.mcv_make.specs.Shown.{leading}
+use Rattle.mcv_make.proofs.Leading.{HasHitAt, leading_right, shown}
+use Rattle.mcv_make.proofs.Ordered.{are-rising}
+
+module _ (t : Tree) (op : Op) (rest : List ℕ) (since : Option ℕ) (p : List ℕ) where
+  abbrev get : Plan
+  get = plan t (asked op rest since)
+
+  -- where the leaf can hit, outcomes are shown
+  pub is-shown : (c : Choice) → CanHitAt t (asked op rest since) c p → (es : History) × (leading p get ≡ Some es)
+  is-shown c h = let k = (hits_are_exact t op rest since c p).0 h in shown p get k.0 (Sound.plan_sound (sizes_for t) t op rest since (formed t)).3 k.2 k.1
+
+  module _ (es : History) (led : leading p get ≡ Some es) where
+    has : HasHitAt p get es
+    has = let s = Sound.plan_sound (sizes_for t) t op rest since (formed t) in leading_right p get es s.2 s.3 led
+
+    pub reached : (c : Choice) → IsReachable t (asked op rest since) c (outcomes es)
+    reached c = Verdicts.planned_reachable t (asked op rest since) c (outcomes es) (Orders.closed_reachable get c (outcomes es) (λ q y e. has.shows.sent c (outcomes es) (λ r j. refl) q y e))
+
+    pub hits : IsHit t (asked op rest since) (outcomes es) p
+    hits = (Verdicts.hit_is_planned t (asked op rest since) (outcomes es) p).1 (has.leg, has.shows.hit (outcomes es) (λ r j. refl), has.at)
+
+    pub rises : AreRising es
+    rises = are-rising (positions get) es (plan_rises t (asked op rest since)) has.ordered
