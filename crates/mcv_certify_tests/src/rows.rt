@@ -85,14 +85,14 @@ fn covered_routes_have_their_certificate(rt: HostRuntime) -> Result<(), Fail> {
 fn other_routes_have_a_first_gap(rt: HostRuntime) -> Result<(), Fail> {
     let alloc = rt.alloc();
     for case in LOST.lines() {
-        let Some((text, gap)) = case.split_once(" => ") else {
+        let Some((text, wanted)) = case.split_once(" => ") else {
             panic!(rt; "a case in two parts");
         };
         let routes = routes(&rt, alloc, text)?;
         match certify(alloc, &routes) {
             Err(CertifyFault::Lost(gap)) => {
                 let found = shown(alloc, &routes, &gap)?;
-                assert_eq!(rt; found.as_str(), gap);
+                assert_eq!(rt; found.as_str(), wanted);
             }
             _ => panic!(rt; "no gap"),
         }
