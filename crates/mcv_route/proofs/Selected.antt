@@ -1,7 +1,7 @@
 -- The first alias of a route selects that route, since no alias stands twice.
-use Rattle.std.proofs.Common.{◌≡◌, ℕ, zero, suc, ◌+◌, ◌<◌, ◌≤◌, Bool, true, false, cond, not, List, [], ◌∷◌, ◌++◌, map, length, get_or, slice_get, Option, Some, None, refl, sym, ap, subst, ◌∙◌, arith, nat_lt, bytes_eq}
+use Rattle.std.proofs.Common.{◌≡◌, ℕ, zero, suc, ◌+◌, ◌<◌, ◌≤◌, Bool, true, false, ◌||◌, List, [], ◌∷◌, ◌++◌, length, get_or, slice_get, Some, refl, sym, ap, subst, ◌∙◌, arith, nat_lt, bytes_eq}
 use Rattle.std.specs.Prelude.{option_and_then, position}
-use Rattle.std.specs.List.{All, Contains, flat_map, list_any, position_or_len}
+use Rattle.std.specs.List.{All, Contains, list_any, position_or_len}
 use Rattle.std.specs.Cmp.Lexicographic.{bytes_decides}
 use Rattle.std.proofs.lemmas.Bool.Decides.{nat_tests}
 use Rattle.std.proofs.lemmas.List.Elements.{All-map}
@@ -35,7 +35,7 @@ get_left (y ∷ xs) ys zero x h = h
 get_left (y ∷ xs) ys (suc i) x h = get_left xs ys i x h
 
 get_right : {A : Type 0} (xs ys : List A) (i : ℕ) → slice_get (xs ++ ys) (length xs + i) ≡ slice_get ys i
-get_right [] ys i = refl
+get_right [] ys i = let n : 0 + i ≡ i = omega arith in ap (slice_get ys) n
 get_right (x ∷ xs) ys i = let n : length (x ∷ xs) + i ≡ suc (length xs + i) = omega arith in ap (slice_get (x ∷ xs ++ ys)) n ∙ get_right xs ys i
 
 -- how many aliases stand before those of the route of this number
@@ -46,7 +46,9 @@ before (e ∷ es) (suc n) = length e.aliases + before es n
 
 placed : (es : List RouteEntry) (n i : ℕ) (e : RouteEntry) (a : List ℕ) → slice_get es n ≡ Some e → slice_get e.aliases i ≡ Some a → slice_get (all_aliases es) (before es n + i) ≡ Some a
 placed [] n i e a h at = absurd (none-some e h)
-placed (x ∷ es) zero i e a h at = get_left x.aliases (all_aliases es) i a (ap (λ y. slice_get y.aliases i) (same_Some x e h) ∙ at)
+placed (x ∷ es) zero i e a h at =
+    let n : 0 + i ≡ i = omega arith in
+    ap (slice_get (all_aliases (x ∷ es))) n ∙ get_left x.aliases (all_aliases es) i a (ap (λ y. slice_get y.aliases i) (same_Some x e h) ∙ at)
 placed (x ∷ es) (suc n) i e a h at =
     let sum : length x.aliases + before es n + i ≡ length x.aliases + (before es n + i) = omega arith in
     ap (slice_get (all_aliases (x ∷ es))) sum ∙ get_right x.aliases (all_aliases es) (before es n + i) ∙ placed es n i e a h at
@@ -60,13 +62,13 @@ earlier (x ∷ es) (suc k) (suc n) e h below = let others : before es k + length
 -- ---- the first route that has an alias
 
 -- the place of a text among some
-found : (as : List (List ℕ)) (p : List ℕ) → list_any (λ a. bytes_eq a p) as ≡ true → (i : ℕ) × (slice_get as i ≡ Some p)
+found : (texts : List (List ℕ)) (p : List ℕ) → list_any (λ a. bytes_eq a p) texts ≡ true → (i : ℕ) × (slice_get texts i ≡ Some p)
 found [] p h = absurd (let f : false ≡ true = h in cc)
-found (a ∷ as) p h = by (bytes_eq a p) refl
+found (a ∷ texts) p h = by (bytes_eq a p) refl (found texts p)
   where
-    by : (b : Bool) → bytes_eq a p ≡ b → (i : ℕ) × (slice_get (a ∷ as) i ≡ Some p)
-    by true is = (0, ap Some ((bytes_decides a p).0 is))
-    by false is = let others = found as p (subst (λ b. cond b true (list_any (λ a. bytes_eq a p) as) ≡ true) is h) in (suc others.0, others.1)
+    by : (b : Bool) → bytes_eq a p ≡ b → (list_any (λ a. bytes_eq a p) texts ≡ true → (i : ℕ) × (slice_get texts i ≡ Some p)) → (i : ℕ) × (slice_get (a ∷ texts) i ≡ Some p)
+    by true is others = (0, ap Some ((bytes_decides a p).0 is))
+    by false is others = let other = others (subst (λ b. (b || list_any (λ a. bytes_eq a p) texts) ≡ true) is h) in (suc other.0, other.1)
 
 -- an alias of a route is none of a route before it
 not_before : (es : List RouteEntry) (k n i : ℕ) (d e : RouteEntry) (p : List ℕ) → IsOneToOne (all_aliases es) → k < n → slice_get es k ≡ Some d → slice_get es n ≡ Some e → slice_get e.aliases i ≡ Some p
@@ -99,9 +101,9 @@ selects_at es n i e p apart at_n at =
 of_entry : (es : List RouteEntry) (n : ℕ) (e : RouteEntry) → AreSelected es → slice_get es n ≡ Some e → AreAliases e.aliases
 of_entry es n e selected at = subst (λ e. AreAliases e.aliases) (get_or_from_slice_get es n e e at) (selected.each n e (slice_get_within es n e at))
 
-first_of : (as : List (List ℕ)) → 0 < length as → (p : List ℕ) × (slice_get as 0 ≡ Some p) × Contains as p
+first_of : (texts : List (List ℕ)) → 0 < length texts → (p : List ℕ) × (slice_get texts 0 ≡ Some p) × Contains texts p
 first_of [] some = absurd (omega arith)
-first_of (a ∷ as) some = (a, refl, (0, omega arith, refl))
+first_of (a ∷ texts) some = (a, refl, (0, omega arith, refl))
 
 entry_of : (r : RoutesValue) (n : ℕ) (p : List ℕ) → first_alias r n ≡ Some p → (e : RouteEntry) × (slice_get r.entries n ≡ Some e) × (slice_get e.aliases 0 ≡ Some p)
 entry_of r n p h = option_and_then_some (λ e. slice_get e.aliases 0) (slice_get r.entries n) p h (λ e at first. (e, at, first))
