@@ -1,7 +1,7 @@
 -- The first alias of a route selects that route, since no alias stands twice.
 use Rattle.std.proofs.Common.{◌≡◌, ℕ, zero, suc, ◌+◌, ◌<◌, ◌≤◌, Bool, true, false, ◌||◌, List, [], ◌∷◌, ◌++◌, length, get_or, slice_get, Some, refl, sym, ap, subst, ◌∙◌, arith, nat_lt, bytes_eq}
 use Rattle.std.specs.Prelude.{option_and_then, position}
-use Rattle.std.specs.List.{All, Contains, list_any, position_or_len}
+use Rattle.std.specs.List.{Contains, list_any, position_or_len}
 use Rattle.std.specs.Cmp.Lexicographic.{bytes_decides}
 use Rattle.std.proofs.lemmas.Bool.Decides.{nat_tests}
 use Rattle.std.proofs.lemmas.List.Elements.{All-map}
