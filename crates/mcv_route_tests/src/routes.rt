@@ -175,23 +175,3 @@ fn the_wildcard_stands_after_all_prefixes(rt: HostRuntime) -> Result<(), Fail> {
     }
     Ok(())
 }
-
-/// Two routes: the first has two aliases, the second one.
-const ALIASES: &str = "{
-  \"routes\": [
-    {\"aliases\": [\"/b/x/\", \"/a/x/\"], \"route\": \"NullRoute\"},
-    {\"aliases\": [\"/././\"], \"route\": \"ErrorRoute\"}
-  ]
-}";
-
-#[test]
-fn routes_have_their_first_alias(rt: HostRuntime) -> Result<(), Fail> {
-    let alloc = rt.alloc();
-    let routes = routes(&rt, alloc, ALIASES)?;
-    let cases: [(usize, Option<&[u8]>); 3] = [(0, Some(b"/b/x/")), (1, Some(b"/././")), (2, None)];
-    for (number, alias) in cases {
-        let found = routes.first_alias(number).map(|prefix| prefix.as_bytes());
-        assert!(rt; found == alias, "of route {number}");
-    }
-    Ok(())
-}
