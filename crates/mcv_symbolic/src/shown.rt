@@ -1,6 +1,6 @@
 //! The answers that lead to a reply, or to a hit of a leg: one walk over the nodes of the plan each.
 
-ghost use Rattle.std.specs.Prelude.{◌≡◌, ◌++◌, IfOk, OnOk, take};
+ghost use Rattle.std.specs.Prelude.{◌≡◌, ◌++◌, IfOk, None, OnOk, if◌then◌else◌, take};
 ghost use Rattle.mcv_rules.specs.Plan.{Send};
 ghost use Rattle.mcv_symbolic.specs.InMemory.{leg_of, plan_of};
 ghost use Rattle.mcv_symbolic.specs.Shown.{answers, first_hit, history_of, leading};
@@ -119,6 +119,21 @@ pub fn push_first_hit<'a>(
     }
 }
 
+/// The same of a plan that is asked only then; tells whether it is, and there is one.
+fn push_hit_if<'a>(
+    is_asked: bool,
+    plan: &'a Plan,
+    legs: &mut Vec<LegAnswer<'a>>,
+) -> Result<bool, AllocError>
+    ensures { IfOk result (λ found. IsTried (if is_asked then first_hit (plan_of plan.now) else None) found (history_of legs.old.items) (history_of legs.new.items)) }
+{
+    if is_asked {
+        push_first_hit(plan, legs)
+    } else {
+        Ok(false)
+    }
+}
+
 /// Adds the answers by which the leg at the position hits, and its hit is the reply; tells whether there are any.
 /// Where there are none, some answers may have been added.
 pub fn push_leading<'a>(
@@ -133,7 +148,8 @@ pub fn push_leading<'a>(
         Plan::Send(leg) => push_hit_at(leg, leaf, legs),
         Plan::Reply(_) => Ok(false),
         Plan::Both(first, second) => {
-            if push_leading(first, leaf, legs)? && push_first_hit(second, legs)? {
+            let leads = push_leading(first, leaf, legs)?;
+            if push_hit_if(leads, second, legs)? {
                 return Ok(true);
             }
             legs.truncate(start);
