@@ -59,7 +59,7 @@ module _ (x z : Option History) (es old mid after : History) (n : ℕ) (b : Bool
   instead : after ≡ old ++ es
   instead = answered ∙ ap (λ l. l ++ es) (taken-back x b old mid n t no size)
 
-  went-on : (z : Option History) (c : Bool) (new : History) → IsTried z c after new → IsTried (also es z) c old new
+  went-on : (y : Option History) (c : Bool) (new : History) → IsTried y c after new → IsTried (also es y) c old new
   went-on None c new u = (u.0, (es ++ u.1.0, behind old after new es u.1.0 instead u.1.1))
   went-on (Some fs) c new u = (u.0, behind old after new es fs instead u.1)
 

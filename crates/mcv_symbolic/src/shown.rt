@@ -73,10 +73,7 @@ fn push_instead<'a>(
 
 /// Adds the answers by which the first leg that can hit hits; tells whether there is one. Where there is none, some
 /// answers may have been added.
-pub fn push_first_hit<'a>(
-    plan: &'a Plan,
-    legs: &mut Vec<LegAnswer<'a>>,
-) -> Result<bool, AllocError>
+pub fn push_first_hit<'a>(plan: &'a Plan, legs: &mut Vec<LegAnswer<'a>>) -> Result<bool, AllocError>
     ensures { IfOk result (λ found. IsTried (first_hit (plan_of plan.now)) found (history_of legs.old.items) (history_of legs.new.items)) }
 {
     let start = legs.len();
