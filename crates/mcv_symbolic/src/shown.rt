@@ -87,10 +87,11 @@ pub fn push_first_hit<'a>(plan: &'a Plan, legs: &mut Vec<LegAnswer<'a>>) -> Resu
         }
         Plan::Reply(_) => Ok(false),
         Plan::Both(first, second) => {
-            if !push_first_hit(first, legs)? {
-                return Ok(false);
+            if push_first_hit(first, legs)? {
+                push_first_hit(second, legs)
+            } else {
+                Ok(false)
             }
-            push_first_hit(second, legs)
         }
         Plan::OnError(first, second) => {
             if push_first_hit(first, legs)? {
@@ -150,10 +151,11 @@ pub fn push_leading<'a>(
                 return Ok(true);
             }
             legs.truncate(start);
-            if !push_first_hit(first, legs)? {
-                return Ok(false);
+            if push_first_hit(first, legs)? {
+                push_leading(second, leaf, legs)
+            } else {
+                Ok(false)
             }
-            push_leading(second, leaf, legs)
         }
         Plan::OnError(first, second) => {
             if push_leading(first, leaf, legs)? {
