@@ -1,5 +1,5 @@
 -- What the walk for a hit leaves in its list, one combination at a time.
-use Rattle.std.proofs.Common.{◌≡◌, ◌⊎◌, inl, inr, ℕ, Bool, true, false, List, [], ◌∷◌, ◌++◌, length, map, take, Box, Global, Option, Some, None, refl, sym, ap, ◌∙◌, subst, append_assoc, append-nil}
+use Rattle.std.proofs.Common.{◌≡◌, ◌⊎◌, inl, inr, ℕ, Bool, true, false, List, [], ◌∷◌, ◌++◌, length, take, Box, Global, Option, Some, None, refl, sym, ap, ◌∙◌, subst, append_assoc, append-nil}
 use Rattle.std.specs.Prelude.{if◌then◌else◌}
 use Rattle.std.specs.Str.{bytes_eq}
 use Rattle.std.proofs.lemmas.Bool.{cases_Bool, false≢true}
@@ -36,6 +36,16 @@ behind old mid new es fs one two = two ∙ ap (λ l. l ++ fs) one ∙ append_ass
 pub taken-back : (x : Option History) (b : Bool) (old mid : History) (n : ℕ) → IsTried x b old mid → b ≡ false → n ≡ length old → take n mid ≡ old
 taken-back None b old mid n t isnt size = ap (take n) t.1.1 ∙ take_at old t.1.0 n (sym size)
 taken-back (Some es) b old mid n t isnt size = absurd (false≢true (sym isnt ∙ t.0))
+
+-- ---- from an empty list
+
+pub found-some : (x : Option History) (b : Bool) (old new : History) → IsTried x b old new → old ≡ [] → b ≡ true → Some new ≡ x
+found-some None b old new t empty does = absurd (false≢true (sym t.0 ∙ does))
+found-some (Some es) b old new t empty does = ap Some (t.1 ∙ ap (λ l. l ++ es) empty)
+
+pub found-none : (x : Option History) (b : Bool) (old new : History) → IsTried x b old new → b ≡ false → None ≡ x
+found-none None b old new t isnt = refl
+found-none (Some es) b old new t isnt = absurd (false≢true (sym isnt ∙ t.0))
 
 -- ---- one or the other
 

@@ -1,9 +1,9 @@
-use Rattle.std.proofs.Common.{◌≡◌, arith, ℕ, Bool, length, refl}
+use Rattle.std.proofs.Common.{◌≡◌, arith, length, refl}
 use Rattle.std.proofs.lemmas.Result.{IfOk-weaker}
 use Rattle.mcv_symbolic.specs.InMemory.{plan_of}
 use Rattle.mcv_symbolic.specs.Shown.{first_hit, history_of}
 use Rattle.mcv_symbolic.specs.Tried.{IsTried}
-use Rattle.mcv_symbolic.proofs.Tried.{both-hit, both-missed, errors-found, errors-on, errors-stop, history-length, misses-found, misses-on, misses-stop}
+use Rattle.mcv_symbolic.proofs.Tried.{both-hit, errors-on, errors-stop, history-length, misses-on, misses-stop}
 use Rattle.mcv_symbolic.proofs.shown.+push_first_hit.Goals as goal
 
 pub returns-then-branch : goal.returns-then-branch

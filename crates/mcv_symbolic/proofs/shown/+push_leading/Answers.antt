@@ -1,4 +1,4 @@
-use Rattle.std.proofs.Common.{◌≡◌, arith, ℕ, Bool, length, refl, ap, ◌∙◌}
+use Rattle.std.proofs.Common.{◌≡◌, arith, length, refl, ap, ◌∙◌}
 use Rattle.std.proofs.lemmas.Result.{IfOk-weaker}
 use Rattle.mcv_symbolic.specs.InMemory.{plan_of}
 use Rattle.mcv_symbolic.specs.Shown.{history_of, leading}
@@ -19,16 +19,16 @@ returns-then-branch-2 t c =
     let n = c.len-start.result in
     let start : n ≡ length c.args.legs.now.items = omega (arith, c.len-start.ensures, c.args.legs.now.ok.0) in
     let met = history_of c.push_first_hit.new.legs.items in
-    let new = history_of c.push_leading-then-branch.new.legs.items in
-    IfOk-weaker c.push_leading-then-branch.result (λ found. IsTried (leading c.args.leaf.now (plan_of c.deref-then-branch.result.now)) found met new) (λ found. IsTried (leading c.args.leaf.now (plan_of c.args.plan.now)) found old new)
+    let new = history_of c.push_leading-then-branch-2.new.legs.items in
+    IfOk-weaker c.push_leading-then-branch-2.result (λ found. IsTried (leading c.args.leaf.now (plan_of c.deref-then-branch-2.result.now)) found met new) (λ found. IsTried (leading c.args.leaf.now (plan_of c.args.plan.now)) found old new)
     (λ found u. led-second c.args.plan.now c.in-Both.first c.in-Both.second c.in-Both.is c.args.leaf.now c.in_ok-leads-in-Both.leads c.in_ok-push_hit_if-in-Both.field-0 old (history_of c.push_leading.new.legs.items)
       (history_of c.push_hit_if.new.legs.items) (rw c.deref.ensures at c.in_ok-leads-in-Both.ensures) (rw c.deref-in-Both.ensures at c.in_ok-push_hit_if-in-Both.ensures) c.if-branch.false n (history-length n c.args.legs.now.items start)
       (history_of c.truncate.new.self.items) (ap history_of c.truncate.ensures.items ∙ history-take n c.push_hit_if.new.legs.items) c.in_ok-push_first_hit-in-Both.field-0 met (rw c.deref-in-Both-2.ensures at c.in_ok-push_first_hit-in-Both.ensures)
-      c.if-branch-2.true found new (rw c.deref-then-branch.ensures at u))
-    c.push_leading-then-branch.ensures
+      c.if-branch-2.true found new (rw c.deref-then-branch-2.ensures at u))
+    c.push_leading-then-branch-2.ensures
 
-pub returns-else-branch : goal.returns-else-branch
-returns-else-branch t c =
+pub returns-else-branch-2 : goal.returns-else-branch-2
+returns-else-branch-2 t c =
     let n = c.len-start.result in
     let start : n ≡ length c.args.legs.now.items = omega (arith, c.len-start.ensures, c.args.legs.now.ok.0) in
     led-nowhere c.args.plan.now c.in-Both.first c.in-Both.second c.in-Both.is c.args.leaf.now c.in_ok-leads-in-Both.leads c.in_ok-push_hit_if-in-Both.field-0 (history_of c.args.legs.now.items) (history_of c.push_leading.new.legs.items)
