@@ -1,13 +1,45 @@
 -- How far a certificate has been judged, from block to block. Only private contracts cite this.
-use Rattle.std.specs.Prelude.{List, ◌++◌, ⊤}
+use Rattle.std.specs.Prelude.{◌≡◌, ℕ, List, ◌∷◌, ◌++◌, ⊤}
 use Rattle.std.specs.List.{AllZip}
 use Rattle.mcv_cert.specs.Pair.{PairValue}
-use Rattle.mcv_judge.specs.Faults.{HaveSameFaults, IsFirstFault}
+use Rattle.mcv_judge.specs.Faults.{AreInOrder, HaveSameFaults, IsFirstFault, IsInOrder}
 use Rattle.mcv_judge.specs.Reason.{BlockValue}
+use Rattle.mcv_judge.specs.declared.fault.PairFault.{PairFault}
 use Rattle.mcv_route.specs.Routes.{RoutesValue}
+use Rattle.mcv_blocks.specs.Blocks.{IsBlockAt}
+use Rattle.mcv_blocks.specs.Sets.{SetsValue}
 use Rattle.mcv_blocks.specs.Spots.{AreSpotsOf, IsBlockFor, Spot}
+use Rattle.mcv_blocks.specs.declared.classes.RouteClass.{RouteClass}
 use Rattle.mcv_check.specs.declared.fault.CheckFault.{CheckFault}
 use Rattle.mcv_check.specs.declared.fault.CheckFault.TheVariants.{Memory, Pair}
+
+-- the block has what the sets have, and is of this class and era
+pub record IsBlockWith (s : SetsValue) (c : RouteClass) (number : ℕ) (b : BlockValue) : Type 0 where
+  pub route : b.route ≡ c.route
+  pub class : b.class ≡ c.class.word
+  pub era : b.era ≡ number
+  pub has : IsBlockAt s.tree s.rest s.since b
+
+-- the block of the sets is in order
+abbrev pub IsInOrderWith : SetsValue → RouteClass → ℕ → Type 0
+IsInOrderWith s c number = (b : BlockValue) → IsBlockWith s c number b → IsInOrder b
+
+-- these pairs are left behind the block of the sets, whatever blocks come later
+pub record LeavesWith (s : SetsValue) (c : RouteClass) (number : ℕ) (pairs rest : List PairValue) : Type 0 where
+  pub block : BlockValue
+  pub is : IsBlockWith s c number block
+  pub same : (later : List BlockValue) → AreInOrder (block ∷ later) → HaveSameFaults pairs (block ∷ later) rest later
+
+-- the fault at the block of the sets is the first, whatever blocks come later
+pub record IsFirstWith (s : SetsValue) (c : RouteClass) (number : ℕ) (pairs : List PairValue) (fault : PairFault) : Type 0 where
+  pub block : BlockValue
+  pub is : IsBlockWith s c number block
+  pub first : (later : List BlockValue) → AreInOrder (block ∷ later) → IsFirstFault pairs (block ∷ later) fault
+
+-- that, or memory ran out
+abbrev pub StopsWith : SetsValue → RouteClass → ℕ → List PairValue → CheckFault → Type 0
+StopsWith s c number pairs (Pair fault) = IsFirstWith s c number pairs fault
+StopsWith s c number pairs Memory = ⊤
 
 -- the pairs have with the blocks at all spots the faults that those left have with the blocks at the spots left
 abbrev pub IsJudged : RoutesValue → List PairValue → List Spot → List PairValue → List Spot → Type 0

@@ -10,10 +10,11 @@ ghost use Rattle.mcv_check.specs.Judged.{Leaves, Stops};
 ghost use Rattle.mcv_judge.specs.InMemory.{pairs_of};
 ghost use Rattle.mcv_route.specs.Routes.{IsSoundRoutes};
 
+use crate::block::judge_sets;
 use crate::fault::CheckFault;
 use mcv_blocks::{RouteClass, Sets, era_count, opened, route_classes};
 use mcv_cert::Pair;
-use mcv_judge::{Block, judge_block, judge_end};
+use mcv_judge::judge_end;
 use mcv_route::Routes;
 use std::alloc::Global;
 
@@ -78,15 +79,5 @@ fn judge_in_era<'p>(
         unreachable!()
     };
     let sets = Sets::new(alloc, route, &member, opened(routes, era))?;
-    let readable = sets.readable(alloc)?;
-    let acknowledged = sets.acknowledged(alloc)?;
-    let block = Block {
-        route: class.route,
-        class: class.class.word(),
-        era,
-        readable: readable.as_slice(),
-        acknowledged: acknowledged.as_slice(),
-        can_be_acknowledged: sets.can_be_acknowledged(),
-    };
-    Ok(judge_block(&block, pairs)?)
+    judge_sets(alloc, &sets, class, era, pairs)
 }

@@ -6,6 +6,7 @@
 #![tactic(auto)]
 
 mod accepted;
+mod block;
 mod fault;
 mod judging;
 
