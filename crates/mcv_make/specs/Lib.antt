@@ -1,4 +1,4 @@
 pub mod Shown
-pub mod Walks
 pub mod Free
 pub mod Place
+pub mod Told

@@ -1,11 +1,16 @@
 -- Which outcomes a finding shows, by the plan of what is asked (own).
-use Rattle.std.specs.Prelude.{ℕ, List, [], ◌∷◌, ◌++◌, Option, Some, None, if◌then◌else◌}
+use Rattle.std.specs.Prelude.{ℕ, List, [], ◌∷◌, ◌++◌, Option, Some, None, if◌then◌else◌, map}
 use Rattle.mcv_base.specs.declared.reply.Outcome.{Outcome}
 use Rattle.mcv_base.specs.declared.reply.Outcome.TheVariants.{Good, Soft, Error}
 use Rattle.mcv_base.specs.Reply.{is_error, is_missed}
 use Rattle.mcv_route.specs.Outcomes.{History, is_same}
 use Rattle.mcv_rules.specs.Plan.{Plan, Send, Reply, Both, Beside, OnError, OnMiss, OnHit, Shadowed}
 use Rattle.mcv_symbolic.specs.Structure.{if_all}
+use Rattle.mcv_make.specs.declared.stub.LegAnswer.{LegAnswer}
+
+-- answers of legs, by their positions
+abbrev pub history_of : List LegAnswer → History
+history_of legs = map (λ a. (a.leg.now.position, a.outcome)) legs
 
 -- ---- answers of all legs alike
 
