@@ -11,3 +11,4 @@ pub mod Finding
 pub mod Gaps
 pub mod Members
 pub mod Taken
+pub mod Built

