@@ -1,8 +1,6 @@
 use Rattle.std.proofs.Common.{◌≡◌, ◌∙◌, ℕ, List, map, option_map, ap, subst}
 use Rattle.std.specs.Borrow.{Bor}
 use Rattle.std.proofs.lemmas.Result.{IfOk-weaker}
-use Rattle.mcv_base.specs.declared.moment.Moment.{Moment}
-use Rattle.mcv_pools.specs.declared.choice.Choice.{Choice as Indexes}
 use Rattle.mcv_route.specs.Outcomes.{Choice}
 use Rattle.mcv_route.specs.View.{view}
 use Rattle.mcv_rules.specs.declared.plan.PlannedLeg.{PlannedLeg}
@@ -10,7 +8,6 @@ use Rattle.mcv_symbolic.specs.Case.{CaseValue}
 use Rattle.mcv_symbolic.specs.Sets.{AreLegsAt, IsAcknowledged}
 use Rattle.mcv_make.specs.Free.{free_indexes}
 use Rattle.mcv_make.proofs.scene.Scene.choice.Goals as goal
-
 pub returns : goal.returns
 returns c =
     let legs = map (λ (l : Bor PlannedLeg). l.now) c.in_ok-legs.legs.items in
