@@ -1,7 +1,7 @@
 //! Configurations with their certificates, or with the first place where a delete can be lost.
 
-use mcv_config::read_config;
 use mcv_certify::{CertifyFault, Gap, certify};
+use mcv_config::read_config;
 use mcv_route::Routes;
 use std::alloc::{AllocError, Global};
 use std::process::Abort;

@@ -16,3 +16,4 @@ pub mod Built
 pub mod Walk
 pub mod Places
 pub mod Eras
+pub mod Aliases

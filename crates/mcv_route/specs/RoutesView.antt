@@ -1,6 +1,7 @@
 -- The value of `Routes` from its fields.
 use Rattle.std.specs.Prelude.{ℕ, List, map}
 use Rattle.mcv_base.specs.declared.request.Moment.{Moment}
+use Rattle.mcv_route.specs.Aliases.{AreSelected}
 use Rattle.mcv_route.specs.Eras.{breaks_of, IsBreakTable}
 use Rattle.mcv_route.specs.declared.routes.AliasedRoute.{AliasedRoute}
 use Rattle.mcv_route.specs.declared.routes.Routes.TheInside.{Inside}
@@ -18,8 +19,9 @@ routes_view r = record { servers = r.servers; symbols = r.symbols; entries = map
 abbrev pub numbers_of : List Moment → List ℕ
 numbers_of moments = map (λ m. m.0) moments
 
--- the trees are sound and within their limits, and the table of breaks is that of the trees
+-- the trees are sound and within their limits, each route is selected by prefixes of its own, and the table of breaks is that of the trees
 pub record AreSound (r : Inside) : Type 0 where
   pub trees : IsSoundRoutes (routes_view r)
   pub limits : AreWithinLimits (routes_view r)
+  pub selected : AreSelected (routes_view r).entries
   pub table : IsBreakTable (breaks_of (routes_view r)) (numbers_of r.break_table.items)

@@ -3,6 +3,7 @@
 ghost use Rattle.std.specs.Prelude.{◌≡◌, ◌<◌, [], ◌∷◌, Some, None, IfOk, length, map, option_map, position, slice_get};
 ghost use Rattle.std.specs.List.{All, flat_map};
 ghost use Rattle.mcv_config.specs.Plan.{IsSoundRoute, named_of};
+ghost use Rattle.mcv_route.specs.Aliases.{first_alias, AreSelected};
 ghost use Rattle.mcv_route.specs.Built.{routes_named};
 ghost use Rattle.mcv_route.specs.Eras.{breaks, breaks_of, era_at, since_at, IsBreakTable};
 ghost use Rattle.mcv_route.specs.Limits.{AreWithinLimits};
@@ -102,6 +103,14 @@ impl Routes {
         ensures { result ≡ route_of_prefix prefix.now self.now.entries }
     {
         first_of_prefix(self.entries.as_slice(), prefix)
+    }
+
+    /// The first routing prefix that selects the route of this number; None where there is no such route.
+    pub fn first_alias(&self, number: usize) -> Option<&Prefix>
+        ensures value { option_map (λ p. p.now) result ≡ first_alias self.now number }
+        ensures selected { AreSelected self.now.entries }
+    {
+        self.entries.get(number)?.aliases.first()
     }
 
     /// The route of a number.

@@ -24,6 +24,9 @@ abbrev case_of : Tree → Op → List ℕ → Option ℕ → CaseValue
 case_of t op rest since = record { tree = t; op = op; rest = rest; since = since }
 
 module _ (value : CaseValue) (t : Tree) (op : Op) (rest : List ℕ) (since : Option ℕ) (p : whole.Plan) (seen : case_of t op rest since ≡ value) (laid : p ≡ plan t (asked op rest since)) where
+  pub laid_for : p ≡ plan value.tree (situation_of value)
+  laid_for = subst (λ (v : CaseValue). p ≡ plan v.tree (situation_of v)) seen laid
+
   pub readable_of : (legs : List PlannedLeg) → map leg_of legs ≡ hits p → (c : Choice) → AreLegsAt value.tree (CanHitAt value.tree (situation_of value) c) legs
   readable_of legs found c = subst (λ (v : CaseValue). AreLegsAt v.tree (CanHitAt v.tree (situation_of v) c) legs) seen (found_hits t op rest since legs (found ∙ ap hits laid) c)
 

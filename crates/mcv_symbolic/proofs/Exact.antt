@@ -76,25 +76,25 @@ in_either [] qs p h = inr h
 in_either (q ∷ ps) qs p (inl e) = inl (inl e)
 in_either (q ∷ ps) qs p (inr h) = ⊎_elim (λ i. inl (inr i)) (λ i. inr i) (in_either ps qs p h)
 
-inside_both : (t u v : Plan) (es fs : History) → positions v ≡ positions t ++ positions u → Inside t es → Inside u fs → Inside v (es ++ fs)
+pub inside_both : (t u v : Plan) (es fs : History) → positions v ≡ positions t ++ positions u → Inside t es → Inside u fs → Inside v (es ++ fs)
 inside_both t u v es fs w h k p n =
     let left = h p (λ i. n (subst (λ ps. In ps p) (sym w) (Orders.in_left (positions t) (positions u) p i))) in
     behind es fs p left ∙ k p (λ i. n (subst (λ ps. In ps p) (sym w) (Orders.in_right (positions t) (positions u) p i)))
 
-inside_first : (t u v : Plan) (es : History) → positions v ≡ positions t ++ positions u → Inside t es → Inside v es
+pub inside_first : (t u v : Plan) (es : History) → positions v ≡ positions t ++ positions u → Inside t es → Inside v es
 inside_first t u v es w h p n = h p (λ i. n (subst (λ ps. In ps p) (sym w) (Orders.in_left (positions t) (positions u) p i)))
 
-inside_if_error : (u : Plan) (x : Outcome) (es : History) → Inside u es → Inside u (if_error x es)
+pub inside_if_error : (u : Plan) (x : Outcome) (es : History) → Inside u es → Inside u (if_error x es)
 inside_if_error u Good es h p n = refl
 inside_if_error u Soft es h p n = refl
 inside_if_error u Error es h p n = h p n
 
-inside_if_missed : (u : Plan) (x : Outcome) (es : History) → Inside u es → Inside u (if_missed x es)
+pub inside_if_missed : (u : Plan) (x : Outcome) (es : History) → Inside u es → Inside u (if_missed x es)
 inside_if_missed u Good es h p n = refl
 inside_if_missed u Soft es h p n = h p n
 inside_if_missed u Error es h p n = h p n
 
-inside_send : (l : Leg) (x : Outcome) → Inside (Send l) ((l.position, x) ∷ [])
+pub inside_send : (l : Leg) (x : Outcome) → Inside (Send l) ((l.position, x) ∷ [])
 inside_send l x p n =
     elim (cases_Bool (is_same l.position p)) [
       | inl s ↦ absurd (n (inl (Orders.same_is l.position p s)))
@@ -113,19 +113,19 @@ answers_inside x (Shadowed s a b t u) = inside_first t u (Shadowed s a b t u) (a
 
 -- ---- from a route to its parts
 
-agrees_left : (t u v : Plan) (es fs : History) (o : Outcomes) → positions v ≡ positions t ++ positions u → AreApart t u → Inside u fs → Agrees v (es ++ fs) o → Agrees t es o
+pub agrees_left : (t u v : Plan) (es fs : History) (o : Outcomes) → positions v ≡ positions t ++ positions u → AreApart t u → Inside u fs → Agrees v (es ++ fs) o → Agrees t es o
 agrees_left t u v es fs o w a k g p i =
     g p (subst (λ ps. In ps p) (sym w) (Orders.in_left (positions t) (positions u) p i)) ∙ before es fs p (k p (λ j. a p i j))
 
-agrees_right : (t u v : Plan) (es fs : History) (o : Outcomes) → positions v ≡ positions t ++ positions u → AreApart t u → Inside t es → Agrees v (es ++ fs) o → Agrees u fs o
+pub agrees_right : (t u v : Plan) (es fs : History) (o : Outcomes) → positions v ≡ positions t ++ positions u → AreApart t u → Inside t es → Agrees v (es ++ fs) o → Agrees u fs o
 agrees_right t u v es fs o w a k g p i =
     g p (subst (λ ps. In ps p) (sym w) (Orders.in_right (positions t) (positions u) p i)) ∙ behind es fs p (k p (λ j. a p j i))
 
-agrees_first : (t u v : Plan) (es : History) (o : Outcomes) → positions v ≡ positions t ++ positions u → Agrees v es o → Agrees t es o
+pub agrees_first : (t u v : Plan) (es : History) (o : Outcomes) → positions v ≡ positions t ++ positions u → Agrees v es o → Agrees t es o
 agrees_first t u v es o w g p i = g p (subst (λ ps. In ps p) (sym w) (Orders.in_left (positions t) (positions u) p i))
 
 -- the second part knows nothing where the list is of the first
-agrees_none : (t u v : Plan) (es : History) (o : Outcomes) → positions v ≡ positions t ++ positions u → AreApart t u → Inside t es → Agrees v es o → Agrees u [] o
+pub agrees_none : (t u v : Plan) (es : History) (o : Outcomes) → positions v ≡ positions t ++ positions u → AreApart t u → Inside t es → Agrees v es o → Agrees u [] o
 agrees_none t u v es o w a k g p i = g p (subst (λ ps. In ps p) (sym w) (Orders.in_right (positions t) (positions u) p i)) ∙ k p (λ j. a p j i)
 
 -- ---- only the route's own positions count
@@ -157,7 +157,7 @@ counts_nothing (Shadowed s a b t u) o l h e = counts_nothing t o l (λ p i. h p 
 
 -- ---- every needed leg answers x
 
-if_error_at : (x : Outcome) (es : History) → x ≡ Error → if_error x es ≡ es
+pub if_error_at : (x : Outcome) (es : History) → x ≡ Error → if_error x es ≡ es
 if_error_at x es e = ap (λ y. if_error y es) e
 
 after_error_reply : (y z : Outcome) (b : Option Outcome) → (y ≡ Error → b ≡ Some z) → on_error (Some y) b ≡ Some (after_error y z)
@@ -170,7 +170,7 @@ after_miss_reply Good z b h = refl
 after_miss_reply Soft z b h = h (λ e. absurd cc)
 after_miss_reply Error z b h = h (λ e. absurd cc)
 
-if_missed_at : (x : Outcome) (es : History) → x ≢ Good → if_missed x es ≡ es
+pub if_missed_at : (x : Outcome) (es : History) → x ≢ Good → if_missed x es ≡ es
 if_missed_at Good es e = absurd (e refl)
 if_missed_at Soft es e = refl
 if_missed_at Error es e = refl
@@ -209,10 +209,10 @@ if_missed_some Soft es p y e = ((λ w. absurd cc), inl refl, e)
 if_missed_some Error es p y e = ((λ w. absurd cc), inr refl, e)
 
 -- the outcome is of a leg that is sent
-abbrev IsOfSent : Plan → Choice → Outcomes → List ℕ → Type 0
+abbrev pub IsOfSent : Plan → Choice → Outcomes → List ℕ → Type 0
 IsOfSent t c o p = (l : Leg) × (l.position ≡ p) × Sends t c o l
 
-send_sent : (k : Leg) (c : Choice) (o : Outcomes) (x : Outcome) (p : List ℕ) (y : Outcome) → outcomes ((k.position, x) ∷ []) p ≡ Some y → IsOfSent (Send k) c o p
+pub send_sent : (k : Leg) (c : Choice) (o : Outcomes) (x : Outcome) (p : List ℕ) (y : Outcome) → outcomes ((k.position, x) ∷ []) p ≡ Some y → IsOfSent (Send k) c o p
 send_sent k c o x p y e =
     elim (cases_Bool (is_same k.position p)) [
       | inl s ↦ (k, Orders.same_is k.position p s, refl)
@@ -255,7 +255,7 @@ answers_sent x (Shadowed i j k t u) c o a g p y e = let s = answers_sent x t c o
 
 -- ---- acknowledged legs
 
-counts_acknowledged : (t : Plan) (o : Outcomes) (l : Leg) → IsForDelete t → IsApart t → Agrees t (answers Good t) o → Counts t o l → Acknowledged t l
+pub counts_acknowledged : (t : Plan) (o : Outcomes) (l : Leg) → IsForDelete t → IsApart t → Agrees t (answers Good t) o → Counts t o l → Acknowledged t l
 counts_acknowledged (Send k) o l d a g e = e
 counts_acknowledged (Reply x) o l d a g e = e
 counts_acknowledged (Both t u) o l d a g (inl e) = inl (counts_acknowledged t o l d.0 a.0 (agrees_left t u (Both t u) (answers Good t) (answers Good u) o refl a.2 (answers_inside Good u) g) e)
@@ -290,17 +290,17 @@ can_be_done t c d a = (
 
 -- ---- hits
 
-after_error_good : (y z : Outcome) → after_error y z ≡ Good → (y ≡ Good) ⊎ (z ≡ Good)
+pub after_error_good : (y z : Outcome) → after_error y z ≡ Good → (y ≡ Good) ⊎ (z ≡ Good)
 after_error_good Good z e = inl refl
 after_error_good Soft z e = absurd cc
 after_error_good Error z e = inr e
 
-after_miss_good : (y z : Outcome) → after_miss y z ≡ Good → (y ≡ Good) ⊎ (z ≡ Good)
+pub after_miss_good : (y z : Outcome) → after_miss y z ≡ Good → (y ≡ Good) ⊎ (z ≡ Good)
 after_miss_good Good z e = inl refl
 after_miss_good Soft z e = inr e
 after_miss_good Error z e = inr e
 
-not_good : (x : Outcome) (t : Plan) → x ≢ Good → IsHonest t → if_all x t ≢ Good
+pub not_good : (x : Outcome) (t : Plan) → x ≢ Good → IsHonest t → if_all x t ≢ Good
 not_good x (Send l) n h e = n e
 not_good x (Reply y) n h e = h e
 not_good x (Both t u) n h e = not_good x t n h.0 (Basics.worse_good (if_all x t) (if_all x u) e).0
@@ -315,14 +315,14 @@ after_miss_at Good z n = absurd (n refl)
 after_miss_at Soft z n = refl
 after_miss_at Error z n = refl
 
-error≢good : Error ≢ Good
+pub error≢good : Error ≢ Good
 error≢good e = cc
 
-soft≢good : Soft ≢ Good
+pub soft≢good : Soft ≢ Good
 soft≢good e = cc
 
 -- a reply that is an error can be had by errors alone
-fails : (t : Plan) (o : Outcomes) → IsHonest t → reply t o ≡ Some Error → if_all Error t ≡ Error
+pub fails : (t : Plan) (o : Outcomes) → IsHonest t → reply t o ≡ Some Error → if_all Error t ≡ Error
 fails (Send l) o h e = refl
 fails (Reply y) o h e = Basics.some_same e
 fails (Both t u) o h e =
@@ -345,7 +345,7 @@ fails (OnMiss t u) o h e =
 fails (OnHit t u) o h e = fails t o h.0 e
 fails (Shadowed i j k t u) o h e = fails t o h.0 e
 
-good_hits : (t : Plan) (o : Outcomes) → IsHonest t → reply t o ≡ Some Good → (m : Leg) × Hits t m
+pub good_hits : (t : Plan) (o : Outcomes) → IsHonest t → reply t o ≡ Some Good → (m : Leg) × Hits t m
 good_hits (Send l) o h e = (l, refl)
 good_hits (Reply y) o h e = absurd (h (Basics.some_same e))
 good_hits (Both t u) o h e =
@@ -368,7 +368,7 @@ good_hits (OnMiss t u) o h e =
 good_hits (OnHit t u) o h e = good_hits t o h.0 e
 good_hits (Shadowed i j k t u) o h e = good_hits t o h.0 e
 
-hit_can_be : (t : Plan) (o : Outcomes) (l : Leg) → IsHonest t → HitAt t o l → Hits t l
+pub hit_can_be : (t : Plan) (o : Outcomes) (l : Leg) → IsHonest t → HitAt t o l → Hits t l
 hit_can_be (Send k) o l h e = e.0
 hit_can_be (Reply x) o l h e = e
 hit_can_be (Both t u) o l h e = (good_hits t o h.0 e.0, good_hits u o h.1 e.1, ⊎_elim (λ f. inl (hit_can_be t o l h.0 f)) (λ f. inr (hit_can_be u o l h.1 f)) e.2)
@@ -381,13 +381,13 @@ hit_can_be (OnHit t u) o l h e = hit_can_be t o l h.0 e
 hit_can_be (Shadowed i j k t u) o l h e = hit_can_be t o l h.0 e
 
 -- the list leads to a hit of the leg
-record Shows (t : Plan) (l : Leg) (es : History) : Type 0 where
-  inside : Inside t es
-  hit : (o : Outcomes) → Agrees t es o → HitAt t o l
-  good : (o : Outcomes) → Agrees t es o → reply t o ≡ Some Good
-  sent : (c : Choice) (o : Outcomes) → Agrees t es o → (p : List ℕ) (y : Outcome) → outcomes es p ≡ Some y → IsOfSent t c o p
+pub record Shows (t : Plan) (l : Leg) (es : History) : Type 0 where
+  pub inside : Inside t es
+  pub hit : (o : Outcomes) → Agrees t es o → HitAt t o l
+  pub good : (o : Outcomes) → Agrees t es o → reply t o ≡ Some Good
+  pub sent : (c : Choice) (o : Outcomes) → Agrees t es o → (p : List ℕ) (y : Outcome) → outcomes es p ≡ Some y → IsOfSent t c o p
 
-shows_both : (t u : Plan) (l m n : Leg) (es fs : History) → AreApart t u → Shows t m es → Shows u n fs → ((o : Outcomes) → HitAt t o m → HitAt u o n → HitAt t o l ⊎ HitAt u o l) → Shows (Both t u) l (es ++ fs)
+pub shows_both : (t u : Plan) (l m n : Leg) (es fs : History) → AreApart t u → Shows t m es → Shows u n fs → ((o : Outcomes) → HitAt t o m → HitAt u o n → HitAt t o l ⊎ HitAt u o l) → Shows (Both t u) l (es ++ fs)
 shows_both t u l m n es fs a x y f =
     record {
       inside = inside_both t u (Both t u) es fs refl x.inside y.inside;
@@ -399,10 +399,10 @@ shows_both t u l m n es fs a x y f =
       ];
     }
 
-abbrev Shown : Plan → Leg → Type 0
+abbrev pub Shown : Plan → Leg → Type 0
 Shown t l = (es : History) × Shows t l es
 
-shows_on_error : (t u : Plan) (l : Leg) (fs : History) → AreApart t u → IsApart t → if_all Error t ≡ Error → Shows u l fs → Shows (OnError t u) l (answers Error t ++ fs)
+pub shows_on_error : (t u : Plan) (l : Leg) (fs : History) → AreApart t u → IsApart t → if_all Error t ≡ Error → Shows u l fs → Shows (OnError t u) l (answers Error t ++ fs)
 shows_on_error t u l fs a at w y =
     let left : (o : Outcomes) → Agrees (OnError t u) (answers Error t ++ fs) o → Agrees t (answers Error t) o = λ o g. agrees_left t u (OnError t u) (answers Error t) fs o refl a y.inside g in
     let right : (o : Outcomes) → Agrees (OnError t u) (answers Error t ++ fs) o → Agrees u fs o = λ o g. agrees_right t u (OnError t u) (answers Error t) fs o refl a (answers_inside Error t) g in
@@ -417,12 +417,12 @@ shows_on_error t u l fs a at w y =
       ];
     }
 
-missed_at : (y : Outcome) → y ≢ Good → IsMissed (Some y)
+pub missed_at : (y : Outcome) → y ≢ Good → IsMissed (Some y)
 missed_at Good n = absurd (n refl)
 missed_at Soft n = inl refl
 missed_at Error n = inr refl
 
-shows_on_miss : (t u : Plan) (l : Leg) (fs : History) → AreApart t u → IsApart t → IsHonest t → Shows u l fs → Shows (OnMiss t u) l (answers Soft t ++ fs)
+pub shows_on_miss : (t u : Plan) (l : Leg) (fs : History) → AreApart t u → IsApart t → IsHonest t → Shows u l fs → Shows (OnMiss t u) l (answers Soft t ++ fs)
 shows_on_miss t u l fs a at h y =
     let left : (o : Outcomes) → Agrees (OnMiss t u) (answers Soft t ++ fs) o → Agrees t (answers Soft t) o = λ o g. agrees_left t u (OnMiss t u) (answers Soft t) fs o refl a y.inside g in
     let right : (o : Outcomes) → Agrees (OnMiss t u) (answers Soft t ++ fs) o → Agrees u fs o = λ o g. agrees_right t u (OnMiss t u) (answers Soft t) fs o refl a (answers_inside Soft t) g in
@@ -438,7 +438,7 @@ shows_on_miss t u l fs a at h y =
     }
 
 -- what leads to a hit in the first part leads to one in the whole
-shows_first : (t u v : Plan) (l : Leg) (es : History) → positions v ≡ positions t ++ positions u
+pub shows_first : (t u v : Plan) (l : Leg) (es : History) → positions v ≡ positions t ++ positions u
     → ((o : Outcomes) → HitAt t o l → HitAt v o l) → ((o : Outcomes) → reply t o ≡ Some Good → reply v o ≡ Some Good) → ((c : Choice) (o : Outcomes) (m : Leg) → Sends t c o m → Sends v c o m)
     → Shows t l es → Shows v l es
 shows_first t u v l es w f g h x =
@@ -449,16 +449,16 @@ shows_first t u v l es w f g h x =
       sent = λ c o k p z e. let s = x.sent c o (agrees_first t u v es o w k) p z e in (s.0, s.1, h c o s.0 s.2);
     }
 
-shown : (t : Plan) (l : Leg) → IsApart t → IsHonest t → Hits t l → Shown t l
-shown (Send k) l a h i = (
-  (k.position, Good) ∷ [],
-  record {
-    inside = inside_send k Good;
-    hit = λ o g. (i, g k.position (inl refl) ∙ Orders.newest k.position Good []);
-    good = λ o g. g k.position (inl refl) ∙ Orders.newest k.position Good [];
-    sent = λ c o g p y e. send_sent k c o Good p y e;
-  },
-)
+pub shows_send : (k : Leg) → Shows (Send k) k ((k.position, Good) ∷ [])
+shows_send k = record {
+  inside = inside_send k Good;
+  hit = λ o g. (refl, g k.position (inl refl) ∙ Orders.newest k.position Good []);
+  good = λ o g. g k.position (inl refl) ∙ Orders.newest k.position Good [];
+  sent = λ c o g p y e. send_sent k c o Good p y e;
+}
+
+pub shown : (t : Plan) (l : Leg) → IsApart t → IsHonest t → Hits t l → Shown t l
+shown (Send k) l a h i = ((k.position, Good) ∷ [], subst (λ m. Shows (Send k) m ((k.position, Good) ∷ [])) i (shows_send k))
 shown (Reply x) l a h i = absurd i
 shown (Both t u) l a h i =
     elim i.2 [

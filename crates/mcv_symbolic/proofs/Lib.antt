@@ -1,5 +1,6 @@
 pub mod Later
 pub mod Pushed
+pub mod Tried
 pub mod Exact
 pub mod Marks
 pub mod OnPlans

@@ -24,19 +24,21 @@ one-then old mid now a b first second = second ∙ ap (λ l. l ++ b) first ∙ a
 
 -- ---- after an error
 
+pub tree-OnError : (p : Plan) (a b : Box Plan Global) (first second : Plan) → p ≡ OnError a b → first ≡ a.value → second ≡ b.value → plan_of p ≡ whole.OnError (plan_of first) (plan_of second)
+tree-OnError p a b first second is f s = ap plan_of is ∙ planned-OnError a b ∙ ap (λ q. whole.OnError (plan_of q) (plan_of b.value)) (sym f) ∙ ap (λ q. whole.OnError (plan_of first) (plan_of q)) (sym s)
+
 pub hits-OnError : (p : Plan) (a b : Box Plan Global) (first second : Plan) (old mid : List Leg) (x : Outcome) → p ≡ OnError a b → first ≡ a.value → second ≡ b.value → mid ≡ old ++ hits (plan_of first) → x ≡ if_all Error (plan_of first) → x ≡ Error
     → mid ++ hits (plan_of second) ≡ old ++ hits (plan_of p)
 hits-OnError p a b first second old mid x is f s one reply err =
     let t = plan_of first in
     let u = plan_of second in
-    let tree : plan_of p ≡ whole.OnError t u = ap plan_of is ∙ planned-OnError a b ∙ ap (λ q. whole.OnError (plan_of q) (plan_of b.value)) (sym f) ∙ ap (λ q. whole.OnError t (plan_of q)) (sym s) in
-    let all : hits (plan_of p) ≡ hits t ++ hits u = ap hits tree ∙ ap (λ y. hits t ++ when_error y (hits u)) (sym reply ∙ err) in
+    let all : hits (plan_of p) ≡ hits t ++ hits u = ap hits (tree-OnError p a b first second is f s) ∙ ap (λ y. hits t ++ when_error y (hits u)) (sym reply ∙ err) in
     one-then old mid (mid ++ hits u) (hits t) (hits u) one refl ∙ ap (λ l. old ++ l) (sym all)
 
 -- ---- after a miss
 
 module _ (p : Plan) (a b : Box Plan Global) (first second : Plan) (is : p ≡ OnMiss a b) (f : first ≡ a.value) (s : second ≡ b.value) where
-  tree-OnMiss : plan_of p ≡ whole.OnMiss (plan_of first) (plan_of second)
+  pub tree-OnMiss : plan_of p ≡ whole.OnMiss (plan_of first) (plan_of second)
   tree-OnMiss = ap plan_of is ∙ planned-OnMiss a b ∙ ap (λ q. whole.OnMiss (plan_of q) (plan_of b.value)) (sym f) ∙ ap (λ q. whole.OnMiss (plan_of first) (plan_of q)) (sym s)
 
   pub hits-OnMiss : (old mid now : List Leg) → mid ≡ old ++ hits (plan_of first) → now ≡ mid ++ hits (plan_of second) → now ≡ old ++ hits (plan_of p)

@@ -3,6 +3,8 @@ pub mod Case
 pub mod Sets
 pub mod Structure
 pub mod Listed
+pub mod Shown
+pub mod Tried
 pub mod Justified
 pub mod Laws
 pub mod Covered

@@ -5,12 +5,15 @@ ghost use Rattle.mcv_base.specs.Reply.{is_error};
 ghost use Rattle.mcv_base.specs.declared.operation.Op.TheVariants.{Delete as Deleting};
 ghost use Rattle.mcv_route.specs.Outcomes.{Choice};
 ghost use Rattle.mcv_route.specs.View.{view};
+ghost use Rattle.mcv_rules.specs.Plans.{plan};
 ghost use Rattle.mcv_symbolic.specs.Case.{situation_of};
 ghost use Rattle.mcv_symbolic.specs.Sets.{AreLegsAt, CanBeAcknowledged, CanHitAt, IsAcknowledged};
+ghost use Rattle.mcv_symbolic.specs.Shown.{answers, history_of, leading};
 
 use crate::layout::laid_out;
 use crate::plan::Plan;
 use crate::sets::{push_acknowledged, push_hits, reply_if_all};
+use crate::shown::{LegAnswer, push_answers, push_leading};
 use mcv_base::{Mark, Moment, Op, Outcome, Position, Rest};
 use mcv_route::Route;
 use mcv_rules::{Asked, PlannedLeg};
@@ -91,6 +94,33 @@ impl<'a> Case<'a> {
         let mut legs = Vec::new(alloc);
         push_acknowledged(&self.plan, &mut legs)?;
         Ok(legs)
+    }
+
+    /// The answers by which the route has its reply where each leg that it needs answers so, in the order of their
+    /// positions.
+    pub fn answers(&self, alloc: Global, answer: Outcome) -> Result<Vec<LegAnswer<'_>>, AllocError>
+        ensures { IfOk result (λ legs. history_of legs.items ≡ answers answer (plan self.now.tree (situation_of self.now))) }
+    {
+        let mut legs = Vec::new(alloc);
+        push_answers(&self.plan, answer, &mut legs)?;
+        Ok(legs)
+    }
+
+    /// The answers by which the leaf at the position hits, and its hit is the route's answer; None where there are
+    /// none.
+    pub fn hit_of(
+        &self,
+        alloc: Global,
+        leaf: &Position,
+    ) -> Result<Option<Vec<LegAnswer<'_>>>, AllocError>
+        ensures { IfOk result (λ found. option_map (λ legs. history_of legs.items) found ≡ leading leaf.now (plan self.now.tree (situation_of self.now))) }
+    {
+        let mut legs = Vec::new(alloc);
+        if push_leading(&self.plan, leaf, &mut legs)? {
+            Ok(Some(legs))
+        } else {
+            Ok(None)
+        }
     }
 }
 

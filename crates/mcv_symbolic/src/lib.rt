@@ -3,7 +3,7 @@
 //!
 //! The definitions (`specs/Sets.antt`) speak of all outcomes that can come and of one choice. The laws say
 //! that the choice makes no difference, and that the structure of the route gives the sets; so `Case` lays
-//! out the plan of the route once and reads each set off it in one walk.
+//! out the plan of the route once and reads each set off it in one walk, and the answers of legs that show it.
 #![tactic(auto)]
 
 mod case;
@@ -11,8 +11,10 @@ mod laws;
 mod layout;
 mod plan;
 mod sets;
+mod shown;
 
 pub use case::Case;
 pub use laws::{
     covered_is_justified, sets_are_exact, sets_ignore_the_choice, symbols_are_independent,
 };
+pub use shown::LegAnswer;

@@ -13,7 +13,7 @@ use mcv_rules::PlannedLeg;
 use std::alloc::AllocError;
 
 /// The worse of two outcomes.
-fn worse(first: Outcome, second: Outcome) -> Outcome
+pub fn worse(first: Outcome, second: Outcome) -> Outcome
     ensures { result ≡ worse first second }
 {
     match (first, second) {

@@ -1,9 +1,9 @@
 //! What can be read and what is acknowledged, a row a case; each pool has one server.
 
-use mcv_base::{Op, Rest, ServerId};
+use mcv_base::{Op, Outcome, Position, Rest, ServerId};
 use mcv_route::{Leaf, Route, Shadow};
 use mcv_rules::PlannedLeg;
-use mcv_symbolic::Case;
+use mcv_symbolic::{Case, LegAnswer};
 use std::alloc::{AllocError, Global};
 use std::sync::Arc;
 use std::test::Fail;
@@ -41,9 +41,20 @@ fn last_of(alloc: Global, routes: &mut Vec<Route>, count: usize) -> Result<Vec<R
     Ok(children)
 }
 
+/// A WarmUpRoute of the last two routes.
+fn warm_up(alloc: Global, routes: &mut Vec<Route>) -> Result<Route, AllocError> {
+    let warm = routes.pop().unwrap_or(Route::Null);
+    let cold = routes.pop().unwrap_or(Route::Null);
+    Ok(Route::WarmUp {
+        cold: Box::new(alloc, cold)?,
+        warm: Box::new(alloc, warm)?,
+        exptime: 60,
+    })
+}
+
 /// The route that letters spell: N a NullRoute, E an ErrorRoute, C a copied pool; s, i, m and f an AllSyncRoute, an
-/// AllInitialRoute, a MissFailoverRoute and a FailoverRoute of the last two, F a FailoverRoute of the last three; any
-/// other letter a pool.
+/// AllInitialRoute, a MissFailoverRoute and a FailoverRoute of the last two, w a WarmUpRoute of them, F a FailoverRoute
+/// of the last three; any other letter a pool.
 fn route_of(alloc: Global, letters: &str) -> Result<Route, Fail> {
     let mut routes = Vec::new(alloc);
     for letter in letters.as_bytes() {
@@ -55,6 +66,7 @@ fn route_of(alloc: Global, letters: &str) -> Result<Route, Fail> {
             b'i' => Route::AllInitial(last_of(alloc, &mut routes, 2)?),
             b'm' => Route::MissFailover(last_of(alloc, &mut routes, 2)?),
             b'f' => Route::Failover(last_of(alloc, &mut routes, 2)?),
+            b'w' => warm_up(alloc, &mut routes)?,
             b'F' => Route::Failover(last_of(alloc, &mut routes, 3)?),
             other => pool(alloc, u32::from(other), Vec::new(alloc))?,
         };
@@ -105,6 +117,86 @@ fn sets_are_those_of_the_rows(rt: HostRuntime) -> Result<(), Fail> {
         let (letters, wanted) = row.split_once(" | ").ok_or("a row without a bar")?;
         let route = route_of(alloc, letters)?;
         let found = given(alloc, &route)?;
+        let found = found.as_str();
+        assert!(rt; found == wanted, "{row}\n{found}");
+    }
+    Ok(())
+}
+
+fn shown(alloc: Global, answers: &[LegAnswer]) -> Result<String, Fail> {
+    let mut text = String::new(alloc);
+    for answer in answers {
+        let steps = answer.leg.position.steps();
+        let outcome = answer.outcome;
+        write!(text, "{steps:?}{outcome:?}")?;
+    }
+    Ok(text)
+}
+
+/// The answers by which a hit of each of the first two children is a get's answer, `-` where none do.
+fn hits(alloc: Global, route: &Route) -> Result<String, Fail> {
+    let rest = Rest::of(b"a").ok_or("no rest")?;
+    let get = Case::new(alloc, route, Op::Get, &rest, None)?;
+    let mut text = String::new(alloc);
+    for child in 0..2 {
+        let leaf = Position::root(alloc).child(alloc, child)?;
+        let answers = match get.hit_of(alloc, &leaf)? {
+            Some(answers) => shown(alloc, answers.as_slice())?,
+            None => String::from_str(alloc, "-")?,
+        };
+        let answers = answers.as_str();
+        write!(text, "{answers};")?;
+    }
+    Ok(text)
+}
+
+const HITS: &str = "\
+abw | [0]Good;[0]Soft[1]Good;
+abs | [0]Good[1]Good;[0]Good[1]Good;
+abf | [0]Good;[0]Error[1]Good;
+abm | [0]Good;[0]Soft[1]Good;
+abi | [0]Good;-;
+aNs | -;-;
+Nbf | -;-;
+Ebf | -;[1]Good;";
+
+#[test]
+fn hits_are_those_of_the_rows(rt: HostRuntime) -> Result<(), Fail> {
+    let alloc = rt.alloc();
+    for row in HITS.lines() {
+        let (letters, wanted) = row.split_once(" | ").ok_or("a row without a bar")?;
+        let route = route_of(alloc, letters)?;
+        let found = hits(alloc, &route)?;
+        let found = found.as_str();
+        assert!(rt; found == wanted, "{row}\n{found}");
+    }
+    Ok(())
+}
+
+/// The answers of a delete where all legs answer Good, and where all answer Error.
+fn alike(alloc: Global, route: &Route) -> Result<String, Fail> {
+    let rest = Rest::of(b"a").ok_or("no rest")?;
+    let delete = Case::new(alloc, route, Op::Delete, &rest, None)?;
+    let good = shown(alloc, delete.answers(alloc, Outcome::Good)?.as_slice())?;
+    let bad = shown(alloc, delete.answers(alloc, Outcome::Error)?.as_slice())?;
+    let mut text = String::new(alloc);
+    write!(text, "{good} {bad}")?;
+    Ok(text)
+}
+
+const ALIKE: &str = "\
+abs | [0]Good[1]Good [0]Error[1]Error
+abf | [0]Good [0]Error[1]Error
+abi | [0]Good [0]Error
+C | []Good []Error";
+
+#[test]
+fn answers_alike_are_those_of_the_rows(rt: HostRuntime) -> Result<(), Fail> {
+    let alloc = rt.alloc();
+    for row in ALIKE.lines() {
+        let (letters, wanted) = row.split_once(" | ").ok_or("a row without a bar")?;
+        let route = route_of(alloc, letters)?;
+        let found = alike(alloc, &route)?;
         let found = found.as_str();
         assert!(rt; found == wanted, "{row}\n{found}");
     }

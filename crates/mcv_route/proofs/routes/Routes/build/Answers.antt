@@ -1,6 +1,7 @@
 use Rattle.std.proofs.Common.{map, ap, sym, subst, ◌∙◌}
 use Rattle.std.specs.List.{flat_map}
 use Rattle.mcv_config.specs.Plan.{IsSound}
+use Rattle.mcv_route.specs.Aliases.{AreSelected}
 use Rattle.mcv_route.specs.Built.{routes_named}
 use Rattle.mcv_route.specs.Eras.{breaks, IsBreakTable}
 use Rattle.mcv_route.specs.Limits.{AreWithinLimits}
@@ -8,6 +9,7 @@ use Rattle.mcv_route.specs.Routes.{IsSoundRoutes}
 use Rattle.mcv_route.specs.RoutesView.{entry_view, numbers_of}
 use Rattle.mcv_route.specs.Walk.{list_view}
 use Rattle.mcv_route.proofs.Limits.{within-built}
+use Rattle.mcv_route.proofs.Selected.{selected-built}
 use Rattle.mcv_route.proofs.Soundness.{sound-built}
 use Rattle.mcv_route.proofs.Whole.{sound-entries, routes-are}
 use Rattle.mcv_route.proofs.routes.Routes.build.Goals as goal
@@ -26,6 +28,7 @@ invariant_of-result c =
     record {
       trees = subst IsSoundRoutes (sym is) (sound-built c.args.config c.into_parts-servers.ensures.sound);
       limits = subst AreWithinLimits (sym is) (within-built c.args.config c.into_parts-servers.ensures.sound c.into_parts-servers.ensures.limits);
+      selected = subst (λ r. AreSelected r.entries) (sym is) (selected-built c.args.config c.into_parts-servers.ensures.sound);
       table = subst P (c.in_ok-moments.ensures ∙ ap (λ es. flat_map (λ e. breaks e.tree) (map entry_view es)) c.as_slice-2.ensures.value) c.in_ok-break_table.ensures;
     }
 
