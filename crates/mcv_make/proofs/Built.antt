@@ -25,7 +25,7 @@ use Rattle.mcv_symbolic.specs.Sets.{AreLegsAt, CanHitAt, IsAcknowledged}
 use Rattle.mcv_witness.specs.Finding.{FindingValue}
 use Rattle.mcv_make.specs.Free.{free_indexes}
 use Rattle.mcv_make.specs.Place.{HasMember}
-use Rattle.mcv_make.specs.Shown.{answers, leading}
+use Rattle.mcv_symbolic.specs.Shown.{answers, leading}
 use Rattle.mcv_make.specs.Told.{IsToldWith}
 use Rattle.mcv_make.proofs.Gaps as gaps
 

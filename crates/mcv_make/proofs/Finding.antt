@@ -33,7 +33,7 @@ use Rattle.mcv_symbolic.specs.Sets.{AreLegsAt, IsAcknowledged}
 use Rattle.mcv_witness.specs.Breaks.{BreaksCoverage, IsLeafOf, IsMissed, IsRead, StandsAt}
 use Rattle.mcv_witness.specs.Finding.{FindingValue}
 use Rattle.mcv_make.specs.Free.{free_indexes}
-use Rattle.mcv_make.specs.Shown.{answers}
+use Rattle.mcv_symbolic.specs.Shown.{answers}
 use Rattle.mcv_make.specs.Told.{IsToldWith}
 use Rattle.mcv_make.proofs.Breaks as gaps
 use Rattle.mcv_make.proofs.KeyWord.{key-word}

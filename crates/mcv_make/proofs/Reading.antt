@@ -19,7 +19,7 @@ use Rattle.mcv_symbolic.proofs.Exactness.{hits_are_exact}
 use Rattle.mcv_symbolic.proofs.Rising.{plan_rises}
 use Rattle.mcv_symbolic.proofs.Sized.{formed, sizes_for}
 use Rattle.mcv_witness.specs.Breaks.{AreRising}
-use Rattle.mcv_make.specs.Shown.{leading}
+use Rattle.mcv_symbolic.specs.Shown.{leading}
 use Rattle.mcv_make.proofs.Leading.{HasHitAt, leading_right, shown}
 use Rattle.mcv_make.proofs.Ordered.{are-rising}
 
@@ -50,5 +50,5 @@ module _ (t : Tree) (op : Op) (rest : List ℕ) (since : Option ℕ) (p : List �
 
 -- a leaf that can be read is shown to hit by get or by gets
 pub one-reads : (t : Tree) (rest : List ℕ) (since : Option ℕ) (p : List ℕ) → leading p (plan t (asked Get rest since)) ≡ None → leading p (plan t (asked Gets rest since)) ≡ None → IsReadableAt t rest since p → ⊥
-one-reads t rest since p get gets (c, inl h) = cannot t Get rest since p c get h
-one-reads t rest since p get gets (c, inr h) = cannot t Gets rest since p c gets h
+one-reads t rest since p none no (c, inl h) = cannot t Get rest since p c none h
+one-reads t rest since p none no (c, inr h) = cannot t Gets rest since p c no h

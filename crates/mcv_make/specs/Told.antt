@@ -7,6 +7,7 @@ use Rattle.mcv_base.specs.declared.reply.Outcome.TheVariants.{Good}
 use Rattle.mcv_blocks.specs.Blocks.{IsEraOf}
 use Rattle.mcv_classes.specs.Class.{IsMember}
 use Rattle.mcv_classes.specs.Words.{class_words}
+use Rattle.mcv_route.specs.Aliases.{first_alias}
 use Rattle.mcv_route.specs.Outcomes.{Choice}
 use Rattle.mcv_route.specs.Places.{pool_at_position}
 use Rattle.mcv_route.specs.Routes.{RouteEntry, RoutesValue}
@@ -18,7 +19,7 @@ use Rattle.mcv_symbolic.specs.Covered.{IsRest}
 use Rattle.mcv_symbolic.specs.Sets.{AreLegsAt, CanHitAt, IsAcknowledged}
 use Rattle.mcv_witness.specs.Finding.{FindingValue}
 use Rattle.mcv_make.specs.Free.{free_indexes}
-use Rattle.mcv_make.specs.Shown.{answers, leading}
+use Rattle.mcv_symbolic.specs.Shown.{answers, leading}
 
 -- the key is the prefix and the member of the class
 pub record IsToldWith (r : RoutesValue) (prefix : List ℕ) (f : FindingValue) : Type 0 where
@@ -44,3 +45,7 @@ pub record IsToldWith (r : RoutesValue) (prefix : List ℕ) (f : FindingValue) :
   pub gets : leading f.leaf (plan entry.tree (asked f.op rest since)) ≡ Some f.gets
   -- each leg that the reply needs has deleted
   pub deletes : f.deletes ≡ answers Good (plan entry.tree (asked Delete rest since))
+
+-- the prefix is the first one that selects the route
+abbrev pub IsTold : RoutesValue → FindingValue → Type 0
+IsTold r f = (prefix : List ℕ) × (first_alias r f.route ≡ Some prefix) × IsToldWith r prefix f

@@ -11,7 +11,7 @@ ghost use Rattle.mcv_symbolic.specs.Covered.{IsRest, sizes_of};
 ghost use Rattle.mcv_witness.specs.Breaks.{BreaksCoverage};
 ghost use Rattle.mcv_witness.specs.Finding.{finding_of};
 ghost use Rattle.mcv_make.specs.Place.{HasMember, StandsAtGap};
-ghost use Rattle.mcv_make.specs.Told.{IsToldWith};
+ghost use Rattle.mcv_make.specs.Told.{IsTold, IsToldWith};
 
 use crate::scene::{Reading, Scene};
 use mcv_base::{Prefix, Rest};
@@ -75,11 +75,8 @@ fn copied(alloc: Global, word: &[u8]) -> Result<Vec<u8>, AllocError>
     Vec::from_slice(alloc, word)
 }
 
-/// The finding that shows a gap: the member of its class behind the prefix, which selects its route.
-///
-/// The leaf hits under get, or under gets where get can't read it. Takes time and memory in proportion to the route,
-/// its classes, the symbols and the servers of its legs.
-pub fn find(
+/// The finding that shows a gap with a key behind the prefix, which selects the gap's route.
+fn find_behind(
     alloc: Global,
     routes: &Routes,
     prefix: &Prefix,
@@ -124,4 +121,20 @@ pub fn find(
         gets,
         deletes: scene.deletes(alloc)?,
     })
+}
+
+/// The finding that shows a gap: the member of its class behind the first routing prefix of its route.
+///
+/// The leaf hits under get, or under gets where get can't read it. Takes time and memory in proportion to the route,
+/// its classes, the symbols and the servers of its legs.
+pub fn find(alloc: Global, routes: &Routes, gap: &Gap) -> Result<Finding, AllocError>
+    requires gap { IsGap routes.now (place_of_gap gap.now) gap.now.at gap.now.server.0 }
+    ensures breaks { IfOk result (λ f. BreaksCoverage routes.now (finding_of f)) }
+    ensures stands { IfOk result (λ f. StandsAtGap gap.now (finding_of f)) }
+    ensures told { IfOk result (λ f. IsTold routes.now (finding_of f)) }
+{
+    let Some(prefix) = routes.first_alias(gap.route) else {
+        unreachable!()
+    };
+    find_behind(alloc, routes, prefix, gap)
 }

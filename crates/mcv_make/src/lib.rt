@@ -6,6 +6,5 @@
 mod finder;
 mod free;
 mod scene;
-mod stub;
 
 pub use finder::find;

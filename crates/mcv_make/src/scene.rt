@@ -13,14 +13,13 @@ ghost use Rattle.mcv_symbolic.specs.Justified.{IsReadableAt};
 ghost use Rattle.mcv_symbolic.specs.Sets.{AreLegsAt, CanHitAt, IsAcknowledged};
 ghost use Rattle.mcv_witness.specs.Finding.{outcomes_of};
 ghost use Rattle.mcv_make.specs.Free.{free_indexes};
-ghost use Rattle.mcv_make.specs.Shown.{answers, history_of, leading};
+ghost use Rattle.mcv_symbolic.specs.Shown.{answers, history_of, leading};
 
 use crate::free::free_choice;
-use crate::stub::{LegAnswer, answers, hit_of};
 use mcv_base::{Moment, Op, Outcome, Position, Rest, ServerId};
 use mcv_pools::{Choice, Symbol};
 use mcv_route::Route;
-use mcv_symbolic::Case;
+use mcv_symbolic::{Case, LegAnswer};
 use mcv_witness::LegOutcome;
 use std::alloc::{AllocError, Global};
 
@@ -65,7 +64,7 @@ impl<'a> Scene<'a> {
         ensures { IfOk result (λ found. option_map (λ legs. outcomes_of legs.items) found ≡ leading leaf.now (plan (view self.now.route.now) (asked op self.now.rest.now (option_map (λ m. m.0) self.now.since)))) }
     {
         let case = Case::new(alloc, self.route, op, self.rest, self.since)?;
-        let Some(legs) = hit_of(&case, alloc, leaf)? else {
+        let Some(legs) = case.hit_of(alloc, leaf)? else {
             return Ok(None);
         };
         Ok(Some(copied(alloc, legs.as_slice())?))
@@ -92,7 +91,7 @@ impl<'a> Scene<'a> {
         ensures { IfOk result (λ legs. outcomes_of legs.items ≡ answers Done (plan (view self.now.route.now) (asked Deleting self.now.rest.now (option_map (λ m. m.0) self.now.since)))) }
     {
         let case = Case::new(alloc, self.route, Op::Delete, self.rest, self.since)?;
-        let legs = answers(&case, alloc, Outcome::Good)?;
+        let legs = case.answers(alloc, Outcome::Good)?;
         copied(alloc, legs.as_slice())
     }
 

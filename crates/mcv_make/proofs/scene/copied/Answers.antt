@@ -4,8 +4,8 @@ use Rattle.mcv_base.specs.declared.reply.Outcome.{Outcome}
 use Rattle.mcv_route.specs.Outcomes.{History}
 use Rattle.mcv_witness.specs.Finding.{outcomes_of}
 use Rattle.mcv_witness.specs.declared.finding.LegOutcome.{LegOutcome}
-use Rattle.mcv_make.specs.declared.stub.LegAnswer.{LegAnswer}
-use Rattle.mcv_make.specs.Shown.{history_of}
+use Rattle.mcv_symbolic.specs.declared.shown.LegAnswer.{LegAnswer}
+use Rattle.mcv_symbolic.specs.Shown.{history_of}
 use Rattle.mcv_make.proofs.scene.copied.Goals as goal
 
 pub loop-answer-preserved : goal.loop-answer-preserved
