@@ -33,7 +33,7 @@ use Rattle.mcv_blocks.proofs.PoolSizes.{AreSized}
 use Rattle.mcv_blocks.proofs.Searches.{from_map, into_map}
 use Rattle.mcv_blocks.proofs.Unique.{leg_there, pool_of_leg}
 use Rattle.mcv_make.specs.Free.{free_index, free_indexes, is_taken, least_free, takes}
-use Rattle.mcv_make.specs.Shown.{answers}
+use Rattle.mcv_symbolic.specs.Shown.{answers}
 use Rattle.mcv_make.proofs.Chosen.{found-free, free-or-full, index-at, other-index, own-index}
 use Rattle.mcv_make.proofs.Missed
 use Rattle.mcv_make.proofs.Unanswered

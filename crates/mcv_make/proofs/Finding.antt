@@ -33,7 +33,8 @@ use Rattle.mcv_symbolic.specs.Sets.{AreLegsAt, IsAcknowledged}
 use Rattle.mcv_witness.specs.Breaks.{BreaksCoverage, IsLeafOf, IsMissed, IsRead, StandsAt}
 use Rattle.mcv_witness.specs.Finding.{FindingValue}
 use Rattle.mcv_make.specs.Free.{free_indexes}
-use Rattle.mcv_make.specs.Shown.{answers, leading}
+use Rattle.mcv_symbolic.specs.Shown.{answers}
+use Rattle.mcv_make.specs.Told.{IsToldWith}
 use Rattle.mcv_make.proofs.Breaks as gaps
 use Rattle.mcv_make.proofs.KeyWord.{key-word}
 use Rattle.mcv_make.proofs.Missed
@@ -50,28 +51,8 @@ prefix-some (x ∷ p) h = omega arith
 abbrev pub place_of : FindingValue → Place
 place_of f = record { route = f.route; class = f.class; era = f.era; leaf = f.leaf }
 
--- what the walks have found, and where
-pub record IsBuilt (r : RoutesValue) (f : FindingValue) (prefix : List ℕ) : Type 0 where
-  pub entry : RouteEntry
-  pub rest : List ℕ
-  pub since : Option ℕ
-  pub pool : Pool
-  pub legs : List PlannedLeg
-  pub numbered : slice_get r.entries f.route ≡ Some entry
-  pub listed : Contains (class_words entry.tree) f.class
-  pub member : IsMember (class_words entry.tree) f.class (Some rest)
-  pub rest_is : IsRest rest
-  pub opened : IsEraOf r f.era since
-  pub key : f.key ≡ prefix ++ rest
-  pub stands : pool_at_position entry.tree f.leaf ≡ Some pool
-  pub are : (c : Choice) → AreLegsAt entry.tree (IsAcknowledged entry.tree rest since c) legs
-  pub choice : f.choice ≡ free_indexes legs f.server pool.symbol f.at 0 r.symbols
-  pub reading : is_reading f.op ≡ true
-  pub gets : leading f.leaf (plan entry.tree (asked f.op rest since)) ≡ Some f.gets
-  pub deletes : f.deletes ≡ answers Good (plan entry.tree (asked Delete rest since))
-
 module _ (r : RoutesValue) (sound : IsSoundRoutes r) (limits : AreWithinLimits r) (positive : All (λ n. 0 < n) (sizes_of r)) (f : FindingValue) (prefix : List ℕ) (gap : IsGap r (place_of f) f.at f.server)
-    (alias : IsAlias prefix) (short : length prefix ≤ alias_limit) (selects : route_of_prefix prefix r.entries ≡ Some f.route) (built : IsBuilt r f prefix) where
+    (alias : IsAlias prefix) (short : length prefix ≤ alias_limit) (selects : route_of_prefix prefix r.entries ≡ Some f.route) (built : IsToldWith r prefix f) where
   abbrev tree : Tree
   tree = built.entry.tree
 

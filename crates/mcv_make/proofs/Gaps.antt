@@ -16,7 +16,7 @@ use Rattle.mcv_route.specs.Places.{leaf_in, pool_at_position}
 use Rattle.mcv_route.specs.Routes.{RouteEntry, RoutesValue}
 use Rattle.mcv_route.specs.Tree.{Pool, Tree}
 use Rattle.mcv_symbolic.specs.Justified.{IsReadableAt}
-use Rattle.mcv_make.specs.Place.{HasClass, IsMemberOf}
+use Rattle.mcv_make.specs.Place.{HasMember}
 
 module _ (r : RoutesValue) (g : Gap) (gap : IsGap r (place_of_gap g) g.at g.server.0) where
   abbrev b : BlockValue
@@ -44,20 +44,19 @@ module _ (r : RoutesValue) (g : Gap) (gap : IsGap r (place_of_gap g) g.at g.serv
   pub numbered : slice_get r.entries g.route ≡ Some entry
   numbered = subst (λ n. slice_get r.entries n ≡ Some entry) at-route gap.stands.place.numbered
 
-  pub has_class : HasClass r g.route g.class.items
-  has_class =
+  -- the gap's class is one of its route, and has a member
+  pub listed : (e : RouteEntry) → slice_get r.entries g.route ≡ Some e → Contains (class_words e.tree) g.class.items
+  listed e here =
       let place = gap.stands.place in
-      record {
-        entry = entry;
-        numbered = numbered;
-        class = record { word = b.class; member = Some gap.stands.member };
-        listed = record {
-          word = subst (λ t. Contains (class_words t) b.class) (sym place.has_tree) place.listed;
-          member = subst (λ t. IsMember (class_words t) b.class (Some gap.stands.member)) (sym place.has_tree) place.has_member;
-          some = refl;
-        };
-        is = at-class;
-      }
+      let same : entry ≡ e = same_Some entry e (sym numbered ∙ here) in
+      subst (λ x. Contains (class_words x.tree) g.class.items) same (subst (λ t. Contains (class_words t) g.class.items) (sym place.has_tree) (subst (Contains (class_words gap.stands.tree)) at-class place.listed))
+
+  pub has_member : (e : RouteEntry) → slice_get r.entries g.route ≡ Some e → HasMember (class_words e.tree) g.class.items
+  has_member e here =
+      let place = gap.stands.place in
+      let same : entry ≡ e = same_Some entry e (sym numbered ∙ here) in
+      subst (λ x. HasMember (class_words x.tree) g.class.items) same
+      (subst (λ t. HasMember (class_words t) g.class.items) (sym place.has_tree) (gap.stands.member, subst (λ w. IsMember (class_words gap.stands.tree) w (Some gap.stands.member)) at-class place.has_member))
 
   pub has_era : HasEra r g.era
   has_era = (gap.stands.since, subst (λ n. IsEraOf r n gap.stands.since) at-era gap.stands.place.opened)

@@ -13,7 +13,7 @@ use Rattle.mcv_rules.proofs.Basics
 use Rattle.mcv_rules.proofs.Orders.{cond_at_true, same_is, same_self}
 use Rattle.mcv_symbolic.specs.Structure.{if_all, Hits}
 use Rattle.mcv_symbolic.proofs.Exact as exact
-use Rattle.mcv_make.specs.Shown.{also, answers, first_hit, leading, one_after_other, or_else}
+use Rattle.mcv_symbolic.specs.Shown.{also, answers, first_hit, leading, one_after_other, or_else}
 use Rattle.mcv_make.proofs.Ordered.{IsOrdered, answers-ordered, one-outcome, ordered-both, ordered-first}
 use Rattle.mcv_make.proofs.Shows.{Shows, not_good, shows_both, shows_first, shows_on_error, shows_on_miss, shows_send, soft≢good}
 

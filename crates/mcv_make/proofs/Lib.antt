@@ -1,7 +1,6 @@
 pub mod Shows
 pub mod Ordered
 pub mod Leading
-pub mod Gathered
 pub mod Missed
 pub mod Reading
 pub mod Chosen
@@ -9,6 +8,7 @@ pub mod Unanswered
 pub mod KeyWord
 pub mod Breaks
 pub mod Finding
-pub mod Under
-pub mod Hitting
 pub mod Gaps
+pub mod Members
+pub mod Taken
+pub mod Built

@@ -20,7 +20,7 @@ use Rattle.mcv_symbolic.proofs.Planned
 use Rattle.mcv_symbolic.proofs.Rising.{plan_rises}
 use Rattle.mcv_symbolic.proofs.Sized.{formed, sizes_for}
 use Rattle.mcv_witness.specs.Breaks.{AreRising}
-use Rattle.mcv_make.specs.Shown as shown
+use Rattle.mcv_symbolic.specs.Shown as shown
 use Rattle.mcv_make.proofs.Leading.{same-answers}
 use Rattle.mcv_make.proofs.Ordered.{answers-ordered, are-rising}
 use Rattle.mcv_make.proofs.Shows.{agrees_first, agrees_left, agrees_none, agrees_right, if_error_at, inside_if_error}

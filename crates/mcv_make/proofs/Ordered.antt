@@ -15,7 +15,7 @@ use Rattle.mcv_rules.proofs.Sound.{in_either}
 use Rattle.mcv_symbolic.specs.Structure.{if_all}
 use Rattle.mcv_symbolic.proofs.Rising.{IsRising, rising-append}
 use Rattle.mcv_witness.specs.Breaks.{AreRising}
-use Rattle.mcv_make.specs.Shown.{answers}
+use Rattle.mcv_symbolic.specs.Shown.{answers}
 
 abbrev pub places : History → List (List ℕ)
 places es = map (λ e. e.0) es

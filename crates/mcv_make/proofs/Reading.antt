@@ -1,6 +1,8 @@
 -- The outcomes that are shown of a get: its answer can be the leaf's hit.
-use Rattle.std.proofs.Common.{◌≡◌, ℕ, List, Option, Some, refl}
+use Rattle.std.proofs.Common.{◌≡◌, inl, inr, ℕ, List, Option, Some, None, refl, sym, ◌∙◌}
+use Rattle.std.proofs.lemmas.Option.{none-some}
 use Rattle.mcv_base.specs.declared.operation.Op.{Op}
+use Rattle.mcv_base.specs.declared.operation.Op.TheVariants.{Get, Gets}
 use Rattle.mcv_route.specs.Outcomes.{Choice, History, outcomes}
 use Rattle.mcv_route.specs.Situation.{asked}
 use Rattle.mcv_route.specs.Tree.{Tree}
@@ -11,12 +13,13 @@ use Rattle.mcv_rules.specs.Sound.{positions, IsApart, IsHonest}
 use Rattle.mcv_rules.proofs.Orders
 use Rattle.mcv_rules.proofs.Sound
 use Rattle.mcv_rules.proofs.Verdicts
+use Rattle.mcv_symbolic.specs.Justified.{IsReadableAt}
 use Rattle.mcv_symbolic.specs.Sets.{CanHitAt}
 use Rattle.mcv_symbolic.proofs.Exactness.{hits_are_exact}
 use Rattle.mcv_symbolic.proofs.Rising.{plan_rises}
 use Rattle.mcv_symbolic.proofs.Sized.{formed, sizes_for}
 use Rattle.mcv_witness.specs.Breaks.{AreRising}
-use Rattle.mcv_make.specs.Shown.{leading}
+use Rattle.mcv_symbolic.specs.Shown.{leading}
 use Rattle.mcv_make.proofs.Leading.{HasHitAt, leading_right, shown}
 use Rattle.mcv_make.proofs.Ordered.{are-rising}
 
@@ -27,6 +30,10 @@ module _ (t : Tree) (op : Op) (rest : List ℕ) (since : Option ℕ) (p : List �
   -- where the leaf can hit, outcomes are shown
   pub is-shown : (c : Choice) → CanHitAt t (asked op rest since) c p → (es : History) × (leading p get ≡ Some es)
   is-shown c h = let k = (hits_are_exact t op rest since c p).0 h in shown p get k.0 (Sound.plan_sound (sizes_for t) t op rest since (formed t)).3 k.2 k.1
+
+  -- where none are shown, it can't
+  pub cannot : (c : Choice) → leading p get ≡ None → CanHitAt t (asked op rest since) c p → ⊥
+  cannot c none h = let s = is-shown c h in none-some s.0 (sym none ∙ s.1)
 
   module _ (es : History) (led : leading p get ≡ Some es) where
     has : HasHitAt p get es
@@ -40,3 +47,8 @@ module _ (t : Tree) (op : Op) (rest : List ℕ) (since : Option ℕ) (p : List �
 
     pub rises : AreRising es
     rises = are-rising (positions get) es (plan_rises t (asked op rest since)) has.ordered
+
+-- a leaf that can be read is shown to hit by get or by gets
+pub one-reads : (t : Tree) (rest : List ℕ) (since : Option ℕ) (p : List ℕ) → leading p (plan t (asked Get rest since)) ≡ None → leading p (plan t (asked Gets rest since)) ≡ None → IsReadableAt t rest since p → ⊥
+one-reads t rest since p none no (c, inl h) = cannot t Get rest since p c none h
+one-reads t rest since p none no (c, inr h) = cannot t Gets rest since p c no h

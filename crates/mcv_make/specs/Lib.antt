@@ -1,4 +1,3 @@
-pub mod Shown
-pub mod Walks
 pub mod Free
 pub mod Place
+pub mod Told

@@ -1,8 +1,10 @@
 //! The indexes at which no acknowledged leg has a server.
 
 ghost use Rattle.std.specs.BTreeSet.{contains};
-ghost use Rattle.std.specs.Prelude.{◌≡◌, ◌||◌, IfOk, OnOk, map};
-ghost use Rattle.mcv_make.specs.Free.{Slot as SlotValue, free_indexes, is_taken, least_free, slot_cmp, takes};
+ghost use Rattle.std.specs.Prelude.{◌≡◌, ◌||◌, [], Some, IfOk, OnOk, if◌then◌else◌, map, nat_eq};
+ghost use Rattle.mcv_judge.specs.InMemory.{numbers};
+ghost use Rattle.mcv_judge.specs.Reason.{has_server};
+ghost use Rattle.mcv_make.specs.Free.{Slot as SlotValue, free_indexes, is_taken, least_free, slot_cmp};
 
 use mcv_base::ServerId;
 use mcv_pools::{Choice, Symbol};
@@ -13,17 +15,18 @@ use std::collections::BTreeSet;
 /// An index of a symbol, by the symbol's number.
 type Slot = (usize, usize);
 
-/// Adds the indexes of the leg's symbol at which the leg has the server.
+/// Adds the indexes of the symbol at which the servers have the server.
 fn insert_slots(
     taken: &mut BTreeSet<Slot>,
-    leg: &PlannedLeg,
+    symbol: usize,
+    servers: &[ServerId],
     server: ServerId,
 ) -> Result<(), AllocError>
-    ensures { OnOk result ((q : SlotValue) → contains slot_cmp taken.new q ≡ (contains slot_cmp taken.old q || takes server.0 q.0 q.1 leg.now)) }
+    ensures { OnOk result ((q : SlotValue) → contains slot_cmp taken.new q ≡ (contains slot_cmp taken.old q || has_server q.0 (Some server.0) q.1 (record { position = []; symbol = symbol; servers = numbers servers.now }))) }
 {
-    for (index, own) in leg.servers.iter().enumerate() {
+    for (index, own) in servers.iter().enumerate() {
         if own.0 == server.0 {
-            taken.insert((leg.symbol, index))?;
+            taken.insert((symbol, index))?;
         }
     }
     Ok(())
@@ -39,7 +42,7 @@ fn taken_slots(
 {
     let mut taken = BTreeSet::new(alloc);
     for leg in legs {
-        insert_slots(&mut taken, *leg, server)?;
+        insert_slots(&mut taken, leg.symbol, &leg.servers, server)?;
     }
     Ok(taken)
 }
@@ -56,6 +59,17 @@ fn least_free(taken: &BTreeSet<Slot>, symbol: usize, n: usize) -> usize
     0
 }
 
+/// The index of a symbol: `at` for the symbol `own`, else the least free one.
+fn index_for(taken: &BTreeSet<Slot>, symbol: usize, n: usize, own: usize, at: usize) -> usize
+    ensures { result ≡ (if nat_eq symbol own then at else least_free (λ j. contains slot_cmp taken.now (symbol, j)) 0 n) }
+{
+    if symbol == own {
+        at
+    } else {
+        least_free(taken, symbol, n)
+    }
+}
+
 /// Of each symbol the least index at which no leg of it has the server; of the symbol `own` the index `at`.
 pub fn free_choice(
     alloc: Global,
@@ -70,11 +84,7 @@ pub fn free_choice(
     let taken = taken_slots(alloc, legs, server)?;
     let mut indexes = Vec::with_capacity(alloc, symbols.len())?;
     for (number, symbol) in symbols.iter().enumerate() {
-        if number == own {
-            indexes.push(at)?;
-        } else {
-            indexes.push(least_free(&taken, number, symbol.n()))?;
-        }
+        indexes.push(index_for(&taken, number, symbol.n(), own, at))?;
     }
     Ok(Choice::new(indexes))
 }

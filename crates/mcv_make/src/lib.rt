@@ -1,13 +1,10 @@
 //! Findings of gaps: for a place where a delete can be lost, a key, the indexes and the outcomes that show it.
 //!
-//! `find` takes a gap, as `mcv_certify` tells it, and builds the outcomes from the root of the route down to the leaf.
-//! Which ones it builds: specs/Shown.antt, over the plan of what is asked. Which indexes: specs/Free.antt.
+//! `find` takes a gap, as `mcv_certify` tells it. Which finding it builds: specs/Told.antt.
 #![tactic(auto)]
 
-mod answers;
-mod asking;
 mod finder;
 mod free;
-mod hits;
+mod scene;
 
 pub use finder::find;

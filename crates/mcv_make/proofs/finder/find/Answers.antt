@@ -1,0 +1,39 @@
+use Rattle.std.proofs.Common.{◌≡◌, ◌∙◌, Ok, Err, Result, sym, ap, subst}
+use Rattle.std.specs.Prelude.{IfOk}
+use Rattle.std.proofs.lemmas.Option.{none-some}
+use Rattle.std.specs.declared.alloc.AllocError.{AllocError}
+use Rattle.mcv_route.specs.Aliases.{first_alias}
+use Rattle.mcv_route.proofs.Selected.{has-alias, is-alias, selects}
+use Rattle.mcv_witness.specs.Finding.{finding_of}
+use Rattle.mcv_witness.specs.declared.finding.Finding.{Finding}
+use Rattle.mcv_make.specs.Place.{StandsAtGap}
+use Rattle.mcv_make.specs.Told.{IsTold, IsToldWith}
+use Rattle.mcv_make.proofs.Gaps.{entry, numbered}
+use Rattle.mcv_make.proofs.finder.find.Goals as goal
+
+both : (x : Result Finding AllocError) (P Q R : Finding → Type 0) → ((f : Finding) → P f → Q f → R f) → IfOk x P → IfOk x Q → IfOk x R
+both (Ok f) P Q R h p q = h f p q
+both (Err e) P Q R h p q = p
+
+pub unreachable-requires : goal.unreachable-requires
+unreachable-requires c =
+    let r = c.args.routes.now in
+    let g = c.args.gap.now in
+    let first = has-alias r g.route (entry r g c.requires.gap) c.first_alias.ensures.selected (numbered r g c.requires.gap) in
+    none-some first.0 (c.in_default.ensures.value ∙ first.1)
+
+pub find_behind-requires-clause-alias : goal.find_behind-requires-clause-alias
+find_behind-requires-clause-alias c = (is-alias c.args.routes.now c.args.gap.now.route c.in-Some.prefix.now c.first_alias.ensures.selected (sym c.in-Some.ensures.value)).0
+
+pub find_behind-requires-clause-short : goal.find_behind-requires-clause-short
+find_behind-requires-clause-short c = (is-alias c.args.routes.now c.args.gap.now.route c.in-Some.prefix.now c.first_alias.ensures.selected (sym c.in-Some.ensures.value)).1
+
+pub find_behind-requires-clause-selects : goal.find_behind-requires-clause-selects
+find_behind-requires-clause-selects c = selects c.args.routes.now c.args.gap.now.route c.in-Some.prefix.now c.first_alias.ensures.selected (sym c.in-Some.ensures.value)
+
+pub returns-clause-told : goal.returns-clause-told
+returns-clause-told c =
+    let r = c.args.routes.now in
+    let prefix = c.in-Some.prefix.now in
+    both c.find_behind.result (λ f. StandsAtGap c.args.gap.now (finding_of f)) (λ f. IsToldWith r prefix (finding_of f)) (λ f. IsTold r (finding_of f))
+    (λ f stands told. (prefix, ap (first_alias r) stands.route ∙ sym c.in-Some.ensures.value, told)) c.find_behind.ensures.stands c.find_behind.ensures.told
