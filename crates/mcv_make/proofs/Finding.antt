@@ -37,6 +37,7 @@ use Rattle.mcv_symbolic.specs.Shown.{answers}
 use Rattle.mcv_make.specs.Told.{IsToldWith}
 use Rattle.mcv_make.proofs.Breaks as gaps
 use Rattle.mcv_make.proofs.KeyWord.{key-word}
+use Rattle.mcv_make.specs.Place.{place_of}
 use Rattle.mcv_make.proofs.Missed
 use Rattle.mcv_make.proofs.Reading
 
@@ -46,10 +47,6 @@ nil-cons x xs e = cc
 prefix-some : (p : List ℕ) → IsRoutingPrefix p → 0 < length p
 prefix-some [] h = absurd (nil-cons slash (h.first ++ slash ∷ h.second ++ slash ∷ []) h.is)
 prefix-some (x ∷ p) h = omega arith
-
--- the place of a finding
-abbrev pub place_of : FindingValue → Place
-place_of f = record { route = f.route; class = f.class; era = f.era; leaf = f.leaf }
 
 module _ (r : RoutesValue) (sound : IsSoundRoutes r) (limits : AreWithinLimits r) (positive : All (λ n. 0 < n) (sizes_of r)) (f : FindingValue) (prefix : List ℕ) (gap : IsGap r (place_of f) f.at f.server)
     (alias : IsAlias prefix) (short : length prefix ≤ alias_limit) (selects : route_of_prefix prefix r.entries ≡ Some f.route) (built : IsToldWith r prefix f) where

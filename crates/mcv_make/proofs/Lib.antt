@@ -12,3 +12,4 @@ pub mod Gaps
 pub mod Members
 pub mod Taken
 pub mod Built
+pub mod Earlier

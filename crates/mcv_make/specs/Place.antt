@@ -1,8 +1,13 @@
--- Where the finding of a gap stands (own).
+-- Where a finding stands, and that of a gap (own).
 use Rattle.std.specs.Prelude.{◌≡◌, ℕ, List, Some}
+use Rattle.mcv_cert.specs.Pair.{Place}
 use Rattle.mcv_classes.specs.Class.{IsMember}
 use Rattle.mcv_certify.specs.declared.gap.Gap.{Gap}
 use Rattle.mcv_witness.specs.Finding.{FindingValue}
+
+-- where a finding loses its server
+abbrev pub place_of : FindingValue → Place
+place_of f = record { route = f.route; class = f.class; era = f.era; leaf = f.leaf }
 
 -- at the gap's route, class, era, leaf and index, and it loses the same server
 pub record StandsAtGap (g : Gap) (f : FindingValue) : Type 0 where

@@ -1,10 +1,15 @@
-//! Findings of gaps: for a place where a delete can be lost, a key, the indexes and the outcomes that show it.
+//! A certificate of covered routes, or the first finding that shows how a delete is lost.
 //!
-//! `find` takes a gap, as `mcv_certify` tells it. Which finding it builds: specs/Told.antt.
+//! `make` asks `mcv_certify` for the certificate; where that tells a gap, `find` builds the finding of it: a key, the
+//! indexes and the outcomes. Which finding it builds: specs/Told.antt. That it is the first: specs/First.antt.
 #![tactic(auto)]
 
+mod fault;
 mod finder;
 mod free;
+mod making;
 mod scene;
 
+pub use fault::MakeFault;
 pub use finder::find;
+pub use making::make;

@@ -1,8 +1,8 @@
 //! Configurations that aren't covered, and the text of what shows it.
 
+use mcv_certify::{CertifyFault, certify};
 use mcv_config::read_config;
 use mcv_make::find;
-use mcv_certify::{CertifyFault, certify};
 use mcv_route::Routes;
 use mcv_witness::finding_text;
 use std::alloc::Global;

@@ -12,7 +12,6 @@ use Rattle.mcv_make.specs.Free.{is_taken, slot_cmp, takes}
 use Rattle.mcv_make.proofs.Taken.{one_more}
 use Rattle.mcv_make.proofs.free.taken_slots.Goals as goal
 
-
 pub loop-leg-preserved : goal.loop-leg-preserved
 loop-leg-preserved c = λ q.
     let legs = c.args.legs.now in

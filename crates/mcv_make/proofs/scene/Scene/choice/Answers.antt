@@ -8,6 +8,7 @@ use Rattle.mcv_symbolic.specs.Case.{CaseValue}
 use Rattle.mcv_symbolic.specs.Sets.{AreLegsAt, IsAcknowledged}
 use Rattle.mcv_make.specs.Free.{free_indexes}
 use Rattle.mcv_make.proofs.scene.Scene.choice.Goals as goal
+
 pub returns : goal.returns
 returns c =
     let legs = map (λ (l : Bor PlannedLeg). l.now) c.in_ok-legs.legs.items in
