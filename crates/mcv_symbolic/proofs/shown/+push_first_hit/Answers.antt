@@ -25,9 +25,9 @@ returns-in-Error t c =
     let start : n ≡ length c.args.legs.now.items = omega (arith, c.len-start.ensures, c.args.legs.now.ok.0) in
     IfOk-weaker c.push_first_hit-in-Error.result (λ found. IsTried (first_hit (plan_of c.deref-in-Error.result.now)) found after new) (λ found. IsTried (first_hit (plan_of c.args.plan.now)) found old new)
     (λ found u. errors-on first_hit c.args.plan.now c.in-OnError.first c.in-OnError.second c.in_ok-push_first_hit-in-OnError.field-0 old mid (rw c.deref-in-OnError.ensures at c.in_ok-push_first_hit-in-OnError.ensures)
-      c.if-branch-2.false n (history-length n c.args.legs.now.items start) after c.in_ok-push_instead-in-OnError.field-0 (λ v w. refl) c.in-OnError.is
-      (rw c.deref-in-OnError-2.ensures at c.in_ok-push_instead-in-OnError.ensures.legs) (rw c.deref-in-OnError-2.ensures at c.in_ok-push_instead-in-OnError.ensures.reply) c.in-Error.is
-      found new (rw c.deref-in-Error.ensures at u))
+    c.if-branch-2.false n (history-length n c.args.legs.now.items start) after c.in_ok-push_instead-in-OnError.field-0 (λ v w. refl) c.in-OnError.is
+    (rw c.deref-in-OnError-2.ensures at c.in_ok-push_instead-in-OnError.ensures.legs) (rw c.deref-in-OnError-2.ensures at c.in_ok-push_instead-in-OnError.ensures.reply) c.in-Error.is
+    found new (rw c.deref-in-Error.ensures at u))
     c.push_first_hit-in-Error.ensures
 
 pub returns-in-Good : goal.returns-in-Good
@@ -49,9 +49,9 @@ returns-in-Soft t c =
     let start : n ≡ length c.args.legs.now.items = omega (arith, c.len-start.ensures, c.args.legs.now.ok.0) in
     IfOk-weaker c.push_first_hit-in-Soft.result (λ found. IsTried (first_hit (plan_of c.deref-in-Soft.result.now)) found after new) (λ found. IsTried (first_hit (plan_of c.args.plan.now)) found old new)
     (λ found u. misses-on first_hit c.args.plan.now c.in-OnMiss.first c.in-OnMiss.second c.in_ok-push_first_hit-in-OnMiss.field-0 old mid (rw c.deref-in-OnMiss.ensures at c.in_ok-push_first_hit-in-OnMiss.ensures)
-      c.if-branch-3.false n (history-length n c.args.legs.now.items start) after c.in_ok-push_instead-in-OnMiss.field-0 (λ v w. refl) c.in-OnMiss.is
-      (rw c.deref-in-OnMiss-2.ensures at c.in_ok-push_instead-in-OnMiss.ensures.legs) (rw c.deref-in-OnMiss-2.ensures at c.in_ok-push_instead-in-OnMiss.ensures.reply) c.in-Soft.is
-      found new (rw c.deref-in-Soft.ensures at u))
+    c.if-branch-3.false n (history-length n c.args.legs.now.items start) after c.in_ok-push_instead-in-OnMiss.field-0 (λ v w. refl) c.in-OnMiss.is
+    (rw c.deref-in-OnMiss-2.ensures at c.in_ok-push_instead-in-OnMiss.ensures.legs) (rw c.deref-in-OnMiss-2.ensures at c.in_ok-push_instead-in-OnMiss.ensures.reply) c.in-Soft.is
+    found new (rw c.deref-in-Soft.ensures at u))
     c.push_first_hit-in-Soft.ensures
 
 pub returns-in-Good-2 : goal.returns-in-Good-2

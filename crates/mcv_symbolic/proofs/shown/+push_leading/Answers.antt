@@ -22,9 +22,9 @@ returns-then-branch-2 t c =
     let new = history_of c.push_leading-then-branch-2.new.legs.items in
     IfOk-weaker c.push_leading-then-branch-2.result (λ found. IsTried (leading c.args.leaf.now (plan_of c.deref-then-branch-2.result.now)) found met new) (λ found. IsTried (leading c.args.leaf.now (plan_of c.args.plan.now)) found old new)
     (λ found u. led-second c.args.plan.now c.in-Both.first c.in-Both.second c.in-Both.is c.args.leaf.now c.in_ok-leads-in-Both.leads c.in_ok-push_hit_if-in-Both.field-0 old (history_of c.push_leading.new.legs.items)
-      (history_of c.push_hit_if.new.legs.items) (rw c.deref.ensures at c.in_ok-leads-in-Both.ensures) (rw c.deref-in-Both.ensures at c.in_ok-push_hit_if-in-Both.ensures) c.if-branch.false n (history-length n c.args.legs.now.items start)
-      (history_of c.truncate.new.self.items) (ap history_of c.truncate.ensures.items ∙ history-take n c.push_hit_if.new.legs.items) c.in_ok-push_first_hit-in-Both.field-0 met (rw c.deref-in-Both-2.ensures at c.in_ok-push_first_hit-in-Both.ensures)
-      c.if-branch-2.true found new (rw c.deref-then-branch-2.ensures at u))
+    (history_of c.push_hit_if.new.legs.items) (rw c.deref.ensures at c.in_ok-leads-in-Both.ensures) (rw c.deref-in-Both.ensures at c.in_ok-push_hit_if-in-Both.ensures) c.if-branch.false n (history-length n c.args.legs.now.items start)
+    (history_of c.truncate.new.self.items) (ap history_of c.truncate.ensures.items ∙ history-take n c.push_hit_if.new.legs.items) c.in_ok-push_first_hit-in-Both.field-0 met (rw c.deref-in-Both-2.ensures at c.in_ok-push_first_hit-in-Both.ensures)
+    c.if-branch-2.true found new (rw c.deref-then-branch-2.ensures at u))
     c.push_leading-then-branch-2.ensures
 
 pub returns-else-branch-2 : goal.returns-else-branch-2
@@ -53,9 +53,9 @@ returns-in-Error t c =
     let start : n ≡ length c.args.legs.now.items = omega (arith, c.len-start.ensures, c.args.legs.now.ok.0) in
     IfOk-weaker c.push_leading-in-Error.result (λ found. IsTried (leading c.args.leaf.now (plan_of c.deref-in-Error.result.now)) found after new) (λ found. IsTried (leading c.args.leaf.now (plan_of c.args.plan.now)) found old new)
     (λ found u. errors-on (leading c.args.leaf.now) c.args.plan.now c.in-OnError.first c.in-OnError.second c.in_ok-push_leading-in-OnError.field-0 old mid (rw c.deref-in-OnError.ensures at c.in_ok-push_leading-in-OnError.ensures)
-      c.if-branch-3.false n (history-length n c.args.legs.now.items start) after c.in_ok-push_instead-in-OnError.field-0 (λ v w. refl) c.in-OnError.is
-      (rw c.deref-in-OnError-2.ensures at c.in_ok-push_instead-in-OnError.ensures.legs) (rw c.deref-in-OnError-2.ensures at c.in_ok-push_instead-in-OnError.ensures.reply) c.in-Error.is
-      found new (rw c.deref-in-Error.ensures at u))
+    c.if-branch-3.false n (history-length n c.args.legs.now.items start) after c.in_ok-push_instead-in-OnError.field-0 (λ v w. refl) c.in-OnError.is
+    (rw c.deref-in-OnError-2.ensures at c.in_ok-push_instead-in-OnError.ensures.legs) (rw c.deref-in-OnError-2.ensures at c.in_ok-push_instead-in-OnError.ensures.reply) c.in-Error.is
+    found new (rw c.deref-in-Error.ensures at u))
     c.push_leading-in-Error.ensures
 
 pub returns-in-Good : goal.returns-in-Good
@@ -84,9 +84,9 @@ returns-in-Soft t c =
     let start : n ≡ length c.args.legs.now.items = omega (arith, c.len-start.ensures, c.args.legs.now.ok.0) in
     IfOk-weaker c.push_leading-in-Soft.result (λ found. IsTried (leading c.args.leaf.now (plan_of c.deref-in-Soft.result.now)) found after new) (λ found. IsTried (leading c.args.leaf.now (plan_of c.args.plan.now)) found old new)
     (λ found u. misses-on (leading c.args.leaf.now) c.args.plan.now c.in-OnMiss.first c.in-OnMiss.second c.in_ok-push_leading-in-OnMiss.field-0 old mid (rw c.deref-in-OnMiss.ensures at c.in_ok-push_leading-in-OnMiss.ensures)
-      c.if-branch-4.false n (history-length n c.args.legs.now.items start) after c.in_ok-push_instead-in-OnMiss.field-0 (λ v w. refl) c.in-OnMiss.is
-      (rw c.deref-in-OnMiss-2.ensures at c.in_ok-push_instead-in-OnMiss.ensures.legs) (rw c.deref-in-OnMiss-2.ensures at c.in_ok-push_instead-in-OnMiss.ensures.reply) c.in-Soft.is
-      found new (rw c.deref-in-Soft.ensures at u))
+    c.if-branch-4.false n (history-length n c.args.legs.now.items start) after c.in_ok-push_instead-in-OnMiss.field-0 (λ v w. refl) c.in-OnMiss.is
+    (rw c.deref-in-OnMiss-2.ensures at c.in_ok-push_instead-in-OnMiss.ensures.legs) (rw c.deref-in-OnMiss-2.ensures at c.in_ok-push_instead-in-OnMiss.ensures.reply) c.in-Soft.is
+    found new (rw c.deref-in-Soft.ensures at u))
     c.push_leading-in-Soft.ensures
 
 pub returns-in-Good-2 : goal.returns-in-Good-2
