@@ -111,6 +111,8 @@ fn help_names_input_and_exit_statuses(rt: HostRuntime) -> Result<(), Fail> {
         "--cert <FILE>",
         "\n  covered 1\n",
         "\n  lost b:11211\n",
+        "\n  key /././!\n",
+        "\n  get 0=miss 1=hit\n",
         "mcv check --cert mcrouter.cert < mcrouter.json",
         "mcv: certificate text NUMBER line LINE",
         "mcv: certificate fault NUMBER",
@@ -253,7 +255,8 @@ const WARM_UP: &str =
 fn configurations_are_judged(rt: HostRuntime) -> Result<(), Fail> {
     let alloc = rt.alloc();
     let covered = "covered 1\nmcv-cert 1\n0 = 0 - twin -\nend\n";
-    let lost = "lost b:11211\nroute 0\nclass =\nera 0\n";
+    let lost =
+        "lost b:11211\nroute 0\nclass =\nera 0\nkey /././!\nget 0=miss 1=hit\ndelete 0=deleted\n";
     for (configuration, expected, status) in [
         (POOL, covered, 0),
         (WARM_UP, lost, 3),

@@ -98,15 +98,25 @@ Any certificate can be checked again, also one that another program made:
   mcv check < mcrouter.json | tail -n +2 > mcrouter.cert
   mcv check --cert mcrouter.cert < mcrouter.json
 
-Where it isn't covered, the exit status is 3, and four lines name the server
-that an acknowledged delete can leave with the old value, the route's number,
-the class of keys (those that begin with the word; none is the rest of the
-keys), and the era, which is the number of moments that migrations have passed:
+Where it isn't covered, the exit status is 3, and standard output has a finding:
+a key, and answers by which a get reads it from the server named after a delete
+of it was acknowledged that had never been sent there:
 
   lost b:11211
   route 0
   class =
   era 0
+  key /././!
+  get 0=miss 1=hit
+  delete 0=deleted
+
+`route` is the number of the route. `class` has the word that the keys begin
+with, and none for keys with no such word. `era` is the number of moments that
+migrations have passed. For each hash over N servers, N over 1, a line
+`index FUNC/SALT/N=I` behind the key says that it picks index I, from 0. `get`,
+or `gets` where get can't read the server, has for each leg that answered its
+place and `hit`, `miss` or `error`. `delete` has the places of the legs that
+answered `deleted` before the reply, and `-` where the reply waits for none.
 
 A certificate that isn't read is told by a number and by the line at fault, from
 1, as `mcv: certificate text NUMBER line LINE`:

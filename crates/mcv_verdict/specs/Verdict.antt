@@ -1,34 +1,36 @@
 -- Which verdict there is on a configuration, and what is written of it.
-use Rattle.std.specs.Prelude.{◌≡◌, ℕ, List, ◌++◌, Option, Some, None, length, slice_get}
-use Rattle.mcv_cert.specs.Pair.{PairValue, Place}
+use Rattle.std.specs.Prelude.{◌≡◌, ◌<◌, ℕ, List, ◌++◌, Option, Some, None, length}
+use Rattle.std.specs.List.{All}
+use Rattle.mcv_cert.specs.Pair.{PairValue}
 use Rattle.mcv_cert.specs.Reading.{Says, pairs}
 use Rattle.mcv_cert.specs.Text.{certificate_text}
 use Rattle.mcv_route.specs.Routes.{RoutesValue}
 use Rattle.mcv_symbolic.specs.Covered.{AreCovered}
 use Rattle.mcv_blocks.specs.Blocks.{IsJustifiedBy}
-use Rattle.mcv_certify.specs.Gap.{IsFirstGap}
+use Rattle.mcv_certify.specs.Picked.{IsPickedOf}
 use Rattle.mcv_input.specs.Fault.{AreNamedBy}
+use Rattle.mcv_make.specs.First.{IsFirstFinding}
+use Rattle.mcv_witness.specs.Finding.{FindingValue}
+use Rattle.mcv_witness.specs.Text.{finding_text}
 use Rattle.mcv_verdict.specs.declared.verdict.Verdict.{Verdict}
 use Rattle.mcv_verdict.specs.declared.verdict.Verdict.TheVariants.{Covered, Lost}
-use Rattle.mcv_verdict.specs.Text.{covered_line, lost_text}
+use Rattle.mcv_verdict.specs.Text.{covered_line}
 
 -- each acknowledged delete was sent to every server that can be read, and a certificate with these pairs says why
 pub record AreCoveredBy (r : RoutesValue) (ps : List PairValue) : Type 0 where
   pub covered : AreCovered r
   pub justified : IsJustifiedBy r ps
 
--- some acknowledged delete wasn't sent to a server that can be read: the leaf at the place has this server at some index, and that is the first gap
-pub record IsLossAt (r : RoutesValue) (place : Place) (server : List ℕ) : Type 0 where
+-- some acknowledged delete wasn't sent to a server of the table that can be read: the finding shows it, and none shows it at an earlier place
+pub record IsLossBy (r : RoutesValue) (f : FindingValue) : Type 0 where
   pub uncovered : ¬ AreCovered r
-  pub at : ℕ
-  pub number : ℕ
-  pub first : IsFirstGap r place at number
-  pub named : slice_get r.servers number ≡ Some server
+  pub known : f.server < length r.servers
+  pub first : IsFirstFinding r f
 
--- where no certificate is given: the routes are covered, and the number of pairs of a certificate is written, and then the certificate; or they aren't, and the first place at which a delete can be lost is written
+-- where no certificate is given: the routes are covered, and the number of pairs of a certificate is written, whose pairs give the first reasons that hold, and then the certificate; or they aren't, and the text of the first finding is written
 abbrev pub IsVerdict : RoutesValue → Verdict → (text : List ℕ) → Type 0
-IsVerdict r (Covered n) text = (ps : List PairValue) × AreCoveredBy r ps × (n ≡ length ps) × (text ≡ covered_line n ++ certificate_text ps)
-IsVerdict r Lost text = (place : Place) × (server : List ℕ) × IsLossAt r place server × (text ≡ lost_text server place)
+IsVerdict r (Covered n) text = (ps : List PairValue) × AreCoveredBy r ps × All (IsPickedOf r) ps × (n ≡ length ps) × (text ≡ covered_line n ++ certificate_text ps)
+IsVerdict r Lost text = (f : FindingValue) × IsLossBy r f × (text ≡ finding_text r f)
 
 -- where a certificate's text is given: it says pairs by which the routes are covered, and their number is written
 abbrev pub IsVerdictBy : RoutesValue → (certificate : List ℕ) → Verdict → (text : List ℕ) → Type 0

@@ -1,24 +1,24 @@
 //! The path from the bytes read to the bytes written.
 
-ghost use Rattle.std.specs.Prelude.{◌≡◌, ◌≢◌, ◌<◌, ◌++◌, ℕ, List, length, option_map, slice_get, Some, IfSome, IfOk, IfErr};
+ghost use Rattle.std.specs.Prelude.{◌≡◌, ◌≢◌, ◌<◌, ◌++◌, ℕ, List, length, option_map, IfSome, IfOk, IfErr};
 ghost use Rattle.std.specs.Io.KnownBytes.{Appends};
 ghost use Rattle.mcv_cert.specs.Text.{certificate_text};
-ghost use Rattle.mcv_certify.specs.Gap.{IsFirstGap, place_of_gap};
+ghost use Rattle.mcv_make.specs.First.{IsFirstFinding};
 ghost use Rattle.mcv_symbolic.specs.Covered.{AreCovered};
 ghost use Rattle.mcv_verdict.specs.Fault.{IsRefusedBy, IsRefusedFor, IsRunFault};
 ghost use Rattle.mcv_verdict.specs.Text.{covered_line};
 ghost use Rattle.mcv_verdict.specs.Verdict.{IsVerdict, IsVerdictBy, IsVerdictFor, IsVerdictOn};
+ghost use Rattle.mcv_witness.specs.Finding.{finding_of};
 
 use crate::fault::RunFault;
-use crate::text::{covered_line, lost_text};
+use crate::text::covered_line;
 use crate::verdict::Verdict;
-use mcv_base::ServerId;
 use mcv_cert::{Certificate, read_certificate};
 use mcv_check::{Accepted, check};
 use mcv_input::{read_configuration, write_text};
-use mcv_certify::{CertifyFault, Gap, certify};
-use mcv_pools::Servers;
+use mcv_make::{MakeFault, make};
 use mcv_route::Routes;
+use mcv_witness::{Finding, finding_text};
 use std::alloc::{AllocError, Global};
 use std::io::{Read, Write};
 
@@ -30,9 +30,10 @@ struct Told {
 }
 
 /// Reads a configuration and writes the verdict on it. Where no certificate's text is given, one is made and checked,
-/// and written behind the verdict; else that one is checked. The configuration is judged first, then the certificate's
-/// text, then the certificate. Where one of them is at fault, nothing is written. The reader may be left with bytes
-/// behind a configuration that is too long.
+/// and written behind the verdict; where a delete can be lost, what shows it is written. Else the certificate that the
+/// text says is checked. The configuration is judged first, then the certificate's text, then the certificate. Where
+/// one of them is at fault, nothing is written. The reader may be left with bytes behind a configuration that is too
+/// long.
 pub fn run_check<R: Read, W: Write>(
     alloc: Global,
     reader: &mut R,
@@ -68,13 +69,13 @@ fn verdict_on(alloc: Global, routes: Routes) -> Result<Told, RunFault>
     ensures told { IfOk result (λ told. IsVerdict routes told.verdict told.text.items) }
     ensures fault { IfErr result (λ fault. fault ≡ RunFault.Memory) }
 {
-    match certify(alloc, &routes) {
+    match make(alloc, &routes) {
         Ok(certificate) => {
             let accepted = check(alloc, routes, &certificate)?;
             Ok(covered_with(alloc, &accepted, &certificate)?)
         }
-        Err(CertifyFault::Lost(finding)) => Ok(lost(alloc, &routes, &finding)?),
-        Err(CertifyFault::Memory) => Err(RunFault::Memory),
+        Err(MakeFault::Lost(finding)) => Ok(lost(alloc, &routes, &finding)?),
+        Err(MakeFault::Memory) => Err(RunFault::Memory),
     }
 }
 
@@ -122,23 +123,15 @@ fn covered_with(
     Ok(told)
 }
 
-/// That a delete can be lost, and where.
-fn lost(alloc: Global, routes: &Routes, finding: &Gap) -> Result<Told, AllocError>
+/// That a delete can be lost, and what shows it.
+fn lost(alloc: Global, routes: &Routes, finding: &Finding) -> Result<Told, AllocError>
     requires uncovered { ¬ AreCovered routes.now }
-    requires first { IsFirstGap routes.now (place_of_gap finding.now) finding.now.at finding.now.server.0 }
+    requires known { finding.now.server.0 < length routes.now.servers }
+    requires first { IsFirstFinding routes.now (finding_of finding.now) }
     ensures { IfOk result (λ told. IsVerdict routes.now told.verdict told.text.items) }
 {
-    let server = server_text(routes.servers(), finding.server);
     Ok(Told {
         verdict: Verdict::Lost,
-        text: lost_text(alloc, server, finding)?,
+        text: finding_text(alloc, finding, routes)?,
     })
-}
-
-/// The text of a server of the table.
-fn server_text(servers: &Servers, server: ServerId) -> &str
-    requires { server.0 < length servers.now }
-    ensures { slice_get servers.now server.0 ≡ Some result.now }
-{
-    servers.text(server).unwrap_or("")
 }

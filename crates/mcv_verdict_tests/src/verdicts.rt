@@ -13,12 +13,12 @@ pub const POOLS: &str =
 const BY_OPERATION: &str = "\
 \"AllSyncRoute|Pool|C\" = \"PoolRoute|C\" = covered 2 / mcv-cert 1 / 0 = 0 1 all 0 0.0 / 0 = 0 1 all 1 0.1 / end
 {\"type\":\"AllSyncRoute\",\"children\":[\"PoolRoute|A\",\"PoolRoute|B\"]} = {\"type\":\"WarmUpRoute\",\"cold\":\"PoolRoute|A\",\"warm\":\"PoolRoute|B\"} = covered 2 / mcv-cert 1 / 0 = 0 1.0 twin 0.0 / 0 = 0 1.1 twin 0.1 / end
-{\"type\":\"AllAsyncRoute\",\"children\":[{\"type\":\"FailoverRoute\",\"children\":[{\"type\":\"AllSyncRoute\",\"children\":[\"PoolRoute|A\",\"ErrorRoute\"]},\"PoolRoute|B\"]}]} = {\"type\":\"MissFailoverRoute\",\"children\":[\"PoolRoute|A\",\"PoolRoute|B\"]} = lost b:11211 / route 0 / class = / era 0
+{\"type\":\"AllAsyncRoute\",\"children\":[{\"type\":\"FailoverRoute\",\"children\":[{\"type\":\"AllSyncRoute\",\"children\":[\"PoolRoute|A\",\"ErrorRoute\"]},\"PoolRoute|B\"]}]} = {\"type\":\"MissFailoverRoute\",\"children\":[\"PoolRoute|A\",\"PoolRoute|B\"]} = lost b:11211 / route 0 / class = / era 0 / key /././! / get 1.0=miss 1.1=hit / delete -
 {\"type\":\"AllSyncRoute\",\"children\":[{\"type\":\"FailoverRoute\",\"children\":[{\"type\":\"AllSyncRoute\",\"children\":[\"PoolRoute|A\",\"ErrorRoute\"]},\"PoolRoute|B\"]}]} = {\"type\":\"MissFailoverRoute\",\"children\":[\"PoolRoute|A\",\"PoolRoute|B\"]} = covered 2 / mcv-cert 1 / 0 = 0 1.0 twin 0.0.0.0 / 0 = 0 1.1 twin 0.0.1 / end
 {\"type\":\"AllSyncRoute\",\"children\":[\"PoolRoute|A\",\"ErrorRoute\"]} = \"PoolRoute|B\" = covered 1 / mcv-cert 1 / 0 = 0 1 never / end
-{\"type\":\"PoolRoute\",\"pool\":\"A\",\"shadows\":[{\"target\":\"PoolRoute|B\",\"index_range\":[0,0]}]} = {\"type\":\"MissFailoverRoute\",\"children\":[\"PoolRoute|A\",\"PoolRoute|B\"]} = lost b:11211 / route 0 / class = / era 0
+{\"type\":\"PoolRoute\",\"pool\":\"A\",\"shadows\":[{\"target\":\"PoolRoute|B\",\"index_range\":[0,0]}]} = {\"type\":\"MissFailoverRoute\",\"children\":[\"PoolRoute|A\",\"PoolRoute|B\"]} = lost b:11211 / route 0 / class = / era 0 / key /././! / get 1.0=miss 1.1=hit / delete 0=deleted
 \"PoolRoute|D\" = \"PoolRoute|C\" = covered 1 / mcv-cert 1 / 0 = 0 1 twin 0 / end
-{\"type\":\"PoolRoute\",\"pool\":\"D\",\"hash\":{\"hash_func\":\"Ch3\",\"salt\":\"x\"}} = \"PoolRoute|C\" = lost a:11211 / route 0 / class = / era 0
+{\"type\":\"PoolRoute\",\"pool\":\"D\",\"hash\":{\"hash_func\":\"Ch3\",\"salt\":\"x\"}} = \"PoolRoute|C\" = lost a:11211 / route 0 / class = / era 0 / key /././! / index Ch3/x/2=1 / index Ch3//2=0 / get 1=hit / delete 0=deleted
 {\"type\":\"AllSyncRoute\",\"children\":[\"PoolRoute|E\",\"PoolRoute|F\"]} = \"PoolRoute|C\" = covered 2 / mcv-cert 1 / 0 = 0 1 same 0 0.0 / 0 = 0 1 same 1 0.1 / end
 \"NullRoute\" = {\"type\":\"AllSyncRoute\",\"children\":[\"PoolRoute|A\",\"NullRoute\"]} = covered 0 / mcv-cert 1 / end
 {\"type\":\"AllInitialRoute\",\"children\":[\"PoolRoute|A\",\"PoolRoute|B\"]} = \"PoolRoute|B\" = covered 1 / mcv-cert 1 / 0 = 0 1 twin 0.1 / end";
@@ -26,11 +26,11 @@ const BY_OPERATION: &str = "\
 /// A route, and what is written.
 const WHOLE: &str = "\
 \"PoolRoute|A\" = covered 1 / mcv-cert 1 / 0 = 0 - twin - / end
-{\"type\":\"WarmUpRoute\",\"cold\":\"PoolRoute|A\",\"warm\":\"PoolRoute|B\"} = lost b:11211 / route 0 / class = / era 0
-{\"type\":\"FailoverRoute\",\"children\":[\"PoolRoute|A\",\"PoolRoute|B\"]} = lost b:11211 / route 0 / class = / era 0
+{\"type\":\"WarmUpRoute\",\"cold\":\"PoolRoute|A\",\"warm\":\"PoolRoute|B\"} = lost b:11211 / route 0 / class = / era 0 / key /././! / get 0=miss 1=hit / delete 0=deleted
+{\"type\":\"FailoverRoute\",\"children\":[\"PoolRoute|A\",\"PoolRoute|B\"]} = lost b:11211 / route 0 / class = / era 0 / key /././! / get 0=error 1=hit / delete 0=deleted
 {\"type\":\"MigrateRoute\",\"from\":\"PoolRoute|A\",\"to\":\"PoolRoute|B\",\"start_time\":1000,\"interval\":3600} = covered 4 / mcv-cert 1 / 0 = 0 0 twin 0 / 0 = 1 0 twin 0 / 0 = 2 1 twin 1 / 0 = 3 1 twin 1 / end
-{\"type\":\"OperationSelectorRoute\",\"operation_policies\":{\"delete\":\"PoolRoute|A\",\"get\":\"PoolRoute|A\",\"gets\":\"PoolRoute|B\"}} = lost b:11211 / route 0 / class = / era 0
-{\"type\":\"PrefixSelectorRoute\",\"policies\":{\"a\":\"PoolRoute|A\",\"ab\":{\"type\":\"WarmUpRoute\",\"cold\":\"PoolRoute|A\",\"warm\":\"PoolRoute|B\"}}} = lost b:11211 / route 0 / class =ab / era 0
+{\"type\":\"OperationSelectorRoute\",\"operation_policies\":{\"delete\":\"PoolRoute|A\",\"get\":\"PoolRoute|A\",\"gets\":\"PoolRoute|B\"}} = lost b:11211 / route 0 / class = / era 0 / key /././! / gets 2=hit / delete 0=deleted
+{\"type\":\"PrefixSelectorRoute\",\"policies\":{\"a\":\"PoolRoute|A\",\"ab\":{\"type\":\"WarmUpRoute\",\"cold\":\"PoolRoute|A\",\"warm\":\"PoolRoute|B\"}}} = lost b:11211 / route 0 / class =ab / era 0 / key /././ab / get 1.0=miss 1.1=hit / delete 1.0=deleted
 {\"type\":\"PrefixSelectorRoute\",\"policies\":{\"a b\":\"PoolRoute|A\"},\"wildcard\":\"PoolRoute|B\"} = covered 1 / mcv-cert 1 / 0 = 0 1 twin 1 / end";
 
 /// What is written of a configuration, with slashes between the lines.
@@ -113,7 +113,10 @@ fn the_first_loss_is_named(rt: HostRuntime) -> Result<(), Fail> {
     let alloc = rt.alloc();
     let configuration = format!(in alloc; "{POOLS}{ROUTES}")?;
     let text = shown(alloc, configuration.as_str(), None)?;
-    assert_eq!(rt; text.as_str(), "lost b:11211 / route 1 / class =ab / era 0");
+    assert_eq!(rt;
+        text.as_str(),
+        "lost b:11211 / route 1 / class =ab / era 0 / key /a/b/ab / get 0.0=error 0.1=hit / delete 0.0=deleted"
+    );
     let mut output = Vec::new(alloc);
     let verdict = run_check(alloc, &mut configuration.as_bytes(), &mut output, None);
     assert!(rt; matches!(verdict, Ok(Verdict::Lost)));
