@@ -10,6 +10,7 @@ use Rattle.mcv_blocks.specs.Blocks.{IsJustifiedBy}
 use Rattle.mcv_certify.specs.Picked.{IsPickedOf}
 use Rattle.mcv_input.specs.Fault.{AreNamedBy}
 use Rattle.mcv_make.specs.First.{IsFirstFinding}
+use Rattle.mcv_make.specs.Told.{IsTold}
 use Rattle.mcv_witness.specs.Finding.{FindingValue}
 use Rattle.mcv_witness.specs.Text.{finding_text}
 use Rattle.mcv_verdict.specs.declared.verdict.Verdict.{Verdict}
@@ -26,6 +27,8 @@ pub record IsLossBy (r : RoutesValue) (f : FindingValue) : Type 0 where
   pub uncovered : ¬ AreCovered r
   pub known : f.server < length r.servers
   pub first : IsFirstFinding r f
+  -- its key, indexes and outcomes are those that the rules of findings give
+  pub told : IsTold r f
 
 -- where no certificate is given: the routes are covered, and the number of pairs of a certificate is written, whose pairs give the first reasons that hold, and then the certificate; or they aren't, and the text of the first finding is written
 abbrev pub IsVerdict : RoutesValue → Verdict → (text : List ℕ) → Type 0

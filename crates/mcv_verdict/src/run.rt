@@ -4,6 +4,7 @@ ghost use Rattle.std.specs.Prelude.{◌≡◌, ◌≢◌, ◌<◌, ◌++◌, ℕ
 ghost use Rattle.std.specs.Io.KnownBytes.{Appends};
 ghost use Rattle.mcv_cert.specs.Text.{certificate_text};
 ghost use Rattle.mcv_make.specs.First.{IsFirstFinding};
+ghost use Rattle.mcv_make.specs.Told.{IsTold};
 ghost use Rattle.mcv_symbolic.specs.Covered.{AreCovered};
 ghost use Rattle.mcv_verdict.specs.Fault.{IsRefusedBy, IsRefusedFor, IsRunFault};
 ghost use Rattle.mcv_verdict.specs.Text.{covered_line};
@@ -128,6 +129,7 @@ fn lost(alloc: Global, routes: &Routes, finding: &Finding) -> Result<Told, Alloc
     requires uncovered { ¬ AreCovered routes.now }
     requires known { finding.now.server.0 < length routes.now.servers }
     requires first { IsFirstFinding routes.now (finding_of finding.now) }
+    requires told { IsTold routes.now (finding_of finding.now) }
     ensures { IfOk result (λ told. IsVerdict routes.now told.verdict told.text.items) }
 {
     Ok(Told {
