@@ -50,5 +50,5 @@ module _ (t : Tree) (op : Op) (rest : List ℕ) (since : Option ℕ) (p : List �
 
 -- a leaf that can be read is shown to hit by get or by gets
 pub one-reads : (t : Tree) (rest : List ℕ) (since : Option ℕ) (p : List ℕ) → leading p (plan t (asked Get rest since)) ≡ None → leading p (plan t (asked Gets rest since)) ≡ None → IsReadableAt t rest since p → ⊥
-one-reads t rest since p none no (c, inl h) = cannot t Get rest since p c none h
-one-reads t rest since p none no (c, inr h) = cannot t Gets rest since p c no h
+one-reads t rest since p by-get by-gets (c, inl h) = cannot t Get rest since p c by-get h
+one-reads t rest since p by-get by-gets (c, inr h) = cannot t Gets rest since p c by-gets h
