@@ -126,7 +126,8 @@ fn find_behind(
 /// The finding that shows a gap: the member of its class behind the first routing prefix of its route.
 ///
 /// The leaf hits under get, or under gets where get can't read it. Takes time and memory in proportion to the route,
-/// its classes, the symbols and the servers of its legs.
+/// its classes, the symbols and the servers of its legs; of a handle's n children that stand before the leaf, up to
+/// n times n steps.
 pub fn find(alloc: Global, routes: &Routes, gap: &Gap) -> Result<Finding, AllocError>
     requires gap { IsGap routes.now (place_of_gap gap.now) gap.now.at gap.now.server.0 }
     ensures breaks { IfOk result (λ f. BreaksCoverage routes.now (finding_of f)) }
