@@ -1,10 +1,9 @@
 //! Configurations that aren't covered, and the text of what shows it.
 
-use mcv_certify::{CertifyFault, certify};
 use mcv_config::read_config;
-use mcv_make::find;
+use mcv_make::{MakeFault, make};
 use mcv_route::Routes;
-use mcv_witness::finding_text;
+use mcv_witness::{confirm, finding_text};
 use std::alloc::Global;
 use std::process::Abort;
 use std::test::Fail;
@@ -47,19 +46,19 @@ fn lines(alloc: Global, lines: &str) -> Result<Vec<u8>, Fail> {
 }
 
 #[test]
-fn gaps_are_shown(rt: HostRuntime) -> Result<(), Fail> {
+fn losses_have_their_finding(rt: HostRuntime) -> Result<(), Fail> {
     let alloc = rt.alloc();
     for case in LOST.lines() {
         let (text, wanted) = case.split_once(" => ").ok_or("a case in two parts")?;
         let routes = routes(&rt, alloc, text)?;
-        match certify(alloc, &routes) {
-            Err(CertifyFault::Lost(gap)) => {
-                let finding = find(alloc, &routes, &gap)?;
+        match make(alloc, &routes) {
+            Err(MakeFault::Lost(finding)) => {
+                assert!(rt; confirm(&routes, &finding), "{wanted}");
                 let found = finding_text(alloc, &finding, &routes)?;
                 let text = lines(alloc, wanted)?;
                 assert!(rt; found.as_slice() == text.as_slice(), "{wanted}");
             }
-            _ => panic!(rt; "no gap"),
+            _ => panic!(rt; "no finding"),
         }
     }
     Ok(())
