@@ -1,25 +1,23 @@
 -- What is built of a gap breaks coverage.
-use Rattle.std.proofs.Common.{◌≡◌, ◌≢◌, inl, inr, ⊎_elim, ℕ, zero, suc, ◌<◌, ◌+◌, Bool, true, false, List, [], ◌∷◌, ◌++◌, length, map, Option, Some, option_map, nat_eq, refl, sym, ap, ◌∙◌, subst, arith, true≢false}
+use Rattle.std.proofs.Common.{◌≡◌, ◌≢◌, inl, inr, ℕ, zero, suc, ◌<◌, ◌+◌, Bool, true, false, List, [], ◌∷◌, length, map, Option, Some, nat_eq, refl, sym, ap, ◌∙◌, subst, arith, true≢false}
 use Rattle.std.specs.Prelude.{slice_get, slice_index}
 use Rattle.std.specs.List.{All, Contains, list_any}
 use Rattle.std.proofs.lemmas.Bool.{and_from, cases_Bool, cases_eq, eq-eqb, false≢true}
 use Rattle.std.proofs.lemmas.List.{length-map}
 use Rattle.std.proofs.lemmas.List.Elements.{All-contains, Contains-append_right}
-use Rattle.std.proofs.lemmas.Option.{get_or_from_slice_get, none-some, same_Some, slice_get-get_or, slice_get-map, slice_get_within}
+use Rattle.std.proofs.lemmas.Option.{same_Some, slice_get-get_or}
 use Rattle.std.proofs.lemmas.Map.Keys.{any_passes_from_place}
 use Rattle.mcv_base.specs.declared.operation.Op.TheVariants.{Delete}
 use Rattle.mcv_base.specs.declared.reply.Outcome.TheVariants.{Good, Error}
 use Rattle.mcv_pools.specs.Symbol.{SymbolValue}
 use Rattle.mcv_route.specs.Outcomes.{Choice, IsChoice, outcomes}
 use Rattle.mcv_route.specs.Places.{pool_at_position}
-use Rattle.mcv_route.specs.Routes.{RouteEntry, RoutesValue, IsSoundRoutes}
 use Rattle.mcv_route.specs.Situation.{asked}
 use Rattle.mcv_route.specs.Tree.{Pool, Tree}
 use Rattle.mcv_route.specs.Verdict.{IsSent}
-use Rattle.mcv_rules.specs.Plan.{Leg, server}
+use Rattle.mcv_rules.specs.Plan.{Leg}
 use Rattle.mcv_rules.specs.Plans.{plan}
 use Rattle.mcv_rules.specs.declared.plan.PlannedLeg.{PlannedLeg}
-use Rattle.mcv_symbolic.specs.Covered.{sizes_of}
 use Rattle.mcv_symbolic.specs.InMemory.{pool_of}
 use Rattle.mcv_symbolic.specs.Justified.{IsNeverAcknowledged}
 use Rattle.mcv_symbolic.specs.Sets.{AreLegsAt, IsAcknowledged, positions_of}
@@ -28,7 +26,6 @@ use Rattle.mcv_symbolic.proofs.Exactness.{acknowledged_is_exact, done_is_exact}
 use Rattle.mcv_symbolic.proofs.Placed.{acknowledged_stands, leaf_of}
 use Rattle.mcv_judge.specs.Reason.{BlockValue, HasReason, LegValue, has_server, is_same_server, server_at}
 use Rattle.mcv_blocks.specs.Blocks.{IsAcknowledgedAt, IsBlockAt, pool_for}
-use Rattle.mcv_blocks.specs.Merged as merged
 use Rattle.mcv_blocks.proofs.PoolSizes.{AreSized}
 use Rattle.mcv_blocks.proofs.Searches.{from_map, into_map}
 use Rattle.mcv_blocks.proofs.Unique.{leg_there, pool_of_leg}

@@ -1,35 +1,30 @@
 -- What is built of a gap breaks coverage.
-use Rattle.std.proofs.Common.{◌≡◌, ◌<◌, ◌≤◌, ℕ, true, List, [], ◌∷◌, ◌++◌, length, Option, Some, option_map, refl, sym, ap, ◌∙◌, subst, arith}
+use Rattle.std.proofs.Common.{◌≡◌, ◌<◌, ◌≤◌, ℕ, List, [], ◌∷◌, ◌++◌, length, Some, option_map, refl, sym, ap, ◌∙◌, subst, arith}
 use Rattle.std.specs.Prelude.{slice_get, slice_index}
 use Rattle.std.specs.List.{All, Contains}
 use Rattle.std.proofs.lemmas.List.Elements.{All-contains}
 use Rattle.std.proofs.lemmas.Option.{get_or_from_slice_get, same_Some, slice_get_within}
-use Rattle.mcv_base.specs.Key.{IsCut, IsRoutingPrefix, is_key_word, routed, slash}
-use Rattle.mcv_base.specs.Operation.{is_reading}
+use Rattle.mcv_base.specs.Key.{IsRoutingPrefix, is_key_word, routed, slash}
 use Rattle.mcv_base.specs.declared.operation.Op.TheVariants.{Delete}
 use Rattle.mcv_base.specs.declared.reply.Outcome.TheVariants.{Good}
-use Rattle.mcv_blocks.specs.Blocks.{IsBlockAt, IsEraOf, IsPlaceOf, pool_for}
+use Rattle.mcv_blocks.specs.Blocks.{IsBlockAt, IsPlaceOf, pool_for}
 use Rattle.mcv_blocks.proofs.PoolSizes.{AreSized, entry_sized}
 use Rattle.mcv_blocks.proofs.Unique.{block_has, pool_of_leg}
 use Rattle.mcv_cert.specs.Pair.{Place}
-use Rattle.mcv_classes.specs.Class.{IsMember}
-use Rattle.mcv_classes.specs.Words.{class_words}
 use Rattle.mcv_classes.proofs.Members.{members_are_inside}
 use Rattle.mcv_config.specs.Aliases.{IsAlias, alias_limit}
 use Rattle.mcv_config.specs.Entries.{depth_limit}
 use Rattle.mcv_judge.specs.Reason.{BlockValue, LegValue}
 use Rattle.mcv_certify.specs.Gap.{IsGap}
 use Rattle.mcv_route.specs.Limits.{AreWithinLimits, IsWithin}
-use Rattle.mcv_route.specs.Outcomes.{Choice, History, IsChoice}
+use Rattle.mcv_route.specs.Outcomes.{History, IsChoice}
 use Rattle.mcv_route.specs.Places.{pool_at_position, route_of_prefix}
 use Rattle.mcv_route.specs.Routes.{RouteEntry, RoutesValue, IsSoundRoutes}
 use Rattle.mcv_route.specs.Situation.{asked}
 use Rattle.mcv_route.specs.Tree.{Pool, Tree}
 use Rattle.mcv_rules.specs.Plans.{plan}
-use Rattle.mcv_rules.specs.declared.plan.PlannedLeg.{PlannedLeg}
-use Rattle.mcv_symbolic.specs.Covered.{IsRest, sizes_of}
+use Rattle.mcv_symbolic.specs.Covered.{sizes_of}
 use Rattle.mcv_symbolic.specs.Justified.{IsReadableAt}
-use Rattle.mcv_symbolic.specs.Sets.{AreLegsAt, IsAcknowledged}
 use Rattle.mcv_witness.specs.Breaks.{BreaksCoverage, IsLeafOf, IsMissed, IsRead, StandsAt}
 use Rattle.mcv_witness.specs.Finding.{FindingValue}
 use Rattle.mcv_make.specs.Free.{free_indexes}

@@ -1,5 +1,5 @@
 -- What a gap says of its place: the route, the class and the leaf are there, and the leaf can be read.
-use Rattle.std.proofs.Common.{◌≡◌, ℕ, List, Option, Some, None, option_map, refl, sym, ap, ◌∙◌, subst}
+use Rattle.std.proofs.Common.{◌≡◌, ℕ, List, Option, Some, refl, sym, ap, ◌∙◌, subst}
 use Rattle.std.specs.Prelude.{option_and_then, slice_get}
 use Rattle.std.specs.List.{Contains}
 use Rattle.std.proofs.lemmas.Option.{same_Some}
@@ -7,14 +7,13 @@ use Rattle.mcv_cert.specs.Pair.{Place}
 use Rattle.mcv_classes.specs.Class.{IsMember}
 use Rattle.mcv_classes.specs.Words.{class_words}
 use Rattle.mcv_judge.specs.Reason.{BlockValue, LegValue}
-use Rattle.mcv_blocks.specs.Blocks.{IsBlockAt, IsEraOf, IsPlaceOf, pool_for}
+use Rattle.mcv_blocks.specs.Blocks.{IsBlockAt, IsEraOf, pool_for}
 use Rattle.mcv_blocks.specs.Places.{HasEra}
 use Rattle.mcv_blocks.proofs.Unique.{block_has, has_property, pool_of_leg}
 use Rattle.mcv_certify.specs.Gap.{IsGap, place_of_gap}
 use Rattle.mcv_certify.specs.declared.gap.Gap.{Gap}
 use Rattle.mcv_route.specs.Places.{leaf_in, pool_at_position}
 use Rattle.mcv_route.specs.Routes.{RouteEntry, RoutesValue}
-use Rattle.mcv_route.specs.Tree.{Pool, Tree}
 use Rattle.mcv_symbolic.specs.Justified.{IsReadableAt}
 use Rattle.mcv_make.specs.Place.{HasMember}
 

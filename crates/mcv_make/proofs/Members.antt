@@ -1,5 +1,5 @@
 -- The member of a class by the table of its route.
-use Rattle.std.proofs.Common.{◌≡◌, ℕ, false, true, List, [], ◌∷◌, Option, Some, None, refl, sym, ◌∙◌, true≢false}
+use Rattle.std.proofs.Common.{ℕ, List, [], ◌∷◌, Some, None, sym, ◌∙◌, true≢false}
 use Rattle.std.specs.List.{Contains}
 use Rattle.std.proofs.lemmas.List.Elements.{All-contains}
 use Rattle.mcv_classes.specs.Class.{IsFree, IsMember}

@@ -1,10 +1,10 @@
 -- The outcomes that are shown of a delete: it is done, and only what each acknowledged delete sends has been sent.
-use Rattle.std.proofs.Common.{◌≡◌, ◌≢◌, inl, inr, ℕ, true, List, Option, Some, refl, sym, ap, ◌∙◌, subst}
+use Rattle.std.proofs.Common.{◌≡◌, ◌≢◌, inl, inr, ℕ, true, List, Option, refl, sym, ◌∙◌, subst}
 use Rattle.mcv_base.specs.Operation.{is_counting}
 use Rattle.mcv_base.specs.declared.operation.Op.TheVariants.{Delete}
 use Rattle.mcv_base.specs.declared.reply.Outcome.TheVariants.{Good, Error}
-use Rattle.mcv_route.specs.Outcomes.{Outcomes, Choice, History, outcomes}
-use Rattle.mcv_route.specs.Situation.{Situation, asked}
+use Rattle.mcv_route.specs.Outcomes.{Outcomes, Choice, outcomes}
+use Rattle.mcv_route.specs.Situation.{asked}
 use Rattle.mcv_route.specs.Tree.{Tree}
 use Rattle.mcv_route.specs.Verdict.{IsDone, IsReachable, IsSent}
 use Rattle.mcv_rules.specs.Plan.{Leg, Plan, Send, Reply, Both, Beside, OnError, OnMiss, OnHit, Shadowed, server}

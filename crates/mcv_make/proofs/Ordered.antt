@@ -1,5 +1,5 @@
 -- Outcomes stand in the order of their positions.
-use Rattle.std.proofs.Common.{◌≡◌, inl, inr, ⊎_elim, ℕ, Bool, true, false, cond, List, [], ◌∷◌, ◌++◌, map, refl, sym, subst, ap, arith}
+use Rattle.std.proofs.Common.{◌≡◌, inl, inr, ⊎_elim, ℕ, Bool, true, false, List, [], ◌∷◌, ◌++◌, map, refl, sym, subst, ap, arith}
 use Rattle.std.specs.Prelude.{if◌then◌else◌}
 use Rattle.std.specs.List.{All, AllPairs}
 use Rattle.std.proofs.lemmas.List.Elements.{All-cons, All-nil}
@@ -8,7 +8,7 @@ use Rattle.mcv_base.specs.Reply.{is_error, is_missed}
 use Rattle.mcv_base.specs.declared.reply.Outcome.{Outcome}
 use Rattle.mcv_classes.specs.Class.{IsBefore}
 use Rattle.mcv_route.specs.Outcomes.{History}
-use Rattle.mcv_rules.specs.Plan.{Leg, Plan, Send, Reply, Both, Beside, OnError, OnMiss, OnHit, Shadowed}
+use Rattle.mcv_rules.specs.Plan.{Plan, Send, Reply, Both, Beside, OnError, OnMiss, OnHit, Shadowed}
 use Rattle.mcv_rules.specs.Sound.{positions, In}
 use Rattle.mcv_rules.proofs.Orders.{in_left, in_right}
 use Rattle.mcv_rules.proofs.Sound.{in_either}

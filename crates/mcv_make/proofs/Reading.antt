@@ -9,7 +9,7 @@ use Rattle.mcv_route.specs.Tree.{Tree}
 use Rattle.mcv_route.specs.Verdict.{IsHit, IsReachable}
 use Rattle.mcv_rules.specs.Plan.{Plan}
 use Rattle.mcv_rules.specs.Plans.{plan}
-use Rattle.mcv_rules.specs.Sound.{positions, IsApart, IsHonest}
+use Rattle.mcv_rules.specs.Sound.{positions}
 use Rattle.mcv_rules.proofs.Orders
 use Rattle.mcv_rules.proofs.Sound
 use Rattle.mcv_rules.proofs.Verdicts

@@ -1,12 +1,11 @@
 -- What it means that no reason answers for a leaf at an index: a delete can be acknowledged, no leg has the server at this index of the leaf's symbol, and each other symbol has an index at which none has.
-use Rattle.std.proofs.Common.{◌≡◌, ◌<◌, ◌+◌, ◌≤◌, ℕ, zero, suc, Bool, true, false, nat_eq, List, [], ◌∷◌, length, Option, Some, None, inl, inr, refl, sym, ap, ◌∙◌, subst, arith}
-use Rattle.std.specs.Prelude.{if◌then◌else◌, slice_get, slice_index}
+use Rattle.std.proofs.Common.{◌≡◌, ◌<◌, ◌+◌, ◌≤◌, ℕ, zero, suc, true, false, nat_eq, List, [], ◌∷◌, length, Option, Some, None, inl, inr, refl, sym, ap, ◌∙◌, subst, arith}
+use Rattle.std.specs.Prelude.{if◌then◌else◌, slice_index}
 use Rattle.std.specs.List.{All, Contains}
 use Rattle.std.specs.Ordering.{is_eq}
 use Rattle.std.proofs.lemmas.Bool.{and_from, and_parts, cases_Bool, eq-eqb}
 use Rattle.std.proofs.lemmas.Cmp.{nat_list_cmp_total, tied_itself}
-use Rattle.mcv_route.specs.Places.{pool_at_position}
-use Rattle.mcv_route.specs.Tree.{Pool, Tree}
+use Rattle.mcv_route.specs.Tree.{Tree}
 use Rattle.mcv_cert.specs.Pair.{never, same, all, list_cmp}
 use Rattle.mcv_judge.specs.Reason.{BlockValue, HasReason, LegValue, fault_of_leg, fill_a_symbol, fill_symbol_of, has_server, have_server, is_one_missing, is_same_list, is_there_with, leg_at, server_at, unless}
 use Rattle.mcv_judge.specs.declared.fault.PairFault.TheVariants.{CanBeAcknowledged, NotAcknowledged, OtherServer}

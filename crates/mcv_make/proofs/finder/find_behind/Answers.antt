@@ -1,11 +1,10 @@
-use Rattle.std.proofs.Common.{◌≡◌, ◌∙◌, ◌++◌, List, ℕ, Some, option_map, ap, subst, sym}
+use Rattle.std.proofs.Common.{◌≡◌, ◌∙◌, Some, option_map, ap, subst, sym}
 use Rattle.mcv_base.specs.declared.request.Moment.{Moment}
 use Rattle.mcv_classes.specs.Class.{IsMember}
 use Rattle.mcv_classes.specs.Words.{class_words}
-use Rattle.mcv_pools.specs.Symbol.{SymbolValue}
 use Rattle.mcv_route.specs.View.{pool_view, view}
 use Rattle.mcv_witness.specs.Breaks.{BreaksCoverage}
-use Rattle.mcv_witness.specs.Finding.{FindingValue, finding_of, outcomes_of}
+use Rattle.mcv_witness.specs.Finding.{outcomes_of}
 use Rattle.mcv_make.specs.Free.{free_indexes}
 use Rattle.mcv_make.specs.Told.{IsToldWith}
 use Rattle.mcv_make.proofs.Built.{finding_at, reads, told}

@@ -1,11 +1,10 @@
-use Rattle.std.proofs.Common.{◌≡◌, ◌∙◌, ◌++◌, ◌∷◌, [], ◌+◌, ℕ, Bool, List, map, length, take, ap, sym, arith, get_or, length-take}
+use Rattle.std.proofs.Common.{◌≡◌, ◌∙◌, ◌++◌, ◌∷◌, [], ◌+◌, ℕ, Bool, map, length, take, ap, sym, arith, length-take}
 use Rattle.std.specs.Prelude.{if◌then◌else◌, nat_eq}
-use Rattle.std.specs.BTreeSet.{contains}
 use Rattle.std.specs.Borrow.{Bor}
 use Rattle.std.proofs.lemmas.List.{take_all, take_more}
 use Rattle.mcv_pools.specs.Symbol.{SymbolValue}
 use Rattle.mcv_rules.specs.declared.plan.PlannedLeg.{PlannedLeg}
-use Rattle.mcv_make.specs.Free.{free_index, free_indexes, is_taken, least_free, slot_cmp}
+use Rattle.mcv_make.specs.Free.{free_index, free_indexes, least_free}
 use Rattle.mcv_make.proofs.Taken.{indexes-append}
 use Rattle.mcv_make.proofs.free.free_choice.Goals as goal
 

@@ -1,4 +1,4 @@
-use Rattle.std.proofs.Common.{◌≡◌, ◌∙◌, ℕ, Bool, sym}
+use Rattle.std.proofs.Common.{◌∙◌, ℕ, Bool, sym}
 use Rattle.std.specs.BTreeSet.{contains}
 use Rattle.mcv_make.specs.Free.{slot_cmp}
 use Rattle.mcv_make.proofs.Taken.{here-free, next-free, none-free}

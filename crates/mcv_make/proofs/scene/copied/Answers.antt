@@ -1,7 +1,5 @@
-use Rattle.std.proofs.Common.{◌≡◌, ◌∙◌, ◌++◌, ◌∷◌, [], List, ℕ, map, take, ap, sym}
+use Rattle.std.proofs.Common.{◌∙◌, ◌++◌, ◌∷◌, [], take, ap, sym}
 use Rattle.std.proofs.lemmas.List.{map-append, map_more}
-use Rattle.mcv_base.specs.declared.reply.Outcome.{Outcome}
-use Rattle.mcv_route.specs.Outcomes.{History}
 use Rattle.mcv_witness.specs.Finding.{outcomes_of}
 use Rattle.mcv_witness.specs.declared.finding.LegOutcome.{LegOutcome}
 use Rattle.mcv_symbolic.specs.declared.shown.LegAnswer.{LegAnswer}

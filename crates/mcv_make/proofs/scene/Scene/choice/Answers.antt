@@ -1,8 +1,7 @@
-use Rattle.std.proofs.Common.{◌≡◌, ◌∙◌, ℕ, List, map, option_map, ap, subst}
+use Rattle.std.proofs.Common.{◌≡◌, ◌∙◌, List, map, ap, subst}
 use Rattle.std.specs.Borrow.{Bor}
 use Rattle.std.proofs.lemmas.Result.{IfOk-weaker}
 use Rattle.mcv_route.specs.Outcomes.{Choice}
-use Rattle.mcv_route.specs.View.{view}
 use Rattle.mcv_rules.specs.declared.plan.PlannedLeg.{PlannedLeg}
 use Rattle.mcv_symbolic.specs.Case.{CaseValue}
 use Rattle.mcv_symbolic.specs.Sets.{AreLegsAt, IsAcknowledged}

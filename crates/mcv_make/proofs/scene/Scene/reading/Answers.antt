@@ -1,7 +1,7 @@
-use Rattle.std.proofs.Common.{◌≡◌, ◌∙◌, List, None, Option, option_map, ap, sym}
+use Rattle.std.proofs.Common.{◌∙◌, option_map, ap, sym}
 use Rattle.std.specs.declared.alloc.Global.{Global}
 use Rattle.std.specs.declared.vec.Vec.{Vec}
-use Rattle.mcv_base.specs.declared.operation.Op.TheVariants.{Get, Gets}
+use Rattle.mcv_base.specs.declared.operation.Op.TheVariants.{Get}
 use Rattle.mcv_base.specs.declared.request.Moment.{Moment}
 use Rattle.mcv_route.specs.View.{view}
 use Rattle.mcv_witness.specs.Finding.{outcomes_of}
