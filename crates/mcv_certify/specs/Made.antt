@@ -9,22 +9,15 @@ use Rattle.mcv_route.specs.Routes.{RoutesValue}
 use Rattle.mcv_pairs.specs.Adds.{Adds}
 use Rattle.mcv_pairs.specs.Gaps.{IsFirstGapIn, IsSized}
 use Rattle.mcv_pairs.specs.Reasons.{IsPickedIn}
-use Rattle.mcv_blocks.specs.Blocks.{AreLeavesAt, IsAcknowledgedAt, IsBlockAt}
+use Rattle.mcv_blocks.specs.Blocks.{AreLeavesAt, IsAcknowledgedAt}
 use Rattle.mcv_blocks.specs.Sets.{SetsValue}
-use Rattle.mcv_blocks.specs.Spots.{IsBlockFor, Spot}
+use Rattle.mcv_blocks.specs.Spots.{IsBlockFor, IsBlockWith, Spot}
 use Rattle.mcv_blocks.specs.declared.classes.RouteClass.{RouteClass}
 use Rattle.mcv_certify.specs.Gap.{place_of_gap}
 use Rattle.mcv_certify.specs.Picked.{IsPickedOf}
 use Rattle.mcv_certify.specs.declared.gap.Gap.{Gap}
 use Rattle.mcv_certify.specs.declared.gap.CertifyFault.{CertifyFault}
 use Rattle.mcv_certify.specs.declared.gap.CertifyFault.TheVariants.{Lost, Memory}
-
--- the block has what the sets have, and is of this class and era
-pub record IsBlockWith (s : SetsValue) (c : RouteClass) (number : ℕ) (b : BlockValue) : Type 0 where
-  pub route : b.route ≡ c.route
-  pub class : b.class ≡ c.class.word
-  pub era : b.era ≡ number
-  pub has : IsBlockAt s.tree s.rest s.since b
 
 -- the legs that each acknowledged delete has sent have as many servers as their symbols have indexes
 abbrev pub AreLegsSized : SetsValue → Type 0
