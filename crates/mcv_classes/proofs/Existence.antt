@@ -14,9 +14,6 @@ use Rattle.mcv_classes.proofs.Members.{begins-key, first-free}
 
 -- ---- members of lists
 
-here : (w : List ℕ) (ws : List (List ℕ)) → Contains (w ∷ ws) w
-here w ws = (0, omega arith, refl)
-
 there : (w v : List ℕ) (ws : List (List ℕ)) → Contains ws v → Contains (w ∷ ws) v
 there w v ws h = (suc h.0, omega (arith, h.1), h.2)
 

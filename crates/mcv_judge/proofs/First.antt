@@ -20,9 +20,6 @@ whole_index (twin p) h = refl
 whole_index (same i p) h = absurd cc
 whole_index (all i ps) h = absurd cc
 
-not_less : nat_cmp 0 0 ≡ Less → ⊥
-not_less e = cc
-
 -- less as a whole: less by the first, or level there and less by the second
 then_less : (a b : Ordering) → ordering_then a b ≡ Less → (a ≡ Less) ⊎ ((a ≡ Equal) × (b ≡ Less))
 then_less Less b e = inl refl
