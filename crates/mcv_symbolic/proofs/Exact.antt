@@ -71,6 +71,11 @@ either (f ∷ es) fs p x e =
 abbrev pub Inside : Plan → History → Type 0
 Inside t es = (p : List ℕ) → (In (positions t) p → ⊥) → outcomes es p ≡ None
 
+in_either : (ps qs : List (List ℕ)) (p : List ℕ) → In (ps ++ qs) p → In ps p ⊎ In qs p
+in_either [] qs p h = inr h
+in_either (q ∷ ps) qs p (inl e) = inl (inl e)
+in_either (q ∷ ps) qs p (inr h) = ⊎_elim (λ i. inl (inr i)) (λ i. inr i) (in_either ps qs p h)
+
 pub inside_both : (t u v : Plan) (es fs : History) → positions v ≡ positions t ++ positions u → Inside t es → Inside u fs → Inside v (es ++ fs)
 inside_both t u v es fs w h k p n =
     let left = h p (λ i. n (subst (λ ps. In ps p) (sym w) (Orders.in_left (positions t) (positions u) p i))) in
