@@ -1,6 +1,6 @@
 -- A table of words has the classes of these words.
 use Rattle.std.proofs.Common.{ℕ, List, [], ◌∷◌, Option, Some, None}
-use Rattle.std.specs.List.{All, Contains}
+use Rattle.std.specs.List.{Contains}
 use Rattle.std.proofs.lemmas.List.Elements.{All-contains, All-weaker}
 use Rattle.mcv_classes.specs.Class.{ClassValue, IsClassList, IsClassOf, IsClassWord, IsFree, IsListed, IsMember}
 use Rattle.mcv_classes.specs.Table.{IsWordTable}

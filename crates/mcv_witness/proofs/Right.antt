@@ -1,8 +1,8 @@
 -- The walk over a route sees what is to be seen of it.
-use Rattle.std.proofs.Common.{◌≡◌, ◌⊎◌, inl, inr, cond, ℕ, zero, suc, ◌+◌, ◌≤◌, ◌<◌, ◌&&◌, ◌||◌, ◌==◌, Bool, true, false, List, [], ◌∷◌, ◌++◌, length, Option, Some, None, refl, sym, ap, ap₂, ◌∙◌, subst, arith, append_assoc, append-nil}
+use Rattle.std.proofs.Common.{◌≡◌, ◌⊎◌, inl, inr, cond, ℕ, zero, suc, ◌+◌, ◌≤◌, ◌&&◌, ◌||◌, ◌==◌, Bool, true, false, List, [], ◌∷◌, ◌++◌, length, Option, Some, None, refl, sym, ap, ap₂, ◌∙◌, subst, arith, append-nil}
 use Rattle.std.specs.Prelude.{if◌then◌else◌, fold, option_and_then, slice_index}
 use Rattle.std.specs.Str.{bytes_eq}
-use Rattle.std.proofs.lemmas.Bool.{cases_lt, eqb-true, eqb-false, eq-eqb, false≢true, ne_eqb}
+use Rattle.std.proofs.lemmas.Bool.{cases_lt, eqb-true, eqb-false, false≢true}
 use Rattle.std.proofs.lemmas.List.{length-append}
 use Rattle.mcv_base.specs.declared.reply.Outcome.{Outcome}
 use Rattle.mcv_base.specs.declared.reply.Outcome.TheVariants.{Good, Soft, Error}
@@ -17,14 +17,14 @@ use Rattle.mcv_route.specs.Situation.{Situation, adding, asynchronous, shadowed,
 use Rattle.mcv_route.specs.Tree.{Pool, Range, Tree, Trees, pool, null, error, all_sync, all_initial, all_async, failover, miss_failover, warm_up, migrate, prefix_selector, operation_selector, none, child}
 use Rattle.mcv_route.specs.declared.launch.Launch.{Launch}
 use Rattle.mcv_rules.proofs.Orders.{same_is, same_self}
-use Rattle.mcv_witness.specs.Walk.{Known, Pass, at_once, behind, below, filled, finish, front, gather, gather_all, goes_on, if_empty, is_below, is_told, joined_seen, only, only_nth, own_told, pass, pass_each, past, past_own, shade, warmed}
+use Rattle.mcv_witness.specs.Walk.{Known, Pass, at_once, behind, below, filled, finish, front, gather, gather_all, goes_on, if_empty, is_below, is_told, joined_seen, only, only_nth, pass, pass_each, past, shade, warmed}
 use Rattle.mcv_witness.specs.declared.seen.Join.{Join}
 use Rattle.mcv_witness.specs.declared.seen.Join.TheVariants.{Both, Beside, OnError, OnMiss}
 use Rattle.mcv_witness.specs.declared.seen.Seen.{Seen}
 use Rattle.mcv_witness.proofs.Each.{Each, each_append, each_both, each_map}
 use Rattle.mcv_witness.proofs.Gathered.{Agrees, AgreesFrom, AreRight, IsRight, agrees_from, agrees_past, beside_after, beside_replies, both_after, child_after, error_after, gather_right, known_none, legs_after_from, miss_after, moved, others_from}
-use Rattle.mcv_witness.proofs.Regions.{At, Below, Fits, From, IsDeep, Rises, after_from, at_below, below_apart, below_at, below_from, below_one, below_test, fits_below, fits_past, from_at, from_later, numbers_rise, own_apart, own_test, parts, test_below}
-use Rattle.mcv_witness.proofs.Spread.{AllBelow, AllFrom, EachFrom, below_all, holding_each, joined_each, later_all, launched_at, once_each, launched_below, launched_from}
+use Rattle.mcv_witness.proofs.Regions.{At, Below, Fits, From, IsDeep, Rises, after_from, at_below, below_apart, below_from, below_one, below_test, fits_below, fits_past, from_at, from_later, numbers_rise, own_apart, own_test, parts, test_below}
+use Rattle.mcv_witness.proofs.Spread.{AllFrom, below_all, holding_each, joined_each, later_all, once_each, launched_below, launched_from}
 use Rattle.mcv_witness.proofs.Tests.{Avoids, after, all_append, all_sent, join_answers, legs_after, not_sent, nothing_after, or_false, reaches, sent_at, step_after, stray_after, told}
 
 -- ---- an outcome that is no child's
