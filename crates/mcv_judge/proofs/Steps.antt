@@ -28,7 +28,7 @@ abbrev onward : Result (List PairValue) PairFault → (List PairValue → Result
 onward (Ok x) f = f x
 onward (Err n) f = Err n
 
-after_both : (r : ReasonValue) (e : Entry) (es fs : List Entry) → after r e (es ++ fs) ≡ after r e es ++ fs
+pub after_both : (r : ReasonValue) (e : Entry) (es fs : List Entry) → after r e (es ++ fs) ≡ after r e es ++ fs
 after_both r e es fs = elim (cases_Bool (is_whole r)) [
   | inl w ↦ rw w refl
   | inr w ↦ elim (cases_Bool (nat_lt (suc e.from) e.size)) [ inl l ↦ rw (w, l) refl | inr l ↦ rw (w, l) refl ]

@@ -191,7 +191,7 @@ pub record Fits (base : List ℕ) (k : Known) : Type 0 where
   pub deep : IsDeep base k.depth k.legs
   pub rises : Rises k.legs
 
-deep_any : (base : List ℕ) (d : ℕ) (es : History) → d ≡ length base → IsDeep base d es
+pub deep_any : (base : List ℕ) (d : ℕ) (es : History) → d ≡ length base → IsDeep base d es
 deep_any base d [] e = tt
 deep_any base d (x ∷ es) e = e
 
