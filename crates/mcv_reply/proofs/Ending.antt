@@ -1,4 +1,4 @@
--- Where a line may end.
+-- Where a line cannot end yet.
 use Rattle.std.proofs.Common.{◌≡◌, ℕ, ◌<◌, ◌≤◌, Bool, true, false, List, [], length, None, refl, ap, subst, arith}
 use Rattle.std.proofs.lemmas.List.{length-drop}
 use Rattle.mcv_reply.specs.declared.word.Tail.{Tail}
