@@ -3,7 +3,6 @@
 
 ghost use Rattle.std.specs.Prelude.{◌≡◌, ◌==◌, [], ◌∷◌, ◌<◌, ◌^◌, ◌++◌, ℕ, List, All, Some, codes, decimal, map, true, IfOk, IfSome, IsSomeAnd};
 ghost use Rattle.std.specs.List.{slice_split};
-ghost use Rattle.std.specs.Option.{option_map};
 ghost use Rattle.mcv_base.specs.Position.{position_text};
 ghost use Rattle.mcv_cert.specs.Pair.{FitsPosition, FitsReason, IsPair, PairValue, ReasonValue, all, names_legs, never, pair_of, reason_of, same, twin};
 ghost use Rattle.mcv_cert.specs.Text.{pair_text, pair_words, reason_words};

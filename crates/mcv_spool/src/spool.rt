@@ -1,9 +1,9 @@
 //! The spool: its file, and the records that are pending.
 
-ghost use Rattle.std.specs.Prelude.{◌≡◌, ◌≢◌, ◌⊎◌, ◌↔◌, ℕ, ◌+◌, ◌*◌, ◌<◌, ◌≤◌, ◌==◌, not, false, true, None, Some, List, [], ◌∷◌, ◌++◌, length, filter, IfOk, IfErr, OnOk, OnErr, IsOk, IsErrOf};
+ghost use Rattle.std.specs.Prelude.{◌≡◌, ◌⊎◌, ◌↔◌, ℕ, ◌+◌, ◌*◌, ◌<◌, ◌==◌, not, false, true, Some, [], ◌∷◌, ◌++◌, filter, IfOk, IfErr, OnOk, OnErr, IsOk, IsErrOf};
 ghost use Rattle.std.specs.List.{Contains, list_any};
 ghost use Rattle.mcv_spool.specs.Disk.{LeavesOnly, Only};
-ghost use Rattle.mcv_spool.specs.File.{IsClosed, damage, marked, pending_from, slot_of, slots};
+ghost use Rattle.mcv_spool.specs.File.{damage, marked, slot_of, slots};
 ghost use Rattle.mcv_spool.specs.Found.{IsAppendFault, IsDoneFault, IsFound, IsOpenFault, WritesNothing};
 ghost use Rattle.mcv_spool.specs.History.{Call, HasNumber, History, Told, append_stopped, append_told, done_told, records_of, reopen_told, shut, told_found, world};
 ghost use Rattle.mcv_spool.specs.declared.record.SpoolRecord.{SpoolRecord};

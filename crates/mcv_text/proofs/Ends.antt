@@ -1,36 +1,13 @@
 -- A line's end in a piece.
-use Rattle.std.proofs.Common.{◌≡◌, ◌≢◌, ℕ, ◌+◌, ◌<◌, ◌≤◌, List, [], ◌∷◌, ◌++◌, length, get_or, take, drop, Some, None, refl, sym, ap, subst, ◌∙◌, append_assoc, arith, eq-eqb, length-append}
+use Rattle.std.proofs.Common.{◌≡◌, ◌≢◌, ℕ, ◌+◌, ◌<◌, ◌≤◌, List, [], ◌∷◌, ◌++◌, length, get_or, take, drop, refl, sym, ap, subst, ◌∙◌, append_assoc, arith, length-append}
 use Rattle.std.specs.List.{All}
-use Rattle.std.proofs.lemmas.Bool.{eqb-true}
-use Rattle.std.proofs.lemmas.List.{take-append-drop, get_or-take, length-take, take-append-le, drop_more}
-use Rattle.std.proofs.lemmas.List.Elements.{All-append, All-take, All-from_get_or}
-use Rattle.memchr.specs.Find.{IsFirstByte, is_byte}
+use Rattle.std.proofs.lemmas.List.{take-append-drop, length-take, take-append-le, drop_more}
+use Rattle.std.proofs.lemmas.List.Elements.{All-append, All-take}
 use Rattle.mcv_text.specs.Request.{with_body, AskValue, RequestValue, asking, ItemValue, asked, refused}
 use Rattle.mcv_text.specs.declared.item.Refusal.TheVariants as refusals
 use Rattle.mcv_text.specs.Stream.{Stands, Held, Failed, IsLine, Begins, by_line, too_long, AfterLine, AfterValue, stored, no_cr, no_lf}
 use Rattle.mcv_text.specs.Reader.{EndsAt}
 use Rattle.mcv_text.specs.Line.{LineValue, stores, meaning}
-
--- no LF is found
-pub no_end_found : (piece : List ℕ) → IsFirstByte (is_byte 10) piece None → All (λ b. b ≢ 10) piece
-no_end_found piece none = All-from_get_or (λ b. b ≢ 10) piece 0 (λ k l is. none k (omega arith) l (eq-eqb (get_or piece k 0) 10 is))
-
--- the first LF is found
-pub end_found : (piece : List ℕ) (end : ℕ) → IsFirstByte (is_byte 10) piece (Some end) → EndsAt piece end
-end_found piece end found = record {
-  within = found.0.high;
-  before = All-from_get_or (λ b. b ≢ 10) (take end piece) 0 (λ k l is.
-      let low : k < end = omega (arith, length-take end piece) in
-      found.0.before k (omega arith) low (eq-eqb (get_or piece k 0) 10 (sym (get_or-take end piece k 0 low) ∙ is)));
-  at = eqb-true (get_or piece end 0) 10 found.1;
-}
-
--- the line goes on
-pub line_on : (line piece : List ℕ) → IsLine line → All (λ b. b ≢ 10) piece → length line + length piece ≤ 65536 → IsLine (line ++ piece)
-line_on line piece is none short = record {
-  no_end = All-append (λ b. b ≢ 10) line piece is.no_end none;
-  short = omega (arith, length-append line piece);
-}
 
 -- the piece, cut at its LF
 pub cut_at_end : (piece : List ℕ) (end : ℕ) → EndsAt piece end → piece ≡ take end piece ++ 10 ∷ drop (end + 1) piece

@@ -75,7 +75,6 @@ returns-clause-slots g c = λ model.
 
 pub repair-requires-clause-end : goal.repair-requires-clause-end
 repair-requires-clause-end g c = λ model.
-    let before : g.D.Disk.seen c.len.new.self ≡ g.D.Disk.seen c.args.disk.now = (c.len.ensures.quiet model).same ∙ (c.sync.ensures.quiet model).same in
     let is = (c.in_ok-found.ensures.found model).counted in
     ap (λ n. 640 * n) is ∙ ap (λ (f : List ℕ). 640 * length (slots f)) (sym (c.find.ensures.quiet model).same)
 
