@@ -82,7 +82,7 @@ const CHECK_FORM: &str =
 handles are read. A configuration is covered if at each moment at which a delete
 has an answer that isn't an error, every server from which a get or gets of the
 key could be answered has been sent a delete. That is decided for all keys, all
-choices of a hash and every start_time of a migration.
+choices of a hash, and all moments: before, in and after each migration.
 
 Where it is covered, standard output has the number of pairs of a certificate,
 and then the certificate, which says for each server that can be read why a
