@@ -1,4 +1,5 @@
 """build_all.py TREE LOG SLOTS CRATE..: builds (proves) the libraries of the crates in order of need, several at once."""
+POOL=__import__("os").environ.get("POOL","/work/pool")
 import sys, os, subprocess, time, shutil
 from importlib.machinery import SourceFileLoader
 sys.path.insert(0, "/opt/rattle/bin")
@@ -33,7 +34,7 @@ prio={n:depth(n) for n in order}
 done,running,failed=set(),{},set()
 def say(t):
     with open(log,"a") as f: f.write(time.strftime("%H:%M:%S ")+t+"\n")
-jobs={"mcv_config":"2","mcv_route":"2","mcv_rules":"2","mcv_symbolic":"2","mcv_verdict":"2","mcv_cli":"2","mcv_make":"2"}
+jobs={"mcv_config":"4","mcv_route":"4","mcv_rules":"4","mcv_symbolic":"4","mcv_verdict":"2","mcv_cli":"2","mcv_make":"4","mcv_certify":"3","mcv_witness":"3","mcv_classes":"2","mcv_blocks":"3","mcv_base":"3"}
 while len(done)+len(failed)<len(order):
     for n in sorted(order,key=lambda n:-prio[n]):
         if n in done or n in failed or n in running: continue
@@ -48,10 +49,10 @@ while len(done)+len(failed)<len(order):
             del running[n]
             if p.returncode==0:
                 done.add(n)
-                os.makedirs(f"/work/pool/{n}",exist_ok=True)
-                shutil.rmtree(f"/work/pool/{n}/rlib",ignore_errors=True)
-                shutil.copytree(f"{tree}/crates/{n}/out/rlib",f"/work/pool/{n}/rlib.new",symlinks=True)
-                os.rename(f"/work/pool/{n}/rlib.new",f"/work/pool/{n}/rlib")
+                os.makedirs(f"{POOL}/{n}",exist_ok=True)
+                shutil.rmtree(f"{POOL}/{n}/rlib",ignore_errors=True)
+                shutil.copytree(f"{tree}/crates/{n}/out/rlib",f"{POOL}/{n}/rlib.new",symlinks=True)
+                os.rename(f"{POOL}/{n}/rlib.new",f"{POOL}/{n}/rlib")
             else: failed.add(n)
             say(f"{n} {'built' if p.returncode==0 else 'FAILED'} {time.time()-t:.0f}s")
 say("end")
