@@ -186,7 +186,10 @@ null 0 = /aaaaaaaaaaaaaaaaaa/bbbbbbbbbbbbbbbbbbb/
 3 at /routes/0/aliases/0 = /a b/c/
 10 at /routes/0/aliases/0 = /*/*/
 10 at /routes/0/aliases/0 = /a/*/
-10 at /routes/0/aliases/0 = *";
+3 at /routes/0/aliases/0 = *
+3 at /routes/0/aliases/0 = /*/
+3 at /routes/0/aliases/0 = /a*
+3 at /routes/0/aliases/0 = /a b/*/";
 
 #[test]
 fn routes_and_aliases(rt: HostRuntime) -> Result<(), Fail> {
