@@ -19,7 +19,7 @@ use Rattle.mcv_certify.specs.declared.gap.Gap.{Gap}
 use Rattle.mcv_certify.specs.declared.gap.CertifyFault.{CertifyFault}
 use Rattle.mcv_certify.specs.declared.gap.CertifyFault.TheVariants.{Lost, Memory}
 
--- the legs that each acknowledged delete has sent have as many servers as their symbols have indexes
+-- the legs that every delete that has a reply has sent have as many servers as their symbols have indexes
 abbrev pub AreLegsSized : SetsValue → Type 0
 AreLegsSized s = (legs : List LegValue) → AreLeavesAt s.tree (IsAcknowledgedAt s.tree s.rest s.since) legs → IsSized legs
 

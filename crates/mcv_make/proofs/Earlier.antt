@@ -88,7 +88,7 @@ readable_by Cas t rest since c p e h = absurd (false≢true e)
 readable_by Delete t rest since c p e h = absurd (false≢true e)
 readable_by Touch t rest since c p e h = absurd (false≢true e)
 
--- ---- a pool to which each acknowledged delete is sent has been sent this one
+-- ---- a pool to which every delete that has a reply has been sent was sent this one
 
 module _ (t : Tree) (rest : List ℕ) (since : Option ℕ) (c : Choice) (o : Outcomes) (reached : IsReachable t (asked Delete rest since) c o) (done : IsDone t rest since o) where
   replied : replies t (asked Delete rest since) o ≢ []
