@@ -16,8 +16,6 @@ use Rattle.mcv_blocks.specs.declared.classes.RouteClass.{RouteClass}
 use Rattle.mcv_certify.specs.Gap.{place_of_gap}
 use Rattle.mcv_certify.specs.Picked.{IsPickedOf}
 use Rattle.mcv_certify.specs.declared.gap.Gap.{Gap}
-use Rattle.mcv_certify.specs.declared.gap.CertifyFault.{CertifyFault}
-use Rattle.mcv_certify.specs.declared.gap.CertifyFault.TheVariants.{Lost, Memory}
 
 -- the legs that every delete that has a reply has sent have as many servers as their symbols have indexes
 abbrev pub AreLegsSized : SetsValue → Type 0
@@ -67,8 +65,3 @@ pub record TellsGapIn (r : RoutesValue) (spots : List Spot) (f : Gap) : Type 0 w
   pub stand : AllZip (IsBlockFor r) before blocks
   pub reasons : All (λ b. All (HasReasons b) b.readable) blocks
   pub tells : TellsGapAt r spot f
-
--- what holds of the gap, if there is one
-abbrev pub IfLost : CertifyFault → (Gap → Type 0) → Type 0
-IfLost (Lost f) P = P f
-IfLost Memory P = Unit {0}

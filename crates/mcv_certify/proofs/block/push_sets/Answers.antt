@@ -4,7 +4,8 @@ use Rattle.mcv_judge.specs.InMemory.{legs_of}
 use Rattle.mcv_judge.specs.Reason.{BlockValue}
 use Rattle.mcv_blocks.specs.Spots.{IsBlockWith}
 use Rattle.mcv_blocks.proofs.Standing.{block_with}
-use Rattle.mcv_certify.specs.Made.{IfLost, TellsGapOf, TellsGapWith}
+use Rattle.mcv_certify.specs.Gap.{IfLost}
+use Rattle.mcv_certify.specs.Made.{TellsGapOf, TellsGapWith}
 use Rattle.mcv_certify.proofs.Lost.{if_lost, on_ok_both}
 use Rattle.mcv_certify.proofs.block.push_sets.Goals as goal
 
