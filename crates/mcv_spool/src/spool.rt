@@ -63,6 +63,8 @@ impl<D: Disk> Spool<D> {
         ensures damaged { D.keeps_model → (k : ℕ) → result ≡ Err (SpoolFault.Damaged k) → damage 0 (slots (D.seen self.old.disk)) ≡ Some k }
         ensures any_moment { D.keeps_model → LeavesOnly D.moment D.left_since self.old.disk self.new.disk (HasSlotsOf (D.may_leave self.old.disk)) }
         ensures device { D.keeps_model → IsErrOf result SpoolFault.Device → D.failures self.old.disk < D.failures self.new.disk }
+        // Where it is refused, what was pending is pending still.
+        ensures still_pending { OnErr result (self.new.contents.pending.items ≡ self.old.contents.pending.items) }
         ensures step { D.keeps_model → Call D.seen D.may_leave D.moment D.left_since (world self.old.disk self.old.needs_reopen) (world self.new.disk self.new.needs_reopen) (reopen_told result (records_of (slots (D.seen self.old.disk)))) (λ t. t) }
         ensures alone { IsOpenFault result }
     {
@@ -86,6 +88,8 @@ impl<D: Disk> Spool<D> {
         ensures device { D.keeps_model → IsErrOf result SpoolFault.Device → D.failures self.old.disk < D.failures self.new.disk }
         ensures broken { IsErrOf result SpoolFault.Device → self.new.needs_reopen ≡ true }
         ensures unchanged { WritesNothing result → (self.new.disk ≡ self.old.disk) × (self.new.contents.count ≡ self.old.contents.count) × (self.new.contents.pending.items ≡ self.old.contents.pending.items) × (self.new.needs_reopen ≡ self.old.needs_reopen) }
+        // Whatever refuses it, what was pending is pending still.
+        ensures still_pending { OnErr result (self.new.contents.pending.items ≡ self.old.contents.pending.items) }
         ensures step { D.keeps_model → Call D.seen D.may_leave D.moment D.left_since (world self.old.disk self.old.needs_reopen) (world self.new.disk self.new.needs_reopen) (append_told result delete) (append_stopped result delete) }
         ensures alone { IsAppendFault result }
     {
@@ -117,6 +121,8 @@ impl<D: Disk> Spool<D> {
         ensures broken { IsErrOf result SpoolFault.Device → self.new.needs_reopen ≡ true }
         ensures ready { OnOk result (self.new.needs_reopen ≡ false) }
         ensures unchanged { IsErrOf result SpoolFault.Reopen → (self.new.disk ≡ self.old.disk) × (self.new.contents.pending.items ≡ self.old.contents.pending.items) × (self.new.needs_reopen ≡ true) }
+        // Whatever refuses it, what was pending is pending still, the record of this number too.
+        ensures still_pending { OnErr result (self.new.contents.pending.items ≡ self.old.contents.pending.items) }
         ensures step { D.keeps_model → Call D.seen D.may_leave D.moment D.left_since (world self.old.disk self.old.needs_reopen) (world self.new.disk self.new.needs_reopen) (done_told result seq) (done_told result seq) }
         ensures alone { IsDoneFault result }
     {

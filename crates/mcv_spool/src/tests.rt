@@ -100,7 +100,7 @@ fn a_failed_sync_wants_a_reopen(rt: HostRuntime) -> Result<(), Fail> {
     let failed = spool
         .append(record(b"b:11211", b"ab").ok_or("record")?)
         .err();
-    assert!(rt; failed == Some(SpoolFault::Device));
+    assert!(rt; failed == Some(SpoolFault::Device) && spool.pending().len() == 1);
     let again = spool
         .append(record(b"b:11211", b"ab").ok_or("record")?)
         .err();
