@@ -1,4 +1,4 @@
-//! The spool: records of deletes that no server took, on the disk before a client is answered.
+//! The spool: records of deletes that their servers didn't take, each on the disk once its `append` has answered.
 //!
 //! A `Spool` stands on a `Disk`, one file. A record whose `append` answered Ok is found by every later
 //! `open`, also where the machine stopped at any moment, inside a call or between two.

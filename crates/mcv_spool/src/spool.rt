@@ -17,7 +17,7 @@ use crate::recover::recover;
 use crate::write::{write_done, write_record};
 use std::alloc::Global;
 
-/// Records of deletes that no server took, in a file.
+/// Records of deletes that their servers didn't take, in a file.
 #[derive(Drop)]
 pub struct Spool<D: Disk> {
     disk: D,
