@@ -21,8 +21,3 @@ pub use file_disk::FileDisk;
 pub use history::{a_disk_keeps_the_model, what_was_told_is_kept};
 pub use record::{SpoolRecord, Stored};
 pub use spool::Spool;
-
-#[cfg(test)]
-mod test_disk;
-#[cfg(test)]
-mod tests;

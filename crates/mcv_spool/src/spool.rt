@@ -22,7 +22,7 @@ use std::alloc::Global;
 pub struct Spool<D: Disk> {
     disk: D,
     alloc: Global,
-    pub(crate) contents: Contents,
+    contents: Contents,
     needs_reopen: bool,
     ghost settled: { D.keeps_model → needs_reopen ≡ false → IsSettled (D.seen disk) (D.may_leave disk) contents.count contents.pending.items },
 }
