@@ -1,8 +1,8 @@
 //! What no clause says: the bytes of the worked rows, and runs that fail or stop at each of their calls.
 
-use super::*;
-use crate::test_disk::{Left, Lent, TestDisk, Trouble};
+use crate::disk::{Left, Lent, TestDisk, Trouble};
 use mcv_base::{Rest, ServerText};
+use mcv_spool::{Disk, FileDisk, Spool, SpoolFault, SpoolRecord};
 use std::alloc::Global;
 use std::process::Abort;
 use std::test::Fail;
@@ -19,11 +19,17 @@ fn open(alloc: Global, disk: &mut TestDisk) -> Result<Spool<Lent<'_>>, SpoolFaul
     Spool::open(alloc, Lent { disk })
 }
 
+/// How many slots the file of a spool has: the number of the record that is appended next.
+fn slots_counted<D: Disk>(spool: &mut Spool<D>) -> Option<u64> {
+    let next = spool.append(record(b"a:11211", b"next")?).ok()?;
+    Some(next.seq())
+}
+
 /// How many slots a file opens to, or none where it is refused.
-fn slots_of(alloc: Global, bytes: Vec<u8>) -> Option<usize> {
+fn slots_of(alloc: Global, bytes: Vec<u8>) -> Option<u64> {
     let mut disk = TestDisk::new(alloc, bytes);
-    let spool = open(alloc, &mut disk).ok()?;
-    Some(spool.contents.count)
+    let mut spool = open(alloc, &mut disk).ok()?;
+    slots_counted(&mut spool)
 }
 
 /// Whether the bytes begin with these, and then have so many zeros and no more.
@@ -100,7 +106,7 @@ fn a_failed_sync_wants_a_reopen(rt: HostRuntime) -> Result<(), Fail> {
     let failed = spool
         .append(record(b"b:11211", b"ab").ok_or("record")?)
         .err();
-    assert!(rt; failed == Some(SpoolFault::Device));
+    assert!(rt; failed == Some(SpoolFault::Device) && spool.pending().len() == 1);
     let again = spool
         .append(record(b"b:11211", b"ab").ok_or("record")?)
         .err();
@@ -115,7 +121,7 @@ fn a_failed_sync_wants_a_reopen(rt: HostRuntime) -> Result<(), Fail> {
 /// What a run was told.
 #[derive(Drop)]
 struct Told {
-    stored: usize,
+    stored: u64,
     done: bool,
 }
 
@@ -143,14 +149,19 @@ fn run(alloc: Global, disk: &mut TestDisk) -> Told {
 }
 
 /// Whether what is opened are the first records of the run, those stored among them, none missing but the one that is done.
-fn is_kept<D: Disk>(spool: &Spool<D>, told: &Told) -> bool {
-    let count = spool.contents.count;
-    let missing = count.saturating_sub(spool.pending().len());
+/// One record more is appended for the count.
+fn is_kept<D: Disk>(spool: &mut Spool<D>, told: &Told) -> bool {
+    let pending = spool.pending().len() as u64;
+    let are_of_the_run = spool.pending().iter().all(|p| p.1.rest.as_bytes()
+        == [b'a'.saturating_add(p.0.min(9) as u8)].as_slice());
+    let Some(count) = slots_counted(spool) else {
+        return false;
+    };
+    let missing = count.saturating_sub(pending);
     told.stored <= count
         && count <= told.stored.saturating_add(1)
         && (missing == 0 || (told.done && missing == 1))
-        && spool.pending().iter().all(|p| p.1.rest.as_bytes()
-            == [b'a'.saturating_add(p.0.min(9) as u8)].as_slice())
+        && are_of_the_run
 }
 
 #[test]
@@ -170,8 +181,8 @@ fn records_outlive_a_stop_at_each_call(rt: HostRuntime) -> Result<(), Fail> {
             disk.trouble = Trouble::StopAt(k);
             let told = run(alloc, &mut disk);
             let mut after = TestDisk::new(alloc, disk.left(left)?);
-            let spool = open(alloc, &mut after)?;
-            assert!(rt; is_kept(&spool, &told), "stop at call {k}");
+            let mut spool = open(alloc, &mut after)?;
+            assert!(rt; is_kept(&mut spool, &told), "stop at call {k}");
         }
     }
     Ok(())
@@ -181,13 +192,19 @@ fn records_outlive_a_stop_at_each_call(rt: HostRuntime) -> Result<(), Fail> {
 fn records_outlive_a_failure_of_each_call(rt: HostRuntime) -> Result<(), Fail> {
     let alloc = rt.alloc();
     for k in 0..20 {
-        let mut disk = TestDisk::new(alloc, Vec::new(alloc));
-        disk.trouble = Trouble::FailAt(k);
-        let told = run(alloc, &mut disk);
-        let mut spool = open(alloc, &mut disk)?;
-        assert!(rt; is_kept(&spool, &told), "failure of call {k}");
-        spool.reopen()?;
-        assert!(rt; is_kept(&spool, &told), "failure of call {k}, reopened");
+        for reopens in [0_usize, 1] {
+            let mut disk = TestDisk::new(alloc, Vec::new(alloc));
+            disk.trouble = Trouble::FailAt(k);
+            let told = run(alloc, &mut disk);
+            let mut spool = open(alloc, &mut disk)?;
+            if reopens > 0 {
+                spool.reopen()?;
+            }
+            assert!(rt;
+                is_kept(&mut spool, &told),
+                "failure of call {k}, reopened {reopens} times"
+            );
+        }
     }
     Ok(())
 }
@@ -242,14 +259,15 @@ fn a_file_of_the_system_keeps_records(rt: HostRuntime) -> Result<(), Fail> {
     assert!(rt; open_file(&rt, path.as_str())?.pending().is_empty());
     assert!(rt; fs::read(&rt, path.as_str())?.as_slice() == b"\x00".as_slice());
     append_two_to(&rt, path.as_str())?;
-    let spool = open_file(&rt, path.as_str())?;
-    assert!(rt; spool.contents.count == 2 && spool.pending().len() == 1);
+    let mut spool = open_file(&rt, path.as_str())?;
+    assert!(rt; spool.pending().len() == 1);
     assert!(rt;
         spool
             .pending()
             .iter()
             .all(|p| p.0 == 1 && p.1.rest.as_bytes() == b"ab".as_slice())
     );
+    assert!(rt; slots_counted(&mut spool) == Some(2));
     fs::remove_file(&rt, path.as_str())?;
     Ok(())
 }
