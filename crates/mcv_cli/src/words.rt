@@ -29,7 +29,7 @@ Exit status:
   0  done, or help was asked for
   1  bad command line, or bad request line
   2  the configuration is refused, or has no route for the key
-  3  the configuration can lose a delete
+  3  the configuration can lose a delete (never with --cert: 5 then)
   4  out of memory, or reading or writing failed
   5  the certificate is refused
 
@@ -82,7 +82,9 @@ const CHECK_FORM: &str =
 handles are read. A configuration is covered if at each moment at which a delete
 has an answer that isn't an error, every server from which a get or gets of the
 key could be answered has been sent a delete. That is decided for all keys, all
-choices of a hash, and all moments: before, in and after each migration.
+choices of a hash, and all moments: before, in and after each migration. It says
+nothing of whether a server takes what it is sent, of values that are stored
+later, of gets by another route, or of where mcrouter differs from mcv's rules.
 
 Where it is covered, standard output has the number of pairs of a certificate,
 and then the certificate, which says for each server that can be read why a
@@ -95,12 +97,16 @@ delete reaches it:
 
 Any certificate can be checked again, also one that another program made:
 
-  mcv check < mcrouter.json | tail -n +2 > mcrouter.cert
+  mcv check < mcrouter.json > verdict && tail -n +2 verdict > mcrouter.cert
   mcv check --cert mcrouter.cert < mcrouter.json
 
-Where it isn't covered, the exit status is 3, and standard output has a finding:
-a key, and answers by which a get reads it from the server named after a delete
-of it was acknowledged that had never been sent there:
+Standard output has `covered` and the number alone then. Where the configuration
+isn't covered, the certificate is refused, and the exit status is 5.
+
+Where it isn't covered and no certificate is given, the exit status is 3, and
+standard output has a finding: a key, and answers by which a get reads it from
+the server named after a delete of it was acknowledged that had never been sent
+there:
 
   lost b:11211
   route 0
@@ -129,7 +135,7 @@ as `mcv: certificate fault NUMBER`:
 
   1  a server that can be read has no line
   2  a line for what can't be read
-  3  a leg that not every delete that has a reply has sent
+  3  a leg that a delete may not have sent when it has its reply
   4  another pool, number of legs or server than the line says
   5  `never`, where a delete can be acknowledged";
 
