@@ -145,7 +145,8 @@ impl<D: Disk> Spool<D> {
     /// The records that are pending, each with its number, in the order in which they were appended.
     pub fn pending(&self) -> &[(u64, SpoolRecord)]
         ensures value { result.now ≡ self.now.contents.pending.items }
-        // A record that was told is missing only where `done` was called for its number.
+        // A record that was told is missing only where `done` was called for its number. This speaks of a spool that
+        // doesn't answer Reopen; a call that is refused leaves all as they were (`still_pending`).
         ensures kept { D.keeps_model → (told : Told) → History D.seen D.may_leave D.moment D.left_since told (world self.now.disk self.now.needs_reopen) → self.now.needs_reopen ≡ false → (r : SpoolRecord) (k : ℕ) → HasNumber told r k → Contains told.done k ⊎ Contains result.now (k, r) }
     {
         &self.contents.pending

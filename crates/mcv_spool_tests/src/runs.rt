@@ -88,7 +88,13 @@ fn a_length_that_does_not_read_is_damage(rt: HostRuntime) -> Result<(), Fail> {
     let stored = open(alloc, &mut disk)?.append(record(b"a:11211", b"a").ok_or("record")?)?;
     assert!(rt; stored.seq() == 0 && disk.bytes.len() == 641);
     disk.bytes[3] = 0;
+    // The end gate is opened too: an opening closes it, and one that is refused for damage has written nothing.
+    if let Some(gate) = disk.bytes.get_mut(640) {
+        *gate = 1;
+    }
     assert!(rt; open(alloc, &mut disk).err() == Some(SpoolFault::Damaged(0)));
+    let gate = *disk.bytes.get(640).ok_or("gate")?;
+    assert!(rt; gate == 1 && disk.bytes.len() == 641);
     assert!(rt; SpoolFault::Damaged(0).number() == 5 && SpoolFault::Device.number() == 1);
     assert!(rt; SpoolFault::Full.number() == 2 && SpoolFault::Memory.number() == 3);
     assert!(rt; SpoolFault::Reopen.number() == 4);
