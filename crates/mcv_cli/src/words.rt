@@ -135,7 +135,7 @@ as `mcv: certificate fault NUMBER`:
 
   1  a server that can be read has no line
   2  a line for what can't be read
-  3  a leg that a delete may not have sent when it has its reply
+  3  a leg that not every delete that has a reply has sent
   4  another pool, number of legs or server than the line says
   5  `never`, where a delete can be acknowledged";
 
