@@ -1,5 +1,5 @@
 -- The words of a line, by their places.
-use Rattle.std.proofs.Common.{◌≡◌, ◌∙◌, ℕ, ◌+◌, ◌-◌, ◌<◌, List, [], ◌∷◌, ◌++◌, length, get_or, take, drop, map, Bor, Option, Some, refl, sym, ap, arith, length-drop}
+use Rattle.std.proofs.Common.{◌≡◌, ◌∙◌, ℕ, suc, ◌-◌, ◌<◌, List, [], ◌∷◌, ◌++◌, length, get_or, take, drop, map, Bor, Option, Some, refl, sym, ap, arith, length-drop}
 use Rattle.std.specs.Prelude.{codes, decimal}
 use Rattle.std.proofs.lemmas.List.{drop-map, get_or-map, length-map, take_all}
 use Rattle.mcv_base.specs.Position.{position_text}
@@ -26,7 +26,7 @@ words_behind words n are e =
 -- ---- the words of a pair
 
 module _ (words : List (Bor (List ℕ))) (d : Bor (List ℕ)) (p : PairValue) (e : texts words ≡ pair_words p) where
-  count : length (pair_words p) ≡ 4 + length (reason_words p.reason)
+  count : length (pair_words p) ≡ suc (suc (suc (suc (length (reason_words p.reason)))))
   count = refl
 
   pub not_short : length words < 4 → ⊥

@@ -1,4 +1,4 @@
-use Rattle.std.proofs.Common.{◌≡◌, ◌∙◌, ℕ, ◌+◌, List, [], ◌∷◌, length, map, sym, ap, arith}
+use Rattle.std.proofs.Common.{◌≡◌, ◌∙◌, ℕ, suc, List, [], ◌∷◌, length, map, sym, ap, arith}
 use Rattle.std.specs.Prelude.{decimal}
 use Rattle.std.proofs.lemmas.Bool.{true≢false}
 use Rattle.mcv_base.specs.Position.{position_text}
@@ -9,7 +9,7 @@ use Rattle.mcv_cert.proofs.parse.read_all.Goals as goal
 
 pub returns-in_default-clause-meant : goal.returns-in_default-clause-meant
 returns-in_default-clause-meant c = λ i ps small fits legs e.
-    let count : length c.args.arguments.now ≡ 1 + length (map position_text ps) = sized c.args.arguments.now (decimal i ∷ map position_text ps) e in
+    let count : length c.args.arguments.now ≡ suc (length (map position_text ps)) = sized c.args.arguments.now (decimal i ∷ map position_text ps) e in
     omega arith
 
 pub returns-in_default-read_number-clause-meant : goal.returns-in_default-read_number-clause-meant

@@ -1,4 +1,4 @@
-use Rattle.std.proofs.Common.{◌≡◌, ◌+◌, [], ◌∷◌, length, map, arith}
+use Rattle.std.proofs.Common.{◌≡◌, suc, [], ◌∷◌, length, map, arith}
 use Rattle.std.specs.Prelude.{codes, decimal}
 use Rattle.mcv_base.specs.Position.{position_text}
 use Rattle.mcv_cert.proofs.Places.{sized}
@@ -21,5 +21,5 @@ returns-in_default-clause-same c = λ i p small fits e.
 
 pub returns-in_default-clause-all : goal.returns-in_default-clause-all
 returns-in_default-clause-all c = λ i ps small fits legs e.
-    let count : length c.args.words.now ≡ 2 + length (map position_text ps) = sized c.args.words.now (codes "all" ∷ decimal i ∷ map position_text ps) e in
+    let count : length c.args.words.now ≡ suc (suc (length (map position_text ps))) = sized c.args.words.now (codes "all" ∷ decimal i ∷ map position_text ps) e in
     omega (arith, c.in_default.ensures.cases)
