@@ -7,7 +7,7 @@ use Rattle.std.proofs.lemmas.Slice.Eq.{bytes_eq-Decides}
 use Rattle.mcv_base.specs.declared.operation.Op.{Op}
 use Rattle.mcv_base.specs.declared.operation.Op.TheVariants as ops
 use Rattle.mcv_base.specs.Operation.{op_name}
-use Rattle.mcv_text.specs.Line.{LineValue, bad, unknown, said, reads, storing, storing_said, cas_said}
+use Rattle.mcv_text.specs.Line.{LineValue, bad, unknown, said, plain, reads, storing, storing_said, cas_said, touch_said}
 use Rattle.mcv_text.specs.Parsed.{all_three, numbers_said}
 use Rattle.mcv_text.specs.Words.{noreply_said, number32_said, number64_said, signed_said}
 
@@ -25,6 +25,11 @@ cas_short (a ∷ b ∷ []) l = refl
 cas_short (a ∷ b ∷ c ∷ []) l = refl
 cas_short (a ∷ b ∷ c ∷ d ∷ []) l = refl
 cas_short (a ∷ b ∷ c ∷ d ∷ e ∷ ws) l = absurd (omega arith)
+
+pub touch_short : (ws : List (List ℕ)) → length ws < 2 → bad ≡ touch_said ws
+touch_short [] l = refl
+touch_short (a ∷ []) l = refl
+touch_short (a ∷ b ∷ ws) l = absurd (omega arith)
 
 three_read : (f : Option ℕ) (e : Option ℤ) (n : Option ℕ) (line : ℕ → ℤ → ℕ → LineValue) → reads f (λ a. reads e (λ b. reads n (λ c. line a b c))) ≡ reads (all_three f e n) (λ t. line t.0 t.1 t.2)
 three_read None e n line = refl
@@ -98,6 +103,30 @@ module _ (ws : List (Bor (List ℕ))) (d : Bor (List ℕ)) (l : 5 ≤ length ws)
 
   pub cas_whole : (t : ℕ × ℤ × ℕ) (u : ℕ) (b : Bool) → numbers_at ws d ≡ Some t → number64_said (get_or ws 4 d).now ≡ Some u → noreply_at 5 ws ≡ Some b → storing ops.Cas (get_or ws 0 d).now t.0 t.1 t.2 (Some u) b ≡ cas_said (texts ws)
   cas_whole t u b some is last = sym (cas_numbered t some ∙ ap (λ o. with_cas (get_or ws 0 d).now o (noreply_at 5 ws) t) is ∙ ap (λ o. with_noreply ops.Cas (get_or ws 0 d).now (Some u) o t) last)
+
+abbrev touch_with : List ℕ → Option Bool → ℤ → LineValue
+touch_with key noreply e = reads noreply (λ b. plain ops.Touch (key ∷ []) e b)
+
+touch_parts : (ws : List (Bor (List ℕ))) (d : Bor (List ℕ)) → 2 ≤ length ws → touch_said (texts ws) ≡ reads (signed_said (get_or ws 1 d).now) (touch_with (get_or ws 0 d).now (noreply_at 2 ws))
+touch_parts [] d l = absurd (omega arith)
+touch_parts (k ∷ []) d l = absurd (omega arith)
+touch_parts (k ∷ e ∷ more) d l =
+    let all : take (length (k ∷ e ∷ more) - 2) more ≡ more = take_all (length (k ∷ e ∷ more) - 2) more (omega arith) in
+    ap (λ ms. reads (signed_said e.now) (touch_with k.now (noreply_said (texts ms)))) (sym all)
+
+-- a line of touch whose words are these
+module _ (ws : List (Bor (List ℕ))) (d : Bor (List ℕ)) (l : 2 ≤ length ws) where
+  pub touch_momentless : signed_said (get_or ws 1 d).now ≡ None → bad ≡ touch_said (texts ws)
+  touch_momentless none = sym (touch_parts ws d l ∙ ap (λ o. reads o (touch_with (get_or ws 0 d).now (noreply_at 2 ws))) none)
+
+  touch_at : (t : ℤ) → signed_said (get_or ws 1 d).now ≡ Some t → touch_said (texts ws) ≡ touch_with (get_or ws 0 d).now (noreply_at 2 ws) t
+  touch_at t some = touch_parts ws d l ∙ ap (λ o. reads o (touch_with (get_or ws 0 d).now (noreply_at 2 ws))) some
+
+  pub touch_optionless : (t : ℤ) → signed_said (get_or ws 1 d).now ≡ Some t → noreply_at 2 ws ≡ None → bad ≡ touch_said (texts ws)
+  touch_optionless t some none = sym (touch_at t some ∙ ap (λ o. touch_with (get_or ws 0 d).now o t) none)
+
+  pub touch_whole : (t : ℤ) (b : Bool) → signed_said (get_or ws 1 d).now ≡ Some t → noreply_at 2 ws ≡ Some b → plain ops.Touch ((get_or ws 0 d).now ∷ []) t b ≡ touch_said (texts ws)
+  touch_whole t b some is = sym (touch_at t some ∙ ap (λ o. touch_with (get_or ws 0 d).now o t) is)
 
 refuted : (P : Type 0) (b : Bool) → (b ≡ true → P) → (P → ⊥) → b ≡ false
 refuted P true f n = absurd (n (f refl))

@@ -16,7 +16,7 @@ use std::sync::Arc;
 const VALUE_LIMIT: u32 = 1_048_576;
 
 /// A storing line, before its value.
-#[derive(Debug, Drop)]
+#[derive(Drop)]
 pub struct Header {
     pub op: Op,
     pub keys: Vec<Vec<u8>>,
@@ -26,7 +26,7 @@ pub struct Header {
     pub noreply: bool,
 }
 
-#[derive(Debug, Drop)]
+#[derive(Drop)]
 pub enum Meaning {
     Whole(Request),
     /// A value of this many bytes follows.

@@ -23,7 +23,7 @@ use std::sync::Arc;
 const LINE_LIMIT: usize = 65536;
 
 /// A value of `size` bytes, of which and of its CR LF `body` has come.
-#[derive(Debug, Drop)]
+#[derive(Drop)]
 pub struct Value {
     header: Header,
     size: usize,
@@ -31,7 +31,7 @@ pub struct Value {
 }
 
 /// What comes next in the stream.
-#[derive(Debug, Drop)]
+#[derive(Drop)]
 pub enum State {
     Line,
     Value(Value),
@@ -41,7 +41,7 @@ pub enum State {
 }
 
 /// What one step made of a piece: the state after it, an item where one has ended, and the bytes used.
-#[derive(Debug, Drop)]
+#[derive(Drop)]
 pub struct Step {
     state: State,
     item: Option<Item>,
@@ -159,7 +159,7 @@ fn line_step(alloc: Global, line: &mut Vec<u8>, piece: &[u8]) -> Result<Step, Al
     }
 }
 
-#[derive(Clone, Copy, Debug, PartialEq, Eq)]
+#[derive(Clone, Copy)]
 pub enum ValueEnd {
     Part,
     Wrong,

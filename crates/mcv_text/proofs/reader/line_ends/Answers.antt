@@ -12,3 +12,12 @@ returns-then-end-len-clause-steps c =
     let cut = cut_at_end piece c.args.end c.requires.ends in
     subst (λ (t : List ℕ). Begins (c.args.line.now.items ++ t) (refused refusals.BadLine) Failed) (sym cut)
     (too_long_begins c.args.line.now.items (take c.args.end piece) (10 ∷ drop (c.args.end + 1) piece) c.requires.line c.requires.ends.before (omega (arith, length-take c.args.end piece, c.requires.ends.within)))
+
+pub returns-clause-used : goal.returns-clause-used
+returns-clause-used c = ?
+
+pub returns-clause-steps : goal.returns-clause-steps
+returns-clause-steps c = ?
+
+pub returns-clause-kept : goal.returns-clause-kept
+returns-clause-kept c = ?
