@@ -125,9 +125,6 @@ module _ (ws : List (Bor (List ℕ))) (d : Bor (List ℕ)) (l : 2 ≤ length ws)
   pub touch_optionless : (t : ℤ) → signed_said (get_or ws 1 d).now ≡ Some t → noreply_at 2 ws ≡ None → bad ≡ touch_said (texts ws)
   touch_optionless t some none = sym (touch_at t some ∙ ap (λ o. touch_with (get_or ws 0 d).now o t) none)
 
-  pub touch_whole : (t : ℤ) (b : Bool) → signed_said (get_or ws 1 d).now ≡ Some t → noreply_at 2 ws ≡ Some b → plain ops.Touch ((get_or ws 0 d).now ∷ []) t b ≡ touch_said (texts ws)
-  touch_whole t b some is = sym (touch_at t some ∙ ap (λ o. touch_with (get_or ws 0 d).now o t) is)
-
 refuted : (P : Type 0) (b : Bool) → (b ≡ true → P) → (P → ⊥) → b ≡ false
 refuted P true f n = absurd (n (f refl))
 refuted P false f n = refl

@@ -1,8 +1,6 @@
-use Rattle.std.proofs.Common.{◌≡◌, ◌<◌, ◌∙◌, [], IfOk, arith, map, length, sym, subst, Bor, List, ℕ}
+use Rattle.std.proofs.Common.{◌<◌, ◌∙◌, [], arith, map, length, sym, Bor, List, ℕ}
 use Rattle.std.proofs.lemmas.List.{length-map}
-use Rattle.mcv_text.proofs.Lines.{touch_momentless, touch_optionless, touch_short, touch_whole}
-use Rattle.mcv_text.specs.Line.{LineValue}
-use Rattle.mcv_text.specs.Parsed.{line_value}
+use Rattle.mcv_text.proofs.Lines.{touch_momentless, touch_optionless, touch_short}
 use Rattle.mcv_text.proofs.line.touch_of.Goals as goal
 
 pub returns-in_default-clause-means : goal.returns-in_default-clause-means
@@ -16,8 +14,3 @@ returns-in_default-signed-clause-means c = touch_momentless c.args.arguments.now
 
 pub returns-in_default-noreply-clause-means : goal.returns-in_default-noreply-clause-means
 returns-in_default-noreply-clause-means c = touch_optionless c.args.arguments.now (record { ref_ptr = (0, 0); now = [] }) c.in-len2-up.len_at_least c.in-Some.exptime (sym c.signed.ensures ∙ c.in-Some.is) (sym c.noreply.ensures ∙ c.in_default-noreply.is)
-
-pub returns-clause-means : goal.returns-clause-means
-returns-clause-means c =
-    let line = touch_whole c.args.arguments.now (record { ref_ptr = (0, 0); now = [] }) c.in-len2-up.len_at_least c.in-Some.exptime c.in-Some-noreply.noreply (sym c.signed.ensures ∙ c.in-Some.is) (sym c.noreply.ensures ∙ c.in-Some-noreply.is) in
-    subst (λ (v : LineValue). IfOk c.plain_of.result (λ m. line_value m ≡ v)) line c.plain_of.ensures.means
