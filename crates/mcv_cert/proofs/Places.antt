@@ -1,5 +1,5 @@
 -- The words of a line, by their places.
-use Rattle.std.proofs.Common.{◌≡◌, ◌∙◌, ℕ, suc, ◌-◌, ◌<◌, List, [], ◌∷◌, ◌++◌, length, get_or, take, drop, map, Bor, Option, Some, refl, sym, ap, arith, length-drop}
+use Rattle.std.proofs.Common.{◌≡◌, ◌∙◌, ℕ, suc, ◌-◌, ◌<◌, List, [], ◌++◌, length, get_or, take, drop, map, Bor, Some, refl, sym, ap, arith, length-drop}
 use Rattle.std.specs.Prelude.{codes, decimal}
 use Rattle.std.proofs.lemmas.List.{drop-map, get_or-map, length-map, take_all}
 use Rattle.mcv_base.specs.Position.{position_text}

@@ -1,4 +1,4 @@
-use Rattle.std.proofs.Common.{◌≡◌, [], Some, None}
+use Rattle.std.proofs.Common.{[]}
 use Rattle.mcv_cert.specs.Pair.{reason_of}
 use Rattle.mcv_cert.proofs.Meant.{not_some, some_is}
 use Rattle.mcv_cert.proofs.Places.{class_word, era_word, leaf_word, not_short, pair_is, reason_are, route_word}

@@ -1,4 +1,4 @@
-use Rattle.std.proofs.Common.{◌≡◌, ◌∙◌, ℕ, List, [], ◌∷◌, ap, arith}
+use Rattle.std.proofs.Common.{◌∙◌, ℕ, [], ◌∷◌, ap, arith}
 use Rattle.std.specs.Prelude.{decimal}
 use Rattle.mcv_base.specs.Position.{position_text}
 use Rattle.mcv_cert.specs.Pair.{same}
