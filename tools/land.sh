@@ -7,10 +7,9 @@ touch /work/helpers/stop-saver
 pkill -f saver.sh || true
 cd /work/main
 [ "$(git rev-parse cand)" = "$(git -C /work/gate/l1 rev-parse HEAD)" ]
-[ -z "$(git -C /work/gate/l1 status --porcelain)" ] || git -C /work/gate/l1 status --short | head -3
 git reset -q --hard cand
 git rev-parse cand > /work/helpers/landed
-echo "next tools" > /work/helpers/branches
+echo "next mends tools" > /work/helpers/branches
 /work/helpers/save.sh
 git status --short | head -3
 git log -1 --format='%h %P'; git diff cand main --stat | tail -1

@@ -1,7 +1,8 @@
 """Takes the doc comments of the variants out of the enums of the crates named (in the worktree; git checkout puts them back)."""
 import re, sys, glob
-for name in sys.argv[1:]:
-    for file in glob.glob(f"/work/wt/plants/crates/{name}/src/*.rt"):
+T=sys.argv[1]
+for name in sys.argv[2:]:
+    for file in glob.glob(f"/work/wt/{T}/crates/{name}/src/*.rt"):
         out, inside = [], False
         for line in open(file):
             if re.match(r"pub enum \w+ \{|enum \w+ \{", line): inside = True
