@@ -5,11 +5,8 @@ use Rattle.std.proofs.lemmas.Grind.{common_steps}
 use Rattle.std.proofs.lemmas.List.Folds.{list_all_at}
 use Rattle.std.specs.Char.{is_ascii_digit}
 use Rattle.std.specs.List.{list_all}
+use Rattle.mcv_base.proofs.Cuts.{both}
 use Rattle.mcv_base.specs.Server.{colon, is_host, is_port, is_server, server_at, last_below, IsServer}
-
-both : (a b : Bool) → (a && b) ≡ true → (a ≡ true) × (b ≡ true)
-both true b h = (refl, h)
-both false b h = absurd (true≢false (sym h))
 
 step : (b : ℕ) (text : List ℕ) (n i : ℕ) (t : Bool) → eqb (get_or text n 0) b ≡ t → i < suc n → get_or text i 0 ≡ b → ((k : ℕ) → i < k → k < suc n → get_or text k 0 ≢ b)
     → (i < n → last_below b text n ≡ Some i) → cond t (Some n) (last_below b text n) ≡ Some i

@@ -6,16 +6,13 @@ use Rattle.std.specs.List.{list_all}
 use Rattle.std.specs.Prelude.{⊤}
 use Rattle.memchr.specs.Find.{IsFirstByte, is_byte}
 use Rattle.mcv_base.specs.Key.{lacks, slash, IsNamed, IsUnnamed, IsRoutingPrefix, IsUnrouted, IsCut, is_key_byte, is_key_word}
-use Rattle.mcv_base.proofs.Cuts.{both, joined, first_cuts, first_at_cut, none_at_cut, never_both}
+use Rattle.mcv_base.proofs.Cuts.{both, joined, first_cuts, none_at_cut, never_both}
 
 head_is : (x y : ℕ) (xs ys : List ℕ) → x ∷ xs ≡ y ∷ ys → x ≡ y
 head_is x y xs ys is = cc
 
 tail_is : (x y : ℕ) (xs ys : List ℕ) → x ∷ xs ≡ y ∷ ys → xs ≡ ys
 tail_is x y xs ys is = cc
-
-same_byte : (c : ℕ) → (c == c) ≡ true
-same_byte c = (Decides-eqb c c).1 refl
 
 -- a list has one cut at its first byte c
 pub one_cut : (c : ℕ) (xs zs ys vs : List ℕ) → lacks c xs ≡ true → lacks c ys ≡ true → xs ++ c ∷ zs ≡ ys ++ c ∷ vs → (xs ≡ ys) × (zs ≡ vs)
@@ -50,14 +47,6 @@ named_at bytes k some first =
       len = ap (λ n. n + 1) (sym (length-take-below k bytes first.0.high));
     }
 
-empty_name : (name : List ℕ) → 0 ≡ length name → name ≡ []
-empty_name [] is = refl
-empty_name (x ∷ name) is = absurd (let h : ⊥ = omega arith in h)
-
-pub unnamed_at_front : (bytes : List ℕ) (k : ℕ) → k ≡ 0 → IsFirstByte (is_byte slash) bytes (Some k) → IsUnnamed bytes
-unnamed_at_front bytes k zero_is first name more name_is is =
-    name_is.some (empty_name name (sym zero_is ∙ first_at_cut slash bytes name more k is name_is.no_slash first))
-
 pub unnamed_without : (bytes : List ℕ) → IsFirstByte (is_byte slash) bytes None → IsUnnamed bytes
 unnamed_without bytes none name more name_is is = none_at_cut slash bytes name more is none
 
@@ -74,24 +63,12 @@ names_of bytes prefix rest p is =
     append_assoc (slash ∷ p.first) (slash ∷ p.second) (slash ∷ rest) in
     tail_is slash slash bytes (p.first ++ slash ∷ (p.second ++ slash ∷ rest)) (whole ∙ one ∙ two)
 
-pub unrouted_empty : (word : List ℕ) → length word ≡ 0 → IsUnrouted word
-unrouted_empty [] len prefix rest p is =
-    let whole : [] ≡ slash ∷ (p.first ++ (slash ∷ p.second ++ (slash ∷ rest))) =
-    is ∙ ap (λ xs. xs ++ rest) p.is ∙ append_assoc (slash ∷ p.first ++ slash ∷ p.second) (slash ∷ []) rest
-    ∙ append_assoc (slash ∷ p.first) (slash ∷ p.second) (slash ∷ rest) in
-    cc
-unrouted_empty (x ∷ word) len prefix rest p is = omega arith
-
 pub unrouted_by_byte : (b : ℕ) (bytes : List ℕ) → b ≢ slash → IsUnrouted (b ∷ bytes)
 unrouted_by_byte b bytes other prefix rest p is =
     let whole : b ∷ bytes ≡ slash ∷ (p.first ++ (slash ∷ p.second ++ (slash ∷ rest))) =
     is ∙ ap (λ xs. xs ++ rest) p.is ∙ append_assoc (slash ∷ p.first ++ slash ∷ p.second) (slash ∷ []) rest
     ∙ append_assoc (slash ∷ p.first) (slash ∷ p.second) (slash ∷ rest) in
     other (head_is b slash bytes (p.first ++ (slash ∷ p.second ++ (slash ∷ rest))) whole)
-
-pub unrouted_first : (bytes : List ℕ) → IsUnnamed bytes → IsUnrouted (slash ∷ bytes)
-unrouted_first bytes un prefix rest p is =
-    un p.first (p.second ++ slash ∷ rest) p.first_is (names_of bytes prefix rest p is)
 
 pub unrouted_second : (bytes : List ℕ) (n : ℕ) → IsNamed bytes n → IsUnnamed (drop n bytes) → IsUnrouted (slash ∷ bytes)
 unrouted_second bytes n named un prefix rest p is =

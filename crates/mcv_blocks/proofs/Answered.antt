@@ -6,7 +6,7 @@ use Rattle.std.specs.Ordering.{is_eq, nat_cmp, ordering_then}
 use Rattle.std.specs.declared.cmp.Ordering.{Ordering}
 use Rattle.std.specs.declared.cmp.Ordering.TheVariants.{Less, Equal, Greater}
 use Rattle.std.proofs.lemmas.Bool.{and_parts, false≢true, lt-ltb}
-use Rattle.std.proofs.lemmas.Cmp.{nat_cmp_total, ranked, tied_itself}
+use Rattle.std.proofs.lemmas.Cmp.{nat_cmp_total, tied_itself}
 use Rattle.std.proofs.lemmas.List.Elements.{All-contains}
 use Rattle.std.proofs.lemmas.Option.{none-some, same_Some}
 use Rattle.mcv_route.specs.Routes.{RoutesValue}
@@ -15,6 +15,7 @@ use Rattle.mcv_judge.specs.Faults.{IsFaultless, Owed, fault_there, has_index, is
 use Rattle.mcv_judge.specs.Reason.{BlockValue, HasReason, LegValue, fault_of, is_whole}
 use Rattle.mcv_judge.specs.declared.fault.PairFault.{PairFault}
 use Rattle.mcv_judge.specs.declared.fault.PairFault.TheVariants.{Missing, Stray}
+use Rattle.mcv_judge.proofs.First.{nat_equal, then_equal}
 use Rattle.mcv_judge.proofs.Order.{places_total}
 use Rattle.mcv_symbolic.specs.Justified.{IsReadableAt}
 use Rattle.mcv_blocks.specs.Blocks.{AreBlocksOf, IsBlockOf}
@@ -28,14 +29,6 @@ pub equal_of : (o : Ordering) → is_eq o ≡ true → o ≡ Equal
 equal_of Less h = absurd (false≢true h)
 equal_of Equal h = refl
 equal_of Greater h = absurd (false≢true h)
-
-then_equal : (x y : Ordering) → ordering_then x y ≡ Equal → (x ≡ Equal) × (y ≡ Equal)
-then_equal Less y h = absurd cc
-then_equal Equal y h = (refl, h)
-then_equal Greater y h = absurd cc
-
-nat_equal : (i j : ℕ) → nat_cmp i j ≡ Equal → i ≡ j
-nat_equal i j h = ranked i j Equal (sym h)
 
 pub list_equal : (xs ys : List ℕ) → list_cmp xs ys ≡ Equal → xs ≡ ys
 list_equal [] [] h = refl

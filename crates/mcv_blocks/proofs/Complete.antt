@@ -59,7 +59,11 @@ module _ (legs : List LegValue) (own : (d : LegValue) → Contains legs d → le
       ∙ and_from (nat_eq (length (p ∷ ps)) (length d.0.servers)) (have_server legs d.0.symbol x 0 (p ∷ ps)) (eq-eqb (length (p ∷ ps)) (length d.0.servers) (many ∙ sym (sized d.0 at symbol)))
       (subst (λ y. have_server legs y x 0 (p ∷ ps) ≡ true) (sym symbol) have)
 
--- ---- a leaf that is answered has a reason
+-- ---- reasons
+
+-- where no delete can be acknowledged there is one for each index
+pub reason_by_none : (b : BlockValue) (leaf : LegValue) (i : ℕ) → b.can_be_acknowledged ≡ false → HasReason b leaf i
+reason_by_none b leaf i can = (never, inl refl, ap (λ c. if c then Some CanBeAcknowledged else None) can)
 
 module _ (sizes : List ℕ) (t : Tree) (rest : List ℕ) (since : Option ℕ) (positive : All (λ n. 0 < n) sizes) (sized : AreSized sizes t) (b : BlockValue) (block : IsBlockAt t rest since b) where
   leg_found : (d : LegValue) → Contains b.acknowledged d → leg_at b.acknowledged d.position ≡ Some d
@@ -69,6 +73,22 @@ module _ (sizes : List ℕ) (t : Tree) (rest : List ℕ) (since : Option ℕ) (p
 
   leg_size : (d : LegValue) → Contains b.acknowledged d → slice_index sizes d.symbol ≡ length d.servers
   leg_size d at = (sized d.position (pool_for d) (pool_of_leg t (IsAcknowledgedAt t rest since) b.acknowledged block.acknowledged d at)).1
+
+  -- a leg that has the leaf's server at the leaf's index
+  pub reason_by_leg : (leaf : LegValue) (i : ℕ) (d : LegValue) → Contains b.acknowledged d → has_server leaf.symbol (server_at leaf i) i d ≡ true → HasReason b leaf i
+  reason_by_leg leaf i d at has =
+      (same i d.position, inr refl, ap (λ o. fault_of_leg o (has_server leaf.symbol (server_at leaf i) i)) (leg_found d at) ∙ ap (λ c. unless c OtherServer) has)
+
+  -- legs that have it at each index of a symbol
+  pub reason_by_symbol : (leaf : LegValue) (i s : ℕ) → s < length sizes → ((j : ℕ) → j < slice_index sizes s → (d : LegValue) × Contains b.acknowledged d × (has_server s (server_at leaf i) j d ≡ true)) → HasReason b leaf i
+  reason_by_symbol leaf i s within every =
+      let x = server_at leaf i in
+      let some : 0 < slice_index sizes s = positive s 0 within in
+      let ps = legs_for b.acknowledged leg_found s x (slice_index sizes s) 0 (λ j least high. every j (omega (arith, high))) in
+      let filled = fills b.acknowledged leg_found s x (slice_index sizes s) (λ d at symbol. sym (leg_size d at) ∙ ap (slice_index sizes) symbol) ps.0 (omega (arith, some, ps.1)) ps.1 ps.3 in
+      (all i ps.0, inr refl, ap (λ c. if c then Some NotAcknowledged else unless (fill_a_symbol b.acknowledged x ps.0) OtherServer) ps.2 ∙ ap (λ c. unless c OtherServer) filled)
+
+  -- ---- a leaf that is answered has one
 
   -- the leg of an acknowledged pool
   leg_of_pool : (m : Pool) → IsAcknowledgedPool t rest since m → (d : LegValue) × Contains b.acknowledged d × (pool_for d ≡ m)
@@ -91,18 +111,10 @@ module _ (sizes : List ℕ) (t : Tree) (rest : List ℕ) (since : Option ℕ) (p
     by_own : slice_index sizes leaf.symbol ≡ length leaf.servers → (m : Pool) × IsAcknowledgedPool t rest since m × (m.symbol ≡ leaf.symbol) × (slice_index m.servers i ≡ slice_index leaf.servers i) → HasReason b leaf i
     by_own size h =
         let d = leg_with leaf.symbol i (omega (arith, low, size)) h in
-        let there : leg_at b.acknowledged d.0.position ≡ Some d.0 = leg_found d.0 d.1 in
-        let has : has_server leaf.symbol (server_at leaf i) i d.0 ≡ true = d.2 in
-        (same i d.0.position, inr refl, ap (λ o. fault_of_leg o (has_server leaf.symbol (server_at leaf i) i)) there ∙ ap (λ c. unless c OtherServer) has)
+        reason_by_leg leaf i d.0 d.1 d.2
 
     by_other : (s : ℕ) → s < length sizes → ((j : ℕ) → j < slice_index sizes s → (m : Pool) × IsAcknowledgedPool t rest since m × (m.symbol ≡ s) × (slice_index m.servers j ≡ slice_index leaf.servers i)) → HasReason b leaf i
-    by_other s within every =
-        let x = server_at leaf i in
-        let some : 0 < slice_index sizes s = positive s 0 within in
-        let ps = legs_for b.acknowledged leg_found s x (slice_index sizes s) 0 (λ j least high. leg_with s j (omega (arith, high)) (every j (omega (arith, high)))) in
-        let filled =
-        fills b.acknowledged leg_found s x (slice_index sizes s) (λ d at symbol. sym (leg_size d at) ∙ ap (slice_index sizes) symbol) ps.0 (omega (arith, some, ps.1)) ps.1 ps.3 in
-        (all i ps.0, inr refl, ap (λ c. if c then Some NotAcknowledged else unless (fill_a_symbol b.acknowledged x ps.0) OtherServer) ps.2 ∙ ap (λ c. unless c OtherServer) filled)
+    by_other s within every = reason_by_symbol leaf i s within (λ j below. leg_with s j below (every j below))
 
     by_answer : slice_index sizes leaf.symbol ≡ length leaf.servers → IsAnswered sizes t rest since (pool_for leaf) i → HasReason b leaf i
     by_answer size h =
@@ -114,9 +126,7 @@ module _ (sizes : List ℕ) (t : Tree) (rest : List ℕ) (since : Option ℕ) (p
         ]
 
     pub by_justified : Contains b.readable leaf → IsJustified sizes t rest since → HasReason b leaf i
-    by_justified readable (inl none) =
-        let can : b.can_be_acknowledged ≡ false = block.never.1 none in
-        (never, inl refl, ap (λ c. if c then Some CanBeAcknowledged else None) can)
+    by_justified readable (inl none) = reason_by_none b leaf i (block.never.1 none)
     by_justified readable (inr answered) =
         let stands = pool_of_leg t (IsReadableAt t rest since) b.readable block.readable leaf readable in
         let size : slice_index sizes leaf.symbol ≡ length leaf.servers = (sized leaf.position (pool_for leaf) stands).1 in

@@ -12,5 +12,6 @@ pub mod Listed
 pub mod Along
 pub mod Existing
 pub mod Parts
+pub mod Standing
 mod Examples
 mod CoveredExample

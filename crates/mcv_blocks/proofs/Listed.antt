@@ -68,9 +68,6 @@ none_below r = record {
 }
 
 module _ (r : RoutesValue) (n : ℕ) (e : RouteEntry) (at : slice_get r.entries n ≡ Some e) (cs : List RouteClass) (so_far : AreClassesBelow r n cs) (own : List ClassValue) (are : IsClassList (class_words e.tree) own) where
-  here : List RouteClass
-  here = map (of_route n) own
-
   is-class : (c : ClassValue) → IsListed (class_words e.tree) c → IsRouteClass r (of_route n c)
   is-class c h = record { entry = e; numbered = at; listed = h }
 

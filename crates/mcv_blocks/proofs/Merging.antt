@@ -1,5 +1,5 @@
 -- Two lists of leaves that rise by position, merged, have the leaves of both and rise.
-use Rattle.std.proofs.Common.{◌≡◌, ◌⊎◌, inl, inr, ℕ, zero, suc, ◌<◌, ◌+◌, ◌-◌, ◌++◌, length, get_or, take, drop, List, [], ◌∷◌, Bor, Some, refl, sym, ap, ◌∙◌, subst, arith, append_assoc}
+use Rattle.std.proofs.Common.{◌≡◌, ◌⊎◌, inl, inr, ℕ, zero, suc, ◌<◌, ◌+◌, ◌++◌, length, get_or, drop, List, [], ◌∷◌, Bor, Some, refl, sym, ap, ◌∙◌, subst, arith, append_assoc}
 use Rattle.std.specs.Prelude.{⊤}
 use Rattle.std.specs.Cmp.{IsTotalOrder}
 use Rattle.std.specs.Ordering.{ordering_reverse}
@@ -7,7 +7,7 @@ use Rattle.std.specs.List.{All, AllByRecursion, Contains}
 use Rattle.std.specs.declared.cmp.Ordering.{Ordering}
 use Rattle.std.specs.declared.cmp.Ordering.TheVariants.{Less, Equal, Greater}
 use Rattle.std.proofs.lemmas.Cmp.{nat_list_cmp_total}
-use Rattle.std.proofs.lemmas.List.{drop-drop, drop-map, take_rest}
+use Rattle.std.proofs.lemmas.List.{drop-drop, drop-map}
 use Rattle.std.proofs.lemmas.List.Elements.{All-cons, All-nil, All-head, All-tail, All-from_recursion, recursion_from_All, Contains-append_right}
 use Rattle.std.proofs.lemmas.List.Kept.{AllPairs-cons}
 use Rattle.std.proofs.lemmas.Map.Lookups.{exact_bytes}
@@ -178,10 +178,6 @@ merged_leaves t P Q R first second either ks ls h g =
     }
 
 -- ---- one leg more
-
--- what `&legs[n..]` is
-pub rest_of : {X : Type 0} (xs : List X) (n : ℕ) (rest : List X) → rest ≡ take (length xs - n) (drop n xs) → rest ≡ drop n xs
-rest_of xs n rest is = is ∙ take_rest xs n
 
 moved : (legs : List (Bor PlannedLeg)) (n a : ℕ) → drop a (leaves_of (drop n legs)) ≡ leaves_of (drop (n + a) legs)
 moved legs n a = drop-map (λ (l : Bor PlannedLeg). leaf_of l.now) a (drop n legs) ∙ ap leaves_of (drop-drop a n legs)

@@ -44,10 +44,6 @@ module _ (r : RoutesValue) (table : List ℕ) (is : IsBreakTable (breaks_of r) t
       let before : suc k - 1 ≡ k = omega arith in
       opened-after k since (e ∙ ap (slice_get table) before) h
 
-pub opened_first : (r : RoutesValue) (era : ℕ) → era ≡ 0 → IsEraOf r era None
-opened_first r zero e = refl
-opened_first r (suc k) e = absurd (omega (arith, e))
-
 -- ---- breaks, copied from a table in memory
 
 fused : (got : Option (Bor Moment)) → option_map (λ (m : Moment). m.0) (option_map (λ (x : Bor Moment). x.now) got) ≡ option_map (λ (x : Bor Moment). x.now.0) got

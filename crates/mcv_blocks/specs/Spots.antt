@@ -7,8 +7,9 @@ use Rattle.std.specs.Ordering.{nat_cmp, ordering_then}
 use Rattle.mcv_cert.specs.Pair.{list_cmp}
 use Rattle.mcv_judge.specs.Reason.{BlockValue}
 use Rattle.mcv_route.specs.Routes.{RoutesValue}
-use Rattle.mcv_blocks.specs.Blocks.{IsBlockOf}
+use Rattle.mcv_blocks.specs.Blocks.{IsBlockAt, IsBlockOf}
 use Rattle.mcv_blocks.specs.Places.{HasEra, IsRouteClass}
+use Rattle.mcv_blocks.specs.Sets.{SetsValue}
 use Rattle.mcv_blocks.specs.declared.classes.RouteClass.{RouteClass}
 
 -- a class of a route, in an era: a block stands there
@@ -47,3 +48,10 @@ pub record IsBlockFor (r : RoutesValue) (s : Spot) (b : BlockValue) : Type 0 whe
   pub class : b.class ≡ s.class.class.word
   pub era : b.era ≡ s.era
   pub is : IsBlockOf r b
+
+-- the block has what the sets have, and is of this class and era
+pub record IsBlockWith (s : SetsValue) (c : RouteClass) (number : ℕ) (b : BlockValue) : Type 0 where
+  pub route : b.route ≡ c.route
+  pub class : b.class ≡ c.class.word
+  pub era : b.era ≡ number
+  pub has : IsBlockAt s.tree s.rest s.since b

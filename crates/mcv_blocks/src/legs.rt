@@ -1,6 +1,6 @@
 //! Legs of plans as blocks have them.
 
-ghost use Rattle.std.specs.Prelude.{◌≡◌, ◌+◌, ◌<◌, ◌≤◌, ◌∷◌, [], drop, IfOk, IfSome, MatchOption, length, map};
+ghost use Rattle.std.specs.Prelude.{◌≡◌, ◌+◌, ◌<◌, ◌≤◌, ◌∷◌, [], drop, IfOk, IfSome, MatchOption, length};
 ghost use Rattle.mcv_judge.specs.InMemory.{leg_of, legs_of};
 ghost use Rattle.mcv_blocks.specs.Merged.{leaf_of, leaves_of, merge};
 

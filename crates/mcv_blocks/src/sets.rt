@@ -59,7 +59,7 @@ impl<'a> Sets<'a> {
         merged(alloc, get.as_slice(), gets.as_slice())
     }
 
-    /// The legs that every acknowledged delete has sent, in the order of their positions.
+    /// The legs that every delete that has a reply has sent, in the order of their positions.
     pub fn acknowledged(&self, alloc: Global) -> Result<Vec<Leg<'_>>, AllocError>
         ensures { IfOk result (λ legs. AreLeavesAt self.now.tree (IsAcknowledgedAt self.now.tree self.now.rest self.now.since) (legs_of legs.items)) }
     {

@@ -1,4 +1,5 @@
 pub mod Clean
+pub mod Places
 pub mod Escapes
 pub mod Fitting
 pub mod Joined

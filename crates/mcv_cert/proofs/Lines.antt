@@ -1,16 +1,16 @@
 -- A text is cut at the ends of its lines.
-use Rattle.std.proofs.Common.{◌≡◌, ◌≢◌, ◌∙◌, ℕ, suc, ◌+◌, ◌&&◌, Bool, true, false, List, [], ◌∷◌, ◌++◌, length, take, drop, Some, None, refl, sym, ap, subst, arith, append_assoc, append-nil}
+use Rattle.std.proofs.Common.{◌≡◌, ◌≢◌, ◌∙◌, ℕ, ◌&&◌, Bool, true, false, List, [], ◌∷◌, ◌++◌, length, take, Some, None, refl, sym, ap, subst, append_assoc, append-nil}
 use Rattle.std.specs.Prelude.{codes}
 use Rattle.std.specs.List.{All, flat_map}
 use Rattle.std.proofs.lemmas.Bool.{and_parts, true≢false}
 use Rattle.std.proofs.lemmas.Grind.{flat_map-append}
 use Rattle.std.proofs.lemmas.List.{take_at}
-use Rattle.std.proofs.lemmas.List.Elements.{All-nil, All-push}
+use Rattle.std.proofs.lemmas.List.Elements.{All-push}
 use Rattle.memchr.specs.Find.{IsFirstByte, is_byte}
 use Rattle.mcv_base.specs.Key.{lacks}
-use Rattle.mcv_base.proofs.Cuts.{first_at_cut, first_cuts, none_at_cut}
+use Rattle.mcv_base.proofs.Cuts.{first_at_cut, none_at_cut}
 use Rattle.mcv_cert.specs.Pair.{AreRising, IsPair, PairValue, is_behind}
-use Rattle.mcv_cert.specs.Reading.{IsNoLine, Reading, Reads, Stops, at_end, broken, pairs, too_long, unordered}
+use Rattle.mcv_cert.specs.Reading.{IsNoLine, Reading, Reads, Stops, broken, too_long, unordered}
 use Rattle.mcv_cert.specs.Fault.{IsTold}
 use Rattle.mcv_cert.specs.declared.fault.CertFault.{CertFault}
 use Rattle.mcv_cert.specs.declared.fault.CertFault.TheVariants.{Syntax, Order, Limit, Memory}
@@ -38,13 +38,6 @@ no_line text end first other none = record {
   last = λ more e. other (first_line_is text (codes "end") more end refl e first);
 }
 
--- a text is its first line, the end of it, and the rest
-pub line_at : (text line : List ℕ) (end : ℕ) → IsFirstByte (is_byte 10) text (Some end) → take end text ≡ line → text ≡ (line ++ codes "\n") ++ drop (end + 1) text
-line_at text line end first is =
-    let cut = first_cuts 10 text end first.0.high first.1 (λ j below. first.0.before j (omega arith) below) in
-    let next : suc end ≡ end + 1 = omega arith in
-    cut.1 ∙ ap (λ xs. xs ++ 10 ∷ drop (suc end) text) is ∙ ap (λ n. line ++ 10 ∷ drop n text) next ∙ sym (append_assoc line (10 ∷ []) (drop (end + 1) text))
-
 -- ---- from line to line
 
 -- what the reader knows when it has read so many pairs
@@ -52,11 +45,6 @@ pub record IsSoFar (body : List ℕ) (ps : List PairValue) (rest : List ℕ) : T
   pub lines : body ≡ flat_map pair_line ps ++ rest
   pub are_pairs : All IsPair ps
   pub rising : AreRising ps
-
-pub so_far_none : (body : List ℕ) (ps : List PairValue) → ps ≡ [] → IsSoFar body ps body
-so_far_none body ps is =
-    subst (λ (qs : List PairValue). IsSoFar body qs body) (sym is)
-    (record { lines = refl; are_pairs = All-nil IsPair; rising = λ i j d before within. absurd (let h : ⊥ = omega arith in h) })
 
 pub so_far_more : (body rest later : List ℕ) (ps : List PairValue) (p : PairValue) → IsSoFar body ps rest → IsPair p → rest ≡ pair_line p ++ later → is_behind ps p ≡ true → IsSoFar body (ps ++ p ∷ []) later
 so_far_more body rest later ps p so_far is line behind = record {
@@ -70,15 +58,6 @@ so_far_more body rest later ps p so_far is line behind = record {
 
 pub stopped : (body rest : List ℕ) (ps : List PairValue) (r : Reading) → IsSoFar body ps rest → Stops ps rest r → Reads body r
 stopped body rest ps r so_far stops = record { ps = ps; rest = rest; lines = so_far.lines; are_pairs = so_far.are_pairs; rising = so_far.rising; stops = stops }
-
--- what is said at the last line
-pub nothing_behind : (ps : List PairValue) (behind : List ℕ) → length behind ≡ 0 → at_end ps behind ≡ pairs ps
-nothing_behind ps [] none = refl
-nothing_behind ps (b ∷ bs) none = absurd (let h : ⊥ = omega arith in h)
-
-pub more_behind : (ps : List PairValue) (behind : List ℕ) → (length behind ≡ 0 → ⊥) → at_end ps behind ≡ broken (length ps + 3)
-more_behind ps [] some = absurd (some refl)
-more_behind ps (b ∷ bs) some = refl
 
 -- ---- what the reader answers
 

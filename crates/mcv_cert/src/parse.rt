@@ -5,6 +5,7 @@ ghost use Rattle.std.specs.Prelude.{◌≡◌, ◌==◌, [], ◌∷◌, ◌<◌,
 ghost use Rattle.std.specs.List.{slice_split};
 ghost use Rattle.std.specs.Option.{option_map};
 ghost use Rattle.mcv_base.specs.Position.{position_text};
+ghost use Rattle.mcv_cert.specs.Escape.{escaped};
 ghost use Rattle.mcv_cert.specs.Pair.{FitsPosition, FitsReason, IsPair, PairValue, ReasonValue, all, names_legs, never, pair_of, reason_of, same, twin};
 ghost use Rattle.mcv_cert.specs.Text.{pair_text, pair_words, reason_words};
 
@@ -194,6 +195,16 @@ fn behind_sign(word: &[u8]) -> Option<&[u8]>
     }
 }
 
+/// The class whose word it is. Another word may give any.
+fn read_class(alloc: Global, word: &[u8]) -> Result<Option<Vec<u8>>, AllocError>
+    ensures { (class : List ℕ) → All (λ b. b < 256) class → word.now ≡ codes "=" ++ escaped class → IfOk result (λ o. option_map (λ v. v.items) o ≡ Some class) }
+{
+    match behind_sign(word) {
+        Some(bytes) => unescaped(alloc, bytes),
+        None => Ok(None),
+    }
+}
+
 /// The pair whose words these are. Other words may give any.
 fn pair_of_words(
     alloc: Global,
@@ -209,13 +220,10 @@ fn pair_of_words(
     let Some(route) = read_number(route) else {
         return Ok(None);
     };
-    let Some(class) = behind_sign(class) else {
-        return Ok(None);
-    };
     let Some(era) = read_number(era) else {
         return Ok(None);
     };
-    let Some(class) = unescaped(alloc, class)? else {
+    let Some(class) = read_class(alloc, class)? else {
         return Ok(None);
     };
     let Some(leaf) = read_position(alloc, leaf, steps)? else {

@@ -1,6 +1,6 @@
 //! Reading of a certificate's text.
 
-ghost use Rattle.std.specs.Prelude.{◌≡◌, ◌≢◌, ◌++◌, [], ℕ, List, IfErr, IfOk, MatchOption, MatchResult, OnOk};
+ghost use Rattle.std.specs.Prelude.{◌≡◌, ◌≢◌, [], IfErr, IfOk, MatchOption, MatchResult, OnOk};
 ghost use Rattle.mcv_cert.specs.Fault.{IsTold};
 ghost use Rattle.mcv_cert.specs.Fronts.{IsFront};
 ghost use Rattle.mcv_cert.specs.Pair.{IsPair, PairValue, pair_of};

@@ -1,14 +1,14 @@
 -- How places stand to one another.
-use Rattle.std.proofs.Common.{◌≡◌, ◌<◌, ℕ, refl, sym, ap, ◌∙◌}
+use Rattle.std.proofs.Common.{◌≡◌, ◌<◌, ℕ, sym, ap, ◌∙◌}
 use Rattle.std.specs.Cmp.{IsTotalOrder}
-use Rattle.std.specs.declared.cmp.Ordering.{Ordering}
-use Rattle.std.specs.declared.cmp.Ordering.TheVariants.{Less, Equal, Greater}
+use Rattle.std.specs.declared.cmp.Ordering.TheVariants.{Less}
 use Rattle.std.specs.Ordering.{nat_cmp, ordering_then}
-use Rattle.std.proofs.lemmas.Cmp.{nat_cmp_total, nat_list_cmp_total, on_total, then_total, tied_itself}
+use Rattle.std.proofs.lemmas.Cmp.{nat_cmp_total, on_total, then_total, tied_itself}
 use Rattle.mcv_cert.specs.Pair.{Place, index_cmp, list_cmp, place_cmp}
 use Rattle.mcv_judge.specs.Faults.{block_cmp, owe, place_owed}
 use Rattle.mcv_judge.specs.Reason.{BlockValue, LegValue}
 use Rattle.mcv_judge.proofs.First.{nat_less}
+use Rattle.mcv_judge.proofs.Order
 use Rattle.mcv_judge.proofs.Order.{places_total}
 use Rattle.mcv_blocks.proofs.RisingLists.{not_both}
 
@@ -16,21 +16,10 @@ abbrev pub place_in : BlockValue → LegValue → Place
 place_in b leaf = place_owed (owe b leaf)
 
 pub in_one_block : (b : BlockValue) (l m : LegValue) → place_cmp (place_in b l) (place_in b m) ≡ list_cmp l.position m.position
-unfolding place_cmp
-in_one_block b l m = rw (tied_itself nat_cmp_total b.route, tied_itself nat_list_cmp_total b.class, tied_itself nat_cmp_total b.era) refl
-
-then_further : (x y z w : Ordering) → ordering_then x (ordering_then y z) ≡ Less → ordering_then x (ordering_then y (ordering_then z w)) ≡ Less
-then_further Less y z w h = refl
-then_further Equal Less z w h = refl
-then_further Equal Equal Less w h = refl
-then_further Equal Equal Equal w h = absurd cc
-then_further Equal Equal Greater w h = absurd cc
-then_further Equal Greater z w h = absurd cc
-then_further Greater y z w h = absurd cc
+in_one_block b l m = Order.in_one_block b l.position m.position
 
 pub in_two_blocks : (b c : BlockValue) (l m : LegValue) → block_cmp b c ≡ Less → place_cmp (place_in b l) (place_in c m) ≡ Less
-unfolding place_cmp
-in_two_blocks b c l m h = then_further (nat_cmp b.route c.route) (list_cmp b.class c.class) (nat_cmp b.era c.era) (list_cmp l.position m.position) h
+in_two_blocks b c l m h = Order.in_two_blocks b c l.position m.position h
 
 indexes_total : IsTotalOrder (λ (x y : Place × ℕ). ordering_then (place_cmp x.0 y.0) (nat_cmp x.1 y.1))
 indexes_total = then_total (on_total (λ (x : Place × ℕ). x.0) places_total) (on_total (λ (x : Place × ℕ). x.1) nat_cmp_total)

@@ -6,8 +6,8 @@ use Rattle.mcv_symbolic.specs.Covered.{AreCovered, sizes_of}
 use Rattle.mcv_blocks.specs.Places.{AreRouteClasses, HasEra}
 use Rattle.mcv_blocks.specs.Spots.{spots_of}
 use Rattle.mcv_blocks.specs.declared.classes.RouteClass.{RouteClass}
-use Rattle.mcv_certify.specs.Gap.{IsRightFault, place_of_gap}
-use Rattle.mcv_certify.specs.Made.{IfLost, TellsGapIn}
+use Rattle.mcv_certify.specs.Gap.{IfLost, IsRightFault, place_of_gap}
+use Rattle.mcv_certify.specs.Made.{TellsGapIn}
 use Rattle.mcv_certify.specs.declared.gap.CertifyFault.{CertifyFault}
 use Rattle.mcv_certify.specs.declared.gap.CertifyFault.TheVariants.{Lost, Memory}
 use Rattle.mcv_certify.proofs.FirstGap.{first_gap, own}

@@ -35,6 +35,11 @@ abbrev pub IsRightFault : RoutesValue → CertifyFault → Type 0
 IsRightFault r (Lost f) = IsFirstGap r (place_of_gap f) f.at f.server.0
 IsRightFault r Memory = Unit {0}
 
+-- what holds of the gap, if there is one
+abbrev pub IfLost : CertifyFault → (Gap → Type 0) → Type 0
+IfLost (Lost f) P = P f
+IfLost Memory P = Unit {0}
+
 -- routes with a gap aren't covered. Each symbol has an index (else there would be no choice at all), and class words are of bytes
 abbrev pub GapIsLoss : Type 0
 GapIsLoss = (r : RoutesValue) (s : Place) (i server : ℕ) → IsSoundRoutes r → All (λ n. 0 < n) (sizes_of r) → All (λ c. c < 256) s.class → IsGap r s i server → AreCovered r → ⊥

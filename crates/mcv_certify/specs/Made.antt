@@ -9,24 +9,15 @@ use Rattle.mcv_route.specs.Routes.{RoutesValue}
 use Rattle.mcv_pairs.specs.Adds.{Adds}
 use Rattle.mcv_pairs.specs.Gaps.{IsFirstGapIn, IsSized}
 use Rattle.mcv_pairs.specs.Reasons.{IsPickedIn}
-use Rattle.mcv_blocks.specs.Blocks.{AreLeavesAt, IsAcknowledgedAt, IsBlockAt}
+use Rattle.mcv_blocks.specs.Blocks.{AreLeavesAt, IsAcknowledgedAt}
 use Rattle.mcv_blocks.specs.Sets.{SetsValue}
-use Rattle.mcv_blocks.specs.Spots.{IsBlockFor, Spot}
+use Rattle.mcv_blocks.specs.Spots.{IsBlockFor, IsBlockWith, Spot}
 use Rattle.mcv_blocks.specs.declared.classes.RouteClass.{RouteClass}
 use Rattle.mcv_certify.specs.Gap.{place_of_gap}
 use Rattle.mcv_certify.specs.Picked.{IsPickedOf}
 use Rattle.mcv_certify.specs.declared.gap.Gap.{Gap}
-use Rattle.mcv_certify.specs.declared.gap.CertifyFault.{CertifyFault}
-use Rattle.mcv_certify.specs.declared.gap.CertifyFault.TheVariants.{Lost, Memory}
 
--- the block has what the sets have, and is of this class and era
-pub record IsBlockWith (s : SetsValue) (c : RouteClass) (number : ℕ) (b : BlockValue) : Type 0 where
-  pub route : b.route ≡ c.route
-  pub class : b.class ≡ c.class.word
-  pub era : b.era ≡ number
-  pub has : IsBlockAt s.tree s.rest s.since b
-
--- the legs that each acknowledged delete has sent have as many servers as their symbols have indexes
+-- the legs that every delete that has a reply has sent have as many servers as their symbols have indexes
 abbrev pub AreLegsSized : SetsValue → Type 0
 AreLegsSized s = (legs : List LegValue) → AreLeavesAt s.tree (IsAcknowledgedAt s.tree s.rest s.since) legs → IsSized legs
 
@@ -74,8 +65,3 @@ pub record TellsGapIn (r : RoutesValue) (spots : List Spot) (f : Gap) : Type 0 w
   pub stand : AllZip (IsBlockFor r) before blocks
   pub reasons : All (λ b. All (HasReasons b) b.readable) blocks
   pub tells : TellsGapAt r spot f
-
--- what holds of the gap, if there is one
-abbrev pub IfLost : CertifyFault → (Gap → Type 0) → Type 0
-IfLost (Lost f) P = P f
-IfLost Memory P = Unit {0}

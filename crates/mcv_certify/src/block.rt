@@ -7,7 +7,8 @@ ghost use Rattle.mcv_judge.specs.InMemory.{block_of, legs_of, pairs_of};
 ghost use Rattle.mcv_pairs.specs.Adds.{Adds};
 ghost use Rattle.mcv_pairs.specs.Gaps.{IsSized};
 ghost use Rattle.mcv_pairs.specs.Reasons.{IsPickedIn};
-ghost use Rattle.mcv_certify.specs.Made.{AddsWith, AreLegsSized, IfLost, TellsGapOf, TellsGapWith};
+ghost use Rattle.mcv_certify.specs.Gap.{IfLost};
+ghost use Rattle.mcv_certify.specs.Made.{AddsWith, AreLegsSized, TellsGapOf, TellsGapWith};
 
 use crate::gap::{CertifyFault, told};
 use mcv_blocks::{RouteClass, Sets};

@@ -7,8 +7,8 @@ ghost use Rattle.mcv_blocks.specs.Spots.{IsSpotOf, eras_from, spot};
 ghost use Rattle.mcv_judge.specs.InMemory.{pairs_of};
 ghost use Rattle.mcv_route.specs.Routes.{IsSoundRoutes};
 ghost use Rattle.mcv_symbolic.specs.Covered.{AreCovered, sizes_of};
-ghost use Rattle.mcv_certify.specs.Gap.{IsRightFault};
-ghost use Rattle.mcv_certify.specs.Made.{AddsFor, IfLost, TellsGapAt, TellsGapIn};
+ghost use Rattle.mcv_certify.specs.Gap.{IfLost, IsRightFault};
+ghost use Rattle.mcv_certify.specs.Made.{AddsFor, TellsGapAt, TellsGapIn};
 ghost use Rattle.mcv_certify.specs.Picked.{IsPickedOf};
 ghost use Rattle.mcv_certify.specs.declared.gap.CertifyFault.TheVariants.{Memory as out_of_memory};
 

@@ -1,24 +1,16 @@
 -- How far a certificate has been judged, from block to block. Only private contracts cite this.
-use Rattle.std.specs.Prelude.{◌≡◌, ℕ, List, ◌∷◌, ◌++◌, ⊤}
+use Rattle.std.specs.Prelude.{ℕ, List, ◌∷◌, ◌++◌, ⊤}
 use Rattle.std.specs.List.{AllZip}
 use Rattle.mcv_cert.specs.Pair.{PairValue}
 use Rattle.mcv_judge.specs.Faults.{AreInOrder, HaveSameFaults, IsFirstFault, IsInOrder}
 use Rattle.mcv_judge.specs.Reason.{BlockValue}
 use Rattle.mcv_judge.specs.declared.fault.PairFault.{PairFault}
 use Rattle.mcv_route.specs.Routes.{RoutesValue}
-use Rattle.mcv_blocks.specs.Blocks.{IsBlockAt}
 use Rattle.mcv_blocks.specs.Sets.{SetsValue}
-use Rattle.mcv_blocks.specs.Spots.{AreSpotsOf, IsBlockFor, Spot}
+use Rattle.mcv_blocks.specs.Spots.{AreSpotsOf, IsBlockFor, IsBlockWith, Spot}
 use Rattle.mcv_blocks.specs.declared.classes.RouteClass.{RouteClass}
 use Rattle.mcv_check.specs.declared.fault.CheckFault.{CheckFault}
 use Rattle.mcv_check.specs.declared.fault.CheckFault.TheVariants.{Memory, Pair}
-
--- the block has what the sets have, and is of this class and era
-pub record IsBlockWith (s : SetsValue) (c : RouteClass) (number : ℕ) (b : BlockValue) : Type 0 where
-  pub route : b.route ≡ c.route
-  pub class : b.class ≡ c.class.word
-  pub era : b.era ≡ number
-  pub has : IsBlockAt s.tree s.rest s.since b
 
 -- the block of the sets is in order
 abbrev pub IsInOrderWith : SetsValue → RouteClass → ℕ → Type 0

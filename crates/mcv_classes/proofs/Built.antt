@@ -1,5 +1,5 @@
 -- How a table is made of sorted words.
-use Rattle.std.proofs.Common.{◌≡◌, ℕ, zero, suc, ◌+◌, ◌-◌, ◌<◌, ◌≤◌, Bool, true, false, List, [], ◌∷◌, ◌++◌, length, map, get_or, Vec, Global, refl, sym, ap, ◌∙◌, subst, arith}
+use Rattle.std.proofs.Common.{◌≡◌, ℕ, suc, ◌+◌, ◌-◌, ◌<◌, Bool, true, false, List, [], ◌∷◌, ◌++◌, length, get_or, Vec, Global, refl, sym, ap, ◌∙◌, subst, arith}
 use Rattle.std.specs.Prelude.{if◌then◌else◌}
 use Rattle.std.specs.List.{All, AllPairs, Contains}
 use Rattle.std.specs.List.Sorted.{IsPermutation, IsSorted}
@@ -10,7 +10,7 @@ use Rattle.std.specs.declared.cmp.Ordering.{Ordering}
 use Rattle.std.specs.declared.cmp.Ordering.TheVariants.{Less, Equal, Greater}
 use Rattle.std.proofs.lemmas.Cmp.{nat_list_cmp_total}
 use Rattle.std.proofs.lemmas.List.{get_or_push, length_push}
-use Rattle.std.proofs.lemmas.List.Elements.{All-cons, All-nil, All-push, All-weaker, Contains-append_left, Contains-get_or, Contains-push}
+use Rattle.std.proofs.lemmas.List.Elements.{All-push, All-weaker, Contains-append_left, Contains-get_or, Contains-push}
 use Rattle.std.proofs.lemmas.List.Sorted.{All-permutation, Contains-permutation, IsPermutation-cons, IsPermutation-map, IsPermutation-sym}
 use Rattle.std.proofs.lemmas.Slice.Eq.{bytes_eq-Decides}
 use Rattle.mcv_classes.specs.Class.{IsBefore, IsUpTo}
@@ -55,14 +55,6 @@ pub record IsMade (done table rest : List (List ℕ)) : Type 0 where
   pub rising : AllPairs IsBefore table
   pub all : All (Contains table) ([] ∷ done)
   pub only : All (Contains ([] ∷ done)) table
-
-pub none-made : (table rest : List (List ℕ)) → table ≡ [] ∷ [] → IsInOrderFrom [] rest → IsMade [] table rest
-none-made table rest is order = subst (λ t. IsMade [] t rest) (sym is) (record {
-  order = order;
-  rising = λ i j d h g. absurd (omega (arith, h, g));
-  all = All-cons (Contains ([] ∷ [])) [] [] (0, omega arith, refl) (All-nil (Contains ([] ∷ [])));
-  only = All-cons (Contains ([] ∷ [])) [] [] (0, omega arith, refl) (All-nil (Contains ([] ∷ [])));
-})
 
 module _ (done table : List (List ℕ)) (word : List ℕ) (more : List (List ℕ)) (made : IsMade done table (word ∷ more)) where
   some : 0 < length table

@@ -1,7 +1,6 @@
 -- Rests that begin with the same words choose the same policy.
-use Rattle.std.proofs.Common.{◌≡◌, ◌<◌, ◌≤◌, ℕ, suc, cond, nat_le, Bool, true, false, List, [], ◌∷◌, length, Option, Some, None, option_map, unwrap_or, refl, sym, ap, ◌∙◌, arith}
+use Rattle.std.proofs.Common.{◌≡◌, ℕ, suc, cond, nat_le, Bool, true, false, List, [], ◌∷◌, length, Option, Some, None, option_map, unwrap_or, refl, sym, ap, ◌∙◌, arith}
 use Rattle.std.specs.List.{Contains}
-use Rattle.std.proofs.lemmas.Bool.{cases_Bool}
 use Rattle.mcv_base.specs.Key.{begins_with}
 use Rattle.mcv_route.specs.Children.{longest_from, prefix_policy}
 use Rattle.mcv_classes.specs.Class.{IsClassWord}

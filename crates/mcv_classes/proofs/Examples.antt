@@ -2,10 +2,10 @@
 use Rattle.std.proofs.Common.{◌≡◌, ℕ, zero, suc, ◌<◌, ◌≤◌, Bool, true, false, not, ◌||◌, List, [], ◌∷◌, length, get_or, nat_le, Some, None, refl, sym, ap, ◌∙◌, arith, codes}
 use Rattle.std.specs.List.{Contains, list_all}
 use Rattle.std.specs.Str.{bytes_eq}
-use Rattle.std.proofs.lemmas.Bool.{and_parts, false≢true, leb-true, or_cases}
-use Rattle.mcv_base.specs.Key.{begins_with, is_key_byte}
+use Rattle.std.proofs.lemmas.Bool.{and_parts, false≢true, leb-true}
+use Rattle.mcv_base.specs.Key.{begins_with}
 use Rattle.mcv_route.specs.Tree.{Tree, pool, null, prefix_selector, none, child}
-use Rattle.mcv_classes.specs.Class.{IsClassWord, IsFree, IsMember}
+use Rattle.mcv_classes.specs.Class.{IsClassWord, IsMember}
 use Rattle.mcv_classes.specs.Words.{class_words}
 
 -- a selector with the policy `a`, and behind that one with the policy `ab`

@@ -6,16 +6,12 @@ use Rattle.std.proofs.lemmas.Bool.{cases_Bool, cases_lt, false≢true, true≢fa
 use Rattle.std.proofs.lemmas.List.Elements.{All-head}
 use Rattle.std.proofs.lemmas.Slice.Eq.{bytes_eq-Decides}
 use Rattle.mcv_base.specs.Key.{begins_with, is_key_byte, is_key_word}
-use Rattle.mcv_route.specs.Tree.{Tree}
 use Rattle.mcv_classes.specs.Class.{IsClassWord, IsFree, IsMember}
 use Rattle.mcv_classes.specs.Words.{class_words, prefixes_in}
 use Rattle.mcv_classes.specs.Laws.{RestsHaveClasses}
 use Rattle.mcv_classes.proofs.Members.{begins-key, first-free}
 
 -- ---- members of lists
-
-here : (w : List ℕ) (ws : List (List ℕ)) → Contains (w ∷ ws) w
-here w ws = (0, omega arith, refl)
 
 there : (w v : List ℕ) (ws : List (List ℕ)) → Contains ws v → Contains (w ∷ ws) v
 there w v ws h = (suc h.0, omega (arith, h.1), h.2)

@@ -1,19 +1,16 @@
 -- The last word of a table that isn't behind some bytes, and the longest with which they begin.
-use Rattle.std.proofs.Common.{◌≡◌, ℕ, suc, ◌+◌, ◌-◌, ◌<◌, ◌≤◌, ◌⊎◌, inl, inr, Bool, true, false, List, [], ◌∷◌, length, map, get_or, Some, refl, sym, ap, ◌∙◌, subst, arith}
-use Rattle.std.specs.Prelude.{slice_get}
-use Rattle.std.specs.List.{AllPairs, AllWithin, Contains}
+use Rattle.std.proofs.Common.{◌≡◌, ℕ, ◌-◌, ◌<◌, ◌≤◌, ◌⊎◌, inl, inr, Bool, true, false, List, [], length, get_or, Some, refl, sym, ap, ◌∙◌, subst, arith}
+use Rattle.std.specs.List.{AllWithin, Contains}
 use Rattle.std.specs.List.Sorted.{IsPartitionPoint, IsPartitionedBy}
 use Rattle.std.specs.Cmp.Lexicographic.{slice_cmp, slice_partial_cmp, lists_agrees}
 use Rattle.std.specs.Ordering.{nat_cmp, is_gt, is_le, is_some_and}
-use Rattle.std.specs.Str.{bytes_eq}
 use Rattle.std.specs.declared.cmp.Ordering.{Ordering}
 use Rattle.std.specs.declared.cmp.Ordering.TheVariants.{Less, Equal, Greater}
 use Rattle.std.proofs.lemmas.Bool.{cases_lt, false≢true, true≢false}
 use Rattle.std.proofs.lemmas.List.{get_or-map, get_or_default}
 use Rattle.std.proofs.lemmas.Option.{slice_get_cases}
-use Rattle.std.proofs.lemmas.Slice.Eq.{bytes_eq-Decides}
 use Rattle.mcv_base.specs.Key.{begins_with}
-use Rattle.mcv_classes.specs.Class.{IsBefore, IsClassWord, IsUpTo}
+use Rattle.mcv_classes.specs.Class.{IsClassWord, IsUpTo}
 use Rattle.mcv_classes.specs.Table.{IsLinked, texts_of, word_at}
 use Rattle.mcv_classes.specs.declared.table.LinkedWord.{LinkedWord}
 use Rattle.mcv_classes.proofs.Linked.{AreBelow, first-word, length-texts, some-word, upto-later}

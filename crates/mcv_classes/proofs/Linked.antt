@@ -1,7 +1,6 @@
 -- Words in a table, and the links between them.
-use Rattle.std.proofs.Common.{◌≡◌, ℕ, zero, suc, ◌+◌, ◌-◌, ◌<◌, ◌≤◌, ◌⊎◌, inl, inr, Bool, true, false, List, [], ◌∷◌, ◌++◌, length, map, get_or, Some, refl, sym, ap, ◌∙◌, subst, arith}
-use Rattle.std.specs.Prelude.{slice_get}
-use Rattle.std.specs.List.{AllPairs, Contains}
+use Rattle.std.proofs.Common.{◌≡◌, ℕ, suc, ◌-◌, ◌<◌, ◌≤◌, ◌⊎◌, inl, inr, Bool, true, false, List, [], ◌∷◌, ◌++◌, length, get_or, Some, refl, sym, ap, ◌∙◌, subst, arith}
+use Rattle.std.specs.List.{AllPairs}
 use Rattle.std.specs.Str.{bytes_eq}
 use Rattle.std.proofs.lemmas.Bool.{cases_lt, cases_order, false≢true, true≢false}
 use Rattle.std.proofs.lemmas.List.{get_or-map, get_or_append_left, get_or_push, get_or_default, length-map, length_push, map_push}
@@ -12,7 +11,7 @@ use Rattle.mcv_base.specs.Key.{begins_with}
 use Rattle.mcv_classes.specs.Class.{IsBefore, IsUpTo}
 use Rattle.mcv_classes.specs.Table.{IsLink, IsLinked, last_of, texts_of, word_at}
 use Rattle.mcv_classes.specs.declared.table.LinkedWord.{LinkedWord}
-use Rattle.mcv_classes.proofs.Order.{before-upto, begins-itself, begins-upto, between, never-back, upto-before, upto-itself, upto-through, before-through}
+use Rattle.mcv_classes.proofs.Order.{before-upto, begins-upto, between, never-back, upto-before, upto-itself, before-through}
 
 -- ---- rising words
 

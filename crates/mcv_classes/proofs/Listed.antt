@@ -1,12 +1,12 @@
 -- The list of the classes that have members, one word after another.
-use Rattle.std.proofs.Common.{◌≡◌, ℕ, zero, suc, ◌+◌, ◌<◌, ◌≤◌, ◌⊎◌, inl, inr, Bool, true, false, List, [], ◌∷◌, ◌++◌, length, get_or, take, Option, Some, None, refl, sym, ap, ◌∙◌, subst, arith}
+use Rattle.std.proofs.Common.{◌≡◌, ℕ, ◌+◌, ◌<◌, ◌≤◌, ◌⊎◌, inl, inr, List, [], ◌∷◌, ◌++◌, length, get_or, take, Option, Some, None, refl, sym, ap, ◌∙◌, subst, arith}
 use Rattle.std.specs.Prelude.{is_some}
 use Rattle.std.specs.List.{All, AllPairs, Contains}
-use Rattle.std.proofs.lemmas.Bool.{false≢true, true≢false}
+use Rattle.std.proofs.lemmas.Bool.{false≢true}
 use Rattle.std.proofs.lemmas.List.{get_or-take, get_or_default, length-take, take_all, take_more}
-use Rattle.std.proofs.lemmas.List.Elements.{All-nil, All-push, All-weaker, All-contains, Contains-append_left, Contains-push, Contains-push_cases}
+use Rattle.std.proofs.lemmas.List.Elements.{All-push, All-weaker, Contains-append_left, Contains-push, Contains-push_cases}
 use Rattle.std.proofs.lemmas.List.Quantifiers.{all_pairs_push}
-use Rattle.mcv_classes.specs.Class.{ClassValue, IsBefore, IsClassList, IsFree, IsListed, IsMember}
+use Rattle.mcv_classes.specs.Class.{ClassValue, IsBefore, IsClassList, IsListed, IsMember}
 
 -- ---- a word has one member
 
@@ -29,14 +29,6 @@ pub record AreListed (table : List (List ℕ)) (i : ℕ) (classes : List ClassVa
   pub only : All (IsListed table) classes
   pub early : All (λ c. Contains (take i table) c.word) classes
   pub all : (class : ClassValue) → IsListed table class → Contains (take i table) class.word → Contains classes class
-
-pub none-listed : (table : List (List ℕ)) → AreListed table 0 []
-none-listed table = record {
-  rising = λ i j d h g. absurd (omega (arith, g));
-  only = All-nil (IsListed table);
-  early = All-nil (λ c. Contains (take 0 table) c.word);
-  all = λ class l h. absurd (omega (arith, h.1));
-}
 
 pub all-listed : (table : List (List ℕ)) (classes : List ClassValue) → AreListed table (length table) classes → IsClassList table classes
 all-listed table classes h = record {

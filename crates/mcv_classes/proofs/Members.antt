@@ -1,8 +1,8 @@
 -- Members of classes.
-use Rattle.std.proofs.Common.{◌≡◌, ℕ, zero, suc, ◌<◌, ◌≤◌, ◌⊎◌, inl, inr, Bool, true, false, ◌&&◌, nat_lt, nat_le, nat_eq, List, [], ◌∷◌, length, Option, Some, None, refl, sym, ap, ◌∙◌, subst, arith}
+use Rattle.std.proofs.Common.{◌≡◌, ℕ, ◌<◌, ◌≤◌, Bool, true, false, ◌&&◌, nat_lt, nat_le, nat_eq, List, [], ◌∷◌, length, Some, None, refl, sym, ap, ◌∙◌, subst, arith}
 use Rattle.std.specs.List.{All, Contains, list_all}
 use Rattle.std.proofs.lemmas.List.Elements.{All-head}
-use Rattle.std.proofs.lemmas.Bool.{cases_lt, and_parts, and_from, eqb-true, eq-eqb, false≢true, lt-ltb, le-leb, leb-true}
+use Rattle.std.proofs.lemmas.Bool.{and_parts, and_from, eqb-true, eq-eqb, false≢true, lt-ltb, le-leb, leb-true}
 use Rattle.mcv_base.specs.Key.{begins_with, is_key_byte, is_key_word}
 use Rattle.mcv_classes.specs.Class.{IsClassWord, IsFree, IsMember}
 use Rattle.mcv_classes.specs.Words.{class_words}
@@ -83,40 +83,3 @@ no-rest words (b ∷ word) rest m key small c =
 
 pub no_member_no_rest : NoMemberNoRest
 no_member_no_rest t word rest m key small c = no-rest (class_words t) word rest m key small c
-
--- ---- members as they are found
-
-pub of-empty : (words : List (List ℕ)) (word : List ℕ) (m : Option (List ℕ)) → word ≡ [] → IsMember words [] m → IsMember words word m
-of-empty words word m e h = subst (λ w. IsMember words w m) (sym e) h
-
-pub of-key_word : (words : List (List ℕ)) (word m : List ℕ) → (word ≡ [] → ⊥) → is_key_word word ≡ true → m ≡ word → IsMember words word (Some m)
-of-key_word words [] m some key e = absurd (some refl)
-of-key_word words (b ∷ word) m some key e = (e, key)
-
-pub of-other : (words : List (List ℕ)) (word : List ℕ) → (word ≡ [] → ⊥) → is_key_word word ≡ false → IsMember words word None
-of-other words [] some key = absurd (some refl)
-of-other words (b ∷ word) some key = key
-
--- one byte as a word
-byte-key : (b : ℕ) → is_key_word (b ∷ []) ≡ true → is_key_byte b ≡ true
-byte-key b e = (and_parts (is_key_byte b) true e).0
-
-key-byte : (b : ℕ) → is_key_byte b ≡ true → is_key_word (b ∷ []) ≡ true
-key-byte b e = and_from (is_key_byte b) true e refl
-
-pub listed-not_free : (words : List (List ℕ)) (b : ℕ) → Contains words (b ∷ []) → IsFree words b → ⊥
-listed-not_free words b h f = f.unlisted h
-
-pub other-not_free : (words : List (List ℕ)) (b : ℕ) → is_key_word (b ∷ []) ≡ false → IsFree words b → ⊥
-other-not_free words b e f = false≢true (sym e ∙ key-byte b f.key)
-
-least-at : (words : List (List ℕ)) (b c : ℕ) → ((d : ℕ) → d < b → IsFree words d → ⊥) → IsFree words c → (c < b) ⊎ (b ≤ c) → b ≤ c
-least-at words b c below f (inl less) = absurd (below c less f)
-least-at words b c below f (inr more) = more
-
-pub least-free : (words : List (List ℕ)) (b : ℕ) (m : List ℕ) → b < 256 → is_key_word (b ∷ []) ≡ true → (Contains words (b ∷ []) → ⊥) → ((d : ℕ) → d < b → IsFree words d → ⊥) → m ≡ b ∷ [] → IsMember words [] (Some m)
-least-free words b m small key unlisted below e =
-    (b, e, record { small = small; key = byte-key b key; unlisted = unlisted }, λ c f. least-at words b c below f (cases_lt c b))
-
-pub none-free : (words : List (List ℕ)) (n : ℕ) → 256 ≤ n → ((d : ℕ) → d < n → IsFree words d → ⊥) → IsMember words [] None
-none-free words n all below b f = below b (let small : b < 256 = f.small in omega (arith, small, all)) f

@@ -1,11 +1,7 @@
 -- A table of words has the classes of these words.
-use Rattle.std.proofs.Common.{◌≡◌, ℕ, ◌<◌, inl, inr, List, [], ◌∷◌, length, Option, Some, None, option_map, sym, ap, ◌∙◌, subst, arith}
-use Rattle.std.specs.Prelude.{IfSome, slice_get}
-use Rattle.std.specs.List.{All, Contains}
+use Rattle.std.proofs.Common.{ℕ, List, [], ◌∷◌, Option, Some, None}
+use Rattle.std.specs.List.{Contains}
 use Rattle.std.proofs.lemmas.List.Elements.{All-contains, All-weaker}
-use Rattle.std.proofs.lemmas.Option.{none-some, same_Some, slice_get_cases}
-use Rattle.mcv_route.specs.Routes.{RouteEntry}
-use Rattle.mcv_route.specs.Tree.{Tree}
 use Rattle.mcv_classes.specs.Class.{ClassValue, IsClassList, IsClassOf, IsClassWord, IsFree, IsListed, IsMember}
 use Rattle.mcv_classes.specs.Table.{IsWordTable}
 
@@ -51,16 +47,3 @@ table-classes words table classes t l =
       only = All-weaker (IsListed table) (IsListed words) (λ c at. same-listed table words c h at) classes l.only;
       all = λ class at. l.all class (same-listed words table class (turned table words h) at);
     }
-
--- ---- the route of a number
-
-pub of-entry : (o : Option RouteEntry) (t : Tree) (R : Tree → Type 0) → Some t ≡ option_map (λ e. e.tree) o → R t → IfSome o (λ e. R e.tree)
-of-entry None t R e h = absurd (none-some t (sym e))
-of-entry (Some x) t R e h = subst R (same_Some t x.tree e) h
-
-pub no-entry : (entries : List RouteEntry) (n : ℕ) → n < length entries → None ≡ option_map (λ e. e.tree) (slice_get entries n) → ⊥
-no-entry entries n inside e =
-    elim (slice_get_cases entries n).1 [
-      | inl f ↦ none-some f.0.tree (e ∙ ap (option_map (λ x. x.tree)) f.2)
-      | inr f ↦ absurd (omega (arith, inside, f.0))
-    ]

@@ -35,17 +35,6 @@ words-more-of made items i item beside x start before now h is made-is so_far mo
     words-more (λ y. (made y).1) items i item start before now h is (so_far ∙ ap (λ ts. start ++ prefixes_below (trees_of ts)) (map-map (λ p. p.1) made (take i items))) shown in
     each ∙ ap (λ ts. start ++ prefixes_below (trees_of ts)) (sym (map-map (λ p. p.1) made (take (i + 1) items)))
 
--- the prefix of one more policy
-pub prefix-more : (policies : List PrefixPolicy) (i : ℕ) (policy : PrefixPolicy) (bytes : List ℕ) (x : Tree) (start before now : List (List ℕ)) → i < length policies → policy ≡ get_or policies i policy → prefix_view policy ≡ (bytes, x)
-    → before ≡ start ++ map (λ p. p.0) (map prefix_view (take i policies)) → now ≡ before ++ bytes ∷ [] → now ≡ start ++ map (λ p. p.0) (map prefix_view (take (i + 1) policies))
-prefix-more policies i policy bytes x start before now h is made-is so_far more =
-    let first : PrefixPolicy → List ℕ = λ p. (prefix_view p).0 in
-    let one : map first (take (i + 1) policies) ≡ map first (take i policies) ++ first policy ∷ [] = map-more first policies i policy h is in
-    let each : now ≡ start ++ map first (take (i + 1) policies) =
-    more ∙ ap (λ ws. ws ++ bytes ∷ []) (so_far ∙ ap (λ ws. start ++ ws) (map-map (λ p. p.0) prefix_view (take i policies))) ∙ append_assoc start (map first (take i policies)) (bytes ∷ [])
-    ∙ ap (λ w. start ++ (map first (take i policies) ++ w ∷ [])) (sym (ap (λ p. p.0) made-is)) ∙ ap (λ ws. start ++ ws) (sym one) in
-    each ∙ ap (λ ws. start ++ ws) (sym (map-map (λ p. p.0) prefix_view (take (i + 1) policies)))
-
 -- those of the selector itself, of its policies, and of what stands after them
 pub prefixes-of-PrefixSelector : (route : Route) (v : Vec PrefixPolicy Global) (d : Option (Box Route Global)) (policies again : List PrefixPolicy) (start own before : List (List ℕ)) → route ≡ PrefixSelector v d → policies ≡ v.items → again ≡ v.items
     → own ≡ start ++ map (λ p. p.0) (map prefix_view policies) → before ≡ own ++ prefixes_below (trees_of (map (λ p. p.1) (map prefix_view again))) → before ++ prefixes_below (trees_of (last_view d)) ≡ start ++ prefixes_in (view route)

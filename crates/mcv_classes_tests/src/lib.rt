@@ -2,4 +2,6 @@
 #![tactic(auto)]
 
 #[cfg(test)]
+mod listing;
+#[cfg(test)]
 mod words;

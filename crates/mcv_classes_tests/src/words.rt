@@ -1,5 +1,7 @@
+//! The table of the class words of a route.
+
 use mcv_base::Rest;
-use mcv_classes::ClassTable;
+use mcv_classes::{Class, ClassTable};
 use mcv_route::{PrefixPolicy, Route};
 use std::alloc::{AllocError, Global};
 use std::test::Fail;
@@ -35,6 +37,17 @@ fn one_byte_policies(alloc: Global, last: u16) -> Result<Route, AllocError> {
     })
 }
 
+/// The words of classes, each with its member.
+pub fn shown(alloc: Global, classes: &[Class]) -> Result<String, Fail> {
+    let mut text = String::new(alloc);
+    for class in classes {
+        let member = class.member().ok_or("no member")?;
+        let (word, member) = (class.word(), member.as_bytes());
+        write!(text, "{word:?} {member:?}|")?;
+    }
+    Ok(text)
+}
+
 #[test]
 fn the_longest_word_counts(rt: HostRuntime) -> Result<(), Fail> {
     let alloc = rt.alloc();
@@ -54,12 +67,7 @@ fn classes_have_members(rt: HostRuntime) -> Result<(), Fail> {
     let alloc = rt.alloc();
     let route = nested(alloc)?;
     let classes = ClassTable::new(alloc, &route)?.classes(alloc)?;
-    let mut text = String::new(alloc);
-    for class in &classes {
-        let member = class.member().ok_or("no member")?;
-        let (word, member) = (class.word(), member.as_bytes());
-        write!(text, "{word:?} {member:?}|")?;
-    }
+    let text = shown(alloc, classes.as_slice())?;
     assert_eq!(rt; text.as_str(), "[] [33]|[97] [97]|[97, 98] [97, 98]|");
     Ok(())
 }

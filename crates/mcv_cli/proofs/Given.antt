@@ -10,9 +10,8 @@ use Rattle.clap.specs.Lexer.{long_of, short_of}
 use Rattle.clap.specs.ValueTests.{accepts}
 use Rattle.clap.specs.Simple.{built_leaf, entered, filled, help_rule, inherited, with_index}
 use Rattle.clap.specs.Walk.{Held, Outcome, Step, Waiting, Walk, done, waits, plain, refused, idle, option, positional, next, trailing, subcommand, value}
-use Rattle.clap.specs.Walk.{after_flag, after_step, arg_by_id, arg_by_index, arg_by_long, arg_by_short, at_row, bundle, bundle_met, bundle_step, finished, has_long, has_row, has_short, long_met, long_or_other, long_word, more_values, nothing_held, option_met, option_word, plain_word, reacted, row_text, settled, settled_rows, short_met, short_or_plain, subcommand_met, subcommand_or_other, to_positional, used, used_by_id, walk, walk_from, walked, walked_from, with_default, with_values, without, word_met, rows_after}
-use Rattle.clap.specs.Faults.{bundle_fault, bundle_step_fault, check_fault, defaults_fault, entered_fault, flag_word_fault, flags_fault, level_fault, long_fault, option_fault, other_fault, react_fault, repeat_fault, set_fault, settle_fault, short_fault, step_fault, turn_fault, use_fault, values_fault, walk_fault, word_fault}
-use Rattle.clap.specs.declared.error.kind.ErrorKind.{ErrorKind}
+use Rattle.clap.specs.Walk.{after_flag, after_step, arg_by_id, arg_by_long, at_row, bundle, bundle_met, bundle_step, finished, has_long, has_row, long_met, long_or_other, more_values, nothing_held, option_met, option_word, plain_word, reacted, settled, settled_rows, short_or_plain, used, used_by_id, walk, walk_from, walked, walked_from, with_default, with_values, without, word_met, rows_after}
+use Rattle.clap.specs.Faults.{bundle_fault, bundle_step_fault, check_fault, defaults_fault, entered_fault, flag_word_fault, flags_fault, level_fault, long_fault, option_fault, react_fault, repeat_fault, set_fault, settle_fault, short_fault, step_fault, turn_fault, use_fault, values_fault, walk_fault, word_fault}
 use Rattle.clap.specs.declared.error.kind.ErrorKind.TheVariants.{ArgumentConflict, DisplayHelp, InvalidValue, TooManyValues, UnknownArgument, ValueValidation}
 use Rattle.clap.specs.declared.builder.value_parser.ValueParser.{ValueParser}
 use Rattle.clap.specs.declared.builder.value_parser.ValueParser.TheVariants as parsers

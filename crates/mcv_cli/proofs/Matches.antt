@@ -1,9 +1,9 @@
 -- What clap's matches and errors say of the words.
-use Rattle.std.proofs.Common.{◌≡◌, ◌≢◌, ◌∙◌, ◌⊎◌, inl, inr, ℕ, List, Option, Some, None, false, codes, refl, ap, ap₂, subst, sym}
+use Rattle.std.proofs.Common.{◌≡◌, ◌∙◌, ◌⊎◌, inl, inr, ℕ, List, Option, Some, None, false, codes, refl, ap, ap₂, subst, sym}
 use Rattle.std.specs.Prelude.{Box, Result, Ok, Err, option_map}
 use Rattle.std.specs.Str.Parse.{ParsesUnsigned}
 use Rattle.std.specs.Box.{box_value}
-use Rattle.clap.specs.Words.{IsAmong, ReadsOne, Row, Text, one_of, rows_of, subcommand_rows_of, subcommand_name_of}
+use Rattle.clap.specs.Words.{IsAmong, ReadsOne, Row, Text, one_of, subcommand_rows_of, subcommand_name_of}
 use Rattle.clap.proofs.ValueTestLemmas.{accepts-Accepts}
 use Rattle.clap.specs.declared.error.kind.ErrorKind.{ErrorKind}
 use Rattle.clap.specs.declared.error.kind.ErrorKind.TheVariants.{OutOfMemory}

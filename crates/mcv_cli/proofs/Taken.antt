@@ -3,7 +3,7 @@
 use Rattle.std.proofs.Common.{◌≡◌, ◌∙◌, ◌⊎◌, inl, inr, ℕ, Bool, cond, true, false, List, [], ◌∷◌, drop, Option, Some, None, ap, codes, fold, is_some, option_map, refl, subst, sym, true≢false}
 use Rattle.std.specs.Prelude.{IfSome, ⊤}
 use Rattle.std.specs.Str.{bytes_eq}
-use Rattle.clap.specs.Words.{App, Kinds, Row, Rule, Shape, Text, built}
+use Rattle.clap.specs.Words.{Kinds, Row, Rule, Shape, Text, built}
 use Rattle.clap.specs.Kinds.{or_else}
 use Rattle.clap.specs.Lexer.{long_of, short_of}
 use Rattle.clap.specs.Simple.{entered, names_of}

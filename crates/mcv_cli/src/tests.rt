@@ -116,6 +116,8 @@ fn help_names_input_and_exit_statuses(rt: HostRuntime) -> Result<(), Fail> {
         "mcv check --cert mcrouter.cert < mcrouter.json",
         "mcv: certificate text NUMBER line LINE",
         "mcv: certificate fault NUMBER",
+        "mcv: configuration NUMBER at PATH",
+        "\n  all I D0 D1 .. ",
     ] {
         assert!(rt; text.as_str().contains(part), "{text}");
     }
@@ -126,6 +128,7 @@ fn help_names_input_and_exit_statuses(rt: HostRuntime) -> Result<(), Fail> {
         "[default: 0]",
         "\n  delete a\n",
         "\n  reply none\n",
+        "mcv: no route",
         "mcv: configuration NUMBER at PATH",
     ] {
         assert!(rt; text.as_str().contains(part), "{text}");

@@ -29,7 +29,7 @@ Exit status:
   0  done, or help was asked for
   1  bad command line, or bad request line
   2  the configuration is refused, or has no route for the key
-  3  the configuration can lose a delete
+  3  the configuration can lose a delete (never with --cert: 5 then)
   4  out of memory, or reading or writing failed
   5  the certificate is refused
 
@@ -63,6 +63,10 @@ first), its server and its mark (`plain`; `async` where no reply waits for it;
 `shadow` of a copy). The reply is `none` while it waits for a server, and else
 `good`, `soft` (a miss, or nothing found or stored) or `error`.
 
+A first line that isn't a request is told as `mcv: bad request line`, and a key
+with a routing prefix that selects no route of the configuration as
+`mcv: no route`.
+
 A configuration that isn't read is told as `mcv: configuration NUMBER at PATH`.
 The path leads to the value at fault by keys and by list numbers from 0; `.` is
 the whole. The numbers:
@@ -82,7 +86,11 @@ const CHECK_FORM: &str =
 handles are read. A configuration is covered if at each moment at which a delete
 has an answer that isn't an error, every server from which a get or gets of the
 key could be answered has been sent a delete. That is decided for all keys, all
-choices of a hash and every start_time of a migration.
+choices of a hash, and all moments: before, in and after each migration. A get
+and a delete are judged at one stage of each migration: nothing is said of a get
+that comes at a later stage than the delete. Nor is it said that a server takes
+what it is sent, nor anything of values that are stored later, of gets by
+another route, or of where mcrouter differs from mcv's rules.
 
 Where it is covered, standard output has the number of pairs of a certificate,
 and then the certificate, which says for each server that can be read why a
@@ -93,14 +101,29 @@ delete reaches it:
   0 = 0 - twin -
   end
 
+A line has the number of the route, `=` and the word that the keys begin with,
+the number of moments that migrations have passed, the place of the leg that can
+be read, and a reason with the places of legs of the delete:
+
+  never          no delete is acknowledged here
+  twin D         leg D has the same hash and servers as the leg that can be read
+  same I D       leg D has the same hash, and at index I the same server
+  all I D0 D1 .. the legs have one hash, D0 for its index 0, D1 for its index 1
+                 and so on, and each has there the server that stands at index I
+                 of the leg that can be read
+
 Any certificate can be checked again, also one that another program made:
 
-  mcv check < mcrouter.json | tail -n +2 > mcrouter.cert
+  mcv check < mcrouter.json > verdict && tail -n +2 verdict > mcrouter.cert
   mcv check --cert mcrouter.cert < mcrouter.json
 
-Where it isn't covered, the exit status is 3, and standard output has a finding:
-a key, and answers by which a get reads it from the server named after a delete
-of it was acknowledged that had never been sent there:
+Standard output has `covered` and the number alone then. Where the configuration
+isn't covered, the certificate is refused, and the exit status is 5.
+
+Where it isn't covered and no certificate is given, the exit status is 3, and
+standard output has a finding: a key, and answers by which a get reads it from
+the server named after a delete of it was acknowledged that had never been sent
+there:
 
   lost b:11211
   route 0
@@ -129,9 +152,12 @@ as `mcv: certificate fault NUMBER`:
 
   1  a server that can be read has no line
   2  a line for what can't be read
-  3  a leg that an acknowledged delete may not have sent
-  4  another pool, number of legs or server than the line says
-  5  `never`, where a delete can be acknowledged";
+  3  a leg that not every delete that has a reply has sent
+  4  another hash, number of legs or server than the line says
+  5  `never`, where a delete can be acknowledged
+
+A configuration that isn't read is told as `mcv: configuration NUMBER at PATH`:
+`mcv legs --help` has the numbers.";
 
 /// What the program is asked to do.
 #[derive(Clone, Copy, Debug, PartialEq, Eq)]

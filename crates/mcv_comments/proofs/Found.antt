@@ -32,9 +32,6 @@ none_before body end found = λ front more e.
     found.0.before (length front) (omega arith) (omega (arith, length-take end body))
     (subst (λ (t : List ℕ). OccursAt t (42 ∷ 47 ∷ []) (length front)) (sym whole) (occurs front (more ++ drop end body)))
 
-pub end_within : (body : List ℕ) (end : ℕ) → FindsNeedle body (42 ∷ 47 ∷ []) 0 (Some end) → end + 2 ≤ length body
-end_within body end found = found.1.fits
-
 cut_at_end : (body : List ℕ) (end : ℕ) → FindsNeedle body (42 ∷ 47 ∷ []) 0 (Some end) → body ≡ take end body ++ 42 ∷ 47 ∷ drop (end + 2) body
 cut_at_end body end found =
     let fits : end + 2 ≤ length body = found.1.fits in

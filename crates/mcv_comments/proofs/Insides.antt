@@ -103,23 +103,6 @@ pub record Scanned (body : List ℕ) (place : ℕ) : Type 0 where
   pub inside : place ≤ length body → (more : List ℕ) → IsInside more → IsInside (take place body ++ more)
   pub never : HasNoQuote (drop place body) → HasNoQuote body
 
-pub scanned_none : (body : List ℕ) → Scanned body 0
-scanned_none body = record {
-  inside = λ within more is. is;
-  never = λ h. h;
-}
-
-pub scanned_byte : (body : List ℕ) (place : ℕ) → place < length body → get_or body place 0 ≢ 34 → get_or body place 0 ≢ 92 → Scanned body place → Scanned body (place + 1)
-scanned_byte body place l no_quote no_backslash so_far =
-    let b = get_or body place 0 in
-    let here : drop place body ≡ get_or body place 0 ∷ drop (place + 1) body = drop_more body place 0 l in
-    record {
-      inside = λ within more is.
-          subst IsInside (sym (ap (λ t. t ++ more) (take_more body place 0 l) ∙ append_assoc (take place body) (b ∷ []) more))
-          (so_far.inside (omega arith) (b ∷ more) (inside_byte b more no_quote no_backslash is));
-      never = λ h. so_far.never (subst HasNoQuote (sym here) (never_byte b (drop (place + 1) body) no_quote no_backslash h));
-    }
-
 two_more : (body : List ℕ) (place : ℕ) → place + 1 < length body → take (place + 2) body ≡ take place body ++ get_or body place 0 ∷ get_or body (place + 1) 0 ∷ []
 two_more body place l =
     let first : place < length body = omega arith in
@@ -156,6 +139,3 @@ scanned_escape body place l backslash so_far =
 
 pub scanned_end : (body : List ℕ) (place : ℕ) → place < length body → Scanned body place → IsInside (take place body)
 scanned_end body place l so_far = subst IsInside (append-nil (take place body)) (so_far.inside (omega arith) [] tt)
-
-pub scanned_all : (body : List ℕ) (place : ℕ) → length body ≤ place → Scanned body place → HasNoQuote body
-scanned_all body place l so_far = so_far.never (subst HasNoQuote (sym (drop_all place body l)) never_nil)

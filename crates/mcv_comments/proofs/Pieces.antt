@@ -4,7 +4,7 @@ use Rattle.std.specs.List.{flat_map}
 use Rattle.std.proofs.lemmas.List.{take_more, drop_more, drop_all, take_all, take-append-drop, length-drop}
 use Rattle.std.proofs.lemmas.List.Elements.{All-head, All-tail}
 use Rattle.std.proofs.lemmas.Grind.{flat_map-append}
-use Rattle.mcv_comments.specs.Comments.{Piece, plain, quoted, unended, block, line, remains, IsInside, HasNoQuote, Begins, Reads, StripsTo, HasNoEnd, OpensBlock}
+use Rattle.mcv_comments.specs.Comments.{Piece, plain, quoted, unended, block, line, remains, IsInside, HasNoQuote, Begins, Reads, StripsTo}
 
 pub strips_none : (text : List ℕ) → StripsTo text text []
 strips_none text = ([], refl, refl)
@@ -24,17 +24,9 @@ strips_on text mid rest out more a b = (
   ap (λ t. t ++ more) a.2 ∙ ap (λ t. flat_map remains a.0 ++ t) b.2 ∙ sym (flat_map-append remains a.0 b.0),
 )
 
--- nothing is pushed yet
-pub strips_start : (text out : List ℕ) → out ≡ [] → StripsTo text text out
-strips_start text out none = ([], refl, none)
-
 -- what is kept of one more front is pushed
 pub strips_push : (text mid rest out more pushed : List ℕ) → StripsTo text mid out → StripsTo mid rest more → pushed ≡ out ++ more → StripsTo text rest pushed
 strips_push text mid rest out more pushed a b e = subst (λ (t : List ℕ). StripsTo text rest t) (sym e) (strips_on text mid rest out more a b)
-
--- nothing is left
-pub strips_end : (text rest out : List ℕ) → StripsTo text rest out → rest ≡ [] → StripsTo text [] out
-strips_end text rest out a e = subst (λ (t : List ℕ). StripsTo text t out) e a
 
 abbrev pub IsRunByte : ℕ → Type 0
 IsRunByte b = (b ≢ 34) × (b ≢ 47)
@@ -107,11 +99,6 @@ two_front [] a b first second some = absurd (omega (arith, second))
 two_front (x ∷ []) a b first second some = absurd (omega (arith, second))
 two_front (x ∷ y ∷ more) a b first second some = cons_both x a (y ∷ more) (b ∷ more) first (ap (λ t. t ∷ more) second)
 
--- a front of n bytes, cut off
-pub cut_front : (text front rest : List ℕ) (n : ℕ) → StripsTo text (drop n text) (take n text) → front ≡ take n text → rest ≡ drop n text → StripsTo text rest front
-cut_front text front rest n strips front-is rest-is =
-    subst (λ (t : List ℕ). StripsTo text t front) (sym rest-is) (subst (λ (t : List ℕ). StripsTo text (drop n text) t) (sym front-is) strips)
-
 -- a block becomes a space
 pub block_front : (text body rest : List ℕ) → text ≡ 47 ∷ 42 ∷ body → (comment : List ℕ) × Begins (47 ∷ 42 ∷ body) (block comment) rest → StripsTo text rest (32 ∷ [])
 block_front text body rest e found =
@@ -121,6 +108,3 @@ block_front text body rest e found =
 pub line_front : (text body rest : List ℕ) → text ≡ 47 ∷ 47 ∷ body → (comment : List ℕ) × Begins (47 ∷ 47 ∷ body) (line comment) rest → StripsTo text rest []
 line_front text body rest e found =
     one_piece text rest [] (line found.0) (subst (λ (t : List ℕ). Begins t (line found.0) rest) (sym e) found.1) refl
-
-pub open_front : (text body : List ℕ) → text ≡ 47 ∷ 42 ∷ body → HasNoEnd body → OpensBlock text
-open_front text body e none = (body, e, none)

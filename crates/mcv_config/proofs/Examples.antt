@@ -153,6 +153,14 @@ with_a_space : is_alias (codes "/a b/c/") ≡ false
 unfolding is_alias
 with_a_space = refl
 
+a_star_for_a_name : alias_fault [] (codes "/a/*/") ≡ Some LeftOut
+unfolding alias_fault is_alias
+a_star_for_a_name = refl
+
+a_star_alone : alias_fault [] (codes "*") ≡ Some WrongKind
+unfolding alias_fault is_alias
+a_star_alone = refl
+
 no_route : root [] (object no_members) ≡ refused WrongKind []
 unfolding root plan_read routing_read keys_read
 no_route = refl

@@ -24,12 +24,12 @@ IsShortAlias text = IsAlias text × (length text ≤ alias_limit)
 
 -- ---- a text without fault
 
-by_tests : (a b c : Bool) (o : Option ℕ) → cond a (Some LeftOut) (cond b (Some Limit) (cond c (twice o) (Some WrongKind))) ≡ None → (b ≡ false) × (c ≡ true) × (o ≡ None)
+by_tests : (a b c : Bool) (o : Option ℕ) → cond a (Some Limit) (cond b (cond c (Some LeftOut) (twice o)) (Some WrongKind)) ≡ None → (a ≡ false) × (b ≡ true) × (o ≡ None)
 by_tests true b c o h = absurd (cc)
-by_tests false true c o h = absurd (cc)
-by_tests false false true None h = (refl, refl, refl)
-by_tests false false true (Some i) h = absurd (cc)
-by_tests false false false o h = absurd (cc)
+by_tests false true true o h = absurd (cc)
+by_tests false true false None h = (refl, refl, refl)
+by_tests false true false (Some i) h = absurd (cc)
+by_tests false false c o h = absurd (cc)
 
 pub record IsFaultless (seen : List (List ℕ)) (text : List ℕ) : Type 0 where
   pub alias : is_alias text ≡ true
@@ -39,7 +39,7 @@ pub record IsFaultless (seen : List (List ℕ)) (text : List ℕ) : Type 0 where
 pub faultless : (seen : List (List ℕ)) (text : List ℕ) → alias_fault seen text ≡ None → IsFaultless seen text
 unfolding alias_fault
 faultless seen text h =
-    let t = by_tests (list_any (λ b. b == star) text) (nat_lt alias_limit (length text)) (is_alias text) (number_in bytes_eq seen text) h in
+    let t = by_tests (nat_lt alias_limit (length text)) (is_alias text) (list_any (λ b. b == star) text) (number_in bytes_eq seen text) h in
     let e : nat_lt 40 (length text) ≡ false = t.0 in
     let short : length text ≤ 40 = grind (arith, nat_tests) in
     record { alias = t.1; short = short; new = t.2 }

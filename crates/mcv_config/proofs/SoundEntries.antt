@@ -18,7 +18,7 @@ use Rattle.mcv_config.specs.Routes.{route}
 use Rattle.mcv_config.specs.Walk.{SoFar, route_under}
 use Rattle.mcv_config.proofs.Later.{Later, route_keeps, IsSoFar, Grows, Each, none_grow, more_grow}
 use Rattle.mcv_config.proofs.SoundAliases.{AreSome, IsShortAlias, aliases_some, default_is}
-use Rattle.mcv_config.proofs.SoundPools.{all_of}
+use Rattle.mcv_config.proofs.SoundPools.{all_of, nothing_twice}
 use Rattle.mcv_config.proofs.SoundRoutes.{route_sound, under_sound}
 
 abbrev IsEntry : List (List ℕ) → EntryPlan → Type 0
@@ -95,10 +95,6 @@ pub record AreEntries (ps : List (List ℕ)) (x : List EntryPlan × SoFar) : Typ
 
 abbrev WithTurn : List (List ℕ) → List EntryPlan × Turn → Type 0
 WithTurn ps x = AreEntries ps (x.0, x.1.1)
-
-nothing_twice : IsDistinct bytes_eq []
-unfolding IsDistinct
-nothing_twice = tt
 
 listed_sound : (w : SoFar) (path : List ℕ) (ds : List Data) → IsSoFar w → Holds (WithTurn w.pools.servers) (some_items path ds >>= each entry_read ([], w) path 0)
 unfolding some_items

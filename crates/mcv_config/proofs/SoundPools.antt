@@ -177,7 +177,7 @@ pub record ArePools (x : Pools × Table) : Type 0 where
   pub pools : AllByRecursion (IsPool x.1) x.0.servers
   pub once : IsDistinct bytes_eq x.1
 
-nothing_twice : IsDistinct bytes_eq []
+pub nothing_twice : IsDistinct bytes_eq []
 unfolding IsDistinct
 nothing_twice = tt
 

@@ -46,7 +46,7 @@ is_no_rest NoRest = true
 abbrev pub alias_limit : ℕ
 alias_limit = 40
 
--- a star stands for any name (mcrouter wiki, Routing Prefix), which is left out
+-- in a routing prefix a star stands for any name (mcrouter wiki, Routing Prefix), which is left out; elsewhere it is a byte
 abbrev pub star : ℕ
 star = 42
 
@@ -57,9 +57,9 @@ twice (Some i) = Some AliasTwice
 -- the fault of an alias behind those of the file that stand before it, if it has one
 unfoldable pub alias_fault : List (List ℕ) → List ℕ → Option FaultKind
 alias_fault seen text =
-    if list_any (λ b. b == star) text then Some LeftOut else
-    (if nat_lt alias_limit (length text) then Some Limit else
-    (if is_alias text then twice (number_in bytes_eq seen text) else Some WrongKind))
+    if nat_lt alias_limit (length text) then Some Limit else
+    (if is_alias text then (if list_any (λ b. b == star) text then Some LeftOut else twice (number_in bytes_eq seen text)) else
+    Some WrongKind)
 
 abbrev pub unless_fault : Option FaultKind → List ℕ → List ℕ → Read (List ℕ)
 unless_fault None path text = good text

@@ -47,14 +47,14 @@ fn alias_fault(seen: &NameTable, text: &str) -> Option<FaultKind>
     ensures { result ≡ alias_fault seen.now text.now }
 {
     let bytes = text.as_bytes();
-    if bytes.contains(&b'*') {
-        return Some(FaultKind::LeftOut);
-    }
     if bytes.len() > ALIAS_LIMIT {
         return Some(FaultKind::Limit);
     }
     if !is_alias(bytes) {
         return Some(FaultKind::WrongKind);
+    }
+    if bytes.contains(&b'*') {
+        return Some(FaultKind::LeftOut);
     }
     match seen.find(text) {
         Some(_) => Some(FaultKind::AliasTwice),

@@ -6,7 +6,7 @@ ghost use Rattle.mcv_names.specs.Fault.{Gives};
 ghost use Rattle.mcv_names.specs.Lists.{each, each_member};
 ghost use Rattle.mcv_names.specs.Path.{path_of};
 ghost use Rattle.mcv_config.specs.Plan.{named_of, prefix_of, shadow_of};
-ghost use Rattle.mcv_config.specs.Routes.{children_field, object_route, pool_fields, route};
+ghost use Rattle.mcv_config.specs.Routes.{children_field, migrate_fields, object_route, pool_fields, route, warm_up_fields};
 ghost use Rattle.mcv_config.specs.Selectors.{default_read, policies_read, policy_read, selector_fields};
 ghost use Rattle.mcv_config.specs.Shadows.{shadow_read};
 ghost use Rattle.mcv_config.specs.View.{so_far_of};
@@ -16,9 +16,9 @@ use crate::config::{NamedPrefix, NamedRoute, NamedShadow};
 use crate::hash::read_hash;
 use crate::numbers::{read_range, read_start};
 use crate::progress::{Progress, read_pool_field};
-use crate::selecting::{named_prefix, selecting};
+use crate::selecting::selecting;
 use crate::texts::{only, read_text, text_children, with_children};
-use crate::timed::{migrate, read_exptime, read_interval, warm_up};
+use crate::timed::{read_exptime, read_interval};
 use mcv_names::{
     ConfigFault, FaultKind, Handle, Object, Selector, Trail, check_keys, check_names, default_key,
     fault_at, items_or_none, policies_key, read_type, some_items,
@@ -52,7 +52,7 @@ pub(crate) fn read_route(
 }
 
 /// The handle that an object names, with this many levels left for those below it.
-#[tactic(auto, using(mcv_names::proofs::Faults::faults), unfolding(crate::specs::Routes::object_route, crate::specs::Routes::fields, crate::specs::Routes::warm_up_fields, crate::specs::Routes::migrate_fields))]
+#[tactic(auto, using(mcv_names::proofs::Faults::faults), unfolding(crate::specs::Routes::object_route, crate::specs::Routes::fields))]
 #[cycle(route)]
 fn read_object(
     alloc: Global,
@@ -74,19 +74,54 @@ fn read_object(
             let children = read_children(alloc, depth, so_far, trail, value)?;
             Ok(with_children(many, children))
         }
-        Handle::WarmUp => {
-            let (cold, warm) = read_two(alloc, depth, so_far, trail, "cold", "warm", value)?;
-            let exptime = read_exptime(alloc, trail, value)?;
-            Ok(warm_up(alloc, cold, warm, exptime)?)
-        }
-        Handle::Migrate => {
-            let (from, to) = read_two(alloc, depth, so_far, trail, "from", "to", value)?;
-            let start = read_start(alloc, trail, value)?;
-            let interval = read_interval(alloc, trail, value)?;
-            Ok(migrate(alloc, from, to, start, interval)?)
-        }
+        Handle::WarmUp => read_warm_up(alloc, depth, so_far, trail, value),
+        Handle::Migrate => read_migration(alloc, depth, so_far, trail, value),
         Handle::Selector(selector) => read_selector(alloc, depth, so_far, trail, selector, value),
     }
+}
+
+/// The cold and the warm route, with the exptime of the add.
+#[tactic(auto, using(mcv_names::proofs::Faults::faults), unfolding(crate::specs::Routes::warm_up_fields))]
+#[cycle(route)]
+fn read_warm_up(
+    alloc: Global,
+    depth: usize,
+    so_far: &mut Progress,
+    trail: &Trail<'_>,
+    value: &Value,
+) -> Result<NamedRoute, ConfigFault>
+    ensures { Gives (λ r. (named_of r, so_far_of so_far.new)) result (warm_up_fields (route depth) (so_far_of so_far.old) (path_of trail.now) (view value.now)) }
+{
+    let (cold, warm) = read_two(alloc, depth, so_far, trail, "cold", "warm", value)?;
+    let exptime = read_exptime(alloc, trail, value)?;
+    Ok(NamedRoute::WarmUp {
+        cold,
+        warm,
+        exptime,
+    })
+}
+
+/// The two routes of a migration, with its start and its interval.
+#[tactic(auto, using(mcv_names::proofs::Faults::faults), unfolding(crate::specs::Routes::migrate_fields))]
+#[cycle(route)]
+fn read_migration(
+    alloc: Global,
+    depth: usize,
+    so_far: &mut Progress,
+    trail: &Trail<'_>,
+    value: &Value,
+) -> Result<NamedRoute, ConfigFault>
+    ensures { Gives (λ r. (named_of r, so_far_of so_far.new)) result (migrate_fields (route depth) (so_far_of so_far.old) (path_of trail.now) (view value.now)) }
+{
+    let (from, to) = read_two(alloc, depth, so_far, trail, "from", "to", value)?;
+    let start = read_start(alloc, trail, value)?;
+    let interval = read_interval(alloc, trail, value)?;
+    Ok(NamedRoute::Migrate {
+        from,
+        to,
+        start,
+        interval,
+    })
 }
 
 /// The route under a key that has to be there.
@@ -109,7 +144,7 @@ pub(crate) fn read_field(
     read_route(alloc, depth, so_far, &here, route)
 }
 
-/// The routes under two keys that have to be there.
+/// The routes under two keys that have to be there, each in a box.
 #[tactic(auto, using(mcv_names::proofs::Faults::faults), unfolding(crate::specs::Walk::two_under))]
 #[cycle(route)]
 fn read_two(
@@ -120,11 +155,13 @@ fn read_two(
     first: &str,
     second: &str,
     value: &Value,
-) -> Result<(NamedRoute, NamedRoute), ConfigFault>
-    ensures { Gives (λ t. ((named_of t.0, named_of t.1), so_far_of so_far.new)) result (two_under (route depth) (so_far_of so_far.old) (path_of trail.now) first.now second.now (view value.now)) }
+) -> Result<(Box<NamedRoute>, Box<NamedRoute>), ConfigFault>
+    ensures { Gives (λ t. ((named_of t.0.value, named_of t.1.value), so_far_of so_far.new)) result (two_under (route depth) (so_far_of so_far.old) (path_of trail.now) first.now second.now (view value.now)) }
 {
     let one = read_field(alloc, depth, so_far, trail, first, value)?;
+    let one = Box::new(alloc, one)?;
     let other = read_field(alloc, depth, so_far, trail, second, value)?;
+    let other = Box::new(alloc, other)?;
     Ok((one, other))
 }
 
@@ -328,8 +365,9 @@ fn read_policy(
 ) -> Result<NamedPrefix, ConfigFault>
     ensures { Gives (λ p. (prefix_of p, so_far_of so_far.new)) result (policy_read (route depth) (so_far_of so_far.old) (path_of trail.now) name.now (view value.now)) }
 {
+    let prefix = Vec::from_slice(alloc, name.as_bytes())?;
     let route = read_route(alloc, depth, so_far, trail, value)?;
-    Ok(named_prefix(alloc, name, route)?)
+    Ok(NamedPrefix { prefix, route })
 }
 
 /// The route for all else; none where there is no such key.

@@ -29,18 +29,6 @@ pub(crate) fn selecting(
     }
 }
 
-/// A policy under this name.
-pub(crate) fn named_prefix(
-    alloc: Global,
-    name: &str,
-    route: NamedRoute,
-) -> Result<NamedPrefix, AllocError>
-    ensures { IfOk result (λ p. prefix_of p ≡ (name.now, named_of route)) }
-{
-    let prefix = Vec::from_slice(alloc, name.as_bytes())?;
-    Ok(NamedPrefix { prefix, route })
-}
-
 fn by_operation(alloc: Global, policies: Vec<NamedPrefix>) -> Result<Vec<NamedPolicy>, AllocError>
     ensures { IfOk result (λ v. map policy_of v.items ≡ map of_operation (map prefix_of policies.items)) }
 {

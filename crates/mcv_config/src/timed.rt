@@ -1,17 +1,14 @@
-//! The two handles with times: a warm-up and a migration.
+//! The times of a warm-up and of a migration that a configuration may leave out.
 
-ghost use Rattle.std.specs.Prelude.{◌≡◌, IfOk};
 ghost use Rattle.serde_json.specs.View.{view};
 ghost use Rattle.mcv_names.specs.Fault.{Gives};
 ghost use Rattle.mcv_names.specs.Path.{path_of};
-ghost use Rattle.mcv_config.specs.Plan.{migrate, named_of, warm_up};
 ghost use Rattle.mcv_config.specs.Routes.{exptime_read, interval_read};
 
-use crate::config::NamedRoute;
 use crate::numbers::read_seconds_or;
 use mcv_names::{ConfigFault, Trail};
 use serde_json::Value;
-use std::alloc::{AllocError, Global};
+use std::alloc::Global;
 
 /// The exptime of a warm-up that names none.
 const DEFAULT_EXPTIME: u32 = 0;
@@ -43,38 +40,4 @@ pub(crate) fn read_interval(
 {
     let here = Trail::Key(trail, "interval");
     read_seconds_or(alloc, DEFAULT_INTERVAL, &here, value.get("interval"))
-}
-
-/// A warm-up of these two.
-pub(crate) fn warm_up(
-    alloc: Global,
-    cold: NamedRoute,
-    warm: NamedRoute,
-    exptime: u32,
-) -> Result<NamedRoute, AllocError>
-    ensures { IfOk result (λ r. named_of r ≡ warm_up (named_of cold) (named_of warm) exptime) }
-{
-    Ok(NamedRoute::WarmUp {
-        cold: Box::new(alloc, cold)?,
-        warm: Box::new(alloc, warm)?,
-        exptime,
-    })
-}
-
-/// A migration between these two.
-pub(crate) fn migrate(
-    alloc: Global,
-    from: NamedRoute,
-    to: NamedRoute,
-    start: u32,
-    interval: u32,
-) -> Result<NamedRoute, AllocError>
-    ensures { IfOk result (λ r. named_of r ≡ migrate (named_of from) (named_of to) start interval) }
-{
-    Ok(NamedRoute::Migrate {
-        from: Box::new(alloc, from)?,
-        to: Box::new(alloc, to)?,
-        start,
-        interval,
-    })
 }

@@ -1,4 +1,4 @@
-//! What docs/CONFIGURATION.md says, a case or more for each sentence, in its order.
+//! What docs/CONFIGURATION.md says, in its order. Limits, and what a configuration holds, stand in `contents`.
 //!
 //! A row is what becomes of a text and the text: the first route's handle with the number of its children, policies or
 //! shadows, or the number and path of a fault. In the tables `'` stands for a double quote and `^` for a LF.
@@ -186,7 +186,10 @@ null 0 = /aaaaaaaaaaaaaaaaaa/bbbbbbbbbbbbbbbbbbb/
 3 at /routes/0/aliases/0 = /a b/c/
 10 at /routes/0/aliases/0 = /*/*/
 10 at /routes/0/aliases/0 = /a/*/
-10 at /routes/0/aliases/0 = *";
+3 at /routes/0/aliases/0 = *
+3 at /routes/0/aliases/0 = /*/
+3 at /routes/0/aliases/0 = /a*
+3 at /routes/0/aliases/0 = /a b/*/";
 
 #[test]
 fn routes_and_aliases(rt: HostRuntime) -> Result<(), Fail> {

@@ -9,7 +9,7 @@ use Rattle.std.proofs.lemmas.Cmp.{tied_itself}
 use Rattle.std.proofs.lemmas.List.{append-nil, append_assoc, length-append}
 use Rattle.std.proofs.lemmas.List.Elements.{All-head, All-tail}
 use Rattle.mcv_cert.specs.Pair.{Place, PairValue, ReasonValue, index_of, place_of, index_cmp}
-use Rattle.mcv_judge.specs.Answers.{AnsweredIsFaultless, AnswersAll, AnswersBlock, AnswersEach, AnswersLeaf, AnswersLeaves, AreInTurn, IsAnswer}
+use Rattle.mcv_judge.specs.Answers.{AnsweredIsFaultless, AnswersAll, AnswersEach, AnswersLeaf, AnswersLeaves, AreInTurn, IsAnswer}
 use Rattle.mcv_judge.specs.Faults.{IsInOrder, owe, owed_by}
 use Rattle.mcv_judge.specs.Reason.{LegValue, BlockValue, is_whole}
 use Rattle.mcv_judge.specs.Walk.{Entry, after, entries, entry_from, or_else, walk}
@@ -151,12 +151,6 @@ in_turn_push P (y ∷ xs) x ps qs a h = (a.0, a.1 ++ qs, ap (λ rs. rs ++ qs) a.
 
 pub leaves_push : (b : BlockValue) (leaves : List LegValue) (leaf : LegValue) (ps qs : List PairValue) → AnswersLeaves b leaves ps → AnswersLeaf b leaf qs → AnswersLeaves b (leaves ++ leaf ∷ []) (ps ++ qs)
 leaves_push b leaves leaf ps qs a h = in_turn_push (AnswersLeaf b) leaves leaf ps qs a h
-
-pub blocks_push : (blocks : List BlockValue) (b : BlockValue) (ps qs : List PairValue) → AnswersAll blocks ps → AnswersBlock b qs → AnswersAll (blocks ++ b ∷ []) (ps ++ qs)
-blocks_push blocks b ps qs a h = in_turn_push AnswersBlock blocks b ps qs a h
-
-pub each_none : (b : BlockValue) (leaf : LegValue) → AnswersEach b leaf 0 []
-each_none b leaf = record { count = refl; each = λ i p is. absurd cc }
 
 pushed : {X : Type 0} (xs : List X) (x y : X) (k : ℕ) → slice_get (xs ++ x ∷ []) k ≡ Some y → (slice_get xs k ≡ Some y) ⊎ ((k ≡ length xs) × (x ≡ y))
 pushed [] x y zero h = let same : x ≡ y = cc in inr (refl, same)

@@ -99,10 +99,6 @@ still_in_order blocks n h = subst AreInOrder (drop-map block_of n blocks) (in_or
 pub carried : (pairs rest : List PairValue) (blocks later : List BlockValue) (f : PairFault) → HaveSameFaults pairs blocks rest later → IsFirstFault rest later f → IsFirstFault pairs blocks f
 carried pairs rest blocks later f same h = (h.0, h.1, same h.0 h.1 ∙ h.2, λ t j l. same t j ∙ h.3 t j l)
 
-pub carried_result : (pairs rest : List PairValue) (blocks later : List BlockValue) → HaveSameFaults pairs blocks rest later → (x : Result (Unit {0}) PairFault) → MatchResult x (λ _. IsFaultless rest later) (λ f. IsFirstFault rest later f) → MatchResult x (λ _. IsFaultless pairs blocks) (λ f. IsFirstFault pairs blocks f)
-carried_result pairs rest blocks later same (Ok u) h = λ s i. same s i ∙ h s i
-carried_result pairs rest blocks later same (Err f) h = carried pairs rest blocks later f same h
-
 pub next_same : (all pairs rest : List PairValue) (blocks left later : List BlockValue) (b : BlockValue) → HaveSameFaults all blocks pairs left → left ≡ b ∷ later → HaveSameFaults pairs (b ∷ later) rest later → HaveSameFaults all blocks rest later
 next_same all pairs rest blocks left later b before is now = λ s i. before s i ∙ ap (λ bs. fault_at pairs bs s i) is ∙ now s i
 

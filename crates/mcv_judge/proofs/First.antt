@@ -13,6 +13,7 @@ use Rattle.mcv_judge.specs.Walk.{Entry, after, or_else, walk}
 use Rattle.mcv_judge.specs.declared.fault.PairFault.{PairFault}
 use Rattle.mcv_judge.specs.declared.fault.PairFault.TheVariants.{Missing, Stray}
 use Rattle.mcv_judge.proofs.Open.{entry_at, is_open, fault_beside, fault_from, IsFirst, IsBelowPairs, ArePairsAscending, IsBelowEntries, AreEntriesRising, Judges}
+use Rattle.mcv_judge.proofs.Steps.{after_both}
 
 pub whole_index : (r : ReasonValue) → is_whole r ≡ true → index_of r ≡ 0
 whole_index never h = refl
@@ -20,16 +21,13 @@ whole_index (twin p) h = refl
 whole_index (same i p) h = absurd cc
 whole_index (all i ps) h = absurd cc
 
-not_less : nat_cmp 0 0 ≡ Less → ⊥
-not_less e = cc
-
 -- less as a whole: less by the first, or level there and less by the second
 then_less : (a b : Ordering) → ordering_then a b ≡ Less → (a ≡ Less) ⊎ ((a ≡ Equal) × (b ≡ Less))
 then_less Less b e = inl refl
 then_less Equal b e = inr (refl, e)
 then_less Greater b e = absurd cc
 
-then_equal : (a b : Ordering) → ordering_then a b ≡ Equal → (a ≡ Equal) × (b ≡ Equal)
+pub then_equal : (a b : Ordering) → ordering_then a b ≡ Equal → (a ≡ Equal) × (b ≡ Equal)
 then_equal Less b e = absurd cc
 then_equal Equal b e = (refl, e)
 then_equal Greater b e = absurd cc
@@ -57,12 +55,12 @@ nat_self i = tied_itself nat_cmp_total i
 other : (a : Ordering) → a ≡ Greater → is_eq a ≡ false
 other a e = ap is_eq e
 
-equal_is : (a : Ordering) → is_eq a ≡ true → a ≡ Equal
+pub equal_is : (a : Ordering) → is_eq a ≡ true → a ≡ Equal
 equal_is Less e = absurd cc
 equal_is Equal e = refl
 equal_is Greater e = absurd cc
 
-and_false : (b : Bool) → (b && false) ≡ false
+pub and_false : (b : Bool) → (b && false) ≡ false
 and_false true = refl
 and_false false = refl
 
@@ -325,12 +323,6 @@ module _ (o : IsTotalOrder place_cmp) where
           | inr l ↦ same_last w l q j ∙ sym (rw (w, l) refl)
         ]
       ]
-
-  after_both : (r : ReasonValue) (e : Entry) (es fs : List Entry) → after r e (es ++ fs) ≡ after r e es ++ fs
-  after_both r e es fs = elim (cases_Bool (is_whole r)) [
-    | inl w ↦ rw w refl
-    | inr w ↦ elim (cases_Bool (nat_lt (suc e.from) e.size)) [ inl l ↦ rw (w, l) refl | inr l ↦ rw (w, l) refl ]
-  ]
 
   -- the same faults stand in both
   carry : (rows : List PairValue) (es : List Entry) (rows2 : List PairValue) (es2 fs : List Entry) → ((q : Place) (j : ℕ) → fault_from rows (es ++ fs) q j ≡ fault_from rows2 (es2 ++ fs) q j) → (x : Result (List PairValue) PairFault) → Judges rows2 es2 fs x → Judges rows es fs x

@@ -57,7 +57,7 @@ rising (r ∷ pairs) h = AllPairs-cons Later r pairs (all_below (place_of r) (in
 abbrev place_in : BlockValue → List ℕ → Place
 place_in b p = record { route = b.route; class = b.class; era = b.era; leaf = p }
 
-in_one_block : (b : BlockValue) (p q : List ℕ) → place_cmp (place_in b p) (place_in b q) ≡ list_cmp p q
+pub in_one_block : (b : BlockValue) (p q : List ℕ) → place_cmp (place_in b p) (place_in b q) ≡ list_cmp p q
 unfolding place_cmp
 in_one_block b p q = rw (tied_itself nat_cmp_total b.route, tied_itself nat_list_cmp_total b.class, tied_itself nat_cmp_total b.era) refl
 
@@ -70,7 +70,7 @@ then_more Equal Equal Greater w h = absurd cc
 then_more Equal Greater z w h = absurd cc
 then_more Greater y z w h = absurd cc
 
-in_two_blocks : (b c : BlockValue) (p q : List ℕ) → block_cmp b c ≡ Less → place_cmp (place_in b p) (place_in c q) ≡ Less
+pub in_two_blocks : (b c : BlockValue) (p q : List ℕ) → block_cmp b c ≡ Less → place_cmp (place_in b p) (place_in c q) ≡ Less
 unfolding place_cmp
 in_two_blocks b c p q h = then_more (nat_cmp b.route c.route) (list_cmp b.class c.class) (nat_cmp b.era c.era) (list_cmp p q) h
 

@@ -1,17 +1,17 @@
 -- The walk, a pair or a leaf at a time.
-use Rattle.std.proofs.Common.{◌≡◌, ◌+◌, ◌<◌, ℕ, suc, false, true, List, [], ◌∷◌, ◌++◌, length, map, get_or, drop, drop-cons, nat_lt, Option, Some, None, Result, Ok, Err, inl, inr, ap, refl, sym, ◌∙◌, subst, arith, add-one}
+use Rattle.std.proofs.Common.{◌≡◌, ◌+◌, ◌<◌, ℕ, suc, List, [], ◌∷◌, ◌++◌, length, map, get_or, drop, drop-cons, nat_lt, Option, Some, None, Result, Ok, Err, inl, inr, ap, refl, sym, ◌∙◌, subst, add-one}
 use Rattle.std.specs.Borrow.{Bor}
 use Rattle.std.specs.Prelude.{All}
 use Rattle.std.proofs.Math.ListN.{get_or-map}
 use Rattle.std.proofs.lemmas.List.{length-map}
-use Rattle.std.proofs.lemmas.Bool.{cases_Bool, lt-ltb, le-ltb}
+use Rattle.std.proofs.lemmas.Bool.{cases_Bool, lt-ltb}
 use Rattle.std.specs.declared.cmp.Ordering.{Ordering}
 use Rattle.std.specs.declared.cmp.Ordering.TheVariants.{Less, Equal, Greater}
 use Rattle.mcv_cert.specs.Pair.{PairValue, ReasonValue, index_of, place_of, index_cmp}
-use Rattle.mcv_judge.specs.Reason.{BlockValue, fault_of, is_whole}
-use Rattle.mcv_judge.specs.Faults.{Owed, owe, place_owed}
+use Rattle.mcv_judge.specs.Reason.{BlockValue, is_whole}
+use Rattle.mcv_judge.specs.Faults.{owe}
 use Rattle.mcv_judge.specs.InMemory.{leg_of, legs_of, pairs_of}
-use Rattle.mcv_judge.specs.Walk.{Entry, after, entries, entries_left, entry_from, or_else, walk, walked}
+use Rattle.mcv_judge.specs.Walk.{Entry, after, entries, entries_left, or_else, walk, walked}
 use Rattle.mcv_judge.specs.declared.block.Leg.{Leg}
 use Rattle.mcv_cert.specs.declared.pair.Pair.{Pair}
 use Rattle.mcv_judge.specs.declared.fault.PairFault.{PairFault}
@@ -21,40 +21,6 @@ use Rattle.mcv_judge.specs.declared.fault.PairFault.TheVariants.{Missing, Stray}
 abbrev pub by : PairValue → List PairValue → Entry → List Entry → Ordering → Result (List PairValue) PairFault
 by r pairs e es x = elim x [ Less ↦ Err Stray | Equal ↦ or_else (e.judge r.reason) (walk pairs (after r.reason e es)) | Greater ↦ Err Missing ]
 
-pub ended : (pairs : List PairValue) → walk pairs [] ≡ Ok pairs
-ended [] = refl
-ended (r ∷ pairs) = refl
-
-module _ (i : ℕ) (o : Owed) (more : i < length o.leaf.servers) where
-  opens : entries_left i o ≡ entry_from i o ∷ []
-  opens = rw (lt-ltb i (length o.leaf.servers) more) refl
-
-  pub none_left : walk [] (entries_left i o) ≡ Err Missing
-  none_left = ap (walk []) opens
-
-  module _ (r : PairValue) (pairs : List PairValue) where
-    step : (c : Ordering) → index_cmp (place_of r) (index_of r.reason) (place_owed o) i ≡ c → walk (r ∷ pairs) (entries_left i o) ≡ by r pairs (entry_from i o) [] c
-    step c at = ap (walk (r ∷ pairs)) opens ∙ ap (by r pairs (entry_from i o) []) at
-
-    pub stands_before : index_cmp (place_of r) (index_of r.reason) (place_owed o) i ≡ Less → walk (r ∷ pairs) (entries_left i o) ≡ Err Stray
-    stands_before = step Less
-
-    pub stands_behind : index_cmp (place_of r) (index_of r.reason) (place_owed o) i ≡ Greater → walk (r ∷ pairs) (entries_left i o) ≡ Err Missing
-    stands_behind = step Greater
-
-    pub is_wrong : (f : PairFault) → index_cmp (place_of r) (index_of r.reason) (place_owed o) i ≡ Equal → fault_of o.block o.leaf r.reason ≡ Some f → walk (r ∷ pairs) (entries_left i o) ≡ Err f
-    is_wrong f at wrong = step Equal at ∙ rw wrong refl
-
-    pub says_all : index_cmp (place_of r) (index_of r.reason) (place_owed o) i ≡ Equal → fault_of o.block o.leaf r.reason ≡ None → is_whole r.reason ≡ true → walk (r ∷ pairs) (entries_left i o) ≡ Ok pairs
-    says_all at fine whole = step Equal at ∙ rw (fine, whole) (ended pairs)
-
-    pub goes_on : index_cmp (place_of r) (index_of r.reason) (place_owed o) i ≡ Equal → fault_of o.block o.leaf r.reason ≡ None → is_whole r.reason ≡ false → walk (r ∷ pairs) (entries_left i o) ≡ walk pairs (entries_left (i + 1) o)
-    goes_on at fine whole = step Equal at ∙ rw (fine, whole, add-one) refl
-
--- behind the last index
-pub all_left : (i : ℕ) (o : Owed) (pairs : List PairValue) → length o.leaf.servers ≡ i → walk pairs (entries_left i o) ≡ Ok pairs
-all_left i o pairs e = let shut : entries_left i o ≡ [] = rw (le-ltb i (length o.leaf.servers) (omega (arith, e))) refl in ap (walk pairs) shut ∙ ended pairs
-
 -- ---- leaf by leaf
 
 -- what is left goes to the next
@@ -62,7 +28,7 @@ abbrev onward : Result (List PairValue) PairFault → (List PairValue → Result
 onward (Ok x) f = f x
 onward (Err n) f = Err n
 
-after_both : (r : ReasonValue) (e : Entry) (es fs : List Entry) → after r e (es ++ fs) ≡ after r e es ++ fs
+pub after_both : (r : ReasonValue) (e : Entry) (es fs : List Entry) → after r e (es ++ fs) ≡ after r e es ++ fs
 after_both r e es fs = elim (cases_Bool (is_whole r)) [
   | inl w ↦ rw w refl
   | inr w ↦ elim (cases_Bool (nat_lt (suc e.from) e.size)) [ inl l ↦ rw (w, l) refl | inr l ↦ rw (w, l) refl ]

@@ -21,7 +21,7 @@ pub struct Block<'a> {
     pub era: usize,
     /// The legs from which a get or gets can be answered, in the order of their positions.
     pub readable: &'a [Leg<'a>],
-    /// The legs that every acknowledged delete has sent, in the order of their positions.
+    /// The legs that every delete that has a reply has sent, in the order of their positions.
     pub acknowledged: &'a [Leg<'a>],
     pub can_be_acknowledged: bool,
 }

@@ -12,7 +12,7 @@ pub enum PairFault {
     Missing,
     #[error("a pair where no readable leaf wants one")]
     Stray,
-    #[error("a leaf that an acknowledged delete may not have reached")]
+    #[error("a leg that not every delete that has a reply has sent")]
     NotAcknowledged,
     #[error("another symbol, number of leaves or server than the reason says")]
     OtherServer,

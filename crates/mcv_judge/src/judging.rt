@@ -1,6 +1,5 @@
 //! The pairs of a certificate beside the readable leaves of blocks.
 
-ghost use Rattle.std.specs.Ordering.{nat_cmp, ordering_then};
 ghost use Rattle.std.specs.Prelude.{◌≡◌, ◌∷◌, List, [], map, IfOk, IfErr, MatchResult};
 ghost use Rattle.mcv_judge.specs.Faults.{AreInOrder, AreLegsRising, HaveSameFaults, IsFaultless, IsFirstFault, IsInOrder, owe, owed_by, place_owed};
 ghost use Rattle.mcv_judge.specs.InMemory.{block_of, leg_of, legs_of, pairs_of};

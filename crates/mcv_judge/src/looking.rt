@@ -1,7 +1,7 @@
 //! Legs among those of a block, which rise by position.
 
 ghost use Rattle.std.specs.Option.{option_map};
-ghost use Rattle.std.specs.Prelude.{◌≡◌, ◌<◌, length, slice_index_or, map, Some, None, MatchOption, MatchResult};
+ghost use Rattle.std.specs.Prelude.{◌≡◌, ◌<◌, length, slice_index_or, Some, None, MatchOption, MatchResult};
 ghost use Rattle.mcv_judge.specs.Faults.{AreLegsRising};
 ghost use Rattle.mcv_judge.specs.InMemory.{leg_of, legs_of};
 ghost use Rattle.mcv_cert.specs.Pair.{list_cmp};

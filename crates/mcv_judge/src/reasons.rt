@@ -1,7 +1,7 @@
 //! What is wrong with the reason of a pair. The definition: `fault_of` of specs/Reason.antt.
 
 ghost use Rattle.std.specs.Option.{option_map};
-ghost use Rattle.std.specs.Prelude.{◌≡◌, map};
+ghost use Rattle.std.specs.Prelude.{◌≡◌};
 ghost use Rattle.mcv_judge.specs.Faults.{AreLegsRising};
 ghost use Rattle.mcv_judge.specs.InMemory.{block_of, leg_of, legs_of};
 ghost use Rattle.mcv_cert.specs.Pair.{reason_of};

@@ -1,5 +1,5 @@
-//! Certificates beside one block. Gets go to the leaf 1 with the servers 7 and 8 by its hash; each acknowledged delete
-//! has been sent to the legs 0.0 to 0.3.
+//! Certificates beside one block. Gets go to the leaf 1 with the servers 7 and 8 by its hash; every delete that has a
+//! reply has sent the legs 0.0 to 0.3.
 
 ghost use Rattle.std.specs.Prelude.{◌<◌, length, All};
 ghost use Rattle.mcv_judge.specs.Faults.{AreLegsRising};

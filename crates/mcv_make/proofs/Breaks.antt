@@ -26,6 +26,7 @@ use Rattle.mcv_symbolic.proofs.Exactness.{acknowledged_is_exact, done_is_exact}
 use Rattle.mcv_symbolic.proofs.Placed.{acknowledged_stands, leaf_of}
 use Rattle.mcv_judge.specs.Reason.{BlockValue, HasReason, LegValue, has_server, is_same_server, server_at}
 use Rattle.mcv_blocks.specs.Blocks.{IsAcknowledgedAt, IsBlockAt, pool_for}
+use Rattle.mcv_blocks.proofs.Complete.{reason_by_leg, reason_by_none, reason_by_symbol}
 use Rattle.mcv_blocks.proofs.PoolSizes.{AreSized}
 use Rattle.mcv_blocks.proofs.Searches.{from_map, into_map}
 use Rattle.mcv_blocks.proofs.Unique.{leg_there, pool_of_leg}
@@ -33,7 +34,6 @@ use Rattle.mcv_make.specs.Free.{free_index, free_indexes, is_taken, least_free, 
 use Rattle.mcv_symbolic.specs.Shown.{answers}
 use Rattle.mcv_make.proofs.Chosen.{found-free, free-or-full, index-at, other-index, own-index}
 use Rattle.mcv_make.proofs.Missed
-use Rattle.mcv_make.proofs.Unanswered
 
 -- ---- what is taken
 
@@ -80,7 +80,7 @@ module _ (sizes : List ℕ) (t : Tree) (rest : List ℕ) (since : Option ℕ) (p
   own-free : is_taken legs x leaf.symbol i ≡ false
   own-free =
       elim (cases_Bool (is_taken legs x leaf.symbol i)) [
-        | inl is ↦ let d = taken-there leaf.symbol i is in absurd (Unanswered.none-at-own sizes t rest since positive sized b block leaf i unanswered d.0 d.1 d.2)
+        | inl is ↦ let d = taken-there leaf.symbol i is in absurd (unanswered (reason_by_leg sizes t rest since positive sized b block leaf i d.0 d.1 d.2))
         | inr isnt ↦ isnt
       ]
 
@@ -88,13 +88,13 @@ module _ (sizes : List ℕ) (t : Tree) (rest : List ℕ) (since : Option ℕ) (p
   some-free s within =
       elim (free-or-full (is_taken legs x s) (slice_index sizes s)) [
         | inl free ↦ free
-        | inr full ↦ absurd (Unanswered.none-at-some sizes t rest since positive sized b block leaf i unanswered s within (λ j low. taken-there s j (full j low)))
+        | inr full ↦ absurd (unanswered (reason_by_symbol sizes t rest since positive sized b block leaf i s within (λ j low. taken-there s j (full j low))))
       ]
 
   pub can : if_all Good (plan t (asked Delete rest since)) ≢ Error
   can e =
       let never : IsNeverAcknowledged t rest since = λ c h. (done_is_exact t rest since c).0 h e in
-      true≢false (sym (Unanswered.can-be-done sizes t rest since positive sized b block leaf i unanswered) ∙ block.never.1 never)
+      unanswered (reason_by_none b leaf i (block.never.1 never))
 
   -- ---- the choice
 

@@ -1,12 +1,12 @@
 -- The finding of a gap as the code builds it: each part is what is told.
-use Rattle.std.proofs.Common.{◌≡◌, ℕ, true, List, ◌++◌, Option, Some, None, option_map, sym, ap, ◌∙◌}
+use Rattle.std.proofs.Common.{◌≡◌, ℕ, true, List, ◌++◌, Option, Some, option_map, sym, ap, ◌∙◌}
 use Rattle.std.specs.Prelude.{option_and_then, slice_get}
-use Rattle.std.proofs.lemmas.Option.{none-some, same_Some}
+use Rattle.std.proofs.lemmas.Option.{same_Some}
 use Rattle.mcv_base.specs.Operation.{is_reading}
 use Rattle.mcv_base.specs.declared.operation.Op.{Op}
 use Rattle.mcv_base.specs.declared.operation.Op.TheVariants.{Delete, Get, Gets}
 use Rattle.mcv_base.specs.declared.reply.Outcome.TheVariants.{Good}
-use Rattle.mcv_blocks.specs.Blocks.{IsEraOf, pool_for}
+use Rattle.mcv_blocks.specs.Blocks.{IsEraOf}
 use Rattle.mcv_blocks.specs.Places.{HasEra}
 use Rattle.mcv_classes.specs.Class.{IsMember}
 use Rattle.mcv_classes.specs.Words.{class_words}
@@ -24,7 +24,6 @@ use Rattle.mcv_symbolic.specs.Justified.{IsReadableAt}
 use Rattle.mcv_symbolic.specs.Sets.{AreLegsAt, CanHitAt, IsAcknowledged}
 use Rattle.mcv_witness.specs.Finding.{FindingValue}
 use Rattle.mcv_make.specs.Free.{free_indexes}
-use Rattle.mcv_make.specs.Place.{HasMember}
 use Rattle.mcv_symbolic.specs.Shown.{answers, leading}
 use Rattle.mcv_make.specs.Told.{IsToldWith}
 use Rattle.mcv_make.proofs.Gaps as gaps
@@ -45,54 +44,44 @@ finding_at g key choice op read deleted = record {
   deletes = deleted;
 }
 
-module _ (r : RoutesValue) (g : Gap) (gap : IsGap r (place_of_gap g) g.at g.server.0) where
-  pub no-route : None ≡ option_map (λ (e : RouteEntry). e.tree) (slice_get r.entries g.route) → ⊥
-  no-route h = none-some (gaps.entry r g gap).tree (h ∙ ap (option_map (λ (e : RouteEntry). e.tree)) (gaps.numbered r g gap))
+module _ (r : RoutesValue) (g : Gap) (gap : IsGap r (place_of_gap g) g.at g.server.0) (t : Tree) (here : Some t ≡ option_map (λ (e : RouteEntry). e.tree) (slice_get r.entries g.route)) where
+  abbrev entry : RouteEntry
+  entry = record { aliases = (gaps.entry r g gap).aliases; tree = t }
 
-  module _ (t : Tree) (here : Some t ≡ option_map (λ (e : RouteEntry). e.tree) (slice_get r.entries g.route)) where
-    abbrev entry : RouteEntry
-    entry = record { aliases = (gaps.entry r g gap).aliases; tree = t }
+  same-tree : t ≡ (gaps.entry r g gap).tree
+  same-tree = same_Some t (gaps.entry r g gap).tree (here ∙ ap (option_map (λ (e : RouteEntry). e.tree)) (gaps.numbered r g gap))
 
-    same-tree : t ≡ (gaps.entry r g gap).tree
-    same-tree = same_Some t (gaps.entry r g gap).tree (here ∙ ap (option_map (λ (e : RouteEntry). e.tree)) (gaps.numbered r g gap))
+  numbered : slice_get r.entries g.route ≡ Some entry
+  numbered = gaps.numbered r g gap ∙ ap (λ (u : Tree). Some (record { aliases = (gaps.entry r g gap).aliases; tree = u })) (sym same-tree)
 
-    numbered : slice_get r.entries g.route ≡ Some entry
-    numbered = gaps.numbered r g gap ∙ ap (λ (u : Tree). Some (record { aliases = (gaps.entry r g gap).aliases; tree = u })) (sym same-tree)
+  module _ (rest : List ℕ) (member : IsMember (class_words t) g.class.items (Some rest)) (since : Option ℕ) (era : HasEra r g.era → IsEraOf r g.era since) where
+    opened : IsEraOf r g.era since
+    opened = era (gaps.has_era r g gap)
 
-    pub has-member : HasMember (class_words t) g.class.items
-    has-member = gaps.has_member r g gap entry numbered
+    pub reads : IsReadableAt t rest since g.leaf
+    reads = gaps.readable r g gap entry rest since numbered (gaps.listed r g gap entry numbered) member opened
 
-    pub no-leaf : None ≡ leaf_in r g.route g.leaf → ⊥
-    no-leaf h = none-some (pool_for gap.leaf) (h ∙ gaps.leaf-there r g gap entry has-member.0 (gaps.has_era r g gap).0 numbered (gaps.listed r g gap entry numbered) has-member.1 (gaps.has_era r g gap).1)
-
-    module _ (rest : List ℕ) (member : IsMember (class_words t) g.class.items (Some rest)) (since : Option ℕ) (era : HasEra r g.era → IsEraOf r g.era since) where
-      opened : IsEraOf r g.era since
-      opened = era (gaps.has_era r g gap)
-
-      pub reads : IsReadableAt t rest since g.leaf
-      reads = gaps.readable r g gap entry rest since numbered (gaps.listed r g gap entry numbered) member opened
-
-      module _ (pool : Pool) (stands : Some pool ≡ leaf_in r g.route g.leaf) (prefix key choice : List ℕ) (op : Op) (read deleted : History) (legs : List PlannedLeg) where
-        pub told : IsRest rest → key ≡ prefix ++ rest → ((c : Choice) → AreLegsAt t (IsAcknowledged t rest since c) legs) → choice ≡ free_indexes legs g.server.0 pool.symbol g.at 0 r.symbols
-            → is_reading op ≡ true → (op ≡ Gets → (c : Choice) → CanHitAt t (asked Get rest since) c g.leaf → ⊥) → leading g.leaf (plan t (asked op rest since)) ≡ Some read
-            → deleted ≡ answers Good (plan t (asked Delete rest since)) → IsToldWith r prefix (finding_at g key choice op read deleted)
-        told rest_is is_key are is_choice reading first led done = record {
-          entry = entry;
-          rest = rest;
-          since = since;
-          pool = pool;
-          legs = legs;
-          numbered = numbered;
-          listed = gaps.listed r g gap entry numbered;
-          member = member;
-          rest_is = rest_is;
-          opened = opened;
-          key = is_key;
-          stands = sym (stands ∙ ap (option_and_then (λ (x : RouteEntry). pool_at_position x.tree g.leaf)) numbered);
-          are = are;
-          choice = is_choice;
-          reading = reading;
-          first = first;
-          gets = led;
-          deletes = done;
-        }
+    module _ (pool : Pool) (stands : Some pool ≡ leaf_in r g.route g.leaf) (prefix key choice : List ℕ) (op : Op) (read deleted : History) (legs : List PlannedLeg) where
+      pub told : IsRest rest → key ≡ prefix ++ rest → ((c : Choice) → AreLegsAt t (IsAcknowledged t rest since c) legs) → choice ≡ free_indexes legs g.server.0 pool.symbol g.at 0 r.symbols
+          → is_reading op ≡ true → (op ≡ Gets → (c : Choice) → CanHitAt t (asked Get rest since) c g.leaf → ⊥) → leading g.leaf (plan t (asked op rest since)) ≡ Some read
+          → deleted ≡ answers Good (plan t (asked Delete rest since)) → IsToldWith r prefix (finding_at g key choice op read deleted)
+      told rest_is is_key are is_choice reading first led done = record {
+        entry = entry;
+        rest = rest;
+        since = since;
+        pool = pool;
+        legs = legs;
+        numbered = numbered;
+        listed = gaps.listed r g gap entry numbered;
+        member = member;
+        rest_is = rest_is;
+        opened = opened;
+        key = is_key;
+        stands = sym (stands ∙ ap (option_and_then (λ (x : RouteEntry). pool_at_position x.tree g.leaf)) numbered);
+        are = are;
+        choice = is_choice;
+        reading = reading;
+        first = first;
+        gets = led;
+        deletes = done;
+      }

@@ -41,6 +41,7 @@ use Rattle.mcv_symbolic.specs.Justified.{IsAcknowledgedPool, IsAnswered, IsReada
 use Rattle.mcv_symbolic.specs.Sets.{CanHitAt, IsCountedAt}
 use Rattle.mcv_witness.specs.Breaks.{BreaksCoverage, chosen}
 use Rattle.mcv_witness.specs.Finding.{FindingValue}
+use Rattle.mcv_make.proofs.Gaps.{at-finding}
 
 -- ---- lists
 
@@ -87,7 +88,7 @@ readable_by Cas t rest since c p e h = absurd (false≢true e)
 readable_by Delete t rest since c p e h = absurd (false≢true e)
 readable_by Touch t rest since c p e h = absurd (false≢true e)
 
--- ---- a pool to which each acknowledged delete is sent has been sent this one
+-- ---- a pool to which every delete that has a reply has been sent was sent this one
 
 module _ (t : Tree) (rest : List ℕ) (since : Option ℕ) (c : Choice) (o : Outcomes) (reached : IsReachable t (asked Delete rest since) c o) (done : IsDone t rest since o) where
   replied : replies t (asked Delete rest since) o ≢ []
@@ -206,8 +207,4 @@ first_finding r sound f gap breaks = record { breaks = breaks; first = λ g less
 
 -- the finding of the first gap
 pub first_of_gap : (r : RoutesValue) → IsSoundRoutes r → (g : Gap) (f : FindingValue) → IsFirstGap r (place_of_gap g) g.at g.server.0 → StandsAtGap g f → BreaksCoverage r f → IsFirstFinding r f
-first_of_gap r sound g f gap at breaks =
-    let same_place : place_of_gap g ≡ place_of f = λ i. record { route = sym at.route i; class = sym at.class i; era = sym at.era i; leaf = sym at.leaf i } in
-    first_finding r sound f
-    (subst (λ x. IsFirstGap r (place_of f) f.at x) (sym at.server) (subst (λ j. IsFirstGap r (place_of f) j g.server.0) (sym at.at) (subst (λ p. IsFirstGap r p g.at g.server.0) same_place gap)))
-    breaks
+first_of_gap r sound g f gap at breaks = first_finding r sound f (at-finding (IsFirstGap r) g f at gap) breaks

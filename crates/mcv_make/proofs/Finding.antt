@@ -15,13 +15,16 @@ use Rattle.mcv_classes.proofs.Members.{members_are_inside}
 use Rattle.mcv_config.specs.Aliases.{IsAlias, alias_limit}
 use Rattle.mcv_config.specs.Entries.{depth_limit}
 use Rattle.mcv_judge.specs.Reason.{BlockValue, LegValue}
-use Rattle.mcv_certify.specs.Gap.{IsGap}
+use Rattle.mcv_certify.specs.Gap.{IsGap, place_of_gap}
+use Rattle.mcv_certify.specs.declared.gap.Gap.{Gap}
+use Rattle.mcv_route.specs.Aliases.{AreSelected, first_alias}
 use Rattle.mcv_route.specs.Limits.{AreWithinLimits, IsWithin}
 use Rattle.mcv_route.specs.Outcomes.{History, IsChoice}
 use Rattle.mcv_route.specs.Places.{pool_at_position, route_of_prefix}
 use Rattle.mcv_route.specs.Routes.{RouteEntry, RoutesValue, IsSoundRoutes}
 use Rattle.mcv_route.specs.Situation.{asked}
 use Rattle.mcv_route.specs.Tree.{Pool, Tree}
+use Rattle.mcv_route.proofs.Selected.{is-alias, selects as selects-route}
 use Rattle.mcv_rules.specs.Plans.{plan}
 use Rattle.mcv_symbolic.specs.Covered.{sizes_of}
 use Rattle.mcv_symbolic.specs.Justified.{IsReadableAt}
@@ -29,10 +32,11 @@ use Rattle.mcv_witness.specs.Breaks.{BreaksCoverage, IsLeafOf, IsMissed, IsRead,
 use Rattle.mcv_witness.specs.Finding.{FindingValue}
 use Rattle.mcv_make.specs.Free.{free_indexes}
 use Rattle.mcv_symbolic.specs.Shown.{answers}
+use Rattle.mcv_make.specs.Place.{StandsAtGap, place_of}
 use Rattle.mcv_make.specs.Told.{IsToldWith}
 use Rattle.mcv_make.proofs.Breaks as gaps
+use Rattle.mcv_make.proofs.Gaps.{at-finding}
 use Rattle.mcv_make.proofs.KeyWord.{key-word}
-use Rattle.mcv_make.specs.Place.{place_of}
 use Rattle.mcv_make.proofs.Missed
 use Rattle.mcv_make.proofs.Reading
 
@@ -130,7 +134,7 @@ module _ (r : RoutesValue) (sound : IsSoundRoutes r) (limits : AreWithinLimits r
         unsent = gaps.unsent (sizes_of r) tree built.rest built.since positive sized b block leaf f.at f.server gap.has gap.unanswered built.legs built.are r.symbols refl size.0 low;
       }))
 
-  pub breaks : BreaksCoverage r f
+  breaks : BreaksCoverage r f
   breaks = record {
     tree = tree;
     rest = built.rest;
@@ -142,3 +146,11 @@ module _ (r : RoutesValue) (sound : IsSoundRoutes r) (limits : AreWithinLimits r
     read = read;
     missed = missed;
   }
+
+-- what is told of a gap with the first routing prefix of its route breaks coverage
+pub breaks-at : (r : RoutesValue) → IsSoundRoutes r → AreWithinLimits r → All (λ n. 0 < n) (sizes_of r) → (g : Gap) (f : FindingValue) (prefix : List ℕ) → IsGap r (place_of_gap g) g.at g.server.0 → StandsAtGap g f
+    → AreSelected r.entries → first_alias r g.route ≡ Some prefix → IsToldWith r prefix f → BreaksCoverage r f
+breaks-at r sound limits positive g f prefix gap at selected first told =
+    let alias = is-alias r g.route prefix selected first in
+    let selects : route_of_prefix prefix r.entries ≡ Some f.route = subst (λ n. route_of_prefix prefix r.entries ≡ Some n) (sym at.route) (selects-route r g.route prefix selected first) in
+    breaks r sound limits positive f prefix (at-finding (IsGap r) g f at gap) alias.0 alias.1 selects told

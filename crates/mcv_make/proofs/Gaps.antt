@@ -1,21 +1,27 @@
--- What a gap says of its place: the route, the class and the leaf are there, and the leaf can be read.
+-- What a gap says of its place: the route and the class are there, and the leaf can be read.
 use Rattle.std.proofs.Common.{◌≡◌, ℕ, List, Option, Some, refl, sym, ap, ◌∙◌, subst}
-use Rattle.std.specs.Prelude.{option_and_then, slice_get}
+use Rattle.std.specs.Prelude.{slice_get}
 use Rattle.std.specs.List.{Contains}
 use Rattle.std.proofs.lemmas.Option.{same_Some}
 use Rattle.mcv_cert.specs.Pair.{Place}
 use Rattle.mcv_classes.specs.Class.{IsMember}
 use Rattle.mcv_classes.specs.Words.{class_words}
 use Rattle.mcv_judge.specs.Reason.{BlockValue, LegValue}
-use Rattle.mcv_blocks.specs.Blocks.{IsBlockAt, IsEraOf, pool_for}
+use Rattle.mcv_blocks.specs.Blocks.{IsBlockAt, IsEraOf}
 use Rattle.mcv_blocks.specs.Places.{HasEra}
-use Rattle.mcv_blocks.proofs.Unique.{block_has, has_property, pool_of_leg}
+use Rattle.mcv_blocks.proofs.Unique.{block_has, has_property}
 use Rattle.mcv_certify.specs.Gap.{IsGap, place_of_gap}
 use Rattle.mcv_certify.specs.declared.gap.Gap.{Gap}
-use Rattle.mcv_route.specs.Places.{leaf_in, pool_at_position}
 use Rattle.mcv_route.specs.Routes.{RouteEntry, RoutesValue}
 use Rattle.mcv_symbolic.specs.Justified.{IsReadableAt}
-use Rattle.mcv_make.specs.Place.{HasMember}
+use Rattle.mcv_witness.specs.Finding.{FindingValue}
+use Rattle.mcv_make.specs.Place.{StandsAtGap, place_of}
+
+-- what holds at the gap's place and index, of its server, holds at those of a finding that stands there
+pub at-finding : (P : Place → ℕ → ℕ → Type 0) (g : Gap) (f : FindingValue) → StandsAtGap g f → P (place_of_gap g) g.at g.server.0 → P (place_of f) f.at f.server
+at-finding P g f at h =
+    let same_place : place_of_gap g ≡ place_of f = λ i. record { route = sym at.route i; class = sym at.class i; era = sym at.era i; leaf = sym at.leaf i } in
+    subst (P (place_of f) f.at) (sym at.server) (subst (λ j. P (place_of f) j g.server.0) (sym at.at) (subst (λ p. P p g.at g.server.0) same_place h))
 
 module _ (r : RoutesValue) (g : Gap) (gap : IsGap r (place_of_gap g) g.at g.server.0) where
   abbrev b : BlockValue
@@ -43,19 +49,12 @@ module _ (r : RoutesValue) (g : Gap) (gap : IsGap r (place_of_gap g) g.at g.serv
   pub numbered : slice_get r.entries g.route ≡ Some entry
   numbered = subst (λ n. slice_get r.entries n ≡ Some entry) at-route gap.stands.place.numbered
 
-  -- the gap's class is one of its route, and has a member
+  -- the gap's class is one of its route
   pub listed : (e : RouteEntry) → slice_get r.entries g.route ≡ Some e → Contains (class_words e.tree) g.class.items
   listed e here =
       let place = gap.stands.place in
       let same : entry ≡ e = same_Some entry e (sym numbered ∙ here) in
       subst (λ x. Contains (class_words x.tree) g.class.items) same (subst (λ t. Contains (class_words t) g.class.items) (sym place.has_tree) (subst (Contains (class_words gap.stands.tree)) at-class place.listed))
-
-  pub has_member : (e : RouteEntry) → slice_get r.entries g.route ≡ Some e → HasMember (class_words e.tree) g.class.items
-  has_member e here =
-      let place = gap.stands.place in
-      let same : entry ≡ e = same_Some entry e (sym numbered ∙ here) in
-      subst (λ x. HasMember (class_words x.tree) g.class.items) same
-      (subst (λ t. HasMember (class_words t) g.class.items) (sym place.has_tree) (gap.stands.member, subst (λ w. IsMember (class_words gap.stands.tree) w (Some gap.stands.member)) at-class place.has_member))
 
   pub has_era : HasEra r g.era
   has_era = (gap.stands.since, subst (λ n. IsEraOf r n gap.stands.since) at-era gap.stands.place.opened)
@@ -64,12 +63,6 @@ module _ (r : RoutesValue) (g : Gap) (gap : IsGap r (place_of_gap g) g.at g.serv
     block : IsBlockAt e.tree rest since b
     block = block_has r g.route g.class.items g.era e.tree rest since (record { entry = e; numbered = here; has_tree = refl; listed = listed; has_member = member; opened = opened }) b gap.stands at-route at-class at-era
 
-    -- the leaf can be read at the member, and a pool stands there
+    -- the leaf can be read at the member
     pub readable : IsReadableAt e.tree rest since g.leaf
     readable = subst (IsReadableAt e.tree rest since) at-leaf (has_property e.tree (IsReadableAt e.tree rest since) b.readable block.readable leaf gap.readable)
-
-    pub stands : pool_at_position e.tree g.leaf ≡ Some (pool_for leaf)
-    stands = ap (pool_at_position e.tree) (sym at-leaf) ∙ pool_of_leg e.tree (IsReadableAt e.tree rest since) b.readable block.readable leaf gap.readable
-
-    pub leaf-there : leaf_in r g.route g.leaf ≡ Some (pool_for leaf)
-    leaf-there = ap (option_and_then (λ (x : RouteEntry). pool_at_position x.tree g.leaf)) here ∙ stands

@@ -1,42 +1,18 @@
--- The outcomes that are shown lead to a hit, and to the reply of answers that are all alike.
-use Rattle.std.proofs.Common.{◌≡◌, ◌≢◌, ◌⊎◌, inl, inr, ⊎_elim, ℕ, Bool, true, false, List, [], ◌∷◌, ◌++◌, Option, Some, None, refl, sym, ap, ap₂, ◌∙◌, subst}
+-- The outcomes that are shown lead to a hit.
+use Rattle.std.proofs.Common.{◌≡◌, ◌≢◌, ◌⊎◌, inl, inr, ⊎_elim, ℕ, Bool, true, false, List, [], ◌∷◌, ◌++◌, Option, Some, None, refl, sym, ap, ◌∙◌, subst}
 use Rattle.std.specs.Prelude.{if◌then◌else◌}
 use Rattle.std.proofs.lemmas.Option.{none-some, same_Some}
 use Rattle.mcv_base.specs.Reply.{is_error, is_missed}
 use Rattle.mcv_base.specs.declared.reply.Outcome.{Outcome}
 use Rattle.mcv_base.specs.declared.reply.Outcome.TheVariants.{Good, Soft, Error}
 use Rattle.mcv_route.specs.Outcomes.{History, is_same}
-use Rattle.mcv_rules.specs.Plan.{Leg, Plan, Send, Reply, Both, Beside, OnError, OnMiss, OnHit, Shadowed, reply}
+use Rattle.mcv_rules.specs.Plan.{Leg, Plan, Send, Reply, Both, Beside, OnError, OnMiss, OnHit, Shadowed}
 use Rattle.mcv_rules.specs.Sound.{positions, IsApart, IsHonest}
-use Rattle.mcv_rules.proofs.Basics
 use Rattle.mcv_rules.proofs.Orders.{cond_at_true, same_is, same_self}
-use Rattle.mcv_symbolic.specs.Structure.{if_all, Hits}
-use Rattle.mcv_symbolic.proofs.Exact as exact
 use Rattle.mcv_symbolic.specs.Shown.{also, answers, first_hit, leading, one_after_other, or_else}
+use Rattle.mcv_symbolic.specs.Structure.{if_all, Hits}
+use Rattle.mcv_symbolic.proofs.Exact.{Shows, in_beside, in_on_error, in_on_hit, in_on_miss, in_shadowed, not_good, shows_both, shows_on_error, shows_on_miss, shows_send, soft≢good}
 use Rattle.mcv_make.proofs.Ordered.{IsOrdered, answers-ordered, one-outcome, ordered-both, ordered-first}
-use Rattle.mcv_make.proofs.Shows.{Shows, not_good, shows_both, shows_first, shows_on_error, shows_on_miss, shows_send, soft≢good}
-
--- ---- answers alike
-
-if-error : (x : Outcome) (es : History) → exact.if_error x es ≡ (if is_error x then es else [])
-if-error Good es = refl
-if-error Soft es = refl
-if-error Error es = refl
-
-if-missed : (x : Outcome) (es : History) → exact.if_missed x es ≡ (if is_missed x then es else [])
-if-missed Good es = refl
-if-missed Soft es = refl
-if-missed Error es = refl
-
-pub same-answers : (x : Outcome) (t : Plan) → exact.answers x t ≡ answers x t
-same-answers x (Send l) = refl
-same-answers x (Reply y) = refl
-same-answers x (Both t u) = ap₂ (λ es fs. es ++ fs) (same-answers x t) (same-answers x u)
-same-answers x (Beside t u) = same-answers x t
-same-answers x (OnError t u) = ap₂ (λ es fs. es ++ fs) (same-answers x t) (if-error (if_all x t) (exact.answers x u) ∙ ap (λ es. if is_error (if_all x t) then es else []) (same-answers x u))
-same-answers x (OnMiss t u) = ap₂ (λ es fs. es ++ fs) (same-answers x t) (if-missed (if_all x t) (exact.answers x u) ∙ ap (λ es. if is_missed (if_all x t) then es else []) (same-answers x u))
-same-answers x (OnHit t u) = same-answers x t
-same-answers x (Shadowed s a b t u) = same-answers x t
 
 -- ---- taken apart
 
@@ -102,31 +78,6 @@ pub record HasHit (t : Plan) (es : History) : Type 0 where
 one-hit : (k : Leg) (es : History) → (k.position, Good) ∷ [] ≡ es → HasHit (Send k) es
 one-hit k es e = subst (HasHit (Send k)) e (record { leg = k; can = refl; shows = shows_send k; ordered = one-outcome k.position Good })
 
--- what shows a hit in the second part, behind answers of the first
-module _ (t u : Plan) (l : Leg) (fs : History) (a : IsApart (Both t u)) where
-  pub behind-errors : if_all Error t ≡ Error → Shows u l fs → Shows (OnError t u) l (answers Error t ++ fs)
-  behind-errors w y = subst (λ es. Shows (OnError t u) l (es ++ fs)) (same-answers Error t) (shows_on_error t u l fs a.2 a.0 w y)
-
-  pub behind-misses : IsHonest t → Shows u l fs → Shows (OnMiss t u) l (answers Soft t ++ fs)
-  behind-misses h y = subst (λ es. Shows (OnMiss t u) l (es ++ fs)) (same-answers Soft t) (shows_on_miss t u l fs a.2 a.0 h y)
-
--- what shows a hit in the first part
-module _ (t u : Plan) (l : Leg) (es : History) (x : Shows t l es) where
-  pub in-beside : Shows (Beside t u) l es
-  in-beside = shows_first t u (Beside t u) l es refl (λ o f. f) (λ o f. f) (λ c o m s. inl s) x
-
-  pub in-on-error : Shows (OnError t u) l es
-  in-on-error = shows_first t u (OnError t u) l es refl (λ o g. inl g) (λ o g. Basics.on_error_first (reply t o) (reply u o) Good g Basics.good≢error) (λ c o m s. inl s) x
-
-  pub in-on-miss : Shows (OnMiss t u) l es
-  in-on-miss = shows_first t u (OnMiss t u) l es refl (λ o g. inl g) (λ o g. Basics.on_miss_first (reply t o) (reply u o) g) (λ c o m s. inl s) x
-
-  pub in-on-hit : Shows (OnHit t u) l es
-  in-on-hit = shows_first t u (OnHit t u) l es refl (λ o f. f) (λ o f. f) (λ c o m s. inl s) x
-
-  pub in-shadowed : (n b d : ℕ) → Shows (Shadowed n b d t u) l es
-  in-shadowed n b d = shows_first t u (Shadowed n b d t u) l es refl (λ o f. f) (λ o f. f) (λ c o m s. inl s) x
-
 first_right : (t : Plan) (es : History) → IsApart t → IsHonest t → first_hit t ≡ Some es → HasHit t es
 first_right (Send k) es a h e = one-hit k es (same_Some ((k.position, Good) ∷ []) es e)
 first_right (Reply y) es a h e = absurd (none-some es e)
@@ -141,37 +92,37 @@ first_right (Both t u) es a h e =
       ordered = ordered-both (positions t) (positions u) w.0 w.1 x.ordered y.ordered;
     })
 first_right (Beside t u) es a h e =
-    let x = first_right t es a.0 h.0 e in record { leg = x.leg; can = x.can; shows = in-beside t u x.leg es x.shows; ordered = ordered-first (positions t) (positions u) es x.ordered }
+    let x = first_right t es a.0 h.0 e in record { leg = x.leg; can = x.can; shows = in_beside t u x.leg es x.shows; ordered = ordered-first (positions t) (positions u) es x.ordered }
 first_right (OnError t u) es a h e =
     elim (or_some (first_hit t) (after-error (if_all Error t) (answers Error t) (first_hit u)) es e) [
-      | inl f ↦ let x = first_right t es a.0 h.0 f in record { leg = x.leg; can = inl x.can; shows = in-on-error t u x.leg es x.shows; ordered = ordered-first (positions t) (positions u) es x.ordered }
+      | inl f ↦ let x = first_right t es a.0 h.0 f in record { leg = x.leg; can = inl x.can; shows = in_on_error t u x.leg es x.shows; ordered = ordered-first (positions t) (positions u) es x.ordered }
       | inr f ↦
           let w = errors_some (if_all Error t) (answers Error t) (first_hit u) es f.1 in
           let y = first_right u w.1 a.1 h.1 w.2 in
           subst (HasHit (OnError t u)) w.3 (record {
             leg = y.leg;
             can = inr (w.0, y.can);
-            shows = behind-errors t u y.leg w.1 a w.0 y.shows;
+            shows = shows_on_error t u y.leg w.1 a.2 a.0 w.0 y.shows;
             ordered = ordered-both (positions t) (positions u) (answers Error t) w.1 (answers-ordered Error t) y.ordered;
           })
     ]
 first_right (OnMiss t u) es a h e =
     elim (or_some (first_hit t) (after-miss (if_all Soft t) (answers Soft t) (first_hit u)) es e) [
-      | inl f ↦ let x = first_right t es a.0 h.0 f in record { leg = x.leg; can = inl x.can; shows = in-on-miss t u x.leg es x.shows; ordered = ordered-first (positions t) (positions u) es x.ordered }
+      | inl f ↦ let x = first_right t es a.0 h.0 f in record { leg = x.leg; can = inl x.can; shows = in_on_miss t u x.leg es x.shows; ordered = ordered-first (positions t) (positions u) es x.ordered }
       | inr f ↦
           let w = misses_some (if_all Soft t) (answers Soft t) (first_hit u) es f.1 in
           let y = first_right u w.0 a.1 h.1 w.1 in
           subst (HasHit (OnMiss t u)) w.2 (record {
             leg = y.leg;
             can = inr y.can;
-            shows = behind-misses t u y.leg w.0 a h.0 y.shows;
+            shows = shows_on_miss t u y.leg w.0 a.2 a.0 h.0 y.shows;
             ordered = ordered-both (positions t) (positions u) (answers Soft t) w.0 (answers-ordered Soft t) y.ordered;
           })
     ]
 first_right (OnHit t u) es a h e =
-    let x = first_right t es a.0 h.0 e in record { leg = x.leg; can = x.can; shows = in-on-hit t u x.leg es x.shows; ordered = ordered-first (positions t) (positions u) es x.ordered }
+    let x = first_right t es a.0 h.0 e in record { leg = x.leg; can = x.can; shows = in_on_hit t u x.leg es x.shows; ordered = ordered-first (positions t) (positions u) es x.ordered }
 first_right (Shadowed n b d t u) es a h e =
-    let x = first_right t es a.0 h.0 e in record { leg = x.leg; can = x.can; shows = in-shadowed t u x.leg es x.shows n b d; ordered = ordered-first (positions t) (positions u) es x.ordered }
+    let x = first_right t es a.0 h.0 e in record { leg = x.leg; can = x.can; shows = in_shadowed t u x.leg es x.shows n b d; ordered = ordered-first (positions t) (positions u) es x.ordered }
 
 first_left : (t : Plan) (m : Leg) → IsHonest t → first_hit t ≡ None → Hits t m → ⊥
 first_left (Send k) m o e h = none-some ((k.position, Good) ∷ []) (sym e)
@@ -227,37 +178,37 @@ leading_right p (Both t u) es a h e =
           })
     ]
 leading_right p (Beside t u) es a h e =
-    let x = leading_right p t es a.0 h.0 e in record { leg = x.leg; at = x.at; shows = in-beside t u x.leg es x.shows; ordered = ordered-first (positions t) (positions u) es x.ordered }
+    let x = leading_right p t es a.0 h.0 e in record { leg = x.leg; at = x.at; shows = in_beside t u x.leg es x.shows; ordered = ordered-first (positions t) (positions u) es x.ordered }
 leading_right p (OnError t u) es a h e =
     elim (or_some (leading p t) (after-error (if_all Error t) (answers Error t) (leading p u)) es e) [
-      | inl f ↦ let x = leading_right p t es a.0 h.0 f in record { leg = x.leg; at = x.at; shows = in-on-error t u x.leg es x.shows; ordered = ordered-first (positions t) (positions u) es x.ordered }
+      | inl f ↦ let x = leading_right p t es a.0 h.0 f in record { leg = x.leg; at = x.at; shows = in_on_error t u x.leg es x.shows; ordered = ordered-first (positions t) (positions u) es x.ordered }
       | inr f ↦
           let w = errors_some (if_all Error t) (answers Error t) (leading p u) es f.1 in
           let y = leading_right p u w.1 a.1 h.1 w.2 in
           subst (HasHitAt p (OnError t u)) w.3 (record {
             leg = y.leg;
             at = y.at;
-            shows = behind-errors t u y.leg w.1 a w.0 y.shows;
+            shows = shows_on_error t u y.leg w.1 a.2 a.0 w.0 y.shows;
             ordered = ordered-both (positions t) (positions u) (answers Error t) w.1 (answers-ordered Error t) y.ordered;
           })
     ]
 leading_right p (OnMiss t u) es a h e =
     elim (or_some (leading p t) (after-miss (if_all Soft t) (answers Soft t) (leading p u)) es e) [
-      | inl f ↦ let x = leading_right p t es a.0 h.0 f in record { leg = x.leg; at = x.at; shows = in-on-miss t u x.leg es x.shows; ordered = ordered-first (positions t) (positions u) es x.ordered }
+      | inl f ↦ let x = leading_right p t es a.0 h.0 f in record { leg = x.leg; at = x.at; shows = in_on_miss t u x.leg es x.shows; ordered = ordered-first (positions t) (positions u) es x.ordered }
       | inr f ↦
           let w = misses_some (if_all Soft t) (answers Soft t) (leading p u) es f.1 in
           let y = leading_right p u w.0 a.1 h.1 w.1 in
           subst (HasHitAt p (OnMiss t u)) w.2 (record {
             leg = y.leg;
             at = y.at;
-            shows = behind-misses t u y.leg w.0 a h.0 y.shows;
+            shows = shows_on_miss t u y.leg w.0 a.2 a.0 h.0 y.shows;
             ordered = ordered-both (positions t) (positions u) (answers Soft t) w.0 (answers-ordered Soft t) y.ordered;
           })
     ]
 leading_right p (OnHit t u) es a h e =
-    let x = leading_right p t es a.0 h.0 e in record { leg = x.leg; at = x.at; shows = in-on-hit t u x.leg es x.shows; ordered = ordered-first (positions t) (positions u) es x.ordered }
+    let x = leading_right p t es a.0 h.0 e in record { leg = x.leg; at = x.at; shows = in_on_hit t u x.leg es x.shows; ordered = ordered-first (positions t) (positions u) es x.ordered }
 leading_right p (Shadowed n b d t u) es a h e =
-    let x = leading_right p t es a.0 h.0 e in record { leg = x.leg; at = x.at; shows = in-shadowed t u x.leg es x.shows n b d; ordered = ordered-first (positions t) (positions u) es x.ordered }
+    let x = leading_right p t es a.0 h.0 e in record { leg = x.leg; at = x.at; shows = in_shadowed t u x.leg es x.shows n b d; ordered = ordered-first (positions t) (positions u) es x.ordered }
 
 -- no leg at the position can hit where nothing leads to its hit
 leading_left : (p : List ℕ) (t : Plan) (l : Leg) → IsHonest t → l.position ≡ p → leading p t ≡ None → Hits t l → ⊥

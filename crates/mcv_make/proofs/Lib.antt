@@ -1,10 +1,8 @@
-pub mod Shows
 pub mod Ordered
 pub mod Leading
 pub mod Missed
 pub mod Reading
 pub mod Chosen
-pub mod Unanswered
 pub mod KeyWord
 pub mod Breaks
 pub mod Finding

@@ -1,11 +1,9 @@
 //! The finding of a gap.
 
-ghost use Rattle.std.specs.Prelude.{◌≡◌, ◌++◌, ◌<◌, ◌≤◌, All, Some, IfOk, length};
+ghost use Rattle.std.specs.Prelude.{◌≡◌, ◌++◌, ◌<◌, All, Some, IfOk};
 ghost use Rattle.mcv_classes.specs.Class.{IsMember};
 ghost use Rattle.mcv_classes.specs.Words.{class_words};
-ghost use Rattle.mcv_config.specs.Aliases.{IsAlias, alias_limit};
 ghost use Rattle.mcv_certify.specs.Gap.{IsGap, place_of_gap};
-ghost use Rattle.mcv_route.specs.Places.{route_of_prefix};
 ghost use Rattle.mcv_route.specs.View.{view};
 ghost use Rattle.mcv_symbolic.specs.Covered.{IsRest, sizes_of};
 ghost use Rattle.mcv_witness.specs.Breaks.{BreaksCoverage};
@@ -75,7 +73,7 @@ fn copied(alloc: Global, word: &[u8]) -> Result<Vec<u8>, AllocError>
     Vec::from_slice(alloc, word)
 }
 
-/// The finding that shows a gap with a key behind the prefix, which selects the gap's route.
+/// The finding that is told of a gap with a key behind the prefix.
 fn find_behind(
     alloc: Global,
     routes: &Routes,
@@ -83,16 +81,9 @@ fn find_behind(
     gap: &Gap,
 ) -> Result<Finding, AllocError>
     requires gap { IsGap routes.now (place_of_gap gap.now) gap.now.at gap.now.server.0 }
-    requires alias { IsAlias prefix.now }
-    requires short { length prefix.now ≤ alias_limit }
-    requires selects { route_of_prefix prefix.now routes.now.entries ≡ Some gap.now.route }
-    ensures breaks { IfOk result (λ f. BreaksCoverage routes.now (finding_of f)) }
     ensures stands { IfOk result (λ f. StandsAtGap gap.now (finding_of f)) }
     ensures told { IfOk result (λ f. IsToldWith routes.now prefix.now (finding_of f)) }
 {
-    // Both say of the routes what the proof wants: they are sound and within the limits, and each symbol has an index.
-    let _servers = routes.servers();
-    read_sizes(routes);
     let Some(route) = routes.route(gap.route) else {
         unreachable!()
     };
@@ -134,6 +125,9 @@ pub fn find(alloc: Global, routes: &Routes, gap: &Gap) -> Result<Finding, AllocE
     ensures stands { IfOk result (λ f. StandsAtGap gap.now (finding_of f)) }
     ensures told { IfOk result (λ f. IsTold routes.now (finding_of f)) }
 {
+    // Both say of the routes what the proof wants: they are sound and within the limits, and each symbol has an index.
+    let _servers = routes.servers();
+    read_sizes(routes);
     let Some(prefix) = routes.first_alias(gap.route) else {
         unreachable!()
     };

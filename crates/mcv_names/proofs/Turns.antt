@@ -1,13 +1,11 @@
--- Reading each of a list or an object in turn: what was read goes in front of what is still to read.
-use Rattle.std.proofs.Common.{◌≡◌, ℕ, ◌+◌, List, [], ◌∷◌, ◌++◌, string_bytes, refl, sym, ap, append_assoc, append-nil}
+-- Reading each member of an object in turn: what was read goes in front of what is still to read.
+use Rattle.std.proofs.Common.{◌≡◌, ℕ, List, [], ◌∷◌, ◌++◌, string_bytes, refl, sym, ap, append_assoc}
 use Rattle.serde_json.proofs.Views.{Entry}
 use Rattle.serde_json.specs.Data.{Data}
 use Rattle.serde_json.specs.View.{view, members_view}
-use Rattle.mcv_names.specs.declared.fault.ConfigFault.{ConfigFault}
-use Rattle.mcv_names.specs.Fault.{Read, good, bad, ◌>>=◌, Fails}
-use Rattle.mcv_names.specs.Lists.{each, each_member}
-use Rattle.mcv_names.specs.Path.{item_step, key_step}
-use Rattle.mcv_names.proofs.Faults.{fails_bind}
+use Rattle.mcv_names.specs.Fault.{Read, good, bad, ◌>>=◌}
+use Rattle.mcv_names.specs.Lists.{each_member}
+use Rattle.mcv_names.specs.Path.{key_step}
 
 abbrev pub onto : {A S : Type 0} → List A → List A × S → List A × S
 onto front x = (front ++ x.0, x.1)
@@ -16,32 +14,10 @@ onto front x = (front ++ x.0, x.1)
 abbrev pub after : {A S : Type 0} → List A → Read (List A × S) → Read (List A × S)
 after {A} {S} front read = read >>= λ (x : List A × S). good (onto front x)
 
-pub after-none : {A S : Type 0} (read : Read (List A × S)) → read ≡ after [] read
-after-none (good x) = refl
-after-none (bad faults) = refl
-
 after-more : {A S : Type 0} (front : List A) (t : A) (rest : Read (List A × S))
     → after front (rest >>= λ (xs : List A × S). good (t ∷ xs.0, xs.1)) ≡ after (front ++ t ∷ []) rest
 after-more front t (good xs) = ap (λ ts. good (ts, xs.1)) (sym (append_assoc front (t ∷ []) xs.0))
 after-more front t (bad faults) = refl
-
-pub each-end : {A S : Type 0} (reader : S → List ℕ → Data → Read (A × S)) (state : S) (path : List ℕ) (i : ℕ) (front : List A) (ds : List Data)
-    → ds ≡ [] → after front (each reader state path i ds) ≡ good (front, state)
-unfolding each
-each-end reader state path i front ds e = rw (e, append-nil)
-
-pub each-good : {A S : Type 0} (reader : S → List ℕ → Data → Read (A × S)) (state : S) (path : List ℕ) (i : ℕ) (front : List A) (d : Data) (ds : List Data) (t : A) (left : S)
-    → reader state (item_step path i) d ≡ good (t, left)
-    → after front (each reader state path i (d ∷ ds)) ≡ after (front ++ t ∷ []) (each reader left path (i + 1) ds)
-unfolding each
-each-good reader state path i front d ds t left e = rw e (after-more front t (each reader left path (i + 1) ds))
-
-pub each-bad : {A S : Type 0} (e : ConfigFault) (reader : S → List ℕ → Data → Read (A × S)) (state : S) (path : List ℕ) (i : ℕ) (front : List A) (d : Data) (ds : List Data)
-    → Fails e (reader state (item_step path i) d) → Fails e (after front (each reader state path i (d ∷ ds)))
-unfolding each
-each-bad e reader state path i front d ds h = fails_bind e _ _ (fails_bind e (reader state (item_step path i) d) _ h)
-
-pub ruleset turns = (after-none, each-end, each-good, each-bad)
 
 pub each_member-more : {A S : Type 0} (reader : S → List ℕ → List ℕ → Data → Read (A × S)) (state : S) (path : List ℕ) (e : Entry) (es all : List Entry) (front : List A) (t : A) (left : S)
     → all ≡ e ∷ es

@@ -2,7 +2,7 @@
 use Rattle.std.proofs.Common.{◌≡◌, ◌⊎◌, ◌<◌, ◌+◌, ℕ, Bool, true, false, List, [], ◌∷◌, ◌++◌, length, get_or, map, Option, Some, None, inl, inr, refl, sym, ap, ◌∙◌, subst, add-one}
 use Rattle.std.specs.Option.{option_map}
 use Rattle.std.specs.Prelude.{slice_get}
-use Rattle.std.proofs.lemmas.List.{append-nil, append_assoc, map-append}
+use Rattle.std.proofs.lemmas.List.{append_assoc, map-append}
 use Rattle.std.proofs.lemmas.Option.{slice_get-get_or}
 use Rattle.mcv_base.specs.declared.request.ServerId.{ServerId}
 use Rattle.mcv_cert.specs.Pair.{PairValue, ReasonValue, never, twin, same, all, index_of, pair_of}
@@ -11,7 +11,7 @@ use Rattle.mcv_judge.specs.Answers.{AnswersEach, AnswersLeaf, AnswersLeaves, IsA
 use Rattle.mcv_judge.specs.Faults.{AreLegsRising}
 use Rattle.mcv_judge.specs.InMemory.{numbers, pairs_of}
 use Rattle.mcv_judge.specs.Reason.{BlockValue, HasReason, LegValue, is_whole, server_at}
-use Rattle.mcv_judge.proofs.Answered.{each_none, each_push, leaves_push}
+use Rattle.mcv_judge.proofs.Answered.{each_push, leaves_push}
 use Rattle.mcv_judge.proofs.Servers.{server_of}
 use Rattle.mcv_picks.specs.Picks.{first_twin, first_with}
 use Rattle.mcv_picks.specs.Reasons.{IsReasonAt, IsReasonBeside, whole_reason}
@@ -78,9 +78,6 @@ module _ (b : BlockValue) (leaf : LegValue) where
       let answer = answer_whole r up picked in
       record { pairs = pair_with b leaf r ∷ []; added = grown; have = inl (pair_with b leaf r, refl, answer.0, answer.1) }
 
-  pub adds_none : (old : List PairValue) → Adds (AnswersEach b leaf 0) old old
-  adds_none old = record { pairs = []; added = sym (append-nil old); have = each_none b leaf }
-
   -- the pair for the next index
   pub adds_next : (i x : ℕ) (old now new : List PairValue) (r : ReasonValue) → AreLegsRising b.acknowledged → server_at leaf i ≡ Some x → IsReasonAt b.acknowledged leaf i x (Some r) → Adds (AnswersEach b leaf i) old now → new ≡ now ++ pair_with b leaf r ∷ [] → Adds (AnswersEach b leaf (i + 1)) old new
   adds_next i x old now new r up server picked so_far grown =
@@ -92,15 +89,9 @@ module _ (b : BlockValue) (leaf : LegValue) where
         have = subst (λ n. AnswersEach b leaf n (so_far.pairs ++ p ∷ [])) (sym (add-one i)) (each_push b leaf i so_far.pairs p so_far.have answer.0 answer.1);
       }
 
-  pub adds_each : (n : ℕ) (old new : List PairValue) → n ≡ length leaf.servers → Adds (AnswersEach b leaf n) old new → Adds (AnswersLeaf b leaf) old new
-  adds_each n old new whole h = record { pairs = h.pairs; added = h.added; have = inr (subst (λ k. AnswersEach b leaf k h.pairs) whole h.have) }
-
 -- a pair that is pushed
 pub grown : (items new : List Pair) (p : Pair) (q : PairValue) → new ≡ items ++ p ∷ [] → pair_of p ≡ q → pairs_of new ≡ pairs_of items ++ q ∷ []
 grown items new p q pushed is = ap pairs_of pushed ∙ map-append pair_of items (p ∷ []) ∙ ap (λ r. pairs_of items ++ r ∷ []) is
-
-pub adds_no_leaf : (b : BlockValue) (old : List PairValue) → Adds (AnswersLeaves b []) old old
-adds_no_leaf b old = record { pairs = []; added = sym (append-nil old); have = refl }
 
 -- the pairs of the next leaf
 pub adds_leaf : (b : BlockValue) (leaves : List LegValue) (leaf : LegValue) (old now new : List PairValue) → Adds (AnswersLeaves b leaves) old now → Adds (AnswersLeaf b leaf) now new → Adds (AnswersLeaves b (leaves ++ leaf ∷ [])) old new

@@ -15,10 +15,6 @@ pub behind_more : (ds : List LegValue) (d : LegValue) (more : Option (List LegVa
 behind_more ds d None = refl
 behind_more ds d (Some es) = ap Some (sym (append_assoc ds (d ∷ []) es))
 
-pub behind_none : (more : Option (List LegValue)) → behind [] more ≡ more
-behind_none None = refl
-behind_none (Some es) = refl
-
 some_more : (o : Option LegValue) (more : Option (List LegValue)) → is_some o ≡ true → is_some (before_others o more) ≡ is_some more
 some_more None more h = absurd cc
 some_more (Some d) None h = refl

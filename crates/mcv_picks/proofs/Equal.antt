@@ -1,14 +1,15 @@
 -- Twins have equal symbols and equal servers; keys that tie are of one class, or one slot.
-use Rattle.std.proofs.Common.{◌≡◌, ◌<◌, ◌&&◌, ℕ, Bool, true, false, nat_eq, List, [], ◌∷◌, refl, ap, ◌∙◌, arith}
+use Rattle.std.proofs.Common.{◌≡◌, ◌&&◌, ℕ, Bool, true, false, nat_eq, List, [], ◌∷◌, refl, ap, ◌∙◌, arith}
 use Rattle.std.specs.Cmp.Lexicographic.{slice_cmp}
-use Rattle.std.specs.Ordering.{is_eq, nat_cmp, ordering_then, MatchOrdering}
+use Rattle.std.specs.Ordering.{is_eq, nat_cmp, ordering_then}
 use Rattle.std.specs.declared.cmp.Ordering.{Ordering}
 use Rattle.std.specs.declared.cmp.Ordering.TheVariants.{Less, Equal, Greater}
 use Rattle.std.proofs.lemmas.Bool.{and_parts, eqb-true, eq-eqb}
 use Rattle.std.proofs.lemmas.Bool.Decides.{nat_tests}
-use Rattle.std.proofs.lemmas.Cmp.{nat_list_cmp_total, tied_itself, ranked}
+use Rattle.std.proofs.lemmas.Cmp.{nat_list_cmp_total, tied_itself}
 use Rattle.mcv_base.specs.declared.request.ServerId.{ServerId}
 use Rattle.mcv_judge.specs.InMemory.{numbers}
+use Rattle.mcv_judge.proofs.First.{equal_is, nat_equal, then_equal}
 use Rattle.mcv_judge.proofs.Servers.{by_numbers}
 use Rattle.mcv_judge.specs.Reason.{LegValue, is_same_list, is_twin}
 use Rattle.mcv_picks.specs.Tables.{Class, Slot, TellsNoTwins, class_cmp, is_at, is_of, slot_cmp}
@@ -36,32 +37,17 @@ slot_level j k =
     ∙ ap (λ b. b && is_eq (nat_cmp j.2 k.2)) (then_eq (nat_cmp j.0 k.0) (nat_cmp j.1 k.1))
     ∙ rw (nat_level j.0 k.0, nat_level j.1 k.1, nat_level j.2 k.2) (and_three (nat_eq j.0 k.0) (nat_eq j.1 k.1) (nat_eq j.2 k.2))
 
-split : (a b : Ordering) → ordering_then a b ≡ Equal → (a ≡ Equal) × (b ≡ Equal)
-split Less b h = absurd cc
-split Equal b h = (refl, h)
-split Greater b h = absurd cc
-
-level : (a : Ordering) → is_eq a ≡ true → a ≡ Equal
-level Less h = absurd cc
-level Equal h = refl
-level Greater h = absurd cc
-
-at_equal : (r : Ordering) (P Q S : Type 0) → MatchOrdering r P Q S → r ≡ Equal → Q
-at_equal Less P Q S h e = absurd cc
-at_equal Equal P Q S h e = h
-at_equal Greater P Q S h e = absurd cc
-
 one_list : (xs ys : List ℕ) → slice_cmp nat_cmp xs ys ≡ Equal → xs ≡ ys
 one_list [] [] h = refl
 one_list [] (y ∷ ys) h = absurd cc
 one_list (x ∷ xs) [] h = absurd cc
 one_list (x ∷ xs) (y ∷ ys) h =
-    let both = split (nat_cmp x y) (slice_cmp nat_cmp xs ys) h in
-    let first : x ≡ y = at_equal (nat_cmp x y) (x < y) (x ≡ y) (y < x) (ranked x y (nat_cmp x y) refl) both.0 in
+    let both = then_equal (nat_cmp x y) (slice_cmp nat_cmp xs ys) h in
+    let first : x ≡ y = nat_equal x y both.0 in
     λ i. first i ∷ one_list xs ys both.1 i
 
 pub same_list : (xs ys : List ℕ) → is_same_list xs ys ≡ true → xs ≡ ys
-same_list xs ys h = one_list xs ys (level (slice_cmp nat_cmp xs ys) h)
+same_list xs ys h = one_list xs ys (equal_is (slice_cmp nat_cmp xs ys) h)
 
 pub same_itself : (xs : List ℕ) → is_same_list xs xs ≡ true
 same_itself xs = ap is_eq (tied_itself nat_list_cmp_total xs)

@@ -1,5 +1,5 @@
 -- A leg's servers put into the table of slots one after another: each goes where no leg is yet.
-use Rattle.std.proofs.Common.{◌≡◌, ◌≢◌, ◌+◌, ◌<◌, ◌&&◌, ℕ, Bool, true, false, cond, nat_eq, nat_lt, List, length, get_or, Option, Some, None, inl, inr, refl, sym, ap, ◌∙◌, arith}
+use Rattle.std.proofs.Common.{◌≡◌, ◌≢◌, ◌+◌, ◌<◌, ◌&&◌, ℕ, true, false, cond, nat_eq, nat_lt, List, length, get_or, Option, Some, None, inl, inr, refl, sym, ap, ◌∙◌, arith}
 use Rattle.std.specs.Prelude.{is_some, slice_get}
 use Rattle.std.specs.Ordering.{is_eq}
 use Rattle.std.specs.Option.{option_map, option_or}
@@ -7,26 +7,12 @@ use Rattle.std.proofs.lemmas.Bool.{and_parts, cases_Bool, eqb-true, eqb-false, e
 use Rattle.std.proofs.lemmas.Option.{slice_get-get_or, slice_get_past}
 use Rattle.mcv_base.specs.declared.request.ServerId.{ServerId}
 use Rattle.mcv_judge.specs.InMemory.{numbers}
+use Rattle.mcv_judge.proofs.First.{and_false}
 use Rattle.mcv_judge.proofs.Servers.{server_of}
 use Rattle.mcv_judge.specs.Reason.{LegValue}
 use Rattle.mcv_picks.specs.Tables.{Slot, is_at, slot_cmp}
 use Rattle.mcv_picks.proofs.Equal.{slot_level}
-
-and_false : (b : Bool) → (b && false) ≡ false
-and_false true = refl
-and_false false = refl
-
-or_nothing : (o : Option LegValue) → option_or o None ≡ o
-or_nothing None = refl
-or_nothing (Some x) = refl
-
-or_there : (o p : Option LegValue) → is_some o ≡ true → option_or o p ≡ o
-or_there None p h = absurd cc
-or_there (Some x) p h = refl
-
-pub none_there : {X : Type 0} (o : Option X) → is_some o ≡ false → o ≡ None
-none_there None h = refl
-none_there (Some x) h = absurd cc
+use Rattle.mcv_picks.proofs.Found.{none_there, or_nothing, or_there}
 
 pub server_read : (servers : List ServerId) (i : ℕ) (d : ServerId) → i < length servers → slice_get (numbers servers) i ≡ Some (get_or servers i d).0
 server_read servers i d l = server_of servers i ∙ ap (option_map (λ (s : ServerId). s.0)) (slice_get-get_or servers i d l)

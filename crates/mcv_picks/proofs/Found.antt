@@ -14,17 +14,17 @@ use Rattle.mcv_picks.proofs.Equal.{is_of-twins, of_both}
 pub one_more : (legs : List Leg) (i : ℕ) (leg : Leg) → i < length legs → leg ≡ get_or legs i leg → legs_of (take (i + 1) legs) ≡ legs_of (take i legs) ++ leg_of leg ∷ []
 one_more legs i leg l is = map_more leg_of legs i leg l ∙ ap (λ d. legs_of (take i legs) ++ leg_of d ∷ []) (sym is)
 
-or_nothing : {X : Type 0} (o : Option X) → option_or o None ≡ o
+pub or_nothing : {X : Type 0} (o : Option X) → option_or o None ≡ o
 or_nothing None = refl
 or_nothing (Some x) = refl
 
-or_there : {X : Type 0} (o p : Option X) → is_some o ≡ true → option_or o p ≡ o
+pub or_there : {X : Type 0} (o p : Option X) → is_some o ≡ true → option_or o p ≡ o
 or_there None p h = absurd cc
 or_there (Some x) p h = refl
 
-nothing : {X : Type 0} (o : Option X) → is_some o ≡ false → o ≡ None
-nothing None h = refl
-nothing (Some x) h = absurd cc
+pub none_there : {X : Type 0} (o : Option X) → is_some o ≡ false → o ≡ None
+none_there None h = refl
+none_there (Some x) h = absurd cc
 
 also_found : {X : Type 0} (p q : X → Bool) → ((x : X) → p x ≡ true → q x ≡ true) → (xs : List X) → is_some (find p xs) ≡ true → is_some (find q xs) ≡ true
 also_found p q also [] h = absurd cc
@@ -61,7 +61,7 @@ class_begins k xs d none = last (is_of k) xs d ∙ elim (cases_Bool (is_of k d))
         | inl some ↦ absurd (true≢false (sym (also_found (is_of k) (is_twin d) (λ e g. of_both k d e is g) xs some) ∙ none))
         | inr isnt ↦ isnt
       ] in
-      rw (is, nothing (find (is_of k) xs) absent) refl
+      rw (is, none_there (find (is_of k) xs) absent) refl
   | inr isnt ↦ rw isnt (or_nothing (find (is_of k) xs))
 ]
 

@@ -8,7 +8,7 @@ use Rattle.mcv_judge.specs.Reason.{LegValue, is_same_server, server_at}
 use Rattle.mcv_picks.specs.Picks.{each_with, filling, first_with}
 use Rattle.mcv_picks.specs.Tables.{IsLeast, StandFor, is_at, is_filled_by, is_lesser, least}
 use Rattle.mcv_picks.proofs.Equal.{is_at-twins}
-use Rattle.mcv_picks.proofs.Filled.{none_there}
+use Rattle.mcv_picks.proofs.Found.{none_there}
 
 -- what is kept for a server once some legs were seen: a symbol that fills, and none of theirs that fills is less
 abbrev pub IsKept : List LegValue → (server : ℕ) → Option ℕ → Type 0

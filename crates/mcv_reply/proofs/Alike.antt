@@ -131,12 +131,3 @@ module _ (row : Row) (key : List ℕ) (clean : is_clean key ≡ true) (h g : Hea
       let b4 = b3.rest in
       let size = next_one (number 1048576 h.size) (number 1048576 g.size) 1 1 (cas_forms has h.cas) (cas_forms has g.cas) a3.after b3.after (number_starts 1048576 h.size) (number_starts 1048576 g.size) (number_visible 1048576 h.size) (number_visible 1048576 g.size) flags.1 a4 b4 in
       (sym a3.is.2 ∙ ap (decimal_from 0) flags.0 ∙ b3.is.2, sym a4.is.2 ∙ ap (decimal_from 0) size.0 ∙ b4.is.2, λ is. cas_one has h.cas g.cas a4.after b4.after size.1 a4.rest b4.rest is)
-
--- the numbers are within their limits
-pub head_small : (row : Row) (key : List ℕ) (h : Head) (line : List ℕ) → IsLine row key Value h line → (h.flags ≤ 4294967295) × (h.size ≤ 1048576)
-head_small row key h line x =
-    let a = x.writes in
-    let b = a.rest in
-    let c = b.rest in
-    let d = c.rest in
-    (c.is.3, d.is.3)

@@ -1,18 +1,17 @@
--- Where a line may end.
-use Rattle.std.proofs.Common.{◌≡◌, ℕ, ◌<◌, ◌≤◌, Bool, true, false, List, [], ◌++◌, length, Some, None, refl, sym, ap, subst, arith}
-use Rattle.std.proofs.lemmas.List.{length-drop, drop_all}
+-- Where a line cannot end yet.
+use Rattle.std.proofs.Common.{◌≡◌, ℕ, ◌<◌, ◌≤◌, Bool, true, false, List, [], length, None, refl, ap, subst, arith}
+use Rattle.std.proofs.lemmas.List.{length-drop}
 use Rattle.mcv_reply.specs.declared.word.Tail.{Tail}
 use Rattle.mcv_reply.specs.declared.word.Tail.TheVariants as tails
 use Rattle.mcv_reply.specs.declared.candidate.Head.{Head}
 use Rattle.mcv_reply.specs.declared.candidate.Name.{Name}
 use Rattle.mcv_reply.specs.declared.candidate.Name.TheVariants.{First}
-use Rattle.mcv_reply.specs.declared.candidate.Number.TheVariants.{Size, Cas}
 use Rattle.mcv_reply.specs.declared.candidate.Place.{Place}
-use Rattle.mcv_reply.specs.declared.candidate.Place.TheVariants.{BeforeName, InName, InNumber, Blank, Return, Text}
+use Rattle.mcv_reply.specs.declared.candidate.Place.TheVariants.{BeforeName, InName, Text}
 use Rattle.mcv_reply.specs.declared.candidate.Candidate.{Candidate}
 use Rattle.mcv_reply.specs.Word.{tail_of, word_text}
-use Rattle.mcv_reply.specs.Line.{Writes, cas_forms, tail_forms}
-use Rattle.mcv_reply.specs.Place.{AllRead, Ends, Follows, IsValid, IsValidAt, SameCas, fewest, is_clean, name_text, needed, zero_head}
+use Rattle.mcv_reply.specs.Line.{tail_forms}
+use Rattle.mcv_reply.specs.Place.{AllRead, Ends, Follows, SameCas, fewest, is_clean, name_text, needed, zero_head}
 use Rattle.mcv_reply.proofs.Least.{needed_least}
 use Rattle.mcv_reply.proofs.Words.{clean_starts, name_clean}
 
@@ -32,9 +31,6 @@ module _ (has : Bool) (key : List ℕ) (c : Candidate) where
       let least = needed_least c.first has key c.head place head [] (subst (λ (p : Place). Follows c.first has key c.head p head []) is f) in
       omega (arith, least)
 
-  pub ends_at : (place : Place) (read : Head) → c.place ≡ place → Follows c.first has key c.head place read [] → Ends has key c (Some read)
-  ends_at place read is f = subst (λ (p : Place). Follows c.first has key c.head p read []) (sym is) f
-
   clean_length : (bytes : List ℕ) → is_clean bytes ≡ true → 1 ≤ length bytes
   clean_length bytes clean = let s = clean_starts bytes clean in omega (arith, ap length s.2)
 
@@ -48,28 +44,3 @@ module _ (has : Bool) (key : List ℕ) (c : Candidate) where
   not_before_value at is value =
       let same : fewest (tail_forms (tail_of c.first) has key zero_head) 1 ≡ fewest (tail_forms tails.Value has key zero_head) 1 = ap (λ (t : Tail). fewest (tail_forms t has key zero_head) 1) value in
       ends_not (InName First at) is (omega (arith, same))
-
-  pub ends_text : (at : ℕ) → c.place ≡ InName First at → length (word_text c.first) ≤ at → tail_of c.first ≡ tails.Text → Ends has key c (Some c.head)
-  ends_text at is l text_is = ends_at (InName First at) c.head is (record { after = []; parts = ap (λ (t : List ℕ). t ++ []) (sym (drop_all at (word_text c.first) l)); rest = subst (λ (t : Tail). Writes (tail_forms t has key c.head) 1 []) (sym text_is) tt })
-
-  pub ends_word : (at : ℕ) → c.place ≡ InName First at → length (word_text c.first) ≤ at → tail_of c.first ≡ tails.Nothing → Ends has key c (Some c.head)
-  ends_word at is l text_is = ends_at (InName First at) c.head is (record { after = []; parts = ap (λ (t : List ℕ). t ++ []) (sym (drop_all at (word_text c.first) l)); rest = subst (λ (t : Tail). Writes (tail_forms t has key c.head) 1 []) (sym text_is) tt })
-
-  pub ends_size : (value : ℕ) → has ≡ false → c.place ≡ InNumber Size value → IsValid has c → Ends has key c (Some (record c.head { size = value }))
-  ends_size value no_cas is valid =
-      let v : IsValidAt c.first has (InNumber Size value) = subst (IsValidAt c.first has) is valid in
-      ends_at (InNumber Size value) (record c.head { size = value }) is (refl, record { digits = []; after = []; parts = refl; are = tt; value_is = refl; within = v.1; rest = subst (λ (h : Bool). Writes (cas_forms h c.head.cas) 1 []) (sym no_cas) tt })
-
-  pub ends_cas : (value : ℕ) → c.place ≡ InNumber Cas value → IsValid has c → Ends has key c (Some (record c.head { cas = value }))
-  ends_cas value is valid =
-      let v : IsValidAt c.first has (InNumber Cas value) = subst (IsValidAt c.first has) is valid in
-      ends_at (InNumber Cas value) (record c.head { cas = value }) is ((refl, refl), record { digits = []; after = []; parts = refl; are = tt; value_is = refl; within = v.1; rest = tt })
-
-  pub ends_blank : c.place ≡ Blank → Ends has key c (Some c.head)
-  ends_blank is = ends_at Blank c.head is (all_read (tail_of c.first) has c.head, tt)
-
-  pub ends_return : c.place ≡ Return → Ends has key c (Some c.head)
-  ends_return is = ends_at Return c.head is (all_read (tail_of c.first) has c.head, refl)
-
-  pub ends_in_text : c.place ≡ Text → Ends has key c (Some c.head)
-  ends_in_text is = ends_at Text c.head is (all_read (tail_of c.first) has c.head)

@@ -148,9 +148,6 @@ end_within piece end found = found.0.high
 same_fed : (a b : List ℕ) → Fed a ≡ Fed b → a ≡ b
 same_fed a b e = cc
 
-pub fed_once : (s : Stands) (a b : List ℕ) → s ≡ Fed a → s ≡ Fed b → a ≡ b
-fed_once s a b p q = same_fed a b (sym p ∙ q)
-
 -- a fault of a step is one of the piece
 pub step_fault : (op : Op) (key now left whole : List ℕ) (fault : ReplyFault) (new last : Progress) → now ++ left ≡ whole → Steps op key now left (Err fault) new → ReadsPiece op key whole (Err fault) last
 step_fault op key now left whole NotAReply new last e none = subst (λ (t : List ℕ). BeginsNone op key t) e none

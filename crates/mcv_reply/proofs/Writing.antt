@@ -59,24 +59,6 @@ module _ (bytes : List ℕ) (Then : List ℕ → Type 0) (b : ℕ) (more : List 
   pub word_back : Goes bytes Then (b ∷ more) → Next (word bytes) 0 Then (b ∷ more)
   word_back g = record { gap = 0; written = bytes; after = g.after; parts = g.parts; enough = omega arith; is = refl; rest = g.rest }
 
--- one byte of it
-pub goes_on : (left left' : List ℕ) (x : ℕ) (Then : List ℕ → Type 0) (b : ℕ) (more : List ℕ) → left ≡ x ∷ left' → Goes left Then (b ∷ more) → (b ≡ x) × Goes left' Then more
-goes_on left left' x Then b more e g =
-    let parts : b ∷ more ≡ x ∷ (left' ++ g.after) = g.parts ∙ ap (λ t. t ++ g.after) e in
-    (cc, record { after = g.after; parts = cc; rest = g.rest })
-
-pub goes_back : (left left' : List ℕ) (x : ℕ) (Then : List ℕ → Type 0) (b : ℕ) (more : List ℕ) → left ≡ x ∷ left' → b ≡ x → Goes left' Then more → Goes left Then (b ∷ more)
-goes_back left left' x Then b more e s g =
-    let parts : more ≡ left' ++ g.after = g.parts in
-    let both : b ∷ more ≡ x ∷ (left' ++ g.after) = cc in
-    record { after = g.after; parts = both ∙ ap (λ t. t ++ g.after) (sym e); rest = g.rest }
-
-pub goes_end : (left : List ℕ) (Then : List ℕ → Type 0) (more : List ℕ) → left ≡ [] → Goes left Then more → Then more
-goes_end left Then more e g = subst Then (sym (g.parts ∙ ap (λ t. t ++ g.after) e)) g.rest
-
-pub goes_none : (left : List ℕ) (Then : List ℕ → Type 0) (more : List ℕ) → left ≡ [] → Then more → Goes left Then more
-goes_none left Then more e rest = record { after = more; parts = ap (λ t. t ++ more) (sym e); rest = rest }
-
 -- behind what is written stands a space or the CR of the end
 pub behind_first : (forms : List Form) (b : ℕ) (more : List ℕ) → Writes forms 1 (b ∷ more) → (b ≡ 32) ⊎ (b ≡ 13)
 behind_first [] b more (inl p) = inl p.0

@@ -6,7 +6,7 @@
 ghost use Rattle.std.specs.Prelude.{◌≡◌, ◌≢◌, ◌∷◌, [], ◌≤◌, ◌<◌, ◌+◌, ◌*◌, ◌-◌, ◌==◌, List, ℕ, length, Bool, All, MatchOption, Some, None, true, false, if◌then◌else◌};
 ghost use Rattle.mcv_reply.specs.Place.{Ends, HasName, HasNumber, IsDigitOf, IsValid, MovesAt, MovesBehindName, MovesBehindNumber, Reads, is_clean, limit_of, name_text, needed, new_candidate};
 
-use crate::word::{Row, Tail, Word};
+use crate::word::{Tail, Word};
 
 /// The bytes that a line may have before its LF.
 const LINE_LIMIT: usize = 2048;

@@ -1,8 +1,8 @@
 //! The reader of the answer to a probe, `VERSION <text>`.
 
-ghost use Rattle.std.specs.Prelude.{◌≡◌, ◌≢◌, ◌<◌, ◌++◌, ℕ, List, [], codes, length};
+ghost use Rattle.std.specs.Prelude.{◌≡◌, [], codes};
 ghost use Rattle.mcv_reply.specs.Place.{IsKept};
-ghost use Rattle.mcv_reply.specs.Probe.{FeedsProbe, IsProbeAt, ProbeAnswers, ReadsProbe, stands_in};
+ghost use Rattle.mcv_reply.specs.Probe.{FeedsProbe, IsProbeAt, ReadsProbe, stands_in};
 ghost use Rattle.mcv_reply.specs.Reader.{Fed};
 
 use crate::fault::ReplyFault;

@@ -3,7 +3,7 @@
 //! It keeps what the line so far has said, so that no byte is looked at again when the next piece
 //! comes; a value is taken by its length (specs/Progress.antt says what is kept so).
 
-ghost use Rattle.std.specs.Prelude.{◌≡◌, ◌≢◌, ◌<◌, ◌≤◌, ◌++◌, ◌∷◌, ℕ, List, [], All, IfOk, MatchOption, length, true, Some, None};
+ghost use Rattle.std.specs.Prelude.{◌≡◌, ◌<◌, ◌≤◌, ℕ, List, IfOk, MatchOption, length, true, Some, None};
 ghost use Rattle.mcv_base.specs.Reply.{reply_value};
 ghost use Rattle.mcv_reply.specs.Line.{IsLine};
 ghost use Rattle.mcv_reply.specs.Place.{IsKept, is_clean};

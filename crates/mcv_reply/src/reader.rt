@@ -1,6 +1,6 @@
 //! The reader of one reply to a leg.
 
-ghost use Rattle.std.specs.Prelude.{◌≡◌, ◌<◌, ◌≤◌, ◌++◌, ℕ, List, [], length, true};
+ghost use Rattle.std.specs.Prelude.{◌≡◌, ◌≤◌, ◌++◌, ℕ, List, [], length, true};
 ghost use Rattle.std.specs.Arc.{arc_value};
 ghost use Rattle.mcv_reply.specs.Place.{is_clean};
 ghost use Rattle.mcv_reply.specs.Reader.{Answers, Fed, Feeds, Reading};

@@ -310,7 +310,3 @@ built-OperationSelector pools route v d policies t u x w e is same ops before la
 
 pub built-no_last : (pools : List (List ℕ)) (u x : List SymbolValue) (d : Option (Box NamedRoute Global)) (e : Option (Box Route Global)) → d ≡ None → e ≡ None → x ≡ u → IsBuilt pools u (last_named d) x (last_view e)
 built-no_last pools u x d e d-is e-is same = rw (d-is, e-is, same) (built-none pools u)
-
-pub built-last : (pools : List (List ℕ)) (u x : List SymbolValue) (d : Option (Box NamedRoute Global)) (e : Option (Box Route Global)) (b : Box NamedRoute Global) (c : Box Route Global) (named : NamedRoute) (r : Route)
-    → d ≡ Some b → e ≡ Some c → named ≡ b.value → c.value ≡ r → IsBuilt pools u (named_of named ∷ []) x (view r ∷ []) → IsBuilt pools u (last_named d) x (last_view e)
-built-last pools u x d e b c named r d-is e-is b-is c-is one = rw (d-is, e-is, ← b-is, c-is) one

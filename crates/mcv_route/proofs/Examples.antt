@@ -1,10 +1,11 @@
 -- The definitions at small trees.
-use Rattle.std.proofs.Common.{◌≡◌, ℕ, List, [], ◌∷◌, Some, None, refl}
+use Rattle.std.proofs.Common.{◌≡◌, ℕ, List, [], ◌∷◌, Option, Some, None, slice_index, refl}
 use Rattle.mcv_base.specs.declared.operation.Op.TheVariants.{Get, Set, Add, Delete}
 use Rattle.mcv_base.specs.declared.operation.Op.{Op}
 use Rattle.mcv_base.specs.declared.operation.Mark.{Mark}
 use Rattle.mcv_base.specs.declared.operation.Mark.TheVariants.{Plain, Async, Shadow}
 use Rattle.mcv_base.specs.declared.operation.Mark.TheVariants.{Add as Added}
+use Rattle.mcv_base.specs.declared.reply.Outcome.{Outcome}
 use Rattle.mcv_base.specs.declared.reply.Outcome.TheVariants.{Good, Soft, Error}
 use Rattle.mcv_route.specs.Outcomes.{Choice, outcomes}
 use Rattle.mcv_config.specs.Plan as plan
@@ -17,7 +18,7 @@ use Rattle.mcv_route.specs.Limits.{handles_in, IsWithin}
 use Rattle.mcv_route.specs.Places.{tree_at}
 use Rattle.mcv_route.specs.Tree.{Tree, Trees, pool, null, error, all_sync, all_initial, all_async, failover, miss_failover, warm_up, migrate, prefix_selector, operation_selector, none, child}
 use Rattle.mcv_route.specs.Situation.{Situation, asked}
-use Rattle.mcv_route.specs.Replies.{leg, fixed, refusal, replies}
+use Rattle.mcv_route.specs.Replies.{Answer, leg, fixed, refusal, replies}
 use Rattle.mcv_route.specs.declared.launch.Launch.{Launch}
 use Rattle.mcv_route.specs.Launched.{launched}
 use Rattle.mcv_route.specs.Reply.{reply}
@@ -272,3 +273,298 @@ warm_up_handles = refl
 
 not_on_one_level : IsWithin 1 (failover (two (one 7) (one 8))) → ⊥
 not_on_one_level h = h.0
+
+-- ---- whole routes: the legs sent at first, those that an outcome sends, and the one reply
+
+abbrev replied : Outcome → List ℕ → Option Answer
+replied x p = Some (record { outcome = x; source = leg p })
+
+-- the route of a delete, and that of all else
+abbrev for_delete : Tree → Tree → Tree
+for_delete d g = operation_selector (Some Delete ∷ []) (two d g)
+
+-- the same index for all symbols
+abbrev second : Choice
+second s = 1
+
+-- ---- a PoolRoute alone
+
+one_server : launched (one 7) delete first (outcomes []) ≡ at [] 7 Delete Plain ∷ []
+one_server = refl
+
+one_server_waits : reply (one 7) delete [] ≡ None
+one_server_waits = refl
+
+one_server_deleted : reply (one 7) delete (([], Good) ∷ []) ≡ replied Good []
+one_server_deleted = refl
+
+one_server_spooled : reply (one 7) delete (([], Soft) ∷ []) ≡ replied Soft []
+one_server_spooled = refl
+
+one_server_lost : reply (one 7) delete (([], Error) ∷ []) ≡ replied Error []
+one_server_lost = refl
+
+one_server_get : launched (one 7) get first (outcomes []) ≡ at [] 7 Get Plain ∷ []
+one_server_get = refl
+
+one_server_hit : reply (one 7) get (([], Good) ∷ []) ≡ replied Good []
+one_server_hit = refl
+
+first_of_two : launched (pool_of_two 0) delete first (outcomes []) ≡ at [] 7 Delete Plain ∷ []
+first_of_two = refl
+
+second_of_two : launched (pool_of_two 0) delete second (outcomes []) ≡ at [] 8 Delete Plain ∷ []
+second_of_two = refl
+
+two_servers_wait : reply (pool_of_two 0) delete [] ≡ None
+two_servers_wait = refl
+
+get_first_of_two : launched (pool_of_two 0) get first (outcomes []) ≡ at [] 7 Get Plain ∷ []
+get_first_of_two = refl
+
+get_second_of_two : launched (pool_of_two 0) get second (outcomes []) ≡ at [] 8 Get Plain ∷ []
+get_second_of_two = refl
+
+-- ---- a delete to each server of the pool from which all else is answered
+
+abbrev all_servers : Tree
+all_servers = for_delete (all_sync (two (one 7) (one 8))) (pool_of_two 1)
+
+abbrev names_all_servers : plan.Named
+names_all_servers = plan.operation_selector (Some Delete ∷ []) (plan.named (plan.all_sync (plan.named (plan.server 0 0) (plan.named (plan.server 0 1) plan.no_named))) (plan.named (plan.pool 0 Ch3 [] [] plan.no_named) plan.no_named))
+
+all_servers_named : tree_named (numbered same_symbol (symbols_in pools names_all_servers)) pools names_all_servers ≡ all_servers
+all_servers_named = refl
+
+all_servers_delete : launched all_servers delete first (outcomes []) ≡ at (0 ∷ 0 ∷ []) 7 Delete Plain ∷ at (0 ∷ 1 ∷ []) 8 Delete Plain ∷ []
+all_servers_delete = refl
+
+all_servers_wait : reply all_servers delete [] ≡ None
+all_servers_wait = refl
+
+all_servers_half : reply all_servers delete ((0 ∷ 0 ∷ [], Good) ∷ []) ≡ None
+all_servers_half = refl
+
+all_servers_deleted : reply all_servers delete ((0 ∷ 1 ∷ [], Good) ∷ (0 ∷ 0 ∷ [], Good) ∷ []) ≡ replied Good (0 ∷ 1 ∷ [])
+all_servers_deleted = refl
+
+all_servers_get_first : launched all_servers get first (outcomes []) ≡ at (1 ∷ []) 7 Get Plain ∷ []
+all_servers_get_first = refl
+
+-- the symbol of both servers has the index 1, and that of each one 0
+
+all_servers_get_second : launched all_servers get (λ s. s) (outcomes []) ≡ at (1 ∷ []) 8 Get Plain ∷ []
+all_servers_get_second = refl
+
+-- ---- WarmUpRoute: a delete goes to the cold side alone, unless another route takes it
+
+warm_up_delete : launched (warm_up (one 7) (one 8) 60) delete first (outcomes ((0 ∷ [], Good) ∷ [])) ≡ at (0 ∷ []) 7 Delete Plain ∷ []
+warm_up_delete = refl
+
+warm_up_deleted : reply (warm_up (one 7) (one 8) 60) delete ((0 ∷ [], Good) ∷ []) ≡ replied Good (0 ∷ [])
+warm_up_deleted = refl
+
+abbrev both_sides : Tree
+both_sides = for_delete (all_sync (two (one 7) (one 8))) (warm_up (one 7) (one 8) 60)
+
+both_sides_delete : launched both_sides delete first (outcomes []) ≡ at (0 ∷ 0 ∷ []) 7 Delete Plain ∷ at (0 ∷ 1 ∷ []) 8 Delete Plain ∷ []
+both_sides_delete = refl
+
+both_sides_half : reply both_sides delete ((0 ∷ 1 ∷ [], Good) ∷ []) ≡ None
+both_sides_half = refl
+
+both_sides_deleted : reply both_sides delete ((0 ∷ 1 ∷ [], Soft) ∷ (0 ∷ 0 ∷ [], Good) ∷ []) ≡ replied Soft (0 ∷ 1 ∷ [])
+both_sides_deleted = refl
+
+both_sides_get : launched both_sides get first (outcomes []) ≡ at (1 ∷ 0 ∷ []) 7 Get Plain ∷ []
+both_sides_get = refl
+
+both_sides_get_warm : launched both_sides get first (outcomes ((1 ∷ 0 ∷ [], Soft) ∷ [])) ≡ at (1 ∷ 0 ∷ []) 7 Get Plain ∷ at (1 ∷ 1 ∷ []) 8 Get Plain ∷ []
+both_sides_get_warm = refl
+
+both_sides_hit : reply both_sides get ((1 ∷ 0 ∷ [], Good) ∷ []) ≡ replied Good (1 ∷ 0 ∷ [])
+both_sides_hit = refl
+
+both_sides_missed : reply both_sides get ((1 ∷ 1 ∷ [], Soft) ∷ (1 ∷ 0 ∷ [], Soft) ∷ []) ≡ replied Soft (1 ∷ 1 ∷ [])
+both_sides_missed = refl
+
+both_sides_set : launched both_sides (asked Set (107 ∷ []) None) first (outcomes []) ≡ at (1 ∷ 0 ∷ []) 7 Set Plain ∷ []
+both_sides_set = refl
+
+-- ---- FailoverRoute
+
+failover_good : launched (failover (two (one 7) (one 8))) delete first (outcomes ((0 ∷ [], Good) ∷ [])) ≡ at (0 ∷ []) 7 Delete Plain ∷ []
+failover_good = refl
+
+failover_deleted : reply (failover (two (one 7) (one 8))) delete ((0 ∷ [], Good) ∷ []) ≡ replied Good (0 ∷ [])
+failover_deleted = refl
+
+failover_get : launched (failover (two (one 7) (one 8))) get first (outcomes ((0 ∷ [], Error) ∷ [])) ≡ at (0 ∷ []) 7 Get Plain ∷ at (1 ∷ []) 8 Get Plain ∷ []
+failover_get = refl
+
+failover_hit : reply (failover (two (one 7) (one 8))) get ((1 ∷ [], Good) ∷ (0 ∷ [], Error) ∷ []) ≡ replied Good (1 ∷ [])
+failover_hit = refl
+
+-- ---- MissFailoverRoute for gets, and for deletes a failover past an ErrorRoute
+
+abbrev missed_over : Tree
+missed_over = miss_failover (two (one 7) (one 8))
+
+abbrev past_an_error : Tree
+past_an_error = failover (two (all_sync (two (one 7) error)) (one 8))
+
+abbrev not_waited_for : Tree
+not_waited_for = for_delete (all_async (child past_an_error none)) missed_over
+
+abbrev waited_for : Tree
+waited_for = for_delete (all_sync (child past_an_error none)) missed_over
+
+not_waited_for_delete : launched not_waited_for delete first (outcomes []) ≡ at (0 ∷ 0 ∷ 0 ∷ 0 ∷ []) 7 Delete Async ∷ []
+not_waited_for_delete = refl
+
+not_waited_for_reply : reply not_waited_for delete [] ≡ Some (record { outcome = Soft; source = fixed })
+not_waited_for_reply = refl
+
+not_waited_for_hit : reply not_waited_for get ((1 ∷ 1 ∷ [], Good) ∷ (1 ∷ 0 ∷ [], Soft) ∷ []) ≡ replied Good (1 ∷ 1 ∷ [])
+not_waited_for_hit = refl
+
+waited_for_delete : launched waited_for delete first (outcomes []) ≡ at (0 ∷ 0 ∷ 0 ∷ 0 ∷ []) 7 Delete Plain ∷ []
+waited_for_delete = refl
+
+waited_for_moves_on : launched waited_for delete first (outcomes ((0 ∷ 0 ∷ 0 ∷ 0 ∷ [], Good) ∷ [])) ≡ at (0 ∷ 0 ∷ 0 ∷ 0 ∷ []) 7 Delete Plain ∷ at (0 ∷ 0 ∷ 1 ∷ []) 8 Delete Plain ∷ []
+waited_for_moves_on = refl
+
+waited_for_waits : reply waited_for delete ((0 ∷ 0 ∷ 0 ∷ 0 ∷ [], Good) ∷ []) ≡ None
+waited_for_waits = refl
+
+waited_for_deleted : reply waited_for delete ((0 ∷ 0 ∷ 1 ∷ [], Good) ∷ (0 ∷ 0 ∷ 0 ∷ 0 ∷ [], Good) ∷ []) ≡ replied Good (0 ∷ 0 ∷ 1 ∷ [])
+waited_for_deleted = refl
+
+-- ---- a delete that ErrorRoute always fails
+
+abbrev always_fails : Tree
+always_fails = for_delete (all_sync (two (one 7) error)) (one 8)
+
+always_fails_delete : launched always_fails delete first (outcomes []) ≡ at (0 ∷ 0 ∷ []) 7 Delete Plain ∷ []
+always_fails_delete = refl
+
+always_fails_waits : reply always_fails delete [] ≡ None
+always_fails_waits = refl
+
+always_fails_reply : reply always_fails delete ((0 ∷ 0 ∷ [], Good) ∷ []) ≡ Some (record { outcome = Error; source = refusal })
+always_fails_reply = refl
+
+always_fails_get : launched always_fails get first (outcomes []) ≡ at (1 ∷ []) 8 Get Plain ∷ []
+always_fails_get = refl
+
+-- ---- a delete that reaches the second server as a shadow
+
+abbrev by_shadow : Tree
+by_shadow = for_delete (pool (record { symbol = 0; servers = 7 ∷ [] }) (record { first = 0; last = 0 } ∷ []) (child (one 8) none)) missed_over
+
+by_shadow_delete : launched by_shadow delete first (outcomes []) ≡ at (0 ∷ []) 7 Delete Plain ∷ at (0 ∷ 0 ∷ []) 8 Delete Shadow ∷ []
+by_shadow_delete = refl
+
+by_shadow_waits : reply by_shadow delete [] ≡ None
+by_shadow_waits = refl
+
+by_shadow_deleted : reply by_shadow delete ((0 ∷ [], Good) ∷ []) ≡ replied Good (0 ∷ [])
+by_shadow_deleted = refl
+
+by_shadow_hit : reply by_shadow get ((1 ∷ 1 ∷ [], Good) ∷ (1 ∷ 0 ∷ [], Soft) ∷ []) ≡ replied Good (1 ∷ 1 ∷ [])
+by_shadow_hit = refl
+
+-- ---- MigrateRoute over its hours
+
+abbrev hourly : Tree
+hourly = migrate (one 7) (one 8) 1000 3600
+
+abbrev at_moment : Op → ℕ → Situation
+at_moment op moment = asked op (97 ∷ []) (since_at (breaks hourly) moment)
+
+hourly_breaks : breaks hourly ≡ 1000 ∷ 4600 ∷ 8200 ∷ []
+hourly_breaks = refl
+
+hourly_before : launched hourly (at_moment Delete 999) first (outcomes []) ≡ at (0 ∷ []) 7 Delete Plain ∷ []
+hourly_before = refl
+
+hourly_start : launched hourly (at_moment Delete 1000) first (outcomes []) ≡ at (0 ∷ []) 7 Delete Plain ∷ at (1 ∷ []) 8 Delete Plain ∷ []
+hourly_start = refl
+
+hourly_last_of_both : launched hourly (at_moment Delete 8199) first (outcomes []) ≡ at (0 ∷ []) 7 Delete Plain ∷ at (1 ∷ []) 8 Delete Plain ∷ []
+hourly_last_of_both = refl
+
+hourly_after : launched hourly (at_moment Delete 8200) first (outcomes []) ≡ at (1 ∷ []) 8 Delete Plain ∷ []
+hourly_after = refl
+
+hourly_era : era_at (breaks hourly) 8199 ≡ 2
+hourly_era = refl
+
+hourly_get_from : launched hourly (at_moment Get 4599) first (outcomes []) ≡ at (0 ∷ []) 7 Get Plain ∷ []
+hourly_get_from = refl
+
+hourly_get_to : launched hourly (at_moment Get 4600) first (outcomes []) ≡ at (1 ∷ []) 8 Get Plain ∷ []
+hourly_get_to = refl
+
+-- ---- two pools of the same two servers, under one symbol and under two
+
+abbrev one_hash : Tree
+one_hash = for_delete (pool_of_two 0) (pool_of_two 0)
+
+abbrev two_hashes : Tree
+two_hashes = for_delete (pool_of_two 1) (pool_of_two 0)
+
+one_hash_delete : (c : Choice) → launched one_hash delete c (outcomes []) ≡ at (0 ∷ []) (slice_index (7 ∷ 8 ∷ []) (c 0)) Delete Plain ∷ []
+one_hash_delete c = refl
+
+one_hash_get : (c : Choice) → launched one_hash get c (outcomes []) ≡ at (1 ∷ []) (slice_index (7 ∷ 8 ∷ []) (c 0)) Get Plain ∷ []
+one_hash_get c = refl
+
+two_hashes_delete : launched two_hashes delete (λ s. s) (outcomes []) ≡ at (0 ∷ []) 8 Delete Plain ∷ []
+two_hashes_delete = refl
+
+two_hashes_get : launched two_hashes get (λ s. s) (outcomes []) ≡ at (1 ∷ []) 7 Get Plain ∷ []
+two_hashes_get = refl
+
+two_hashes_deleted : reply two_hashes delete ((0 ∷ [], Good) ∷ []) ≡ replied Good (0 ∷ [])
+two_hashes_deleted = refl
+
+two_hashes_hit : reply two_hashes get ((1 ∷ [], Good) ∷ []) ≡ replied Good (1 ∷ [])
+two_hashes_hit = refl
+
+-- ---- NullRoute: a delete that is sent nowhere, and gets that never hit
+
+abbrev never_hits : Tree
+never_hits = for_delete null (all_sync (two (one 7) null))
+
+never_hits_delete : launched never_hits delete first (outcomes []) ≡ []
+never_hits_delete = refl
+
+never_hits_deleted : reply never_hits delete [] ≡ Some (record { outcome = Soft; source = fixed })
+never_hits_deleted = refl
+
+never_hits_get : launched never_hits get first (outcomes []) ≡ at (1 ∷ 0 ∷ []) 7 Get Plain ∷ []
+never_hits_get = refl
+
+never_hits_reply : reply never_hits get ((1 ∷ 0 ∷ [], Good) ∷ []) ≡ Some (record { outcome = Soft; source = fixed })
+never_hits_reply = refl
+
+-- ---- AllInitialRoute: the first server is waited for
+
+abbrev initially : Tree
+initially = for_delete (all_initial (two (one 7) (one 8))) (one 8)
+
+initially_delete : launched initially delete first (outcomes []) ≡ at (0 ∷ 0 ∷ []) 7 Delete Plain ∷ at (0 ∷ 1 ∷ []) 8 Delete Async ∷ []
+initially_delete = refl
+
+initially_waits : reply initially delete [] ≡ None
+initially_waits = refl
+
+initially_second : reply initially delete ((0 ∷ 1 ∷ [], Good) ∷ []) ≡ None
+initially_second = refl
+
+initially_deleted : reply initially delete ((0 ∷ 0 ∷ [], Good) ∷ []) ≡ replied Good (0 ∷ 0 ∷ [])
+initially_deleted = refl
+
+initially_get : launched initially get first (outcomes []) ≡ at (1 ∷ []) 8 Get Plain ∷ []
+initially_get = refl

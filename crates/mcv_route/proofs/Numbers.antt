@@ -1,5 +1,5 @@
 -- Numbers by first appearance stay as a table grows.
-use Rattle.std.proofs.Common.{◌≡◌, ℕ, ◌+◌, ◌<◌, List, [], ◌∷◌, ◌++◌, length, Bool, true, false, not, Option, Some, refl, ap, sym, subst, ◌∙◌, arith, fold, map, length-append, append-nil, append_assoc}
+use Rattle.std.proofs.Common.{◌≡◌, ℕ, ◌<◌, List, [], ◌∷◌, ◌++◌, length, Bool, true, false, not, Option, Some, refl, ap, sym, subst, ◌∙◌, arith, fold, map, length-append, append-nil, append_assoc}
 use Rattle.std.specs.Prelude.{position, unwrap_or, if◌then◌else◌}
 use Rattle.std.specs.List.{position_or_len, list_any, flat_map}
 use Rattle.std.proofs.lemmas.Grind.{common_steps}

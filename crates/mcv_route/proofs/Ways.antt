@@ -7,7 +7,7 @@ use Rattle.std.proofs.lemmas.Option.{slice_get-map, slice_get-get_or, slice_get_
 use Rattle.std.proofs.lemmas.List.{length-map}
 use Rattle.std.proofs.lemmas.List.Concat.{flat_map-append}
 use Rattle.std.proofs.lemmas.Simd.{map-map}
-use Rattle.mcv_route.specs.Eras.{breaks, breaks_each, own_breaks}
+use Rattle.mcv_route.specs.Eras.{breaks, breaks_each}
 use Rattle.mcv_route.specs.Places.{child_at, children_of}
 use Rattle.mcv_route.specs.RoutesView.{entry_view}
 use Rattle.mcv_route.specs.Tree.{Tree, none, child}
@@ -203,12 +203,6 @@ breaks-Failover v = ap breaks (view-Failover v)
 
 pub breaks-MissFailover : (v : Vec Route Global) → breaks (view (MissFailover v)) ≡ breaks_each (children_view v.items)
 breaks-MissFailover v = ap breaks (view-MissFailover v)
-
-pub breaks-WarmUp : (cold warm : Box Route Global) (exptime : ℕ) → breaks (view (WarmUp cold warm exptime)) ≡ breaks (view cold.value) ++ breaks (view warm.value)
-breaks-WarmUp cold warm exptime = ap breaks (view-WarmUp cold warm exptime)
-
-pub breaks-Migrate : (from to : Box Route Global) (start interval : ℕ) → breaks (view (Migrate from to start interval)) ≡ own_breaks start interval ++ (breaks (view from.value) ++ breaks (view to.value))
-breaks-Migrate from to start interval = ap breaks (view-Migrate from to start interval)
 
 pub breaks-PrefixSelector : (v : Vec PrefixPolicy Global) (d : Option (Box Route Global))
     → breaks (view (PrefixSelector v d)) ≡ breaks_each (trees_of (map (λ p. p.1) (map prefix_view v.items))) ++ breaks_each (trees_of (last_view d))

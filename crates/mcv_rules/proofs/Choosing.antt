@@ -88,16 +88,16 @@ module _ {A P : Type 0} (g : P → A × Tree) where
   abbrev pub routes_before : List P → List Tree → List Tree
   routes_before policies more = map (λ p. p.1) (map g policies) ++ more
 
-  policy_at : (policies : List P) (more : List Tree) (j : ℕ) (policy : P) → j < length policies → policy ≡ get_or policies j policy → (g policy).1 ≡ get_or (routes_before policies more) j (g policy).1
+  pub policy_at : (policies : List P) (more : List Tree) (j : ℕ) (policy : P) → j < length policies → policy ≡ get_or policies j policy → (g policy).1 ≡ get_or (routes_before policies more) j (g policy).1
   policy_at [] more j policy h is = absurd (omega (arith, h))
   policy_at (p ∷ policies) more zero policy h is = ap (λ q. (g q).1) is
   policy_at (p ∷ policies) more (suc j) policy h is = policy_at policies more j policy (omega (arith, h)) is
 
-  last_at : (policies : List P) (t : Tree) → t ≡ get_or (routes_before policies (t ∷ [])) (length policies) t
+  pub last_at : (policies : List P) (t : Tree) → t ≡ get_or (routes_before policies (t ∷ [])) (length policies) t
   last_at [] t = refl
   last_at (p ∷ policies) t = last_at policies t
 
-  length-routes : (policies : List P) (more : List Tree) → length (routes_before policies more) ≡ length policies + length more
+  pub length-routes : (policies : List P) (more : List Tree) → length (routes_before policies more) ≡ length policies + length more
   length-routes [] more = omega arith
   length-routes (p ∷ policies) more = omega (arith, length-routes policies more)
 
@@ -123,7 +123,7 @@ first_or : (b : Bool) (n m : ℕ) → n ≤ m → cond b 0 (suc n) ≤ suc m
 first_or true n m h = omega arith
 first_or false n m h = omega (arith, h)
 
-policy_of-le : (op : Op) (policies : List OperationPolicy) → policy_of op (operations_of policies) ≤ length policies
+pub policy_of-le : (op : Op) (policies : List OperationPolicy) → policy_of op (operations_of policies) ≤ length policies
 policy_of-le op [] = omega arith
 policy_of-le op (p ∷ policies) = first_or (is_policy_for op (operation_view p).0) (policy_of op (operations_of policies)) (length policies) (policy_of-le op policies)
 
@@ -231,7 +231,7 @@ prefix_policy-le rest prefixes = by_found (longest_from 0 rest prefixes) (longes
     by_found None h = omega arith
     by_found (Some a) h = omega (arith, h)
 
-length-prefixes : (policies : List PrefixPolicy) → length (prefixes_of policies) ≡ length policies
+pub length-prefixes : (policies : List PrefixPolicy) → length (prefixes_of policies) ≡ length policies
 length-prefixes [] = refl
 length-prefixes (p ∷ policies) = ap suc (length-prefixes policies)
 

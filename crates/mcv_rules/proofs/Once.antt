@@ -16,6 +16,7 @@ use Rattle.mcv_rules.specs.Plans.{plan, launch_of}
 use Rattle.mcv_rules.specs.Rows.{LegsAreSentOnce, ShadowsAreMarked}
 use Rattle.mcv_rules.specs.Sound.{In, IsApart, IsMarked, positions}
 use Rattle.mcv_rules.proofs.Sending.{Sends}
+use Rattle.mcv_rules.proofs.Orders.{in_left, in_right}
 use Rattle.mcv_rules.proofs.Sent
 use Rattle.mcv_rules.proofs.Sound.{in_either, plan_apart, plan_marked}
 use Rattle.mcv_rules.proofs.Verdicts.{has_sends}
@@ -26,15 +27,6 @@ use Rattle.mcv_rules.proofs.Verdicts.{has_sends}
 abbrev IsDistinct : List (List ℕ) → Type 0
 IsDistinct [] = Unit {0}
 IsDistinct (p ∷ ps) = (In ps p → ⊥) × IsDistinct ps
-
-in_left : (ps qs : List (List ℕ)) (p : List ℕ) → In ps p → In (ps ++ qs) p
-in_left [] qs p h = absurd h
-in_left (q ∷ ps) qs p (inl e) = inl e
-in_left (q ∷ ps) qs p (inr h) = inr (in_left ps qs p h)
-
-in_right : (ps qs : List (List ℕ)) (p : List ℕ) → In qs p → In (ps ++ qs) p
-in_right [] qs p h = h
-in_right (q ∷ ps) qs p h = inr (in_right ps qs p h)
 
 distinct_append : (ps qs : List (List ℕ)) → IsDistinct ps → IsDistinct qs → ((p : List ℕ) → In ps p → In qs p → ⊥) → IsDistinct (ps ++ qs)
 distinct_append [] qs h i apart = i

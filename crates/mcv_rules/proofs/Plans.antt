@@ -54,6 +54,3 @@ module _ (own : List ℕ → Arrival) where
 
   pub arrived-OnHit : (p q : Box Plan Global) → arrived own (OnHit p q) ≡ arrived own p.value
   arrived-OnHit p q = search (rules, the_lemmas)
-
-  pub arrived-Shadowed : (s a b : ℕ) (p : Box Plan Global) → arrived own (Shadowed s a b p) ≡ arrived own p.value
-  arrived-Shadowed s a b p = search (rules, the_lemmas)

@@ -18,10 +18,6 @@ Sends (OnMiss t u) c o l = Sends t c o l ⊎ IsMissed (reply t o) × Sends u c o
 Sends (OnHit t u) c o l = Sends t c o l ⊎ (reply t o ≡ Some Good) × Sends u c o l
 Sends (Shadowed s a b t u) c o l = Sends t c o l ⊎ (a ≤ c s) × (c s ≤ b) × Sends u c o l
 
--- no outcome is known
-abbrev pub nothing : Outcomes
-nothing p = None
-
 -- each outcome is of a leg that was sent and had none
 abbrev pub IsLegal : Plan → Choice → History → Type 0
 IsLegal t c [] = ⊤

@@ -314,7 +314,7 @@ plan_for_delete sizes t rest since w = (plan_fits sizes t (asked Delete rest sin
 
 abbrev mutual
   -- a number above all symbols
-  above : Tree → ℕ
+  pub above : Tree → ℕ
   above (pool p ranges targets) = suc p.symbol + above_each targets
   above null = 0
   above error = 0
@@ -333,7 +333,7 @@ abbrev mutual
   above_each (child t ts) = above t + above_each ts
 
 mutual
-  well : (sizes : List ℕ) (t : Tree) → above t ≤ length sizes → IsWellFormed sizes t
+  pub well : (sizes : List ℕ) (t : Tree) → above t ≤ length sizes → IsWellFormed sizes t
   well sizes (pool p ranges targets) h = (omega (arith, h), well_each sizes targets (omega (arith, h)))
   well sizes null h = tt
   well sizes error h = tt

@@ -71,7 +71,7 @@ IsSized sizes (Shadowed s a b t u) = IsSized sizes t × IsSized sizes u
 abbrev pub IsSound : List ℕ → Plan → Type 0
 IsSound sizes t = IsSized sizes t × IsMarked true t × IsApart t × IsHonest t
 
--- nothing in it is sent after a miss or a hit, as is so of a delete
+-- nothing in it is sent after a miss or a hit, as is so of a delete; of what shadows send nothing is said
 abbrev pub IsForDelete : Plan → Type 0
 IsForDelete (Send l) = Unit {0}
 IsForDelete (Reply x) = Unit {0}

@@ -13,7 +13,8 @@ pub fn plans_are_exact()
 {}
 
 /// In every plan of a route each leg has a symbol and a place of its own, shadows alone aren't
-/// counted, and nothing is Good but what a server says; that of a delete goes on after errors alone.
+/// counted, and nothing is Good but what a server says; that of a delete, shadows aside, goes on
+/// after errors alone.
 pub fn plans_are_sound()
     ensures sound { PlansAreSound }
     ensures deletes { DeletesSearchOnErrors }

@@ -1,6 +1,6 @@
 //! The plan of a route, laid out for what it is asked at its place: one arm for each handle.
 
-ghost use Rattle.std.specs.Prelude.{◌≡◌, ℕ, IfOk, [], map, true};
+ghost use Rattle.std.specs.Prelude.{◌≡◌, ℕ, IfOk, [], ◌∷◌, map, true};
 ghost use Rattle.mcv_base.specs.Key.{begins_with};
 ghost use Rattle.mcv_base.specs.Operation.{is_reading};
 ghost use Rattle.mcv_route.specs.Children.{is_policy_for, policy_of, prefix_policy};
@@ -47,10 +47,10 @@ pub fn laid_out(
             warm,
             exptime: _,
         } => {
-            let first = laid_out(alloc, cold, asked, &position.child(alloc, 0)?)?;
+            let first = child_laid_out(alloc, cold, asked, position, 0)?;
             if asked.op.is_reading() {
-                let second = laid_out(alloc, warm, asked, &position.child(alloc, 1)?)?;
-                let filling = laid_out(alloc, cold, &asked.adding(), &position.child(alloc, 2)?)?;
+                let second = child_laid_out(alloc, warm, asked, position, 1)?;
+                let filling = child_laid_out(alloc, cold, &asked.adding(), position, 2)?;
                 filled(alloc, first, second, filling)
             } else {
                 Ok(first)
@@ -62,23 +62,22 @@ pub fn laid_out(
             start,
             interval,
         } => match asked.way(*start, *interval) {
-            Way::From => laid_out(alloc, from, asked, &position.child(alloc, 0)?),
-            Way::To => laid_out(alloc, to, asked, &position.child(alloc, 1)?),
+            Way::From => child_laid_out(alloc, from, asked, position, 0),
+            Way::To => child_laid_out(alloc, to, asked, position, 1),
             Way::Both => {
-                let first = laid_out(alloc, from, asked, &position.child(alloc, 0)?)?;
-                let second = laid_out(alloc, to, asked, &position.child(alloc, 1)?)?;
+                let first = child_laid_out(alloc, from, asked, position, 0)?;
+                let second = child_laid_out(alloc, to, asked, position, 1)?;
                 both(alloc, first, second)
             }
         },
         Route::PrefixSelector { policies, wildcard } => {
             let number = prefix_number(policies, asked.rest);
-            let place = position.child(alloc, number)?;
             if number < policies.len() {
                 let policy = &policies[number];
-                return laid_out(alloc, &policy.route, asked, &place);
+                return child_laid_out(alloc, &policy.route, asked, position, number);
             }
             match wildcard {
-                Some(route) => laid_out(alloc, route, asked, &place),
+                Some(route) => child_laid_out(alloc, route, asked, position, number),
                 None => Ok(Plan::Reply(FixedReply::ErrorRoute)),
             }
         }
@@ -87,18 +86,32 @@ pub fn laid_out(
             default_policy,
         } => {
             let number = policy_number(policies, asked.op);
-            let place = position.child(alloc, number)?;
             if number < policies.len() {
                 let policy = &policies[number];
-                laid_out(alloc, &policy.route, asked, &place)
+                child_laid_out(alloc, &policy.route, asked, position, number)
             } else {
                 match default_policy {
-                    Some(route) => laid_out(alloc, route, asked, &place),
+                    Some(route) => child_laid_out(alloc, route, asked, position, number),
                     None => Ok(Plan::Reply(FixedReply::ErrorRoute)),
                 }
             }
         }
     }
+}
+
+/// The plan of the child with this number of the handle at this position.
+#[cycle(planning)]
+fn child_laid_out(
+    alloc: Global,
+    child: &Route,
+    asked: &Asked,
+    position: &Position,
+    number: usize,
+) -> Result<Plan, AllocError>
+    ensures { IfOk result (λ p. Serves p (view child.now) (under number (situation_at asked.now position.now))) }
+{
+    let place = position.child(alloc, number)?;
+    laid_out(alloc, child, asked, &place)
 }
 
 /// The leg of the pool at this position.
@@ -133,8 +146,7 @@ fn with_shadows(
     let mut plans = Vec::with_capacity(alloc, 1)?;
     plans.push(own)?;
     for (number, shadow) in shadows.iter().enumerate() {
-        let place = position.child(alloc, number)?;
-        let target = laid_out(alloc, &shadow.target, &shadowed, &place)?;
+        let target = child_laid_out(alloc, &shadow.target, &shadowed, position, number)?;
         plans.push(Plan::Shadowed {
             symbol: leaf.symbol,
             first: shadow.first,
@@ -157,8 +169,7 @@ fn each_laid_out(
 {
     let mut plans = Vec::with_capacity(alloc, children.len())?;
     for (number, child) in children.iter().enumerate() {
-        let place = position.child(alloc, number)?;
-        plans.push(laid_out(alloc, child, asked, &place)?)?;
+        plans.push(child_laid_out(alloc, child, asked, position, number)?)?;
     }
     Ok(plans)
 }
@@ -176,13 +187,11 @@ fn first_waited_for(
     let Some((first, others)) = children.split_first() else {
         return Ok(Plan::Reply(FixedReply::ErrorRoute));
     };
-    let place = position.child(alloc, 0)?;
     let mut plans = Vec::with_capacity(alloc, 1)?;
-    plans.push(laid_out(alloc, first, asked, &place)?)?;
+    plans.push(child_laid_out(alloc, first, asked, position, 0)?)?;
     let unheard = asked.asynchronous();
     for (number, child) in others.iter().enumerate() {
-        let place = position.child(alloc, number + 1)?;
-        plans.push(laid_out(alloc, child, &unheard, &place)?)?;
+        plans.push(child_laid_out(alloc, child, &unheard, position, number + 1)?)?;
     }
     Ok(Plan::Beside(plans))
 }
@@ -201,8 +210,7 @@ fn none_waited_for(
     plans.push(Plan::Reply(default_reply(asked.op)))?;
     let unheard = asked.asynchronous();
     for (number, child) in children.iter().enumerate() {
-        let place = position.child(alloc, number)?;
-        plans.push(laid_out(alloc, child, &unheard, &place)?)?;
+        plans.push(child_laid_out(alloc, child, &unheard, position, number)?)?;
     }
     Ok(Plan::Beside(plans))
 }
@@ -219,18 +227,11 @@ fn misses_passed_on(
 {
     if !asked.op.is_reading() {
         return match children.first() {
-            Some(first) => {
-                let place = position.child(alloc, 0)?;
-                laid_out(alloc, first, asked, &place)
-            }
+            Some(first) => child_laid_out(alloc, first, asked, position, 0),
             None => Ok(Plan::Reply(FixedReply::ErrorRoute)),
         };
     }
-    let mut plans = Vec::with_capacity(alloc, children.len())?;
-    for (number, child) in children.iter().enumerate() {
-        let place = position.child(alloc, number)?;
-        plans.push(laid_out(alloc, child, asked, &place)?)?;
-    }
+    let plans = each_laid_out(alloc, children, asked, position)?;
     Ok(Plan::InTurn(After::Miss, plans))
 }
 
@@ -239,20 +240,24 @@ fn filled(alloc: Global, cold: Plan, warm: Plan, filling: Plan) -> Result<Plan, 
     ensures { (t u : Tree) (exptime : ℕ) (s : Situation) → is_reading s.op ≡ true → Serves cold t (under 0 s) → Serves warm u (under 1 s) → Serves filling t (under 2 (adding s)) → IfOk result (λ p. Serves p (warm_up t u exptime) s) }
 {
     let filled = Plan::OnHit(Box::new(alloc, warm)?, Box::new(alloc, filling)?);
-    let mut plans = Vec::with_capacity(alloc, 2)?;
-    plans.push(cold)?;
-    plans.push(filled)?;
-    Ok(Plan::InTurn(After::Miss, plans))
+    Ok(Plan::InTurn(After::Miss, pair(alloc, cold, filled)?))
 }
 
 /// Two plans, both waited for.
 fn both(alloc: Global, first: Plan, second: Plan) -> Result<Plan, AllocError>
     ensures { (t u : Tree) (s : Situation) → Serves first t (under 0 s) → Serves second u (under 1 s) → IfOk result (λ p. Serves p (all_sync (child t (child u none))) s) }
 {
+    Ok(Plan::All(pair(alloc, first, second)?))
+}
+
+/// A list of two plans.
+fn pair(alloc: Global, first: Plan, second: Plan) -> Result<Vec<Plan>, AllocError>
+    ensures { IfOk result (λ plans. plans.items ≡ first ∷ second ∷ []) }
+{
     let mut plans = Vec::with_capacity(alloc, 2)?;
     plans.push(first)?;
     plans.push(second)?;
-    Ok(Plan::All(plans))
+    Ok(plans)
 }
 
 /// The number of the policy with the longest prefix with which the rest begins, or of the wildcard after all.

@@ -1,6 +1,6 @@
 //! What routes send and reply, a row a case; the values are those of mcrouter's wiki, List of Route Handles.
 
-use mcv_base::{FixedReply, Moment, Op, Outcome, Part, Position, Reply, Rest, ServerId, split_key};
+use mcv_base::{FixedReply, Moment, Op, Outcome, Part, Position, Reply, ServerId, split_key};
 use mcv_pools::Choice;
 use mcv_route::{Answered, Launch, Leaf, OperationPolicy, PrefixPolicy, Route, Shadow};
 use mcv_rules::{Eval, Outcomes, Status, default_reply};

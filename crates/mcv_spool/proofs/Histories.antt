@@ -1,7 +1,8 @@
 -- What a crash may leave after any list of calls.
-use Rattle.std.proofs.Common.{◌≡◌, ◌⊎◌, inl, inr, ⊎_elim, ℕ, zero, suc, ◌+◌, ◌<◌, ◌≤◌, ◌==◌, Bool, true, false, true≢false, List, [], ◌∷◌, ◌++◌, length, map, get_or, set, Option, Some, None, is_none, cond, drop, ◌||◌, refl, sym, ◌∙◌, ap, subst, arith, append_assoc, get_or-set_other}
+use Rattle.std.proofs.Common.{◌≡◌, ◌⊎◌, inl, inr, ⊎_elim, ℕ, zero, suc, ◌+◌, ◌<◌, ◌≤◌, ◌==◌, Bool, true, false, true≢false, List, [], ◌∷◌, ◌++◌, length, map, get_or, set, Option, Some, None, is_none, cond, drop, ◌||◌, refl, sym, ◌∙◌, ap, subst, arith, append_assoc, length-append, get_or-set_other}
 use Rattle.std.proofs.lemmas.Bool.{cases_eq}
-use Rattle.std.proofs.lemmas.List.{append-nil, map-append}
+use Rattle.std.proofs.lemmas.Bool.Decides.{nat_tests}
+use Rattle.std.proofs.lemmas.List.{append-nil, length-map, map-append}
 use Rattle.std.proofs.lemmas.List.Elements.{Contains-append_right}
 use Rattle.std.specs.List.{Contains}
 use Rattle.mcv_spool.specs.Disk.{LeavesOnly}
@@ -10,6 +11,7 @@ use Rattle.mcv_spool.specs.Version.{HasSlotsOf, IsBeforeOrAfter, IsVersion}
 use Rattle.mcv_spool.specs.History.{Told, HasNumber, IsKept, World, record_in, records_of, nothing_told, told_found, told_stored, told_tried, told_done, Call, History}
 use Rattle.mcv_spool.specs.declared.record.SpoolRecord.{SpoolRecord}
 use Rattle.mcv_spool.proofs.Marks.{records_marked}
+use Rattle.mcv_spool.proofs.Versions.{counted}
 
 -- a record that was just added isn't done
 done_added : (all : List (List ℕ)) (r : SpoolRecord) (k : ℕ) → is_done (get_or (all ++ slot_of r ∷ []) k []) ≡ true → is_done (get_or all k []) ≡ true
@@ -44,6 +46,7 @@ nothing_kept = record {
   others = [];
   prefix = refl;
   records = ap (λ (ss : List (List ℕ)). map read_record ss) slots_none;
+  few = omega (arith, ap length slots_none);
   done = λ k h. absurd (true≢false (sym (subst (λ (ss : List (List ℕ)). is_done (get_or ss k []) ≡ true) slots_none h)));
 }
 
@@ -54,6 +57,7 @@ kept_same t c d same kept = record {
   others = kept.others;
   prefix = kept.prefix;
   records = ap (λ (ss : List (List ℕ)). map read_record ss) same ∙ kept.records;
+  few = omega (arith, kept.few, ap length same);
   done = λ k h. kept.done k (subst (λ (ss : List (List ℕ)). is_done (get_or ss k []) ≡ true) same h);
 }
 
@@ -64,6 +68,7 @@ kept_tried t r c kept = record {
   others = kept.others ++ r ∷ [];
   prefix = ap (λ (l : List SpoolRecord). l ++ r ∷ []) kept.prefix ∙ append_assoc kept.more kept.others (r ∷ []);
   records = kept.records;
+  few = kept.few;
   done = kept.done;
 }
 
@@ -73,6 +78,7 @@ kept_done t k c kept = record {
   others = kept.others;
   prefix = kept.prefix;
   records = kept.records;
+  few = kept.few;
   done = λ j h. contains_more k j t.done (kept.done j h);
 }
 
@@ -81,15 +87,18 @@ abbrev Whole : Told → List (List ℕ) → Type 0
 Whole t all = (map read_record all ≡ map Some (t.found ++ t.stored)) × (t.tried ≡ [])
 
 -- a file with the records that are told, each done only where it was told
-kept_whole : (t : Told) (all : List (List ℕ)) (c : List ℕ) → map read_record all ≡ map Some (t.found ++ t.stored) → map read_record (slots c) ≡ map read_record all
+kept_whole : (t : Told) (all : List (List ℕ)) (c : List ℕ) → length all ≤ 1000000 → map read_record all ≡ map Some (t.found ++ t.stored) → map read_record (slots c) ≡ map read_record all
     → ((k : ℕ) → is_done (get_or (slots c) k []) ≡ true → Contains t.done k) → IsKept t c
-kept_whole t all c whole same done = record {
-  more = [];
-  others = t.tried;
-  prefix = refl;
-  records = same ∙ whole ∙ ap (λ (l : List SpoolRecord). map Some l) (sym (append-nil (t.found ++ t.stored)));
-  done = done;
-}
+kept_whole t all c room whole same done =
+    let size : length (slots c) ≡ length all = sym (length-map (slots c) read_record) ∙ ap length same ∙ length-map all read_record in
+    record {
+      more = [];
+      others = t.tried;
+      prefix = refl;
+      records = same ∙ whole ∙ ap (λ (l : List SpoolRecord). map Some l) (sym (append-nil (t.found ++ t.stored)));
+      few = omega (arith, room, size);
+      done = done;
+    }
 
 added : (t : Told) (r : SpoolRecord) (all : List (List ℕ)) → map read_record all ≡ map Some (t.found ++ t.stored) → read_record (slot_of r) ≡ Some r
     → map read_record (all ++ slot_of r ∷ []) ≡ map Some (t.found ++ t.stored ++ r ∷ [])
@@ -99,20 +108,22 @@ added t r all whole reads =
     ∙ sym (map-append Some (t.found ++ t.stored) (r ∷ []))
 
 -- before or after an append
-kept_either : (t : Told) (r : SpoolRecord) (old c : List ℕ) → Whole t (slots old) → IsKept t old → read_record (slot_of r) ≡ Some r → IsBeforeOrAfter (slots old) r c → IsKept (told_tried r t) c
-kept_either t r old c whole kept reads (inl v) = kept_tried t r c (kept_whole t (slots old) c whole.0 v.records (λ k h. kept.done k (v.done k h)))
-kept_either t r old c whole kept reads (inr v) = record {
+kept_either : (t : Told) (r : SpoolRecord) (old c : List ℕ) → Whole t (slots old) → IsKept t old → read_record (slot_of r) ≡ Some r → length (slots old) < 1000000 → IsBeforeOrAfter (slots old) r c
+    → IsKept (told_tried r t) c
+kept_either t r old c whole kept reads room (inl v) = kept_tried t r c (kept_whole t (slots old) c kept.few whole.0 v.records (λ k h. kept.done k (v.done k h)))
+kept_either t r old c whole kept reads room (inr v) = record {
   more = r ∷ [];
   others = [];
   prefix = ap (λ (l : List SpoolRecord). l ++ r ∷ []) whole.1;
   records = v.records ∙ added t r (slots old) whole.0 reads;
+  few = omega (arith, room, counted (slots old ++ slot_of r ∷ []) c v, length-append (slots old) (slot_of r ∷ []));
   done = λ k h. kept.done k (done_added (slots old) r k (v.done k h));
 }
 
 -- in or after a done
 kept_marked : (t : Told) (k : ℕ) (old c : List ℕ) → Whole t (slots old) → IsKept t old → IsVersion (marked k (slots old)) c → IsKept (told_done k t) c
 kept_marked t k old c whole kept v =
-    kept_whole (told_done k t) (slots old) c whole.0 (v.records ∙ records_marked (slots old) k 1)
+    kept_whole (told_done k t) (slots old) c kept.few whole.0 (v.records ∙ records_marked (slots old) k 1)
     (λ j h. ⊎_elim (λ same. contains_first k j t.done same) (λ before. contains_more k j t.done (kept.done j before)) (done_marked (slots old) k j (v.done j h)))
 
 -- ---- records
@@ -160,6 +171,19 @@ same_records all more same = sym (given_back all) ∙ ap given same ∙ given_ba
 abbrev first_of_slots : List (Option SpoolRecord) → Option SpoolRecord
 first_of_slots [] = None
 first_of_slots (o ∷ all) = o
+
+not_limit : (n : ℕ) → n < 1000000 → (n == 1000000) ≡ false
+not_limit n h = grind (arith, nat_tests)
+
+-- slots that read, of which there are no more than a file may have, aren't damaged
+pub not_damaged : (j : ℕ) (all : List (List ℕ)) (recs : List SpoolRecord) → map read_record all ≡ map Some recs → j + length all ≤ 1000000 → damage j all ≡ None
+not_damaged j [] recs same few = refl
+not_damaged j (s ∷ all) [] same few = absurd (omega (arith, ap length same))
+not_damaged j (s ∷ all) (r ∷ recs) same few =
+    let reads : read_record s ≡ Some r = (λ i. first_of_slots (same i)) in
+    ap (λ o. cond (j == 1000000 || is_none o) (Some j) (damage (j + 1) all)) reads
+    ∙ ap (λ b. cond (b || false) (Some j) (damage (j + 1) all)) (not_limit j (omega (arith, few)))
+    ∙ not_damaged (j + 1) all recs (ap (drop 1) same) (omega (arith, few))
 
 -- a record that isn't done is pending
 pub is_pending : (j k : ℕ) (all : List (List ℕ)) (recs : List SpoolRecord) (r : SpoolRecord) → map read_record all ≡ map Some recs → k < length recs → get_or recs k r ≡ r → is_done (get_or all k []) ≡ false
@@ -217,9 +241,9 @@ module _ {D : Type 0} (seen : D → List ℕ) (may_leave : D → List ℕ → Ty
   within t old new answered stopped sound (Call.found records o n finds ready) = since_then o.disk n.disk (HasSlotsOf (may_leave o.disk)) (IsKept t) finds.any_moment sound.crash (λ c p. kept_same t p.0 c p.2 (sound.crash p.0 p.1))
   within t old new answered stopped sound (Call.not_found o n leaves ready) = since_then o.disk n.disk (HasSlotsOf (may_leave o.disk)) (IsKept t) leaves sound.crash (λ c p. kept_same t p.0 c p.2 (sound.crash p.0 p.1))
   within t old new answered stopped sound (Call.stored r o n before stores ready) = since_then o.disk n.disk (IsBeforeOrAfter (slots (seen o.disk)) r) (IsKept (told_tried r t)) stores.writes.any_moment (λ c left. kept_tried t r c (sound.crash c left))
-      (λ c p. kept_either t r (seen o.disk) c (sound.whole before) (sound.crash (seen o.disk) (read_may_stay o.disk)) stores.writes.reads p)
+      (λ c p. kept_either t r (seen o.disk) c (sound.whole before) (sound.crash (seen o.disk) (read_may_stay o.disk)) stores.writes.reads stores.writes.room p)
   within t old new answered stopped sound (Call.not_stored r o n before writes ready) = since_then o.disk n.disk (IsBeforeOrAfter (slots (seen o.disk)) r) (IsKept (told_tried r t)) writes.any_moment (λ c left. kept_tried t r c (sound.crash c left))
-      (λ c p. kept_either t r (seen o.disk) c (sound.whole before) (sound.crash (seen o.disk) (read_may_stay o.disk)) writes.reads p)
+      (λ c p. kept_either t r (seen o.disk) c (sound.whole before) (sound.crash (seen o.disk) (read_may_stay o.disk)) writes.reads writes.room p)
   within t old new answered stopped sound (Call.marks k o n before marks) = since_then o.disk n.disk (IsVersion (marked k (slots (seen o.disk)))) (IsKept (told_done k t)) marks.any_moment (λ c left. kept_done t k c (sound.crash c left))
       (λ c p. kept_marked t k (seen o.disk) c (sound.whole before) (sound.crash (seen o.disk) (read_may_stay o.disk)) p)
   within t old new answered stopped sound (Call.nothing w) = λ c left. sound.crash c (only_now w.disk c left)
@@ -238,7 +262,7 @@ module _ {D : Type 0} (seen : D → List ℕ) (may_leave : D → List ℕ → Ty
       let whole : map read_record (slots (seen n.disk)) ≡ map Some (records ++ []) = ap (λ (ss : List (List ℕ)). map read_record ss) finds.same ∙ finds.reads ∙ ap (λ (l : List SpoolRecord). map Some l) (sym (append-nil records)) in
       let kept = seen_kept t o n (told_found records) (λ t. t) sound (Call.found records o n finds ready) finds.any_moment.later in
       record {
-        crash = λ c left. kept_whole (told_found records t) (slots (seen n.disk)) c whole (ap (λ (f : List ℕ). map read_record (slots f)) (finds.durable c left))
+        crash = λ c left. kept_whole (told_found records t) (slots (seen n.disk)) c kept.few whole (ap (λ (f : List ℕ). map read_record (slots f)) (finds.durable c left))
             (λ k h. kept.done k (subst (λ (f : List ℕ). is_done (get_or (slots f) k []) ≡ true) (finds.durable c left) h));
         whole = λ yes. (whole, refl);
       }
@@ -252,7 +276,7 @@ module _ {D : Type 0} (seen : D → List ℕ) (may_leave : D → List ℕ → Ty
       ap (λ (ss : List (List ℕ)). map read_record ss) stores.adds ∙ added t r (slots (seen o.disk)) was.0 stores.writes.reads ∙ ap (λ (l : List SpoolRecord). map Some l) (append_assoc t.found t.stored (r ∷ [])) in
       let kept = seen_kept t o n (told_stored r) (told_tried r) sound (Call.stored r o n before stores ready) stores.writes.any_moment.later in
       record {
-        crash = λ c left. kept_whole (told_stored r t) (slots (seen n.disk)) c whole (ap (λ (f : List ℕ). map read_record (slots f)) (stores.durable c left))
+        crash = λ c left. kept_whole (told_stored r t) (slots (seen n.disk)) c kept.few whole (ap (λ (f : List ℕ). map read_record (slots f)) (stores.durable c left))
             (λ k h. kept.done k (subst (λ (f : List ℕ). is_done (get_or (slots f) k []) ≡ true) (stores.durable c left) h));
         whole = λ yes. (whole, was.1);
       }

@@ -138,9 +138,6 @@ pub record SoFar (file : List ℕ) (count : ℕ) (pending : List (ℕ × SpoolRe
   pub undone : pending ++ pending_from count (slots (drop (640 * count) file)) ≡ pending_from 0 (slots file)
   pub sound : damage count (slots (drop (640 * count) file)) ≡ damage 0 (slots file)
 
-pub nothing_yet : (file : List ℕ) → SoFar file 0 []
-nothing_yet file = record { total = omega arith; undone = refl; sound = refl }
-
 module _ (file : List ℕ) (count : ℕ) (pending : List (ℕ × SpoolRecord)) (so_far : SoFar file count pending) (piece : List ℕ) (piece_is : piece ≡ take 1024001 (drop (640 * count) file)) where
   slots_are : slots piece ≡ take 1600 (slots (drop (640 * count) file))
   slots_are = ap slots piece_is ∙ slots-piece 1600 (drop (640 * count) file)

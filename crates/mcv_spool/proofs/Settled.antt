@@ -13,17 +13,6 @@ use Rattle.mcv_spool.proofs.Versions.{version_self}
 only_version : (new : List ℕ) (may_leave : List ℕ → Type 0) → IsClosed new → Only new may_leave → (c : List ℕ) → may_leave c → IsVersion (slots new) c
 only_version new may_leave closed only c left = subst (IsVersion (slots new)) (sym (only c left)) (version_self new closed)
 
-pub settled_open : (file new : List ℕ) (may_leave : List ℕ → Type 0) (count : ℕ) (pending : List (ℕ × SpoolRecord)) → IsFound file count pending → slots new ≡ slots file → IsClosed new → Only new may_leave
-    → IsSettled new may_leave count pending
-settled_open file new may_leave count pending found same closed only = record {
-  found = record {
-    sound = ap (damage 0) same ∙ found.sound;
-    counted = found.counted ∙ ap length (sym same);
-    undone = found.undone ∙ ap (pending_from 0) (sym same);
-  };
-  crash = only_version new may_leave closed only;
-}
-
 pub settled_append : (file new : List ℕ) (may_leave : List ℕ → Type 0) (count : ℕ) (pending : List (ℕ × SpoolRecord)) (r : SpoolRecord) → IsFound file count pending → read_record (slot_of r) ≡ Some r → count < 1000000
     → slots new ≡ slots file ++ slot_of r ∷ [] → IsClosed new → Only new may_leave
     → (new_count : ℕ) (new_pending : List (ℕ × SpoolRecord)) → new_count ≡ count + 1 → new_pending ≡ pending ++ (count, r) ∷ [] → IsSettled new may_leave new_count new_pending

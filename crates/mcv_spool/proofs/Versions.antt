@@ -1,7 +1,7 @@
 -- What a crash leaves of a file, in each step of a call.
-use Rattle.std.proofs.Common.{◌≡◌, ◌≢◌, inl, inr, ℕ, zero, suc, ◌+◌, ◌-◌, ◌*◌, ◌<◌, ◌≤◌, true, List, [], ◌∷◌, ◌++◌, length, map, get_or, take, drop, replicate, ◌/◌, ◌%◌, refl, sym, ◌∙◌, ap, subst, arith, append_assoc, length-append, take-append-drop, take_at, drop_at}
+use Rattle.std.proofs.Common.{◌≡◌, ◌≢◌, inl, inr, ℕ, zero, suc, ◌+◌, ◌*◌, ◌<◌, true, List, [], ◌∷◌, ◌++◌, length, map, get_or, take, drop, refl, sym, ◌∙◌, ap, subst, arith, append_assoc, length-append, take-append-drop, take_at, drop_at}
 use Rattle.std.proofs.lemmas.Bool.{cases_eq}
-use Rattle.std.proofs.lemmas.List.{drop_more, length-map, map-append, take_more, length-replicate}
+use Rattle.std.proofs.lemmas.List.{drop_more, length-map, map-append, take_more}
 use Rattle.mcv_spool.specs.Disk.{Torn, written}
 use Rattle.mcv_spool.specs.File.{IsClosed, body, is_done, is_open, read_record, slots}
 use Rattle.mcv_spool.specs.Version.{IsBeforeOrAfter, IsVersion}
@@ -90,12 +90,6 @@ module _ (all : List (List ℕ)) (open_all : AllOpen all) (b more : List ℕ) (s
       let gate = get_or d n 0 in
       let back : drop n d ≡ gate ∷ (b ++ 0 ∷ more) = drop_more d n 0 (omega (arith, torn.no_shorter, long 0)) ∙ ap (λ (l : List ℕ). gate ∷ l) (torn.after ∙ behind 0) in
       sym (take-append-drop n d) ∙ ap (λ (l : List ℕ). l ++ drop n d) (torn.before ∙ begins 0) ∙ ap (λ (l : List ℕ). row all ++ l) back ∙ sym (append_assoc (row all) (gate ∷ b) (0 ∷ more))
-
-pub length-body : (r : SpoolRecord) → length r.server ≤ 261 → length r.rest ≤ 250 → length (body r) ≡ 639
-length-body r s_short r_short =
-    let zeros = 634 - length r.server - length r.rest in
-    let one = 0 ∷ (length r.server / 256) ∷ (length r.server % 256) ∷ (length r.rest / 256) ∷ (length r.rest % 256) ∷ [] in
-    omega (arith, length-append (one ++ r.server ++ r.rest) (replicate zeros 0), length-append (one ++ r.server) r.rest, length-append one r.server, length-replicate {A = ℕ} zeros 0)
 
 -- a gate is no part of the record
 same_record : (gate : ℕ) (b : List ℕ) → read_record (gate ∷ b) ≡ read_record (1 ∷ b)

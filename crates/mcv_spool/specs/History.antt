@@ -1,8 +1,8 @@
 -- What a spool has told over any list of calls, with a stop of the machine at any moment, and what its file has to hold for that (own).
-use Rattle.std.specs.Prelude.{◌≡◌, ℕ, ◌<◌, Bool, true, false, List, [], ◌∷◌, ◌++◌, length, map, slice_index_or, Option, Some, None, not, Result, Ok, Err}
+use Rattle.std.specs.Prelude.{◌≡◌, ℕ, ◌<◌, ◌≤◌, Bool, true, false, List, [], ◌∷◌, ◌++◌, length, map, slice_index_or, Option, Some, None, not, Result, Ok, Err}
 use Rattle.std.specs.List.{Contains}
 use Rattle.mcv_spool.specs.Disk.{LeavesOnly, Only}
-use Rattle.mcv_spool.specs.File.{is_done, marked, read_record, slot_of, slots}
+use Rattle.mcv_spool.specs.File.{is_done, marked, read_record, slot_limit, slot_of, slots}
 use Rattle.mcv_spool.specs.Version.{HasSlotsOf, IsBeforeOrAfter, IsVersion}
 use Rattle.mcv_spool.specs.declared.fault.SpoolFault.{SpoolFault}
 use Rattle.mcv_spool.specs.declared.fault.SpoolFault.TheVariants.{Device, Full, Memory, Reopen, Damaged}
@@ -75,12 +75,14 @@ append_stopped (Err Reopen) r = λ t. t
 append_stopped (Err (Damaged k)) r = λ t. t
 
 -- The promise. The file has the records that the last `open` that answered Ok found, then a prefix of what was appended
--- since, in order, with each whose `append` answered Ok. A record is marked as done only where `done` was called for its number.
+-- since, in order, with each whose `append` answered Ok, and no more slots than a file may have. A record is marked as done only
+-- where `done` was called for its number.
 pub record IsKept (t : Told) (file : List ℕ) : Type 0 where
   pub more : List SpoolRecord
   pub others : List SpoolRecord
   pub prefix : t.tried ≡ more ++ others
   pub records : map read_record (slots file) ≡ map Some (t.found ++ t.stored ++ more)
+  pub few : length (slots file) ≤ slot_limit
   pub done : (k : ℕ) → is_done (slice_index_or (slots file) k []) ≡ true → Contains t.done k
 
 -- the record of this number is one that the last `open` that answered Ok found, or one that was stored since
@@ -108,9 +110,10 @@ module _ {D : Type 0} (seen : D → List ℕ) (may_leave : D → List ℕ → Ty
     pub durable : Only (seen new) (may_leave new)
     pub any_moment : LeavesOnly moment left_since old new (HasSlotsOf (may_leave old))
 
-  -- An `append` that writes this record.
+  -- An `append` that writes this record, for which the file has room.
   pub record Appends (r : SpoolRecord) (old new : D) : Type 0 where
     pub reads : read_record (slot_of r) ≡ Some r
+    pub room : length (slots (seen old)) < slot_limit
     pub any_moment : LeavesOnly moment left_since old new (IsBeforeOrAfter (slots (seen old)) r)
 
   -- One that answers Ok.

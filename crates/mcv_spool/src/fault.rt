@@ -19,7 +19,7 @@ pub enum SpoolFault {
     Full,
     #[error("out of memory")]
     Memory,
-    /// The disk failed in an earlier call; `reopen` first.
+    /// An earlier call answered `Device`, or a `reopen` was refused; `reopen` first.
     #[error("the spool has to be opened again")]
     Reopen,
     /// The slot of this number doesn't read.

@@ -1,7 +1,7 @@
 //! A real file as a disk. No clause can say what a real file holds, so this type says nothing of the model:
 //! what is promised of a spool over it holds where the file keeps that model.
 
-ghost use Rattle.std.specs.Prelude.{[]};
+ghost use Rattle.std.specs.Prelude.{◌≡◌, ◌↔◌, [], true, IsErr};
 
 use crate::disk::{Disk, DiskFailed};
 use std::fs::{File, OpenOptions};
@@ -9,24 +9,49 @@ use std::io;
 use std::os::unix::fs::FileExt;
 use std::path::Path;
 
-/// A file of the operating system.
+/// A file of the operating system, which one `FileDisk` has at a time.
+///
+/// Once a `sync` has failed, each later call answers `DiskFailed` and asks nothing of the system. After a sync that failed Linux
+/// may count the bytes as written, answer Ok to the next sync and give them to readers from memory, while the disk has the
+/// old ones: then neither a later Ok nor what is read says anything of the disk. To go on, the process has to open the file
+/// anew. A new `FileDisk` trusts what it reads, and can't see that an earlier one was failed: so first the operator makes sure
+/// of the bytes, as by a copy of the file to a disk that works, which is written and synced anew.
 #[derive(Drop)]
 pub struct FileDisk {
     file: File,
+    sync_failed: bool,
 }
 
 impl FileDisk {
-    /// Opens the file of this name, and makes an empty one where there is none, which has its name on the disk too.
+    /// Opens the file of this name, and makes an empty one where there is none, which has its name on the disk too. The file is
+    /// locked for this `FileDisk` alone, so that no two write into the same slots: while another holds it, in this process or
+    /// in another, the answer is an error of the kind `WouldBlock`, and nothing of the file is changed. The lock ends where the
+    /// file is closed, which dropping the `FileDisk` or the end of its process does. It binds those who ask for it, as
+    /// each `FileDisk` does, and no other program.
     pub fn open(rt: &HostRuntime, path: &str) -> io::Result<FileDisk> {
         let file = OpenOptions::new()
             .read(true)
             .write(true)
             .create(true)
             .open(rt, path)?;
+        file.try_lock()?;
         file.sync_all()?;
         // A file that was just made is lost in a crash until the folder that names it is on the disk.
         File::open(rt, folder_of(path))?.sync_all()?;
-        Ok(FileDisk { file })
+        Ok(FileDisk {
+            file,
+            sync_failed: false,
+        })
+    }
+
+    /// The file, or `DiskFailed` once a sync of it has failed.
+    fn trusted_file(&self) -> Result<&File, DiskFailed>
+        ensures refused { IsErr result ↔ (self.now.sync_failed ≡ true) }
+    {
+        if self.sync_failed {
+            return Err(DiskFailed);
+        }
+        Ok(&self.file)
     }
 }
 
@@ -58,29 +83,33 @@ impl Disk for FileDisk {
     ghost only_now = { λ none. absurd none };
 
     fn len(&mut self) -> Result<usize, DiskFailed> {
-        match self.file.metadata() {
+        match self.trusted_file()?.metadata() {
             Ok(metadata) => Ok(metadata.len() as usize),
             Err(_) => Err(DiskFailed),
         }
     }
 
     fn read(&mut self, at: usize, bytes: &mut [u8]) -> Result<(), DiskFailed> {
-        self.file
+        self.trusted_file()?
             .read_exact_at(bytes, at as u64)
             .map_err(|_| DiskFailed)
     }
 
     fn write_at(&mut self, at: usize, bytes: &[u8]) -> Result<(), DiskFailed> {
-        self.file
+        self.trusted_file()?
             .write_all_at(bytes, at as u64)
             .map_err(|_| DiskFailed)
     }
 
     fn cut(&mut self, len: usize) -> Result<(), DiskFailed> {
-        self.file.set_len(len as u64).map_err(|_| DiskFailed)
+        self.trusted_file()?
+            .set_len(len as u64)
+            .map_err(|_| DiskFailed)
     }
 
     fn sync(&mut self) -> Result<(), DiskFailed> {
-        self.file.sync_data().map_err(|_| DiskFailed)
+        let synced = self.trusted_file()?.sync_data();
+        self.sync_failed = synced.is_err();
+        synced.map_err(|_| DiskFailed)
     }
 }

@@ -3,8 +3,9 @@
 //! A `History` is such a list, with what its calls have told. Each call of a spool is one of its steps: that is
 //! the clause `step` of `open`, `reopen`, `append` and `done`.
 
-ghost use Rattle.std.specs.Prelude.{◌≡◌, ℕ, List, [], ◌∷◌, ◌++◌, length};
+ghost use Rattle.std.specs.Prelude.{◌≡◌, ℕ, List, [], ◌∷◌, ◌++◌, length, None};
 ghost use Rattle.mcv_spool.specs.Disk.{Torn};
+ghost use Rattle.mcv_spool.specs.File.{damage, slots};
 ghost use Rattle.mcv_spool.specs.History.{Finds, History, IsKept, Told, World};
 ghost use Rattle.mcv_spool.specs.declared.record.SpoolRecord.{SpoolRecord};
 ghost use Rattle.mcv_spool.specs.WorstDisk.{Change, KeepsModel, left_of, left_since_of, read_of};
@@ -15,6 +16,8 @@ use crate::disk::Disk;
 pub fn what_was_told_is_kept<D: Disk>()
     ensures kept { D.keeps_model → (told : Told) (w : World D) → History D.seen D.may_leave D.moment D.left_since told w → (file : List ℕ) → D.may_leave w.disk file → IsKept told file }
     ensures found { D.keeps_model → (told : Told) (w : World D) (records : List SpoolRecord) (new : D) → History D.seen D.may_leave D.moment D.left_since told w → Finds D.seen D.may_leave D.moment D.left_since records w.disk new → (more : List SpoolRecord) × (others : List SpoolRecord) × (told.tried ≡ more ++ others) × (records ≡ told.found ++ told.stored ++ more) }
+    // No slot of such a file is damaged, so no later `open` or `reopen` answers Damaged.
+    ensures undamaged { D.keeps_model → (told : Told) (w : World D) → History D.seen D.may_leave D.moment D.left_since told w → (file : List ℕ) → D.may_leave w.disk file → damage 0 (slots file) ≡ None }
 {}
 
 /// The clauses of a disk contradict one another nowhere: one that is empty at first, and of which a crash leaves whatever they allow, meets them.

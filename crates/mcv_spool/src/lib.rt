@@ -1,4 +1,4 @@
-//! The spool: records of deletes that no server took, on the disk before a client is answered.
+//! The spool: records of deletes that their servers didn't take, each on the disk once its `append` has answered Ok.
 //!
 //! A `Spool` stands on a `Disk`, one file. A record whose `append` answered Ok is found by every later
 //! `open`, also where the machine stopped at any moment, inside a call or between two.
@@ -21,8 +21,3 @@ pub use file_disk::FileDisk;
 pub use history::{a_disk_keeps_the_model, what_was_told_is_kept};
 pub use record::{SpoolRecord, Stored};
 pub use spool::Spool;
-
-#[cfg(test)]
-mod test_disk;
-#[cfg(test)]
-mod tests;

@@ -18,7 +18,7 @@ pub(crate) const PENDING: u8 = 0;
 /// The second byte of a slot whose record is done.
 pub(crate) const DONE: u8 = 1;
 
-/// A delete that no server took: the server that hasn't seen it, and the rest of its key.
+/// A delete that its server didn't take: that server, and the rest of the delete's key.
 #[derive(Debug, Drop)]
 pub struct SpoolRecord {
     pub server: ServerText,

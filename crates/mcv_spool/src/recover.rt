@@ -1,6 +1,6 @@
 //! What `open` and `reopen` do to a file that a stop may have left.
 
-ghost use Rattle.std.specs.Prelude.{◌≡◌, ℕ, ◌*◌, ◌^◌, ◌<◌, ◌≤◌, Some, length, IfOk, OnOk, OnErr, IsErrOf};
+ghost use Rattle.std.specs.Prelude.{◌≡◌, ◌≢◌, ℕ, ◌*◌, ◌^◌, ◌<◌, ◌≤◌, Some, length, IfOk, IfErr, OnOk, OnErr, IsErrOf};
 ghost use Rattle.mcv_spool.specs.Disk.{LeavesOnly, Only};
 ghost use Rattle.mcv_spool.specs.File.{IsClosed, damage, slots};
 ghost use Rattle.mcv_spool.specs.Found.{IsFound, IsOpenFault};
@@ -41,6 +41,8 @@ pub(crate) fn recover<D: Disk>(alloc: Global, disk: &mut D) -> Result<Contents, 
     ensures damaged { D.keeps_model → (k : ℕ) → result ≡ Err (SpoolFault.Damaged k) → damage 0 (slots (D.seen disk.old)) ≡ Some k }
     ensures any_moment { D.keeps_model → LeavesOnly D.moment D.left_since disk.old disk.new (HasSlotsOf (D.may_leave disk.old)) }
     ensures device { D.keeps_model → IsErrOf result SpoolFault.Device → D.failures disk.old < D.failures disk.new }
+    // Memory and Damaged come before anything is written.
+    ensures unwritten { D.keeps_model → IfErr result (λ fault. fault ≢ SpoolFault.Device → D.seen disk.new ≡ D.seen disk.old) }
     ensures alone { IsOpenFault result }
 {
     // A crash before may have left the file one way and may leave it another way now: the sync settles it.

@@ -1,9 +1,9 @@
 //! The spool: its file, and the records that are pending.
 
-ghost use Rattle.std.specs.Prelude.{◌≡◌, ◌≢◌, ◌⊎◌, ◌↔◌, ℕ, ◌+◌, ◌*◌, ◌<◌, ◌≤◌, ◌==◌, not, false, true, None, Some, List, [], ◌∷◌, ◌++◌, length, filter, IfOk, IfErr, OnOk, OnErr, IsOk, IsErrOf};
+ghost use Rattle.std.specs.Prelude.{◌≡◌, ◌≢◌, ◌⊎◌, ◌↔◌, ℕ, ◌+◌, ◌*◌, ◌<◌, ◌==◌, not, false, true, Some, [], ◌∷◌, ◌++◌, filter, IfOk, IfErr, OnOk, OnErr, IsOk, IsErrOf};
 ghost use Rattle.std.specs.List.{Contains, list_any};
 ghost use Rattle.mcv_spool.specs.Disk.{LeavesOnly, Only};
-ghost use Rattle.mcv_spool.specs.File.{IsClosed, damage, marked, pending_from, slot_of, slots};
+ghost use Rattle.mcv_spool.specs.File.{damage, marked, slot_of, slots};
 ghost use Rattle.mcv_spool.specs.Found.{IsAppendFault, IsDoneFault, IsFound, IsOpenFault, WritesNothing};
 ghost use Rattle.mcv_spool.specs.History.{Call, HasNumber, History, Told, append_stopped, append_told, done_told, records_of, reopen_told, shut, told_found, world};
 ghost use Rattle.mcv_spool.specs.declared.record.SpoolRecord.{SpoolRecord};
@@ -17,12 +17,12 @@ use crate::recover::recover;
 use crate::write::{write_done, write_record};
 use std::alloc::Global;
 
-/// Records of deletes that no server took, in a file.
+/// Records of deletes that their servers didn't take, in a file.
 #[derive(Drop)]
 pub struct Spool<D: Disk> {
     disk: D,
     alloc: Global,
-    pub(crate) contents: Contents,
+    contents: Contents,
     needs_reopen: bool,
     ghost settled: { D.keeps_model → needs_reopen ≡ false → IsSettled (D.seen disk) (D.may_leave disk) contents.count contents.pending.items },
 }
@@ -39,8 +39,9 @@ impl<D: Disk> Spool<D> {
         ensures any_moment { D.keeps_model → IfOk result (λ spool. LeavesOnly D.moment D.left_since disk spool.disk (HasSlotsOf (D.may_leave disk))) }
         ensures step { D.keeps_model → IfOk result (λ spool. Call D.seen D.may_leave D.moment D.left_since (shut disk) (world spool.disk spool.needs_reopen) (told_found (records_of (slots (D.seen disk)))) (λ t. t)) }
         // An `open` that is refused drops its disk. As the disk stood last, a call of it had failed where the fault is Device,
-        // and a crash at any moment of the call leaves the records that one before it could have left.
-        ensures refused { D.keeps_model → IfErr result (λ fault. (last : D) × Call D.seen D.may_leave D.moment D.left_since (shut disk) (shut last) (λ t. t) (λ t. t) × (fault ≡ SpoolFault.Device → D.failures disk < D.failures last)) }
+        // and where it is another it reads as before. A crash at any moment of the call leaves the records that one before it
+        // could have left.
+        ensures refused { D.keeps_model → IfErr result (λ fault. (last : D) × Call D.seen D.may_leave D.moment D.left_since (shut disk) (shut last) (λ t. t) (λ t. t) × (fault ≡ SpoolFault.Device → D.failures disk < D.failures last) × (fault ≢ SpoolFault.Device → D.seen last ≡ D.seen disk)) }
         ensures alone { IsOpenFault result }
     {
         let mut disk = disk;
@@ -63,6 +64,10 @@ impl<D: Disk> Spool<D> {
         ensures damaged { D.keeps_model → (k : ℕ) → result ≡ Err (SpoolFault.Damaged k) → damage 0 (slots (D.seen self.old.disk)) ≡ Some k }
         ensures any_moment { D.keeps_model → LeavesOnly D.moment D.left_since self.old.disk self.new.disk (HasSlotsOf (D.may_leave self.old.disk)) }
         ensures device { D.keeps_model → IsErrOf result SpoolFault.Device → D.failures self.old.disk < D.failures self.new.disk }
+        // Memory and Damaged come before anything is written.
+        ensures unwritten { D.keeps_model → IfErr result (λ fault. fault ≢ SpoolFault.Device → D.seen self.new.disk ≡ D.seen self.old.disk) }
+        // Where it is refused, what was pending is pending still.
+        ensures still_pending { OnErr result (self.new.contents.pending.items ≡ self.old.contents.pending.items) }
         ensures step { D.keeps_model → Call D.seen D.may_leave D.moment D.left_since (world self.old.disk self.old.needs_reopen) (world self.new.disk self.new.needs_reopen) (reopen_told result (records_of (slots (D.seen self.old.disk)))) (λ t. t) }
         ensures alone { IsOpenFault result }
     {
@@ -86,6 +91,8 @@ impl<D: Disk> Spool<D> {
         ensures device { D.keeps_model → IsErrOf result SpoolFault.Device → D.failures self.old.disk < D.failures self.new.disk }
         ensures broken { IsErrOf result SpoolFault.Device → self.new.needs_reopen ≡ true }
         ensures unchanged { WritesNothing result → (self.new.disk ≡ self.old.disk) × (self.new.contents.count ≡ self.old.contents.count) × (self.new.contents.pending.items ≡ self.old.contents.pending.items) × (self.new.needs_reopen ≡ self.old.needs_reopen) }
+        // Whatever refuses it, what was pending is pending still.
+        ensures still_pending { OnErr result (self.new.contents.pending.items ≡ self.old.contents.pending.items) }
         ensures step { D.keeps_model → Call D.seen D.may_leave D.moment D.left_since (world self.old.disk self.old.needs_reopen) (world self.new.disk self.new.needs_reopen) (append_told result delete) (append_stopped result delete) }
         ensures alone { IsAppendFault result }
     {
@@ -117,6 +124,8 @@ impl<D: Disk> Spool<D> {
         ensures broken { IsErrOf result SpoolFault.Device → self.new.needs_reopen ≡ true }
         ensures ready { OnOk result (self.new.needs_reopen ≡ false) }
         ensures unchanged { IsErrOf result SpoolFault.Reopen → (self.new.disk ≡ self.old.disk) × (self.new.contents.pending.items ≡ self.old.contents.pending.items) × (self.new.needs_reopen ≡ true) }
+        // Whatever refuses it, what was pending is pending still, the record of this number too.
+        ensures still_pending { OnErr result (self.new.contents.pending.items ≡ self.old.contents.pending.items) }
         ensures step { D.keeps_model → Call D.seen D.may_leave D.moment D.left_since (world self.old.disk self.old.needs_reopen) (world self.new.disk self.new.needs_reopen) (done_told result seq) (done_told result seq) }
         ensures alone { IsDoneFault result }
     {
@@ -136,7 +145,8 @@ impl<D: Disk> Spool<D> {
     /// The records that are pending, each with its number, in the order in which they were appended.
     pub fn pending(&self) -> &[(u64, SpoolRecord)]
         ensures value { result.now ≡ self.now.contents.pending.items }
-        // A record that was told is missing only where `done` was called for its number.
+        // A record that was told is missing only where `done` was called for its number. This speaks of a spool that
+        // doesn't answer Reopen; a call that is refused leaves all as they were (`still_pending`).
         ensures kept { D.keeps_model → (told : Told) → History D.seen D.may_leave D.moment D.left_since told (world self.now.disk self.now.needs_reopen) → self.now.needs_reopen ≡ false → (r : SpoolRecord) (k : ℕ) → HasNumber told r k → Contains told.done k ⊎ Contains result.now (k, r) }
     {
         &self.contents.pending

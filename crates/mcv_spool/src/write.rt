@@ -1,6 +1,6 @@
 //! The writes of the spool, each of which a crash may cut short.
 
-ghost use Rattle.std.specs.Prelude.{◌≡◌, ◌≢◌, ℕ, ◌+◌, ◌*◌, ◌^◌, ◌<◌, ◌≤◌, List, [], ◌∷◌, ◌++◌, length, take, IfOk, OnOk, OnErr, IsTrue, Some, ◌↔◌};
+ghost use Rattle.std.specs.Prelude.{◌≡◌, ℕ, ◌+◌, ◌*◌, ◌^◌, ◌<◌, ◌≤◌, List, [], ◌∷◌, ◌++◌, length, take, IfOk, OnOk, OnErr, IsTrue, Some, ◌↔◌};
 ghost use Rattle.mcv_spool.specs.Disk.{IsCutFrom, IsQuiet, IsTornFrom, LeavesOnly, Only, written};
 ghost use Rattle.mcv_spool.specs.File.{IsClosed, marked, read_record, slot_of, slots};
 ghost use Rattle.mcv_spool.specs.Version.{IsBeforeOrAfter, IsVersion};

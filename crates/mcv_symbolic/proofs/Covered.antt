@@ -27,7 +27,7 @@ abbrev pub IsCovered : List ℕ → (get gets delete : Plan) → Type 0
 IsCovered sizes get gets delete =
     (c : Choice) (o : Outcomes) → IsChoice sizes c → IsReachable delete c o → IsDone delete o → (x : ℕ) → IsReadable get c x ⊎ IsReadable gets c x → IsSent delete c o x
 
-error_or_not : (x : Outcome) → (x ≡ Error) ⊎ (x ≢ Error)
+pub error_or_not : (x : Outcome) → (x ≡ Error) ⊎ (x ≢ Error)
 error_or_not Good = inr (λ e. cc)
 error_or_not Soft = inr (λ e. cc)
 error_or_not Error = inl refl

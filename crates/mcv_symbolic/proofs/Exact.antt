@@ -1,6 +1,8 @@
 -- The legs that count as acknowledged, and those that can be read, are no more than must be.
-use Rattle.std.proofs.Common.{◌≡◌, ◌≢◌, ◌⊎◌, ◌↔◌, cond, inl, inr, ⊎_elim, ℕ, List, [], ◌∷◌, ◌++◌, Option, Some, None, refl, sym, ap, ap₂, ◌∙◌, subst}
+use Rattle.std.proofs.Common.{◌≡◌, ◌≢◌, ◌⊎◌, ◌↔◌, cond, inl, inr, ⊎_elim, ℕ, Bool, true, false, List, [], ◌∷◌, ◌++◌, Option, Some, None, refl, sym, ap, ap₂, ◌∙◌, subst}
+use Rattle.std.specs.Prelude.{if◌then◌else◌}
 use Rattle.std.proofs.lemmas.Bool.{cases_Bool}
+use Rattle.mcv_base.specs.Reply.{is_error, is_missed}
 use Rattle.mcv_base.specs.declared.reply.Outcome.{Outcome}
 use Rattle.mcv_base.specs.declared.reply.Outcome.TheVariants.{Good, Soft, Error}
 use Rattle.mcv_route.specs.Outcomes.{Outcomes, Choice, History, outcomes, is_same}
@@ -9,29 +11,16 @@ use Rattle.mcv_rules.specs.Sound.{positions, In, AreApart, IsApart, IsHonest, Is
 use Rattle.mcv_rules.proofs.Sending.{Sends, IsReachable}
 use Rattle.mcv_rules.proofs.Basics
 use Rattle.mcv_rules.proofs.Orders
+use Rattle.mcv_symbolic.specs.Shown.{answers}
 use Rattle.mcv_symbolic.specs.Structure.{nothing, after_error, after_miss, if_all, Counts, Acknowledged, Hits}
 use Rattle.mcv_symbolic.proofs.Later
 
-abbrev pub if_error : Outcome → History → History
-if_error Good es = []
-if_error Soft es = []
-if_error Error es = es
+-- what follows an error, and what follows a miss
+abbrev if_error : Outcome → History → History
+if_error x es = if is_error x then es else []
 
-abbrev pub if_missed : Outcome → History → History
-if_missed Good es = []
-if_missed Soft es = es
-if_missed Error es = es
-
--- x from each leg that the reply needs, in turn
-abbrev pub answers : Outcome → Plan → History
-answers x (Send l) = (l.position, x) ∷ []
-answers x (Reply y) = []
-answers x (Both t u) = answers x t ++ answers x u
-answers x (Beside t u) = answers x t
-answers x (OnError t u) = answers x t ++ if_error (if_all x t) (answers x u)
-answers x (OnMiss t u) = answers x t ++ if_missed (if_all x t) (answers x u)
-answers x (OnHit t u) = answers x t
-answers x (Shadowed s a b t u) = answers x t
+abbrev if_missed : Outcome → History → History
+if_missed x es = if is_missed x then es else []
 
 -- the outcomes of the legs are those of the list
 abbrev pub Agrees : Plan → History → Outcomes → Type 0
@@ -71,30 +60,19 @@ either (f ∷ es) fs p x e =
 abbrev pub Inside : Plan → History → Type 0
 Inside t es = (p : List ℕ) → (In (positions t) p → ⊥) → outcomes es p ≡ None
 
-in_either : (ps qs : List (List ℕ)) (p : List ℕ) → In (ps ++ qs) p → In ps p ⊎ In qs p
-in_either [] qs p h = inr h
-in_either (q ∷ ps) qs p (inl e) = inl (inl e)
-in_either (q ∷ ps) qs p (inr h) = ⊎_elim (λ i. inl (inr i)) (λ i. inr i) (in_either ps qs p h)
-
-pub inside_both : (t u v : Plan) (es fs : History) → positions v ≡ positions t ++ positions u → Inside t es → Inside u fs → Inside v (es ++ fs)
+inside_both : (t u v : Plan) (es fs : History) → positions v ≡ positions t ++ positions u → Inside t es → Inside u fs → Inside v (es ++ fs)
 inside_both t u v es fs w h k p n =
     let left = h p (λ i. n (subst (λ ps. In ps p) (sym w) (Orders.in_left (positions t) (positions u) p i))) in
     behind es fs p left ∙ k p (λ i. n (subst (λ ps. In ps p) (sym w) (Orders.in_right (positions t) (positions u) p i)))
 
-pub inside_first : (t u v : Plan) (es : History) → positions v ≡ positions t ++ positions u → Inside t es → Inside v es
+inside_first : (t u v : Plan) (es : History) → positions v ≡ positions t ++ positions u → Inside t es → Inside v es
 inside_first t u v es w h p n = h p (λ i. n (subst (λ ps. In ps p) (sym w) (Orders.in_left (positions t) (positions u) p i)))
 
-pub inside_if_error : (u : Plan) (x : Outcome) (es : History) → Inside u es → Inside u (if_error x es)
-inside_if_error u Good es h p n = refl
-inside_if_error u Soft es h p n = refl
-inside_if_error u Error es h p n = h p n
+inside_if : (b : Bool) (u : Plan) (es : History) → Inside u es → Inside u (if b then es else [])
+inside_if true u es h p n = h p n
+inside_if false u es h p n = refl
 
-pub inside_if_missed : (u : Plan) (x : Outcome) (es : History) → Inside u es → Inside u (if_missed x es)
-inside_if_missed u Good es h p n = refl
-inside_if_missed u Soft es h p n = h p n
-inside_if_missed u Error es h p n = h p n
-
-pub inside_send : (l : Leg) (x : Outcome) → Inside (Send l) ((l.position, x) ∷ [])
+inside_send : (l : Leg) (x : Outcome) → Inside (Send l) ((l.position, x) ∷ [])
 inside_send l x p n =
     elim (cases_Bool (is_same l.position p)) [
       | inl s ↦ absurd (n (inl (Orders.same_is l.position p s)))
@@ -106,26 +84,26 @@ answers_inside x (Send l) = inside_send l x
 answers_inside x (Reply y) = λ p n. refl
 answers_inside x (Both t u) = inside_both t u (Both t u) (answers x t) (answers x u) refl (answers_inside x t) (answers_inside x u)
 answers_inside x (Beside t u) = inside_first t u (Beside t u) (answers x t) refl (answers_inside x t)
-answers_inside x (OnError t u) = inside_both t u (OnError t u) (answers x t) (if_error (if_all x t) (answers x u)) refl (answers_inside x t) (inside_if_error u (if_all x t) (answers x u) (answers_inside x u))
-answers_inside x (OnMiss t u) = inside_both t u (OnMiss t u) (answers x t) (if_missed (if_all x t) (answers x u)) refl (answers_inside x t) (inside_if_missed u (if_all x t) (answers x u) (answers_inside x u))
+answers_inside x (OnError t u) = inside_both t u (OnError t u) (answers x t) (if_error (if_all x t) (answers x u)) refl (answers_inside x t) (inside_if (is_error (if_all x t)) u (answers x u) (answers_inside x u))
+answers_inside x (OnMiss t u) = inside_both t u (OnMiss t u) (answers x t) (if_missed (if_all x t) (answers x u)) refl (answers_inside x t) (inside_if (is_missed (if_all x t)) u (answers x u) (answers_inside x u))
 answers_inside x (OnHit t u) = inside_first t u (OnHit t u) (answers x t) refl (answers_inside x t)
 answers_inside x (Shadowed s a b t u) = inside_first t u (Shadowed s a b t u) (answers x t) refl (answers_inside x t)
 
 -- ---- from a route to its parts
 
-pub agrees_left : (t u v : Plan) (es fs : History) (o : Outcomes) → positions v ≡ positions t ++ positions u → AreApart t u → Inside u fs → Agrees v (es ++ fs) o → Agrees t es o
+agrees_left : (t u v : Plan) (es fs : History) (o : Outcomes) → positions v ≡ positions t ++ positions u → AreApart t u → Inside u fs → Agrees v (es ++ fs) o → Agrees t es o
 agrees_left t u v es fs o w a k g p i =
     g p (subst (λ ps. In ps p) (sym w) (Orders.in_left (positions t) (positions u) p i)) ∙ before es fs p (k p (λ j. a p i j))
 
-pub agrees_right : (t u v : Plan) (es fs : History) (o : Outcomes) → positions v ≡ positions t ++ positions u → AreApart t u → Inside t es → Agrees v (es ++ fs) o → Agrees u fs o
+agrees_right : (t u v : Plan) (es fs : History) (o : Outcomes) → positions v ≡ positions t ++ positions u → AreApart t u → Inside t es → Agrees v (es ++ fs) o → Agrees u fs o
 agrees_right t u v es fs o w a k g p i =
     g p (subst (λ ps. In ps p) (sym w) (Orders.in_right (positions t) (positions u) p i)) ∙ behind es fs p (k p (λ j. a p j i))
 
-pub agrees_first : (t u v : Plan) (es : History) (o : Outcomes) → positions v ≡ positions t ++ positions u → Agrees v es o → Agrees t es o
+agrees_first : (t u v : Plan) (es : History) (o : Outcomes) → positions v ≡ positions t ++ positions u → Agrees v es o → Agrees t es o
 agrees_first t u v es o w g p i = g p (subst (λ ps. In ps p) (sym w) (Orders.in_left (positions t) (positions u) p i))
 
 -- the second part knows nothing where the list is of the first
-pub agrees_none : (t u v : Plan) (es : History) (o : Outcomes) → positions v ≡ positions t ++ positions u → AreApart t u → Inside t es → Agrees v es o → Agrees u [] o
+agrees_none : (t u v : Plan) (es : History) (o : Outcomes) → positions v ≡ positions t ++ positions u → AreApart t u → Inside t es → Agrees v es o → Agrees u [] o
 agrees_none t u v es o w a k g p i = g p (subst (λ ps. In ps p) (sym w) (Orders.in_right (positions t) (positions u) p i)) ∙ k p (λ j. a p j i)
 
 -- ---- only the route's own positions count
@@ -157,7 +135,7 @@ counts_nothing (Shadowed s a b t u) o l h e = counts_nothing t o l (λ p i. h p 
 
 -- ---- every needed leg answers x
 
-pub if_error_at : (x : Outcome) (es : History) → x ≡ Error → if_error x es ≡ es
+if_error_at : (x : Outcome) (es : History) → x ≡ Error → if_error x es ≡ es
 if_error_at x es e = ap (λ y. if_error y es) e
 
 after_error_reply : (y z : Outcome) (b : Option Outcome) → (y ≡ Error → b ≡ Some z) → on_error (Some y) b ≡ Some (after_error y z)
@@ -170,7 +148,7 @@ after_miss_reply Good z b h = refl
 after_miss_reply Soft z b h = h (λ e. absurd cc)
 after_miss_reply Error z b h = h (λ e. absurd cc)
 
-pub if_missed_at : (x : Outcome) (es : History) → x ≢ Good → if_missed x es ≡ es
+if_missed_at : (x : Outcome) (es : History) → x ≢ Good → if_missed x es ≡ es
 if_missed_at Good es e = absurd (e refl)
 if_missed_at Soft es e = refl
 if_missed_at Error es e = refl
@@ -185,13 +163,13 @@ answers_reply x (Both t u) o a g =
 answers_reply x (Beside t u) o a g = answers_reply x t o a.0 (agrees_first t u (Beside t u) (answers x t) o refl g)
 answers_reply x (OnError t u) o a g =
     let rest = if_error (if_all x t) (answers x u) in
-    let r = answers_reply x t o a.0 (agrees_left t u (OnError t u) (answers x t) rest o refl a.2 (inside_if_error u (if_all x t) (answers x u) (answers_inside x u)) g) in
+    let r = answers_reply x t o a.0 (agrees_left t u (OnError t u) (answers x t) rest o refl a.2 (inside_if (is_error (if_all x t)) u (answers x u) (answers_inside x u)) g) in
     let k = agrees_right t u (OnError t u) (answers x t) rest o refl a.2 (answers_inside x t) g in
     ap (λ y. on_error y (reply u o)) r
     ∙ after_error_reply (if_all x t) (if_all x u) (reply u o) (λ e. answers_reply x u o a.1 (subst (λ es. Agrees u es o) (if_error_at (if_all x t) (answers x u) e) k))
 answers_reply x (OnMiss t u) o a g =
     let rest = if_missed (if_all x t) (answers x u) in
-    let r = answers_reply x t o a.0 (agrees_left t u (OnMiss t u) (answers x t) rest o refl a.2 (inside_if_missed u (if_all x t) (answers x u) (answers_inside x u)) g) in
+    let r = answers_reply x t o a.0 (agrees_left t u (OnMiss t u) (answers x t) rest o refl a.2 (inside_if (is_missed (if_all x t)) u (answers x u) (answers_inside x u)) g) in
     let k = agrees_right t u (OnMiss t u) (answers x t) rest o refl a.2 (answers_inside x t) g in
     ap (λ y. on_miss y (reply u o)) r
     ∙ after_miss_reply (if_all x t) (if_all x u) (reply u o) (λ e. answers_reply x u o a.1 (subst (λ es. Agrees u es o) (if_missed_at (if_all x t) (answers x u) e) k))
@@ -212,7 +190,7 @@ if_missed_some Error es p y e = ((λ w. absurd cc), inr refl, e)
 abbrev pub IsOfSent : Plan → Choice → Outcomes → List ℕ → Type 0
 IsOfSent t c o p = (l : Leg) × (l.position ≡ p) × Sends t c o l
 
-pub send_sent : (k : Leg) (c : Choice) (o : Outcomes) (x : Outcome) (p : List ℕ) (y : Outcome) → outcomes ((k.position, x) ∷ []) p ≡ Some y → IsOfSent (Send k) c o p
+send_sent : (k : Leg) (c : Choice) (o : Outcomes) (x : Outcome) (p : List ℕ) (y : Outcome) → outcomes ((k.position, x) ∷ []) p ≡ Some y → IsOfSent (Send k) c o p
 send_sent k c o x p y e =
     elim (cases_Bool (is_same k.position p)) [
       | inl s ↦ (k, Orders.same_is k.position p s, refl)
@@ -230,7 +208,7 @@ answers_sent x (Both t u) c o a g p y e =
 answers_sent x (Beside t u) c o a g p y e = let s = answers_sent x t c o a.0 (agrees_first t u (Beside t u) (answers x t) o refl g) p y e in (s.0, s.1, inl s.2)
 answers_sent x (OnError t u) c o a g p y e =
     let rest = if_error (if_all x t) (answers x u) in
-    let left = agrees_left t u (OnError t u) (answers x t) rest o refl a.2 (inside_if_error u (if_all x t) (answers x u) (answers_inside x u)) g in
+    let left = agrees_left t u (OnError t u) (answers x t) rest o refl a.2 (inside_if (is_error (if_all x t)) u (answers x u) (answers_inside x u)) g in
     let right = agrees_right t u (OnError t u) (answers x t) rest o refl a.2 (answers_inside x t) g in
     elim (either (answers x t) rest p y e) [
       | inl f ↦ let s = answers_sent x t c o a.0 left p y f in (s.0, s.1, inl s.2)
@@ -241,7 +219,7 @@ answers_sent x (OnError t u) c o a g p y e =
     ]
 answers_sent x (OnMiss t u) c o a g p y e =
     let rest = if_missed (if_all x t) (answers x u) in
-    let left = agrees_left t u (OnMiss t u) (answers x t) rest o refl a.2 (inside_if_missed u (if_all x t) (answers x u) (answers_inside x u)) g in
+    let left = agrees_left t u (OnMiss t u) (answers x t) rest o refl a.2 (inside_if (is_missed (if_all x t)) u (answers x u) (answers_inside x u)) g in
     let right = agrees_right t u (OnMiss t u) (answers x t) rest o refl a.2 (answers_inside x t) g in
     elim (either (answers x t) rest p y e) [
       | inl f ↦ let s = answers_sent x t c o a.0 left p y f in (s.0, s.1, inl s.2)
@@ -263,10 +241,10 @@ counts_acknowledged (Both t u) o l d a g (inr e) = inr (counts_acknowledged u o 
 counts_acknowledged (Beside t u) o l d a g (inl e) = inl (counts_acknowledged t o l d.0 a.0 (agrees_first t u (Beside t u) (answers Good t) o refl g) e)
 counts_acknowledged (Beside t u) o l d a g (inr e) = inr (counts_nothing u o l (agrees_none t u (Beside t u) (answers Good t) o refl a.2 (answers_inside Good t) g) e)
 counts_acknowledged (OnError t u) o l d a g (inl e) =
-    inl (counts_acknowledged t o l d.0 a.0 (agrees_left t u (OnError t u) (answers Good t) (if_error (if_all Good t) (answers Good u)) o refl a.2 (inside_if_error u (if_all Good t) (answers Good u) (answers_inside Good u)) g) e)
+    inl (counts_acknowledged t o l d.0 a.0 (agrees_left t u (OnError t u) (answers Good t) (if_error (if_all Good t) (answers Good u)) o refl a.2 (inside_if (is_error (if_all Good t)) u (answers Good u) (answers_inside Good u)) g) e)
 counts_acknowledged (OnError t u) o l d a g (inr e) =
     let rest = if_error (if_all Good t) (answers Good u) in
-    let left = agrees_left t u (OnError t u) (answers Good t) rest o refl a.2 (inside_if_error u (if_all Good t) (answers Good u) (answers_inside Good u)) g in
+    let left = agrees_left t u (OnError t u) (answers Good t) rest o refl a.2 (inside_if (is_error (if_all Good t)) u (answers Good u) (answers_inside Good u)) g in
     let right = agrees_right t u (OnError t u) (answers Good t) rest o refl a.2 (answers_inside Good t) g in
     let w = Basics.some_same (sym (answers_reply Good t o a.0 left) ∙ e.0) in
     inr (w, counts_acknowledged u o l d.1 a.1 (subst (λ es. Agrees u es o) (if_error_at (if_all Good t) (answers Good u) w) right) e.1)
@@ -290,12 +268,12 @@ can_be_done t c d a = (
 
 -- ---- hits
 
-pub after_error_good : (y z : Outcome) → after_error y z ≡ Good → (y ≡ Good) ⊎ (z ≡ Good)
+after_error_good : (y z : Outcome) → after_error y z ≡ Good → (y ≡ Good) ⊎ (z ≡ Good)
 after_error_good Good z e = inl refl
 after_error_good Soft z e = absurd cc
 after_error_good Error z e = inr e
 
-pub after_miss_good : (y z : Outcome) → after_miss y z ≡ Good → (y ≡ Good) ⊎ (z ≡ Good)
+after_miss_good : (y z : Outcome) → after_miss y z ≡ Good → (y ≡ Good) ⊎ (z ≡ Good)
 after_miss_good Good z e = inl refl
 after_miss_good Soft z e = inr e
 after_miss_good Error z e = inr e
@@ -315,14 +293,14 @@ after_miss_at Good z n = absurd (n refl)
 after_miss_at Soft z n = refl
 after_miss_at Error z n = refl
 
-pub error≢good : Error ≢ Good
+error≢good : Error ≢ Good
 error≢good e = cc
 
 pub soft≢good : Soft ≢ Good
 soft≢good e = cc
 
 -- a reply that is an error can be had by errors alone
-pub fails : (t : Plan) (o : Outcomes) → IsHonest t → reply t o ≡ Some Error → if_all Error t ≡ Error
+fails : (t : Plan) (o : Outcomes) → IsHonest t → reply t o ≡ Some Error → if_all Error t ≡ Error
 fails (Send l) o h e = refl
 fails (Reply y) o h e = Basics.some_same e
 fails (Both t u) o h e =
@@ -345,7 +323,7 @@ fails (OnMiss t u) o h e =
 fails (OnHit t u) o h e = fails t o h.0 e
 fails (Shadowed i j k t u) o h e = fails t o h.0 e
 
-pub good_hits : (t : Plan) (o : Outcomes) → IsHonest t → reply t o ≡ Some Good → (m : Leg) × Hits t m
+good_hits : (t : Plan) (o : Outcomes) → IsHonest t → reply t o ≡ Some Good → (m : Leg) × Hits t m
 good_hits (Send l) o h e = (l, refl)
 good_hits (Reply y) o h e = absurd (h (Basics.some_same e))
 good_hits (Both t u) o h e =
@@ -368,7 +346,7 @@ good_hits (OnMiss t u) o h e =
 good_hits (OnHit t u) o h e = good_hits t o h.0 e
 good_hits (Shadowed i j k t u) o h e = good_hits t o h.0 e
 
-pub hit_can_be : (t : Plan) (o : Outcomes) (l : Leg) → IsHonest t → HitAt t o l → Hits t l
+hit_can_be : (t : Plan) (o : Outcomes) (l : Leg) → IsHonest t → HitAt t o l → Hits t l
 hit_can_be (Send k) o l h e = e.0
 hit_can_be (Reply x) o l h e = e
 hit_can_be (Both t u) o l h e = (good_hits t o h.0 e.0, good_hits u o h.1 e.1, ⊎_elim (λ f. inl (hit_can_be t o l h.0 f)) (λ f. inr (hit_can_be u o l h.1 f)) e.2)
@@ -399,7 +377,7 @@ shows_both t u l m n es fs a x y f =
       ];
     }
 
-abbrev pub Shown : Plan → Leg → Type 0
+abbrev Shown : Plan → Leg → Type 0
 Shown t l = (es : History) × Shows t l es
 
 pub shows_on_error : (t u : Plan) (l : Leg) (fs : History) → AreApart t u → IsApart t → if_all Error t ≡ Error → Shows u l fs → Shows (OnError t u) l (answers Error t ++ fs)
@@ -417,7 +395,7 @@ shows_on_error t u l fs a at w y =
       ];
     }
 
-pub missed_at : (y : Outcome) → y ≢ Good → IsMissed (Some y)
+missed_at : (y : Outcome) → y ≢ Good → IsMissed (Some y)
 missed_at Good n = absurd (n refl)
 missed_at Soft n = inl refl
 missed_at Error n = inr refl
@@ -438,7 +416,7 @@ shows_on_miss t u l fs a at h y =
     }
 
 -- what leads to a hit in the first part leads to one in the whole
-pub shows_first : (t u v : Plan) (l : Leg) (es : History) → positions v ≡ positions t ++ positions u
+shows_first : (t u v : Plan) (l : Leg) (es : History) → positions v ≡ positions t ++ positions u
     → ((o : Outcomes) → HitAt t o l → HitAt v o l) → ((o : Outcomes) → reply t o ≡ Some Good → reply v o ≡ Some Good) → ((c : Choice) (o : Outcomes) (m : Leg) → Sends t c o m → Sends v c o m)
     → Shows t l es → Shows v l es
 shows_first t u v l es w f g h x =
@@ -449,6 +427,22 @@ shows_first t u v l es w f g h x =
       sent = λ c o k p z e. let s = x.sent c o (agrees_first t u v es o w k) p z e in (s.0, s.1, h c o s.0 s.2);
     }
 
+module _ (t u : Plan) (l : Leg) (es : History) (x : Shows t l es) where
+  pub in_beside : Shows (Beside t u) l es
+  in_beside = shows_first t u (Beside t u) l es refl (λ o e. e) (λ o e. e) (λ c o m s. inl s) x
+
+  pub in_on_error : Shows (OnError t u) l es
+  in_on_error = shows_first t u (OnError t u) l es refl (λ o e. inl e) (λ o e. Basics.on_error_first (reply t o) (reply u o) Good e Basics.good≢error) (λ c o m s. inl s) x
+
+  pub in_on_miss : Shows (OnMiss t u) l es
+  in_on_miss = shows_first t u (OnMiss t u) l es refl (λ o e. inl e) (λ o e. Basics.on_miss_first (reply t o) (reply u o) e) (λ c o m s. inl s) x
+
+  pub in_on_hit : Shows (OnHit t u) l es
+  in_on_hit = shows_first t u (OnHit t u) l es refl (λ o e. e) (λ o e. e) (λ c o m s. inl s) x
+
+  pub in_shadowed : (n b d : ℕ) → Shows (Shadowed n b d t u) l es
+  in_shadowed n b d = shows_first t u (Shadowed n b d t u) l es refl (λ o e. e) (λ o e. e) (λ c o m s. inl s) x
+
 pub shows_send : (k : Leg) → Shows (Send k) k ((k.position, Good) ∷ [])
 shows_send k = record {
   inside = inside_send k Good;
@@ -457,7 +451,7 @@ shows_send k = record {
   sent = λ c o g p y e. send_sent k c o Good p y e;
 }
 
-pub shown : (t : Plan) (l : Leg) → IsApart t → IsHonest t → Hits t l → Shown t l
+shown : (t : Plan) (l : Leg) → IsApart t → IsHonest t → Hits t l → Shown t l
 shown (Send k) l a h i = ((k.position, Good) ∷ [], subst (λ m. Shows (Send k) m ((k.position, Good) ∷ [])) i (shows_send k))
 shown (Reply x) l a h i = absurd i
 shown (Both t u) l a h i =
@@ -465,13 +459,13 @@ shown (Both t u) l a h i =
       | inl e ↦ let x = shown t l a.0 h.0 e in let y = shown u i.1.0 a.1 h.1 i.1.1 in (x.0 ++ y.0, shows_both t u l l i.1.0 x.0 y.0 a.2 x.1 y.1 (λ o f g. inl f))
       | inr e ↦ let x = shown t i.0.0 a.0 h.0 i.0.1 in let y = shown u l a.1 h.1 e in (x.0 ++ y.0, shows_both t u l i.0.0 l x.0 y.0 a.2 x.1 y.1 (λ o f g. inr g))
     ]
-shown (Beside t u) l a h i = let x = shown t l a.0 h.0 i in (x.0, shows_first t u (Beside t u) l x.0 refl (λ o e. e) (λ o e. e) (λ c o m s. inl s) x.1)
-shown (OnError t u) l a h (inl i) = let x = shown t l a.0 h.0 i in (x.0, shows_first t u (OnError t u) l x.0 refl (λ o e. inl e) (λ o e. Basics.on_error_first (reply t o) (reply u o) Good e Basics.good≢error) (λ c o m s. inl s) x.1)
+shown (Beside t u) l a h i = let x = shown t l a.0 h.0 i in (x.0, in_beside t u l x.0 x.1)
+shown (OnError t u) l a h (inl i) = let x = shown t l a.0 h.0 i in (x.0, in_on_error t u l x.0 x.1)
 shown (OnError t u) l a h (inr i) = let y = shown u l a.1 h.1 i.1 in (answers Error t ++ y.0, shows_on_error t u l y.0 a.2 a.0 i.0 y.1)
-shown (OnMiss t u) l a h (inl i) = let x = shown t l a.0 h.0 i in (x.0, shows_first t u (OnMiss t u) l x.0 refl (λ o e. inl e) (λ o e. Basics.on_miss_first (reply t o) (reply u o) e) (λ c o m s. inl s) x.1)
+shown (OnMiss t u) l a h (inl i) = let x = shown t l a.0 h.0 i in (x.0, in_on_miss t u l x.0 x.1)
 shown (OnMiss t u) l a h (inr i) = let y = shown u l a.1 h.1 i in (answers Soft t ++ y.0, shows_on_miss t u l y.0 a.2 a.0 h.0 y.1)
-shown (OnHit t u) l a h i = let x = shown t l a.0 h.0 i in (x.0, shows_first t u (OnHit t u) l x.0 refl (λ o e. e) (λ o e. e) (λ c o m s. inl s) x.1)
-shown (Shadowed n b d t u) l a h i = let x = shown t l a.0 h.0 i in (x.0, shows_first t u (Shadowed n b d t u) l x.0 refl (λ o e. e) (λ o e. e) (λ c o m s. inl s) x.1)
+shown (OnHit t u) l a h i = let x = shown t l a.0 h.0 i in (x.0, in_on_hit t u l x.0 x.1)
+shown (Shadowed n b d t u) l a h i = let x = shown t l a.0 h.0 i in (x.0, in_shadowed t u l x.0 x.1 n b d)
 
 pub hits_are_exact : (t : Plan) (c : Choice) (l : Leg) → IsApart t → IsHonest t → ((o : Outcomes) × IsReachable t c o × HitAt t o l) ↔ Hits t l
 hits_are_exact t c l a h = (

@@ -29,7 +29,8 @@ all-before : (p : List ℕ) (ps : List (List ℕ)) → ((q : List ℕ) → In ps
 all-before p [] h = All-nil (IsBefore p)
 all-before p (q ∷ ps) h = All-cons (IsBefore p) q ps (h q (inl refl)) (all-before p ps (λ r i. h r (inr i)))
 
-pairs : (ps : List (List ℕ)) → IsRising ps → AllPairs IsBefore ps
+-- each place is before all later ones
+pub pairs : (ps : List (List ℕ)) → IsRising ps → AllPairs IsBefore ps
 pairs [] h = λ i j d low high. absurd (omega (arith, high))
 pairs (p ∷ ps) h = AllPairs-cons IsBefore p ps (all-before p ps h.0) (pairs ps h.1)
 

@@ -14,6 +14,7 @@ use Rattle.mcv_rules.specs.Plan.{Leg, Plan, Send, Reply, Both, Beside, OnError, 
 use Rattle.mcv_rules.specs.Plans.{plan}
 use Rattle.mcv_rules.specs.Sound.{IsApart}
 use Rattle.mcv_rules.proofs.Among.{Among}
+use Rattle.mcv_rules.proofs.Basics
 use Rattle.mcv_rules.proofs.Replied
 use Rattle.mcv_rules.proofs.Sending.{Sends}
 use Rattle.mcv_rules.proofs.Sound
@@ -23,12 +24,9 @@ use Rattle.mcv_symbolic.proofs.Covered as plans
 use Rattle.mcv_symbolic.proofs.Exact as exact
 use Rattle.mcv_symbolic.proofs.Unique.{unique}
 
-same_some : {x y : Outcome} → Some x ≡ Some y → x ≡ y
-same_some e = cc
-
 first_answer : (r : List Answer) (x : Outcome) → outcome_of r ≡ Some x → x ≢ Error → Has r (λ a. a.outcome ≢ Error)
 first_answer [] x e w = absurd (let f : None ≡ Some x = e in cc)
-first_answer (a ∷ more) x e w = inl (λ f. w (sym (same_some e) ∙ f))
+first_answer (a ∷ more) x e w = inl (λ f. w (sym (Basics.some_same e) ∙ f))
 
 has_outcome : (r : List Answer) (P : Answer → Type 0) → Has r P → (a : Answer) × Among r a × P a
 has_outcome [] P h = absurd h

@@ -192,9 +192,10 @@ plan_rises t s = (ordered t s).rising
 
 -- ---- the sets are parts of it, in its order
 
-record IsPart (ks ps : List (List ℕ)) : Type 0 where
-  inside : (p : List ℕ) → In ks p → In ps p
-  rising : IsRising ps → IsRising ks
+-- some of the places, in their order
+pub record IsPart (ks ps : List (List ℕ)) : Type 0 where
+  pub inside : (p : List ℕ) → In ks p → In ps p
+  pub rising : IsRising ps → IsRising ks
 
 rising-left : (ps qs : List (List ℕ)) → IsRising (ps ++ qs) → IsRising ps
 rising-left [] qs h = tt
@@ -209,19 +210,19 @@ rising-across [] qs p q h i j = absurd i
 rising-across (x ∷ ps) qs p q h (inl e) j = subst (λ y. IsBefore y q) e (h.0 q (in_right ps qs q j))
 rising-across (x ∷ ps) qs p q h (inr i) j = rising-across ps qs p q h.1 i j
 
-no-part : (ps : List (List ℕ)) → IsPart [] ps
+pub no-part : (ps : List (List ℕ)) → IsPart [] ps
 no-part ps = record { inside = λ p i. absurd i; rising = λ r. tt }
 
-whole-part : (ps : List (List ℕ)) → IsPart ps ps
+pub whole-part : (ps : List (List ℕ)) → IsPart ps ps
 whole-part ps = record { inside = λ p i. i; rising = λ r. r }
 
-both-parts : (ks ls ps qs : List (List ℕ)) → IsPart ks ps → IsPart ls qs → IsPart (ks ++ ls) (ps ++ qs)
+pub both-parts : (ks ls ps qs : List (List ℕ)) → IsPart ks ps → IsPart ls qs → IsPart (ks ++ ls) (ps ++ qs)
 both-parts ks ls ps qs a b = record {
   inside = λ p i. ⊎_elim (λ j. in_left ps qs p (a.inside p j)) (λ j. in_right ps qs p (b.inside p j)) (in_either ks ls p i);
   rising = λ r. rising-append ks ls (a.rising (rising-left ps qs r)) (b.rising (rising-right ps qs r)) (λ p q i j. rising-across ps qs p q r (a.inside p i) (b.inside q j));
 }
 
-left-part : (ks ps qs : List (List ℕ)) → IsPart ks ps → IsPart ks (ps ++ qs)
+pub left-part : (ks ps qs : List (List ℕ)) → IsPart ks ps → IsPart ks (ps ++ qs)
 left-part ks ps qs a = record { inside = λ p i. in_left ps qs p (a.inside p i); rising = λ r. a.rising (rising-left ps qs r) }
 
 -- the positions of legs

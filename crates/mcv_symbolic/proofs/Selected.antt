@@ -1,11 +1,10 @@
 -- The plan of a selector is that of the child that it chooses.
-use Rattle.std.proofs.Common.{◌≡◌, ◌<◌, ◌≤◌, ◌+◌, Box, cond, ℕ, zero, suc, Bool, true, false, List, [], ◌∷◌, ◌++◌, length, map, get_or, Vec, Global, Option, Some, None, refl, sym, ap, ◌∙◌, arith, rules}
+use Rattle.std.proofs.Common.{◌≡◌, ◌<◌, ◌≤◌, ◌+◌, Box, ℕ, zero, suc, List, [], ◌∷◌, length, get_or, Vec, Global, Option, Some, None, refl, sym, ap, ◌∙◌, arith, rules}
 use Rattle.std.specs.Prelude.{IfOk, Result, Ok, Err}
 use Rattle.std.specs.declared.alloc.AllocError.{AllocError}
-use Rattle.mcv_base.specs.declared.operation.Op.{Op}
 use Rattle.mcv_base.specs.declared.reply.Outcome.{Outcome}
 use Rattle.mcv_base.specs.declared.reply.Outcome.TheVariants.{Error}
-use Rattle.mcv_route.specs.Children.{child_or, is_policy_for, policy_of, prefix_policy}
+use Rattle.mcv_route.specs.Children.{child_or, policy_of, prefix_policy}
 use Rattle.mcv_route.specs.Situation.{Situation, under}
 use Rattle.mcv_route.specs.Tree.{Tree}
 use Rattle.mcv_route.specs.View.{view, prefix_view, operation_view, trees_of, last_view}
@@ -16,7 +15,7 @@ use Rattle.mcv_route.proofs.Views.{prefix_view-out, operation_view-out, view-Pre
 use Rattle.mcv_rules.specs.Laid.{operations_of, prefixes_of}
 use Rattle.mcv_rules.specs.Plan as whole
 use Rattle.mcv_rules.specs.Plans.{plan, plan_each}
-use Rattle.mcv_rules.proofs.Choosing.{prefix_policy-le}
+use Rattle.mcv_rules.proofs.Choosing.{routes_before, policy_at, last_at, length-routes, policy_of-le, prefix_policy-le, length-prefixes}
 use Rattle.mcv_symbolic.specs.declared.plan.Plan.{Plan, Reply, the_lemmas}
 use Rattle.mcv_symbolic.specs.InMemory.{plan_of}
 
@@ -45,43 +44,19 @@ unchosen s (u ∷ ts) k (suc j) h = unchosen s ts (suc k) j (omega (arith, h))
 -- ---- policies, with more routes after them
 
 module _ {A P : Type 0} (g : P → A × Tree) where
-  abbrev pub routes_before : List P → List Tree → List Tree
-  routes_before policies more = map (λ p. p.1) (map g policies) ++ more
-
-  policy_at : (policies : List P) (more : List Tree) (j : ℕ) (policy : P) → j < length policies → policy ≡ get_or policies j policy → (g policy).1 ≡ get_or (routes_before policies more) j (g policy).1
-  policy_at [] more j policy h is = absurd (omega (arith, h))
-  policy_at (p ∷ policies) more zero policy h is = ap (λ q. (g q).1) is
-  policy_at (p ∷ policies) more (suc j) policy h is = policy_at policies more j policy (omega (arith, h)) is
-
-  last_at : (policies : List P) (t : Tree) → t ≡ get_or (routes_before policies (t ∷ [])) (length policies) t
-  last_at [] t = refl
-  last_at (p ∷ policies) t = last_at policies t
-
-  length-routes : (policies : List P) (more : List Tree) → length (routes_before policies more) ≡ length policies + length more
-  length-routes [] more = omega arith
-  length-routes (p ∷ policies) more = omega (arith, length-routes policies more)
-
   policy-plan : (policies : List P) (more : List Tree) (n : ℕ) (policy : P) (s : Situation) → n < length policies → policy ≡ get_or policies n policy
-      → child_or (whole.Reply Error) n (plan_each 0 (trees_of (routes_before policies more)) s) ≡ plan (g policy).1 (under n s)
-  policy-plan policies more n policy s h is = chosen s (routes_before policies more) 0 n n (g policy).1 (omega (arith, h, length-routes policies more)) (policy_at policies more n policy h is) (omega arith)
+      → child_or (whole.Reply Error) n (plan_each 0 (trees_of (routes_before g policies more)) s) ≡ plan (g policy).1 (under n s)
+  policy-plan policies more n policy s h is = chosen s (routes_before g policies more) 0 n n (g policy).1 (omega (arith, h, length-routes g policies more)) (policy_at g policies more n policy h is) (omega arith)
 
-  last-plan : (policies : List P) (t : Tree) (n : ℕ) (s : Situation) → n ≡ length policies → child_or (whole.Reply Error) n (plan_each 0 (trees_of (routes_before policies (t ∷ []))) s) ≡ plan t (under n s)
+  last-plan : (policies : List P) (t : Tree) (n : ℕ) (s : Situation) → n ≡ length policies → child_or (whole.Reply Error) n (plan_each 0 (trees_of (routes_before g policies (t ∷ []))) s) ≡ plan t (under n s)
   last-plan policies t n s last =
-      chosen s (routes_before policies (t ∷ [])) 0 n n t (omega (arith, last, length-routes policies (t ∷ [])))
-      (last_at policies t ∙ ap (λ i. get_or (routes_before policies (t ∷ [])) i t) (sym last)) (omega arith)
+      chosen s (routes_before g policies (t ∷ [])) 0 n n t (omega (arith, last, length-routes g policies (t ∷ [])))
+      (last_at g policies t ∙ ap (λ i. get_or (routes_before g policies (t ∷ [])) i t) (sym last)) (omega arith)
 
-  no-plan : (policies : List P) (n : ℕ) (s : Situation) → length policies ≤ n → child_or (whole.Reply Error) n (plan_each 0 (trees_of (routes_before policies [])) s) ≡ whole.Reply Error
-  no-plan policies n s h = unchosen s (routes_before policies []) 0 n (omega (arith, h, length-routes policies []))
+  no-plan : (policies : List P) (n : ℕ) (s : Situation) → length policies ≤ n → child_or (whole.Reply Error) n (plan_each 0 (trees_of (routes_before g policies [])) s) ≡ whole.Reply Error
+  no-plan policies n s h = unchosen s (routes_before g policies []) 0 n (omega (arith, h, length-routes g policies []))
 
 -- ---- operations
-
-first_or : (b : Bool) (n m : ℕ) → n ≤ m → cond b 0 (suc n) ≤ suc m
-first_or true n m h = omega arith
-first_or false n m h = omega (arith, h)
-
-policy_of-le : (op : Op) (policies : List OperationPolicy) → policy_of op (operations_of policies) ≤ length policies
-policy_of-le op [] = omega arith
-policy_of-le op (p ∷ policies) = first_or (is_policy_for op (operation_view p).0) (policy_of op (operations_of policies)) (length policies) (policy_of-le op policies)
 
 operations-plan : (policies : Vec OperationPolicy Global) (default : Option (Box Route Global)) (n : ℕ) (s : Situation) → n ≡ policy_of s.op (operations_of policies.items)
     → plan (view (OperationSelector policies default)) s ≡ child_or (whole.Reply Error) n (plan_each 0 (trees_of (routes_before operation_view policies.items (last_view default))) s)
@@ -106,10 +81,6 @@ pub no_default-plan : (policies : Vec OperationPolicy Global) (n : ℕ) (s : Sit
 no_default-plan policies n s e h = sym (operations-plan policies None n s e ∙ no-plan operation_view policies.items n s h)
 
 -- ---- prefixes
-
-length-prefixes : (policies : List PrefixPolicy) → length (prefixes_of policies) ≡ length policies
-length-prefixes [] = refl
-length-prefixes (p ∷ policies) = ap suc (length-prefixes policies)
 
 prefixes-plan : (policies : Vec PrefixPolicy Global) (wildcard : Option (Box Route Global)) (n : ℕ) (s : Situation) → n ≡ prefix_policy s.rest (prefixes_of policies.items)
     → plan (view (PrefixSelector policies wildcard)) s ≡ child_or (whole.Reply Error) n (plan_each 0 (trees_of (routes_before prefix_view policies.items (last_view wildcard))) s)

@@ -1,11 +1,10 @@
 -- What holds of plans by their structure, said by the sets.
-use Rattle.std.proofs.Common.{◌≡◌, ◌≢◌, ◌⊎◌, inl, inr, ℕ, ◌<◌, List, [], Option, Some, refl, sym, ap, ◌∙◌, subst}
+use Rattle.std.proofs.Common.{◌≡◌, ◌⊎◌, inl, inr, ℕ, ◌<◌, List, [], Option, Some, refl, sym, ap, ◌∙◌, subst}
 use Rattle.std.specs.Prelude.{slice_index}
 use Rattle.std.proofs.lemmas.Option.{same_Some}
 use Rattle.mcv_base.specs.declared.operation.Mark.TheVariants.{Plain}
 use Rattle.mcv_base.specs.declared.operation.Op.TheVariants.{Get, Gets, Delete}
-use Rattle.mcv_base.specs.declared.reply.Outcome.{Outcome}
-use Rattle.mcv_base.specs.declared.reply.Outcome.TheVariants.{Good, Soft, Error}
+use Rattle.mcv_base.specs.declared.reply.Outcome.TheVariants.{Good, Error}
 use Rattle.mcv_route.specs.Outcomes.{Choice}
 use Rattle.mcv_route.specs.Places.{pool_at_position}
 use Rattle.mcv_route.specs.Situation.{asked}
@@ -17,6 +16,7 @@ use Rattle.mcv_symbolic.specs.Justified as sets
 use Rattle.mcv_symbolic.specs.Justified.{IsAcknowledgedPool, IsNeverAcknowledged, IsReadableAt, SymbolsAreIndependent}
 use Rattle.mcv_symbolic.specs.Laws.{CoveredIsJustified}
 use Rattle.mcv_symbolic.specs.Structure.{if_all, Acknowledged, Hits}
+use Rattle.mcv_symbolic.proofs.Covered.{error_or_not}
 use Rattle.mcv_symbolic.proofs.Exactness.{acknowledged_is_exact, done_is_exact, hits_are_exact}
 use Rattle.mcv_symbolic.proofs.OnPlans as plans
 use Rattle.mcv_symbolic.proofs.Placed.{leaf_of, acknowledged_stands, hits_stand}
@@ -68,17 +68,12 @@ module _ (sizes : List ℕ) (t : Tree) (rest : List ℕ) (since : Option ℕ) wh
 
   -- ---- justified
 
-  error-or-not : (x : Outcome) → (x ≡ Error) ⊎ (x ≢ Error)
-  error-or-not Good = inr (λ e. cc)
-  error-or-not Soft = inr (λ e. cc)
-  error-or-not Error = inl refl
-
   never-sets : if_all Good delete ≡ Error → IsNeverAcknowledged t rest since
   never-sets e c can = (done_is_exact t rest since c).0 can e
 
   never-plans : IsNeverAcknowledged t rest since → if_all Good delete ≡ Error
   never-plans never =
-      elim (error-or-not (if_all Good delete)) [
+      elim (error_or_not (if_all Good delete)) [
         | inl e ↦ e
         | inr ne ↦ absurd (never any_choice ((done_is_exact t rest since any_choice).1 ne))
       ]

@@ -1,17 +1,13 @@
 -- What the walk for a hit leaves in its list, one combination at a time.
-use Rattle.std.proofs.Common.{◌≡◌, ◌⊎◌, inl, inr, ℕ, Bool, true, false, List, [], ◌∷◌, ◌++◌, length, take, Box, Global, Option, Some, None, refl, sym, ap, ◌∙◌, subst, append_assoc, append-nil}
+use Rattle.std.proofs.Common.{◌≡◌, ◌⊎◌, inl, inr, ℕ, Bool, true, false, List, [], ◌++◌, length, take, Box, Global, Option, Some, None, refl, sym, ap, ◌∙◌, subst, append_assoc}
 use Rattle.std.specs.Prelude.{if◌then◌else◌}
-use Rattle.std.specs.Str.{bytes_eq}
-use Rattle.std.proofs.lemmas.Bool.{cases_Bool, false≢true}
+use Rattle.std.proofs.lemmas.Bool.{false≢true}
 use Rattle.std.proofs.lemmas.List.{length-map, take_at, take-map}
-use Rattle.std.proofs.lemmas.Slice.Eq.{bytes_eq-Decides}
 use Rattle.mcv_base.specs.Reply.{is_error, is_missed}
 use Rattle.mcv_base.specs.declared.reply.Outcome.{Outcome}
 use Rattle.mcv_base.specs.declared.reply.Outcome.TheVariants.{Good, Soft, Error}
-use Rattle.mcv_route.specs.Outcomes.{History, is_same}
+use Rattle.mcv_route.specs.Outcomes.{History}
 use Rattle.mcv_rules.specs.Plan as whole
-use Rattle.mcv_rules.specs.Plan.{Leg, Send}
-use Rattle.mcv_rules.proofs.Orders.{same_is, same_self}
 use Rattle.mcv_symbolic.specs.InMemory.{plan_of}
 use Rattle.mcv_symbolic.specs.Shown.{also, answers, first_hit, history_of, leading, one_after_other, or_else}
 use Rattle.mcv_symbolic.specs.Structure.{if_all}
@@ -89,20 +85,6 @@ module _ (x z : Option History) (es old mid after : History) (n : ℕ) (b : Bool
   pub tried-stop : (go : Bool) → go ≡ false → IsTried (or_else x (if go then also es z else None)) false old after
   tried-stop go stop = subst (λ d. IsTried (or_else x (if d then also es z else None)) false old after) (sym stop) (tried-second x None b false old mid after t isnt (refl, (es, instead)))
 
--- ---- one leg
-
-pub here : (l : Leg) (p : List ℕ) (old new : History) → bytes_eq l.position p ≡ true → new ≡ old ++ (l.position, Good) ∷ [] → IsTried (leading p (Send l)) true old new
-here l p old new is one =
-    let same : is_same l.position p ≡ true = subst (λ q. is_same l.position q ≡ true) ((bytes_eq-Decides l.position p).0 is) (same_self l.position) in
-    subst (λ d. IsTried (if d then Some ((l.position, Good) ∷ []) else None) true old new) (sym same) (refl, one)
-
-pub elsewhere : (l : Leg) (p : List ℕ) (old new : History) → bytes_eq l.position p ≡ false → new ≡ old → IsTried (leading p (Send l)) false old new
-elsewhere l p old new is none =
-    elim (cases_Bool (is_same l.position p)) [
-      | inl s ↦ absurd (false≢true (sym is ∙ (bytes_eq-Decides l.position p).1 (same_is l.position p s)))
-      | inr s ↦ subst (λ d. IsTried (if d then Some ((l.position, Good) ∷ []) else None) false old new) (sym s) (refl, ([], none ∙ sym (append-nil old)))
-    ]
-
 -- ---- on plans in memory
 
 no-error : (y : Outcome) → (y ≡ Good) ⊎ (y ≡ Soft) → is_error y ≡ false
@@ -176,9 +158,6 @@ module _ (p : Plan) (a b : Box Plan Global) (is : p ≡ Both a b) where
 
   pub both-hit : (x c : Bool) (old mid new : History) → IsTried (first_hit one) x old mid → x ≡ true → IsTried (first_hit other) c mid new → IsTried (first_hit (plan_of p)) c old new
   both-hit x c old mid new t does u = subst (λ q. IsTried (first_hit q) c old new) (sym tree) (tried-both (first_hit one) (first_hit other) x c old mid new t does u)
-
-  pub both-missed : (x : Bool) (old mid : History) → IsTried (first_hit one) x old mid → x ≡ false → IsTried (first_hit (plan_of p)) false old mid
-  both-missed x old mid t isnt = subst (λ q. IsTried (first_hit q) false old mid) (sym tree) (tried-neither (first_hit one) (first_hit other) x old mid t isnt)
 
   module _ (leaf : List ℕ) (x c : Bool) (old mid new : History) (t : IsTried (leading leaf one) x old mid) (u : IsTried (if x then first_hit other else None) c mid new) where
     in-first : IsTried (one_after_other (leading leaf one) (first_hit other)) c old new

@@ -1,5 +1,5 @@
 //! What the checker compares: for a route, a class of rests and an era, the positions from which a get can
-//! be answered and those to which every acknowledged delete has been sent.
+//! be answered and those to which every delete that has a reply has been sent.
 //!
 //! The definitions (`specs/Sets.antt`) speak of all outcomes that can come and of one choice. The laws say
 //! that the choice makes no difference, and that the structure of the route gives the sets; so `Case` lays

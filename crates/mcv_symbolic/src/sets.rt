@@ -5,7 +5,7 @@ ghost use Rattle.mcv_base.specs.declared.reply.Outcome.TheVariants.{Error as Fai
 ghost use Rattle.mcv_rules.specs.Plan.{reply, worse};
 ghost use Rattle.mcv_symbolic.specs.InMemory.{leg_of, plan_of};
 ghost use Rattle.mcv_symbolic.specs.Listed.{acknowledged, counted, hits};
-ghost use Rattle.mcv_symbolic.specs.Structure.{after_error, after_miss, if_all, nothing};
+ghost use Rattle.mcv_symbolic.specs.Structure.{if_all, nothing};
 
 use crate::plan::Plan;
 use mcv_base::Outcome;

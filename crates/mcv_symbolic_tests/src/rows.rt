@@ -84,8 +84,8 @@ fn places(alloc: Global, legs: &[&PlannedLeg]) -> Result<String, Fail> {
     Ok(text)
 }
 
-/// The positions from which the route can be read by a get; those to which an acknowledged delete was sent, and
-/// whether one can be acknowledged.
+/// The positions from which the route can be read by a get; those to which every delete that has a reply has been
+/// sent, and whether one can be acknowledged.
 fn given(alloc: Global, route: &Route) -> Result<String, Fail> {
     let rest = Rest::of(b"a").ok_or("no rest")?;
     let get = Case::new(alloc, route, Op::Get, &rest, None)?;

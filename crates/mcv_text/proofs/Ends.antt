@@ -1,36 +1,13 @@
 -- A line's end in a piece.
-use Rattle.std.proofs.Common.{◌≡◌, ◌≢◌, ℕ, ◌+◌, ◌<◌, ◌≤◌, List, [], ◌∷◌, ◌++◌, length, get_or, take, drop, Some, None, refl, sym, ap, subst, ◌∙◌, append_assoc, arith, eq-eqb, length-append}
+use Rattle.std.proofs.Common.{◌≡◌, ◌≢◌, ℕ, ◌+◌, ◌<◌, ◌≤◌, List, [], ◌∷◌, ◌++◌, length, get_or, take, drop, refl, sym, ap, subst, ◌∙◌, append_assoc, arith, length-append, inl, inr}
 use Rattle.std.specs.List.{All}
-use Rattle.std.proofs.lemmas.Bool.{eqb-true}
-use Rattle.std.proofs.lemmas.List.{take-append-drop, get_or-take, length-take, take-append-le, drop_more}
-use Rattle.std.proofs.lemmas.List.Elements.{All-append, All-take, All-from_get_or}
-use Rattle.memchr.specs.Find.{IsFirstByte, is_byte}
+use Rattle.std.proofs.lemmas.List.{take-append-drop, length-take, take-append-le, drop_more}
+use Rattle.std.proofs.lemmas.List.Elements.{All-append, All-nil, All-take}
 use Rattle.mcv_text.specs.Request.{with_body, AskValue, RequestValue, asking, ItemValue, asked, refused}
 use Rattle.mcv_text.specs.declared.item.Refusal.TheVariants as refusals
-use Rattle.mcv_text.specs.Stream.{Stands, Held, Failed, IsLine, Begins, by_line, too_long, AfterLine, AfterValue, stored, no_cr, no_lf}
+use Rattle.mcv_text.specs.Stream.{Stands, Held, Failed, IsLine, Begins, by_line, too_long, AfterLine, AfterValue, IsValuePart, stored, no_cr, no_lf}
 use Rattle.mcv_text.specs.Reader.{EndsAt}
 use Rattle.mcv_text.specs.Line.{LineValue, stores, meaning}
-
--- no LF is found
-pub no_end_found : (piece : List ℕ) → IsFirstByte (is_byte 10) piece None → All (λ b. b ≢ 10) piece
-no_end_found piece none = All-from_get_or (λ b. b ≢ 10) piece 0 (λ k l is. none k (omega arith) l (eq-eqb (get_or piece k 0) 10 is))
-
--- the first LF is found
-pub end_found : (piece : List ℕ) (end : ℕ) → IsFirstByte (is_byte 10) piece (Some end) → EndsAt piece end
-end_found piece end found = record {
-  within = found.0.high;
-  before = All-from_get_or (λ b. b ≢ 10) (take end piece) 0 (λ k l is.
-      let low : k < end = omega (arith, length-take end piece) in
-      found.0.before k (omega arith) low (eq-eqb (get_or piece k 0) 10 (sym (get_or-take end piece k 0 low) ∙ is)));
-  at = eqb-true (get_or piece end 0) 10 found.1;
-}
-
--- the line goes on
-pub line_on : (line piece : List ℕ) → IsLine line → All (λ b. b ≢ 10) piece → length line + length piece ≤ 65536 → IsLine (line ++ piece)
-line_on line piece is none short = record {
-  no_end = All-append (λ b. b ≢ 10) line piece is.no_end none;
-  short = omega (arith, length-append line piece);
-}
 
 -- the piece, cut at its LF
 pub cut_at_end : (piece : List ℕ) (end : ℕ) → EndsAt piece end → piece ≡ take end piece ++ 10 ∷ drop (end + 1) piece
@@ -55,6 +32,9 @@ line_item l more says item rest is e after = by_line l more is refl (subst (λ (
 pub nil_front : (xs more : List ℕ) → xs ≡ [] → xs ++ more ≡ more
 nil_front xs more e = ap (λ (t : List ℕ). t ++ more) e
 
+pub empty_line : (xs : List ℕ) → xs ≡ [] → IsLine xs
+empty_line xs e = subst IsLine (sym e) (record { no_end = All-nil (λ b. b ≢ 10); short = omega arith })
+
 -- a list, cut round one element
 pub cut_at : (xs : List ℕ) (k : ℕ) → k < length xs → xs ≡ take k xs ++ get_or xs k 0 ∷ drop (k + 1) xs
 cut_at xs k l = sym (take-append-drop k xs) ∙ ap (λ t. take k xs ++ t) (drop_more xs k 0 l)
@@ -73,10 +53,22 @@ no_lf_at fields n bytes more l cr ne =
     ∙ ap (λ b. take n bytes ++ b ∷ (drop (n + 1) bytes ++ more)) cr
     ∙ ap (λ t. take n bytes ++ 13 ∷ (t ++ more)) (drop_more bytes (n + 1) 0 l))
 
+-- a byte is missing yet
+pub part_short : (n : ℕ) (bytes : List ℕ) → IsValuePart n bytes → length bytes < n + 2
+part_short n bytes (inl less) = omega arith
+part_short n bytes (inr part) = omega (arith, ap length part.2, length-append part.0 (13 ∷ []), part.1)
+
 -- a value, of which another piece comes
 module _ (l body piece seen : List ℕ) (used n : ℕ) (fields : AskValue) (is : IsLine l) (means : meaning l ≡ stores fields n) (seen-is : seen ≡ body ++ take used piece) where
   whole_value : body ++ piece ≡ seen ++ drop used piece
   whole_value = ap (λ t. body ++ t) (sym (take-append-drop used piece)) ∙ sym (append_assoc body (take used piece) (drop used piece)) ∙ ap (λ t. t ++ drop used piece) (sym seen-is)
+
+  pub value_goes_on : (body-more : List ℕ) → seen ≡ body-more → (l ++ (10 ∷ body-more)) ++ drop used piece ≡ (l ++ (10 ∷ body)) ++ piece
+  value_goes_on body-more e =
+      append_assoc l (10 ∷ body-more) (drop used piece)
+      ∙ ap (λ (t : List ℕ). l ++ (10 ∷ (t ++ drop used piece))) (sym e)
+      ∙ ap (λ (t : List ℕ). l ++ (10 ∷ t)) (sym whole_value)
+      ∙ sym (append_assoc l (10 ∷ body) piece)
 
   value_item : (item : ItemValue) (rest : Stands) → AfterValue fields n (seen ++ drop used piece) item rest → Begins ((l ++ 10 ∷ body) ++ piece) item rest
   value_item item rest after =

@@ -1,10 +1,11 @@
 -- What the code makes of a line, read as the values of `Line`; no public contract cites this.
-use Rattle.std.specs.Prelude.{◌≡◌, ◌^◌, ℕ, List, true, false, ◌≤◌, ◌<◌, Option, Some, None}
+use Rattle.std.specs.Prelude.{◌≡◌, ◌^◌, ℕ, ℤ, List, true, false, ◌≤◌, ◌<◌, Option, Some, None}
 use Rattle.std.specs.List.{list_all}
 use Rattle.mcv_base.specs.Key.{is_key_word}
 use Rattle.mcv_text.specs.declared.line.Meaning.{Meaning}
 use Rattle.mcv_text.specs.declared.line.Meaning.TheVariants.{Whole, Stores, Unknown, Bad, TooLarge}
 use Rattle.mcv_text.specs.Request.{request_value, header_value}
+use Rattle.mcv_text.specs.Words.{number32_said, signed_said}
 use Rattle.mcv_text.specs.Line.{LineValue, whole, stores, unknown, bad, too_large}
 
 abbrev pub line_value : Meaning → LineValue
@@ -21,6 +22,14 @@ IsSmall (Stores header n) = n ≤ 1048576
 IsSmall Unknown = Unit {0}
 IsSmall Bad = Unit {0}
 IsSmall (TooLarge n) = n < 2 ^ 32
+
+-- flags, expiry time and size of a storing line, where each reads
+abbrev pub all_three : Option ℕ → Option ℤ → Option ℕ → Option (ℕ × ℤ × ℕ)
+all_three (Some flags) (Some exptime) (Some size) = Some (flags, exptime, size)
+all_three flags exptime size = None
+
+abbrev pub numbers_said : List ℕ → List ℕ → List ℕ → Option (ℕ × ℤ × ℕ)
+numbers_said flags exptime size = all_three (number32_said flags) (signed_said exptime) (number32_said size)
 
 -- the keys, where each of the words is one
 abbrev pub KeysRead : Option (List (List ℕ)) → List (List ℕ) → Type 0

@@ -1,7 +1,6 @@
 //! The text that one leg sends its server.
 
-ghost use Rattle.std.specs.Prelude.{◌≡◌, ◌++◌, IfOk, OnOk, codes, decimal};
-ghost use Rattle.std.specs.Fmt.{signed_decimal};
+ghost use Rattle.std.specs.Prelude.{◌≡◌, ◌++◌, IfOk, OnOk, codes};
 ghost use Rattle.mcv_text.specs.Leg.{leg_text, leg_value, more_words, value_block, value_words};
 
 use itoa::{Buffer, Integer};

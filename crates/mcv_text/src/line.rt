@@ -4,7 +4,7 @@ ghost use Rattle.std.specs.Prelude.{◌≡◌, ◌≢◌, ◌∷◌, [], IfOk, m
 ghost use Rattle.std.specs.Option.{option_map};
 ghost use Rattle.mcv_base.specs.Operation.{op_name};
 ghost use Rattle.mcv_text.specs.Line.{alone_said, cas_said, delete_said, meaning, plain, reading_said, said, storing, storing_said, touch_said};
-ghost use Rattle.mcv_text.specs.Parsed.{IsSmall, KeysRead, line_value};
+ghost use Rattle.mcv_text.specs.Parsed.{IsSmall, KeysRead, line_value, numbers_said};
 ghost use Rattle.mcv_text.specs.Request.{request_value};
 
 use crate::words::{delete_options, line_words, noreply, number32, number64, signed};
@@ -16,7 +16,7 @@ use std::sync::Arc;
 const VALUE_LIMIT: u32 = 1_048_576;
 
 /// A storing line, before its value.
-#[derive(Debug, Drop)]
+#[derive(Drop)]
 pub struct Header {
     pub op: Op,
     pub keys: Vec<Vec<u8>>,
@@ -26,7 +26,7 @@ pub struct Header {
     pub noreply: bool,
 }
 
-#[derive(Debug, Drop)]
+#[derive(Drop)]
 pub enum Meaning {
     Whole(Request),
     /// A value of this many bytes follows.
@@ -120,6 +120,16 @@ fn reading_of(alloc: Global, op: Op, arguments: &[&[u8]]) -> Result<Meaning, All
     plain_of(alloc, op, arguments, 0, false)
 }
 
+/// `<flags> <exptime> <bytes>`
+fn numbers_of(flags: &[u8], exptime: &[u8], size: &[u8]) -> Option<(u32, i64, u32)>
+    ensures { result ≡ numbers_said flags.now exptime.now size.now }
+{
+    let flags = number32(flags)?;
+    let exptime = signed(exptime)?;
+    let size = number32(size)?;
+    Some((flags, exptime, size))
+}
+
 /// `<key> <flags> <exptime> <bytes> [noreply]`
 fn storing_of(alloc: Global, op: Op, arguments: &[&[u8]]) -> Result<Meaning, AllocError>
     ensures means { IfOk result (λ m. line_value m ≡ storing_said op (map (λ word. word.now) arguments.now)) }
@@ -128,19 +138,13 @@ fn storing_of(alloc: Global, op: Op, arguments: &[&[u8]]) -> Result<Meaning, All
     let [key, flags, exptime, size, options @ ..] = arguments else {
         return Ok(Meaning::Bad);
     };
-    let Some(flags) = number32(flags) else {
-        return Ok(Meaning::Bad);
-    };
-    let Some(exptime) = signed(exptime) else {
-        return Ok(Meaning::Bad);
-    };
-    let Some(size) = number32(size) else {
+    let Some(numbers) = numbers_of(flags, exptime, size) else {
         return Ok(Meaning::Bad);
     };
     let Some(noreply) = noreply(options) else {
         return Ok(Meaning::Bad);
     };
-    storing_with(alloc, op, key, (flags, exptime, size), None, noreply)
+    storing_with(alloc, op, key, numbers, None, noreply)
 }
 
 /// `<key> <flags> <exptime> <bytes> <cas> [noreply]`
@@ -151,13 +155,7 @@ fn cas_of(alloc: Global, arguments: &[&[u8]]) -> Result<Meaning, AllocError>
     let [key, flags, exptime, size, cas, options @ ..] = arguments else {
         return Ok(Meaning::Bad);
     };
-    let Some(flags) = number32(flags) else {
-        return Ok(Meaning::Bad);
-    };
-    let Some(exptime) = signed(exptime) else {
-        return Ok(Meaning::Bad);
-    };
-    let Some(size) = number32(size) else {
+    let Some(numbers) = numbers_of(flags, exptime, size) else {
         return Ok(Meaning::Bad);
     };
     let Some(cas) = number64(cas) else {
@@ -166,14 +164,7 @@ fn cas_of(alloc: Global, arguments: &[&[u8]]) -> Result<Meaning, AllocError>
     let Some(noreply) = noreply(options) else {
         return Ok(Meaning::Bad);
     };
-    storing_with(
-        alloc,
-        Op::Cas,
-        key,
-        (flags, exptime, size),
-        Some(cas),
-        noreply,
-    )
+    storing_with(alloc, Op::Cas, key, numbers, Some(cas), noreply)
 }
 
 /// `<key> [0] [noreply]`

@@ -3,7 +3,7 @@
 //! The line's buffer holds the bytes before a LF alone, so that each byte is looked at once; a
 //! value grows in the buffer that becomes its body.
 
-ghost use Rattle.std.specs.Prelude.{◌≡◌, ◌<◌, ◌≤◌, ◌≢◌, ◌+◌, ◌↔◌, ◌∷◌, [], ℕ, List, length, drop, map, IfOk, OnErr};
+ghost use Rattle.std.specs.Prelude.{◌≡◌, ◌<◌, ◌≤◌, ◌≢◌, ◌+◌, ◌↔◌, ◌∷◌, [], ℕ, List, length, take, drop, map, IfOk, OnErr};
 ghost use Rattle.std.specs.Result.{IsErrOf};
 ghost use Rattle.std.specs.List.{All};
 ghost use Rattle.mcv_text.specs.Reader.{EndsAt, EndsValue, IsKept, Steps, stands};
@@ -23,7 +23,7 @@ use std::sync::Arc;
 const LINE_LIMIT: usize = 65536;
 
 /// A value of `size` bytes, of which and of its CR LF `body` has come.
-#[derive(Debug, Drop)]
+#[derive(Drop)]
 pub struct Value {
     header: Header,
     size: usize,
@@ -31,7 +31,7 @@ pub struct Value {
 }
 
 /// What comes next in the stream.
-#[derive(Debug, Drop)]
+#[derive(Drop)]
 pub enum State {
     Line,
     Value(Value),
@@ -41,7 +41,7 @@ pub enum State {
 }
 
 /// What one step made of a piece: the state after it, an item where one has ended, and the bytes used.
-#[derive(Debug, Drop)]
+#[derive(Drop)]
 pub struct Step {
     state: State,
     item: Option<Item>,
@@ -159,7 +159,7 @@ fn line_step(alloc: Global, line: &mut Vec<u8>, piece: &[u8]) -> Result<Step, Al
     }
 }
 
-#[derive(Clone, Copy, Debug, PartialEq, Eq)]
+#[derive(Clone, Copy)]
 pub enum ValueEnd {
     Part,
     Wrong,
@@ -187,10 +187,17 @@ fn value_end(bytes: &[u8], size: usize) -> ValueEnd
     ValueEnd::Whole
 }
 
-/// The request of a storing line and its value.
-fn stored(alloc: Global, header: Header, body: Vec<u8>) -> Result<Request, AllocError>
-    ensures { IfOk result (λ r. request_value r ≡ asking (with_body (header_value header) body.items)) }
+/// The request of a storing line and its value, without the CR LF behind it.
+fn stored(alloc: Global, value: Value) -> Result<Request, AllocError>
+    ensures { IfOk result (λ r. request_value r ≡ asking (with_body (header_value value.header) (take value.size value.body.items))) }
 {
+    let Value {
+        header,
+        size,
+        mut body,
+    } = value;
+    body.truncate(size);
+    let body = Arc::new(alloc, body)?;
     let Header {
         op,
         keys,
@@ -199,7 +206,6 @@ fn stored(alloc: Global, header: Header, body: Vec<u8>) -> Result<Request, Alloc
         cas,
         noreply,
     } = header;
-    let body = Arc::new(alloc, body)?;
     Ok(Request::Ask(Ask {
         op,
         keys,
@@ -215,7 +221,7 @@ fn stored(alloc: Global, header: Header, body: Vec<u8>) -> Result<Request, Alloc
 fn value_step(
     alloc: Global,
     line: &mut Vec<u8>,
-    value: Value,
+    mut value: Value,
     piece: &[u8],
 ) -> Result<Step, AllocError>
     requires kept { IsKept line.old.items (State.Value value) }
@@ -224,16 +230,11 @@ fn value_step(
     ensures kept { IfOk result (λ s. IsKept line.new.items s.state) }
     ensures steps { IfOk result (λ s. Steps (stands line.old.items (State.Value value)) piece.now s.item (stands line.new.items s.state) (drop s.used piece.now)) }
 {
-    let Value {
-        header,
-        size,
-        mut body,
-    } = value;
-    let used = (size + 2 - body.len()).min(piece.len());
-    body.extend_from_slice(&piece[..used])?;
-    match value_end(body.as_slice(), size) {
+    let used = (value.size + 2 - value.body.len()).min(piece.len());
+    value.body.extend_from_slice(&piece[..used])?;
+    match value_end(value.body.as_slice(), value.size) {
         ValueEnd::Part => Ok(Step {
-            state: State::Value(Value { header, size, body }),
+            state: State::Value(value),
             item: None,
             used,
         }),
@@ -243,8 +244,7 @@ fn value_step(
             used: piece.len(),
         }),
         ValueEnd::Whole => {
-            body.truncate(size);
-            let request = stored(alloc, header, body)?;
+            let request = stored(alloc, value)?;
             line.clear();
             Ok(Step {
                 state: State::Line,

@@ -133,7 +133,7 @@ pub fn noreply(options: &[&[u8]]) -> Option<bool>
 {
     match options {
         [] => Some(false),
-        [b"noreply"] => Some(true),
+        [word] => (*word == b"noreply".as_slice()).then_some(true),
         _ => None,
     }
 }

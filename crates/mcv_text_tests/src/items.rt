@@ -2,7 +2,7 @@
 
 use itoa::Buffer;
 use mcv_base::{FixedReply, LegRequest, Op, Part, Reply, Request, Rest, split_key};
-use mcv_text::{Item, Refusal, RequestReader, TextFault, any_pieces, leg_text, reply_text};
+use mcv_text::{Item, Refusal, RequestReader, TextFault, leg_text, reply_text};
 use std::alloc::{AllocError, Global};
 use std::process::Abort;
 use std::sync::Arc;

@@ -1,7 +1,7 @@
 -- Which verdict there is on a configuration, and what is written of it.
 use Rattle.std.specs.Prelude.{◌≡◌, ◌<◌, ℕ, List, ◌++◌, Option, Some, None, length}
 use Rattle.std.specs.List.{All}
-use Rattle.mcv_cert.specs.Pair.{PairValue}
+use Rattle.mcv_cert.specs.Pair.{IsCertificate, PairValue}
 use Rattle.mcv_cert.specs.Reading.{Says, pairs}
 use Rattle.mcv_cert.specs.Text.{certificate_text}
 use Rattle.mcv_route.specs.Routes.{RoutesValue}
@@ -17,10 +17,12 @@ use Rattle.mcv_verdict.specs.declared.verdict.Verdict.{Verdict}
 use Rattle.mcv_verdict.specs.declared.verdict.Verdict.TheVariants.{Covered, Lost}
 use Rattle.mcv_verdict.specs.Text.{covered_line}
 
--- each acknowledged delete was sent to every server that can be read, and a certificate with these pairs says why
+-- each acknowledged delete was sent to every server that can be read, and the certificate of these pairs says why
 pub record AreCoveredBy (r : RoutesValue) (ps : List PairValue) : Type 0 where
   pub covered : AreCovered r
   pub justified : IsJustifiedBy r ps
+  -- they are the pairs of a certificate: they rise strictly, so that none stands twice, and each `all` names a leg
+  pub certificate : IsCertificate ps
 
 -- some acknowledged delete wasn't sent to a server of the table that can be read: the finding shows it, and none shows it at an earlier place
 pub record IsLossBy (r : RoutesValue) (f : FindingValue) : Type 0 where

@@ -2,6 +2,7 @@
 
 ghost use Rattle.std.specs.Prelude.{◌≡◌, ◌≢◌, ◌<◌, ◌++◌, ℕ, List, length, option_map, IfSome, IfOk, IfErr};
 ghost use Rattle.std.specs.Io.KnownBytes.{Appends};
+ghost use Rattle.mcv_cert.specs.Pair.{IsCertificate};
 ghost use Rattle.mcv_cert.specs.Text.{certificate_text};
 ghost use Rattle.mcv_make.specs.First.{IsFirstFinding};
 ghost use Rattle.mcv_make.specs.Told.{IsTold};
@@ -97,10 +98,13 @@ fn covered(
     certificate: &Certificate,
 ) -> Result<Told, AllocError>
     ensures covered { AreCovered accepted.now }
+    ensures certificate { IsCertificate certificate.now }
     ensures verdict { IfOk result (λ told. told.verdict ≡ Verdict.Covered (length certificate.now)) }
     ensures text { IfOk result (λ told. told.text.items ≡ covered_line (length certificate.now)) }
 {
+    // The routes are covered, and the pairs are those of a certificate.
     let _ = accepted.routes();
+    let _ = certificate.pairs();
     let pairs = certificate.len();
     Ok(Told {
         verdict: Verdict::Covered(pairs as u64),
@@ -115,6 +119,7 @@ fn covered_with(
     certificate: &Certificate,
 ) -> Result<Told, AllocError>
     ensures covered { AreCovered accepted.now }
+    ensures certificate { IsCertificate certificate.now }
     ensures verdict { IfOk result (λ told. told.verdict ≡ Verdict.Covered (length certificate.now)) }
     ensures text { IfOk result (λ told. told.text.items ≡ covered_line (length certificate.now) ++ certificate_text certificate.now) }
 {

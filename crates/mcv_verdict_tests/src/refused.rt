@@ -5,7 +5,6 @@ use mcv_verdict::{RunFault, Verdict, run_check};
 use std::alloc::Global;
 use std::io;
 use std::io::{Read, Write};
-use std::process::Abort;
 use std::test::Fail;
 
 /// The pairs of a certificate over a pool of two servers and deletes to both, with semicolons between its lines, and what is written.

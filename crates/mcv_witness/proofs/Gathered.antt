@@ -1,19 +1,18 @@
 -- The walk over children sees what is to be seen of them.
-use Rattle.std.proofs.Common.{◌≡◌, ◌⊎◌, inl, inr, cond, ℕ, zero, suc, ◌≤◌, ◌||◌, Bool, true, false, List, [], ◌∷◌, ◌++◌, length, Option, Some, None, refl, sym, ap, ap₂, ◌∙◌, subst, arith, append_assoc, append-nil}
-use Rattle.std.specs.Prelude.{if◌then◌else◌, fold, option_and_then}
-use Rattle.std.proofs.lemmas.Bool.{cases_Bool, false≢true}
+use Rattle.std.proofs.Common.{◌≡◌, cond, ℕ, suc, ◌||◌, Bool, true, false, List, [], ◌∷◌, ◌++◌, Option, Some, None, refl, sym, ap, ◌∙◌, subst}
+use Rattle.std.specs.Prelude.{fold, option_and_then}
 use Rattle.mcv_base.specs.declared.reply.Outcome.{Outcome}
 use Rattle.mcv_base.specs.declared.reply.Outcome.TheVariants.{Good, Soft, Error}
 use Rattle.mcv_base.specs.Reply.{is_error, is_good, is_missed}
-use Rattle.mcv_route.specs.Children.{joined, is_within, of_those_holding}
+use Rattle.mcv_route.specs.Children.{joined}
 use Rattle.mcv_route.specs.Launched.{in_turn, launched, launched_each, once}
 use Rattle.mcv_route.specs.Outcomes.{Choice, History, Outcomes, is_same, outcomes}
 use Rattle.mcv_route.specs.Replies.{Answer, replies, replies_each}
 use Rattle.mcv_route.specs.Situation.{Situation, under}
-use Rattle.mcv_route.specs.Tree.{Range, Tree, Trees, none, child}
+use Rattle.mcv_route.specs.Tree.{Tree, Trees, none, child}
 use Rattle.mcv_route.specs.declared.launch.Launch.{Launch}
 use Rattle.mcv_rules.proofs.Orders.{same_is}
-use Rattle.mcv_witness.specs.Walk.{Known, Pass, behind, below, finish, front, gather, goes_on, is_below, joined_seen, joined_told, pass, pass_each, past, shade}
+use Rattle.mcv_witness.specs.Walk.{Known, behind, below, finish, front, gather, goes_on, joined_seen, pass, pass_each, past}
 use Rattle.mcv_witness.specs.declared.seen.Join.{Join}
 use Rattle.mcv_witness.specs.declared.seen.Join.TheVariants.{Both, Beside, OnError, OnMiss}
 use Rattle.mcv_witness.specs.declared.seen.Seen.{Seen}
@@ -21,7 +20,7 @@ use Rattle.mcv_witness.proofs.Each.{Each, each_append, each_map}
 use Rattle.mcv_witness.proofs.Regions
 use Rattle.mcv_witness.proofs.Regions.{At, Below, Fits, From, at_below, below_apart, behind_from, fits_below, fits_past, front_below, parts}
 use Rattle.mcv_witness.proofs.Spread.{AllBelow, AllFrom, EachFrom, launched_below, launched_from}
-use Rattle.mcv_witness.proofs.Tests.{Avoids, after, fold_stops, join_answers, legs_after, not_sent, nothing_after, reaches, sent_at, step_after, stray_after, told, told_join}
+use Rattle.mcv_witness.proofs.Tests.{Avoids, after, fold_stops, join_answers, legs_after, not_sent, nothing_after, reaches, sent_at, step_after, told, told_join}
 
 -- ---- outcomes by parts
 

@@ -1,39 +1,32 @@
 -- What a walk tells of a whole route, in the words of the definitions.
-use Rattle.std.proofs.Common.{◌≡◌, ◌≢◌, ◌⊎◌, ◌↔◌, inl, inr, ⊎_elim, cond, ℕ, zero, suc, ◌<◌, ◌&&◌, ◌||◌, ◌==◌, Bool, true, false, List, [], ◌∷◌, length, map, get_or, Option, Some, None, refl, sym, ap, ap₂, ◌∙◌, subst, arith}
+use Rattle.std.proofs.Common.{◌≡◌, inl, inr, ⊎_elim, cond, ℕ, suc, ◌<◌, ◌&&◌, ◌||◌, ◌==◌, Bool, true, false, List, [], ◌∷◌, length, map, get_or, Some, refl, sym, ap, ap₂, ◌∙◌, arith}
 use Rattle.std.specs.List.{All, AllPairs}
-use Rattle.std.specs.Prelude.{IsTrue}
 use Rattle.std.specs.Str.{bytes_eq}
 use Rattle.std.proofs.lemmas.Bool.{and_from, and_parts, eqb-true, eq-eqb, false≢true, or_cases}
 use Rattle.std.proofs.lemmas.List.Elements.{All-cons, All-nil}
 use Rattle.std.proofs.lemmas.List.Kept.{AllPairs-cons}
-use Rattle.std.proofs.lemmas.Option.{none-some, same_Some}
-use Rattle.mcv_base.specs.declared.operation.Op.TheVariants.{Delete}
 use Rattle.mcv_base.specs.declared.reply.Outcome.{Outcome}
 use Rattle.mcv_base.specs.declared.reply.Outcome.TheVariants.{Good, Soft, Error}
 use Rattle.mcv_base.specs.Operation.{is_counting}
-use Rattle.mcv_base.specs.Reply.{is_error, is_good}
+use Rattle.mcv_base.specs.Reply.{is_good}
 use Rattle.mcv_classes.specs.Class.{IsBefore}
 use Rattle.mcv_route.specs.Launched.{launched}
-use Rattle.mcv_route.specs.Outcomes.{Choice, History, Outcomes, is_same, outcomes}
-use Rattle.mcv_route.specs.Replies.{Answer, Source, fixed, leg, outcome_of, refusal, replies}
-use Rattle.mcv_route.specs.Situation.{Situation, asked}
+use Rattle.mcv_route.specs.Outcomes.{Choice, History, is_same, outcomes}
+use Rattle.mcv_route.specs.Replies.{Answer, Source, fixed, leg, refusal, replies}
+use Rattle.mcv_route.specs.Situation.{Situation}
 use Rattle.mcv_route.specs.Tree.{Tree}
-use Rattle.mcv_route.specs.Verdict.{Has, IsDone, IsHit, IsReachable, IsSent}
+use Rattle.mcv_route.specs.Verdict.{Has, IsReachable}
 use Rattle.mcv_route.specs.declared.launch.Launch.{Launch}
-use Rattle.mcv_rules.specs.Plans.{plan}
 use Rattle.mcv_rules.proofs.Orders.{same_is, same_self}
-use Rattle.mcv_rules.proofs.Verdicts.{reachable_is_closed, reply_is_planned}
-use Rattle.mcv_symbolic.proofs.Planned.{done_planned}
+use Rattle.mcv_rules.proofs.Verdicts.{reachable_is_closed}
 use Rattle.mcv_witness.specs.Breaks.{AreRising}
 use Rattle.mcv_witness.specs.Walk.{pass}
-use Rattle.mcv_witness.specs.declared.seen.Seen.{Seen}
-use Rattle.mcv_witness.specs.declared.seen.Told.{Told}
 use Rattle.mcv_witness.proofs.Each.{Each, each_map}
 use Rattle.mcv_witness.proofs.Losses.{each_closed}
 use Rattle.mcv_witness.proofs.Gathered.{moved}
 use Rattle.mcv_witness.proofs.Regions.{At, IsDeep, Rises}
 use Rattle.mcv_witness.proofs.Right.{pass_right}
-use Rattle.mcv_witness.proofs.Tests.{after, all_sent, hit_at, hits, is_source, reaches, sent_at, told}
+use Rattle.mcv_witness.proofs.Tests.{after, all_sent, hit_at, hits, is_source, reaches, sent_at}
 
 -- ---- the walk from the root
 
@@ -143,20 +136,6 @@ pub has_reaches : (server : ℕ) (ls : List Launch) → Has ls (λ l. (l.server.
 has_reaches server [] h = absurd h
 has_reaches server (l ∷ ls) (inl e) = ap (λ b. b || reaches server ls) (and_from (l.server.0 == server) (is_counting l.mark) (eq-eqb l.server.0 server e.0) e.1)
 has_reaches server (l ∷ ls) (inr h) = or_true ((l.server.0 == server) && is_counting l.mark) (reaches server ls) (has_reaches server ls h)
-
--- ---- a reply that isn't an error
-
-error_is : (x : Outcome) → is_error x ≡ false → x ≢ Error
-error_is x e same = false≢true (sym e ∙ ap is_error same)
-
-not_error : (x : Outcome) → x ≢ Error → is_error x ≡ false
-not_error Good h = refl
-not_error Soft h = refl
-not_error Error h = absurd (h refl)
-
-pub done_has : (rs : List Answer) (x : Told) → told [] rs ≡ Some x → is_error x.outcome ≡ false → Has rs (λ a. a.outcome ≢ Error)
-done_has [] x e h = absurd (none-some x e)
-done_has (a ∷ rs) x e h = inl (error_is a.outcome (ap (λ y. is_error y.outcome) (same_Some (record { outcome = a.outcome; is_hit = hits [] (a ∷ rs) }) x e) ∙ h))
 
 -- ---- rising
 

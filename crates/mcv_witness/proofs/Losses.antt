@@ -26,6 +26,7 @@ use Rattle.mcv_rules.proofs.Verdicts.{hit_is_planned, sends_has}
 use Rattle.mcv_symbolic.specs.Covered.{sizes_of}
 use Rattle.mcv_witness.specs.Breaks.{FindingsAreLosses, IsLeafOf, IsRead, chosen}
 use Rattle.mcv_witness.specs.Finding.{FindingValue}
+use Rattle.mcv_witness.proofs.Each.{Each}
 
 -- ---- lists
 
@@ -40,10 +41,6 @@ got (x ∷ xs) zero b e = same_Some x b e
 got (x ∷ xs) (suc k) b e = got xs k b e
 
 -- ---- outcomes that are each of a leg that is sent
-
-abbrev pub Each : {A : Type 0} → (A → Type 0) → List A → Type 0
-Each P [] = Unit {0}
-Each P (x ∷ xs) = P x × Each P xs
 
 by_same : (b : Bool) (y : Outcome) (r : Option Outcome) (x : Outcome) → cond b (Some y) r ≡ Some x → (b ≡ true) ⊎ (r ≡ Some x)
 by_same true y r x e = inl refl

@@ -1,10 +1,10 @@
 -- Positions at a handle, at its children and below them.
-use Rattle.std.proofs.Common.{◌≡◌, ◌⊎◌, inl, inr, ⊎_elim, cond, ℕ, zero, suc, ◌+◌, ◌<◌, ◌≤◌, ◌==◌, Bool, true, false, List, [], ◌∷◌, ◌++◌, length, Option, Some, None, refl, sym, ap, ◌∙◌, subst, arith, append_assoc, append-nil}
+use Rattle.std.proofs.Common.{◌≡◌, inl, inr, cond, ℕ, suc, ◌<◌, ◌≤◌, ◌==◌, Bool, true, false, List, [], ◌∷◌, ◌++◌, length, Some, None, refl, sym, ap, ◌∙◌, subst, arith, append_assoc}
 use Rattle.std.specs.Prelude.{slice_get}
 use Rattle.std.specs.Cmp.Lexicographic.{slice_cmp}
 use Rattle.std.specs.Ordering.{nat_cmp, ordering_then}
 use Rattle.std.specs.declared.cmp.Ordering.TheVariants.{Less, Equal, Greater}
-use Rattle.std.proofs.lemmas.Bool.{cases_Bool, cases_lt, eqb-true, eqb-false, eq-eqb, false≢true, lt-ltb}
+use Rattle.std.proofs.lemmas.Bool.{cases_lt, eqb-true, eq-eqb, false≢true, lt-ltb}
 use Rattle.std.proofs.lemmas.Cmp.{nat_cmp_total, tied_itself}
 use Rattle.std.proofs.lemmas.List.{length-append}
 use Rattle.mcv_classes.specs.Class.{IsBefore}
@@ -191,7 +191,7 @@ pub record Fits (base : List ℕ) (k : Known) : Type 0 where
   pub deep : IsDeep base k.depth k.legs
   pub rises : Rises k.legs
 
-deep_any : (base : List ℕ) (d : ℕ) (es : History) → d ≡ length base → IsDeep base d es
+pub deep_any : (base : List ℕ) (d : ℕ) (es : History) → d ≡ length base → IsDeep base d es
 deep_any base d [] e = tt
 deep_any base d (x ∷ es) e = e
 

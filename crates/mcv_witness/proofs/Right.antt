@@ -1,8 +1,8 @@
 -- The walk over a route sees what is to be seen of it.
-use Rattle.std.proofs.Common.{◌≡◌, ◌⊎◌, inl, inr, cond, ℕ, zero, suc, ◌+◌, ◌≤◌, ◌<◌, ◌&&◌, ◌||◌, ◌==◌, Bool, true, false, List, [], ◌∷◌, ◌++◌, length, Option, Some, None, refl, sym, ap, ap₂, ◌∙◌, subst, arith, append_assoc, append-nil}
+use Rattle.std.proofs.Common.{◌≡◌, ◌⊎◌, inl, inr, cond, ℕ, zero, suc, ◌+◌, ◌≤◌, ◌&&◌, ◌||◌, ◌==◌, Bool, true, false, List, [], ◌∷◌, ◌++◌, length, Option, Some, None, refl, sym, ap, ap₂, ◌∙◌, subst, arith, append-nil}
 use Rattle.std.specs.Prelude.{if◌then◌else◌, fold, option_and_then, slice_index}
 use Rattle.std.specs.Str.{bytes_eq}
-use Rattle.std.proofs.lemmas.Bool.{cases_lt, eqb-true, eqb-false, eq-eqb, false≢true, ne_eqb}
+use Rattle.std.proofs.lemmas.Bool.{cases_lt, eqb-true, eqb-false, false≢true}
 use Rattle.std.proofs.lemmas.List.{length-append}
 use Rattle.mcv_base.specs.declared.reply.Outcome.{Outcome}
 use Rattle.mcv_base.specs.declared.reply.Outcome.TheVariants.{Good, Soft, Error}
@@ -17,14 +17,14 @@ use Rattle.mcv_route.specs.Situation.{Situation, adding, asynchronous, shadowed,
 use Rattle.mcv_route.specs.Tree.{Pool, Range, Tree, Trees, pool, null, error, all_sync, all_initial, all_async, failover, miss_failover, warm_up, migrate, prefix_selector, operation_selector, none, child}
 use Rattle.mcv_route.specs.declared.launch.Launch.{Launch}
 use Rattle.mcv_rules.proofs.Orders.{same_is, same_self}
-use Rattle.mcv_witness.specs.Walk.{Known, Pass, at_once, behind, below, filled, finish, front, gather, gather_all, goes_on, if_empty, is_below, is_told, joined_seen, only, only_nth, own_told, pass, pass_each, past, past_own, shade, warmed}
+use Rattle.mcv_witness.specs.Walk.{Known, Pass, at_once, behind, below, filled, finish, front, gather, gather_all, goes_on, if_empty, is_below, is_told, joined_seen, only, only_nth, pass, pass_each, past, shade, warmed}
 use Rattle.mcv_witness.specs.declared.seen.Join.{Join}
 use Rattle.mcv_witness.specs.declared.seen.Join.TheVariants.{Both, Beside, OnError, OnMiss}
 use Rattle.mcv_witness.specs.declared.seen.Seen.{Seen}
 use Rattle.mcv_witness.proofs.Each.{Each, each_append, each_both, each_map}
 use Rattle.mcv_witness.proofs.Gathered.{Agrees, AgreesFrom, AreRight, IsRight, agrees_from, agrees_past, beside_after, beside_replies, both_after, child_after, error_after, gather_right, known_none, legs_after_from, miss_after, moved, others_from}
-use Rattle.mcv_witness.proofs.Regions.{At, Below, Fits, From, IsDeep, Rises, after_from, at_below, below_apart, below_at, below_from, below_one, below_test, fits_below, fits_past, from_at, from_later, numbers_rise, own_apart, own_test, parts, test_below}
-use Rattle.mcv_witness.proofs.Spread.{AllBelow, AllFrom, EachFrom, below_all, holding_each, joined_each, later_all, launched_at, once_each, launched_below, launched_from}
+use Rattle.mcv_witness.proofs.Regions.{At, Below, Fits, From, IsDeep, Rises, after_from, at_below, below_apart, below_from, below_one, below_test, deep_any, fits_below, fits_past, from_at, from_later, numbers_rise, own_apart, own_test, parts, test_below}
+use Rattle.mcv_witness.proofs.Spread.{AllFrom, below_all, holding_each, joined_each, later_all, once_each, launched_below, launched_from}
 use Rattle.mcv_witness.proofs.Tests.{Avoids, after, all_append, all_sent, join_answers, legs_after, not_sent, nothing_after, or_false, reaches, sent_at, step_after, stray_after, told}
 
 -- ---- an outcome that is no child's
@@ -306,10 +306,6 @@ none_known : (base : List ℕ) (es : History) (o : Outcomes) → Each (λ e. Fro
 none_known base es o from a =
     sym (known_none es base (each_map (λ e. From base 0 e.0) (λ e. e.0 ≡ base → ⊥) es (λ e g is. not_at base e.0 is g) from)) ∙ a base ([], sym (append-nil base))
 
-deep_tail : (base : List ℕ) (d : ℕ) (es : History) → d ≡ length base → IsDeep base d es
-deep_tail base d [] e = tt
-deep_tail base d (x ∷ es) e = e
-
 module _ (leaf : List ℕ) (server : ℕ) (c : Choice) (p : Pool) (ranges : List Range) (targets : Trees) (rights : AreRight leaf server c targets) (base : List ℕ) (s : Situation) (d : ℕ) (o : Outcomes) where
   abbrev shadow_legs : List Launch
   shadow_legs = of_those_holding (c p.symbol) ranges (launched_each 0 targets (shadowed (moved base s)) c o)
@@ -347,7 +343,7 @@ module _ (leaf : List ℕ) (server : ℕ) (c : Choice) (p : Pool) (ranges : List
       let answer : Answer = record { outcome = e.1; source = leg base } in
       let hit : (is_good e.1 && bytes_eq e.0 leaf) ≡ ((is_good e.1 && bytes_eq base leaf) || false) = ap (λ q. is_good e.1 && bytes_eq q leaf) is ∙ sym (or_false (is_good e.1 && bytes_eq base leaf)) in
       let mine : sent_at e.0 (launch ∷ []) ≡ true = or_false (is_same base e.0) ∙ ap (λ q. is_same base q) is ∙ same_self base in
-      let past_fits : Fits base (record { legs = es; depth = d }) = record { at = f.at.1; deep = deep_tail base d es f.deep; rises = f.rises.1 } in
+      let past_fits : Fits base (record { legs = es; depth = d }) = record { at = f.at.1; deep = deep_any base d es f.deep; rises = f.rises.1 } in
       step_after leaf server (λ y. shades (record { reply = Some (record { outcome = e.1; is_hit = is_good e.1 && bytes_eq e.0 leaf }); sent = y.sent }) es)
       (Some (record { reply = told leaf (answer ∷ []); sent = counted })) false (e ∷ []) es (answer ∷ []) (answer ∷ []) (launch ∷ []) shadow_legs
       (ap₂ (λ b x. cond (b && true) (Some (record { reply = told leaf (answer ∷ []); sent = x })) None) (sym mine) (sym (or_false counted)))

@@ -1,8 +1,7 @@
 -- The walk over a selector is that over the child that it chooses.
-use Rattle.std.proofs.Common.{◌≡◌, ◌<◌, ◌≤◌, ◌+◌, Box, cond, ℕ, zero, suc, Bool, true, false, List, [], ◌∷◌, ◌++◌, length, map, get_or, Vec, Global, Option, Some, None, refl, sym, ap, ◌∙◌, arith}
-use Rattle.mcv_base.specs.declared.operation.Op.{Op}
+use Rattle.std.proofs.Common.{◌≡◌, ◌<◌, ◌≤◌, Box, ℕ, zero, suc, List, [], ◌∷◌, length, get_or, Vec, Global, Option, Some, None, refl, sym, ap, ◌∙◌, arith}
 use Rattle.mcv_base.specs.declared.reply.Outcome.TheVariants.{Error}
-use Rattle.mcv_route.specs.Children.{is_policy_for, policy_of, prefix_policy}
+use Rattle.mcv_route.specs.Children.{policy_of, prefix_policy}
 use Rattle.mcv_route.specs.Outcomes.{Choice}
 use Rattle.mcv_route.specs.Situation.{Situation}
 use Rattle.mcv_route.specs.Tree.{Tree}
@@ -12,39 +11,8 @@ use Rattle.mcv_route.specs.declared.tree.PrefixPolicy.{PrefixPolicy, out-PrefixP
 use Rattle.mcv_route.specs.declared.tree.Route.{Route, PrefixSelector, OperationSelector}
 use Rattle.mcv_route.proofs.Views.{prefix_view-out, operation_view-out, view-PrefixSelector, view-OperationSelector}
 use Rattle.mcv_rules.specs.Laid.{operations_of, prefixes_of}
-use Rattle.mcv_rules.proofs.Choosing.{prefix_policy-le}
+use Rattle.mcv_rules.proofs.Choosing.{routes_before, policy_at, last_at, length-routes, policy_of-le, prefix_policy-le, length-prefixes}
 use Rattle.mcv_witness.specs.Walk.{Known, at_once, finish, only, only_nth, pass, pass_each}
-
--- ---- policies, with more routes after them
-
-abbrev routes_before : {A P : Type 0} → (P → A × Tree) → List P → List Tree → List Tree
-routes_before g policies more = map (λ p. p.1) (map g policies) ++ more
-
-module _ {A P : Type 0} (g : P → A × Tree) where
-  policy_at : (policies : List P) (more : List Tree) (j : ℕ) (policy : P) → j < length policies → policy ≡ get_or policies j policy → (g policy).1 ≡ get_or (routes_before g policies more) j (g policy).1
-  policy_at [] more j policy h is = absurd (omega (arith, h))
-  policy_at (p ∷ policies) more zero policy h is = ap (λ q. (g q).1) is
-  policy_at (p ∷ policies) more (suc j) policy h is = policy_at policies more j policy (omega (arith, h)) is
-
-  last_at : (policies : List P) (t : Tree) → t ≡ get_or (routes_before g policies (t ∷ [])) (length policies) t
-  last_at [] t = refl
-  last_at (p ∷ policies) t = last_at policies t
-
-  length-routes : (policies : List P) (more : List Tree) → length (routes_before g policies more) ≡ length policies + length more
-  length-routes [] more = omega arith
-  length-routes (p ∷ policies) more = omega (arith, length-routes policies more)
-
-first_or : (b : Bool) (n m : ℕ) → n ≤ m → cond b 0 (suc n) ≤ suc m
-first_or true n m h = omega arith
-first_or false n m h = omega (arith, h)
-
-policy_of-le : (op : Op) (policies : List OperationPolicy) → policy_of op (operations_of policies) ≤ length policies
-policy_of-le op [] = omega arith
-policy_of-le op (p ∷ policies) = first_or (is_policy_for op (operation_view p).0) (policy_of op (operations_of policies)) (length policies) (policy_of-le op policies)
-
-length-prefixes : (policies : List PrefixPolicy) → length (prefixes_of policies) ≡ length policies
-length-prefixes [] = refl
-length-prefixes (p ∷ policies) = ap suc (length-prefixes policies)
 
 module _ (leaf : List ℕ) (server : ℕ) (c : Choice) (s : Situation) (k : Known) where
   -- ---- the chosen child

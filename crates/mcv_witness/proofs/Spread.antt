@@ -1,11 +1,10 @@
 -- All that a handle sends stands at its position or below it.
-use Rattle.std.proofs.Common.{◌≡◌, cond, ℕ, zero, suc, Bool, true, false, List, [], ◌∷◌, ◌++◌, sym, ◌∙◌, append-nil}
-use Rattle.std.specs.Prelude.{if◌then◌else◌}
+use Rattle.std.proofs.Common.{cond, ℕ, zero, suc, Bool, true, false, List, [], ◌∷◌, ◌++◌, sym, append-nil}
 use Rattle.mcv_base.specs.declared.reply.Outcome.{Outcome}
 use Rattle.mcv_base.specs.Operation.{is_reading}
 use Rattle.mcv_base.specs.Reply.{is_error, is_good, is_missed}
 use Rattle.mcv_route.specs.Children.{child_or, is_within, joined, of_those_holding, policy_of, prefix_policy, rest_of, Way, to_from, to_to, to_both, way_of, by_way}
-use Rattle.mcv_route.specs.Launched.{in_turn, launched, launched_each, once, own_leg}
+use Rattle.mcv_route.specs.Launched.{in_turn, launched, launched_each, once}
 use Rattle.mcv_route.specs.Outcomes.{Choice, Outcomes}
 use Rattle.mcv_route.specs.Replies.{Answer, replies, replies_each}
 use Rattle.mcv_route.specs.Situation.{Situation, adding, asynchronous, shadowed, under}

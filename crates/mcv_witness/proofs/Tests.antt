@@ -6,12 +6,12 @@ use Rattle.std.proofs.lemmas.Bool.{false≢true}
 use Rattle.mcv_base.specs.declared.reply.Outcome.{Outcome}
 use Rattle.mcv_base.specs.declared.reply.Outcome.TheVariants.{Good, Soft, Error}
 use Rattle.mcv_base.specs.Operation.{is_counting}
-use Rattle.mcv_base.specs.Reply.{is_error, is_good, is_missed}
+use Rattle.mcv_base.specs.Reply.{is_good, is_missed}
 use Rattle.mcv_route.specs.Outcomes.{History, is_same}
 use Rattle.mcv_route.specs.Replies.{Answer, Source, badness, fixed, leg, or_after_error, or_after_miss, refusal, the_worse}
 use Rattle.mcv_route.specs.declared.launch.Launch.{Launch}
 use Rattle.mcv_rules.proofs.Orders.{same_is}
-use Rattle.mcv_witness.specs.Walk.{finish, goes_on, is_told, joined_told, worse_told}
+use Rattle.mcv_witness.specs.Walk.{finish, goes_on, joined_told, worse_told}
 use Rattle.mcv_witness.specs.declared.seen.Join.{Join}
 use Rattle.mcv_witness.specs.declared.seen.Join.TheVariants.{Both, Beside, OnError, OnMiss}
 use Rattle.mcv_witness.specs.declared.seen.Seen.{Seen}

@@ -3,7 +3,6 @@
 ghost use Rattle.std.specs.Prelude.{◌≡◌, ◌++◌, [], codes, decimal, if◌then◌else◌, slice_get, unwrap_or, IfOk, OnOk};
 ghost use Rattle.std.specs.List.{flat_map};
 ghost use Rattle.mcv_base.specs.Operation.{is_reading, op_name};
-ghost use Rattle.mcv_base.specs.Position.{position_text};
 ghost use Rattle.mcv_cert.specs.Escape.{escaped};
 ghost use Rattle.mcv_witness.specs.Finding.{finding_of, outcomes_of};
 ghost use Rattle.mcv_witness.specs.Text.{answer_text, answers_text, done_word, finding_text, func_name, index_line, index_lines, index_text, line, lost_line, read_word, salt_byte};

@@ -62,7 +62,12 @@ const FALSE: &str = "\
 0 0 - 0 /././ 1 0 1 0 get 0=miss,1=hit 0=deleted => no key
 0 0 - 0 /././! 0 0 0 0 get 0=hit 0=deleted => a leaf that the delete reaches
 5 0 - 0 /././! 2 0 1 0 get 2=hit 0=deleted => a get that another pool answers
-5 0 - 0 /././! 1 0 0 0 gets 1=hit 0=deleted => gets that another pool answers";
+5 0 - 0 /././! 1 0 0 0 gets 1=hit 0=deleted => gets that another pool answers
+5 0 - 0 /././! 2 0 0 0 gets 2=hit 0=deleted => gets from another server
+5 0 a 0 /././! 2 0 1 0 gets 2=hit 0=deleted => gets in a class that there isn't
+5 0 - 0 /././! 2 0 1 0 gets - 0=deleted => gets without a hit
+6 0 ab 0 /a/b/ab 0.1 0 0 0 get 0.0=miss,0.1=hit 0.0=deleted => another server behind a prefix
+6 0 ab 0 /a/b/ab 0.1 0 1 0 get 0.0=miss 0.0=deleted => no hit behind a prefix";
 
 fn routes(rt: &impl Abort, alloc: Global, text: &str) -> Result<Routes, AllocError> {
     match read_config(alloc, text.as_bytes()) {

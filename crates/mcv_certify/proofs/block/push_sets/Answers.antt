@@ -2,9 +2,11 @@ use Rattle.std.proofs.Common.{refl, ap}
 use Rattle.std.proofs.lemmas.Result.{IfErr-weaker, on_ok_weaker}
 use Rattle.mcv_judge.specs.InMemory.{legs_of}
 use Rattle.mcv_judge.specs.Reason.{BlockValue}
-use Rattle.mcv_certify.specs.Made.{IfLost, IsBlockWith, TellsGapOf, TellsGapWith}
+use Rattle.mcv_blocks.specs.Spots.{IsBlockWith}
+use Rattle.mcv_blocks.proofs.Standing.{block_with}
+use Rattle.mcv_certify.specs.Gap.{IfLost}
+use Rattle.mcv_certify.specs.Made.{TellsGapOf, TellsGapWith}
 use Rattle.mcv_certify.proofs.Lost.{if_lost, on_ok_both}
-use Rattle.mcv_certify.proofs.Standing.{block_with}
 use Rattle.mcv_certify.proofs.block.push_sets.Goals as goal
 
 pub push_or_tell-requires : goal.push_or_tell-requires

@@ -1,7 +1,8 @@
 use Rattle.std.proofs.lemmas.Result.{IfErr-weaker, on_ok_weaker}
 use Rattle.mcv_judge.specs.InMemory.{pairs_of}
 use Rattle.mcv_blocks.specs.Spots.{spot}
-use Rattle.mcv_certify.specs.Made.{IfLost, TellsGapAt, TellsGapWith}
+use Rattle.mcv_certify.specs.Gap.{IfLost}
+use Rattle.mcv_certify.specs.Made.{TellsGapAt, TellsGapWith}
 use Rattle.mcv_certify.proofs.Lost.{if_lost}
 use Rattle.mcv_certify.proofs.Standing.{adds_with, sets_sized, tells_with}
 use Rattle.mcv_certify.proofs.making.push_era.Goals as goal

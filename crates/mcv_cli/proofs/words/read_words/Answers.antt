@@ -1,11 +1,9 @@
 use Rattle.std.proofs.Common.{◌≡◌, ◌∙◌, inl, inr, List, sym, subst, true, ap, map, refl, codes, true≢false}
-use Rattle.clap.specs.Words.{App, IsAmong, Kinds, Text, HasKind, FailsBy, fault_of, found_of, is_simple, is_simple_and_free, kind_of, rows_of, subcommand_of}
+use Rattle.clap.specs.Words.{App, Text, HasKind, fault_of, found_of, is_simple, is_simple_and_free, kind_of, rows_of, subcommand_of}
 use Rattle.std.specs.Str.Parse.{ParsesUnsigned, ExplainsUnsignedError, HasUnsignedDigitsIfOk}
 use Rattle.clap.proofs.WalkLemmas.{first_value-rows, one_text-rows}
 use Rattle.clap.proofs.OnLiterals.{clap_on_literals}
-use Rattle.mcv_cli.specs.declared.words.LineFault.{LineFault}
-use Rattle.mcv_cli.specs.declared.words.LineFault.TheVariants.{BadLine, Memory, Help}
-use Rattle.mcv_cli.specs.Words.{mcv_app, faults, named, IsFaultOfKind, IsLineFault}
+use Rattle.mcv_cli.specs.Words.{mcv_app}
 use Rattle.mcv_cli.proofs.Given.{given}
 use Rattle.mcv_cli.proofs.Matches.{named_rows, name_of_rows, no_number, number_at, fault_of_kind}
 use Rattle.mcv_cli.proofs.Taken.{taken}

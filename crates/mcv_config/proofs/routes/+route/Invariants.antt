@@ -31,6 +31,12 @@ decreases-read_children l = 8 * l.depth + 6
 abbrev pub decreases-read_each : goal.decreases-read_each
 decreases-read_each l = 8 * l.depth + 5
 
+abbrev pub decreases-read_warm_up : goal.decreases-read_warm_up
+decreases-read_warm_up l = 8 * l.depth + 3
+
+abbrev pub decreases-read_migration : goal.decreases-read_migration
+decreases-read_migration l = 8 * l.depth + 3
+
 abbrev pub decreases-read_two : goal.decreases-read_two
 decreases-read_two l = 8 * l.depth + 2
 

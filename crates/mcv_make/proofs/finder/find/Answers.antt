@@ -3,11 +3,13 @@ use Rattle.std.specs.Prelude.{IfOk}
 use Rattle.std.proofs.lemmas.Option.{none-some}
 use Rattle.std.specs.declared.alloc.AllocError.{AllocError}
 use Rattle.mcv_route.specs.Aliases.{first_alias}
-use Rattle.mcv_route.proofs.Selected.{has-alias, is-alias, selects}
+use Rattle.mcv_route.proofs.Selected.{has-alias}
+use Rattle.mcv_witness.specs.Breaks.{BreaksCoverage}
 use Rattle.mcv_witness.specs.Finding.{finding_of}
 use Rattle.mcv_witness.specs.declared.finding.Finding.{Finding}
 use Rattle.mcv_make.specs.Place.{StandsAtGap}
 use Rattle.mcv_make.specs.Told.{IsTold, IsToldWith}
+use Rattle.mcv_make.proofs.Finding.{breaks-at}
 use Rattle.mcv_make.proofs.Gaps.{entry, numbered}
 use Rattle.mcv_make.proofs.finder.find.Goals as goal
 
@@ -22,18 +24,19 @@ unreachable-requires c =
     let first = has-alias r g.route (entry r g c.requires.gap) c.first_alias.ensures.selected (numbered r g c.requires.gap) in
     none-some first.0 (c.in_default.ensures.value ∙ first.1)
 
-pub find_behind-requires-clause-alias : goal.find_behind-requires-clause-alias
-find_behind-requires-clause-alias c = (is-alias c.args.routes.now c.args.gap.now.route c.in-Some.prefix.now c.first_alias.ensures.selected (sym c.in-Some.ensures.value)).0
-
-pub find_behind-requires-clause-short : goal.find_behind-requires-clause-short
-find_behind-requires-clause-short c = (is-alias c.args.routes.now c.args.gap.now.route c.in-Some.prefix.now c.first_alias.ensures.selected (sym c.in-Some.ensures.value)).1
-
-pub find_behind-requires-clause-selects : goal.find_behind-requires-clause-selects
-find_behind-requires-clause-selects c = selects c.args.routes.now c.args.gap.now.route c.in-Some.prefix.now c.first_alias.ensures.selected (sym c.in-Some.ensures.value)
+pub returns-clause-breaks : goal.returns-clause-breaks
+returns-clause-breaks c =
+    let r = c.args.routes.now in
+    let g = c.args.gap.now in
+    let prefix = c.in-Some.prefix.now in
+    both c.find_behind.result (λ f. StandsAtGap g (finding_of f)) (λ f. IsToldWith r prefix (finding_of f)) (λ f. BreaksCoverage r (finding_of f))
+    (λ f stands told. breaks-at r c.servers-servers.ensures.sound c.servers-servers.ensures.limits c.read_sizes.ensures g (finding_of f) prefix c.requires.gap stands c.first_alias.ensures.selected (sym c.in-Some.ensures.value) told)
+    c.find_behind.ensures.stands c.find_behind.ensures.told
 
 pub returns-clause-told : goal.returns-clause-told
 returns-clause-told c =
     let r = c.args.routes.now in
+    let g = c.args.gap.now in
     let prefix = c.in-Some.prefix.now in
-    both c.find_behind.result (λ f. StandsAtGap c.args.gap.now (finding_of f)) (λ f. IsToldWith r prefix (finding_of f)) (λ f. IsTold r (finding_of f))
+    both c.find_behind.result (λ f. StandsAtGap g (finding_of f)) (λ f. IsToldWith r prefix (finding_of f)) (λ f. IsTold r (finding_of f))
     (λ f stands told. (prefix, ap (first_alias r) stands.route ∙ sym c.in-Some.ensures.value, told)) c.find_behind.ensures.stands c.find_behind.ensures.told

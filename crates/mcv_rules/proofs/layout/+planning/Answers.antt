@@ -29,15 +29,15 @@ laid_out-returns-in-Error t c = rw (c.in-Error.is, view-Error) (serves-error (si
 
 -- ---- children one by one, all waited for or one after another
 
-pub laid_out-returns-in-AllSync : goal.laid_out-returns-in-AllSync
-laid_out-returns-in-AllSync t c =
+pub laid_out-returns-in_ok-each_laid_out-in-AllSync : goal.laid_out-returns-in_ok-each_laid_out-in-AllSync
+laid_out-returns-in_ok-each_laid_out-in-AllSync t c =
     let s = situation_at c.args.asked.now c.args.position.now in
     let v = c.in-AllSync.children in
     rw (c.in-AllSync.is, view-AllSync v)
     (serves-all _ (map view v.items) s (rw c.deref-in-AllSync.ensures.value at c.in_ok-each_laid_out-in-AllSync.ensures))
 
-pub laid_out-returns-in-Failover : goal.laid_out-returns-in-Failover
-laid_out-returns-in-Failover t c =
+pub laid_out-returns-in_ok-plans-in-Failover : goal.laid_out-returns-in_ok-plans-in-Failover
+laid_out-returns-in_ok-plans-in-Failover t c =
     let s = situation_at c.args.asked.now c.args.position.now in
     let v = c.in-Failover.children in
     rw (c.in-Failover.is, view-Failover v)
@@ -50,26 +50,18 @@ pub each_laid_out-loop-number-preserved : goal.each_laid_out-loop-number-preserv
 each_laid_out-loop-number-preserved t c =
     let s = situation_at c.args.asked.now c.args.position.now in
     rw c.in_ok-push.ensures.items
-    (serve-grows c.loop-number.plans.items c.args.children.now c.loop-number.number c.index-children-number.result c.in_ok-laid_out.field-0 s c.loop-number-test.true c.index-children-number.is
-    c.loop-number.invariant (rw c.in_ok-place.ensures at c.in_ok-laid_out.ensures))
+    (serve-grows c.loop-number.plans.items c.args.children.now c.loop-number.number c.index-children-number.result c.in_ok-child_laid_out.field-0 s c.loop-number-test.true c.index-children-number.is
+    c.loop-number.invariant c.in_ok-child_laid_out.ensures)
 
 pub each_laid_out-returns : goal.each_laid_out-returns
 each_laid_out-returns t c = rw (take_all c.loop-number.number c.args.children.now c.loop-number-test.false) at c.loop-number.invariant
-
-pub misses_passed_on-loop-number-preserved : goal.misses_passed_on-loop-number-preserved
-misses_passed_on-loop-number-preserved t c =
-    let s = situation_at c.args.asked.now c.args.position.now in
-    rw c.in_ok-push.ensures.items
-    (serve-grows c.loop-number.plans.items c.args.children.now c.loop-number.number c.index-children-number.result c.in_ok-laid_out.field-0 s c.loop-number-test.true c.index-children-number.is
-    c.loop-number.invariant (rw c.in_ok-place.ensures at c.in_ok-laid_out.ensures))
 
 pub misses_passed_on-returns : goal.misses_passed_on-returns
 misses_passed_on-returns t c =
     let s = situation_at c.args.asked.now c.args.position.now in
     let children = c.args.children.now in
     let reads : is_reading s.op ≡ true = search rules in
-    serves-search after.Miss c.loop-number.plans (miss_failover (trees_of (map view children))) (map view children) s (miss_searches (trees_of (map view children)) s reads)
-    (rw (take_all c.loop-number.number children c.loop-number-test.false) at c.loop-number.invariant)
+    serves-search after.Miss _ (miss_failover (trees_of (map view children))) (map view children) s (miss_searches (trees_of (map view children)) s reads) c.in_ok-plans.ensures
 
 pub none_waited_for-returns : goal.none_waited_for-returns
 none_waited_for-returns t c =
@@ -99,25 +91,25 @@ with_shadows-returns-then-is_empty t c =
 
 -- ---- warm-ups
 
-pub laid_out-returns-in-WarmUp : goal.laid_out-returns-in-WarmUp
-laid_out-returns-in-WarmUp t c =
+pub laid_out-returns-else-is_reading : goal.laid_out-returns-else-is_reading
+laid_out-returns-else-is_reading t c =
     let s = situation_at c.args.asked.now c.args.position.now in
     let w = c.in-WarmUp in
     let writes : is_reading s.op ≡ false = sym c.is_reading.ensures ∙ c.if-is_reading.false in
     rw (w.is, view-WarmUp w.cold w.warm w.exptime)
     (serves-does c.in_ok-first-in-WarmUp.first (warm_up (view w.cold.value) (view w.warm.value) w.exptime) (view w.cold.value) s (under 0 s) (warms_not (view w.cold.value) (view w.warm.value) w.exptime s writes)
-    (rw (c.deref-in-WarmUp.ensures, c.in_ok-child-in-WarmUp.ensures) at c.in_ok-first-in-WarmUp.ensures))
+    (rw c.deref-in-WarmUp.ensures at c.in_ok-first-in-WarmUp.ensures))
 
-pub laid_out-returns-then-is_reading : goal.laid_out-returns-then-is_reading
-laid_out-returns-then-is_reading t c =
+pub laid_out-returns-in_ok-filling-in-WarmUp : goal.laid_out-returns-in_ok-filling-in-WarmUp
+laid_out-returns-in_ok-filling-in-WarmUp t c =
     let s = situation_at c.args.asked.now c.args.position.now in
     let w = c.in-WarmUp in
     let reads : is_reading s.op ≡ true = sym c.is_reading.ensures ∙ c.if-is_reading.true in
     rw (w.is, view-WarmUp w.cold w.warm w.exptime)
     (c.filled.ensures (view w.cold.value) (view w.warm.value) w.exptime s reads
-    (rw (c.deref-in-WarmUp.ensures, c.in_ok-child-in-WarmUp.ensures) at c.in_ok-first-in-WarmUp.ensures)
-    (rw (c.deref-then-is_reading.ensures, c.in_ok-child-in-WarmUp-2.ensures) at c.in_ok-second-in-WarmUp.ensures)
-    (rw (c.deref-then-is_reading-2.ensures, c.in_ok-child-in-WarmUp-3.ensures, c.adding.ensures) at c.in_ok-filling-in-WarmUp.ensures))
+    (rw c.deref-in-WarmUp.ensures at c.in_ok-first-in-WarmUp.ensures)
+    (rw c.deref-then-is_reading.ensures at c.in_ok-second-in-WarmUp.ensures)
+    (rw (c.deref-then-is_reading-2.ensures, c.adding.ensures) at c.in_ok-filling-in-WarmUp.ensures))
 
 -- ---- migrations
 
@@ -127,9 +119,9 @@ laid_out-returns-in-From t c =
     let m = c.in-Migrate in
     let way : way_of s m.start m.interval ≡ to_from = sym c.way.ensures ∙ ap way_seen c.in-From.is in
     rw (m.is, view-Migrate m.from m.to m.start m.interval)
-    (served c.laid_out-in-From-2.result (λ p. Serves p (view m.from.value) (under 0 s)) (λ p. Serves p (migrate (view m.from.value) (view m.to.value) m.start m.interval) s)
+    (served c.child_laid_out-in-From.result (λ p. Serves p (view m.from.value) (under 0 s)) (λ p. Serves p (migrate (view m.from.value) (view m.to.value) m.start m.interval) s)
     (λ p. serves-does p (migrate (view m.from.value) (view m.to.value) m.start m.interval) (view m.from.value) s (under 0 s) (migrates_from (view m.from.value) (view m.to.value) m.start m.interval s way))
-    (rw (c.deref-in-From.ensures, c.in_ok-child-in-From.ensures) at c.laid_out-in-From-2.ensures))
+    (rw c.deref-in-From.ensures at c.child_laid_out-in-From.ensures))
 
 pub laid_out-returns-in-To : goal.laid_out-returns-in-To
 laid_out-returns-in-To t c =
@@ -137,13 +129,13 @@ laid_out-returns-in-To t c =
     let m = c.in-Migrate in
     let way : way_of s m.start m.interval ≡ to_to = sym c.way.ensures ∙ ap way_seen c.in-To.is in
     rw (m.is, view-Migrate m.from m.to m.start m.interval)
-    (served c.laid_out-in-To-2.result (λ p. Serves p (view m.to.value) (under 1 s)) (λ p. Serves p (migrate (view m.from.value) (view m.to.value) m.start m.interval) s)
+    (served c.child_laid_out-in-To.result (λ p. Serves p (view m.to.value) (under 1 s)) (λ p. Serves p (migrate (view m.from.value) (view m.to.value) m.start m.interval) s)
     (λ p. serves-does p (migrate (view m.from.value) (view m.to.value) m.start m.interval) (view m.to.value) s (under 1 s) (migrates_to (view m.from.value) (view m.to.value) m.start m.interval s way))
-    (rw (c.deref-in-To.ensures, c.in_ok-child-in-To.ensures) at c.laid_out-in-To-2.ensures))
+    (rw c.deref-in-To.ensures at c.child_laid_out-in-To.ensures))
 
 -- to both
-pub laid_out-returns-in-Migrate : goal.laid_out-returns-in-Migrate
-laid_out-returns-in-Migrate t c =
+pub laid_out-returns-in_ok-second-in-Both : goal.laid_out-returns-in_ok-second-in-Both
+laid_out-returns-in_ok-second-in-Both t c =
     let s = situation_at c.args.asked.now c.args.position.now in
     let m = c.in-Migrate in
     let way : way_of s m.start m.interval ≡ to_both = sym c.way.ensures ∙ ap way_seen c.in-Both.is in
@@ -151,8 +143,8 @@ laid_out-returns-in-Migrate t c =
     (served c.both.result (λ p. Serves p (all_sync (trees_of (view m.from.value ∷ view m.to.value ∷ []))) s) (λ p. Serves p (migrate (view m.from.value) (view m.to.value) m.start m.interval) s)
     (λ p. serves-does p (migrate (view m.from.value) (view m.to.value) m.start m.interval) (all_sync (trees_of (view m.from.value ∷ view m.to.value ∷ []))) s s (migrates_both (view m.from.value) (view m.to.value) m.start m.interval s way))
     (c.both.ensures (view m.from.value) (view m.to.value) s
-    (rw (c.deref-in-Both.ensures, c.in_ok-child-in-Both.ensures) at c.in_ok-first-in-Both.ensures)
-    (rw (c.deref-in-Both-2.ensures, c.in_ok-child-in-Both-2.ensures) at c.in_ok-second-in-Both.ensures)))
+    (rw c.deref-in-Both.ensures at c.in_ok-first-in-Both.ensures)
+    (rw c.deref-in-Both-2.ensures at c.in_ok-second-in-Both.ensures)))
 
 -- ---- prefixes
 
@@ -166,9 +158,9 @@ laid_out-returns-then-number-len t c =
     let chosen : number ≡ prefix_policy s.rest (prefixes_of policies.items) = rw c.deref-in-PrefixSelector.ensures.value at c.prefix_number-number.ensures in
     let within : number < length policies.items = omega (arith, c.if-number-len.true, c.len.ensures, policies.ok.0) in
     rw c.in-PrefixSelector.is
-    (served c.laid_out-then-number-len.result (λ p. Serves p (view (out-PrefixPolicy policy).route) (under number s)) (λ p. Serves p (view (PrefixSelector policies wildcard)) s)
+    (served c.child_laid_out-then-number-len.result (λ p. Serves p (view (out-PrefixPolicy policy).route) (under number s)) (λ p. Serves p (view (PrefixSelector policies wildcard)) s)
     (λ p. serves-prefix p policies wildcard number policy s chosen within c.index-policy.ensures)
-    (rw c.in_ok-place-in-PrefixSelector.ensures at c.laid_out-then-number-len.ensures))
+    c.child_laid_out-then-number-len.ensures)
 
 pub laid_out-returns-in-Some : goal.laid_out-returns-in-Some
 laid_out-returns-in-Some t c =
@@ -179,13 +171,13 @@ laid_out-returns-in-Some t c =
     let chosen : number ≡ prefix_policy s.rest (prefixes_of policies.items) = rw c.deref-in-PrefixSelector.ensures.value at c.prefix_number-number.ensures in
     let past : length policies.items ≤ number = omega (arith, c.if-number-len.false, c.len.ensures, policies.ok.0) in
     rw (c.in-PrefixSelector.is, c.in-Some.is)
-    (served c.laid_out-in-Some.result (λ p. Serves p (view route.value) (under number s)) (λ p. Serves p (view (PrefixSelector policies (Some route))) s)
+    (served c.child_laid_out-in-Some.result (λ p. Serves p (view route.value) (under number s)) (λ p. Serves p (view (PrefixSelector policies (Some route))) s)
     (λ p. serves-wildcard p policies route number s chosen past)
-    (rw (c.deref-in-Some.ensures, c.in_ok-place-in-PrefixSelector.ensures) at c.laid_out-in-Some.ensures))
+    (rw c.deref-in-Some.ensures at c.child_laid_out-in-Some.ensures))
 
 -- no wildcard
-pub laid_out-returns-in-PrefixSelector : goal.laid_out-returns-in-PrefixSelector
-laid_out-returns-in-PrefixSelector t c =
+pub laid_out-returns-in-None : goal.laid_out-returns-in-None
+laid_out-returns-in-None t c =
     let policies = c.in-PrefixSelector.policies in
     let s = situation_at c.args.asked.now c.args.position.now in
     let number = c.prefix_number-number.result in
@@ -205,9 +197,9 @@ laid_out-returns-then-number-len-2 t c =
     let chosen : number ≡ policy_of s.op (operations_of policies.items) = rw c.deref-in-OperationSelector.ensures.value at c.policy_number-number.ensures in
     let within : number < length policies.items = omega (arith, c.if-number-len-2.true, c.len-in-OperationSelector.ensures, policies.ok.0) in
     rw c.in-OperationSelector.is
-    (served c.laid_out-then-number-len-2.result (λ p. Serves p (view (out-OperationPolicy policy).route) (under number s)) (λ p. Serves p (view (OperationSelector policies default)) s)
+    (served c.child_laid_out-then-number-len-2.result (λ p. Serves p (view (out-OperationPolicy policy).route) (under number s)) (λ p. Serves p (view (OperationSelector policies default)) s)
     (λ p. serves-operation p policies default number policy s chosen within c.index-policy-then-number-len-2.ensures)
-    (rw c.in_ok-place-in-OperationSelector.ensures at c.laid_out-then-number-len-2.ensures))
+    c.child_laid_out-then-number-len-2.ensures)
 
 pub laid_out-returns-in-Some-default_policy : goal.laid_out-returns-in-Some-default_policy
 laid_out-returns-in-Some-default_policy t c =
@@ -218,13 +210,13 @@ laid_out-returns-in-Some-default_policy t c =
     let chosen : number ≡ policy_of s.op (operations_of policies.items) = rw c.deref-in-OperationSelector.ensures.value at c.policy_number-number.ensures in
     let past : length policies.items ≤ number = omega (arith, c.if-number-len-2.false, c.len-in-OperationSelector.ensures, policies.ok.0) in
     rw (c.in-OperationSelector.is, c.in-Some-default_policy.is)
-    (served c.laid_out-in-Some-default_policy.result (λ p. Serves p (view route.value) (under number s)) (λ p. Serves p (view (OperationSelector policies (Some route))) s)
+    (served c.child_laid_out-in-Some-default_policy.result (λ p. Serves p (view route.value) (under number s)) (λ p. Serves p (view (OperationSelector policies (Some route))) s)
     (λ p. serves-default p policies route number s chosen past)
-    (rw (c.deref-in-Some-default_policy.ensures, c.in_ok-place-in-OperationSelector.ensures) at c.laid_out-in-Some-default_policy.ensures))
+    (rw c.deref-in-Some-default_policy.ensures at c.child_laid_out-in-Some-default_policy.ensures))
 
 -- no default
-pub laid_out-returns : goal.laid_out-returns
-laid_out-returns t c =
+pub laid_out-returns-in-None-default_policy : goal.laid_out-returns-in-None-default_policy
+laid_out-returns-in-None-default_policy t c =
     let policies = c.in-OperationSelector.policies in
     let s = situation_at c.args.asked.now c.args.position.now in
     let number = c.policy_number-number.result in
@@ -238,17 +230,17 @@ pub first_waited_for-loop-number-init : goal.first_waited_for-loop-number-init
 first_waited_for-loop-number-init t c =
     let s = situation_at c.args.asked.now c.args.position.now in
     let children = c.args.children.now in
-    let first = c.in_ok-laid_out.field-0 in
+    let first = c.in_ok-child_laid_out.field-0 in
     let shape : children ≡ c.in-Some.first.now ∷ c.in-Some.others.now = search rules in
     led_first (λ p. Serves p (first_of (map view children)) (under 0 s)) c.push.new.self.items first (c.in_ok-push.ensures.items ∙ ap (λ ps. ps ++ first ∷ []) c.in_ok-plans.ensures.items)
-    (first_served first children c.in-Some.first.now c.in-Some.others.now (under 0 s) shape (rw c.in_ok-place.ensures at c.in_ok-laid_out.ensures))
+    (first_served first children c.in-Some.first.now c.in-Some.others.now (under 0 s) shape c.in_ok-child_laid_out.ensures)
 
 pub first_waited_for-loop-number-preserved : goal.first_waited_for-loop-number-preserved
 first_waited_for-loop-number-preserved t c =
     let s = situation_at c.args.asked.now c.args.position.now in
     rw c.in_ok-push-2.ensures.items
-    (child-grows (λ p. Serves p (first_of (map view c.args.children.now)) (under 0 s)) 1 (c.loop-number.number + 1) c.loop-number.plans.items c.in-Some.others.now c.loop-number.number c.index-others-number.result c.in_ok-laid_out-2.field-0 (asynchronous s) c.loop-number-test.true c.index-others-number.is
-    c.loop-number.invariant (omega arith) (rw (c.in_ok-place-2.ensures, c.asynchronous-unheard.ensures) at c.in_ok-laid_out-2.ensures))
+    (child-grows (λ p. Serves p (first_of (map view c.args.children.now)) (under 0 s)) 1 (c.loop-number.number + 1) c.loop-number.plans.items c.in-Some.others.now c.loop-number.number c.index-others-number.result c.in_ok-child_laid_out-2.field-0 (asynchronous s) c.loop-number-test.true c.index-others-number.is
+    c.loop-number.invariant (omega arith) (rw c.asynchronous-unheard.ensures at c.in_ok-child_laid_out-2.ensures))
 
 pub first_waited_for-returns : goal.first_waited_for-returns
 first_waited_for-returns t c =
@@ -274,8 +266,8 @@ pub none_waited_for-loop-number-preserved : goal.none_waited_for-loop-number-pre
 none_waited_for-loop-number-preserved t c =
     let s = situation_at c.args.asked.now c.args.position.now in
     rw c.in_ok-push-2.ensures.items
-    (child-grows (λ p. Serves p null s) 0 c.loop-number.number c.loop-number.plans.items c.args.children.now c.loop-number.number c.index-children-number.result c.in_ok-laid_out.field-0 (asynchronous s) c.loop-number-test.true c.index-children-number.is
-    c.loop-number.invariant (omega arith) (rw (c.in_ok-place.ensures, c.asynchronous-unheard.ensures) at c.in_ok-laid_out.ensures))
+    (child-grows (λ p. Serves p null s) 0 c.loop-number.number c.loop-number.plans.items c.args.children.now c.loop-number.number c.index-children-number.result c.in_ok-child_laid_out.field-0 (asynchronous s) c.loop-number-test.true c.index-children-number.is
+    c.loop-number.invariant (omega arith) (rw c.asynchronous-unheard.ensures at c.in_ok-child_laid_out.ensures))
 
 -- ---- shadows
 
@@ -287,16 +279,20 @@ with_shadows-loop-number-preserved t c =
     rw c.in_ok-push-2.ensures.items
     (rw (shadow_view-out shadow) at
     (shadow-grows (λ p. Serves p (pool (pool_view c.args.leaf.now) [] none) s) c.args.leaf.now.symbol c.loop-number.plans.items c.args.shadows.now c.loop-number.number shadow target (shadowed s) c.loop-number-test.true c.index-shadows-number.is
-    c.loop-number.invariant (rw (shadow_view-out shadow, c.in_ok-new.ensures.ok) (rw (c.in_ok-place.ensures, c.shadowed-shadowed.ensures) at c.in_ok-target.ensures))))
+    c.loop-number.invariant (rw (shadow_view-out shadow, c.in_ok-new.ensures.ok) (rw c.shadowed-shadowed.ensures at c.in_ok-target.ensures))))
 
 -- ---- a search for what doesn't read
 
-pub misses_passed_on-returns-in_ok-place-in-Some : goal.misses_passed_on-returns-in_ok-place-in-Some
-misses_passed_on-returns-in_ok-place-in-Some t c =
+pub misses_passed_on-returns-in-Some : goal.misses_passed_on-returns-in-Some
+misses_passed_on-returns-in-Some t c =
     let s = situation_at c.args.asked.now c.args.position.now in
     let children = c.args.children.now in
     let first = c.in-Some.first.now in
     let writes : is_reading s.op ≡ false = sym c.is_reading.ensures ∙ c.if-not-is_reading.true in
-    served c.laid_out.result (λ p. Serves p (view first) (under 0 s)) (λ p. Serves p (miss_failover (children_of children)) s)
-    (λ p. serves-first_child p children first s writes (search rules) (search rules))
-    (rw c.in_ok-place-in-Some.ensures at c.laid_out.ensures)
+    served c.child_laid_out.result (λ p. Serves p (view first) (under 0 s)) (λ p. Serves p (miss_failover (children_of children)) s)
+    (λ p. serves-first_child p children first s writes (search rules) (search rules)) c.child_laid_out.ensures
+
+-- ---- a child
+
+pub child_laid_out-returns : goal.child_laid_out-returns
+child_laid_out-returns t c = rw c.in_ok-place.ensures at c.laid_out.ensures

@@ -10,9 +10,6 @@ use Rattle.mcv_rules.proofs.layout.+planning.Given as goal
 abbrev pub invariant-each_laid_out-loop-number : goal.invariant-each_laid_out-loop-number
 invariant-each_laid_out-loop-number l = ServeEach 0 l.plans.items (map view (take l.number l.children)) (situation_at l.asked l.position)
 
-abbrev pub invariant-misses_passed_on-loop-number : goal.invariant-misses_passed_on-loop-number
-invariant-misses_passed_on-loop-number l = ServeEach 0 l.plans.items (map view (take l.number l.children)) (situation_at l.asked l.position)
-
 -- the first plan serves the first child, and the rest so far sends the legs of the others so far
 abbrev pub invariant-first_waited_for-loop-number : goal.invariant-first_waited_for-loop-number
 invariant-first_waited_for-loop-number l =

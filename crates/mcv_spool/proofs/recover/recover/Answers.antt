@@ -13,6 +13,11 @@ returns-in_err-sync-clause-any_moment g c = λ model.
     let synced = after_quiet g.D.Disk.seen g.D.Disk.may_leave g.D.Disk.moment g.D.Disk.left_since old old c.sync.new.self P (started g.D.Disk.seen g.D.Disk.may_leave g.D.Disk.moment g.D.Disk.left_since old P) (c.sync.ensures.quiet model) in
     synced
 
+pub returns-in_err-sync-clause-unwritten : goal.returns-in_err-sync-clause-unwritten
+returns-in_err-sync-clause-unwritten g c =
+    let gone = err_from_is_err_and c.from_residual.result c.from_residual.ensures.1 in
+    rw (gone.1) (λ model other. (c.sync.ensures.quiet model).same)
+
 pub returns-in_err-len-clause-any_moment : goal.returns-in_err-len-clause-any_moment
 returns-in_err-len-clause-any_moment g c = λ model.
     let old = c.args.disk.now in
@@ -20,6 +25,11 @@ returns-in_err-len-clause-any_moment g c = λ model.
     let synced = after_quiet g.D.Disk.seen g.D.Disk.may_leave g.D.Disk.moment g.D.Disk.left_since old old c.sync.new.self P (started g.D.Disk.seen g.D.Disk.may_leave g.D.Disk.moment g.D.Disk.left_since old P) (c.sync.ensures.quiet model) in
     let measured = after_quiet g.D.Disk.seen g.D.Disk.may_leave g.D.Disk.moment g.D.Disk.left_since old c.sync.new.self c.len.new.self P synced (c.len.ensures.quiet model) in
     measured
+
+pub returns-in_err-len-clause-unwritten : goal.returns-in_err-len-clause-unwritten
+returns-in_err-len-clause-unwritten g c =
+    let gone = err_from_is_err_and c.from_residual-in_err-len.result c.from_residual-in_err-len.ensures.1 in
+    rw (gone.1) (λ model other. (c.len.ensures.quiet model).same ∙ (c.sync.ensures.quiet model).same)
 
 pub find-requires : goal.find-requires
 find-requires g c = λ model.
@@ -34,12 +44,22 @@ returns-in_err-found-clause-any_moment g c = λ model.
     let found = after_quiet g.D.Disk.seen g.D.Disk.may_leave g.D.Disk.moment g.D.Disk.left_since old c.len.new.self c.find.new.disk P measured (c.find.ensures.quiet model) in
     found
 
+pub returns-in_err-found-clause-unwritten : goal.returns-in_err-found-clause-unwritten
+returns-in_err-found-clause-unwritten g c =
+    let gone = err_from_is_err_and c.from_residual-in_err-found.result c.from_residual-in_err-found.ensures.1 in
+    rw (gone.1) (λ model other. (c.find.ensures.quiet model).same ∙ ((c.len.ensures.quiet model).same ∙ (c.sync.ensures.quiet model).same))
+
 pub returns-in_err-found-clause-damaged : goal.returns-in_err-found-clause-damaged
 returns-in_err-found-clause-damaged g c = λ model.
     let before : g.D.Disk.seen c.len.new.self ≡ g.D.Disk.seen c.args.disk.now = (c.len.ensures.quiet model).same ∙ (c.sync.ensures.quiet model).same in
     λ k h.
     let gone = err_from_is_err_and c.from_residual-in_err-found.result c.from_residual-in_err-found.ensures.1 in
     ap (λ (f : List ℕ). damage 0 (slots f)) (sym before) ∙ c.in_err-found.ensures.damaged model k (ap Err (sym gone.2) ∙ (sym gone.1 ∙ h))
+
+pub returns-in_err-repair-clause-unwritten : goal.returns-in_err-repair-clause-unwritten
+returns-in_err-repair-clause-unwritten g c =
+    let gone = err_from_is_err_and c.from_residual-in_err-repair.result c.from_residual-in_err-repair.ensures.1 in
+    rw (gone.1) (λ model other. absurd (other gone.2))
 
 pub returns-in_err-repair-clause-any_moment : goal.returns-in_err-repair-clause-any_moment
 returns-in_err-repair-clause-any_moment g c = λ model.
@@ -75,7 +95,6 @@ returns-clause-slots g c = λ model.
 
 pub repair-requires-clause-end : goal.repair-requires-clause-end
 repair-requires-clause-end g c = λ model.
-    let before : g.D.Disk.seen c.len.new.self ≡ g.D.Disk.seen c.args.disk.now = (c.len.ensures.quiet model).same ∙ (c.sync.ensures.quiet model).same in
     let is = (c.in_ok-found.ensures.found model).counted in
     ap (λ n. 640 * n) is ∙ ap (λ (f : List ℕ). 640 * length (slots f)) (sym (c.find.ensures.quiet model).same)
 

@@ -30,7 +30,6 @@ write_through-requires g c = λ model.
     let kept = c.min-kept.result in
     let end_is = c.requires.end model in
     let kept_is : kept ≡ min (length file) (c.args.end + 1) = omega (arith, c.min-kept.ensures, c.requires.len model) in
-    let P : List ℕ → Type 0 = λ f. slots f ≡ slots file in
     let before : g.D.Disk.seen mid ≡ take kept file = c.in_ok-cut_through.ensures.cut model in
     omega (arith, ap length before, length-take kept file, kept_is, end_is, within file)
 
@@ -74,7 +73,6 @@ returns-clause-slots g c = λ model.
     let kept = c.min-kept.result in
     let end_is = c.requires.end model in
     let kept_is : kept ≡ min (length file) (c.args.end + 1) = omega (arith, c.min-kept.ensures, c.requires.len model) in
-    let P : List ℕ → Type 0 = λ f. slots f ≡ slots file in
     let before : g.D.Disk.seen mid ≡ take kept file = c.in_ok-cut_through.ensures.cut model in
     let is : g.D.Disk.seen c.write_through.new.disk ≡ written (take kept file) c.args.end (0 ∷ []) = c.in_ok-write_through.ensures.written model ∙ ap (λ (l : List ℕ). written l c.args.end (0 ∷ [])) before in
     let there = gate_closed file (c.requires.not_closed model) c.args.end kept end_is kept_is in
@@ -88,7 +86,6 @@ returns-clause-closed g c = λ model.
     let kept = c.min-kept.result in
     let end_is = c.requires.end model in
     let kept_is : kept ≡ min (length file) (c.args.end + 1) = omega (arith, c.min-kept.ensures, c.requires.len model) in
-    let P : List ℕ → Type 0 = λ f. slots f ≡ slots file in
     let before : g.D.Disk.seen mid ≡ take kept file = c.in_ok-cut_through.ensures.cut model in
     let is : g.D.Disk.seen c.write_through.new.disk ≡ written (take kept file) c.args.end (0 ∷ []) = c.in_ok-write_through.ensures.written model ∙ ap (λ (l : List ℕ). written l c.args.end (0 ∷ [])) before in
     let there = gate_closed file (c.requires.not_closed model) c.args.end kept end_is kept_is in

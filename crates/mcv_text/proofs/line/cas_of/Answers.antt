@@ -1,6 +1,8 @@
-use Rattle.std.proofs.Common.{◌<◌, arith, map, length, Bor, List, ℕ}
+use Rattle.std.proofs.Common.{◌≡◌, ◌<◌, ◌∙◌, [], IfOk, arith, map, length, sym, subst, Bor, List, ℕ}
 use Rattle.std.proofs.lemmas.List.{length-map}
-use Rattle.mcv_text.proofs.Lines.{cas_short}
+use Rattle.mcv_text.proofs.Lines.{cas_numberless, cas_optionless, cas_short, cas_unnumbered, cas_whole}
+use Rattle.mcv_text.specs.Line.{LineValue}
+use Rattle.mcv_text.specs.Parsed.{line_value}
 use Rattle.mcv_text.proofs.line.cas_of.Goals as goal
 
 pub returns-in_default-clause-means : goal.returns-in_default-clause-means
@@ -8,3 +10,23 @@ returns-in_default-clause-means c =
     let words : List (List ℕ) = map (λ (word : Bor (List ℕ)). word.now) c.args.arguments.now in
     let short : length words < 5 = omega (arith, c.in_default.len_below, length-map c.args.arguments.now (λ (word : Bor (List ℕ)). word.now)) in
     cas_short words short
+
+pub returns-in_default-numbers_of-clause-means : goal.returns-in_default-numbers_of-clause-means
+returns-in_default-numbers_of-clause-means c =
+    cas_numberless c.args.arguments.now (record { ref_ptr = (0, 0); now = [] }) c.in-len5-up.len_at_least (sym c.numbers_of.ensures ∙ c.in_default-numbers_of.is)
+
+pub returns-in_default-number64-clause-means : goal.returns-in_default-number64-clause-means
+returns-in_default-number64-clause-means c =
+    cas_unnumbered c.args.arguments.now (record { ref_ptr = (0, 0); now = [] }) c.in-len5-up.len_at_least c.in-Some.numbers
+    (sym c.numbers_of.ensures ∙ c.in-Some.is) (sym c.number64.ensures ∙ c.in_default-number64.is)
+
+pub returns-in_default-noreply-clause-means : goal.returns-in_default-noreply-clause-means
+returns-in_default-noreply-clause-means c =
+    cas_optionless c.args.arguments.now (record { ref_ptr = (0, 0); now = [] }) c.in-len5-up.len_at_least c.in-Some.numbers c.in-Some-number64.cas
+    (sym c.numbers_of.ensures ∙ c.in-Some.is) (sym c.number64.ensures ∙ c.in-Some-number64.is) (sym c.noreply.ensures ∙ c.in_default-noreply.is)
+
+pub returns-clause-means : goal.returns-clause-means
+returns-clause-means c =
+    let line = cas_whole c.args.arguments.now (record { ref_ptr = (0, 0); now = [] }) c.in-len5-up.len_at_least c.in-Some.numbers c.in-Some-number64.cas c.in-Some-noreply.noreply
+    (sym c.numbers_of.ensures ∙ c.in-Some.is) (sym c.number64.ensures ∙ c.in-Some-number64.is) (sym c.noreply.ensures ∙ c.in-Some-noreply.is) in
+    subst (λ (v : LineValue). IfOk c.storing_with.result (λ m. line_value m ≡ v)) line c.storing_with.ensures.means

@@ -1,4 +1,4 @@
-use Rattle.std.proofs.Common.{◌≡◌, option_map, sym, ap, ◌∙◌}
+use Rattle.std.proofs.Common.{option_map, sym, ap, ◌∙◌}
 use Rattle.mcv_route.specs.Situation.{asked}
 use Rattle.mcv_route.specs.View.{view}
 use Rattle.mcv_witness.specs.Breaks.{chosen}

@@ -1,4 +1,4 @@
-use Rattle.std.proofs.Common.{◌≡◌, ◌↔◌, ◌<◌, ◌≤◌, ℕ, List, option_map, ap, subst, ◌∙◌, arith}
+use Rattle.std.proofs.Common.{◌↔◌, ℕ, List, option_map, ap, subst, ◌∙◌, arith}
 use Rattle.std.specs.Prelude.{IsTrue, slice_get}
 use Rattle.mcv_classes.specs.Class.{IsClassWord}
 use Rattle.mcv_classes.specs.Words.{class_words}

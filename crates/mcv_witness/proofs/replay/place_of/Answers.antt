@@ -1,4 +1,4 @@
-use Rattle.std.proofs.Common.{◌≡◌, List, ℕ, subst}
+use Rattle.std.proofs.Common.{List, ℕ, subst}
 use Rattle.mcv_base.specs.Key.{IsKeyFault}
 use Rattle.mcv_witness.specs.Finding.{finding_of}
 use Rattle.mcv_witness.proofs.Decided.{faulty_key}

@@ -1,4 +1,4 @@
-use Rattle.std.proofs.Common.{arith, ◌≡◌, ◌<◌, ◌≤◌, Some, length, [], ◌∙◌}
+use Rattle.std.proofs.Common.{arith, ◌≡◌, ◌<◌, ◌≤◌, length, [], ◌∙◌}
 use Rattle.std.specs.Prelude.{slice_index}
 use Rattle.mcv_route.specs.Children.{policy_of, prefix_policy}
 use Rattle.mcv_rules.specs.Laid.{operations_of, prefixes_of, ranges_of, situation_at, targets_of}

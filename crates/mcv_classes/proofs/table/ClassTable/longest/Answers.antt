@@ -1,8 +1,7 @@
-use Rattle.std.proofs.Common.{◌≡◌, ◌<◌, arith, rules, length, ap, sym, subst, ◌∙◌, true, false}
-use Rattle.std.specs.List.Sorted.{IsPartitionPoint}
+use Rattle.std.proofs.Common.{◌<◌, arith, rules, length, ap, sym, subst, ◌∙◌}
 use Rattle.std.proofs.lemmas.List.Sorted.{IsPartitionPoint-from_clause}
 use Rattle.mcv_classes.specs.Table.{IsLinked, texts_of, word_at}
-use Rattle.mcv_classes.proofs.Found.{class-word, is_passed, passed-below, passed-some, passes, passes-first}
+use Rattle.mcv_classes.proofs.Found.{class-word, passed-below, passed-some, passes, passes-first}
 use Rattle.mcv_classes.proofs.Linked.{length-texts, text-at}
 use Rattle.mcv_classes.proofs.table.ClassTable.longest.Goals as goal
 

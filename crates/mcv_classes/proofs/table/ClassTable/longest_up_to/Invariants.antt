@@ -1,5 +1,4 @@
 use Rattle.std.proofs.Common.{◌<◌, length}
-use Rattle.mcv_classes.specs.Table.{texts_of}
 use Rattle.mcv_classes.proofs.Linked.{AreBelow}
 use Rattle.mcv_classes.proofs.table.ClassTable.longest_up_to.Given as goal
 

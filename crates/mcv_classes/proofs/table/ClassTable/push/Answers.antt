@@ -1,4 +1,4 @@
-use Rattle.std.proofs.Common.{◌≡◌, arith, refl, sym, subst}
+use Rattle.std.proofs.Common.{arith, sym, subst}
 use Rattle.mcv_classes.specs.Table.{IsLinked}
 use Rattle.mcv_classes.proofs.Linked.{below-last, grown-at}
 use Rattle.mcv_classes.proofs.table.ClassTable.push.Goals as goal

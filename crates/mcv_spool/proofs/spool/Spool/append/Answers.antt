@@ -1,5 +1,6 @@
-use Rattle.std.proofs.Common.{◌++◌, [], ◌∷◌, ◌∙◌, ap, arith, ◌+◌, not, true, false, refl}
+use Rattle.std.proofs.Common.{◌<◌, ◌++◌, [], ◌∷◌, ◌∙◌, ap, arith, ◌+◌, length, not, true, false, refl}
 use Rattle.std.proofs.lemmas.Result.{err_from_is_err_and}
+use Rattle.mcv_spool.specs.File.{slots}
 use Rattle.mcv_spool.specs.History.{Call, world}
 use Rattle.mcv_spool.proofs.Settled.{settled_append}
 use Rattle.mcv_spool.proofs.spool.Spool.append.Goals as goal
@@ -29,14 +30,19 @@ returns-in_err-reserve-clause-step g c =
 pub returns-in_err-write_record-clause-step : goal.returns-in_err-write_record-clause-step
 returns-in_err-write_record-clause-step g c =
     let gone = err_from_is_err_and c.from_residual-in_err-write_record.result c.from_residual-in_err-write_record.ensures.1 in
-    rw (gone.1, gone.2) (λ model. Call.not_stored c.args.delete (world c.args.self.now.disk c.args.self.now.needs_reopen) (world c.write_record.new.disk true) (ap not c.if-self.false)
-    (record { reads = c.write_record.ensures.reads; any_moment = c.write_record.ensures.any_moment model }) refl)
+    rw (gone.1, gone.2) (λ model.
+    let known = (c.args.self.now.settled model c.if-self.false).found in
+    let room : length (slots (g.D.Disk.seen c.args.self.now.disk)) < 1000000 = omega (arith, known.counted, c.if-count-ge-SLOT_LIMIT.false) in
+    Call.not_stored c.args.delete (world c.args.self.now.disk c.args.self.now.needs_reopen) (world c.write_record.new.disk true) (ap not c.if-self.false)
+    (record { reads = c.write_record.ensures.reads; room = room; any_moment = c.write_record.ensures.any_moment model }) refl)
 
 pub returns-clause-step : goal.returns-clause-step
 returns-clause-step g c = λ model.
+    let known = (c.args.self.now.settled model c.if-self.false).found in
+    let room : length (slots (g.D.Disk.seen c.args.self.now.disk)) < 1000000 = omega (arith, known.counted, c.if-count-ge-SLOT_LIMIT.false) in
     Call.stored c.args.delete (world c.args.self.now.disk c.args.self.now.needs_reopen) (world c.write_record.new.disk false) (ap not c.if-self.false)
     (record {
-      writes = record { reads = c.write_record.ensures.reads; any_moment = c.write_record.ensures.any_moment model };
+      writes = record { reads = c.write_record.ensures.reads; room = room; any_moment = c.write_record.ensures.any_moment model };
       adds = c.in_ok-write_record.ensures.slots model;
       durable = c.in_ok-write_record.ensures.durable model;
     }) refl

@@ -23,4 +23,5 @@ returns-in_err-contents-clause-refused g c =
       c.recover.new.disk,
       Call.not_found (shut c.args.disk) (shut c.recover.new.disk) (c.recover.ensures.any_moment model) refl,
       λ is. c.in_err-contents.ensures.device model (ap Err (sym gone.2 ∙ is)),
+      λ other. c.in_err-contents.ensures.unwritten model (λ is. other (gone.2 ∙ is)),
     ))

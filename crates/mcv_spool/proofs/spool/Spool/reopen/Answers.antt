@@ -1,4 +1,4 @@
-use Rattle.std.proofs.Common.{true, false, refl}
+use Rattle.std.proofs.Common.{true, false, refl, ◌∙◌}
 use Rattle.std.proofs.lemmas.Result.{err_from_is_err_and}
 use Rattle.mcv_spool.specs.File.{slots}
 use Rattle.mcv_spool.specs.History.{Call, records_of, world}
@@ -9,6 +9,11 @@ pub returns-in_err-self-clause-step : goal.returns-in_err-self-clause-step
 returns-in_err-self-clause-step g c =
     let gone = err_from_is_err_and c.from_residual.result c.from_residual.ensures.1 in
     rw (gone.1) (λ model. Call.not_found (world c.args.self.now.disk c.args.self.now.needs_reopen) (world c.recover.new.disk true) (c.recover.ensures.any_moment model) refl)
+
+pub returns-in_err-self-clause-unwritten : goal.returns-in_err-self-clause-unwritten
+returns-in_err-self-clause-unwritten g c =
+    let gone = err_from_is_err_and c.from_residual.result c.from_residual.ensures.1 in
+    rw (gone.1) (λ model other. c.in_err-self.ensures.unwritten model (λ is. other (gone.2 ∙ is)))
 
 pub returns-clause-step : goal.returns-clause-step
 returns-clause-step g c = λ model.

@@ -1,9 +1,10 @@
 //! What no clause says: the bytes of the worked rows, and runs that fail or stop at each of their calls.
 
-use super::*;
-use crate::test_disk::{Left, Lent, TestDisk, Trouble};
+use crate::disk::{Left, Lent, TestDisk, Trouble};
 use mcv_base::{Rest, ServerText};
+use mcv_spool::{Disk, FileDisk, Spool, SpoolFault, SpoolRecord};
 use std::alloc::Global;
+use std::io::ErrorKind;
 use std::process::Abort;
 use std::test::Fail;
 use std::{env, fs, process};
@@ -19,11 +20,17 @@ fn open(alloc: Global, disk: &mut TestDisk) -> Result<Spool<Lent<'_>>, SpoolFaul
     Spool::open(alloc, Lent { disk })
 }
 
+/// How many slots the file of a spool has: the number of the record that is appended next.
+fn slots_counted<D: Disk>(spool: &mut Spool<D>) -> Option<u64> {
+    let next = spool.append(record(b"a:11211", b"next")?).ok()?;
+    Some(next.seq())
+}
+
 /// How many slots a file opens to, or none where it is refused.
-fn slots_of(alloc: Global, bytes: Vec<u8>) -> Option<usize> {
+fn slots_of(alloc: Global, bytes: Vec<u8>) -> Option<u64> {
     let mut disk = TestDisk::new(alloc, bytes);
-    let spool = open(alloc, &mut disk).ok()?;
-    Some(spool.contents.count)
+    let mut spool = open(alloc, &mut disk).ok()?;
+    slots_counted(&mut spool)
 }
 
 /// Whether the bytes begin with these, and then have so many zeros and no more.
@@ -82,7 +89,13 @@ fn a_length_that_does_not_read_is_damage(rt: HostRuntime) -> Result<(), Fail> {
     let stored = open(alloc, &mut disk)?.append(record(b"a:11211", b"a").ok_or("record")?)?;
     assert!(rt; stored.seq() == 0 && disk.bytes.len() == 641);
     disk.bytes[3] = 0;
+    // The end gate is opened too: an opening closes it, and one that is refused for damage has written nothing.
+    if let Some(gate) = disk.bytes.get_mut(640) {
+        *gate = 1;
+    }
     assert!(rt; open(alloc, &mut disk).err() == Some(SpoolFault::Damaged(0)));
+    let gate = *disk.bytes.get(640).ok_or("gate")?;
+    assert!(rt; gate == 1 && disk.bytes.len() == 641);
     assert!(rt; SpoolFault::Damaged(0).number() == 5 && SpoolFault::Device.number() == 1);
     assert!(rt; SpoolFault::Full.number() == 2 && SpoolFault::Memory.number() == 3);
     assert!(rt; SpoolFault::Reopen.number() == 4);
@@ -100,7 +113,7 @@ fn a_failed_sync_wants_a_reopen(rt: HostRuntime) -> Result<(), Fail> {
     let failed = spool
         .append(record(b"b:11211", b"ab").ok_or("record")?)
         .err();
-    assert!(rt; failed == Some(SpoolFault::Device));
+    assert!(rt; failed == Some(SpoolFault::Device) && spool.pending().len() == 1);
     let again = spool
         .append(record(b"b:11211", b"ab").ok_or("record")?)
         .err();
@@ -115,7 +128,7 @@ fn a_failed_sync_wants_a_reopen(rt: HostRuntime) -> Result<(), Fail> {
 /// What a run was told.
 #[derive(Drop)]
 struct Told {
-    stored: usize,
+    stored: u64,
     done: bool,
 }
 
@@ -143,14 +156,19 @@ fn run(alloc: Global, disk: &mut TestDisk) -> Told {
 }
 
 /// Whether what is opened are the first records of the run, those stored among them, none missing but the one that is done.
-fn is_kept<D: Disk>(spool: &Spool<D>, told: &Told) -> bool {
-    let count = spool.contents.count;
-    let missing = count.saturating_sub(spool.pending().len());
+/// One record more is appended for the count.
+fn is_kept<D: Disk>(spool: &mut Spool<D>, told: &Told) -> bool {
+    let pending = spool.pending().len() as u64;
+    let are_of_the_run = spool.pending().iter().all(|p| p.1.rest.as_bytes()
+        == [b'a'.saturating_add(p.0.min(9) as u8)].as_slice());
+    let Some(count) = slots_counted(spool) else {
+        return false;
+    };
+    let missing = count.saturating_sub(pending);
     told.stored <= count
         && count <= told.stored.saturating_add(1)
         && (missing == 0 || (told.done && missing == 1))
-        && spool.pending().iter().all(|p| p.1.rest.as_bytes()
-            == [b'a'.saturating_add(p.0.min(9) as u8)].as_slice())
+        && are_of_the_run
 }
 
 #[test]
@@ -170,8 +188,8 @@ fn records_outlive_a_stop_at_each_call(rt: HostRuntime) -> Result<(), Fail> {
             disk.trouble = Trouble::StopAt(k);
             let told = run(alloc, &mut disk);
             let mut after = TestDisk::new(alloc, disk.left(left)?);
-            let spool = open(alloc, &mut after)?;
-            assert!(rt; is_kept(&spool, &told), "stop at call {k}");
+            let mut spool = open(alloc, &mut after)?;
+            assert!(rt; is_kept(&mut spool, &told), "stop at call {k}");
         }
     }
     Ok(())
@@ -181,13 +199,19 @@ fn records_outlive_a_stop_at_each_call(rt: HostRuntime) -> Result<(), Fail> {
 fn records_outlive_a_failure_of_each_call(rt: HostRuntime) -> Result<(), Fail> {
     let alloc = rt.alloc();
     for k in 0..20 {
-        let mut disk = TestDisk::new(alloc, Vec::new(alloc));
-        disk.trouble = Trouble::FailAt(k);
-        let told = run(alloc, &mut disk);
-        let mut spool = open(alloc, &mut disk)?;
-        assert!(rt; is_kept(&spool, &told), "failure of call {k}");
-        spool.reopen()?;
-        assert!(rt; is_kept(&spool, &told), "failure of call {k}, reopened");
+        for reopens in [0_usize, 1] {
+            let mut disk = TestDisk::new(alloc, Vec::new(alloc));
+            disk.trouble = Trouble::FailAt(k);
+            let told = run(alloc, &mut disk);
+            let mut spool = open(alloc, &mut disk)?;
+            if reopens > 0 {
+                spool.reopen()?;
+            }
+            assert!(rt;
+                is_kept(&mut spool, &told),
+                "failure of call {k}, reopened {reopens} times"
+            );
+        }
     }
     Ok(())
 }
@@ -214,12 +238,12 @@ fn the_second_record_counts_after_the_second_sync(rt: HostRuntime) -> Result<(),
     Ok(())
 }
 
-/// A path that no other run of the tests has.
-fn own_path(rt: &HostRuntime) -> Result<String, Fail> {
+/// A path that no other run of the tests has, nor another test.
+fn own_path(rt: &HostRuntime, test: &str) -> Result<String, Fail> {
     let number = process::id(rt.process());
     let temporary = env::temp_dir(rt)?;
     let folder = temporary.as_str();
-    Ok(format!(in rt.alloc(); "{folder}/mcv_spool_{number}")?)
+    Ok(format!(in rt.alloc(); "{folder}/mcv_spool_{test}_{number}")?)
 }
 
 fn open_file(rt: &HostRuntime, path: &str) -> Result<Spool<FileDisk>, Fail> {
@@ -237,19 +261,38 @@ fn append_two_to(rt: &HostRuntime, path: &str) -> Result<(), Fail> {
 
 #[test]
 fn a_file_of_the_system_keeps_records(rt: HostRuntime) -> Result<(), Fail> {
-    let path = own_path(&rt)?;
+    let path = own_path(&rt, "records")?;
     fs::write(&rt, path.as_str(), "\x01torn")?;
     assert!(rt; open_file(&rt, path.as_str())?.pending().is_empty());
     assert!(rt; fs::read(&rt, path.as_str())?.as_slice() == b"\x00".as_slice());
     append_two_to(&rt, path.as_str())?;
-    let spool = open_file(&rt, path.as_str())?;
-    assert!(rt; spool.contents.count == 2 && spool.pending().len() == 1);
+    let mut spool = open_file(&rt, path.as_str())?;
+    assert!(rt; spool.pending().len() == 1);
     assert!(rt;
         spool
             .pending()
             .iter()
             .all(|p| p.0 == 1 && p.1.rest.as_bytes() == b"ab".as_slice())
     );
+    assert!(rt; slots_counted(&mut spool) == Some(2));
+    fs::remove_file(&rt, path.as_str())?;
+    Ok(())
+}
+
+#[test]
+fn a_file_of_the_system_is_open_once(rt: HostRuntime) -> Result<(), Fail> {
+    let path = own_path(&rt, "lock")?;
+    let first = FileDisk::open(&rt, path.as_str())?;
+    let second = FileDisk::open(&rt, path.as_str());
+    assert!(rt;
+        second
+            .err()
+            .is_some_and(|e| e.kind() == ErrorKind::WouldBlock)
+    );
+    drop(first);
+    let mut again = FileDisk::open(&rt, path.as_str())?;
+    assert!(rt; again.write_at(0, b"\x00").is_ok() && again.sync().is_ok());
+    assert!(rt; again.len() == Ok(1));
     fs::remove_file(&rt, path.as_str())?;
     Ok(())
 }

@@ -3,7 +3,7 @@
 
 ghost use Rattle.std.specs.Prelude.{[]};
 
-use crate::disk::{Disk, DiskFailed};
+use mcv_spool::{Disk, DiskFailed};
 use std::alloc::{AllocError, Global};
 
 /// What a call of the disk was.

@@ -1,0 +1,69 @@
+//! The classes of routes that were read, by the routes' numbers.
+
+use crate::words::shown;
+use mcv_base::Rest;
+use mcv_classes::{Class, class_of, classes};
+use mcv_config::read_config;
+use mcv_route::Routes;
+use std::alloc::{AllocError, Global};
+use std::process::Abort;
+use std::test::Fail;
+
+/// A route with the policy `a` and behind that one the policy `ab`, and a route without policies.
+const TEXT: &str = "{
+  \"routes\": [
+    {\"aliases\": [\"/a/b/\"], \"route\": {\"type\": \"PrefixSelectorRoute\", \"policies\": {
+      \"a\": {\"type\": \"PrefixSelectorRoute\", \"policies\": {\"ab\": \"NullRoute\"}}
+    }}},
+    {\"aliases\": [\"/././\"], \"route\": \"NullRoute\"}
+  ]
+}";
+
+fn routes(rt: &impl Abort, alloc: Global, text: &str) -> Result<Routes, AllocError> {
+    match read_config(alloc, text.as_bytes()) {
+        Ok(config) => Routes::build(alloc, config),
+        Err(_) => panic!(rt; "the text is refused"),
+    }
+}
+
+/// The class of a rest at the route of a number.
+fn class_at(alloc: Global, routes: &Routes, number: usize, rest: &Rest) -> Result<Class, Fail> {
+    let Some(_route) = routes.route(number) else {
+        return Err(Fail::from("no such route"));
+    };
+    Ok(class_of(alloc, routes, number, rest)?)
+}
+
+/// The classes of the route of a number.
+fn classes_at(alloc: Global, routes: &Routes, number: usize) -> Result<Vec<Class>, Fail> {
+    let Some(_route) = routes.route(number) else {
+        return Err(Fail::from("no such route"));
+    };
+    Ok(classes(alloc, routes, number)?)
+}
+
+#[test]
+fn rests_have_classes(rt: HostRuntime) -> Result<(), Fail> {
+    let alloc = rt.alloc();
+    let routes = routes(&rt, alloc, TEXT)?;
+    for row in "a a|ab ab|abc ab|b ".split('|') {
+        let (rest, word) = row.split_once(' ').ok_or("a row without a blank")?;
+        let rest = Rest::of(rest.as_bytes()).ok_or("no rest")?;
+        let class = class_at(alloc, &routes, 0, &rest)?;
+        assert_eq!(rt; class.word(), word.as_bytes());
+    }
+    Ok(())
+}
+
+#[test]
+fn routes_have_classes(rt: HostRuntime) -> Result<(), Fail> {
+    let alloc = rt.alloc();
+    let routes = routes(&rt, alloc, TEXT)?;
+    let first = classes_at(alloc, &routes, 0)?;
+    let text = shown(alloc, first.as_slice())?;
+    assert_eq!(rt; text.as_str(), "[] [33]|[97] [97]|[97, 98] [97, 98]|");
+    let second = classes_at(alloc, &routes, 1)?;
+    let text = shown(alloc, second.as_slice())?;
+    assert_eq!(rt; text.as_str(), "[] [33]|");
+    Ok(())
+}
