@@ -1,9 +1,10 @@
 -- The definitions at small words.
 use Rattle.std.proofs.Common.{◌≡◌, [], true, false, refl, codes}
-use Rattle.mcv_base.specs.Key.{IsCut, IsName, IsRoutingPrefix, IsKeyFault, default_prefix, hashed_part, is_key_word}
+use Rattle.mcv_base.specs.Key.{IsCut, IsHashedCut, IsName, IsRoutingPrefix, IsKeyFault, default_prefix, hashed_part, is_key_word}
 use Rattle.mcv_base.specs.Position.{position_text}
 use Rattle.mcv_base.specs.Server.{is_host, is_port, is_server}
 use Rattle.mcv_base.specs.declared.key.KeyFault.TheVariants.{NoRest}
+use Rattle.mcv_base.proofs.Hashed.{hashed_is_cut, one_hashed_cut}
 use Rattle.mcv_base.proofs.Prefixes.{unrouted_by_byte}
 
 a_name : IsName (codes "a")
@@ -36,6 +37,14 @@ first_of_two = refl
 
 no_separator : hashed_part (codes "ab|#c") ≡ codes "ab|#c"
 no_separator = refl
+
+cut_before_the_first : IsHashedCut (codes "a|#|b|#|c") (codes "a")
+cut_before_the_first = hashed_is_cut (codes "a|#|b|#|c")
+
+not_before_the_second : IsHashedCut (codes "a|#|b|#|c") (codes "a|#|b") → ⊥
+not_before_the_second cut =
+    let same : codes "a" ≡ codes "a|#|b" = one_hashed_cut (codes "a|#|b|#|c") (codes "a") (codes "a|#|b") cut_before_the_first cut in
+    cc
 
 a_blank_is_no_key_byte : is_key_word (codes "a b") ≡ false
 a_blank_is_no_key_byte = refl

@@ -1,9 +1,9 @@
--- What stands before the first separator, by the place where a search finds it.
-use Rattle.std.proofs.Common.{◌≡◌, ◌∙◌, ℕ, ◌<◌, ◌≤◌, Bool, true, false, ◌==◌, List, [], ◌∷◌, length, take, zero, suc, refl, ap, ap₂, arith, if◌then◌else◌}
+-- What stands before the first separator: by the place where a search finds it, and as a cut.
+use Rattle.std.proofs.Common.{◌≡◌, ◌∙◌, ℕ, ◌<◌, ◌≤◌, Bool, true, false, true≢false, ◌==◌, List, [], ◌∷◌, ◌++◌, length, take, drop, zero, suc, refl, sym, ap, ap₂, arith, if◌then◌else◌}
 use Rattle.std.proofs.lemmas.Bool.Decides.{Decides-eqb}
 use Rattle.memchr.specs.Find.{OccursAt}
 use Rattle.memchr.proofs.lemmas.MatchLemmas.{OccursAt-part, OccursAt-from_part}
-use Rattle.mcv_base.specs.Key.{begins_with, hashed_part, separator}
+use Rattle.mcv_base.specs.Key.{IsHashedCut, IsUnseparated, begins_with, hashed_part, separator}
 use Rattle.mcv_base.proofs.Cuts.{both, joined}
 
 begins_take : (xs ys : List ℕ) → begins_with xs ys ≡ true → take (length ys) xs ≡ ys
@@ -58,3 +58,75 @@ part_whole [] none = refl
 part_whole (b ∷ bytes) none =
     ap (λ xs. b ∷ xs) (part_whole bytes (λ j le here. none (suc j) (omega arith) (later b bytes j here)))
     ∙ chosen_false (begins_with (b ∷ bytes) separator) [] (b ∷ hashed_part bytes) (λ begins. none 0 (omega arith) (occurs_first (b ∷ bytes) begins))
+
+-- ---- as a cut
+
+nil_cons : (x : ℕ) (xs : List ℕ) → [] ≡ x ∷ xs → ⊥
+nil_cons x xs is = cc
+
+same_head : (x y : ℕ) (xs ys : List ℕ) → x ∷ xs ≡ y ∷ ys → x ≡ y
+same_head x y xs ys is = cc
+
+same_tail : (x y : ℕ) (xs ys : List ℕ) → x ∷ xs ≡ y ∷ ys → xs ≡ ys
+same_tail x y xs ys is = cc
+
+begins_cut : (xs ys : List ℕ) → begins_with xs ys ≡ true → xs ≡ ys ++ drop (length ys) xs
+begins_cut xs [] is = refl
+begins_cut [] (y ∷ ys) is = absurd (cc)
+begins_cut (x ∷ xs) (y ∷ ys) is =
+    let parts = both (x == y) (begins_with xs ys) is in
+    ap₂ (λ (b : ℕ) (bs : List ℕ). b ∷ bs) ((Decides-eqb x y).0 parts.0) (begins_cut xs ys parts.1)
+
+-- `|#|` is 124, 35, 124
+none_in_nothing : (front behind : List ℕ) → [] ≡ front ++ separator ++ behind → ⊥
+none_in_nothing [] behind is = nil_cons 124 (35 ∷ 124 ∷ behind) is
+none_in_nothing (f ∷ front) behind is = nil_cons f (front ++ separator ++ behind) is
+
+none_in_front : (b : ℕ) (bytes behind : List ℕ) → begins_with (b ∷ bytes) separator ≡ false → b ∷ bytes ≡ separator ++ behind → ⊥
+none_in_front b bytes behind begins is = true≢false (sym (ap (λ (xs : List ℕ). begins_with xs separator) is) ∙ begins)
+
+none_in_more : (b : ℕ) (bytes front behind : List ℕ) → begins_with (b ∷ bytes) separator ≡ false → IsUnseparated bytes → b ∷ bytes ≡ front ++ separator ++ behind → ⊥
+none_in_more b bytes [] behind begins none is = none_in_front b bytes behind begins is
+none_in_more b bytes (f ∷ front) behind begins none is = none front behind (same_tail b f bytes (front ++ separator ++ behind) is)
+
+first_in_more : (b : ℕ) (bytes part front behind : List ℕ) → begins_with (b ∷ bytes) separator ≡ false
+    → ((f g : List ℕ) → bytes ≡ f ++ separator ++ g → length part ≤ length f) → b ∷ bytes ≡ front ++ separator ++ behind → length (b ∷ part) ≤ length front
+first_in_more b bytes part [] behind begins first is = absurd (none_in_front b bytes behind begins is)
+first_in_more b bytes part (f ∷ front) behind begins first is =
+    let h = first front behind (same_tail b f bytes (front ++ separator ++ behind) is) in
+    omega arith
+
+cut_in_front : (bytes : List ℕ) → begins_with bytes separator ≡ true → IsHashedCut bytes []
+cut_in_front bytes begins = IsHashedCut.parted (drop (length separator) bytes) (begins_cut bytes separator begins) (λ front more is. omega arith)
+
+cut_in_more : (b : ℕ) (bytes part : List ℕ) → begins_with (b ∷ bytes) separator ≡ false → IsHashedCut bytes part → IsHashedCut (b ∷ bytes) (b ∷ part)
+cut_in_more b bytes part begins (IsHashedCut.whole none is) =
+    IsHashedCut.whole (λ front behind here. none_in_more b bytes front behind begins none here) (ap (λ xs. b ∷ xs) is)
+cut_in_more b bytes part begins (IsHashedCut.parted behind is first) =
+    IsHashedCut.parted behind (ap (λ xs. b ∷ xs) is) (λ front more here. first_in_more b bytes part front more begins first here)
+
+cut_by_test : (b : ℕ) (bytes : List ℕ) (t : Bool) → begins_with (b ∷ bytes) separator ≡ t → IsHashedCut bytes (hashed_part bytes)
+    → IsHashedCut (b ∷ bytes) (if t then [] else b ∷ hashed_part bytes)
+cut_by_test b bytes true begins cut = cut_in_front (b ∷ bytes) begins
+cut_by_test b bytes false begins cut = cut_in_more b bytes (hashed_part bytes) begins cut
+
+pub hashed_is_cut : (rest : List ℕ) → IsHashedCut rest (hashed_part rest)
+hashed_is_cut [] = IsHashedCut.whole none_in_nothing refl
+hashed_is_cut (b ∷ bytes) = cut_by_test b bytes (begins_with (b ∷ bytes) separator) refl (hashed_is_cut bytes)
+
+same_front : (xs ys us vs : List ℕ) → length xs ≡ length ys → xs ++ separator ++ us ≡ ys ++ separator ++ vs → xs ≡ ys
+same_front [] [] us vs len is = refl
+same_front [] (y ∷ ys) us vs len is = absurd (let h : ⊥ = omega arith in h)
+same_front (x ∷ xs) [] us vs len is = absurd (let h : ⊥ = omega arith in h)
+same_front (x ∷ xs) (y ∷ ys) us vs len is =
+    ap₂ (λ (b : ℕ) (bs : List ℕ). b ∷ bs) (same_head x y (xs ++ separator ++ us) (ys ++ separator ++ vs) is)
+    (same_front xs ys us vs (omega arith) (same_tail x y (xs ++ separator ++ us) (ys ++ separator ++ vs) is))
+
+pub one_hashed_cut : (rest part other : List ℕ) → IsHashedCut rest part → IsHashedCut rest other → part ≡ other
+one_hashed_cut rest part other (IsHashedCut.whole none is) (IsHashedCut.whole un be) = is ∙ sym be
+one_hashed_cut rest part other (IsHashedCut.whole none is) (IsHashedCut.parted more be second) = absurd (none other more be)
+one_hashed_cut rest part other (IsHashedCut.parted behind is first) (IsHashedCut.whole un be) = absurd (un part behind is)
+one_hashed_cut rest part other (IsHashedCut.parted behind is first) (IsHashedCut.parted more be second) =
+    let low : length part ≤ length other = first other more be in
+    let high : length other ≤ length part = second part behind is in
+    same_front part other behind more (omega arith) (sym is ∙ be)

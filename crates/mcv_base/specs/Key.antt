@@ -73,6 +73,15 @@ abbrev pub hashed_part : List ℕ → List ℕ
 hashed_part [] = []
 hashed_part (b ∷ bytes) = if begins_with (b ∷ bytes) separator then [] else b ∷ hashed_part bytes
 
+-- no `|#|` stands in the bytes
+abbrev pub IsUnseparated : List ℕ → Type 0
+IsUnseparated bytes = (front behind : List ℕ) → bytes ≢ front ++ separator ++ behind
+
+-- the part is all of the rest, where no `|#|` stands in it; else the rest is the part, `|#|` and what is behind, and no `|#|` stands at an earlier place (own)
+pub data IsHashedCut (rest part : List ℕ) : Type 0 where
+  whole : IsUnseparated rest → part ≡ rest → IsHashedCut rest part
+  parted : (behind : List ℕ) → rest ≡ part ++ separator ++ behind → ((front more : List ℕ) → rest ≡ front ++ separator ++ more → length part ≤ length front) → IsHashedCut rest part
+
 -- the bytes begin with a name and a slash, n bytes in all
 pub record IsNamed (bytes : List ℕ) (n : ℕ) : Type 0 where
   pub name : List ℕ

@@ -2,7 +2,7 @@
 
 ghost use Rattle.std.specs.Prelude.{◌≡◌, ◌≤◌, ℕ, List, [], IfOk, OnOk, IfErr, IsTrue, MatchOption, false, true, ⊤, length, take};
 ghost use Rattle.std.specs.List.{list_all};
-ghost use Rattle.mcv_base.specs.Key.{IsCut, IsKeyFault, IsNamed, IsRoutingPrefix, IsUnnamed, IsUnrouted, hashed_part, is_key_byte, is_key_word, key_fault_number};
+ghost use Rattle.mcv_base.specs.Key.{IsCut, IsHashedCut, IsKeyFault, IsNamed, IsRoutingPrefix, IsUnnamed, IsUnrouted, begins_with, default_prefix, hashed_part, is_key_byte, is_key_word, key_fault_number};
 
 use arrayvec::ArrayVec;
 use memchr::{memchr, memmem};
@@ -83,6 +83,15 @@ impl Prefix {
         Prefix { bytes: held(bytes) }
     }
 
+    /// `/././`, the prefix of key words that name none.
+    pub fn unnamed() -> Prefix
+        ensures { result ≡ default_prefix }
+    {
+        Prefix {
+            bytes: held(DEFAULT_PREFIX),
+        }
+    }
+
     /// Its bytes.
     pub fn as_bytes(&self) -> &[u8]
         ensures { result.now ≡ self.now }
@@ -155,6 +164,13 @@ fn has_key_bytes(word: &[u8]) -> bool
     word.iter().all(|byte| *byte >= 33 && *byte != 127)
 }
 
+/// Whether the bytes begin with these.
+pub fn begins_with(bytes: &[u8], start: &[u8]) -> bool
+    ensures { result ≡ begins_with bytes.now start.now }
+{
+    bytes.starts_with(start)
+}
+
 /// Whether the word is a key word: 1 to 250 bytes, each 33 to 126 or 128 to 255.
 pub fn is_key_word(word: &[u8]) -> bool
     ensures { result ≡ is_key_word word.now }
@@ -209,4 +225,10 @@ fn part_before(rest: &[u8]) -> &[u8]
 pub fn key_words_have_one_reading()
     ensures one { (word prefix rest other more : List ℕ) → IsCut word prefix rest → IsCut word other more → (prefix ≡ other) × (rest ≡ more) }
     ensures no_rest { (word prefix rest : List ℕ) → IsKeyFault word KeyFault.NoRest → IsCut word prefix rest → rest ≡ [] }
+{}
+
+/// The hashed part of a rest is a cut of it, and no other part is.
+pub fn hashed_part_is_a_cut()
+    ensures cut { (rest : List ℕ) → IsHashedCut rest (hashed_part rest) }
+    ensures one { (rest part other : List ℕ) → IsHashedCut rest part → IsHashedCut rest other → part ≡ other }
 {}

@@ -6,6 +6,7 @@
 #![tactic(auto)]
 
 mod key;
+mod number;
 mod operation;
 mod position;
 mod reply;
@@ -13,8 +14,10 @@ mod request;
 mod server;
 
 pub use key::{
-    KeyFault, Prefix, Rest, hashed_part, is_key_word, key_words_have_one_reading, split_key,
+    KeyFault, Prefix, Rest, begins_with, hashed_part, hashed_part_is_a_cut, is_key_word,
+    key_words_have_one_reading, split_key,
 };
+pub use number::push_number;
 pub use operation::{Mark, Op};
 pub use position::Position;
 pub use reply::{FixedReply, Outcome, Part, Parts, Reply};

@@ -24,6 +24,7 @@ use Rattle.mcv_rules.specs.Plan.{Leg}
 use Rattle.mcv_rules.specs.Plans.{plan}
 use Rattle.mcv_rules.specs.Sound.{In}
 use Rattle.mcv_rules.proofs.Among.{Among}
+use Rattle.mcv_rules.proofs.Rising.{IsRising, places}
 use Rattle.mcv_symbolic.specs.Justified.{IsNeverAcknowledged, IsReadableAt}
 use Rattle.mcv_symbolic.specs.Listed.{acknowledged, hits}
 use Rattle.mcv_symbolic.specs.Sets.{CanHitAt}
@@ -31,7 +32,7 @@ use Rattle.mcv_symbolic.specs.Structure.{if_all}
 use Rattle.mcv_symbolic.proofs.Exactness.{acknowledged_is_exact, done_is_exact, hits_are_exact}
 use Rattle.mcv_symbolic.proofs.Marks as marks
 use Rattle.mcv_symbolic.proofs.Placed.{leaf_of, acknowledged_stands, hits_stand}
-use Rattle.mcv_symbolic.proofs.Rising.{IsRising, acknowledged_rise, hits_rise, places}
+use Rattle.mcv_symbolic.proofs.Rising.{acknowledged_rise, hits_rise}
 use Rattle.mcv_blocks.specs.Blocks.{AreLeavesAt, IsAcknowledgedAt, pool_for, positions_of}
 use Rattle.mcv_blocks.specs.Merged.{merge}
 use Rattle.mcv_blocks.specs.Spots.{AreSpotsOf, IsBlockFor, IsSpotOf, Spot}

@@ -44,7 +44,20 @@ module _ (r : RoutesValue) (table : List ℕ) (is : IsBreakTable (breaks_of r) t
       let before : suc k - 1 ≡ k = omega arith in
       opened-after k since (e ∙ ap (slice_get table) before) h
 
+  pub past_the_last : (era : ℕ) → era ≢ 0 → (HasEra r era → ⊥) → slice_get table (era - 1) ≡ None
+  past_the_last zero n out = absurd (n refl)
+  past_the_last (suc k) n out =
+      let before : suc k - 1 ≡ k = omega arith in
+      elim (cases_lt k (length table)) [
+        | inl low ↦ absurd (out (has-era (suc k) (omega (arith, low))))
+        | inr high ↦ ap (slice_get table) before ∙ slice_get_past table k high
+      ]
+
 -- ---- breaks, copied from a table in memory
+
+pub none_mapped : (got : Option Moment) → option_map (λ (m : Moment). m.0) got ≡ None → got ≡ None
+none_mapped None is = refl
+none_mapped (Some m) is = let h : ⊥ = cc in absurd h
 
 fused : (got : Option (Bor Moment)) → option_map (λ (m : Moment). m.0) (option_map (λ (x : Bor Moment). x.now) got) ≡ option_map (λ (x : Bor Moment). x.now.0) got
 fused None = refl

@@ -1,6 +1,6 @@
 //! The eras of routes, by their numbers.
 
-ghost use Rattle.std.specs.Prelude.{◌<◌, ◌↔◌, ℕ, option_map};
+ghost use Rattle.std.specs.Prelude.{◌≡◌, ◌<◌, ◌↔◌, ℕ, None, option_map};
 ghost use Rattle.mcv_blocks.specs.Blocks.{IsEraOf};
 ghost use Rattle.mcv_blocks.specs.Places.{HasEra};
 
@@ -14,9 +14,10 @@ pub fn era_count(routes: &Routes) -> usize
     routes.breaks().len() + 1
 }
 
-/// The break that opened the era of this number; None for the first one.
+/// The break that opened the era of this number; None for the first one, and for a number that no era has.
 pub fn opened(routes: &Routes, era: usize) -> Option<Moment>
-    ensures { HasEra routes.now era → IsEraOf routes.now era (option_map (λ m. m.0) result) }
+    ensures some { HasEra routes.now era → IsEraOf routes.now era (option_map (λ m. m.0) result) }
+    ensures none { (HasEra routes.now era → ⊥) → result ≡ None }
 {
     if era == 0 {
         return None;

@@ -28,7 +28,7 @@ fn push_byte(text: &mut Vec<u8>, byte: u8) -> Result<(), AllocError>
     }
 }
 
-/// Adds the word with its other bytes than plain ones escaped. On an error part of it may be there.
+/// Adds the word with its other bytes than plain ones escaped. On an error it isn't said what stands there.
 pub fn push_escaped(text: &mut Vec<u8>, word: &[u8]) -> Result<(), AllocError>
     ensures { OnOk result (text.new.items ≡ text.old.items ++ escaped word.now) }
 {

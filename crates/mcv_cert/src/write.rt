@@ -1,6 +1,6 @@
 //! The lines of pairs.
 
-ghost use Rattle.std.specs.Prelude.{codes, ◌≡◌, ◌++◌, decimal, map, OnOk};
+ghost use Rattle.std.specs.Prelude.{codes, ◌≡◌, ◌++◌, map, OnOk};
 ghost use Rattle.std.specs.List.{flat_map, join_with_byte};
 ghost use Rattle.mcv_base.specs.Position.{position_text};
 ghost use Rattle.mcv_cert.specs.Pair.{all, pair_of, reason_of};
@@ -8,16 +8,8 @@ ghost use Rattle.mcv_cert.specs.Text.{pair_line, pair_text, reason_words};
 
 use crate::escape::push_escaped;
 use crate::pair::{Pair, Reason};
-use itoa::Buffer;
-use mcv_base::Position;
+use mcv_base::{Position, push_number};
 use std::alloc::AllocError;
-
-fn push_number(text: &mut Vec<u8>, number: usize) -> Result<(), AllocError>
-    ensures { OnOk result (text.new.items ≡ text.old.items ++ decimal number) }
-{
-    let mut buffer = Buffer::new();
-    text.extend_from_slice(buffer.format(number).as_bytes())
-}
 
 /// Adds the positions, a space before each.
 fn push_positions(text: &mut Vec<u8>, positions: &[Position]) -> Result<(), AllocError>

@@ -14,7 +14,7 @@ ghost use Rattle.mcv_route.specs.View.{view};
 
 use crate::class::Class;
 use crate::words::push_words;
-use mcv_base::Rest;
+use mcv_base::{Rest, begins_with};
 use mcv_route::Route;
 use std::alloc::{AllocError, Global};
 use std::marker::Model;
@@ -189,11 +189,4 @@ impl ClassTable {
         }
         None
     }
-}
-
-/// Whether the bytes begin with the word.
-fn begins_with(bytes: &[u8], word: &[u8]) -> bool
-    ensures { result ≡ begins_with bytes.now word.now }
-{
-    bytes.starts_with(word)
 }

@@ -1,6 +1,6 @@
 -- What the program did, by what the words asked for.
-use Rattle.std.proofs.Common.{◌≡◌, ◌∙◌, ◌+◌, ◌<◌, ◌≤◌, ℕ, List, length, take, Option, Some, subst, sym, arith}
-use Rattle.std.specs.Prelude.{IfSome}
+use Rattle.std.proofs.Common.{◌≡◌, ◌∙◌, ◌+◌, ◌<◌, ◌≤◌, ℕ, List, length, take, Option, None, Some, subst, sym, arith}
+use Rattle.std.specs.Prelude.{IfSome, MatchOption}
 use Rattle.std.proofs.lemmas.List.{length-take}
 use Rattle.std.proofs.lemmas.Option.{IfSome_then}
 use Rattle.clap.specs.Words.{Text}
@@ -94,9 +94,15 @@ fault_by_all input text first (check_faults.Certificate fault) is stands = (stan
 fault_by_all input text first check_faults.Memory is stands = tt
 fault_by_all input text first check_faults.Device is stands = tt
 
--- what follows from the first bytes of a file follows from what it holds
+-- what follows from the first bytes of a file follows from what it holds; where that isn't known, these are some bytes
+given_one : (known : Option Text) (first : List ℕ) (P : Option Text → Type 0) → IfSome known (λ all. first ≡ take read_limit all)
+    → ((all : List ℕ) → first ≡ take read_limit all → P (Some first) → P (Some all)) → P (Some first)
+    → MatchOption known ((bytes : Text) × P (Some bytes)) (λ text. P (Some text))
+given_one None first P read more here = (first, here)
+given_one (Some all) first P read more here = more all read here
+
 pub given_all : (held : Held) (name : Text) (first : List ℕ) (input : Option Text) (P : List ℕ → Option Text → Type 0) → IfSome (held name) (λ all. first ≡ take read_limit all)
     → ((bytes all : List ℕ) → first ≡ take read_limit all → P bytes (Some first) → P bytes (Some all)) → IfSome input (λ bytes. P bytes (Some first))
     → IfSome input (λ bytes. IfGiven held (Some name) (P bytes))
 given_all held name first input P read more stands =
-    IfSome_then input stands (λ bytes here. IfSome_then (held name) read (λ all is. more bytes all is here))
+    IfSome_then input stands (λ bytes here. given_one (held name) first (P bytes) read (λ all is was. more bytes all is was) here)

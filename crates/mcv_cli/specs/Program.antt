@@ -1,5 +1,5 @@
 -- What the program does for the words of a command line.
-use Rattle.std.specs.Prelude.{◌≡◌, ◌⊎◌, List, Option, Some, None, IfSome, ⊤}
+use Rattle.std.specs.Prelude.{◌≡◌, ◌⊎◌, List, Option, Some, None, IfSome, MatchOption, ⊤}
 use Rattle.std.specs.Io.KnownBytes.{Appends}
 use Rattle.clap.specs.Words.{IsAmong, Text}
 use Rattle.clap.specs.declared.error.kind.ErrorKind.TheVariants.{DisplayHelp}
@@ -22,10 +22,10 @@ use Rattle.mcv_cli.specs.declared.stop.Stop.TheVariants.{BadLine, Legs, Check, M
 abbrev pub Held : Type 0
 Held = Text → Option Text
 
--- what follows from the certificate that is given: none, or what the file of this name holds, where that is known
+-- what follows from the certificate that is given: none, or what the file of this name holds; where that isn't known, some bytes
 abbrev pub IfGiven : Held → Option Text → (Option Text → Type 0) → Type 0
 IfGiven held None P = P None
-IfGiven held (Some name) P = IfSome (held name) (λ text. P (Some text))
+IfGiven held (Some name) P = MatchOption (held name) ((bytes : Text) × P (Some bytes)) (λ text. P (Some text))
 
 abbrev pub ending_of : Verdict → Ending
 ending_of (verdicts.Covered pairs) = Done

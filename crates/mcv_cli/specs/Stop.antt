@@ -1,5 +1,5 @@
 -- How the program ends: its exit status, and what it says on standard error where it stops early (own).
-use Rattle.std.specs.Prelude.{ℕ, ◌++◌, codes, decimal}
+use Rattle.std.specs.Prelude.{ℕ, ◌++◌, Result, Ok, Err, codes, decimal}
 use Rattle.clap.specs.Words.{Text}
 use Rattle.mcv_names.specs.declared.fault.ConfigFault.{ConfigFault}
 use Rattle.mcv_names.specs.Fault.{fault_number, fault_path}
@@ -60,6 +60,11 @@ stop_status Device = 4
 abbrev pub ending_status : Ending → ℕ
 ending_status Done = 0
 ending_status Lost = 3
+
+-- however the program ended
+abbrev pub ended_status : Result Ending Stop → ℕ
+ended_status (Ok ending) = ending_status ending
+ended_status (Err stop) = stop_status stop
 
 -- ---- what the parts' faults are to the program; want of memory is one and the same, and so are devices that fail
 

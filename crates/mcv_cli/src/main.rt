@@ -12,20 +12,18 @@ mod words;
 
 use crate::files::SystemFiles;
 use crate::program::run_words;
-use crate::stop::{Ending, Stop};
+use crate::stop::{Ending, Stop, exit_status};
 use std::fs::Files;
 use std::process::ExitCode;
 use std::rt::Env;
 use std::{env, io};
 
 fn main(rt: HostRuntime) -> ExitCode {
-    match run(&rt) {
-        Ok(ending) => ExitCode::from(ending.status()),
-        Err(stop) => {
-            let _ = eprintln!(rt; "{stop}");
-            ExitCode::from(stop.status())
-        }
+    let ended = run(&rt);
+    if let Err(stop) = &ended {
+        let _ = eprintln!(rt; "{stop}");
     }
+    ExitCode::from(exit_status(&ended))
 }
 
 /// The words of the command line, of which the first is the program's name; a bad line where one isn't UTF-8.

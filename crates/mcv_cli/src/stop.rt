@@ -2,7 +2,7 @@
 //! `stop_text`.
 
 ghost use Rattle.std.specs.Prelude.{◌≡◌, Some};
-ghost use Rattle.mcv_cli.specs.Stop.{ending_status, of_check, of_input, of_legs, stop_status, stop_text};
+ghost use Rattle.mcv_cli.specs.Stop.{ended_status, ending_status, of_check, of_input, of_legs, stop_status, stop_text};
 ghost use Rattle.mcv_cli.specs.declared.stop.Stop.TheVariants.{Memory as out_of_memory};
 
 use mcv_input::InputFault;
@@ -58,6 +58,16 @@ impl Stop {
             Stop::Check(fault) => fault.status(),
             Stop::Memory | Stop::Device => 4,
         }
+    }
+}
+
+/// The exit status of the program, however it ended.
+pub fn exit_status(ended: &Result<Ending, Stop>) -> u8
+    ensures { result ≡ ended_status ended.now }
+{
+    match ended {
+        Ok(ending) => ending.status(),
+        Err(stop) => stop.status(),
     }
 }
 

@@ -14,8 +14,8 @@ use std::alloc::{AllocError, Global};
 use thiserror::Error;
 
 const ABOUT: &str = "Verifies configurations of mcrouter, the routing proxy for memcached.
-`mcv check` decides whether a delete can be acknowledged while a server that is
-read keeps the old value. `mcv legs` shows to which servers a configuration
+`mcv check` decides whether a delete can be acknowledged that was never sent to
+a server which can be read. `mcv legs` shows to which servers a configuration
 sends a request.";
 
 const EXAMPLE: &str =
@@ -101,9 +101,10 @@ delete reaches it:
   0 = 0 - twin -
   end
 
-A line has the number of the route, `=` and the word that the keys begin with,
-the number of moments that migrations have passed, the place of the leg that can
-be read, and a reason with the places of legs of the delete:
+A line has the number of the route, `=` and the word with which the keys begin
+behind their routing prefix, the number of moments that migrations have passed,
+the place of the leg that can be read, and a reason with the places of legs of
+the delete:
 
   never          no delete is acknowledged here
   twin D         leg D has the same hash and servers as the leg that can be read
@@ -133,13 +134,15 @@ there:
   get 0=miss 1=hit
   delete 0=deleted
 
-`route` is the number of the route. `class` has the word that the keys begin
-with, and none for keys with no such word. `era` is the number of moments that
-migrations have passed. For each hash over N servers, N over 1, a line
-`index FUNC/SALT/N=I` behind the key says that it picks index I, from 0. `get`,
-or `gets` where get can't read the server, has for each leg that answered its
-place and `hit`, `miss` or `error`. `delete` has the places of the legs that
-answered `deleted` before the reply, and `-` where the reply waits for none.
+`route` is the number of the route. `class` has the word with which the keys
+begin behind their routing prefix, and none for keys with no such word. `era` is
+the number of moments that migrations have passed; where one starts at 0, no
+moment has era 0, which is judged all the same. For each hash over N servers, N
+over 1, a line `index FUNC/SALT/N=I` behind the key says which index I, from 0,
+it has to pick. `get`, or `gets` where get can't be answered from that place of
+the server, has for each leg that answered its place and `hit`, `miss` or
+`error`. `delete` has the places of the legs that answered `deleted` before the
+reply, and `-` where the reply waits for none.
 
 A certificate that isn't read is told by a number and by the line at fault, from
 1, as `mcv: certificate text NUMBER line LINE`:

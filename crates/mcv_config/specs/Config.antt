@@ -64,9 +64,10 @@ FaultyAsJson json fault =
 abbrev pub Names : List ℕ → Plan → Type 0
 Names text plan = (length text ≤ size_limit) × (json : List ℕ) × Strips text json × NamesAsJson json plan
 
--- The fault stands in the text: the text is too long, a comment doesn't end, or it stands in what the text is without its comments.
+-- The fault stands in the text: the text is too long, and has no other fault; or it isn't, and a comment doesn't end, or the fault stands in what the text is without its comments.
 abbrev pub Faulty : List ℕ → Fault → Type 0
 Faulty text fault =
     ((size_limit < length text) × (fault ≡ record { kind = Limit; path = codes "." }))
-    ⊎ ((IsOpen text × (fault ≡ record { kind = NotJson; path = codes "." }))
-    ⊎ ((json : List ℕ) × Strips text json × FaultyAsJson json fault))
+    ⊎ ((length text ≤ size_limit)
+    × ((IsOpen text × (fault ≡ record { kind = NotJson; path = codes "." }))
+    ⊎ ((json : List ℕ) × Strips text json × FaultyAsJson json fault)))

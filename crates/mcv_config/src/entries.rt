@@ -22,9 +22,6 @@ use std::alloc::{AllocError, Global};
 /// The most levels of handles.
 const DEPTH_LIMIT: usize = 32;
 
-/// The prefix that selects the one route.
-const DEFAULT_PREFIX: &[u8] = b"/././";
-
 /// The routes of the root: the one under `route`, or those under `routes`.
 #[tactic(auto, using(mcv_names::proofs::Faults::faults), unfolding(crate::specs::Entries::routing_read))]
 pub(crate) fn read_routing(
@@ -54,7 +51,7 @@ fn only_entry(alloc: Global, route: NamedRoute) -> Result<Vec<Entry>, AllocError
     ensures { IfOk result (λ v. map entry_plan v.items ≡ only_entry (named_of route)) }
 {
     let mut aliases = Vec::new(alloc);
-    aliases.push(Prefix::of(DEFAULT_PREFIX))?;
+    aliases.push(Prefix::unnamed())?;
     let mut entries = Vec::new(alloc);
     entries.push(Entry { aliases, route })?;
     Ok(entries)

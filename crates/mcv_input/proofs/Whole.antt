@@ -1,5 +1,5 @@
 -- What the first bytes of an input say of all of it.
-use Rattle.std.proofs.Common.{◌≡◌, ◌∙◌, ℕ, zero, suc, ◌+◌, ◌<◌, ◌≤◌, ◌⊎◌, inl, inr, List, [], ◌∷◌, ◌++◌, length, take, Option, Some, None, Result, Ok, Err, IfSome, IfErr, refl, sym, ap, ap₂, subst, arith}
+use Rattle.std.proofs.Common.{◌≡◌, ◌∙◌, ℕ, zero, suc, ◌+◌, ◌<◌, ◌≤◌, ◌⊎◌, inl, inr, List, [], ◌∷◌, ◌++◌, length, take, Option, Some, None, Result, Ok, Err, IfSome, IfErr, refl, ap, subst, arith}
 use Rattle.std.proofs.lemmas.Bool.{cases_lt}
 use Rattle.std.specs.Option.{option_map}
 use Rattle.std.specs.Io.Take.{take_limit, take_inner, take_remaining}
@@ -10,7 +10,7 @@ use Rattle.mcv_config.specs.Config.{size_limit}
 use Rattle.mcv_route.specs.Routes.{RoutesValue}
 use Rattle.mcv_input.specs.declared.fault.InputFault.{InputFault}
 use Rattle.mcv_input.specs.declared.fault.InputFault.TheVariants.{Config, Memory, Device}
-use Rattle.mcv_input.specs.Fault.{AreNamedBy, IsConfigFault, IsInputFault, IsRefusal, IsTooLong, SaysTooLong}
+use Rattle.mcv_input.specs.Fault.{AreNamedBy, IsConfigFault, IsInputFault, IsRefusal}
 
 -- ---- reading through a limit
 
@@ -50,28 +50,27 @@ read_whole bytes short = whole read_limit bytes (omega arith)
 pub named_by_all : (bytes : List ℕ) (routes : RoutesValue) → AreNamedBy (take read_limit bytes) routes → AreNamedBy bytes routes
 named_by_all bytes routes named = subst (λ (text : List ℕ). AreNamedBy text routes) (read_whole bytes named.1.0) named
 
--- a fault that says so stands in a text that is too long
-pub too_long_stands : (bytes : List ℕ) (fault : ConfigFault) → size_limit < length bytes → SaysTooLong fault → IsConfigFault bytes fault
-too_long_stands bytes config_faults.Memory long is = absurd is
-too_long_stands bytes (config_faults.At kind path) long is = inl (long, ap₂ (λ k (p : List ℕ). record { kind = k; path = p }) is.0 is.1)
+-- a text that is too long has one fault, which is that of any other that is
+pub too_long_is_all : (bytes more : List ℕ) (fault : ConfigFault) → size_limit < length bytes → size_limit < length more → IsConfigFault bytes fault → IsConfigFault more fault
+too_long_is_all bytes more config_faults.Memory long longer is = absurd is
+too_long_is_all bytes more (config_faults.At kind path) long longer (inl too) = inl (longer, too.1)
+too_long_is_all bytes more (config_faults.At kind path) long longer (inr within) = let h : ⊥ = omega (arith, long, within.0) in absurd h
 
-config_fault_of_all : (bytes : List ℕ) (fault : ConfigFault) → IsConfigFault (take read_limit bytes) fault → (size_limit < length (take read_limit bytes) → SaysTooLong fault)
+config_fault_of_all : (bytes : List ℕ) (fault : ConfigFault) → IsConfigFault (take read_limit bytes) fault
     → (size_limit < length (take read_limit bytes)) ⊎ (length (take read_limit bytes) ≤ size_limit) → IsConfigFault bytes fault
-config_fault_of_all bytes fault is large (inr short) = subst (λ (text : List ℕ). IsConfigFault text fault) (read_whole bytes short) is
-config_fault_of_all bytes fault is large (inl long) =
+config_fault_of_all bytes fault is (inr short) = subst (λ (text : List ℕ). IsConfigFault text fault) (read_whole bytes short) is
+config_fault_of_all bytes fault is (inl long) =
     let more = longer read_limit bytes in
-    too_long_stands bytes fault (omega arith) (large long)
+    too_long_is_all (take read_limit bytes) bytes fault long (omega arith) is
 
-pub fault_of_all : (bytes : List ℕ) (fault : InputFault) → IsRefusal (take read_limit bytes) fault → (size_limit < length (take read_limit bytes) → IsTooLong fault)
-    → IsInputFault bytes fault
-fault_of_all bytes (Config fault) is large = config_fault_of_all bytes fault is large (cases_lt size_limit (length (take read_limit bytes)))
-fault_of_all bytes Memory is large = tt
-fault_of_all bytes Device is large = tt
+pub fault_of_all : (bytes : List ℕ) (fault : InputFault) → IsRefusal (take read_limit bytes) fault → IsInputFault bytes fault
+fault_of_all bytes (Config fault) is = config_fault_of_all bytes fault is (cases_lt size_limit (length (take read_limit bytes)))
+fault_of_all bytes Memory is = tt
+fault_of_all bytes Device is = absurd is
 
 -- what was read is the first bytes of what there is, where that is known; and a fault that stands in what was read stands in it
 pub fault_of_known : {X : Type 0} (known : Option (List ℕ)) (text : List ℕ) (r : Result X InputFault) → IfSome known (λ bytes. text ≡ take read_limit bytes)
-    → IfErr r (IsRefusal text) → (size_limit < length text → IfErr r IsTooLong) → IfErr r (λ fault. IfSome known (λ bytes. IsInputFault bytes fault))
-fault_of_known known text (Ok x) read is large = tt
-fault_of_known None text (Err fault) read is large = tt
-fault_of_known (Some bytes) text (Err fault) read is large =
-    fault_of_all bytes fault (subst (λ (xs : List ℕ). IsRefusal xs fault) read is) (λ long. large (subst (λ (xs : List ℕ). size_limit < length xs) (sym read) long))
+    → IfErr r (IsRefusal text) → IfErr r (λ fault. IfSome known (λ bytes. IsInputFault bytes fault))
+fault_of_known known text (Ok x) read is = tt
+fault_of_known None text (Err fault) read is = tt
+fault_of_known (Some bytes) text (Err fault) read is = fault_of_all bytes fault (subst (λ (xs : List ℕ). IsRefusal xs fault) read is)

@@ -1,8 +1,7 @@
 -- What a configuration's text names, and which fault stands in it (own).
-use Rattle.std.specs.Prelude.{◌≡◌, ℕ, List, ⊤, codes, string_bytes}
+use Rattle.std.specs.Prelude.{◌≡◌, ℕ, List, ⊤, string_bytes}
 use Rattle.mcv_names.specs.declared.fault.ConfigFault.{ConfigFault}
 use Rattle.mcv_names.specs.declared.fault.ConfigFault.TheVariants as config_faults
-use Rattle.mcv_names.specs.declared.fault.FaultKind.TheVariants.{Limit}
 use Rattle.mcv_config.specs.Config.{Faulty, Names}
 use Rattle.mcv_config.specs.Plan.{Plan}
 use Rattle.mcv_route.specs.Built.{routes_named}
@@ -41,14 +40,3 @@ abbrev pub IsInputFault : List ℕ → InputFault → Type 0
 IsInputFault text (Config fault) = IsConfigFault text fault
 IsInputFault text Memory = ⊤
 IsInputFault text Device = ⊤
-
--- the fault says that a configuration is too long
-abbrev pub SaysTooLong : ConfigFault → Type 0
-SaysTooLong config_faults.Memory = ⊥
-SaysTooLong (config_faults.At kind path) = (kind ≡ Limit) × (string_bytes path ≡ codes ".")
-
--- memory ran out, or the text is too long
-abbrev pub IsTooLong : InputFault → Type 0
-IsTooLong (Config fault) = SaysTooLong fault
-IsTooLong Memory = ⊤
-IsTooLong Device = ⊥

@@ -1,12 +1,11 @@
 //! The routes that a configuration names.
 
-ghost use Rattle.std.specs.Prelude.{◌<◌, length, IfSome, IfOk, IfErr};
-ghost use Rattle.mcv_config.specs.Config.{size_limit};
-ghost use Rattle.mcv_input.specs.Fault.{AreNamedBy, IsInputFault, IsRefusal, IsTooLong};
+ghost use Rattle.std.specs.Prelude.{IfSome, IfOk, IfErr};
+ghost use Rattle.mcv_input.specs.Fault.{AreNamedBy, IsInputFault, IsRefusal};
 
 use crate::device::read_at_most;
 use crate::fault::InputFault;
-use mcv_config::{ConfigFault, FaultKind, SIZE_LIMIT, read_config};
+use mcv_config::{SIZE_LIMIT, read_config};
 use mcv_route::Routes;
 use std::alloc::Global;
 use std::io::Read;
@@ -14,29 +13,11 @@ use std::io::Read;
 /// The most bytes that are read of a configuration: one more than it may have.
 const READ_LIMIT: u64 = (SIZE_LIMIT + 1) as u64;
 
-/// The fault of a configuration that is longer than any may be.
-fn too_long(alloc: Global) -> InputFault
-    ensures { IsTooLong result }
-{
-    match String::from_str(alloc, ".") {
-        Ok(path) => InputFault::Config(ConfigFault::At {
-            kind: FaultKind::Limit,
-            path,
-        }),
-        Err(_) => InputFault::Memory,
-    }
-}
-
-/// The routes that a configuration names. One that is too long may have been cut by the reader, so nothing else of it
-/// is judged.
+/// The routes that a configuration names.
 pub fn read_routes(alloc: Global, configuration: &[u8]) -> Result<Routes, InputFault>
     ensures named { IfOk result (AreNamedBy configuration.now) }
     ensures fault { IfErr result (IsRefusal configuration.now) }
-    ensures large { size_limit < length configuration.now → IfErr result IsTooLong }
 {
-    if configuration.len() > SIZE_LIMIT {
-        return Err(too_long(alloc));
-    }
     let config = read_config(alloc, configuration)?;
     Ok(Routes::build(alloc, config)?)
 }

@@ -10,11 +10,11 @@ use Rattle.mcv_base.specs.Operation.{op_name}
 use Rattle.mcv_base.specs.Key.{is_key_word}
 use Rattle.mcv_names.specs.declared.fault.ConfigFault.{ConfigFault}
 use Rattle.mcv_config.specs.Config.{size_limit}
-use Rattle.mcv_input.proofs.Whole.{too_long_stands, whole}
+use Rattle.mcv_input.proofs.Whole.{too_long_is_all, whole}
 use Rattle.mcv_legs.specs.declared.fault.RunFault.{RunFault}
 use Rattle.mcv_legs.specs.declared.fault.RunFault.TheVariants.{Line, NoRoute, Config, Memory, Device}
 use Rattle.mcv_legs.specs.Answer.{IsAnswer, IsWithoutRoute}
-use Rattle.mcv_legs.specs.Fault.{IsMisconfigured, IsRunFault, IsTooLong}
+use Rattle.mcv_legs.specs.Fault.{IsMisconfigured, IsRunFault}
 use Rattle.mcv_legs.specs.Limits.{input_limit, line_limit}
 use Rattle.mcv_legs.specs.Request.{Asks, IsNoRequest, space, line_feed}
 use Rattle.mcv_legs.proofs.Lines.{key_bytes}
@@ -105,9 +105,8 @@ no_request_of_all bytes none op prefix rest configuration asks =
 without_route_of_all : (bytes : List ℕ) → IsWithoutRoute (take input_limit bytes) → IsWithoutRoute bytes
 without_route_of_all bytes w = subst IsWithoutRoute (read_whole bytes w.op w.prefix w.rest w.configuration w.asks w.names.0) w
 
-too_long_of_all : (bytes : List ℕ) (fault : ConfigFault) (m : IsMisconfigured (take input_limit bytes) fault) → size_limit < length m.configuration
-    → IsTooLong (Config fault) → IsMisconfigured bytes fault
-too_long_of_all bytes fault m long is =
+too_long_of_all : (bytes : List ℕ) (fault : ConfigFault) (m : IsMisconfigured (take input_limit bytes) fault) → size_limit < length m.configuration → IsMisconfigured bytes fault
+too_long_of_all bytes fault m long =
     let more = drop input_limit bytes in
     let longer : size_limit < length (m.configuration ++ more) = omega (arith, length-append m.configuration more) in
     record {
@@ -117,22 +116,18 @@ too_long_of_all bytes fault m long is =
       configuration = m.configuration ++ more;
       asks = subst (λ (input : List ℕ). Asks input m.op m.prefix m.rest (m.configuration ++ more)) (take-append-drop input_limit bytes)
           (asks_more (take input_limit bytes) more m.op m.prefix m.rest m.configuration m.asks);
-      faulty = too_long_stands (m.configuration ++ more) fault longer is;
+      faulty = too_long_is_all m.configuration (m.configuration ++ more) fault long longer m.faulty;
     }
 
 misconfigured_of_all : (bytes : List ℕ) (fault : ConfigFault) (m : IsMisconfigured (take input_limit bytes) fault)
-    → (size_limit < length m.configuration → IsTooLong (Config fault)) → (size_limit < length m.configuration) ⊎ (length m.configuration ≤ size_limit)
-    → IsMisconfigured bytes fault
-misconfigured_of_all bytes fault m large (inr short) =
+    → (size_limit < length m.configuration) ⊎ (length m.configuration ≤ size_limit) → IsMisconfigured bytes fault
+misconfigured_of_all bytes fault m (inr short) =
     subst (λ (input : List ℕ). IsMisconfigured input fault) (read_whole bytes m.op m.prefix m.rest m.configuration m.asks short) m
-misconfigured_of_all bytes fault m large (inl long) = too_long_of_all bytes fault m long (large long)
+misconfigured_of_all bytes fault m (inl long) = too_long_of_all bytes fault m long
 
-pub fault_of_all : (bytes : List ℕ) (fault : RunFault) → IsRunFault (take input_limit bytes) fault
-    → ((op : Op) (prefix rest configuration : List ℕ) → Asks (take input_limit bytes) op prefix rest configuration → size_limit < length configuration → IsTooLong fault)
-    → IsRunFault bytes fault
-fault_of_all bytes Line is large = no_request_of_all bytes is
-fault_of_all bytes NoRoute is large = without_route_of_all bytes is
-fault_of_all bytes (Config fault) m large =
-    misconfigured_of_all bytes fault m (large m.op m.prefix m.rest m.configuration m.asks) (cases_lt size_limit (length m.configuration))
-fault_of_all bytes Memory is large = tt
-fault_of_all bytes Device is large = tt
+pub fault_of_all : (bytes : List ℕ) (fault : RunFault) → IsRunFault (take input_limit bytes) fault → IsRunFault bytes fault
+fault_of_all bytes Line is = no_request_of_all bytes is
+fault_of_all bytes NoRoute is = without_route_of_all bytes is
+fault_of_all bytes (Config fault) m = misconfigured_of_all bytes fault m (cases_lt size_limit (length m.configuration))
+fault_of_all bytes Memory is = tt
+fault_of_all bytes Device is = tt

@@ -1,11 +1,10 @@
 -- That a text answers, by what each part of it is.
-use Rattle.std.proofs.Common.{◌≡◌, ◌∙◌, ◌<◌, ◌≤◌, ℕ, List, length, Option, Some, None, option_map, slice_index, refl, ap, ap₂, arith}
+use Rattle.std.proofs.Common.{◌≡◌, ◌∙◌, ℕ, List, Option, Some, None, option_map, slice_index, refl, ap, ap₂}
 use Rattle.mcv_base.specs.declared.operation.Op.{Op}
 use Rattle.mcv_base.specs.Key.{hashed_part}
 use Rattle.mcv_pools.specs.Choice.{chosen_each}
 use Rattle.mcv_pools.specs.Hash.{fnv_index}
 use Rattle.mcv_pools.specs.Symbol.{SymbolValue}
-use Rattle.mcv_config.specs.Config.{size_limit}
 use Rattle.mcv_route.specs.Eras.{breaks_of, since_at}
 use Rattle.mcv_route.specs.Routes.{RouteEntry, RoutesValue}
 use Rattle.mcv_route.specs.Tree.{Tree}
@@ -13,10 +12,9 @@ use Rattle.mcv_rules.specs.Called.{Called, situation_of}
 use Rattle.mcv_input.specs.declared.fault.InputFault.{InputFault}
 use Rattle.mcv_input.specs.declared.fault.InputFault.TheVariants.{Config, Memory, Device}
 use Rattle.mcv_input.specs.Fault as inputs
-use Rattle.mcv_legs.specs.Fault.{IsRunFault, IsTooLong, of_input}
+use Rattle.mcv_legs.specs.Fault.{IsRunFault, of_input}
 use Rattle.mcv_legs.specs.Answer.{shipped_choice, situation_at, text_of}
 use Rattle.mcv_legs.specs.Request.{Asks}
-use Rattle.mcv_legs.proofs.Lines.{one_request}
 
 -- the entry whose tree was found
 pub the_entry : (x : Option RouteEntry) (t : Tree) → Some t ≡ option_map (λ e. e.tree) x → (entry : RouteEntry) × (x ≡ Some entry) × (t ≡ entry.tree)
@@ -25,14 +23,6 @@ the_entry (Some e) t is = (e, refl, inside)
   where
     inside : t ≡ e.tree
     inside = cc
-
--- an input whose configuration is short enough has no reading in which it is too long
-pub not_long : (input : List ℕ) (op other : Op) (prefix rest configuration start end text : List ℕ) → Asks input op prefix rest configuration → Asks input other start end text
-    → length configuration ≤ size_limit → size_limit < length text → ⊥
-not_long input op other prefix rest configuration start end text asks more short long =
-    let same : configuration ≡ text = (one_request input op other prefix rest configuration start end text asks more).3 in
-    let both : length configuration ≡ length text = ap length same in
-    omega arith
 
 -- what a call's rules tell, as lines
 abbrev told : RoutesValue → Called → List ℕ
@@ -59,8 +49,3 @@ pub refused_so : (text : List ℕ) (op : Op) (prefix rest configuration : List �
 refused_so text op prefix rest configuration asks (Config fault) is = record { op = op; prefix = prefix; rest = rest; configuration = configuration; asks = asks; faulty = is }
 refused_so text op prefix rest configuration asks Memory is = tt
 refused_so text op prefix rest configuration asks Device is = tt
-
-pub too_long_so : (fault : InputFault) → inputs.IsTooLong fault → IsTooLong (of_input fault)
-too_long_so (Config fault) is = is
-too_long_so Memory is = tt
-too_long_so Device is = is

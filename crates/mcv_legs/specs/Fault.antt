@@ -4,7 +4,7 @@ use Rattle.mcv_base.specs.declared.operation.Op.{Op}
 use Rattle.mcv_names.specs.declared.fault.ConfigFault.{ConfigFault}
 use Rattle.mcv_input.specs.declared.fault.InputFault.{InputFault}
 use Rattle.mcv_input.specs.declared.fault.InputFault.TheVariants as input_faults
-use Rattle.mcv_input.specs.Fault.{IsConfigFault, SaysTooLong}
+use Rattle.mcv_input.specs.Fault.{IsConfigFault}
 use Rattle.mcv_legs.specs.declared.fault.RunFault.{RunFault}
 use Rattle.mcv_legs.specs.declared.fault.RunFault.TheVariants.{Line, NoRoute, Config, Memory, Device}
 use Rattle.mcv_legs.specs.Request.{Asks, IsNoRequest}
@@ -47,11 +47,3 @@ IsRunFault input NoRoute = IsWithoutRoute input
 IsRunFault input (Config fault) = IsMisconfigured input fault
 IsRunFault input Memory = ⊤
 IsRunFault input Device = ⊤
-
--- memory ran out, or the configuration is too long
-abbrev pub IsTooLong : RunFault → Type 0
-IsTooLong Line = ⊥
-IsTooLong NoRoute = ⊥
-IsTooLong (Config fault) = SaysTooLong fault
-IsTooLong Memory = ⊤
-IsTooLong Device = ⊥

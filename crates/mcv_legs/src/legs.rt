@@ -1,14 +1,11 @@
 //! The path from the bytes read to the bytes written.
 
-ghost use Rattle.std.specs.Prelude.{◌≡◌, ◌≢◌, ◌<◌, ℕ, List, length, option_map, IfSome, IfOk, IfErr, OnOk, slice_index};
+ghost use Rattle.std.specs.Prelude.{◌≡◌, ◌≢◌, ℕ, List, option_map, IfSome, IfOk, IfErr, OnOk, slice_index};
 ghost use Rattle.std.specs.Io.KnownBytes.{Appends};
-ghost use Rattle.mcv_config.specs.Config.{size_limit};
 ghost use Rattle.mcv_route.specs.View.{view};
-ghost use Rattle.mcv_base.specs.declared.operation.Op.{Op};
 ghost use Rattle.mcv_rules.specs.Called.{situation_of};
 ghost use Rattle.mcv_legs.specs.Answer.{IsAnswer, entry_for, text_of};
-ghost use Rattle.mcv_legs.specs.Fault.{IsRunFault, IsTooLong};
-ghost use Rattle.mcv_legs.specs.Request.{Asks};
+ghost use Rattle.mcv_legs.specs.Fault.{IsRunFault};
 
 use crate::device::read_input;
 use crate::fault::RunFault;
@@ -46,8 +43,6 @@ pub fn run_legs<R: Read, W: Write>(
 fn answer_text(alloc: Global, input: &[u8], moment: Moment) -> Result<Vec<u8>, RunFault>
     ensures ok { IfOk result (λ text. IsAnswer moment.0 input.now text.items) }
     ensures fault { IfErr result (λ fault. IsRunFault input.now fault) }
-    ensures large { (op : Op) (prefix rest configuration : List ℕ) → Asks input.now op prefix rest configuration → size_limit < length configuration
-        → IfErr result IsTooLong }
 {
     let Some(asked) = read_request(input) else {
         return Err(RunFault::Line);

@@ -10,6 +10,7 @@ use Rattle.mcv_route.specs.Verdict.{IsDone, IsReachable, IsSent}
 use Rattle.mcv_rules.specs.Plan.{Leg, Plan, server}
 use Rattle.mcv_rules.specs.Plans.{plan}
 use Rattle.mcv_rules.specs.Sound.{positions, IsApart, IsForDelete}
+use Rattle.mcv_rules.proofs.Rising.{plan_rises}
 use Rattle.mcv_rules.proofs.Sound
 use Rattle.mcv_rules.proofs.Verdicts
 use Rattle.mcv_symbolic.specs.Shown.{answers}
@@ -17,7 +18,6 @@ use Rattle.mcv_symbolic.specs.Structure.{if_all, Acknowledged}
 use Rattle.mcv_symbolic.proofs.Exact.{answers_reachable, answers_reply, counts_acknowledged}
 use Rattle.mcv_symbolic.proofs.Marks
 use Rattle.mcv_symbolic.proofs.Planned
-use Rattle.mcv_symbolic.proofs.Rising.{plan_rises}
 use Rattle.mcv_symbolic.proofs.Sized.{formed, sizes_for}
 use Rattle.mcv_witness.specs.Breaks.{AreRising}
 use Rattle.mcv_make.proofs.Ordered.{answers-ordered, are-rising}

@@ -7,10 +7,9 @@ use Rattle.mcv_base.specs.declared.reply.Outcome.{Outcome}
 use Rattle.mcv_route.specs.Outcomes.{History}
 use Rattle.mcv_rules.specs.Plan.{Plan, Send, Reply, Both, Beside, OnError, OnMiss, OnHit, Shadowed}
 use Rattle.mcv_rules.specs.Sound.{positions}
+use Rattle.mcv_rules.proofs.Rising.{IsPart, IsRising, both-parts, left-part, no-part, pairs, whole-part}
 use Rattle.mcv_symbolic.specs.Shown.{answers}
 use Rattle.mcv_symbolic.specs.Structure.{if_all}
-use Rattle.mcv_symbolic.proofs.Found.{pairs}
-use Rattle.mcv_symbolic.proofs.Rising.{IsPart, IsRising, both-parts, left-part, no-part, whole-part}
 use Rattle.mcv_witness.specs.Breaks.{AreRising}
 
 abbrev places : History → List (List ℕ)

@@ -11,12 +11,12 @@ use Rattle.mcv_rules.specs.Plan.{Plan}
 use Rattle.mcv_rules.specs.Plans.{plan}
 use Rattle.mcv_rules.specs.Sound.{positions}
 use Rattle.mcv_rules.proofs.Orders
+use Rattle.mcv_rules.proofs.Rising.{plan_rises}
 use Rattle.mcv_rules.proofs.Sound
 use Rattle.mcv_rules.proofs.Verdicts
 use Rattle.mcv_symbolic.specs.Justified.{IsReadableAt}
 use Rattle.mcv_symbolic.specs.Sets.{CanHitAt}
 use Rattle.mcv_symbolic.proofs.Exactness.{hits_are_exact}
-use Rattle.mcv_symbolic.proofs.Rising.{plan_rises}
 use Rattle.mcv_symbolic.proofs.Sized.{formed, sizes_for}
 use Rattle.mcv_witness.specs.Breaks.{AreRising}
 use Rattle.mcv_symbolic.specs.Shown.{leading}

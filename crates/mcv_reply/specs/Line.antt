@@ -59,7 +59,7 @@ Writes (word bytes ∷ forms) least line = Next (word bytes) least (Writes forms
 Writes (number limit n ∷ forms) least line = Next (number limit n) least (Writes forms 1) line
 Writes (text ∷ forms) least line = IsText line
 
--- `<flags> <bytes>`, and ` <cas>` for gets (32, 20 and 64 bits)
+-- `<flags> <bytes>`, and ` <cas>` for gets: 32 bits, at most 1,048,576, and 64 bits
 abbrev pub cas_forms : Bool → ℕ → List Form
 cas_forms true cas = number 18446744073709551615 cas ∷ []
 cas_forms false cas = []

@@ -1,5 +1,5 @@
 -- A reply that has come in part, and what each step makes of it. Only private functions speak of
--- this; what the reader answers stands in Reader alone.
+-- this, and a reader's view and invariant; what the reader answers stands in Reader alone.
 use Rattle.std.specs.Prelude.{◌≡◌, ℕ, ◌<◌, ◌≤◌, Bool, List, [], ◌∷◌, ◌++◌, length, take, Option, Some, None, Result, Ok, Err}
 use Rattle.mcv_base.specs.declared.operation.Op.{Op}
 use Rattle.mcv_base.specs.declared.reply.Reply.{Reply}

@@ -1,6 +1,6 @@
 //! A line that has come in part, taken for one of a given first word.
 //!
-//! Each byte is looked at once: a candidate says what may still follow (specs/Place.antt), and how
+//! Each byte is looked at once by each candidate, which says what may still follow (specs/Place.antt), and how
 //! many bytes the line may have beside those that it must have.
 
 ghost use Rattle.std.specs.Prelude.{◌≡◌, ◌≢◌, ◌∷◌, [], ◌≤◌, ◌<◌, ◌+◌, ◌*◌, ◌-◌, ◌==◌, List, ℕ, length, Bool, All, MatchOption, Some, None, true, false, if◌then◌else◌};

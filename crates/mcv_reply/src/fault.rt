@@ -8,7 +8,8 @@ use thiserror::Error;
 /// Why a piece is no part of a reply.
 #[derive(Clone, Copy, Debug, PartialEq, Eq, Error)]
 pub enum ReplyFault {
-    /// No reply that may answer the leg goes on from the bytes fed.
+    /// No reply to the leg, or no answer to the probe, goes on from the bytes fed; or a piece, an empty one
+    /// too, came behind a whole one.
     #[error("no reply to this request")]
     NotAReply = 1,
     /// The reader has given a fault before.

@@ -27,5 +27,6 @@ pub mod Rows
 pub mod Stops
 pub mod Longest
 pub mod Leaves
+pub mod Rising
 pub mod Once
 mod Examples

@@ -12,11 +12,12 @@ use Rattle.mcv_pools.specs.Table.{IsOneToOne}
 use Rattle.mcv_route.specs.Outcomes.{Outcomes, Choice}
 use Rattle.mcv_route.specs.Children.{is_within}
 use Rattle.mcv_rules.specs.Plan.{Leg, Plan, Send, Reply, Both, Beside, OnError, OnMiss, OnHit, Shadowed, reply, on_reply, launched}
-use Rattle.mcv_rules.specs.Plans.{plan, launch_of}
+use Rattle.mcv_rules.specs.Plans.{plan}
 use Rattle.mcv_rules.specs.Rows.{LegsAreSentOnce, ShadowsAreMarked}
 use Rattle.mcv_rules.specs.Sound.{In, IsApart, IsMarked, positions}
 use Rattle.mcv_rules.proofs.Sending.{Sends}
 use Rattle.mcv_rules.proofs.Orders.{in_left, in_right}
+use Rattle.mcv_rules.proofs.Rising.{launched_places, places}
 use Rattle.mcv_rules.proofs.Sent
 use Rattle.mcv_rules.proofs.Sound.{in_either, plan_apart, plan_marked}
 use Rattle.mcv_rules.proofs.Verdicts.{has_sends}
@@ -46,9 +47,6 @@ one_to_one (q ∷ ps) h (suc i) zero p e f = let same : p ≡ q = let g : Some q
 one_to_one (q ∷ ps) h (suc i) (suc j) p e f = ap suc (one_to_one ps h.1 i j p e f)
 
 -- ---- the legs of a plan
-
-abbrev places : List Leg → List (List ℕ)
-places ls = map (λ l. l.position) ls
 
 -- one list of places within another, and each once
 record IsPart (ps qs : List (List ℕ)) : Type 0 where
@@ -92,10 +90,6 @@ sent_part (OnHit t u) c o h =
 sent_part (Shadowed s a b t u) c o h =
     parts (launched t c o) (cond (is_within (record { first = a; last = b }) (c s)) (launched u c o) []) (positions t) (positions u) h.2 (sent_part t c o h.0)
     (if_part (is_within (record { first = a; last = b }) (c s)) (launched u c o) (positions u) (sent_part u c o h.1))
-
-launched_places : (c : Choice) (ls : List Leg) → map (λ l. l.position) (map (launch_of c) ls) ≡ places ls
-launched_places c [] = refl
-launched_places c (l ∷ ls) = ap (λ ps. l.position ∷ ps) (launched_places c ls)
 
 pub legs_are_sent_once : LegsAreSentOnce
 legs_are_sent_once t s c o =

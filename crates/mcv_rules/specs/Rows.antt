@@ -1,5 +1,9 @@
 -- What each handle sends, said of its children one by one, in the order of the table of handles (mcrouter wiki, List of Route Handles).
 use Rattle.std.specs.Prelude.{◌≡◌, ◌≢◌, ◌⊎◌, ◌↔◌, ◌<◌, ◌≤◌, ◌+◌, ◌*◌, ℕ, suc, true, false, List, Option, Some, None, length, map, option_and_then, slice_get, slice_index}
+use Rattle.std.specs.Cmp.Lexicographic.{slice_cmp}
+use Rattle.std.specs.List.{AllPairs}
+use Rattle.std.specs.Ordering.{nat_cmp}
+use Rattle.std.specs.declared.cmp.Ordering.TheVariants.{Less}
 use Rattle.mcv_base.specs.declared.operation.Op.{Op}
 use Rattle.mcv_base.specs.declared.operation.Mark.TheVariants.{Shadow}
 use Rattle.mcv_base.specs.declared.reply.Outcome.{Outcome}
@@ -39,6 +43,14 @@ child_replied ts k s o = option_and_then (λ t. replied t (under k s) o) (child_
 -- no leg is sent twice: no position stands at two places
 abbrev pub LegsAreSentOnce : Type 0
 LegsAreSentOnce = (t : Tree) (s : Situation) (c : Choice) (o : Outcomes) → IsOneToOne (map (λ l. l.position) (launched t s c o))
+
+-- child numbers are compared from the first on, and a position stands before those below it
+abbrev pub StandsBefore : List ℕ → List ℕ → Type 0
+StandsBefore p q = slice_cmp nat_cmp p q ≡ Less
+
+-- the legs stand in the order of their positions, each before all later ones
+abbrev pub LegsStandInOrder : Type 0
+LegsStandInOrder = (t : Tree) (s : Situation) (c : Choice) (o : Outcomes) → AllPairs StandsBefore (map (λ l. l.position) (launched t s c o))
 
 -- at a leg's position stands a PoolRoute, and the leg goes to its server at the index of its symbol
 abbrev pub LegsAreOfPools : Type 0

@@ -1,7 +1,7 @@
 //! The laws of routes: what holds of the definitions alone, and so of all code that meets them.
 
 ghost use Rattle.mcv_rules.specs.Laws.{AnswersAreTrue, DeletesSearchOnErrors, HitIsPlanned, LaunchedIsPlanned, OneReplyStays, PlansAreSound, ReachableIsClosed, RepliesAreAlike, ReplyIsOneOf, ReplyIsPlanned, ReplyStays, SentStays, TheLastOfTheWorst};
-ghost use Rattle.mcv_rules.specs.Rows.{AllAsyncRow, AllInitialRow, AllSyncRow, ErrorRow, FailoverReplies, FailoverRow, FirstPolicyCounts, LegsAreOfPools, LegsAreSentOnce, LongestPrefixCounts, MigrateAfter, MigrateBefore, MigrateDeletes, MigrateFirst, MigrateSecond, MissFailoverReads, MissFailoverReplies, MissFailoverWrites, NullRow, OperationSelectorRow, PoolRow, PrefixSelectorRow, ShadowsAreMarked, WarmUpReads, WarmUpWrites};
+ghost use Rattle.mcv_rules.specs.Rows.{AllAsyncRow, AllInitialRow, AllSyncRow, ErrorRow, FailoverReplies, FailoverRow, FirstPolicyCounts, LegsAreOfPools, LegsAreSentOnce, LegsStandInOrder, LongestPrefixCounts, MigrateAfter, MigrateBefore, MigrateDeletes, MigrateFirst, MigrateSecond, MissFailoverReads, MissFailoverReplies, MissFailoverWrites, NullRow, OperationSelectorRow, PoolRow, PrefixSelectorRow, ShadowsAreMarked, WarmUpReads, WarmUpWrites};
 ghost use Rattle.mcv_rules.specs.Times.{RepliesAreStable, TimeAfterError, TimeAfterMiss, TimeOfAllSync};
 
 /// The plan of a route sends the legs and gives the replies that its handles say.
@@ -57,6 +57,11 @@ pub fn legs_are_of_pools()
     ensures once { LegsAreSentOnce }
     ensures pools { LegsAreOfPools }
     ensures shadows { ShadowsAreMarked }
+{}
+
+/// The legs stand in the order of their positions, each before all later ones.
+pub fn legs_stand_in_order()
+    ensures { LegsStandInOrder }
 {}
 
 /// What each handle sends by its children, in the order of the table of handles.

@@ -1,7 +1,6 @@
 //! The plan of a route, laid out for what it is asked at its place: one arm for each handle.
 
 ghost use Rattle.std.specs.Prelude.{◌≡◌, ℕ, IfOk, [], ◌∷◌, map, true};
-ghost use Rattle.mcv_base.specs.Key.{begins_with};
 ghost use Rattle.mcv_base.specs.Operation.{is_reading};
 ghost use Rattle.mcv_route.specs.Children.{is_policy_for, policy_of, prefix_policy};
 ghost use Rattle.mcv_route.specs.Situation.{Situation, adding, under};
@@ -13,7 +12,7 @@ use crate::arrival::After;
 use crate::asked::{Asked, Way};
 use crate::plan::{Plan, PlannedLeg};
 use crate::status::default_reply;
-use mcv_base::{FixedReply, Op, Position, Rest};
+use mcv_base::{FixedReply, Op, Position, Rest, begins_with};
 use mcv_route::{Leaf, OperationPolicy, PrefixPolicy, Route, Shadow};
 use std::alloc::{AllocError, Global};
 use std::sync::Arc;
@@ -284,12 +283,6 @@ fn longer(longest: Option<(usize, usize)>, number: usize, length: usize) -> Opti
         Some((first, most)) if length < most => Some((first, most)),
         _ => Some((number, length)),
     }
-}
-
-fn begins_with(word: &[u8], start: &[u8]) -> bool
-    ensures { result ≡ begins_with word.now start.now }
-{
-    word.starts_with(start)
 }
 
 /// The number of the operation's policy, or of the default policy after all.

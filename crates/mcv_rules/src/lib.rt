@@ -21,8 +21,8 @@ pub use asked::{Asked, Way};
 pub use eval::Eval;
 pub use laws::{
     answers_are_true, answers_come_with_children, handles_send_by_their_rows,
-    later_outcomes_only_add, legs_are_of_pools, plans_are_exact, plans_are_sound,
-    policies_are_selected, reachable_is_closed, searches_reply_where_they_stop,
+    later_outcomes_only_add, legs_are_of_pools, legs_stand_in_order, plans_are_exact,
+    plans_are_sound, policies_are_selected, reachable_is_closed, searches_reply_where_they_stop,
     the_last_reply_is_one,
 };
 pub use layout::{policy_number, prefix_number};

@@ -19,7 +19,7 @@ records_of (slot ∷ all) = record_in (read_record slot) ++ records_of all
 
 -- What the calls have told so far.
 pub record Told : Type 0 where
-  -- the records that the last `open` that answered Ok found
+  -- the records that the last `open` or `reopen` that answered Ok found
   pub found : List SpoolRecord
   -- those appended since, whose `append` answered Ok
   pub stored : List SpoolRecord
@@ -74,7 +74,7 @@ append_stopped (Err Memory) r = λ t. t
 append_stopped (Err Reopen) r = λ t. t
 append_stopped (Err (Damaged k)) r = λ t. t
 
--- The promise. The file has the records that the last `open` that answered Ok found, then a prefix of what was appended
+-- The promise. The file has the records that the last `open` or `reopen` that answered Ok found, then a prefix of what was appended
 -- since, in order, with each whose `append` answered Ok, and no more slots than a file may have. A record is marked as done only
 -- where `done` was called for its number.
 pub record IsKept (t : Told) (file : List ℕ) : Type 0 where
@@ -85,7 +85,7 @@ pub record IsKept (t : Told) (file : List ℕ) : Type 0 where
   pub few : length (slots file) ≤ slot_limit
   pub done : (k : ℕ) → is_done (slice_index_or (slots file) k []) ≡ true → Contains t.done k
 
--- the record of this number is one that the last `open` that answered Ok found, or one that was stored since
+-- the record of this number is one that the last `open` or `reopen` that answered Ok found, or one that was stored since
 abbrev pub HasNumber : Told → SpoolRecord → ℕ → Type 0
 HasNumber t r k = (k < length (t.found ++ t.stored)) × (slice_index_or (t.found ++ t.stored) k r ≡ r)
 

@@ -27,7 +27,7 @@ pub trait Disk: Drop {
     /// What a crash at any moment since the given one may have left.
     ghost left_since: { Self → ℕ → List ℕ → Type 0 };
 
-    /// How many calls have failed.
+    /// A number that grows with each call that fails.
     ghost failures: { Self → ℕ };
 
     /// The length of the file, in bytes.
@@ -45,7 +45,7 @@ pub trait Disk: Drop {
         ensures counts { keeps_model → failures self.old ≤ failures self.new }
         ensures cause { keeps_model → OnErr result (failures self.old < failures self.new) };
 
-    /// Writes bytes at this offset, over what is there and past the end. Until a sync, a crash may leave any bytes in that range.
+    /// Writes bytes at this offset, over what is there and past the end. Until a sync, a crash may leave any bytes in that range, and any length between.
     fn write_at(&mut self, at: usize, bytes: &[u8]) -> Result<(), DiskFailed>
         requires { keeps_model → at ≤ length (seen self.old) }
         ensures written { keeps_model → OnOk result (seen self.new ≡ written (seen self.old) at bytes.now) }

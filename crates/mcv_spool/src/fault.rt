@@ -22,7 +22,7 @@ pub enum SpoolFault {
     /// An earlier call answered `Device`, or a `reopen` was refused; `reopen` first.
     #[error("the spool has to be opened again")]
     Reopen,
-    /// The slot of this number doesn't read.
+    /// The slot of this number doesn't read, or it is slot 1,000,000.
     #[error("slot {0} of the spool is damaged")]
     Damaged(u64),
 }

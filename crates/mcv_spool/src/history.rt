@@ -4,7 +4,7 @@
 //! the clause `step` of `open`, `reopen`, `append` and `done`.
 
 ghost use Rattle.std.specs.Prelude.{◌≡◌, ℕ, List, [], ◌∷◌, ◌++◌, length, None};
-ghost use Rattle.mcv_spool.specs.Disk.{Torn};
+ghost use Rattle.mcv_spool.specs.Disk.{Cut, Torn};
 ghost use Rattle.mcv_spool.specs.File.{damage, slots};
 ghost use Rattle.mcv_spool.specs.History.{Finds, History, IsKept, Told, World};
 ghost use Rattle.mcv_spool.specs.declared.record.SpoolRecord.{SpoolRecord};
@@ -25,4 +25,5 @@ pub fn a_disk_keeps_the_model()
     ensures met { KeepsModel read_of left_of length left_since_of }
     ensures begins { (file : List ℕ) → left_of [] file → file ≡ [] }
     ensures tears { (log : List Change) (at : ℕ) (bytes old new : List ℕ) → left_of log old → Torn at (length bytes) old new → left_of (Change.write at bytes ∷ log) new }
+    ensures shortens { (log : List Change) (n : ℕ) (old new : List ℕ) → left_of log old → Cut n old new → left_of (Change.cut n ∷ log) new }
 {}

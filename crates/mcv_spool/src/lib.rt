@@ -1,7 +1,8 @@
 //! The spool: records of deletes that their servers didn't take, each on the disk once its `append` has answered Ok.
 //!
 //! A `Spool` stands on a `Disk`, one file. A record whose `append` answered Ok is found by every later
-//! `open`, also where the machine stopped at any moment, inside a call or between two.
+//! `open` that answers Ok, also where the machine stopped at any moment, inside a call or between two, if the disk keeps
+//! the model and only these calls wrote the file.
 #![tactic(auto)]
 
 mod contents;

@@ -77,7 +77,7 @@ impl<D: Disk> Spool<D> {
         Ok(())
     }
 
-    /// Writes a record. At `Ok` it is on the disk: from then on each `open` finds it.
+    /// Writes a record. At `Ok` it is on the disk: each later `open` that answers Ok finds it (`what_was_told_is_kept`).
     pub fn append(&mut self, delete: SpoolRecord) -> Result<Stored, SpoolFault>
         ensures stored { IfOk result (λ stored. (stored.seq ≡ self.old.contents.count) × (stored.record ≡ delete)) }
         ensures pending { OnOk result (self.new.contents.pending.items ≡ self.old.contents.pending.items ++ (self.old.contents.count, delete) ∷ []) }

@@ -2,7 +2,6 @@
 use Rattle.std.proofs.Common.{◌≡◌, inl, inr, ℕ, List, [], ◌∷◌, map, Option, Some, refl, sym, ap, ◌∙◌, subst, arith}
 use Rattle.std.specs.List.{All, AllPairs, Contains}
 use Rattle.std.proofs.lemmas.List.Elements.{All-cons, All-head, All-nil, All-tail, Contains-append_right}
-use Rattle.std.proofs.lemmas.List.Kept.{AllPairs-cons}
 use Rattle.mcv_base.specs.declared.operation.Op.{Op}
 use Rattle.mcv_base.specs.declared.operation.Op.TheVariants.{Delete}
 use Rattle.mcv_classes.specs.Class.{IsBefore}
@@ -12,27 +11,18 @@ use Rattle.mcv_route.specs.Situation.{asked}
 use Rattle.mcv_route.specs.Tree.{Tree}
 use Rattle.mcv_rules.specs.Plan.{Leg}
 use Rattle.mcv_rules.specs.Plans.{plan}
-use Rattle.mcv_rules.specs.Sound.{In}
 use Rattle.mcv_rules.specs.declared.plan.PlannedLeg.{PlannedLeg}
 use Rattle.mcv_rules.proofs.Among.{Among}
+use Rattle.mcv_rules.proofs.Rising.{IsRising, pairs, places}
 use Rattle.mcv_symbolic.specs.InMemory.{leg_of}
 use Rattle.mcv_symbolic.specs.Listed.{acknowledged, hits}
 use Rattle.mcv_symbolic.specs.Sets.{AreLegsAt, CanHitAt, IsAcknowledged, positions_of}
 use Rattle.mcv_symbolic.proofs.Exactness.{acknowledged_is_exact, hits_are_exact}
 use Rattle.mcv_symbolic.proofs.Marks as marks
 use Rattle.mcv_symbolic.proofs.Placed.{leaf_of, acknowledged_stands, hits_stand}
-use Rattle.mcv_symbolic.proofs.Rising.{IsRising, acknowledged_rise, hits_rise, places}
+use Rattle.mcv_symbolic.proofs.Rising.{acknowledged_rise, hits_rise}
 
 -- ---- lists
-
-all-before : (p : List ℕ) (ps : List (List ℕ)) → ((q : List ℕ) → In ps q → IsBefore p q) → All (IsBefore p) ps
-all-before p [] h = All-nil (IsBefore p)
-all-before p (q ∷ ps) h = All-cons (IsBefore p) q ps (h q (inl refl)) (all-before p ps (λ r i. h r (inr i)))
-
--- each place is before all later ones
-pub pairs : (ps : List (List ℕ)) → IsRising ps → AllPairs IsBefore ps
-pairs [] h = λ i j d low high. absurd (omega (arith, high))
-pairs (p ∷ ps) h = AllPairs-cons IsBefore p ps (all-before p ps h.0) (pairs ps h.1)
 
 shown-places : (legs : List PlannedLeg) → places (map leg_of legs) ≡ positions_of legs
 shown-places [] = refl

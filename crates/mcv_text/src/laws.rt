@@ -5,7 +5,7 @@ ghost use Rattle.mcv_text.specs.Leg.{IsWholeLeg, LegValue, leg_ask, leg_text};
 ghost use Rattle.mcv_text.specs.Request.{ItemValue, asked, asking};
 ghost use Rattle.mcv_text.specs.Stream.{EndsRefused, Failed, Held, Reads, Stands, followed};
 
-/// A stream has one reading.
+/// A stream has at most one reading.
 pub fn one_reading()
     ensures { (from : Stands) (xs ys : List ItemValue) (to other : Stands) → Reads from xs to → Reads from ys other → (xs ≡ ys) × (to ≡ other) }
 {}

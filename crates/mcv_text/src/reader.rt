@@ -1,7 +1,7 @@
 //! The reader of a stream: it takes pieces as they come and gives the items that end in them.
 //!
-//! The line's buffer holds the bytes before a LF alone, so that each byte is looked at once; a
-//! value grows in the buffer that becomes its body.
+//! The line's buffer holds the bytes before a LF alone, so that each byte is searched for a LF
+//! once; a value grows in the buffer that becomes its body.
 
 ghost use Rattle.std.specs.Prelude.{◌≡◌, ◌<◌, ◌≤◌, ◌≢◌, ◌+◌, ◌↔◌, ◌∷◌, [], ℕ, List, length, take, drop, map, IfOk, OnErr};
 ghost use Rattle.std.specs.Result.{IsErrOf};

@@ -133,7 +133,7 @@ replace k 0 9223372036854775807 1~x~ | replace k e9223372036854775807 =x;
 append k 0 -9223372036854775808 1~x~ | append k e-9223372036854775808 =x;
 prepend k 0 0 1~x~ | prepend k =x;
 cas k 1 2 3 18446744073709551615 noreply~xyz~ | cas k f1 e2 c18446744073709551615 noreply =xyz;
-touch a 30~version~quit~ | touch a e30;version;quit;
+touch a -1~version~quit~ | touch a e-1;version;quit;
 get a^get b~ | get a;get b;
 foo~~get a~incr a 1~ | refused 1;refused 1;get a;refused 1;";
 

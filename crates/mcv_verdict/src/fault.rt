@@ -12,7 +12,7 @@ use mcv_judge::PairFault;
 use std::alloc::AllocError;
 use thiserror::Error;
 
-/// Why there is no verdict. Its text is what the program says of it.
+/// Why there is no verdict.
 #[derive(Debug, Drop, Error)]
 pub enum RunFault {
     /// A fault that stands in the configuration; want of memory isn't one.

@@ -1,17 +1,10 @@
 //! The text of a verdict.
 
-ghost use Rattle.std.specs.Prelude.{◌≡◌, ◌++◌, IfOk, OnOk, decimal};
+ghost use Rattle.std.specs.Prelude.{◌≡◌, IfOk};
 ghost use Rattle.mcv_verdict.specs.Text.{covered_line};
 
-use itoa::Buffer;
+use mcv_base::push_number;
 use std::alloc::{AllocError, Global};
-
-fn push_number(text: &mut Vec<u8>, number: usize) -> Result<(), AllocError>
-    ensures { OnOk result (text.new.items ≡ text.old.items ++ decimal number) }
-{
-    let mut buffer = Buffer::new();
-    text.extend_from_slice(buffer.format(number).as_bytes())
-}
 
 /// The line that says that a certificate of so many pairs covers the configuration.
 pub fn covered_line(alloc: Global, pairs: usize) -> Result<Vec<u8>, AllocError>

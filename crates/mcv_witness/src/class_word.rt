@@ -1,14 +1,13 @@
 //! Whether a rest is in the class of a word. It takes no memory.
 
 ghost use Rattle.std.specs.Prelude.{◌≡◌, ◌↔◌, IsTrue, map};
-ghost use Rattle.mcv_base.specs.Key.{begins_with};
 ghost use Rattle.mcv_classes.specs.Class.{IsClassWord};
 ghost use Rattle.mcv_classes.specs.Words.{class_words};
 ghost use Rattle.mcv_route.specs.View.{last_view, operation_view, prefix_view, trees_of, view};
 ghost use Rattle.mcv_rules.specs.Laid.{children_of, prefixes_of, targets_of};
 ghost use Rattle.mcv_witness.specs.LongestWord.{longer, longest_below, longest_in, longest_of};
 
-use mcv_base::Rest;
+use mcv_base::{Rest, begins_with};
 use mcv_route::{OperationPolicy, PrefixPolicy, Route, Shadow};
 
 /// Whether the rest is in the class of the word: it is the longest class word with which the rest begins.
@@ -19,13 +18,6 @@ pub fn is_class_word(route: &Route, rest: &Rest, word: &[u8]) -> bool
         return false;
     }
     word.len() == longest(route, rest, 0)
-}
-
-/// Whether the bytes begin with the word.
-fn begins_with(bytes: &[u8], word: &[u8]) -> bool
-    ensures { result ≡ begins_with bytes.now word.now }
-{
-    bytes.starts_with(word)
 }
 
 /// The length of the word, where the rest begins with it and it is longer than so much.

@@ -8,8 +8,7 @@ ghost use Rattle.mcv_witness.specs.Finding.{finding_of, outcomes_of};
 ghost use Rattle.mcv_witness.specs.Text.{answer_text, answers_text, done_word, finding_text, func_name, index_line, index_lines, index_text, line, lost_line, read_word, salt_byte};
 
 use crate::finding::{Finding, LegOutcome};
-use itoa::Buffer;
-use mcv_base::{Op, Outcome, ServerId};
+use mcv_base::{Op, Outcome, ServerId, push_number};
 use mcv_cert::push_escaped;
 use mcv_pools::{Choice, HashFunc, Symbol};
 use mcv_route::Routes;
@@ -52,13 +51,6 @@ fn push_lost(text: &mut Vec<u8>, finding: &Finding, routes: &Routes) -> Result<(
     text.extend_from_slice(b"lost ")?;
     text.extend_from_slice(server_text(routes, finding.server))?;
     text.extend_from_slice(b"\n")
-}
-
-fn push_number(text: &mut Vec<u8>, number: usize) -> Result<(), AllocError>
-    ensures { OnOk result (text.new.items ≡ text.old.items ++ decimal number) }
-{
-    let mut buffer = Buffer::new();
-    text.extend_from_slice(buffer.format(number).as_bytes())
 }
 
 /// Adds the line of a word and a number.

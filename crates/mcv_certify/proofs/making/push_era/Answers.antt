@@ -12,10 +12,10 @@ push_sets-requires c = sets_sized c.args.routes.now c.args.class.now c.args.era 
 
 pub returns-clause-added : goal.returns-clause-added
 returns-clause-added c =
-    on_ok_weaker c.push_sets.result (adds_with c.args.routes.now c.args.class.now c.args.era c.requires.spot c.in_ok-sets.sets _ c.in_ok-sets.ensures c.in-Some.ensures c.in-Some-member.ensures c.opened.ensures (pairs_of c.args.pairs.now.items) (pairs_of c.push_sets.new.pairs.items)) c.push_sets.ensures.added
+    on_ok_weaker c.push_sets.result (adds_with c.args.routes.now c.args.class.now c.args.era c.requires.spot c.in_ok-sets.sets _ c.in_ok-sets.ensures c.in-Some.ensures c.in-Some-member.ensures c.opened.ensures.some (pairs_of c.args.pairs.now.items) (pairs_of c.push_sets.new.pairs.items)) c.push_sets.ensures.added
 
 pub returns-clause-lost : goal.returns-clause-lost
 returns-clause-lost c =
     IfErr-weaker c.push_sets.result (λ e. IfLost e (TellsGapWith c.in_ok-sets.sets c.args.class.now c.args.era)) (λ e. IfLost e (TellsGapAt c.args.routes.now (spot c.args.class.now c.args.era)))
     (λ e h. if_lost e (TellsGapWith c.in_ok-sets.sets c.args.class.now c.args.era) (TellsGapAt c.args.routes.now (spot c.args.class.now c.args.era))
-    (tells_with c.args.routes.now c.args.class.now c.args.era c.requires.spot c.in_ok-sets.sets _ c.in_ok-sets.ensures c.in-Some.ensures c.in-Some-member.ensures c.opened.ensures) h) c.push_sets.ensures.lost
+    (tells_with c.args.routes.now c.args.class.now c.args.era c.requires.spot c.in_ok-sets.sets _ c.in_ok-sets.ensures c.in-Some.ensures c.in-Some-member.ensures c.opened.ensures.some) h) c.push_sets.ensures.lost

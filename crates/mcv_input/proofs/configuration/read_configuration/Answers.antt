@@ -16,4 +16,4 @@ returns-clause-fault g c =
     let known = g.R.Read.remaining c.args.reader.now in
     let same = c.as_slice.ensures.value in
     let read : IfSome known (λ bytes. c.as_slice.result.now ≡ take read_limit bytes) = subst (λ (text : List ℕ). IfSome known (λ bytes. text ≡ take read_limit bytes)) (sym same) c.in_ok-input.ensures.read in
-    fault_of_known known c.as_slice.result.now c.read_routes.result read c.read_routes.ensures.fault c.read_routes.ensures.large
+    fault_of_known known c.as_slice.result.now c.read_routes.result read c.read_routes.ensures.fault

@@ -1,23 +1,12 @@
-use Rattle.std.proofs.Common.{◌≡◌, ◌∙◌, ◌<◌, List, ℕ, length, option_map, sym, ap, subst}
+use Rattle.std.proofs.Common.{◌≡◌, ◌∙◌, option_map, sym, ap, subst}
 use Rattle.std.proofs.lemmas.Result.{err_from_is_err_and}
-use Rattle.mcv_config.specs.Config.{size_limit}
-use Rattle.mcv_legs.specs.Fault.{IsRunFault, IsTooLong}
+use Rattle.mcv_legs.specs.Fault.{IsRunFault}
 use Rattle.mcv_route.specs.Built.{routes_named}
 use Rattle.mcv_route.specs.Routes.{RoutesValue}
 use Rattle.mcv_route.specs.View.{view}
 use Rattle.mcv_legs.specs.Answer.{entry_for, shipped_choice, situation_at, text_of}
-use Rattle.mcv_legs.proofs.Lines.{one_request}
-use Rattle.mcv_legs.proofs.Told.{not_long, refused_so, text_is_told, the_entry, too_long_so}
+use Rattle.mcv_legs.proofs.Told.{refused_so, text_is_told, the_entry}
 use Rattle.mcv_legs.proofs.legs.answer_text.Goals as goal
-
-pub returns-in_err-routes-clause-large : goal.returns-in_err-routes-clause-large
-returns-in_err-routes-clause-large c = λ op prefix rest configuration asks long.
-    let asked = c.in-Some.asked in
-    let same = one_request c.args.input.now asked.op op asked.prefix asked.rest asked.configuration.now prefix rest configuration c.in-Some.ensures asks in
-    let longer : size_limit < length asked.configuration.now = subst (λ (xs : List ℕ). size_limit < length xs) (sym same.3) long in
-    let fault = c.in_err-routes.ensures.large longer in
-    let gone = err_from_is_err_and c.from_residual.result c.from_residual.ensures.1 in
-    rw (gone.1) (subst IsTooLong (sym gone.2) (too_long_so c.in_err-routes.field-0.0 fault))
 
 pub returns-in_err-routes-clause-fault : goal.returns-in_err-routes-clause-fault
 returns-in_err-routes-clause-fault c =
@@ -25,16 +14,6 @@ returns-in_err-routes-clause-fault c =
     let gone = err_from_is_err_and c.from_residual.result c.from_residual.ensures.1 in
     rw (gone.1) (subst (IsRunFault c.args.input.now) (sym gone.2)
     (refused_so c.args.input.now asked.op asked.prefix asked.rest asked.configuration.now c.in-Some.ensures c.in_err-routes.field-0.0 c.in_err-routes.ensures.fault))
-
-pub returns-in_default-route_for-clause-large : goal.returns-in_default-route_for-clause-large
-returns-in_default-route_for-clause-large c = λ op prefix rest configuration asks long.
-    not_long c.args.input.now c.in-Some.asked.op op c.in-Some.asked.prefix c.in-Some.asked.rest c.in-Some.asked.configuration.now prefix rest configuration c.in-Some.ensures asks
-    c.in_ok-routes.ensures.named.1.0 long
-
-pub returns-in_err-first_text-clause-large : goal.returns-in_err-first_text-clause-large
-returns-in_err-first_text-clause-large c = λ op prefix rest configuration asks long.
-    absurd (not_long c.args.input.now c.in-Some.asked.op op c.in-Some.asked.prefix c.in-Some.asked.rest c.in-Some.asked.configuration.now prefix rest configuration c.in-Some.ensures asks
-    c.in_ok-routes.ensures.named.1.0 long)
 
 pub returns-clause-ok : goal.returns-clause-ok
 returns-clause-ok c =

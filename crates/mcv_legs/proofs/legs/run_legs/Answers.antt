@@ -3,7 +3,6 @@ use Rattle.std.proofs.lemmas.Option.{IfSome_then}
 use Rattle.std.proofs.lemmas.Result.{err_from_is_err_and}
 use Rattle.mcv_legs.specs.Answer.{IsAnswer}
 use Rattle.mcv_legs.specs.Fault.{IsRunFault}
-use Rattle.mcv_legs.specs.Request.{Asks}
 use Rattle.mcv_legs.specs.Limits.{input_limit}
 use Rattle.mcv_legs.proofs.Limits.{answer_of_all, fault_of_all}
 use Rattle.mcv_legs.proofs.legs.run_legs.Goals as goal
@@ -26,6 +25,4 @@ returns-in_err-text-clause-fault g c =
     (subst (λ f. IfSome (g.R.Read.remaining c.args.reader.now) (λ input. IsRunFault input f)) (sym gone.2)
     (IfSome_then (g.R.Read.remaining c.args.reader.now) c.in_ok-input.ensures.read (λ bytes is.
     let read : c.as_slice.result.now ≡ take input_limit bytes = c.as_slice.ensures.value ∙ is in
-    fault_of_all bytes fault (subst (λ (input : List ℕ). IsRunFault input fault) read c.in_err-text.ensures.fault)
-    (λ op prefix rest configuration asks.
-    c.in_err-text.ensures.large op prefix rest configuration (subst (λ (input : List ℕ). Asks input op prefix rest configuration) (sym read) asks)))))
+    fault_of_all bytes fault (subst (λ (input : List ℕ). IsRunFault input fault) read c.in_err-text.ensures.fault))))

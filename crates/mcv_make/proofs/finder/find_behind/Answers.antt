@@ -14,7 +14,7 @@ reading-requires c =
     let g = c.args.gap.now in
     let t = view c.in-Some.route.now in
     let member = subst (λ w. IsMember (class_words t) w (Some c.in_ok-rest.rest)) c.as_slice.ensures.value c.in_ok-rest.ensures in
-    reads c.args.routes.now g c.requires.gap t c.in-Some.ensures c.in_ok-rest.rest member (option_map (λ (m : Moment). m.0) c.opened.result) c.opened.ensures
+    reads c.args.routes.now g c.requires.gap t c.in-Some.ensures c.in_ok-rest.rest member (option_map (λ (m : Moment). m.0) c.opened.result) c.opened.ensures.some
 
 pub returns-clause-told : goal.returns-clause-told
 returns-clause-told c =
@@ -29,7 +29,7 @@ returns-clause-told c =
     let chosen = c.in_ok-choice.ensures in
     let f = finding_at g c.in_ok-key_of.field-0.items c.in_ok-choice.field-0 c.in_ok-op.field-0.op (outcomes_of c.in_ok-op.field-0.legs.items) (outcomes_of c.in_ok-deletes.field-0.items) in
     let is : IsToldWith r c.args.prefix.now f =
-    told r g c.requires.gap t c.in-Some.ensures rest member since c.opened.ensures pool c.in-Some-leaf_at.ensures c.args.prefix.now
+    told r g c.requires.gap t c.in-Some.ensures rest member since c.opened.ensures.some pool c.in-Some-leaf_at.ensures c.args.prefix.now
     c.in_ok-key_of.field-0.items c.in_ok-choice.field-0 c.in_ok-op.field-0.op (outcomes_of c.in_ok-op.field-0.legs.items) (outcomes_of c.in_ok-deletes.field-0.items) chosen.0
     c.rest_fits.ensures c.in_ok-key_of.ensures chosen.1 (chosen.2 ∙ ap (free_indexes chosen.0 g.server.0 pool.symbol g.at 0) symbols)
     c.in_ok-op.ensures.reading c.in_ok-op.ensures.first c.in_ok-op.ensures.led c.in_ok-deletes.ensures in

@@ -7,3 +7,6 @@ returns-clause-met c = kept
 
 pub returns-clause-tears : goal.returns-clause-tears
 returns-clause-tears c = λ log at bytes old new left torn. inr (old, left, torn)
+
+pub returns-clause-shortens : goal.returns-clause-shortens
+returns-clause-shortens c = λ log n old new left cut. inr (old, left, cut)

@@ -42,4 +42,4 @@ returns c =
     found_at c.args.routes.now f c.args.prefix.now c.args.rest t (option_map (λ m. m.0) c.opened-since.result) c.in_ok-number.number c.requires.word c.requires.cut c.rest_fits.ensures
     c.in_ok-number.ensures c.if-number-finding.false c.in_ok-route.ensures
     ((subst (λ (w : List ℕ). IsTrue c.is_class_word.result ↔ IsClassWord (class_words t) c.args.rest w) c.as_slice.ensures.value c.is_class_word.ensures).0 c.if-not-is_class_word.false)
-    (c.opened-since.ensures ((c.era_count.ensures c.args.finding.now.era).0 low))
+    (c.opened-since.ensures.some ((c.era_count.ensures c.args.finding.now.era).0 low))

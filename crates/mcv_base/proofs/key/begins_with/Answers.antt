@@ -2,7 +2,7 @@ use Rattle.std.proofs.Common.{◌≡◌, ◌&&◌, ℕ, Bool, true, false, nat_e
 use Rattle.std.specs.List.{starts_with}
 use Rattle.std.proofs.lemmas.Bool.{eqb-true}
 use Rattle.mcv_base.specs.Key.{begins_with}
-use Rattle.mcv_classes.proofs.table.begins_with.Goals as goal
+use Rattle.mcv_base.proofs.key.begins_with.Goals as goal
 
 same_both_ways : (i j : ℕ) → nat_eq i j ≡ nat_eq j i
 same_both_ways i j = by_tests (nat_eq i j) (nat_eq j i) refl refl
@@ -20,4 +20,4 @@ starts_begins [] (w ∷ word) = refl
 starts_begins (b ∷ bytes) (w ∷ word) = ap₂ (λ c d. c && d) (same_both_ways w b) (starts_begins bytes word)
 
 pub returns : goal.returns
-returns c = c.starts_with.ensures.value ∙ starts_begins c.args.bytes.now c.args.word.now
+returns c = c.starts_with.ensures.value ∙ starts_begins c.args.bytes.now c.args.start.now
