@@ -1,7 +1,21 @@
-//! Tests of `mcv_verdict`, apart from it, so that it isn't proved a second time for them.
+//! Tests of certificates, findings and verdicts, apart from the crates that they call, so that those aren't proved a second time for them.
 #![tactic(auto)]
 
 #[cfg(test)]
+mod certificates;
+#[cfg(test)]
+mod certified;
+#[cfg(test)]
+mod checked;
+#[cfg(test)]
+mod findings;
+#[cfg(test)]
+mod reasons;
+#[cfg(test)]
 mod refused;
 #[cfg(test)]
+mod texts;
+#[cfg(test)]
 mod verdicts;
+#[cfg(test)]
+mod witnesses;
