@@ -1,10 +1,10 @@
 use Rattle.std.proofs.Common.{List, None, inr, map, sym, subst}
 use Rattle.std.proofs.lemmas.Result.{IfErr-weaker, IfOk-weaker, err_from_is_err_and}
 use Rattle.clap.specs.Words.{Text}
-use Rattle.mcv_cli.specs.Program.{IsStop}
-use Rattle.mcv_cli.specs.declared.stop.Stop.{Stop}
-use Rattle.mcv_cli.proofs.Finished.{judging_stop, legs_stop}
-use Rattle.mcv_cli.proofs.program.run_words.Goals as goal
+use Rattle.mcv_command.specs.Program.{IsStop}
+use Rattle.mcv_command.specs.declared.stop.Stop.{Stop}
+use Rattle.mcv_command.proofs.Finished.{judging_stop, legs_stop}
+use Rattle.mcv_command.proofs.program.run_words.Goals as goal
 
 pub returns-in_err-run_legs-in-Ok-Legs-clause-stop : goal.returns-in_err-run_legs-in-Ok-Legs-clause-stop
 returns-in_err-run_legs-in-Ok-Legs-clause-stop g c =

@@ -3,7 +3,7 @@ use Rattle.std.proofs.Common.{◌≡◌, [], ◌∷◌, List, Option, Some, None
 use Rattle.clap.specs.Words.{Row, Text, first_of, one_of}
 use Rattle.clap.specs.declared.error.kind.ErrorKind.TheVariants.{ArgumentConflict, DisplayHelp, InvalidSubcommand, MissingSubcommand, UnknownArgument, ValueValidation}
 use Rattle.clap.proofs.OnLiterals.{clap_on_literals}
-use Rattle.mcv_cli.specs.Words.{faults, named}
+use Rattle.mcv_command.specs.Words.{faults, named}
 
 legs : faults (codes "mcv" ∷ codes "legs" ∷ []) ≡ []
 unfolding clap_on_literals

@@ -1,8 +1,8 @@
 //! The program, over any reader and writer in place of standard input and output, and any files.
 
 ghost use Rattle.std.specs.Prelude.{◌≡◌, ◌≢◌, None, Some, IfErr, IfOk, map};
-ghost use Rattle.mcv_cli.specs.Program.{Held, IsDone, IsJudged, IsJudgingFault, IsStop, ending_of};
-ghost use Rattle.mcv_cli.specs.declared.stop.Stop.TheVariants.{Device};
+ghost use Rattle.mcv_command.specs.Program.{Held, IsDone, IsJudged, IsJudgingFault, IsStop, ending_of};
+ghost use Rattle.mcv_command.specs.declared.stop.Stop.TheVariants.{Device};
 
 use crate::files::NamedFiles;
 use crate::stop::{Ending, Stop};

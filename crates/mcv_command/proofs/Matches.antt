@@ -11,10 +11,10 @@ use Rattle.clap.specs.declared.parser.matches.ArgMatches.{ArgMatches}
 use Rattle.clap.specs.declared.parser.matches.ArgMatches.TheViews.{out-ArgMatches, out-SubCommand}
 use Rattle.clap.specs.declared.parser.matches.SubCommand.{SubCommand}
 use Rattle.clap.specs.Simple.{subcommand_rows}
-use Rattle.mcv_cli.specs.Words.{faults, IsAt, IsFaultOfKind, IsLineFault}
-use Rattle.mcv_cli.proofs.Given.{Passes, at_parser}
-use Rattle.mcv_cli.specs.declared.words.LineFault.{LineFault}
-use Rattle.mcv_cli.specs.declared.words.LineFault.TheVariants.{BadLine, Memory, Help}
+use Rattle.mcv_command.specs.Words.{faults, IsAt, IsFaultOfKind, IsLineFault}
+use Rattle.mcv_command.proofs.Given.{Passes, at_parser}
+use Rattle.mcv_command.specs.declared.words.LineFault.{LineFault}
+use Rattle.mcv_command.specs.declared.words.LineFault.TheVariants.{BadLine, Memory, Help}
 
 inside : {X : Type 0} (a b : X) → Some a ≡ Some b → a ≡ b
 inside a b is = cc

@@ -1,9 +1,9 @@
 use Rattle.std.proofs.Common.{None, sym, subst}
 use Rattle.std.proofs.lemmas.Result.{err_from_is_err_and}
-use Rattle.mcv_cli.specs.Program.{IsJudgingFault}
-use Rattle.mcv_cli.specs.declared.stop.Stop.{Stop}
-use Rattle.mcv_cli.proofs.Finished.{check_stop}
-use Rattle.mcv_cli.proofs.program.judge.Goals as goal
+use Rattle.mcv_command.specs.Program.{IsJudgingFault}
+use Rattle.mcv_command.specs.declared.stop.Stop.{Stop}
+use Rattle.mcv_command.proofs.Finished.{check_stop}
+use Rattle.mcv_command.proofs.program.judge.Goals as goal
 
 pub returns-in_err-verdict-clause-stop : goal.returns-in_err-verdict-clause-stop
 returns-in_err-verdict-clause-stop g c held =

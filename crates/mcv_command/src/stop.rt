@@ -2,8 +2,8 @@
 //! `stop_text`.
 
 ghost use Rattle.std.specs.Prelude.{◌≡◌, Some};
-ghost use Rattle.mcv_cli.specs.Stop.{ended_status, ending_status, of_check, of_input, of_legs, stop_status, stop_text};
-ghost use Rattle.mcv_cli.specs.declared.stop.Stop.TheVariants.{Memory as out_of_memory};
+ghost use Rattle.mcv_command.specs.Stop.{ended_status, ending_status, of_check, of_input, of_legs, stop_status, stop_text};
+ghost use Rattle.mcv_command.specs.declared.stop.Stop.TheVariants.{Memory as out_of_memory};
 
 use mcv_input::InputFault;
 use mcv_legs::RunFault as LegsFault;

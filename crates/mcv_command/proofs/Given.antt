@@ -18,8 +18,8 @@ use Rattle.clap.specs.declared.builder.value_parser.ValueParser.TheVariants as p
 use Rattle.clap.specs.declared.builder.value_parser.Reading.TheVariants.{AsWritten}
 use Rattle.clap.specs.declared.parser.matches.ValueSource.{ValueSource}
 use Rattle.clap.specs.declared.parser.matches.ValueSource.TheVariants.{CommandLine, DefaultValue}
-use Rattle.mcv_cli.specs.Words.{at_rule, faults, legs_app, mcv_app, named}
-use Rattle.mcv_cli.proofs.Taken.{StopsAtCommand, none_below, none_of, some_kind, stop_of, stops_at_command}
+use Rattle.mcv_command.specs.Words.{at_rule, faults, legs_app, mcv_app, named}
+use Rattle.mcv_command.proofs.Taken.{StopsAtCommand, none_below, none_of, some_kind, stop_of, stops_at_command}
 
 abbrev at : Rule
 at = with_index 1 (filled at_rule)

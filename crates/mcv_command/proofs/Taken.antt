@@ -12,7 +12,7 @@ use Rattle.clap.specs.Walk.{after_flag, after_step, answers_to, arg_by_index, ar
 use Rattle.clap.specs.Faults.{check_fault, defaults_fault, entered_fault, level_fault, other_fault, settle_fault, step_fault, turn_fault, walk_fault, word_fault}
 use Rattle.clap.specs.declared.error.kind.ErrorKind.{ErrorKind}
 use Rattle.clap.specs.declared.error.kind.ErrorKind.TheVariants.{DisplayHelp, InvalidSubcommand, MissingSubcommand}
-use Rattle.mcv_cli.specs.Words.{faults, mcv_app, named as named_by}
+use Rattle.mcv_command.specs.Words.{faults, mcv_app, named as named_by}
 
 abbrev pub NamesCommand : List Text → Text → Type 0
 NamesCommand words name = (rows : List Row) × (named_by words ≡ Some (name, rows))

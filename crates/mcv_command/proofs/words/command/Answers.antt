@@ -2,8 +2,8 @@ use Rattle.std.proofs.Common.{◌≡◌, ◌∙◌, ap, ap₂, codes}
 use Rattle.std.proofs.lemmas.Result.{IfOk-weaker}
 use Rattle.clap.specs.Words.{App, app_of, new_app, with_subcommand}
 use Rattle.clap.specs.Simple.{app_of_fields}
-use Rattle.mcv_cli.specs.Words.{check_app, wanting_a_command}
-use Rattle.mcv_cli.proofs.words.command.Goals as goal
+use Rattle.mcv_command.specs.Words.{check_app, wanting_a_command}
+use Rattle.mcv_command.proofs.words.command.Goals as goal
 
 pub returns : goal.returns
 returns c =

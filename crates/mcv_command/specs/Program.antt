@@ -10,13 +10,13 @@ use Rattle.mcv_verdict.specs.Fault as check
 use Rattle.mcv_verdict.specs.Verdict.{IsVerdictOn}
 use Rattle.mcv_verdict.specs.declared.verdict.Verdict.{Verdict}
 use Rattle.mcv_verdict.specs.declared.verdict.Verdict.TheVariants as verdicts
-use Rattle.mcv_cli.specs.Words.{AsksCheck, IsJobOf, IsLineFault, faults}
-use Rattle.mcv_cli.specs.declared.words.Job.TheVariants as jobs
-use Rattle.mcv_cli.specs.declared.words.LineFault.TheVariants as line_fault
-use Rattle.mcv_cli.specs.declared.stop.Ending.{Ending}
-use Rattle.mcv_cli.specs.declared.stop.Ending.TheVariants.{Done, Lost}
-use Rattle.mcv_cli.specs.declared.stop.Stop.{Stop}
-use Rattle.mcv_cli.specs.declared.stop.Stop.TheVariants.{BadLine, Legs, Check, Memory, Device}
+use Rattle.mcv_command.specs.Words.{AsksCheck, IsJobOf, IsLineFault, faults}
+use Rattle.mcv_command.specs.declared.words.Job.TheVariants as jobs
+use Rattle.mcv_command.specs.declared.words.LineFault.TheVariants as line_fault
+use Rattle.mcv_command.specs.declared.stop.Ending.{Ending}
+use Rattle.mcv_command.specs.declared.stop.Ending.TheVariants.{Done, Lost}
+use Rattle.mcv_command.specs.declared.stop.Stop.{Stop}
+use Rattle.mcv_command.specs.declared.stop.Stop.TheVariants.{BadLine, Legs, Check, Memory, Device}
 
 -- what files hold by their names, where that is known
 abbrev pub Held : Type 0

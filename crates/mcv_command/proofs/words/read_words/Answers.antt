@@ -3,11 +3,11 @@ use Rattle.clap.specs.Words.{App, Text, HasKind, fault_of, found_of, is_simple, 
 use Rattle.std.specs.Str.Parse.{ParsesUnsigned, ExplainsUnsignedError, HasUnsignedDigitsIfOk}
 use Rattle.clap.proofs.WalkLemmas.{first_value-rows, one_text-rows}
 use Rattle.clap.proofs.OnLiterals.{clap_on_literals}
-use Rattle.mcv_cli.specs.Words.{mcv_app}
-use Rattle.mcv_cli.proofs.Given.{given}
-use Rattle.mcv_cli.proofs.Matches.{named_rows, name_of_rows, no_number, number_at, fault_of_kind}
-use Rattle.mcv_cli.proofs.Taken.{taken}
-use Rattle.mcv_cli.proofs.words.read_words.Goals as goal
+use Rattle.mcv_command.specs.Words.{mcv_app}
+use Rattle.mcv_command.proofs.Given.{given}
+use Rattle.mcv_command.proofs.Matches.{named_rows, name_of_rows, no_number, number_at, fault_of_kind}
+use Rattle.mcv_command.proofs.Taken.{taken}
+use Rattle.mcv_command.proofs.words.read_words.Goals as goal
 
 simple : is_simple mcv_app ≡ true
 unfolding clap_on_literals

@@ -4,8 +4,8 @@
 ghost use Rattle.std.specs.Prelude.{◌≡◌, false, IfOk, IfErr, map};
 ghost use Rattle.clap.specs.Words.{app_of, kind_of, rule_of};
 ghost use Rattle.clap.specs.declared.builder.command.Command.TheViews.{out-Command as fields_of};
-ghost use Rattle.mcv_cli.specs.Words.{at_rule, cert_rule, check_app, mcv_app, legs_app, line_fault_number, IsFaultOfKind, IsJobOf, IsLineFault};
-ghost use Rattle.mcv_cli.specs.declared.words.LineFault.TheVariants.{Memory as out_of_memory};
+ghost use Rattle.mcv_command.specs.Words.{at_rule, cert_rule, check_app, mcv_app, legs_app, line_fault_number, IsFaultOfKind, IsJobOf, IsLineFault};
+ghost use Rattle.mcv_command.specs.declared.words.LineFault.TheVariants.{Memory as out_of_memory};
 
 use clap::error::ErrorKind;
 use clap::{Arg, Command, Error as ClapError, value_parser};

@@ -7,10 +7,10 @@ use Rattle.clap.specs.Words.{App, IsAmong, Kinds, Row, Rule, Text, fault_of, fir
 use Rattle.clap.specs.declared.builder.value_parser.ValueParser.TheVariants as parsers
 use Rattle.clap.specs.declared.error.kind.ErrorKind.{ErrorKind}
 use Rattle.clap.specs.declared.error.kind.ErrorKind.TheVariants.{DisplayHelp, OutOfMemory}
-use Rattle.mcv_cli.specs.declared.words.Job.{Job}
-use Rattle.mcv_cli.specs.declared.words.Job.TheVariants.{Legs, Check}
-use Rattle.mcv_cli.specs.declared.words.LineFault.{LineFault}
-use Rattle.mcv_cli.specs.declared.words.LineFault.TheVariants.{BadLine, Memory, Help}
+use Rattle.mcv_command.specs.declared.words.Job.{Job}
+use Rattle.mcv_command.specs.declared.words.Job.TheVariants.{Legs, Check}
+use Rattle.mcv_command.specs.declared.words.LineFault.{LineFault}
+use Rattle.mcv_command.specs.declared.words.LineFault.TheVariants.{BadLine, Memory, Help}
 
 -- ---- the commands
 

@@ -13,10 +13,10 @@ use Rattle.mcv_legs.specs.declared.fault.RunFault.TheVariants as legs
 use Rattle.mcv_verdict.specs.Fault as check_fault
 use Rattle.mcv_verdict.specs.declared.fault.RunFault.{RunFault as CheckFault}
 use Rattle.mcv_verdict.specs.declared.fault.RunFault.TheVariants as check
-use Rattle.mcv_cli.specs.declared.stop.Ending.{Ending}
-use Rattle.mcv_cli.specs.declared.stop.Ending.TheVariants.{Done, Lost}
-use Rattle.mcv_cli.specs.declared.stop.Stop.{Stop}
-use Rattle.mcv_cli.specs.declared.stop.Stop.TheVariants.{BadLine, Legs, Check, Memory, Device}
+use Rattle.mcv_command.specs.declared.stop.Ending.{Ending}
+use Rattle.mcv_command.specs.declared.stop.Ending.TheVariants.{Done, Lost}
+use Rattle.mcv_command.specs.declared.stop.Stop.{Stop}
+use Rattle.mcv_command.specs.declared.stop.Stop.TheVariants.{BadLine, Legs, Check, Memory, Device}
 
 abbrev pub memory_text : Text
 memory_text = codes "mcv: out of memory"

@@ -21,12 +21,12 @@ use Rattle.mcv_verdict.specs.declared.verdict.Verdict.{Verdict}
 use Rattle.mcv_verdict.specs.declared.verdict.Verdict.TheVariants.{Covered, Lost}
 use Rattle.mcv_cert.specs.declared.fault.CertFault.{CertFault}
 use Rattle.mcv_cert.specs.declared.fault.CertFault.TheVariants as text_faults
-use Rattle.mcv_cli.specs.declared.stop.Stop.{Stop}
-use Rattle.mcv_cli.specs.declared.stop.Stop.TheVariants.{BadLine, Legs, Check, Memory, Device}
-use Rattle.mcv_cli.specs.declared.words.Job.TheVariants as jobs
-use Rattle.mcv_cli.specs.Program.{Held, IfGiven, IsJudgingFault, IsStop}
-use Rattle.mcv_cli.specs.Stop.{of_check, of_input, of_legs}
-use Rattle.mcv_cli.specs.Words.{AsksCheck, IsJobOf}
+use Rattle.mcv_command.specs.declared.stop.Stop.{Stop}
+use Rattle.mcv_command.specs.declared.stop.Stop.TheVariants.{BadLine, Legs, Check, Memory, Device}
+use Rattle.mcv_command.specs.declared.words.Job.TheVariants as jobs
+use Rattle.mcv_command.specs.Program.{Held, IfGiven, IsJudgingFault, IsStop}
+use Rattle.mcv_command.specs.Stop.{of_check, of_input, of_legs}
+use Rattle.mcv_command.specs.Words.{AsksCheck, IsJobOf}
 
 -- ---- the faults of legs and of a verdict, as the program's
 

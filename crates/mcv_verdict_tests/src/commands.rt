@@ -1,8 +1,8 @@
+//! Command lines, their help, and what the program writes for an input.
+
 ghost use Rattle.std.specs.Prelude.{None};
 
-use super::*;
-use crate::files::NamedFiles;
-use crate::words::{Job, LineFault, read_words};
+use mcv_command::{Job, LineFault, NamedFiles, read_words, run_words};
 use mcv_input::{InputFault, read_at_most};
 use std::alloc::{AllocError, Global};
 use std::test::Fail;
@@ -93,7 +93,7 @@ fn help(alloc: Global, words: &[&str]) -> Result<String, AllocError> {
 
 #[test]
 fn help_names_input_and_exit_statuses(rt: HostRuntime) -> Result<(), Fail> {
-    let text = help(rt.alloc(), &["mcv_cli", "--help"])?;
+    let text = help(rt.alloc(), &["mcv", "--help"])?;
     for part in [
         "Usage: mcv <COMMAND>",
         "mcrouter",
@@ -105,7 +105,7 @@ fn help_names_input_and_exit_statuses(rt: HostRuntime) -> Result<(), Fail> {
     ] {
         assert!(rt; text.as_str().contains(part), "{text}");
     }
-    let text = help(rt.alloc(), &["mcv_cli", "check", "--help"])?;
+    let text = help(rt.alloc(), &["mcv", "check", "--help"])?;
     for part in [
         "Usage: mcv check [--cert FILE] < FILE",
         "--cert <FILE>",
@@ -121,7 +121,7 @@ fn help_names_input_and_exit_statuses(rt: HostRuntime) -> Result<(), Fail> {
     ] {
         assert!(rt; text.as_str().contains(part), "{text}");
     }
-    let text = help(rt.alloc(), &["mcv_cli", "legs", "--help"])?;
+    let text = help(rt.alloc(), &["mcv", "legs", "--help"])?;
     for part in [
         "Usage: mcv legs [--at SECONDS] < FILE",
         "--at <SECONDS>",

@@ -1,12 +1,12 @@
 use Rattle.std.proofs.Common.{◌≡◌, ℕ, List, Some, take, sym, subst}
 use Rattle.std.specs.Prelude.{IfSome}
 use Rattle.std.proofs.lemmas.Result.{err_from_is_err_and}
-use Rattle.mcv_cli.specs.Program.{Held, IsJudgingFault}
-use Rattle.mcv_cli.specs.declared.stop.Stop.{Stop}
-use Rattle.mcv_cli.proofs.Finished.{check_stop, fault_by_all, given_all, outside_stop, read_limit, verdict_by_all}
+use Rattle.mcv_command.specs.Program.{Held, IsJudgingFault}
+use Rattle.mcv_command.specs.declared.stop.Stop.{Stop}
+use Rattle.mcv_command.proofs.Finished.{check_stop, fault_by_all, given_all, outside_stop, read_limit, verdict_by_all}
 use Rattle.mcv_verdict.specs.Fault as check
 use Rattle.mcv_verdict.specs.Verdict.{IsVerdictOn}
-use Rattle.mcv_cli.proofs.program.judge_by.Goals as goal
+use Rattle.mcv_command.proofs.program.judge_by.Goals as goal
 
 pub returns-in_err-text-clause-stop : goal.returns-in_err-text-clause-stop
 returns-in_err-text-clause-stop g c =
