@@ -1,11 +1,10 @@
 -- The definitions at small values.
-use Rattle.std.proofs.Common.{◌≡◌, ◌+◌, ◌-◌, ◌^◌, ◌⊎◌, inl, inr, ℕ, Bool, true, false, nat_eq, nat_le, Option, Some, None, refl, sym, ap, subst, ◌∙◌}
+use Rattle.std.proofs.Common.{◌≡◌, ◌-◌, ◌^◌, inl, inr, ℕ, Bool, true, false, nat_le, Option, Some, None, refl, sym, ap, subst, ◌∙◌}
 use Rattle.std.proofs.lemmas.Bool.{cases_eq}
 use Rattle.mcv_queues.specs.declared.leg.Leg.{Leg}
 use Rattle.mcv_queues.specs.declared.leg.State.{State}
-use Rattle.mcv_queues.specs.declared.leg.State.TheVariants.{Waiting, Sent, Held, Refused, InSpool, InReplay}
-use Rattle.mcv_queues.specs.declared.roots.Group.TheVariants.{WaitingFor, SpooledFor, HeldLegs, RefusedLegs, LegsInReplay}
-use Rattle.mcv_queues.specs.declared.marks.Mark.{Mark}
+use Rattle.mcv_queues.specs.declared.leg.State.TheVariants.{Waiting, Sent, Held, Refused, InSpool}
+use Rattle.mcv_queues.specs.declared.roots.Group.TheVariants.{WaitingFor, HeldLegs}
 use Rattle.mcv_queues.specs.Numbers.{put, IsLeast}
 use Rattle.mcv_queues.specs.Legs.{is_in_flight, is_in_flight_to, with_state}
 use Rattle.mcv_queues.specs.Groups.{group_of, is_group, is_in, IsFirstHeld}

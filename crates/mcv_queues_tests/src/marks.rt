@@ -6,6 +6,7 @@ use std::process::Abort;
 use std::test::Fail;
 
 const FIRST: ServerId = ServerId(0);
+
 const SECOND: ServerId = ServerId(1);
 
 #[test]
