@@ -47,7 +47,7 @@ cases_names o n = elim (bool_cases (names o n)) [
   | inr e ↦ inr (λ q. apart_bool (names o n) (some_names o n q) e)
 ]
 
--- ---- where a number stands in a forest
+-- ---- where a number hangs in a forest
 
 pub data Placed (w : ℕ → Bool) (f : ℕ → Option Link) (a b c : Option ℕ) (n : ℕ) : Type 0 where
   is_first : a ≡ Some n → Placed w f a b c n
