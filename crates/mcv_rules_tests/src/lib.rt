@@ -1,13 +1,5 @@
-//! Tests of what a route sends and replies, for one request and for whole classes of them, apart from the crates that they call, so that those aren't proved a second time for them.
+//! Tests of `mcv_rules`, apart from it, so that it isn't proved a second time for them.
 #![tactic(auto)]
 
 #[cfg(test)]
-mod legs;
-#[cfg(test)]
-mod listing;
-#[cfg(test)]
-mod rules;
-#[cfg(test)]
-mod symbolic;
-#[cfg(test)]
-mod words;
+mod rows;
