@@ -202,6 +202,7 @@ pending_or_done t file whole kept r k number = by_done (is_done (get_or (slots f
   where
     there : k < length (map waiting (slots file))
     there = omega (arith, number.0, length-map (slots file) waiting, length-map (slots file) read_record, ap length whole.0, length-map (t.found ++ t.stored) Some)
+
     by_done : (b : Bool) → is_done (get_or (slots file) k []) ≡ b → Contains t.done k ⊎ Contains (numbered 0 (map waiting (slots file))) (k, r)
     by_done true is = inl (kept.done k is)
     by_done false is = let same : 0 + k ≡ k = omega arith in

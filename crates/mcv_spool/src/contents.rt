@@ -15,7 +15,7 @@ pub(crate) const SLOT_SIZE: usize = 640;
 /// The most slots of a file.
 pub(crate) const SLOT_LIMIT: usize = 1_000_000;
 
-/// What is kept of a slot: its record while it is pending, and nothing once it is done. It takes the room of a pointer.
+/// What is kept of a slot: its record while it is pending, on the heap, and nothing once it is done.
 #[derive(Drop)]
 pub(crate) struct Slot {
     record: Option<Box<SpoolRecord>>,

@@ -24,7 +24,8 @@ fn settle<D: Disk>(disk: &mut D) -> Result<usize, DiskFailed>
 {
     disk.renew()?;
     disk.sync()?;
-    disk.len()
+    let len = disk.len()?;
+    Ok(len)
 }
 
 /// Closes the end gate, where it isn't closed.

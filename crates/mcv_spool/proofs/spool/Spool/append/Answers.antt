@@ -11,7 +11,7 @@ invariant_of-self-2 g c = record {
       let known = (c.args.self.now.settled model c.if-self.false).found in
       let old = c.args.self.now.contents in
       settled_append (g.D.Disk.seen c.args.self.now.disk) (g.D.Disk.seen c.write_record.new.disk) (g.D.Disk.may_leave c.write_record.new.disk) old.pending.items c.args.delete known
-      c.in_ok-write_record.ensures.reads (omega (arith, c.count.ensures.value, c.if-count-ge-SLOT_LIMIT.false)) (c.in_ok-write_record.ensures.slots model) (c.in_ok-write_record.ensures.closed model) (c.in_ok-write_record.ensures.durable model)
+      c.in_ok-write_record.ensures.reads (omega (arith, c.count-count.ensures.value, c.if-count-ge-SLOT_LIMIT.false)) (c.in_ok-write_record.ensures.slots model) (c.in_ok-write_record.ensures.closed model) (c.in_ok-write_record.ensures.durable model)
       c.add.new.self.pending.items (c.add.ensures ∙ (λ i. c.reserve.ensures.pending i ++ (c.in_ok-slot.ensures ∙ ap Some c.copied.ensures) i ∷ []));
 }
 
@@ -36,14 +36,14 @@ returns-in_err-write_record-clause-step g c =
     let gone = err_from_is_err_and c.from_residual-in_err-write_record.result c.from_residual-in_err-write_record.ensures.1 in
     rw (gone.1, gone.2) (λ model.
     let known = (c.args.self.now.settled model c.if-self.false).found in
-    let room : length (slots (g.D.Disk.seen c.args.self.now.disk)) < 1000000 = omega (arith, counted_slots _ _ known, c.count.ensures.value, c.if-count-ge-SLOT_LIMIT.false) in
+    let room : length (slots (g.D.Disk.seen c.args.self.now.disk)) < 1000000 = omega (arith, counted_slots _ _ known, c.count-count.ensures.value, c.if-count-ge-SLOT_LIMIT.false) in
     Call.not_stored c.args.delete (world c.args.self.now.disk c.args.self.now.needs_reopen) (world c.write_record.new.disk true) (ap not c.if-self.false)
     (record { reads = c.write_record.ensures.reads; room = room; any_moment = c.write_record.ensures.any_moment model }) refl)
 
 pub returns-clause-step : goal.returns-clause-step
 returns-clause-step g c = λ model.
     let known = (c.args.self.now.settled model c.if-self.false).found in
-    let room : length (slots (g.D.Disk.seen c.args.self.now.disk)) < 1000000 = omega (arith, counted_slots _ _ known, c.count.ensures.value, c.if-count-ge-SLOT_LIMIT.false) in
+    let room : length (slots (g.D.Disk.seen c.args.self.now.disk)) < 1000000 = omega (arith, counted_slots _ _ known, c.count-count.ensures.value, c.if-count-ge-SLOT_LIMIT.false) in
     Call.stored c.args.delete (world c.args.self.now.disk c.args.self.now.needs_reopen) (world c.write_record.new.disk false) (ap not c.if-self.false)
     (record {
       writes = record { reads = c.write_record.ensures.reads; room = room; any_moment = c.write_record.ensures.any_moment model };

@@ -1,4 +1,4 @@
-use Rattle.std.proofs.Common.{⊎_elim, inl, inr, ap, sym, ◌∙◌, subst, not, IfOk, List, Result, Ok, Err, Vec, ℕ}
+use Rattle.std.proofs.Common.{⊎_elim, inl, inr, ap, sym, ◌∙◌, subst, not, IfOk, List, Result, Ok, Err, ℕ}
 use Rattle.mcv_spool.specs.File.{numbered}
 use Rattle.std.specs.List.{Contains}
 use Rattle.mcv_spool.specs.History.{world}
@@ -6,7 +6,7 @@ use Rattle.mcv_spool.specs.declared.record.SpoolRecord.{SpoolRecord}
 use Rattle.mcv_spool.proofs.Histories.{pending_or_done, sound}
 use Rattle.mcv_spool.proofs.spool.Spool.pending.Goals as goal
 
-listed : {E X : Type 0} (r : Result (Vec X) E) (P Q : Vec X → Type 0) → IfOk r P → ((v : Vec X) → P v → Q v) → IfOk r Q
+listed : {E V : Type 0} (r : Result V E) (P Q : V → Type 0) → IfOk r P → ((v : V) → P v → Q v) → IfOk r Q
 listed (Ok v) P Q h f = f v h
 listed (Err e) P Q h f = h
 
