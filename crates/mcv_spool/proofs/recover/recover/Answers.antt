@@ -7,17 +7,17 @@ use Rattle.mcv_spool.proofs.Moments.{after_quiet, after_run, started}
 use Rattle.mcv_spool.proofs.Settled.{counted_slots}
 use Rattle.mcv_spool.proofs.recover.recover.Goals as goal
 
-pub returns-in_err-settle-clause-any_moment : goal.returns-in_err-settle-clause-any_moment
-returns-in_err-settle-clause-any_moment g c = λ model.
+pub returns-in_err-len-clause-any_moment : goal.returns-in_err-len-clause-any_moment
+returns-in_err-len-clause-any_moment g c = λ model.
     let old = c.args.disk.now in
     let P = HasSlotsOf (g.D.Disk.may_leave old) in
     after_quiet g.D.Disk.seen g.D.Disk.may_leave g.D.Disk.moment g.D.Disk.left_since old old c.settle.new.disk P (started g.D.Disk.seen g.D.Disk.may_leave g.D.Disk.moment g.D.Disk.left_since old P) (c.settle.ensures.quiet model)
 
-pub returns-in_err-settle-clause-slots : goal.returns-in_err-settle-clause-slots
-returns-in_err-settle-clause-slots g c = λ model. ap slots (c.settle.ensures.quiet model).same
+pub returns-in_err-len-clause-slots : goal.returns-in_err-len-clause-slots
+returns-in_err-len-clause-slots g c = λ model. ap slots (c.settle.ensures.quiet model).same
 
-pub returns-in_err-settle-clause-unwritten : goal.returns-in_err-settle-clause-unwritten
-returns-in_err-settle-clause-unwritten g c =
+pub returns-in_err-len-clause-unwritten : goal.returns-in_err-len-clause-unwritten
+returns-in_err-len-clause-unwritten g c =
     let gone = err_from_is_err_and c.from_residual.result c.from_residual.ensures.1 in
     rw (gone.1) (λ model other. (c.settle.ensures.quiet model).same)
 
