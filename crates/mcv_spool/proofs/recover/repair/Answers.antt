@@ -11,3 +11,9 @@ returns-clause-slots g c = λ model.
     mid c.close.new.disk (λ (f : List ℕ). slots f ≡ slots (g.D.Disk.seen mid)) (c.close.ensures.any_moment model)
     (λ f left. ap slots (c.requires.durable model f (quiet.crash f left) ∙ sym quiet.same))
     ∙ ap slots quiet.same
+
+pub returns-in_err-is_closed-clause-slots : goal.returns-in_err-is_closed-clause-slots
+returns-in_err-is_closed-clause-slots g c = λ model. ap slots (c.is_closed.ensures.quiet model).same
+
+pub returns-then-branch-clause-slots : goal.returns-then-branch-clause-slots
+returns-then-branch-clause-slots g c = λ model. ap slots (c.is_closed.ensures.quiet model).same
