@@ -3,16 +3,9 @@
 #![tactic(auto)]
 
 ghost use Rattle.std.specs.Prelude.{◌≡◌, ◌⊎◌, IfErr};
-ghost use Rattle.mcv_cli.specs.declared.stop.Stop.TheVariants.{BadLine, Memory as out_of_memory};
+ghost use Rattle.mcv_command.specs.declared.stop.Stop.TheVariants.{BadLine, Memory as out_of_memory};
 
-mod files;
-mod program;
-mod stop;
-mod words;
-
-use crate::files::SystemFiles;
-use crate::program::run_words;
-use crate::stop::{Ending, Stop, exit_status};
+use mcv_command::{Ending, Stop, SystemFiles, exit_status, run_words};
 use std::fs::Files;
 use std::process::ExitCode;
 use std::rt::Env;
@@ -49,6 +42,3 @@ fn run<R: Env + AllocGlobal + Input + Print + Files>(rt: &R) -> Result<Ending, S
         &mut io::writer(rt),
     )
 }
-
-#[cfg(test)]
-mod tests;

@@ -1,4 +1,4 @@
-//! Tests of certificates, findings and verdicts, apart from the crates that they call, so that those aren't proved a second time for them.
+//! Tests of certificates, findings, verdicts and the commands, apart from the crates that they call, so that those aren't proved a second time for them.
 #![tactic(auto)]
 
 #[cfg(test)]
@@ -7,6 +7,8 @@ mod certificates;
 mod certified;
 #[cfg(test)]
 mod checked;
+#[cfg(test)]
+mod commands;
 #[cfg(test)]
 mod findings;
 #[cfg(test)]

@@ -1,0 +1,108 @@
+-- What the program did, by what the words asked for.
+use Rattle.std.proofs.Common.{◌≡◌, ◌∙◌, ◌+◌, ◌<◌, ◌≤◌, ℕ, List, length, take, Option, None, Some, subst, sym, arith}
+use Rattle.std.specs.Prelude.{IfSome, MatchOption}
+use Rattle.std.proofs.lemmas.List.{length-take}
+use Rattle.std.proofs.lemmas.Option.{IfSome_then}
+use Rattle.clap.specs.Words.{Text}
+use Rattle.mcv_base.specs.declared.request.Moment.{Moment}
+use Rattle.mcv_cert.specs.Reading.{Reading, Says, headless, over, reads, text_limit}
+use Rattle.mcv_input.proofs.Whole.{whole}
+use Rattle.mcv_input.specs.Fault.{IsOutside}
+use Rattle.mcv_input.specs.declared.fault.InputFault.{InputFault}
+use Rattle.mcv_input.specs.declared.fault.InputFault.TheVariants as input_faults
+use Rattle.mcv_legs.specs.Fault as legs
+use Rattle.mcv_legs.specs.declared.fault.RunFault.{RunFault as LegsFault}
+use Rattle.mcv_legs.specs.declared.fault.RunFault.TheVariants as legs_faults
+use Rattle.mcv_verdict.specs.Fault as check
+use Rattle.mcv_verdict.specs.Verdict.{IsVerdictOn}
+use Rattle.mcv_verdict.specs.declared.fault.RunFault.{RunFault as CheckFault}
+use Rattle.mcv_verdict.specs.declared.fault.RunFault.TheVariants as check_faults
+use Rattle.mcv_verdict.specs.declared.verdict.Verdict.{Verdict}
+use Rattle.mcv_verdict.specs.declared.verdict.Verdict.TheVariants.{Covered, Lost}
+use Rattle.mcv_cert.specs.declared.fault.CertFault.{CertFault}
+use Rattle.mcv_cert.specs.declared.fault.CertFault.TheVariants as text_faults
+use Rattle.mcv_command.specs.declared.stop.Stop.{Stop}
+use Rattle.mcv_command.specs.declared.stop.Stop.TheVariants.{BadLine, Legs, Check, Memory, Device}
+use Rattle.mcv_command.specs.declared.words.Job.TheVariants as jobs
+use Rattle.mcv_command.specs.Program.{Held, IfGiven, IsJudgingFault, IsStop}
+use Rattle.mcv_command.specs.Stop.{of_check, of_input, of_legs}
+use Rattle.mcv_command.specs.Words.{AsksCheck, IsJobOf}
+
+-- ---- the faults of legs and of a verdict, as the program's
+
+pub legs_stop : (words : List Text) (held : Held) (input : Option Text) (at : Moment) (fault : LegsFault) → IsJobOf words (jobs.Legs at)
+    → IfSome input (λ bytes. legs.IsRunFault bytes fault) → IsStop words held input (of_legs fault)
+legs_stop words held input at legs_faults.Line is stands = (at, is, stands)
+legs_stop words held input at legs_faults.NoRoute is stands = (at, is, stands)
+legs_stop words held input at (legs_faults.Config fault) is stands = (at, is, stands)
+legs_stop words held input at legs_faults.Memory is stands = tt
+legs_stop words held input at legs_faults.Device is stands = tt
+
+pub check_stop : (held : Held) (cert : Option Text) (input : Option Text) (fault : CheckFault) → IfSome input (λ bytes. IfGiven held cert (λ certificate. check.IsRunFault bytes certificate fault))
+    → IsJudgingFault held cert input (of_check fault)
+check_stop held cert input (check_faults.Config fault) stands = stands
+check_stop held cert input (check_faults.CertificateText fault) stands = stands
+check_stop held cert input (check_faults.Certificate fault) stands = stands
+check_stop held cert input check_faults.Memory stands = tt
+check_stop held cert input check_faults.Device stands = tt
+
+pub outside_stop : (held : Held) (cert : Option Text) (input : Option Text) (fault : InputFault) → IsOutside fault → IsJudgingFault held cert input (of_input fault)
+outside_stop held cert input (input_faults.Config fault) out = absurd out
+outside_stop held cert input input_faults.Memory out = tt
+outside_stop held cert input input_faults.Device out = tt
+
+pub judging_stop : (words : List Text) (held : Held) (input : Option Text) (cert : Option Text) (stop : Stop) → AsksCheck words cert → IsJudgingFault held cert input stop
+    → IsStop words held input stop
+judging_stop words held input cert BadLine asks stands = absurd stands
+judging_stop words held input cert (Legs fault) asks stands = absurd stands
+judging_stop words held input cert (Check fault) asks stands = (cert, asks, stands)
+judging_stop words held input cert Memory asks stands = tt
+judging_stop words held input cert Device asks stands = tt
+
+-- ---- a certificate's text by its first bytes
+
+abbrev pub read_limit : ℕ
+read_limit = text_limit + 1
+
+says_all : (text first : List ℕ) (r : Reading) → first ≡ take read_limit text → Says first r → Says text r
+says_all text first r is (over long) =
+    let cut : length (take read_limit text) ≤ length text = omega (arith, length-take read_limit text) in
+    let more : length first ≤ length text = subst (λ (xs : List ℕ). length xs ≤ length text) (sym is) cut in
+    over (omega arith)
+says_all text first r is (headless short none) =
+    let same : first ≡ text = is ∙ whole read_limit text (subst (λ (xs : List ℕ). length xs < read_limit) is (omega arith)) in
+    subst (λ (xs : List ℕ). Says xs r) same (headless short none)
+says_all text first r is (reads body s short starts behind) =
+    let same : first ≡ text = is ∙ whole read_limit text (subst (λ (xs : List ℕ). length xs < read_limit) is (omega arith)) in
+    subst (λ (xs : List ℕ). Says xs s) same (reads body s short starts behind)
+
+pub verdict_by_all : (input text first : List ℕ) (verdict : Verdict) (written : List ℕ) → first ≡ take read_limit text → IsVerdictOn input (Some first) verdict written
+    → IsVerdictOn input (Some text) verdict written
+verdict_by_all input text first (Covered n) written is on = (on.0, on.1, (on.2.0, says_all text first _ is on.2.1, on.2.2, on.2.3, on.2.4))
+verdict_by_all input text first Lost written is on = absurd on.2
+
+text_fault_by_all : (text first : List ℕ) (fault : CertFault) → first ≡ take read_limit text → check.IsTextFault first fault → check.IsTextFault text fault
+text_fault_by_all text first (text_faults.Syntax line) is says = says_all text first _ is says
+text_fault_by_all text first (text_faults.Order line) is says = says_all text first _ is says
+text_fault_by_all text first text_faults.Limit is says = says_all text first _ is says
+text_fault_by_all text first text_faults.Memory is says = says
+
+pub fault_by_all : (input text first : List ℕ) (fault : CheckFault) → first ≡ take read_limit text → check.IsRunFault input (Some first) fault → check.IsRunFault input (Some text) fault
+fault_by_all input text first (check_faults.Config fault) is stands = stands
+fault_by_all input text first (check_faults.CertificateText fault) is stands = (stands.0, stands.1, text_fault_by_all text first fault is stands.2)
+fault_by_all input text first (check_faults.Certificate fault) is stands = (stands.0, stands.1, (stands.2.0, says_all text first _ is stands.2.1, stands.2.2))
+fault_by_all input text first check_faults.Memory is stands = tt
+fault_by_all input text first check_faults.Device is stands = tt
+
+-- what follows from the first bytes of a file follows from what it holds; where that isn't known, these are some bytes
+given_one : (known : Option Text) (first : List ℕ) (P : Option Text → Type 0) → IfSome known (λ all. first ≡ take read_limit all)
+    → ((all : List ℕ) → first ≡ take read_limit all → P (Some first) → P (Some all)) → P (Some first)
+    → MatchOption known ((bytes : Text) × P (Some bytes)) (λ text. P (Some text))
+given_one None first P read more here = (first, here)
+given_one (Some all) first P read more here = more all read here
+
+pub given_all : (held : Held) (name : Text) (first : List ℕ) (input : Option Text) (P : List ℕ → Option Text → Type 0) → IfSome (held name) (λ all. first ≡ take read_limit all)
+    → ((bytes all : List ℕ) → first ≡ take read_limit all → P bytes (Some first) → P bytes (Some all)) → IfSome input (λ bytes. P bytes (Some first))
+    → IfSome input (λ bytes. IfGiven held (Some name) (P bytes))
+given_all held name first input P read more stands =
+    IfSome_then input stands (λ bytes here. given_one (held name) first (P bytes) read (λ all is was. more bytes all is was) here)

@@ -1,0 +1,66 @@
+-- What clap's matches and errors say of the words.
+use Rattle.std.proofs.Common.{◌≡◌, ◌∙◌, ◌⊎◌, inl, inr, ℕ, List, Option, Some, None, false, codes, refl, ap, ap₂, subst, sym}
+use Rattle.std.specs.Prelude.{Box, Result, Ok, Err, option_map}
+use Rattle.std.specs.Str.Parse.{ParsesUnsigned}
+use Rattle.std.specs.Box.{box_value}
+use Rattle.clap.specs.Words.{IsAmong, ReadsOne, Row, Text, one_of, subcommand_rows_of, subcommand_name_of}
+use Rattle.clap.proofs.ValueTestLemmas.{accepts-Accepts}
+use Rattle.clap.specs.declared.error.kind.ErrorKind.{ErrorKind}
+use Rattle.clap.specs.declared.error.kind.ErrorKind.TheVariants.{OutOfMemory}
+use Rattle.clap.specs.declared.parser.matches.ArgMatches.{ArgMatches}
+use Rattle.clap.specs.declared.parser.matches.ArgMatches.TheViews.{out-ArgMatches, out-SubCommand}
+use Rattle.clap.specs.declared.parser.matches.SubCommand.{SubCommand}
+use Rattle.clap.specs.Simple.{subcommand_rows}
+use Rattle.mcv_command.specs.Words.{faults, IsAt, IsFaultOfKind, IsLineFault}
+use Rattle.mcv_command.proofs.Given.{Passes, at_parser}
+use Rattle.mcv_command.specs.declared.words.LineFault.{LineFault}
+use Rattle.mcv_command.specs.declared.words.LineFault.TheVariants.{BadLine, Memory, Help}
+
+inside : {X : Type 0} (a b : X) → Some a ≡ Some b → a ≡ b
+inside a b is = cc
+
+some_pair : (o : Option (Text × List Row)) (name : Text) (rows : List Row) → option_map (λ p. p.0) o ≡ Some name → option_map (λ p. p.1) o ≡ Some rows
+    → o ≡ Some (name, rows)
+some_pair None name rows is at = absurd (cc)
+some_pair (Some p) name rows is at =
+    let pair : Text → List Row → Option (Text × List Row) = λ (a : Text) (b : List Row). Some (a, b) in
+    ap₂ pair (inside p.0 name is) (inside p.1 rows at)
+
+name_part : {Z : Type 0} (o : Option (Box SubCommand Z)) → option_map (λ p. p.0) (subcommand_rows o) ≡ option_map (λ b. (out-SubCommand (box_value b)).name.now) o
+name_part None = refl
+name_part (Some b) = refl
+
+-- the subcommand with this name, and the rows of its matches
+pub named_rows : (m : ArgMatches) (name : Text) (rows : List Row) → subcommand_name_of m ≡ Some name → option_map (λ p. p.1) (subcommand_rows_of m) ≡ Some rows
+    → subcommand_rows_of m ≡ Some (name, rows)
+named_rows m name rows is at = some_pair (subcommand_rows_of m) name rows (name_part (out-ArgMatches m).subcommand ∙ is) at
+
+pub name_of_rows : (m : ArgMatches) (name : Text) (rows : List Row) → subcommand_rows_of m ≡ Some (name, rows) → subcommand_name_of m ≡ Some name
+name_of_rows m name rows is = sym (name_part (out-ArgMatches m).subcommand) ∙ ap (λ (o : Option (Text × List Row)). option_map (λ p. p.0) o) is
+
+-- a fault by clap's kind is one of the words, where that kind stands among theirs
+pub fault_of_kind : (words : List Text) (kind : ErrorKind) (fault : LineFault) → (kind ≡ OutOfMemory) ⊎ IsAmong kind (faults words) → IsFaultOfKind kind fault
+    → IsLineFault words fault
+fault_of_kind words kind BadLine (inl memory) by = absurd (by.0 memory)
+fault_of_kind words kind BadLine (inr among) by = (kind, by.1, among)
+fault_of_kind words kind Memory among by = tt
+fault_of_kind words kind (Help text) (inl memory) by = absurd (cc)
+fault_of_kind words kind (Help text) (inr among) by = subst (λ (k : ErrorKind). IsAmong k (faults words)) by among
+
+-- ---- the number of `--at`
+
+abbrev ReadsNumbers : {E : Type 0} → (List ℕ → Result ℕ E → Type 0) → Type 0
+ReadsNumbers {E} G = (t : List ℕ) (x : Result ℕ E) → G t x → ParsesUnsigned 64 10 t x
+
+-- a value that the parser of `--at` takes is read as a number
+pub no_number : {E : Type 0} (G : List ℕ → Result ℕ E → Type 0) (text : List ℕ) → ReadsNumbers G → Passes text → ReadsOne G text None → ⊥
+no_number G text only passes read =
+    let takes = accepts-Accepts false at_parser text passes in
+    only text (Err read.0) read.1 (takes.0, takes.1)
+
+-- .. and as the one that it spells
+pub number_at : {E : Type 0} (G : List ℕ → Result ℕ E → Type 0) (rows : List Row) (text : List ℕ) (n : ℕ) → ReadsNumbers G → one_of (codes "at") rows ≡ Some text
+    → ReadsOne G text (Some n) → IsAt rows n
+number_at G rows text n only is read =
+    let spelt = only text (Ok n) read in
+    (text, is, spelt.0.0, spelt.1)

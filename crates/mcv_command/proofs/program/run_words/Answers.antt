@@ -1,0 +1,31 @@
+use Rattle.std.proofs.Common.{List, None, inr, map, sym, subst}
+use Rattle.std.proofs.lemmas.Result.{IfErr-weaker, IfOk-weaker, err_from_is_err_and}
+use Rattle.clap.specs.Words.{Text}
+use Rattle.mcv_command.specs.Program.{IsStop}
+use Rattle.mcv_command.specs.declared.stop.Stop.{Stop}
+use Rattle.mcv_command.proofs.Finished.{judging_stop, legs_stop}
+use Rattle.mcv_command.proofs.program.run_words.Goals as goal
+
+pub returns-in_err-run_legs-in-Ok-Legs-clause-stop : goal.returns-in_err-run_legs-in-Ok-Legs-clause-stop
+returns-in_err-run_legs-in-Ok-Legs-clause-stop g c =
+    let words : List Text = map (λ w. w.now) c.args.words.now in
+    let held = g.F.NamedFiles.held c.args.files.now in
+    let asks = rw c.in-Ok-Legs.field-0-is at c.in-Ok-Legs.ensures.job in
+    let gone = err_from_is_err_and c.from_residual.result c.from_residual.ensures.1 in
+    rw (gone.1)
+    (subst (λ (stop : Stop). IsStop words held (g.R.Read.remaining c.args.reader.now) stop) (sym gone.2)
+    (legs_stop words held (g.R.Read.remaining c.args.reader.now) c.in-Ok-Legs.at c.in_err-run_legs-in-Ok-Legs.field-0.0 asks c.in_err-run_legs-in-Ok-Legs.ensures.fault))
+
+pub returns-in-Ok-Check-None-clause-done : goal.returns-in-Ok-Check-None-clause-done
+returns-in-Ok-Check-None-clause-done g c =
+    let held = g.F.NamedFiles.held c.args.files.now in
+    let asks = rw (c.in-Ok-Check-None.field-0-is, c.in-Ok-Check-None.field-0-0-is) at c.in-Ok-Check-None.ensures.job in
+    IfOk-weaker c.judge.result _ _ (λ ending judged. inr (inr (None, asks, judged))) (c.judge.ensures.done held)
+
+pub returns-in-Ok-Check-None-clause-stop : goal.returns-in-Ok-Check-None-clause-stop
+returns-in-Ok-Check-None-clause-stop g c =
+    let words : List Text = map (λ w. w.now) c.args.words.now in
+    let held = g.F.NamedFiles.held c.args.files.now in
+    let known = g.R.Read.remaining c.args.reader.now in
+    let asks = rw (c.in-Ok-Check-None.field-0-is, c.in-Ok-Check-None.field-0-0-is) at c.in-Ok-Check-None.ensures.job in
+    IfErr-weaker c.judge.result _ _ (λ stop stands. judging_stop words held known None stop asks stands) (c.judge.ensures.stop held)

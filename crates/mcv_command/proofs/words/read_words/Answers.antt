@@ -1,0 +1,73 @@
+use Rattle.std.proofs.Common.{◌≡◌, ◌∙◌, inl, inr, List, sym, subst, true, ap, map, refl, codes, true≢false}
+use Rattle.clap.specs.Words.{App, Text, HasKind, fault_of, found_of, is_simple, is_simple_and_free, kind_of, rows_of, subcommand_of}
+use Rattle.std.specs.Str.Parse.{ParsesUnsigned, ExplainsUnsignedError, HasUnsignedDigitsIfOk}
+use Rattle.clap.proofs.WalkLemmas.{first_value-rows, one_text-rows}
+use Rattle.clap.proofs.OnLiterals.{clap_on_literals}
+use Rattle.mcv_command.specs.Words.{mcv_app}
+use Rattle.mcv_command.proofs.Given.{given}
+use Rattle.mcv_command.proofs.Matches.{named_rows, name_of_rows, no_number, number_at, fault_of_kind}
+use Rattle.mcv_command.proofs.Taken.{taken}
+use Rattle.mcv_command.proofs.words.read_words.Goals as goal
+
+simple : is_simple mcv_app ≡ true
+unfolding clap_on_literals
+simple = refl
+
+free : is_simple_and_free mcv_app ≡ true
+unfolding clap_on_literals
+free = refl
+
+pub returns-in-Err-clause-fault : goal.returns-in-Err-clause-fault
+returns-in-Err-clause-fault c =
+    let words : List Text = map (λ w. w.now) c.args.words.now in
+    let kinds = subst (λ (a : App). HasKind (fault_of a words) c.in-Err.error) c.in_ok-command.ensures
+    (c.in-Err.ensures.kinds (ap is_simple_and_free c.in_ok-command.ensures ∙ free)) in
+    fault_of_kind words (kind_of c.in-Err.error) c.line_fault.result kinds c.line_fault.ensures
+
+pub returns-in-Some-clause-job : goal.returns-in-Some-clause-job
+returns-in-Some-clause-job c =
+    let words : List Text = map (λ w. w.now) c.args.words.now in
+    let held = (c.in-Ok.ensures.matches (ap is_simple c.in_ok-command.ensures ∙ simple)).1 ∙ ap (λ (a : App). subcommand_of a words) c.in_ok-command.ensures in
+    let none = sym (ap (λ (a : App). fault_of a words) c.in_ok-command.ensures) ∙ c.in-Ok.ensures.kinds (ap is_simple_and_free c.in_ok-command.ensures ∙ free) in
+    let found = found_of c.in-Some.found.now in (
+      none,
+      rows_of found,
+      sym held ∙ named_rows c.in-Ok.matches (codes "check") (rows_of found) (c.in-Some.ensures.found.0 refl) c.in-Some.ensures.rows,
+      c.get_str-cert.ensures ∙ first_value-rows found (codes "cert"),
+    )
+
+pub returns-in_default-subcommand_matches-clause-fault : goal.returns-in_default-subcommand_matches-clause-fault
+returns-in_default-subcommand_matches-clause-fault c =
+    let words : List Text = map (λ w. w.now) c.args.words.now in
+    let held = (c.in-Ok.ensures.matches (ap is_simple c.in_ok-command.ensures ∙ simple)).1 ∙ ap (λ (a : App). subcommand_of a words) c.in_ok-command.ensures in
+    let none = sym (ap (λ (a : App). fault_of a words) c.in_ok-command.ensures) ∙ c.in-Ok.ensures.kinds (ap is_simple_and_free c.in_ok-command.ensures ∙ free) in
+    absurd (elim (taken words none) [
+      | inl check ↦ true≢false (sym (c.in_default.ensures.found.1 (name_of_rows c.in-Ok.matches (codes "check") check.0 (held ∙ check.1))))
+      | inr legs ↦ true≢false (sym (c.in_default-subcommand_matches.ensures.found.1 (name_of_rows c.in-Ok.matches (codes "legs") legs.0 (held ∙ legs.1))))
+    ])
+
+pub returns-in_default-get_one-clause-fault : goal.returns-in_default-get_one-clause-fault
+returns-in_default-get_one-clause-fault c =
+    let words : List Text = map (λ w. w.now) c.args.words.now in
+    let held = (c.in-Ok.ensures.matches (ap is_simple c.in_ok-command.ensures ∙ simple)).1 ∙ ap (λ (a : App). subcommand_of a words) c.in_ok-command.ensures in
+    let none = sym (ap (λ (a : App). fault_of a words) c.in_ok-command.ensures) ∙ c.in-Ok.ensures.kinds (ap is_simple_and_free c.in_ok-command.ensures ∙ free) in
+    let found = found_of c.in-Some-subcommand_matches.found.now in
+    let legs = sym held ∙ named_rows c.in-Ok.matches (codes "legs") (rows_of found) (c.in-Some-subcommand_matches.ensures.found.0 refl) c.in-Some-subcommand_matches.ensures.rows in
+    let at = given words (rows_of found) none legs in
+    absurd (no_number (λ bs r. ParsesUnsigned 64 10 bs r × ExplainsUnsignedError 10 bs r × HasUnsignedDigitsIfOk bs r) at.0 (λ t x h. h.0) at.2
+    (c.in_default-get_one.ensures.value at.0 (one_text-rows found (codes "at") ∙ at.1)))
+
+pub returns-clause-job : goal.returns-clause-job
+returns-clause-job c =
+    let words : List Text = map (λ w. w.now) c.args.words.now in
+    let held = (c.in-Ok.ensures.matches (ap is_simple c.in_ok-command.ensures ∙ simple)).1 ∙ ap (λ (a : App). subcommand_of a words) c.in_ok-command.ensures in
+    let none = sym (ap (λ (a : App). fault_of a words) c.in_ok-command.ensures) ∙ c.in-Ok.ensures.kinds (ap is_simple_and_free c.in_ok-command.ensures ∙ free) in
+    let found = found_of c.in-Some-subcommand_matches.found.now in
+    let legs = sym held ∙ named_rows c.in-Ok.matches (codes "legs") (rows_of found) (c.in-Some-subcommand_matches.ensures.found.0 refl) c.in-Some-subcommand_matches.ensures.rows in
+    let at = given words (rows_of found) none legs in (
+      none,
+      rows_of found,
+      legs,
+      number_at (λ bs r. ParsesUnsigned 64 10 bs r × ExplainsUnsignedError 10 bs r × HasUnsignedDigitsIfOk bs r) (rows_of found) at.0 c.in-Some-get_one.at (λ t x h. h.0) at.1
+          (c.in-Some-get_one.ensures.value at.0 (one_text-rows found (codes "at") ∙ at.1)),
+    )
