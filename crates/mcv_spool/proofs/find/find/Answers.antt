@@ -18,7 +18,7 @@ returns-in_err-take_all-clause-damaged g c = λ model k h.
     let piece_is : c.deref.result.now ≡ take 1024001 (drop (640 * length pending) file) =
     c.deref.ensures.value ∙ (c.in_ok-piece.ensures.piece model ∙ (λ i. take 1024001 (drop (at_is i) ((walked.quiet model).same i)))) in
     let gone = err_from_is_err_and c.from_residual-in_err-take_all.result c.from_residual-in_err-take_all.ensures.1 in
-    damaged_piece file pending (walked.so_far model) c.deref.result.now piece_is k (c.in_err-take_all.ensures.damaged k (ap Err (sym gone.2) ∙ same_fault c.from_residual-in_err-take_all.result gone.0 (Damaged k) gone.1 h))
+    damaged_piece file pending (walked.so_far model) c.deref.result.now piece_is k (c.in_err-take_all.ensures.damaged k (ap Err (sym gone.2 ∙ same_fault c.from_residual-in_err-take_all.result gone.0 (Damaged k) gone.1 h)))
 
 pub returns-then-found-number-clause-found : goal.returns-then-found-number-clause-found
 returns-then-found-number-clause-found g c = λ model.
