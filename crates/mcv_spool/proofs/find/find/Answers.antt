@@ -20,8 +20,8 @@ returns-in_err-take_all-clause-damaged g c = λ model k h.
     let gone = err_from_is_err_and c.from_residual-in_err-take_all.result c.from_residual-in_err-take_all.ensures.1 in
     damaged_piece file pending (walked.so_far model) c.deref.result.now piece_is k (c.in_err-take_all.ensures.damaged k (ap Err (sym gone.2 ∙ same_fault c.from_residual-in_err-take_all.result gone.0 (Damaged k) gone.1 h)))
 
-pub returns-then-found-number-clause-found : goal.returns-then-found-number-clause-found
-returns-then-found-number-clause-found g c = λ model.
+pub returns-then-count-number-clause-found : goal.returns-then-count-number-clause-found
+returns-then-count-number-clause-found g c = λ model.
     let file = g.D.Disk.seen c.args.disk.now in
     let walked = c.loop-number.invariant in
     let pending = c.loop-number.found.pending.items in
