@@ -48,7 +48,10 @@ fn requests_are_moved(rt: HostRuntime) -> Result<(), Fail> {
     let Some(Item::Asked(request)) = items.pop() else {
         return Err(Fail::from("no request"));
     };
-    let child = thread::spawn(&rt, move || matches!(request, Request::Ask(ask) if ask.keys.len() == 1))?;
+    let child = thread::spawn(
+        &rt,
+        move || matches!(request, Request::Ask(ask) if ask.keys.len() == 1),
+    )?;
     assert!(rt; child.join(&rt));
     Ok(())
 }
@@ -65,7 +68,10 @@ fn legs_and_servers_are_moved(rt: HostRuntime) -> Result<(), Fail> {
         cas: None,
     };
     let server = ServerText::of(b"a:1").ok_or("a server")?;
-    let child = thread::spawn(&rt, move || leg.op.is_delete() && server.as_bytes() == b"a:1".as_slice())?;
+    let child = thread::spawn(
+        &rt,
+        move || leg.op.is_delete() && server.as_bytes() == b"a:1".as_slice(),
+    )?;
     assert!(rt; child.join(&rt));
     Ok(())
 }
