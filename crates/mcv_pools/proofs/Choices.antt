@@ -1,5 +1,5 @@
 -- A hash's indexes are below the numbers of servers.
-use Rattle.std.proofs.Common.{◌≡◌, ℕ, ◌<◌, List, [], map, length, get_or, sym, subst, arith}
+use Rattle.std.proofs.Common.{ℕ, ◌<◌, List, [], map, length, get_or, sym, subst, arith}
 use Rattle.std.specs.List.{All}
 use Rattle.std.proofs.lemmas.List.{get_or-map, length-map}
 use Rattle.std.proofs.lemmas.List.Elements.{All-get_or}
