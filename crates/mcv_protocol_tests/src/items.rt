@@ -239,6 +239,7 @@ fn refusals_and_faults_have_numbers_and_lines(rt: HostRuntime) {
     assert!(rt; Refusal::BadLine.line() == "CLIENT_ERROR bad command line");
     assert!(rt; Refusal::BadDataChunk.line() == "CLIENT_ERROR bad data chunk");
     assert!(rt; Refusal::ValueTooLarge.line() == "SERVER_ERROR value too large");
+    assert!(rt; Refusal::BadDataChunk.text() == "CLIENT_ERROR bad data chunk\r\n");
     assert!(rt; TextFault::Failed.number() == 1 && TextFault::Memory.number() == 2);
 }
 

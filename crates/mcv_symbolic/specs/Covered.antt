@@ -1,7 +1,7 @@
 -- Coverage of all routes, for all rests and eras, and by a member of each class.
-use Rattle.std.specs.Prelude.{◌≡◌, ◌↔◌, ◌<◌, ℕ, true, List, Option, Some, None, ⊤, map}
-use Rattle.std.specs.List.{All, Contains}
-use Rattle.mcv_base.specs.Key.{is_key_word}
+use Rattle.std.specs.Prelude.{◌↔◌, ℕ, List, Option, Some, None, ⊤, map}
+use Rattle.std.specs.List.{Contains}
+use Rattle.mcv_base.specs.Key.{IsRest}
 use Rattle.mcv_route.specs.Eras.{breaks_of}
 use Rattle.mcv_route.specs.Routes.{RouteEntry, RoutesValue, IsSoundRoutes}
 use Rattle.mcv_route.specs.Verdict.{IsCovered}
@@ -17,11 +17,6 @@ sizes_of r = map (λ s. s.n) r.symbols
 abbrev pub IsEra : RoutesValue → Option ℕ → Type 0
 IsEra r None = ⊤
 IsEra r (Some b) = Contains (breaks_of r) b
-
--- a rest: 1 to 250 key bytes
-pub record IsRest (rest : List ℕ) : Type 0 where
-  pub key : is_key_word rest ≡ true
-  pub bytes : All (λ b. b < 256) rest
 
 -- every route is covered at every rest in every era
 abbrev pub AreCovered : RoutesValue → Type 0

@@ -1,6 +1,6 @@
 use mcv_base::{
-    FixedReply, KeyFault, Op, Outcome, Part, Parts, Position, Prefix, Reply, Rest, hashed_part,
-    split_key,
+    CallId, FixedReply, KeyFault, LegId, Mark, Op, Outcome, Part, Parts, Position, Prefix, Reply,
+    Rest, ServerId, ServerText, hashed_part, split_key,
 };
 use std::alloc::{AllocError, Global};
 use std::sync::Arc;
@@ -133,18 +133,38 @@ fn replies_amount_to_outcomes(rt: HostRuntime) -> Result<(), Fail> {
 #[test]
 fn one_reply_has_three_equal_parts(rt: HostRuntime) -> Result<(), Fail> {
     let alloc = rt.alloc();
-    let Parts {
-        outcome,
-        taken,
-        history,
-    } = Parts::new(alloc, hit(alloc)?)?;
+    let parts = Parts::new(alloc, hit(alloc)?)?;
+    assert!(rt; parts.may_answer(Op::Gets) && !parts.may_answer(Op::Get));
+    let (outcome, taken, history) = parts.into_parts();
     for part in [outcome, taken, history] {
         match part {
             Part::Owned(reply) => assert!(rt; matches!(&*reply, Reply::Hit { flags: 7, .. })),
             Part::Fixed(_) => assert!(rt; false, "a value was lost"),
         }
     }
-    let small = Parts::new(alloc, Reply::Deleted)?;
-    assert!(rt; matches!(small.taken, Part::Fixed(FixedReply::Deleted)));
+    let (_, taken, _) = Parts::new(alloc, Reply::Deleted)?.into_parts();
+    assert!(rt; matches!(taken, Part::Fixed(FixedReply::Deleted)));
+    assert!(rt; Parts::fixed(FixedReply::Lost).outcome() == Outcome::Error);
+    Ok(())
+}
+
+#[test]
+fn operations_get_replies_of_their_own(rt: HostRuntime) {
+    assert!(rt; Reply::NotFound.may_answer(Op::Delete) && !Reply::NotFound.may_answer(Op::Set));
+    assert!(rt; FixedReply::Exists.may_answer(Op::Cas) && !FixedReply::Exists.may_answer(Op::Add));
+    assert!(rt; Part::Fixed(FixedReply::Lost).may_answer(Op::Touch));
+    assert!(rt; Op::Delete.is_delete() && !Op::Touch.is_delete() && Op::Cas.is_storing());
+    assert!(rt; Mark::Async.is_counting() && !Mark::Shadow.is_counting());
+    assert!(rt; CallId(7).is(CallId(7)) && !LegId(7).is(LegId(8)) && ServerId(1).is(ServerId(1)));
+}
+
+#[test]
+fn copies_are_equal(rt: HostRuntime) -> Result<(), Fail> {
+    let rest = Rest::of(b"a").ok_or("a rest")?;
+    let other = Rest::of(b"ab").ok_or("a rest")?;
+    assert!(rt; rest.copied() == rest && rest != other);
+    let server = ServerText::of(b"a:1").ok_or("a server")?;
+    let second = ServerText::of(b"a:2").ok_or("a server")?;
+    assert!(rt; server.copied() == server && server != second);
     Ok(())
 }

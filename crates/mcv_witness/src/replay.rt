@@ -4,11 +4,10 @@ ghost use Rattle.std.specs.Prelude.{◌≡◌, ◌↔◌, ◌<◌, Some, IsTrue,
 ghost use Rattle.std.specs.List.{All};
 ghost use Rattle.std.specs.Cmp.Lexicographic.{slice_cmp};
 ghost use Rattle.std.specs.Ordering.{is_lt, nat_cmp};
-ghost use Rattle.mcv_base.specs.Key.{IsCut, is_key_word};
+ghost use Rattle.mcv_base.specs.Key.{IsCut, IsRest, is_key_word};
 ghost use Rattle.mcv_route.specs.Situation.{asked};
 ghost use Rattle.mcv_route.specs.Tree.{Tree};
 ghost use Rattle.mcv_route.specs.View.{view};
-ghost use Rattle.mcv_symbolic.specs.Covered.{IsRest};
 ghost use Rattle.mcv_witness.specs.Breaks.{BreaksCoverage, IsLeafOf, IsMissed, IsRead, StandsAt};
 ghost use Rattle.mcv_witness.specs.Confirm.{IsNowhere, are_rising, has_indexes, hit_seen, missed_seen};
 ghost use Rattle.mcv_witness.specs.Finding.{finding_of, outcomes_of};

@@ -16,4 +16,4 @@ loop-symbol-preserved c =
 pub returns : goal.returns
 returns c =
     let xs = c.as_slice-symbols.result.now in
-    subst (λ (ys : List SymbolValue). All (λ (n : ℕ). 0 < n) (map (λ (d : SymbolValue). d.n) ys)) (take_all c.loop-symbol.symbol-index xs c.loop-symbol-test.false ∙ (c.as_slice-symbols.ensures ∙ c.symbols.ensures.value)) c.loop-symbol.invariant
+    subst (λ (ys : List SymbolValue). All (λ (n : ℕ). 0 < n) (map (λ (d : SymbolValue). d.n) ys)) (take_all c.loop-symbol.symbol-index xs c.loop-symbol-test.false ∙ (c.as_slice-symbols.ensures.value ∙ c.symbols.ensures.value)) c.loop-symbol.invariant
