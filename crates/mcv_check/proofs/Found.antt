@@ -3,8 +3,7 @@ use Rattle.std.proofs.Common.{◌≡◌, ℕ, List, [], ◌∷◌, Some, option_
 use Rattle.std.specs.Prelude.{slice_get}
 use Rattle.mcv_cert.specs.Pair.{PairValue}
 use Rattle.mcv_route.specs.Routes.{IsSoundRoutes, RouteEntry, RoutesValue}
-use Rattle.mcv_blocks.specs.Blocks.{IsEraOf}
-use Rattle.mcv_blocks.specs.Places.{HasEra}
+use Rattle.mcv_route.specs.Eras.{HasEra, IsEraOf}
 use Rattle.mcv_blocks.specs.Sets.{SetsValue}
 use Rattle.mcv_blocks.specs.Spots.{IsBlockFor, IsSpotOf, spot}
 use Rattle.mcv_blocks.specs.declared.classes.RouteClass.{RouteClass}

@@ -1,8 +1,9 @@
 //! The pairs of a certificate against the blocks of routes, one block at a time.
 
 ghost use Rattle.std.specs.Prelude.{◌<◌, ◌∷◌, ℕ, [], IfErr, IfOk, MatchResult};
+ghost use Rattle.mcv_route.specs.Eras.{HasEra};
 ghost use Rattle.mcv_blocks.specs.Blocks.{IsJustifiedBy};
-ghost use Rattle.mcv_blocks.specs.Places.{HasEra, IsRouteClass};
+ghost use Rattle.mcv_blocks.specs.Places.{IsRouteClass};
 ghost use Rattle.mcv_blocks.specs.Spots.{IsSpotOf, eras_from, spot};
 ghost use Rattle.mcv_cert.specs.Pair.{AreRising};
 ghost use Rattle.mcv_check.specs.Fault.{IsTold};
@@ -12,7 +13,7 @@ ghost use Rattle.mcv_route.specs.Routes.{IsSoundRoutes};
 
 use crate::block::judge_sets;
 use crate::fault::CheckFault;
-use mcv_blocks::{RouteClass, Sets, era_count, opened, route_classes};
+use mcv_blocks::{RouteClass, Sets, route_classes};
 use mcv_cert::Pair;
 use mcv_judge::judge_end;
 use mcv_route::Routes;
@@ -25,7 +26,7 @@ pub fn judge_routes(alloc: Global, routes: &Routes, pairs: &[Pair]) -> Result<()
     ensures { MatchResult result (λ _. IsJustifiedBy routes.now (pairs_of pairs.now)) (IsTold routes.now (pairs_of pairs.now)) }
 {
     let classes = route_classes(alloc, routes)?;
-    let eras = era_count(routes);
+    let eras = routes.era_count();
     let mut rest = pairs;
     for class in &classes {
         rest = judge_class(alloc, routes, class, eras, rest)?;
@@ -78,6 +79,6 @@ fn judge_in_era<'p>(
     let Some(member) = class.class.member() else {
         unreachable!()
     };
-    let sets = Sets::new(alloc, route, &member, opened(routes, era))?;
+    let sets = Sets::new(alloc, route, &member, routes.opened(era))?;
     judge_sets(alloc, &sets, class, era, pairs)
 }

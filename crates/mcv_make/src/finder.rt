@@ -5,7 +5,7 @@ ghost use Rattle.mcv_classes.specs.Class.{IsMember};
 ghost use Rattle.mcv_classes.specs.Words.{class_words};
 ghost use Rattle.mcv_certify.specs.Gap.{IsGap, place_of_gap};
 ghost use Rattle.mcv_route.specs.View.{view};
-ghost use Rattle.mcv_symbolic.specs.Covered.{IsRest, sizes_of};
+ghost use Rattle.mcv_symbolic.specs.Covered.{IsRest};
 ghost use Rattle.mcv_witness.specs.Breaks.{BreaksCoverage};
 ghost use Rattle.mcv_witness.specs.Finding.{finding_of};
 ghost use Rattle.mcv_make.specs.Place.{HasMember, StandsAtGap};
@@ -13,7 +13,6 @@ ghost use Rattle.mcv_make.specs.Told.{IsTold, IsToldWith};
 
 use crate::scene::{Reading, Scene};
 use mcv_base::{Prefix, Rest};
-use mcv_blocks::opened;
 use mcv_certify::Gap;
 use mcv_classes::ClassTable;
 use mcv_route::{Route, Routes};
@@ -40,16 +39,6 @@ fn key_of(alloc: Global, prefix: &Prefix, rest: &Rest) -> Result<Vec<u8>, AllocE
     key.extend_from_slice(prefix.as_bytes())?;
     key.extend_from_slice(rest.as_bytes())?;
     Ok(key)
-}
-
-/// Each symbol has an index: its number of servers says so.
-fn read_sizes(routes: &Routes)
-    ensures { All (λ n. 0 < n) (sizes_of routes.now) }
-{
-    let symbols = routes.symbols().as_slice();
-    for symbol in symbols {
-        let _servers = symbol.n();
-    }
 }
 
 /// What the type of bytes says of them; nothing here computes.
@@ -96,7 +85,7 @@ fn find_behind(
     let scene = Scene {
         route,
         rest: &rest,
-        since: opened(routes, gap.era),
+        since: routes.opened(gap.era),
     };
     let Reading { op, legs: gets } = scene.reading(alloc, &gap.leaf)?;
     Ok(Finding {
@@ -127,7 +116,7 @@ pub fn find(alloc: Global, routes: &Routes, gap: &Gap) -> Result<Finding, AllocE
 {
     // Both say of the routes what the proof wants: they are sound and within the limits, and each symbol has an index.
     let _servers = routes.servers();
-    read_sizes(routes);
+    let _symbols = routes.symbols();
     let Some(prefix) = routes.first_alias(gap.route) else {
         unreachable!()
     };

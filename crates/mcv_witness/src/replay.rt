@@ -20,7 +20,6 @@ use crate::known::Known;
 use crate::seen::Seen;
 use crate::walk::{Sought, walk};
 use mcv_base::{Mark, Moment, Op, Outcome, Position, Prefix, Rest, ServerId, split_key};
-use mcv_blocks::{era_count, opened};
 use mcv_pools::{Choice, Symbol};
 use mcv_route::{Route, Routes};
 use mcv_rules::Asked;
@@ -80,14 +79,14 @@ fn place_by<'a>(
         return None;
     }
     let route = routes.route(number)?;
-    if finding.era >= era_count(routes) {
+    if finding.era >= routes.era_count() {
         return None;
     }
     if !is_class_word(route, &rest, finding.class.as_slice()) {
         return None;
     }
     rest_fits(&rest);
-    let since = opened(routes, finding.era);
+    let since = routes.opened(finding.era);
     Some(Place { route, rest, since })
 }
 
