@@ -17,7 +17,7 @@ use crate::block::push_sets;
 use crate::gap::CertifyFault;
 use mcv_blocks::{RouteClass, Sets, route_classes};
 use mcv_cert::{Certificate, Pair};
-use mcv_route::Routes;
+use mcv_route::{Routes, era_count, opened};
 use std::alloc::Global;
 
 /// Adds the pairs of the block of a class in an era, or tells the first gap in it.
@@ -39,7 +39,7 @@ fn push_era(
     let Some(member) = class.class.member() else {
         unreachable!()
     };
-    let sets = Sets::new(alloc, route, &member, routes.opened(era))?;
+    let sets = Sets::new(alloc, route, &member, opened(routes, era))?;
     push_sets(alloc, &sets, class, era, pairs)
 }
 
@@ -78,7 +78,7 @@ pub fn certify(alloc: Global, routes: &Routes) -> Result<Certificate, CertifyFau
     // Both say of the routes what it takes that those with a gap aren't covered: they are sound, and each symbol has an index.
     let _servers = routes.servers();
     let _symbols = routes.symbols();
-    let eras = routes.era_count();
+    let eras = era_count(routes);
     let classes = route_classes(alloc, routes)?;
     let mut pairs = Vec::new(alloc);
     for class in &classes {

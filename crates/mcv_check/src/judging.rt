@@ -17,7 +17,7 @@ use mcv_base::Rest;
 use mcv_blocks::{RouteClass, Sets, route_classes};
 use mcv_cert::Pair;
 use mcv_judge::judge_end;
-use mcv_route::Routes;
+use mcv_route::{Routes, era_count, opened};
 use std::alloc::{AllocError, Global};
 
 /// Judges the pairs against all blocks of the routes.
@@ -27,7 +27,7 @@ pub fn judge_routes(alloc: Global, routes: &Routes, pairs: &[Pair]) -> Result<()
     ensures { MatchResult result (λ _. IsJustifiedBy routes.now (pairs_of pairs.now)) (IsTold routes.now (pairs_of pairs.now)) }
 {
     let classes = route_classes(alloc, routes)?;
-    let eras = routes.era_count();
+    let eras = era_count(routes);
     let mut rest = pairs;
     for class in &classes {
         rest = judge_class(alloc, routes, class, eras, rest)?;
@@ -96,5 +96,5 @@ fn sets_of<'a>(
     let Some(route) = routes.route(class.route) else {
         unreachable!()
     };
-    Sets::new(alloc, route, member, routes.opened(era))
+    Sets::new(alloc, route, member, opened(routes, era))
 }

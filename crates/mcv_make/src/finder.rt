@@ -15,7 +15,7 @@ use crate::scene::{Reading, Scene};
 use mcv_base::{Prefix, Rest};
 use mcv_certify::Gap;
 use mcv_classes::ClassTable;
-use mcv_route::{Route, Routes};
+use mcv_route::{Route, Routes, opened};
 use mcv_witness::Finding;
 use std::alloc::{AllocError, Global};
 
@@ -85,7 +85,7 @@ fn find_behind(
     let scene = Scene {
         route,
         rest: &rest,
-        since: routes.opened(gap.era),
+        since: opened(routes, gap.era),
     };
     let Reading { op, legs: gets } = scene.reading(alloc, &gap.leaf)?;
     Ok(Finding {

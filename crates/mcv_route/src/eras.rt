@@ -6,24 +6,22 @@ ghost use Rattle.mcv_route.specs.Eras.{ErasAreOpenedByBreaks, ErasTellWhatHasPas
 use crate::routes::Routes;
 use mcv_base::Moment;
 
-impl Routes {
-    /// How many eras the routes have: one more than breaks. They are numbered from 0.
-    pub fn era_count(&self) -> usize
-        ensures { (era : ℕ) → (era < result) ↔ HasEra self.now era }
-    {
-        self.breaks().len() + 1
-    }
+/// How many eras the routes have: one more than breaks. They are numbered from 0.
+pub fn era_count(routes: &Routes) -> usize
+    ensures { (era : ℕ) → (era < result) ↔ HasEra routes.now era }
+{
+    routes.breaks().len() + 1
+}
 
-    /// The break that opened the era of this number; None for the first one, and for a number that no era has.
-    pub fn opened(&self, era: usize) -> Option<Moment>
-        ensures some { HasEra self.now era → IsEraOf self.now era (option_map (λ m. m.0) result) }
-        ensures none { (HasEra self.now era → ⊥) → result ≡ None }
-    {
-        if era == 0 {
-            return None;
-        }
-        self.breaks().get(era - 1).copied()
+/// The break that opened the era of this number; None for the first one, and for a number that no era has.
+pub fn opened(routes: &Routes, era: usize) -> Option<Moment>
+    ensures some { HasEra routes.now era → IsEraOf routes.now era (option_map (λ m. m.0) result) }
+    ensures none { (HasEra routes.now era → ⊥) → result ≡ None }
+{
+    if era == 0 {
+        return None;
     }
+    routes.breaks().get(era - 1).copied()
 }
 
 /// What `Routes::since` gives is the last break, moments after the same break are in one era, the break that

@@ -21,7 +21,7 @@ use crate::seen::Seen;
 use crate::walk::{Sought, walk};
 use mcv_base::{Mark, Moment, Op, Outcome, Position, Prefix, Rest, ServerId, split_key};
 use mcv_pools::{Choice, Symbol};
-use mcv_route::{Route, Routes};
+use mcv_route::{Route, Routes, era_count, opened};
 use mcv_rules::Asked;
 use std::cmp::Ordering;
 
@@ -79,14 +79,14 @@ fn place_by<'a>(
         return None;
     }
     let route = routes.route(number)?;
-    if finding.era >= routes.era_count() {
+    if finding.era >= era_count(routes) {
         return None;
     }
     if !is_class_word(route, &rest, finding.class.as_slice()) {
         return None;
     }
     rest_fits(&rest);
-    let since = routes.opened(finding.era);
+    let since = opened(routes, finding.era);
     Some(Place { route, rest, since })
 }
 
