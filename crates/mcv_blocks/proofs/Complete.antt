@@ -20,7 +20,7 @@ use Rattle.mcv_judge.specs.declared.fault.PairFault.TheVariants.{CanBeAcknowledg
 use Rattle.mcv_blocks.specs.Blocks.{IsAcknowledgedAt, IsBlockAt, pool_for}
 use Rattle.mcv_blocks.specs.Coverage.{CoveredHasReasons}
 use Rattle.mcv_blocks.proofs.Answered.{equal_of, list_equal}
-use Rattle.mcv_blocks.proofs.BreakTables.{era_there}
+use Rattle.mcv_route.proofs.BreakTables.{era_there}
 use Rattle.mcv_blocks.proofs.PoolSizes.{AreSized, entry_sized}
 use Rattle.mcv_blocks.proofs.Searches.{finds_one, found}
 use Rattle.mcv_blocks.proofs.Sound.{symbol_of, there_with}

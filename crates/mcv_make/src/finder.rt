@@ -6,7 +6,6 @@ ghost use Rattle.mcv_classes.specs.Words.{class_words};
 ghost use Rattle.mcv_certify.specs.Gap.{IsGap, place_of_gap};
 ghost use Rattle.mcv_route.specs.View.{view};
 ghost use Rattle.mcv_base.specs.Key.{IsRest};
-ghost use Rattle.mcv_symbolic.specs.Covered.{sizes_of};
 ghost use Rattle.mcv_witness.specs.Breaks.{BreaksCoverage};
 ghost use Rattle.mcv_witness.specs.Finding.{finding_of};
 ghost use Rattle.mcv_make.specs.Place.{HasMember, StandsAtGap};
@@ -14,10 +13,9 @@ ghost use Rattle.mcv_make.specs.Told.{IsTold, IsToldWith};
 
 use crate::scene::{Reading, Scene};
 use mcv_base::{Prefix, Rest};
-use mcv_blocks::opened;
 use mcv_certify::Gap;
 use mcv_classes::ClassTable;
-use mcv_route::{Route, Routes};
+use mcv_route::{Route, Routes, opened};
 use mcv_witness::Finding;
 use std::alloc::{AllocError, Global};
 
@@ -41,16 +39,6 @@ fn key_of(alloc: Global, prefix: &Prefix, rest: &Rest) -> Result<Vec<u8>, AllocE
     key.extend_from_slice(prefix.as_bytes())?;
     key.extend_from_slice(rest.as_bytes())?;
     Ok(key)
-}
-
-/// Each symbol has an index: its number of servers says so.
-fn read_sizes(routes: &Routes)
-    ensures { All (λ n. 0 < n) (sizes_of routes.now) }
-{
-    let symbols = routes.symbols().as_slice();
-    for symbol in symbols {
-        let _servers = symbol.n();
-    }
 }
 
 /// What the type of bytes says of them; nothing here computes.
@@ -128,7 +116,7 @@ pub fn find(alloc: Global, routes: &Routes, gap: &Gap) -> Result<Finding, AllocE
 {
     // Both say of the routes what the proof wants: they are sound and within the limits, and each symbol has an index.
     let _servers = routes.servers();
-    read_sizes(routes);
+    let _symbols = routes.symbols();
     let Some(prefix) = routes.first_alias(gap.route) else {
         unreachable!()
     };

@@ -24,6 +24,7 @@ pub mod Turns
 pub mod True
 pub mod Told
 pub mod Rows
+pub mod Operations
 pub mod Stops
 pub mod Longest
 pub mod Leaves

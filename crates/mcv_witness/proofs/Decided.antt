@@ -15,8 +15,7 @@ use Rattle.mcv_base.specs.declared.request.ServerId.{ServerId}
 use Rattle.mcv_base.specs.declared.key.KeyFault.TheVariants.{Empty, TooLong, BadByte, NoRest}
 use Rattle.mcv_base.specs.Key.{IsCut, IsKeyFault, IsRest, is_key_byte, is_key_word}
 use Rattle.mcv_base.specs.Operation.{is_reading}
-use Rattle.mcv_blocks.specs.Blocks.{IsEraOf}
-use Rattle.mcv_blocks.specs.Places.{HasEra}
+use Rattle.mcv_route.specs.Eras.{HasEra, IsEraOf}
 use Rattle.mcv_classes.proofs.Order.{before-through}
 use Rattle.mcv_classes.specs.Class.{IsBefore, IsClassWord}
 use Rattle.mcv_classes.specs.Words.{class_words}

@@ -4,7 +4,7 @@ use Rattle.std.specs.List.{AllPairs}
 use Rattle.mcv_base.specs.declared.operation.Op.TheVariants.{Delete}
 use Rattle.mcv_base.specs.Key.{IsCut, IsRest, is_key_word}
 use Rattle.mcv_base.specs.Operation.{is_reading}
-use Rattle.mcv_blocks.specs.Blocks.{IsEraOf}
+use Rattle.mcv_route.specs.Eras.{IsEraOf}
 use Rattle.mcv_classes.specs.Class.{IsBefore, IsClassWord}
 use Rattle.mcv_classes.specs.Words.{class_words}
 use Rattle.mcv_route.specs.Outcomes.{Choice, History, IsChoice, outcomes}

@@ -19,9 +19,8 @@ use crate::known::Known;
 use crate::seen::Seen;
 use crate::walk::{Sought, walk};
 use mcv_base::{Mark, Moment, Op, Outcome, Position, Prefix, Rest, ServerId, split_key};
-use mcv_blocks::{era_count, opened};
 use mcv_pools::{Choice, Symbol};
-use mcv_route::{Route, Routes};
+use mcv_route::{Route, Routes, era_count, opened};
 use mcv_rules::Asked;
 use std::cmp::Ordering;
 

@@ -1,7 +1,7 @@
 use Rattle.std.proofs.Common.{◌-◌, ◌∙◌, map, option_map}
 use Rattle.mcv_base.specs.declared.request.Moment.{Moment}
-use Rattle.mcv_blocks.proofs.Numbered.{copied_number, none_mapped, opened_later, past_the_last}
-use Rattle.mcv_blocks.proofs.era.opened.Goals as goal
+use Rattle.mcv_route.proofs.EraNumbers.{copied_number, none_mapped, opened_later, past_the_last}
+use Rattle.mcv_route.proofs.eras.opened.Goals as goal
 
 pub returns-clause-some : goal.returns-clause-some
 returns-clause-some c =

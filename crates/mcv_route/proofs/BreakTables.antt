@@ -6,13 +6,11 @@ use Rattle.std.proofs.lemmas.Bool.{cases_eq, cases_lt}
 use Rattle.std.proofs.lemmas.List.Elements.{All-cons, All-contains, All-nil, Contains-get_or}
 use Rattle.std.proofs.lemmas.List.Kept.{AllPairs-cons, AllPairs-from_increasing}
 use Rattle.std.proofs.lemmas.Option.{get_or_from_slice_get, slice_get-get_or, slice_get_within}
-use Rattle.mcv_route.specs.Eras.{IsBreakTable, breaks_of}
+use Rattle.mcv_route.specs.Eras.{IsBreakTable, IsEra, IsEraOf, breaks_of}
 use Rattle.mcv_route.specs.Routes.{RoutesValue}
-use Rattle.mcv_symbolic.specs.Covered.{IsEra}
-use Rattle.mcv_blocks.specs.Blocks.{IsEraOf}
-use Rattle.mcv_blocks.proofs.RisingLists.{above_first, at_first, behind_first, first_or_behind, none_there, rises_behind, rising_same}
+use Rattle.mcv_route.proofs.RisingLists.{above_first, at_first, behind_first, first_or_behind, none_there, rises_behind, rising_same}
 
-abbrev Up : ℕ → ℕ → Type 0
+abbrev pub Up : ℕ → ℕ → Type 0
 Up x y = x < y
 
 -- the list with the number put in its place, where it isn't there yet
@@ -25,7 +23,7 @@ record IsWith (b : ℕ) (xs ys : List ℕ) : Type 0 where
 none_rise : AllPairs Up []
 none_rise i j d low high = absurd (omega (arith, high))
 
-before_all : (b x : ℕ) (xs : List ℕ) → b < x → AllPairs Up (x ∷ xs) → All (Up b) (x ∷ xs)
+pub before_all : (b x : ℕ) (xs : List ℕ) → b < x → AllPairs Up (x ∷ xs) → All (Up b) (x ∷ xs)
 before_all b x xs less up =
     All-cons (Up b) x xs less (λ k d h. let far : x < get_or xs k d = above_first Up x xs (get_or xs k d) up (Contains-get_or xs k d h) in omega (arith, less, far))
 

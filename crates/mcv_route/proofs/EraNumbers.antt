@@ -6,11 +6,9 @@ use Rattle.std.proofs.lemmas.Bool.{cases_lt}
 use Rattle.std.proofs.lemmas.Option.{slice_get-get_or, slice_get-map, slice_get_past}
 use Rattle.mcv_base.specs.declared.request.Moment.{Moment}
 use Rattle.mcv_route.proofs.Ways.{lent-at}
-use Rattle.mcv_route.specs.Eras.{IsBreakTable, breaks_of}
+use Rattle.mcv_route.specs.Eras.{HasEra, IsBreakTable, IsEraOf, breaks_of}
 use Rattle.mcv_route.specs.Routes.{RoutesValue}
-use Rattle.mcv_blocks.specs.Blocks.{IsEraOf}
-use Rattle.mcv_blocks.specs.Places.{HasEra}
-use Rattle.mcv_blocks.proofs.BreakTables.{one_table}
+use Rattle.mcv_route.proofs.BreakTables.{one_table}
 
 module _ (r : RoutesValue) (table : List ℕ) (is : IsBreakTable (breaks_of r) table) where
   has-era : (era : ℕ) → era < length table + 1 → HasEra r era

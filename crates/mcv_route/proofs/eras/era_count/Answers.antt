@@ -1,8 +1,8 @@
 use Rattle.std.proofs.Common.{◌+◌, length, map, arith}
 use Rattle.std.proofs.lemmas.List.{length-map}
 use Rattle.mcv_base.specs.declared.request.Moment.{Moment}
-use Rattle.mcv_blocks.proofs.Numbered.{counted}
-use Rattle.mcv_blocks.proofs.era.era_count.Goals as goal
+use Rattle.mcv_route.proofs.EraNumbers.{counted}
+use Rattle.mcv_route.proofs.eras.era_count.Goals as goal
 
 pub returns : goal.returns
 returns c =
