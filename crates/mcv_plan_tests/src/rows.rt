@@ -23,17 +23,17 @@ fn plan_of(alloc: Global, route: &Route, op: Op, since: Option<Moment>) -> Resul
 }
 
 /// The numbers of the fresh legs, and the reply where it is there.
-fn push_step(state: &EvalState, text: &mut String) -> Result<(), Fail> {
+fn push_step(alloc: Global, state: &EvalState, text: &mut String) -> Result<(), Fail> {
     text.push_str("[")?;
     for entry in state.fresh() {
-        let digit = format!(in text.allocator(); " {entry}")?;
+        let digit = format!(in alloc; " {entry}")?;
         text.push_str(digit.as_str())?;
     }
     text.push_str(" ]")?;
     if let Some(answer) = state.status() {
         match answer.source {
             Source::Entry(entry) => {
-                let source = format!(in text.allocator(); " reply {entry}")?;
+                let source = format!(in alloc; " reply {entry}")?;
                 text.push_str(source.as_str())?;
             }
             Source::Fixed(_) => text.push_str(" reply fixed")?,
@@ -54,12 +54,12 @@ fn steps(
     let choice = Choice::new(Vec::new(alloc));
     let (mut state, _entries) = EvalState::new(alloc, &plan, &choice)?;
     let mut text = String::new(alloc);
-    push_step(&state, &mut text)?;
+    push_step(alloc, &state, &mut text)?;
     for (entry, outcome) in outcomes {
         if *entry < state.legs() {
             state.advance(*entry, *outcome);
         }
-        push_step(&state, &mut text)?;
+        push_step(alloc, &state, &mut text)?;
     }
     Ok(text)
 }
