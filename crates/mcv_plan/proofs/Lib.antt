@@ -18,4 +18,3 @@ pub mod CoursesBuilt
 pub mod EntriesLaidOut
 pub mod CoursesEvaluate
 pub mod FirstWave
-pub mod CountsAdd

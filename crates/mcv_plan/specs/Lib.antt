@@ -6,5 +6,4 @@ pub mod Parts
 pub mod Entries
 pub mod Built
 pub mod Evaluation
-pub mod Counts
 pub mod Laws
