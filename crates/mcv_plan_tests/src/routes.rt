@@ -5,11 +5,11 @@ use mcv_route::{Leaf, Route, Shadow};
 use std::alloc::{AllocError, Global};
 use std::sync::Arc;
 
-pub fn pool(alloc: Global, number: usize) -> Result<Route, AllocError> {
+pub fn pool(alloc: Global, number: u32) -> Result<Route, AllocError> {
     let mut servers = Vec::new(alloc);
     servers.push(ServerId(number))?;
     let leaf = Leaf {
-        symbol: number,
+        symbol: number as usize,
         servers: Arc::new(alloc, servers)?,
     };
     Ok(Route::Pool {
@@ -36,7 +36,7 @@ pub fn shadowed(alloc: Global) -> Result<Route, AllocError> {
 }
 
 /// So many pools, from 0 on.
-pub fn pools(alloc: Global, count: usize) -> Result<Vec<Route>, AllocError> {
+pub fn pools(alloc: Global, count: u32) -> Result<Vec<Route>, AllocError> {
     let mut routes = Vec::new(alloc);
     for number in 0..count {
         routes.push(pool(alloc, number)?)?;
