@@ -15,6 +15,7 @@ pub mod Last
 pub mod Times
 pub mod Own
 pub mod Plans
+pub mod Places
 pub mod Serving
 pub mod Searching
 pub mod Besides
