@@ -18,3 +18,4 @@ pub mod CoursesBuilt
 pub mod EntriesLaidOut
 pub mod CoursesEvaluate
 pub mod FirstWave
+pub mod CountsAdd
