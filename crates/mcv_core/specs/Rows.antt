@@ -1,0 +1,105 @@
+-- The rows of the core's calls and legs in memory (own).
+use Rattle.std.specs.Prelude.{◌≡◌, ◌<◌, ◌≤◌, ◌+◌, ◌^◌, ℕ, Bool, true, false, List, [], ◌∷◌, Option, Some, None, fold, length, filter, is_some, option_map, option_and_then, slice_get, vec_capacity}
+use Rattle.std.specs.Arc.{arc_value}
+use Rattle.mcv_base.specs.Reply.{ReplyValue, outcome_of, part_value}
+use Rattle.mcv_plan.specs.Tracked.{IsTracked, Past, count, launch_at}
+use Rattle.mcv_queues.specs.declared.leg.Leg.{Leg}
+use Rattle.mcv_queues.specs.declared.leg.State as queued
+use Rattle.mcv_queues.specs.declared.leg.State.TheVariants as states
+use Rattle.mcv_route.specs.declared.launch.Launch.{Launch}
+use Rattle.mcv_route.specs.Outcomes.{outcomes}
+use Rattle.mcv_route.specs.Routes.{RoutesValue}
+use Rattle.mcv_world.specs.World as world
+use Rattle.mcv_world.specs.World.{tree_of, situation_of, choice_of, history_of, reply_at, launched_by}
+use Rattle.mcv_events.specs.Entries.{IsLaidOut, is_launched, has_leg_at}
+use Rattle.mcv_events.specs.Rows as rows
+use Rattle.mcv_events.specs.Rows.{State, LegRow, CallRow, Rows}
+use Rattle.mcv_core.specs.declared.call.Call.{Call}
+use Rattle.mcv_core.specs.declared.call.Recorded.{Recorded}
+use Rattle.mcv_core.specs.declared.errand.Errand.{Errand}
+use Rattle.mcv_core.specs.Errands.{launch_of, rest_of}
+use Rattle.mcv_core.specs.Launching.{errand_at, numbers_of, places_of}
+
+-- ---- calls
+
+abbrev pub entries_of : Call → List Launch
+entries_of c = (arc_value c.laid).launches.items
+
+abbrev pub recorded_one : List Launch → Recorded → world.Recorded
+recorded_one es h = record { position = (launch_at es h.entry).position; reply = part_value h.outcome }
+
+-- the newest first
+abbrev pub recorded_all : List Launch → List Recorded → List world.Recorded
+recorded_all es hs = fold (λ all h. recorded_one es h ∷ all) [] hs
+
+abbrev pub past_of : List Recorded → Past
+past_of hs = fold (λ past h. (h.entry, outcome_of (part_value h.outcome)) ∷ past) [] hs
+
+abbrev pub call_of : Call → world.Call
+call_of c = record {
+  op = c.op;
+  route = c.route;
+  rest = arc_value (arc_value c.laid).rest;
+  since = option_map (λ m. m.0) c.since;
+  choice = c.choice;
+  recorded = recorded_all (entries_of c) c.recorded.items;
+  taken = c.taken;
+}
+
+abbrev pub call_row : Call → CallRow
+call_row c = record { call = call_of c; entries = entries_of c; legs = numbers_of c.entries.items }
+
+-- ---- legs
+
+-- a leg that the spool refused is held
+abbrev pub state_of : queued.State → State
+state_of states.Waiting = rows.Waiting
+state_of states.Sent = rows.Sent
+state_of states.Held = rows.Held
+state_of states.Refused = rows.Held
+state_of states.InSpool = rows.InSpool
+state_of states.InReplay = rows.InSpool
+
+abbrev pub leg_row : Leg Errand → LegRow
+leg_row l = record { call = l.content.call; entry = l.content.entry; launch = launch_of l.content; rest = rest_of l.content; state = state_of l.state }
+
+abbrev pub leg_rows : (ℕ → Option (Leg Errand)) → ℕ → Option LegRow
+leg_rows legs n = option_map leg_row (legs n)
+
+abbrev pub call_rows : (ℕ → Option Call) → ℕ → Option CallRow
+call_rows calls k = option_map call_row (calls k)
+
+abbrev pub rows_of : (ℕ → Option Call) → (ℕ → Option (Leg Errand)) → Option ℕ → ℕ → ℕ → Rows
+rows_of calls legs since next_call next_leg = record { calls = call_rows calls; legs = leg_rows legs; since = since; next_call = next_call; next_leg = next_leg }
+
+-- ---- what holds of a running call
+
+abbrev pub has_outcome : world.Call → Launch → Bool
+has_outcome call l = is_some (outcomes (history_of call.recorded) l.position)
+
+-- the reply at a place of what is recorded, while it wasn't taken
+abbrev pub taken_at : List Recorded → ℕ → Option ReplyValue
+taken_at hs j = option_and_then (λ h. option_map part_value h.taken) (slice_get hs j)
+
+abbrev pub errand_for : ℕ → Call → ℕ → Errand
+errand_for k c e = record { call = Some k; laid = c.laid; entry = e }
+
+-- the call of this number
+pub record IsRunning (r : RoutesValue) (k : ℕ) (c : Call) : Type 0 where
+  pub entries : IsLaidOut r (call_of c) (entries_of c)
+  pub tracked : IsTracked (tree_of r c.route) (situation_of (call_of c)) (choice_of (call_of c)) (entries_of c) (past_of c.recorded.items) c.state
+  pub counted : count c.state ≡ length (entries_of c)
+  pub len : length c.entries.items ≡ length (entries_of c)
+  -- an entry has a leg exactly when it is launched, and else it has ready what its leg takes with it
+  pub linked : (e : ℕ) (l : Launch) → slice_get (entries_of c) e ≡ Some l → is_some (numbers_of c.entries.items e) ≡ is_launched r (call_of c) l
+  pub ready : (e : ℕ) → e < length (entries_of c) → numbers_of c.entries.items e ≡ None → errand_at c.entries.items e ≡ Some (errand_for k c e)
+  -- what has an outcome is launched
+  pub closed : (l : Launch) → has_outcome (call_of c) l ≡ true → is_launched r (call_of c) l ≡ true
+  -- an entry has a place exactly when it has an outcome, and its reply is there until the call's reply is taken
+  pub placed : (e : ℕ) (l : Launch) → slice_get (entries_of c) e ≡ Some l → is_some (places_of c.entries.items e) ≡ has_outcome (call_of c) l
+  pub replies : (e j : ℕ) → places_of c.entries.items e ≡ Some j → c.taken ≡ false → taken_at c.recorded.items j ≡ reply_at (call_of c).recorded (launch_at (entries_of c) e).position
+  pub within : (e j : ℕ) → places_of c.entries.items e ≡ Some j → j < length c.recorded.items
+  pub launched : c.launched ≡ length (filter (is_launched r (call_of c)) (entries_of c))
+  pub recorded : length c.recorded.items ≡ length (filter (has_outcome (call_of c)) (entries_of c))
+  pub room : length (entries_of c) ≤ vec_capacity c.recorded
+  pub known : (e : ℕ) → e < length (entries_of c) → (launch_at (entries_of c) e).server.0 < length r.servers

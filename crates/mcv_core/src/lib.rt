@@ -1,0 +1,14 @@
+//! The core of the proxy: its running calls and their legs, and the events that move them.
+//!
+//! `Core` answers each event at once and takes memory in `new` and `begin` alone. What contracts see of it is `core_view`
+//! (specs/View.antt): the routes, the rows of calls and legs (`Rattle.mcv_events.specs.Rows`), and what is kept beside
+//! them. Each event names the move of the world that it is.
+#![tactic(auto)]
+
+mod call;
+mod calls;
+mod errand;
+mod fault;
+mod launch;
+
+pub use fault::CoreFault;

@@ -1,0 +1,11 @@
+pub mod Numbers
+pub mod Legs
+pub mod Forest
+pub mod Heap
+pub mod Rows
+pub mod Melding
+pub mod Groups
+pub mod Roots
+pub mod Sound
+pub mod Queues
+pub mod Marks

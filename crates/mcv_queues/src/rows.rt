@@ -1,0 +1,129 @@
+//! Legs by number, and the links by which they form heaps.
+
+ghost use Rattle.std.specs.Prelude.{◌≡◌, ◌<◌, ◌≤◌, ◌+◌, ℕ, None, Some, OnOk, IsSome, option_map, option_copied};
+ghost use Rattle.mcv_queues.specs.Numbers.{put};
+ghost use Rattle.mcv_queues.specs.Legs.{with_state, with_content, server_of};
+ghost use Rattle.mcv_queues.specs.Rows.{at, links, legs, room, content_of};
+
+use crate::leg::{Leg, State};
+use std::alloc::{AllocError, Global};
+use std::collections::HashMap;
+
+/// The numbers of the legs below a leg in its heap, and of the one above it.
+#[derive(Clone, Copy)]
+pub(crate) struct Link {
+    pub left: Option<u64>,
+    pub right: Option<u64>,
+    pub up: Option<u64>,
+}
+
+#[derive(Drop)]
+pub(crate) struct Row<T> {
+    pub leg: Leg<T>,
+    pub link: Link,
+}
+
+/// Legs by number.
+#[derive(Drop)]
+pub(crate) struct Rows<T> {
+    rows: HashMap<u64, Row<T>>,
+}
+
+impl<T: Drop> Rows<T> {
+    pub fn new(alloc: Global) -> Rows<T>
+        ensures { at result ≡ (λ n. None) }
+    {
+        Rows {
+            rows: HashMap::new(alloc),
+        }
+    }
+
+    /// Makes room for this many more legs.
+    pub fn reserve(&mut self, additional: usize) -> Result<(), AllocError>
+        ensures at { at self.new ≡ at self.old }
+        ensures ok { OnOk result (additional ≤ room self.new) }
+        ensures room { room self.old ≤ room self.new }
+    {
+        self.rows.reserve(additional)
+    }
+
+    /// Puts a leg at a number, where there is room.
+    pub fn fill(&mut self, number: u64, leg: Leg<T>)
+        requires { 0 < room self.old }
+        ensures at { at self.new ≡ put (at self.old) number (Some (record { leg = leg; link = record { left = None; right = None; up = None } })) }
+        ensures room { room self.old ≤ room self.new + 1 }
+    {
+        let link = Link {
+            left: None,
+            right: None,
+            up: None,
+        };
+        let _ = self.rows.insert(number, Row { leg, link });
+    }
+
+    /// Takes the leg at a number out.
+    pub fn remove(&mut self, number: u64) -> Option<T>
+        ensures at { at self.new ≡ put (at self.old) number None }
+        ensures content { result ≡ option_map content_of (at self.old number) }
+        ensures room { room self.old ≤ room self.new }
+    {
+        self.rows.remove(&number).map(|row| row.leg.content)
+    }
+
+    /// The links of the leg at a number.
+    pub fn link(&self, number: u64) -> Option<Link>
+        ensures { result ≡ links self.now number }
+    {
+        self.rows.get(&number).map(|row| row.link)
+    }
+
+    /// Changes the links of the leg at a number.
+    pub fn set_link(&mut self, number: u64, link: Link)
+        requires { IsSome (links self.old number) }
+        ensures links { links self.new ≡ put (links self.old) number (Some link) }
+        ensures legs { legs self.new ≡ legs self.old }
+        ensures room { room self.new ≡ room self.old }
+    {
+        if let Some(row) = self.rows.get_mut(&number) {
+            row.link = link;
+        }
+    }
+
+    /// The leg at a number.
+    pub fn leg(&self, number: u64) -> Option<&Leg<T>>
+        ensures { option_copied result ≡ legs self.now number }
+    {
+        self.rows.get(&number).map(|row| &row.leg)
+    }
+
+    /// The number of the server of the leg at a number; 0 where there is no leg.
+    pub fn server_of(&self, number: u64) -> usize
+        ensures { result ≡ server_of (legs self.now number) }
+    {
+        match self.rows.get(&number) {
+            Some(row) => row.leg.server.0 as usize,
+            None => 0,
+        }
+    }
+
+    /// Changes the state of the leg at a number.
+    pub fn set_state(&mut self, number: u64, state: State)
+        ensures legs { legs self.new ≡ with_state (legs self.old) number state }
+        ensures links { links self.new ≡ links self.old }
+        ensures room { room self.new ≡ room self.old }
+    {
+        if let Some(row) = self.rows.get_mut(&number) {
+            row.leg.state = state;
+        }
+    }
+    /// Changes the content of the leg at a number.
+    pub fn set_content(&mut self, number: u64, content: T)
+        ensures legs { legs self.new ≡ with_content (legs self.old) number content }
+        ensures links { links self.new ≡ links self.old }
+        ensures room { room self.new ≡ room self.old }
+    {
+        if let Some(row) = self.rows.get_mut(&number) {
+            row.leg.content = content;
+        }
+    }
+}
