@@ -2,7 +2,7 @@
 use Rattle.std.proofs.Common.{◌≡◌, cond, inl, inr, ℕ, zero, suc, ◌+◌, ◌<◌, ◌≤◌, ◌^◌, Bool, true, false, nat_eq, nat_lt, List, [], ◌∷◌, length, drop, get_or, set, Option, Some, None, option_map, refl, sym, ap, ◌∙◌, subst, arith, true≢false}
 use Rattle.std.specs.Prelude.{option_and_then, slice_get}
 use Rattle.std.proofs.Math.Path.{fun_ext}
-use Rattle.std.proofs.lemmas.Bool.{cases_eq}
+use Rattle.std.proofs.lemmas.Bool.{cases_eq, ltb-true}
 use Rattle.std.proofs.lemmas.List.{length-set}
 use Rattle.mcv_base.specs.declared.request.ServerId.{ServerId}
 use Rattle.mcv_queues.specs.declared.leg.Leg.{Leg}
@@ -12,6 +12,7 @@ use Rattle.mcv_world.proofs.Numbers.{same_some, no_some, put_same, put_other}
 use Rattle.mcv_core.specs.declared.errand.Errand.{Errand}
 use Rattle.mcv_core.specs.declared.launch.Entry.{Entry}
 use Rattle.mcv_core.specs.Errands.{launch_of}
+use Rattle.mcv_core.specs.Noting.{AreAddressed}
 use Rattle.mcv_core.specs.Launching.{errand_at, numbers_of, places_of, waiting_leg, with_legs, with_numbers, is_ready, CanLaunch, IsLaunched, HasCome}
 
 -- ---- lists
@@ -57,7 +58,7 @@ field_set f xs e x low j =
 -- ---- one entry more
 
 lt_is : (a b : ℕ) → nat_lt a b ≡ true → a < b
-lt_is a b e = grind (arith, e)
+lt_is a b e = ltb-true a b e
 
 there_of : (servers : ℕ) (entries : List Entry) (e : ℕ) → is_ready servers (errand_at entries e) ≡ true → (x : Entry) × (slice_get entries e ≡ Some x) × (is_ready servers x.errand ≡ true)
 there_of servers entries e h = by_entry (slice_get entries e) refl h
@@ -150,3 +151,19 @@ all_launched next number i fresh was entries old legs had room h end =
       len = h.len;
       others = h.others;
     }
+
+-- ---- servers
+
+some_waiting : (o : Option Errand) (l : Leg Errand) → option_map waiting_leg o ≡ Some l → l.server ≡ (launch_of l.content).server
+some_waiting None l e = no_some e
+some_waiting (Some x) l e = subst (λ (v : Leg Errand). v.server ≡ (launch_of v.content).server) (same_some e) refl
+
+-- legs that are launched wait at the servers of their launches
+pub launched_addressed : (n : ℕ) (fresh : List ℕ) (entries : List Entry) (legs : ℕ → Option (Leg Errand)) → AreAddressed legs → AreAddressed (with_legs n fresh entries legs)
+launched_addressed n [] entries legs h = h
+launched_addressed n (e ∷ fresh) entries legs h =
+    launched_addressed (suc n) fresh entries (put legs n (option_map waiting_leg (errand_at entries e)))
+        (λ m l at. elim (cases_eq n m) [
+          | inl q ↦ some_waiting (errand_at entries e) l (sym (put_same legs n (option_map waiting_leg (errand_at entries e))) ∙ subst (λ v. put legs n (option_map waiting_leg (errand_at entries e)) v ≡ Some l) (sym q) at)
+          | inr ne ↦ h m l (sym (put_other legs n m (option_map waiting_leg (errand_at entries e)) ne) ∙ at)
+        ])

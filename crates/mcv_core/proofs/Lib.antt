@@ -1,1 +1,4 @@
 pub mod Launches
+pub mod Places
+pub mod Counts
+pub mod Recordings

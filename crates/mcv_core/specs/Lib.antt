@@ -4,3 +4,4 @@ pub mod Launching
 pub mod Noting
 pub mod Rows
 pub mod Calls
+pub mod Sound

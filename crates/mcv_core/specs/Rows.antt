@@ -1,5 +1,5 @@
 -- The rows of the core's calls and legs in memory (own).
-use Rattle.std.specs.Prelude.{◌≡◌, ◌<◌, ◌≤◌, ◌+◌, ◌^◌, ℕ, Bool, true, false, List, [], ◌∷◌, Option, Some, None, fold, length, filter, is_some, option_map, option_and_then, slice_get, vec_capacity}
+use Rattle.std.specs.Prelude.{◌≡◌, ◌<◌, ◌≤◌, ℕ, Bool, false, not, List, [], ◌∷◌, Option, Some, None, fold, length, filter, is_some, option_map, option_and_then, slice_get, vec_capacity}
 use Rattle.std.specs.Arc.{arc_value}
 use Rattle.mcv_base.specs.Reply.{ReplyValue, outcome_of, part_value}
 use Rattle.mcv_plan.specs.Tracked.{IsTracked, Past, count, launch_at}
@@ -10,8 +10,8 @@ use Rattle.mcv_route.specs.declared.launch.Launch.{Launch}
 use Rattle.mcv_route.specs.Outcomes.{outcomes}
 use Rattle.mcv_route.specs.Routes.{RoutesValue}
 use Rattle.mcv_world.specs.World as world
-use Rattle.mcv_world.specs.World.{tree_of, situation_of, choice_of, history_of, reply_at, launched_by}
-use Rattle.mcv_events.specs.Entries.{IsLaidOut, is_launched, has_leg_at}
+use Rattle.mcv_world.specs.World.{tree_of, situation_of, choice_of, history_of, reply_at}
+use Rattle.mcv_events.specs.Entries.{is_launched}
 use Rattle.mcv_events.specs.Rows as rows
 use Rattle.mcv_events.specs.Rows.{State, LegRow, CallRow, Rows}
 use Rattle.mcv_core.specs.declared.call.Call.{Call}
@@ -84,22 +84,18 @@ taken_at hs j = option_and_then (λ h. option_map part_value h.taken) (slice_get
 abbrev pub errand_for : ℕ → Call → ℕ → Errand
 errand_for k c e = record { call = Some k; laid = c.laid; entry = e }
 
--- the call of this number
+-- the call of this number. That its entries are all legs that it can launch, and which of them have legs, is said of its row
 pub record IsRunning (r : RoutesValue) (k : ℕ) (c : Call) : Type 0 where
-  pub entries : IsLaidOut r (call_of c) (entries_of c)
   pub tracked : IsTracked (tree_of r c.route) (situation_of (call_of c)) (choice_of (call_of c)) (entries_of c) (past_of c.recorded.items) c.state
   pub counted : count c.state ≡ length (entries_of c)
   pub len : length c.entries.items ≡ length (entries_of c)
-  -- an entry has a leg exactly when it is launched, and else it has ready what its leg takes with it
-  pub linked : (e : ℕ) (l : Launch) → slice_get (entries_of c) e ≡ Some l → is_some (numbers_of c.entries.items e) ≡ is_launched r (call_of c) l
+  -- an entry that isn't launched has ready what its leg takes with it
   pub ready : (e : ℕ) → e < length (entries_of c) → numbers_of c.entries.items e ≡ None → errand_at c.entries.items e ≡ Some (errand_for k c e)
-  -- what has an outcome is launched
-  pub closed : (l : Launch) → has_outcome (call_of c) l ≡ true → is_launched r (call_of c) l ≡ true
   -- an entry has a place exactly when it has an outcome, and its reply is there until the call's reply is taken
   pub placed : (e : ℕ) (l : Launch) → slice_get (entries_of c) e ≡ Some l → is_some (places_of c.entries.items e) ≡ has_outcome (call_of c) l
   pub replies : (e j : ℕ) → places_of c.entries.items e ≡ Some j → c.taken ≡ false → taken_at c.recorded.items j ≡ reply_at (call_of c).recorded (launch_at (entries_of c) e).position
   pub within : (e j : ℕ) → places_of c.entries.items e ≡ Some j → j < length c.recorded.items
-  pub launched : c.launched ≡ length (filter (is_launched r (call_of c)) (entries_of c))
+  pub left : c.left ≡ length (filter (λ l. not (is_launched r (call_of c) l)) (entries_of c))
   pub recorded : length c.recorded.items ≡ length (filter (has_outcome (call_of c)) (entries_of c))
   pub room : length (entries_of c) ≤ vec_capacity c.recorded
   pub known : (e : ℕ) → e < length (entries_of c) → (launch_at (entries_of c) e).server.0 < length r.servers

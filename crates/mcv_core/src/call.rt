@@ -1,6 +1,6 @@
 //! A running call: what it asks, how far it has come, and its entries.
 
-ghost use Rattle.std.specs.Prelude.{◌≡◌, ◌<◌, ◌≤◌, ◌+◌, ◌^◌, ◌∷◌, ◌++◌, [], ℕ, List, Some, ◌&&◌, not, length, vec_len, vec_capacity};
+ghost use Rattle.std.specs.Prelude.{◌≡◌, ◌<◌, ◌≤◌, ◌+◌, ◌-◌, ◌∷◌, [], ℕ, List, Some, ◌&&◌, not, length, vec_len, vec_capacity};
 ghost use Rattle.mcv_base.specs.Reply.{outcome_of, part_value};
 ghost use Rattle.mcv_plan.specs.Tracked.{CanAdvance, IsTracked, Past, count, fresh, history_by, is_sent, places_from};
 ghost use Rattle.mcv_queues.specs.Queues.{legs, room, in_flight, servers as known};
@@ -9,7 +9,11 @@ ghost use Rattle.mcv_route.specs.Outcomes.{Choice as Chosen};
 ghost use Rattle.mcv_route.specs.Situation.{Situation};
 ghost use Rattle.mcv_route.specs.Tree.{Tree};
 ghost use Rattle.mcv_core.specs.Launching.{CanLaunch, IsLaunched};
-ghost use Rattle.mcv_core.specs.Noting.{IsNoted};
+ghost use Rattle.mcv_core.specs.Noting.{CanNote, HasRecorded, IsNoted, has_ended_by};
+ghost use Rattle.mcv_core.specs.Rows.{call_row, entries_of, IsRunning};
+ghost use Rattle.mcv_events.specs.Rows.{CanRecord, IsCore, Rows};
+ghost use Rattle.mcv_plan.specs.Tracked.{launch_at};
+ghost use Rattle.mcv_route.specs.Routes.{RoutesValue};
 
 use crate::errand::{Errand, Laid};
 use crate::launch::{Entry, launch_each};
@@ -28,6 +32,17 @@ pub struct Recorded {
     pub taken: Option<Part>,
 }
 
+/// What came of a reply that a call recorded.
+#[derive(Clone, Copy, Debug, PartialEq, Eq)]
+pub struct Recording {
+    /// How many entries it launched.
+    pub launched: usize,
+    /// How many entries the call may still launch.
+    pub left: usize,
+    /// The call has ended: its reply was taken, and each launched entry has an outcome.
+    pub ended: bool,
+}
+
 /// A running call.
 #[derive(Drop)]
 pub struct Call {
@@ -40,8 +55,8 @@ pub struct Call {
     pub entries: Vec<Entry>,
     /// The oldest first. There is room for one of each entry.
     pub recorded: Vec<Recorded>,
-    /// How many entries are launched.
-    pub launched: usize,
+    /// How many entries it may still launch.
+    pub left: usize,
     /// Its reply was taken.
     pub taken: bool,
 }
@@ -59,8 +74,10 @@ impl Entry {
 
 impl Call {
     /// Whether its reply was taken, and each launched entry has an outcome.
-    pub fn has_ended(&self) -> bool {
-        self.taken && self.recorded.len() == self.launched
+    pub fn has_ended(&self) -> bool
+        ensures { result ≡ has_ended_by self.now }
+    {
+        self.taken && self.recorded.len() == self.entries.len().saturating_sub(self.left)
     }
 
     /// Notes the reply of an entry. It takes no memory.
@@ -85,12 +102,12 @@ impl Call {
         });
     }
 
-    /// Launches the entries that are due since the last outcome, and counts them. It takes no memory.
+    /// Launches the entries that are due since the last outcome. Gives how many that is. It takes no memory.
     fn launch(&mut self, queues: &mut Queues<Errand>, next: u64) -> usize
         requires can { CanLaunch (fresh self.old.state) self.old.entries.items (legs queues.old) (room queues.old) (known queues.old) next }
-        requires small { self.old.launched + length (fresh self.old.state) < 2 ^ 64 }
+        requires left { length (fresh self.old.state) ≤ self.old.left }
         ensures launched { IsLaunched next (fresh self.old.state) self.old.entries.items self.new.entries.items (legs queues.old) (legs queues.new) }
-        ensures same { self.new ≡ record self.old { entries = self.new.entries; launched = self.old.launched + length (fresh self.old.state) } }
+        ensures same { self.new ≡ record self.old { entries = self.new.entries; left = self.old.left - length (fresh self.old.state) } }
         ensures count { result ≡ length (fresh self.old.state) }
         ensures flights { (s : ℕ) → in_flight queues.new s ≡ in_flight queues.old s }
         ensures servers { known queues.new ≡ known queues.old }
@@ -99,7 +116,33 @@ impl Call {
         let fresh = self.state.fresh();
         launch_each(fresh, &mut self.entries, queues, next);
         let count = fresh.len();
-        self.launched += count;
+        self.left -= count;
         count
+    }
+
+    /// Records the reply of an entry that is launched and has none, and launches the entries that are due then. It takes
+    /// no memory.
+    pub fn record(
+        &mut self,
+        queues: &mut Queues<Errand>,
+        entry: usize,
+        outcome: Part,
+        taken: Part,
+        next: u64,
+    ) -> Recording
+        requires can { CanNote self.old entry (legs queues.old) (room queues.old) (known queues.old) next }
+        ensures recorded { (r : RoutesValue) (w : Rows) (k : ℕ) → IsCore r w → CanRecord r w k (call_row self.old) entry (launch_at (entries_of self.old) entry) → IsRunning r k self.old → w.next_leg ≡ next
+            → part_value taken ≡ part_value outcome → HasRecorded r w k self.old self.new entry (part_value outcome) (legs queues.old) (legs queues.new) result }
+        ensures flights { (s : ℕ) → in_flight queues.new s ≡ in_flight queues.old s }
+        ensures servers { known queues.new ≡ known queues.old }
+        ensures room { room queues.old ≤ room queues.new + result.launched }
+    {
+        self.note(entry, outcome, taken);
+        let launched = self.launch(queues, next);
+        Recording {
+            launched,
+            left: self.left,
+            ended: self.has_ended(),
+        }
     }
 }
