@@ -2,3 +2,5 @@ pub mod Launches
 pub mod Places
 pub mod Counts
 pub mod Recordings
+pub mod States
+pub mod Settlements

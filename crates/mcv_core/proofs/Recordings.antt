@@ -10,6 +10,8 @@ use Rattle.mcv_base.specs.Reply.{ReplyValue, outcome_of, part_value}
 use Rattle.mcv_plan.specs.declared.state.EvalState.{EvalState}
 use Rattle.mcv_plan.specs.Tracked.{CanAdvance, IsTracked, Past, count as entry_count, fresh, history_by, is_sent, launch_at, no_launch, places_from}
 use Rattle.mcv_queues.specs.declared.leg.Leg.{Leg}
+use Rattle.mcv_queues.specs.declared.leg.State.{State}
+use Rattle.mcv_queues.specs.declared.leg.State.TheVariants.{Waiting}
 use Rattle.mcv_route.specs.declared.launch.Launch.{Launch}
 use Rattle.mcv_route.specs.Launched.{launched}
 use Rattle.mcv_route.specs.Outcomes.{is_same, outcomes}
@@ -21,6 +23,7 @@ use Rattle.mcv_world.specs.Live.{has_ended}
 use Rattle.mcv_world.specs.Moves.{with_reply}
 use Rattle.mcv_world.proofs.Numbers.{same_some, no_some, put_same, put_other}
 use Rattle.mcv_events.specs.Entries.{IsLaidOut, is_launched, is_due, has_leg_at}
+use Rattle.mcv_events.specs.Rows as rows
 use Rattle.mcv_events.specs.Rows.{Rows, CallRow, IsCore, IsCallRow, CanRecord, numbered, queued_rows, recorded_row}
 use Rattle.mcv_events.proofs.Entries.{not_true, settled_by_entries}
 use Rattle.mcv_events.proofs.Recording.{one_entry, launched_stays}
@@ -31,7 +34,7 @@ use Rattle.mcv_core.specs.declared.errand.Errand.{Errand}
 use Rattle.mcv_core.specs.declared.launch.Entry.{Entry}
 use Rattle.mcv_core.specs.Launching.{errand_at, numbers_of, places_of, is_ready, with_legs, with_numbers, CanLaunch, IsLaunched}
 use Rattle.mcv_core.specs.Noting.{has_ended_by, AreAddressed, HasRecorded, IsNoted}
-use Rattle.mcv_core.specs.Rows.{call_of, call_row, entries_of, errand_for, has_outcome, leg_rows, past_of, recorded_all, recorded_one, taken_at, IsRunning}
+use Rattle.mcv_core.specs.Rows.{call_of, call_row, entries_of, errand_for, has_outcome, rows_by, past_next, past_of, recorded_all, recorded_next, taken_at, IsRunning}
 use Rattle.mcv_core.proofs.Counts.{all_by_count, count, count_below, count_both, count_more, count_one_more, count_up}
 use Rattle.mcv_core.proofs.Launches.{get_below, launched_addressed}
 use Rattle.mcv_core.proofs.Places.{AreReady, due_at, due_numbers, due_rows, places_apart, places_count}
@@ -71,14 +74,18 @@ none_not o e = ap is_some e
 is_some_of : {A : Type 0} (o : Option A) (x : A) → o ≡ Some x → is_some o ≡ true
 is_some_of o x e = ap is_some e
 
+history_from : (es : List Launch) (all : List world.Recorded) (past : Past) (hs : List Recorded) → history_of all ≡ history_by es past → history_of (fold (recorded_next es) all hs) ≡ history_by es (fold past_next past hs)
+history_from es all past [] e = e
+history_from es all past (h ∷ hs) e = history_from es (recorded_next es all h) (past_next past h) hs (ap (λ v. ((launch_at es h.entry).position, outcome_of (part_value h.outcome)) ∷ v) e)
+
 -- what the rules of routes read of what is recorded is the history of the entries
 pub history_is : (es : List Launch) (hs : List Recorded) → history_of (recorded_all es hs) ≡ history_by es (past_of hs)
-history_is es hs = from [] [] hs refl
-  where
-    from : (all : List world.Recorded) (past : Past) (hs : List Recorded) → history_of all ≡ history_by es past
-        → history_of (fold (λ all h. recorded_one es h ∷ all) all hs) ≡ history_by es (fold (λ past h. (h.entry, outcome_of (part_value h.outcome)) ∷ past) past hs)
-    from all past [] e = e
-    from all past (h ∷ hs) e = from (recorded_one es h ∷ all) ((h.entry, outcome_of (part_value h.outcome)) ∷ past) hs (ap (λ v. ((launch_at es h.entry).position, outcome_of (part_value h.outcome)) ∷ v) e)
+history_is es hs = history_from es [] [] hs refl
+
+entry_at : (xs : List Entry) (j : ℕ) → j < length xs → (y : Entry) × (slice_get xs j ≡ Some y)
+entry_at [] j low = absurd (omega (arith, low))
+entry_at (z ∷ xs) zero low = (z, refl)
+entry_at (z ∷ xs) (suc j) low = entry_at xs j (omega (arith, low))
 
 and_first : (b c : Bool) → (b && c) ≡ true → c ≡ true
 and_first true c e = e
@@ -189,7 +196,7 @@ module _ (r : RoutesValue) (w : Rows) (k : ℕ) (c : Call) (e : ℕ) (i : IsCore
       c2 = record c { state = c1.state; entries = entries2; recorded = c1.recorded; left = c.left - length (fresh c1.state) }
 
       recorded_is : recorded_all (entries_of c) c1.recorded.items ≡ record { position = p; reply = x } ∷ (call_of c).recorded
-      recorded_is = ap (recorded_all (entries_of c)) noted.recorded ∙ fold_last (λ all h. recorded_one (entries_of c) h ∷ all) [] c.recorded.items _
+      recorded_is = ap (recorded_all (entries_of c)) noted.recorded ∙ fold_last (recorded_next (entries_of c)) [] c.recorded.items (record { entry = e; outcome = outcome; taken = Some taken })
 
       pub call_is : call_of c2 ≡ with_reply (call_of c) p x
       call_is = ap (λ v. record (call_of c) { recorded = v }) recorded_is
@@ -202,10 +209,10 @@ module _ (r : RoutesValue) (w : Rows) (k : ℕ) (c : Call) (e : ℕ) (i : IsCore
       pub row_is : call_row c2 ≡ recorded_row r w (call_row c) p x
       row_is = λ j. record { call = call_is j; entries = entries_of c; legs = numbers_are j }
 
-      pub rows_are : leg_rows legs2 ≡ queued_rows due k (call_of c).rest w.next_leg 0 (entries_of c) (leg_rows legs)
-      rows_are =
-          ap leg_rows (launched2.legs_are ∙ ap (λ v. with_legs w.next_leg v c1.entries.items legs) fresh_is)
-          ∙ due_rows k c due w.next_leg 0 (entries_of c) c1.entries.items legs are_ready
+      pub rows_are : (f : State → rows.State) → f Waiting ≡ rows.Waiting → rows_by f legs2 ≡ queued_rows due k (call_of c).rest w.next_leg 0 (entries_of c) (rows_by f legs)
+      rows_are f waits =
+          ap (rows_by f) (launched2.legs_are ∙ ap (λ v. with_legs w.next_leg v c1.entries.items legs) fresh_is)
+          ∙ due_rows k c due f waits w.next_leg 0 (entries_of c) c1.entries.items legs are_ready
 
       -- ---- what holds of a running call holds of it
 
@@ -256,11 +263,6 @@ module _ (r : RoutesValue) (w : Rows) (k : ℕ) (c : Call) (e : ℕ) (i : IsCore
           let was = launched2.others j y.0 y.1 no_leg in
           let old_none : numbers_of c.entries.items j ≡ None = sym (noted.numbers j) ∙ ap (option_and_then (λ z. z.leg)) was ∙ no_leg in
           ap (option_and_then (λ z. z.errand)) y.1 ∙ sym (ap (option_and_then (λ z. z.errand)) was) ∙ noted.errands j ∙ run.ready j below old_none
-        where
-          entry_at : (xs : List Entry) (j : ℕ) → j < length xs → (y : Entry) × (slice_get xs j ≡ Some y)
-          entry_at [] j low = absurd (omega (arith, low))
-          entry_at (z ∷ xs) zero low = (z, refl)
-          entry_at (z ∷ xs) (suc j) low = entry_at xs j (omega (arith, low))
 
       replies2 : part_value taken ≡ part_value outcome → (j q : ℕ) → places_of entries2.items j ≡ Some q → c.taken ≡ false → taken_at c1.recorded.items q ≡ reply_at (call_of c2).recorded (launch_at (entries_of c) j).position
       replies2 same j q g untaken =
@@ -324,7 +326,7 @@ module _ (r : RoutesValue) (w : Rows) (k : ℕ) (c : Call) (e : ℕ) (i : IsCore
       running same =
           record {
             tracked = subst (λ v. IsTracked (tree_of r c.route) (situation_of (call_of c)) (choice_of (call_of c)) (entries_of c) v c1.state)
-                (sym (ap past_of noted.recorded ∙ fold_last (λ past z. (z.entry, outcome_of (part_value z.outcome)) ∷ past) [] c.recorded.items _)) tracked1;
+                (sym (ap past_of noted.recorded ∙ fold_last past_next [] c.recorded.items (record { entry = e; outcome = outcome; taken = Some taken }))) tracked1;
             counted = counted1 ∙ run.counted;
             len = len2;
             ready = ready2;
@@ -373,6 +375,7 @@ module _ (r : RoutesValue) (w : Rows) (k : ℕ) (c : Call) (e : ℕ) (i : IsCore
             running = running same;
             launched = n ∙ fresh_count;
             left = left ∙ left_count;
+            spent = let m = within_left in let f = fresh_count in let a = run.left in omega (arith, n, left, m, f, a);
             ended = ended ∙ ended_is;
             addressed = λ a. subst AreAddressed (sym launched2.legs_are) (launched_addressed w.next_leg (fresh c1.state) c1.entries.items legs a);
           }

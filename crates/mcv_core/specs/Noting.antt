@@ -4,18 +4,21 @@ use Rattle.mcv_base.specs.declared.reply.Part.{Part}
 use Rattle.mcv_base.specs.Reply.{ReplyValue, part_value}
 use Rattle.mcv_plan.specs.Tracked.{launch_at}
 use Rattle.mcv_queues.specs.declared.leg.Leg.{Leg}
+use Rattle.mcv_queues.specs.declared.leg.State.{State}
+use Rattle.mcv_queues.specs.declared.leg.State.TheVariants.{Waiting}
 use Rattle.mcv_route.specs.Routes.{RoutesValue}
 use Rattle.mcv_world.specs.World.{put}
 use Rattle.mcv_world.specs.Live.{has_ended}
 use Rattle.mcv_world.specs.Moves.{with_reply}
 use Rattle.mcv_events.specs.Entries.{is_due, is_launched}
+use Rattle.mcv_events.specs.Rows as rows
 use Rattle.mcv_events.specs.Rows.{CanRecord, IsCore, Rows, queued_rows, recorded_row}
 use Rattle.mcv_core.specs.declared.call.Call.{Call}
 use Rattle.mcv_core.specs.declared.call.Recording.{Recording}
 use Rattle.mcv_core.specs.declared.errand.Errand.{Errand}
 use Rattle.mcv_core.specs.Errands.{launch_of}
 use Rattle.mcv_core.specs.Launching.{errand_at, numbers_of, places_of}
-use Rattle.mcv_core.specs.Rows.{call_of, call_row, entries_of, leg_rows, IsRunning}
+use Rattle.mcv_core.specs.Rows.{call_of, call_row, entries_of, rows_by, IsRunning}
 
 -- its reply was taken, and it has recorded as many as are launched
 abbrev pub has_ended_by : Call → Bool
@@ -50,9 +53,11 @@ AreAddressed legs = (n : ℕ) (l : Leg Errand) → legs n ≡ Some l → l.serve
 -- the call's row is what recording makes of it, and what is due waits
 pub record HasRecorded (r : RoutesValue) (w : Rows) (k : ℕ) (c d : Call) (e : ℕ) (x : ReplyValue) (legs after : ℕ → Option (Leg Errand)) (result : Recording) : Type 0 where
   pub row : call_row d ≡ recorded_row r w (call_row c) (launch_at (entries_of c) e).position x
-  pub rows : leg_rows after ≡ queued_rows (is_due r (call_of c) (with_reply (call_of c) (launch_at (entries_of c) e).position x)) k (call_of c).rest w.next_leg 0 (entries_of c) (leg_rows legs)
+  pub rows : (f : State → rows.State) → f Waiting ≡ rows.Waiting
+      → rows_by f after ≡ queued_rows (is_due r (call_of c) (with_reply (call_of c) (launch_at (entries_of c) e).position x)) k (call_of c).rest w.next_leg 0 (entries_of c) (rows_by f legs)
   pub running : IsRunning r k d
   pub launched : result.launched ≡ length (filter (is_due r (call_of c) (with_reply (call_of c) (launch_at (entries_of c) e).position x)) (entries_of c))
   pub left : result.left ≡ length (filter (λ l. not (is_launched r (call_of d) l)) (entries_of d))
+  pub spent : result.launched + result.left ≡ c.left
   pub ended : result.ended ≡ has_ended r (call_of d)
   pub addressed : AreAddressed legs → AreAddressed after

@@ -28,12 +28,18 @@ entries_of c = (arc_value c.laid).launches.items
 abbrev pub recorded_one : List Launch → Recorded → world.Recorded
 recorded_one es h = record { position = (launch_at es h.entry).position; reply = part_value h.outcome }
 
+abbrev pub recorded_next : List Launch → List world.Recorded → Recorded → List world.Recorded
+recorded_next es all h = recorded_one es h ∷ all
+
 -- the newest first
 abbrev pub recorded_all : List Launch → List Recorded → List world.Recorded
-recorded_all es hs = fold (λ all h. recorded_one es h ∷ all) [] hs
+recorded_all es hs = fold (recorded_next es) [] hs
+
+abbrev pub past_next : Past → Recorded → Past
+past_next past h = (h.entry, outcome_of (part_value h.outcome)) ∷ past
 
 abbrev pub past_of : List Recorded → Past
-past_of hs = fold (λ past h. (h.entry, outcome_of (part_value h.outcome)) ∷ past) [] hs
+past_of hs = fold past_next [] hs
 
 abbrev pub call_of : Call → world.Call
 call_of c = record {
@@ -60,17 +66,36 @@ state_of states.Refused = rows.Held
 state_of states.InSpool = rows.InSpool
 state_of states.InReplay = rows.InSpool
 
-abbrev pub leg_row : Leg Errand → LegRow
-leg_row l = record { call = l.content.call; entry = l.content.entry; launch = launch_of l.content; rest = rest_of l.content; state = state_of l.state }
+-- a held leg of which its call has no outcome awaits it, as one that was sent does
+abbrev pub awaiting_state : queued.State → State
+awaiting_state states.Waiting = rows.Waiting
+awaiting_state states.Sent = rows.Sent
+awaiting_state states.Held = rows.Sent
+awaiting_state states.Refused = rows.Held
+awaiting_state states.InSpool = rows.InSpool
+awaiting_state states.InReplay = rows.InSpool
+
+-- a leg's row, by what its state is taken for
+abbrev pub row_by : (queued.State → State) → Leg Errand → LegRow
+row_by f l = record { call = l.content.call; entry = l.content.entry; launch = launch_of l.content; rest = rest_of l.content; state = f l.state }
+
+abbrev pub rows_by : (queued.State → State) → (ℕ → Option (Leg Errand)) → ℕ → Option LegRow
+rows_by f legs n = option_map (row_by f) (legs n)
 
 abbrev pub leg_rows : (ℕ → Option (Leg Errand)) → ℕ → Option LegRow
-leg_rows legs n = option_map leg_row (legs n)
+leg_rows legs = rows_by state_of legs
 
 abbrev pub call_rows : (ℕ → Option Call) → ℕ → Option CallRow
 call_rows calls k = option_map call_row (calls k)
 
+abbrev pub all_rows : (queued.State → State) → (ℕ → Option Call) → (ℕ → Option (Leg Errand)) → Option ℕ → ℕ → ℕ → Rows
+all_rows f calls legs since next_call next_leg = record { calls = call_rows calls; legs = rows_by f legs; since = since; next_call = next_call; next_leg = next_leg }
+
 abbrev pub rows_of : (ℕ → Option Call) → (ℕ → Option (Leg Errand)) → Option ℕ → ℕ → ℕ → Rows
-rows_of calls legs since next_call next_leg = record { calls = call_rows calls; legs = leg_rows legs; since = since; next_call = next_call; next_leg = next_leg }
+rows_of = all_rows state_of
+
+abbrev pub awaiting_rows : (ℕ → Option Call) → (ℕ → Option (Leg Errand)) → Option ℕ → ℕ → ℕ → Rows
+awaiting_rows = all_rows awaiting_state
 
 -- ---- what holds of a running call
 

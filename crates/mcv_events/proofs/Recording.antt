@@ -1,7 +1,7 @@
 -- A call of a core's rows that records a reply does what it does in the world that they keep.
 use Rattle.std.proofs.Common.{◌≡◌, ◌&&◌, ◌||◌, not, cond, inl, inr, ℕ, zero, suc, ◌+◌, ◌<◌, Bool, true, false, nat_eq, is_none, List, [], ◌∷◌, map, length, get_or, Option, Some, None, option_map, refl, sym, ap, ◌∙◌, subst, arith, true≢false}
 use Rattle.std.specs.Prelude.{filter, is_some, slice_get}
-use Rattle.std.specs.List.{AllPairs, list_all}
+use Rattle.std.specs.List.{AllPairs}
 use Rattle.std.proofs.lemmas.Bool.{cases_Bool, cases_eq, cases_lt, and_parts}
 use Rattle.mcv_base.specs.declared.reply.Outcome.{Outcome}
 use Rattle.mcv_base.specs.Reply.{ReplyValue, outcome_of}

@@ -1,25 +1,12 @@
 -- What is in flight to each server after each change.
-use Rattle.std.proofs.Common.{◌≡◌, ◌&&◌, inl, inr, cond, not, ℕ, ◌<◌, Bool, true, false, nat_eq, Option, Some, None, IfSome, refl, sym, ap, subst, ◌∙◌}
-use Rattle.std.proofs.Math.Path.{fun_ext}
+use Rattle.std.proofs.Common.{◌≡◌, ◌&&◌, inl, inr, cond, not, ℕ, ◌<◌, Bool, true, false, nat_eq, Option, Some, None, refl, sym, ap, subst, ◌∙◌}
 use Rattle.std.specs.Prelude.{option_map}
 use Rattle.std.proofs.lemmas.Bool.{cases_eq, eq-eqb, ne_eqb, eqb-true, and_from, and_parts, and_left, and_right}
-use Rattle.mcv_base.specs.declared.request.ServerId.{ServerId}
 use Rattle.mcv_queues.specs.declared.leg.Leg.{Leg}
-use Rattle.mcv_queues.specs.declared.rows.Link.{Link}
-use Rattle.mcv_queues.specs.declared.rows.Row.{Row}
 use Rattle.mcv_queues.specs.declared.leg.State.{State}
-use Rattle.mcv_queues.specs.declared.leg.State.TheVariants.{Waiting, Sent, Held, Refused, InSpool, InReplay}
-use Rattle.mcv_queues.specs.declared.roots.Group.{Group}
-use Rattle.mcv_queues.specs.declared.roots.Group.TheVariants.{WaitingFor, SpooledFor, LegsInReplay}
-use Rattle.mcv_queues.specs.Numbers.{put, names, IsLeast}
-use Rattle.mcv_queues.specs.Forest.{IsForest}
-use Rattle.mcv_queues.specs.Rows.{leg_of, link_of}
-use Rattle.mcv_queues.specs.Groups.{group_at, group_of, is_group, is_in}
+use Rattle.mcv_queues.specs.Numbers.{put, names}
 use Rattle.mcv_queues.specs.Legs.{rests_at, is_flight, is_in_flight, is_in_flight_to, server_of, in_state}
-use Rattle.mcv_queues.specs.Sound.{AreTrees, AreTreesBut, AreInRange, IsQueues}
-use Rattle.mcv_queues.proofs.Places.{put_here, put_there, names_some, none_some}
-use Rattle.mcv_queues.proofs.RootIsLeast.{root_least}
-use Rattle.mcv_queues.proofs.GroupsAreHeaps.{left_none, entered_none, beside, inner_leg, none_leg}
+use Rattle.mcv_queues.proofs.Places.{put_here, put_there, names_some}
 
 pub rests_not_in_flight : {T : Type 0} (t : ℕ) (o : Option (Leg T)) → is_in_flight o ≡ false → is_in_flight_to t o ≡ false
 rests_not_in_flight t None e = refl

@@ -9,3 +9,4 @@ pub mod GroupsAreHeaps
 pub mod InFlight
 pub mod QueuesStaySound
 pub mod ContentIsUnseen
+mod Examples

@@ -1,13 +1,10 @@
 -- What a change of one number's links keeps.
-use Rattle.std.proofs.Common.{◌≡◌, ◌&&◌, ◌||◌, ◌⊎◌, inl, inr, cond, not, ℕ, zero, suc, ◌<◌, ◌≤◌, Bool, true, false, nat_eq, nat_lt, is_some, Option, Some, None, refl, sym, ap, subst, ◌∙◌, arith}
+use Rattle.std.proofs.Common.{◌≡◌, inl, inr, ℕ, true, is_some, Option, Some, None, refl, ap, subst, ◌∙◌}
 use Rattle.std.specs.Prelude.{option_map}
-use Rattle.std.proofs.lemmas.Bool.{cases_eq, cases_lt, eq-eqb, ne_eqb, eqb-true, leb-true, le-leb, ltb-true, lt-ltb, and_from, and_parts, or_left, or_right}
+use Rattle.std.proofs.lemmas.Bool.{cases_eq}
 use Rattle.mcv_queues.specs.declared.rows.Link.{Link}
-use Rattle.mcv_queues.specs.declared.heap.Step.{Step}
-use Rattle.mcv_queues.specs.Numbers.{put, names, is_up_to, IsLeast}
-use Rattle.mcv_queues.specs.Forest.{left_of, right_of, up_of, is_below, IsForest, changed, raised, raised_some, turned, unless, cut, freed}
-use Rattle.mcv_queues.specs.Heap.{parted, stepped, AreApart, IsBefore, IsJoined, without, with_one, IsOut, IsIn, IsMelding}
-use Rattle.mcv_queues.proofs.Places.{Placed, is_first, is_second, is_third, hangs, place, placed, put_here, put_there, some_eq, none_some, apart_bool, bool_cases, or_split, option_cases, names_some, some_names, cases_names}
+use Rattle.mcv_queues.specs.Forest.{left_of, right_of, up_of, changed, raised}
+use Rattle.mcv_queues.proofs.Places.{put_here, put_there}
 
 pub keeps : {X : Type 0} (v : Option Link → X) (f : ℕ → Option Link) (n : ℕ) (g : Link → Link) → ((o : Option Link) → v (option_map g o) ≡ v o) → (m : ℕ) → v (changed f n g m) ≡ v (f m)
 keeps v f n g e m = elim (cases_eq n m) [

@@ -1,14 +1,13 @@
 -- Each step that makes two heaps one leaves a forest, and the last one a heap.
-use Rattle.std.proofs.Common.{◌≡◌, ◌&&◌, ◌||◌, ◌⊎◌, inl, inr, cond, not, ℕ, zero, suc, ◌<◌, ◌≤◌, Bool, true, false, nat_eq, nat_lt, is_some, Option, Some, None, refl, sym, ap, subst, ◌∙◌, arith}
+use Rattle.std.proofs.Common.{◌≡◌, ◌&&◌, ◌⊎◌, inl, inr, cond, ℕ, ◌<◌, ◌≤◌, Bool, true, false, nat_lt, is_some, Option, Some, None, refl, sym, ap, subst, ◌∙◌, arith}
 use Rattle.std.specs.Prelude.{option_map}
-use Rattle.std.proofs.lemmas.Bool.{cases_eq, cases_lt, eq-eqb, ne_eqb, eqb-true, leb-true, le-leb, ltb-true, lt-ltb, and_from, and_parts, or_left, or_right}
+use Rattle.std.proofs.lemmas.Bool.{cases_eq, cases_lt, ltb-true, lt-ltb, and_from, and_parts}
 use Rattle.mcv_queues.specs.declared.rows.Link.{Link}
 use Rattle.mcv_queues.specs.declared.heap.Step.{Step}
-use Rattle.mcv_queues.specs.Numbers.{put, names, is_up_to, IsLeast}
-use Rattle.mcv_queues.specs.Forest.{left_of, right_of, up_of, is_below, IsForest, changed, raised, raised_some, turned, unless, cut, freed}
-use Rattle.mcv_queues.specs.Heap.{parted, stepped, AreApart, IsBefore, IsJoined, without, with_one, IsOut, IsIn, IsMelding}
-use Rattle.mcv_queues.proofs.Places.{Placed, is_first, is_second, is_third, hangs, place, placed, put_here, put_there, some_eq, none_some, apart_bool, bool_cases, or_split, option_cases, names_some, some_names, cases_names}
-use Rattle.mcv_queues.proofs.LinkChanges.{keeps, lift, turn, turn_some, turn_left, turn_right, turn_up, lift_left, raised_left, raised_right, raised_some_there, raised_here, raised_none, raised_there}
+use Rattle.mcv_queues.specs.Forest.{left_of, right_of, up_of, IsForest, changed, raised, turned}
+use Rattle.mcv_queues.specs.Heap.{parted, stepped, AreApart, IsBefore, IsJoined, IsMelding}
+use Rattle.mcv_queues.proofs.Places.{Placed, is_first, is_second, is_third, hangs, place, placed, put_here, put_there, some_eq, none_some, apart_bool, cases_names}
+use Rattle.mcv_queues.proofs.LinkChanges.{keeps, lift, turn, turn_some, turn_left, turn_right, turn_up, raised_left, raised_right, raised_some_there, raised_here, raised_none, raised_there}
 
 -- ---- a number is hung up
 

@@ -1,12 +1,9 @@
 -- Where a number hangs in a forest.
-use Rattle.std.proofs.Common.{◌≡◌, ◌&&◌, ◌||◌, ◌⊎◌, inl, inr, cond, not, ℕ, zero, suc, ◌<◌, ◌≤◌, Bool, true, false, nat_eq, nat_lt, is_some, Option, Some, None, refl, sym, ap, subst, ◌∙◌, arith}
-use Rattle.std.specs.Prelude.{option_map}
-use Rattle.std.proofs.lemmas.Bool.{cases_eq, cases_lt, eq-eqb, ne_eqb, eqb-true, leb-true, le-leb, ltb-true, lt-ltb, and_from, and_parts, or_left, or_right}
+use Rattle.std.proofs.Common.{◌≡◌, ◌&&◌, ◌||◌, ◌⊎◌, inl, inr, cond, ℕ, ◌<◌, Bool, true, false, nat_lt, Option, Some, None, refl, ap, ◌∙◌}
+use Rattle.std.proofs.lemmas.Bool.{eq-eqb, ne_eqb, eqb-true, ltb-true, lt-ltb, and_from, and_parts, or_left, or_right}
 use Rattle.mcv_queues.specs.declared.rows.Link.{Link}
-use Rattle.mcv_queues.specs.declared.heap.Step.{Step}
-use Rattle.mcv_queues.specs.Numbers.{put, names, is_up_to, IsLeast}
-use Rattle.mcv_queues.specs.Forest.{left_of, right_of, up_of, is_below, IsForest, changed, raised, raised_some, turned, unless, cut, freed}
-use Rattle.mcv_queues.specs.Heap.{parted, stepped, AreApart, IsBefore, IsJoined, without, with_one, IsOut, IsIn, IsMelding}
+use Rattle.mcv_queues.specs.Numbers.{put, names}
+use Rattle.mcv_queues.specs.Forest.{left_of, right_of, up_of, is_below, IsForest}
 
 -- ---- small facts
 
@@ -50,7 +47,7 @@ cases_names o n = elim (bool_cases (names o n)) [
   | inr e ↦ inr (λ q. apart_bool (names o n) (some_names o n q) e)
 ]
 
--- ---- where a number stands in a forest
+-- ---- where a number hangs in a forest
 
 pub data Placed (w : ℕ → Bool) (f : ℕ → Option Link) (a b c : Option ℕ) (n : ℕ) : Type 0 where
   is_first : a ≡ Some n → Placed w f a b c n

@@ -1,13 +1,11 @@
 -- A number that is put into a heap is in it, and all else is as before.
-use Rattle.std.proofs.Common.{◌≡◌, ◌&&◌, ◌||◌, ◌⊎◌, inl, inr, cond, not, ℕ, zero, suc, ◌<◌, ◌≤◌, Bool, true, false, nat_eq, nat_lt, is_some, Option, Some, None, refl, sym, ap, subst, ◌∙◌, arith}
+use Rattle.std.proofs.Common.{◌≡◌, inl, inr, cond, ℕ, Bool, true, false, is_some, Option, Some, None, refl, sym, ap, subst, ◌∙◌}
 use Rattle.std.specs.Prelude.{option_map}
-use Rattle.std.proofs.lemmas.Bool.{cases_eq, cases_lt, eq-eqb, ne_eqb, eqb-true, leb-true, le-leb, ltb-true, lt-ltb, and_from, and_parts, or_left, or_right}
+use Rattle.std.proofs.lemmas.Bool.{cases_eq, eq-eqb, ne_eqb}
 use Rattle.mcv_queues.specs.declared.rows.Link.{Link}
-use Rattle.mcv_queues.specs.declared.heap.Step.{Step}
-use Rattle.mcv_queues.specs.Numbers.{put, names, is_up_to, IsLeast}
-use Rattle.mcv_queues.specs.Forest.{left_of, right_of, up_of, is_below, IsForest, changed, raised, raised_some, turned, unless, cut, freed}
-use Rattle.mcv_queues.specs.Heap.{parted, stepped, AreApart, IsBefore, IsJoined, without, with_one, IsOut, IsIn, IsMelding}
-use Rattle.mcv_queues.proofs.Places.{Placed, is_first, is_second, is_third, hangs, place, placed, put_here, put_there, some_eq, none_some, apart_bool, bool_cases, or_split, option_cases, names_some, some_names, cases_names}
+use Rattle.mcv_queues.specs.Forest.{left_of, right_of, up_of, IsForest, freed}
+use Rattle.mcv_queues.specs.Heap.{AreApart, IsBefore, IsJoined, with_one, IsIn}
+use Rattle.mcv_queues.proofs.Places.{Placed, is_first, is_second, is_third, hangs, place, placed, put_here, put_there, some_eq, none_some, apart_bool}
 
 abbrev pub free_link : Link → Link
 free_link l = record { left = None; right = None; up = None }

@@ -1,13 +1,10 @@
 -- The root of a heap is its least number.
-use Rattle.std.proofs.Common.{◌≡◌, ◌&&◌, ◌||◌, ◌⊎◌, inl, inr, cond, not, ℕ, zero, suc, ◌<◌, ◌≤◌, Bool, true, false, nat_eq, nat_lt, is_some, Option, Some, None, refl, sym, ap, subst, ◌∙◌, arith}
-use Rattle.std.specs.Prelude.{option_map}
-use Rattle.std.proofs.lemmas.Bool.{cases_eq, cases_lt, eq-eqb, ne_eqb, eqb-true, leb-true, le-leb, ltb-true, lt-ltb, and_from, and_parts, or_left, or_right}
+use Rattle.std.proofs.Common.{◌≡◌, ℕ, zero, suc, ◌<◌, ◌≤◌, Bool, true, Option, Some, None, ap, ◌∙◌, arith}
+use Rattle.std.proofs.lemmas.Bool.{leb-true, le-leb}
 use Rattle.mcv_queues.specs.declared.rows.Link.{Link}
-use Rattle.mcv_queues.specs.declared.heap.Step.{Step}
-use Rattle.mcv_queues.specs.Numbers.{put, names, is_up_to, IsLeast}
-use Rattle.mcv_queues.specs.Forest.{left_of, right_of, up_of, is_below, IsForest, changed, raised, raised_some, turned, unless, cut, freed}
-use Rattle.mcv_queues.specs.Heap.{parted, stepped, AreApart, IsBefore, IsJoined, without, with_one, IsOut, IsIn, IsMelding}
-use Rattle.mcv_queues.proofs.Places.{Placed, is_first, is_second, is_third, hangs, place, placed, put_here, put_there, some_eq, none_some, apart_bool, bool_cases, or_split, option_cases, names_some, some_names, cases_names}
+use Rattle.mcv_queues.specs.Numbers.{is_up_to, IsLeast}
+use Rattle.mcv_queues.specs.Forest.{IsForest}
+use Rattle.mcv_queues.proofs.Places.{Placed, is_first, is_second, is_third, hangs, place, none_some}
 
 pub up_more : (a : Option ℕ) (p n : ℕ) → is_up_to a p ≡ true → p ≤ n → is_up_to a n ≡ true
 up_more None p n e h = absurd (cc)

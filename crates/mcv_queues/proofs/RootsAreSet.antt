@@ -1,27 +1,13 @@
 -- Setting the root of one server's group sets no other root.
-use Rattle.std.proofs.Common.{◌≡◌, ◌&&◌, inl, inr, cond, not, ℕ, ◌<◌, Bool, true, false, nat_eq, is_some, List, length, Option, Some, None, refl, sym, ap, subst, ◌∙◌, slice_set}
-use Rattle.std.proofs.Math.Path.{fun_ext}
+use Rattle.std.proofs.Common.{◌≡◌, inl, inr, cond, ℕ, ◌<◌, nat_eq, List, length, Option, sym, ap, subst, ◌∙◌, slice_set}
 use Rattle.std.proofs.Math.ListN.{get_or}
-use Rattle.std.specs.Prelude.{option_map}
-use Rattle.std.proofs.lemmas.Bool.{cases_eq, eq-eqb, ne_eqb, eqb-true, lt-ltb, and_parts, and_left, and_right}
+use Rattle.std.proofs.lemmas.Bool.{cases_eq, eq-eqb, ne_eqb}
 use Rattle.std.proofs.lemmas.List.{get_or-set_same, get_or-set_other}
-use Rattle.mcv_queues.specs.declared.leg.Leg.{Leg}
-use Rattle.mcv_queues.specs.declared.rows.Link.{Link}
-use Rattle.mcv_queues.specs.declared.rows.Row.{Row}
-use Rattle.mcv_queues.specs.declared.leg.State.{State}
-use Rattle.mcv_queues.specs.declared.leg.State.TheVariants.{Waiting, Sent, Held, Refused, InSpool, InReplay}
 use Rattle.mcv_queues.specs.declared.roots.Group.{Group}
 use Rattle.mcv_queues.specs.declared.roots.Group.TheVariants.{WaitingFor, SpooledFor, HeldLegs, RefusedLegs, LegsInReplay}
 use Rattle.mcv_queues.specs.declared.roots.Server.{Server}
 use Rattle.mcv_queues.specs.declared.roots.Roots.{Roots}
-use Rattle.mcv_queues.specs.Forest.{left_of, right_of, up_of, IsForest}
-use Rattle.mcv_queues.specs.Rows.{leg_of, link_of}
-use Rattle.mcv_queues.specs.Heap.{without, with_one, IsOut, IsIn}
-use Rattle.mcv_queues.specs.Groups.{group_at, group_of, same_group, is_group, is_in}
-use Rattle.mcv_queues.specs.Legs.{in_state, with_state}
-use Rattle.mcv_queues.specs.Sound.{AreTrees, AreTreesBut, AreInRange}
-use Rattle.mcv_queues.specs.Roots.{idle, server_at, root_of, is_known, put_root}
-use Rattle.mcv_queues.proofs.Places.{Placed, is_first, is_second, is_third, hangs, place, placed, put_here, put_there, none_some, apart_bool, bool_cases}
+use Rattle.mcv_queues.specs.Roots.{idle, server_at, root_of, put_root}
 
 field_put : {X : Type 0} (p : Server → X) (items : List Server) (s t : ℕ) (v : Server) → s < length items → p (get_or (slice_set items s v) t idle) ≡ cond (nat_eq s t) (p v) (p (get_or items t idle))
 field_put p items s t v h = elim (cases_eq s t) [

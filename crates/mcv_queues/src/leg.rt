@@ -1,5 +1,8 @@
 //! Legs, and the states that they go through.
 
+ghost use Rattle.std.specs.Prelude.{◌≡◌};
+ghost use Rattle.mcv_queues.specs.Legs.{is_flight};
+
 use mcv_base::ServerId;
 
 /// Where a leg is that is neither performed nor gone.
@@ -17,6 +20,18 @@ pub enum State {
     InSpool,
     /// It is stored in the spool, and in flight to its server again.
     InReplay,
+}
+
+impl State {
+    /// Whether a leg in this state is in flight.
+    pub(crate) fn is_flight(self) -> bool
+        ensures { result ≡ is_flight self }
+    {
+        match self {
+            State::Sent | State::InReplay => true,
+            State::Waiting | State::Held | State::Refused | State::InSpool => false,
+        }
+    }
 }
 
 /// A leg: its server, its state, and what its caller keeps of it.

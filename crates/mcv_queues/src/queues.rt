@@ -1,4 +1,4 @@
-//! The legs of all servers. The calls of `Queues` stand in transitions.rt.
+//! The legs of all servers. The calls of `Queues` are in transitions.rt.
 
 ghost use Rattle.std.specs.Prelude.{length};
 ghost use Rattle.mcv_queues.specs.Rows.{links, legs};

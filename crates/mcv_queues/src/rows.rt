@@ -2,7 +2,7 @@
 
 ghost use Rattle.std.specs.Prelude.{◌≡◌, ◌<◌, ◌≤◌, ◌+◌, ℕ, None, Some, OnOk, IsSome, option_map, option_copied};
 ghost use Rattle.mcv_queues.specs.Numbers.{put};
-ghost use Rattle.mcv_queues.specs.Legs.{with_state, with_content, server_of};
+ghost use Rattle.mcv_queues.specs.Legs.{is_in_flight, with_state, with_content, server_of};
 ghost use Rattle.mcv_queues.specs.Rows.{at, links, legs, room, content_of};
 
 use crate::leg::{Leg, State};
@@ -103,6 +103,16 @@ impl<T: Drop> Rows<T> {
         match self.rows.get(&number) {
             Some(row) => row.leg.server.0 as usize,
             None => 0,
+        }
+    }
+
+    /// Whether the leg at a number is in flight.
+    pub fn is_in_flight(&self, number: u64) -> bool
+        ensures { result ≡ is_in_flight (legs self.now number) }
+    {
+        match self.rows.get(&number) {
+            Some(row) => row.leg.state.is_flight(),
+            None => false,
         }
     }
 

@@ -51,6 +51,20 @@ impl<T: Drop> Queues<T> {
         self.rows.leg(leg.0)
     }
 
+    /// Whether this leg is in flight, sent or in replay; false where it isn't there.
+    pub fn is_in_flight(&self, leg: LegId) -> bool
+        ensures { result ≡ is_in_flight (legs self.now leg.0) }
+    {
+        self.rows.is_in_flight(leg.0)
+    }
+
+    /// How many servers there are.
+    pub fn servers(&self) -> usize
+        ensures { result ≡ servers self.now }
+    {
+        self.roots.servers.len()
+    }
+
     /// A new leg waits for its server. The leg's number has to be free, but need not be the greatest.
     pub fn push(&mut self, leg: LegId, server: ServerId, content: T)
         requires room { 0 < room self.old }

@@ -1,9 +1,9 @@
 -- Which worlds open a chapter, and which moves are possible one after the other (own).
-use Rattle.std.specs.Prelude.{◌≡◌, ◌<◌, ℕ, true, List, [], ◌∷◌, Option, Some, None, ⊤, slice_get, slice_index}
+use Rattle.std.specs.Prelude.{◌≡◌, ◌<◌, ℕ, true, List, [], ◌∷◌, Some, None, ⊤, slice_get, slice_index}
 use Rattle.mcv_route.specs.Outcomes.{IsChoice}
 use Rattle.mcv_route.specs.Routes.{RouteEntry, RoutesValue}
 use Rattle.mcv_symbolic.specs.Covered.{IsEra, IsRest, sizes_of}
-use Rattle.mcv_world.specs.World.{Spooled, Call, Leg, World}
+use Rattle.mcv_world.specs.World.{Spooled, Leg, World}
 use Rattle.mcv_world.specs.Moves.{Move, Began, Answered, WasSpooled, WasRefused, WasPerformed, EraBegan, Taken, is_move, after}
 
 -- spooled legs alone, and no call. Legs of an earlier chapter may name their call, whose number is no later call's
