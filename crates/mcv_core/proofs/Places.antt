@@ -1,5 +1,6 @@
 -- The entries that are due, by their numbers.
 use Rattle.std.proofs.Common.{◌≡◌, cond, inl, inr, ℕ, zero, suc, ◌+◌, ◌<◌, ◌≤◌, Bool, true, false, nat_eq, List, [], ◌∷◌, length, Option, Some, None, option_map, refl, sym, ap, ◌∙◌, subst, arith, true≢false}
+use Rattle.std.specs.Arc.{arc_value}
 use Rattle.std.specs.Prelude.{filter, slice_get}
 use Rattle.std.proofs.Math.Path.{fun_ext}
 use Rattle.std.proofs.lemmas.Bool.{cases_Bool}
@@ -15,6 +16,7 @@ use Rattle.mcv_events.specs.Rows.{numbered, queued_rows, waiting}
 use Rattle.mcv_core.specs.declared.call.Call.{Call}
 use Rattle.mcv_core.specs.declared.errand.Errand.{Errand}
 use Rattle.mcv_core.specs.declared.launch.Entry.{Entry}
+use Rattle.mcv_core.specs.Errands.{ErrandView, errand_view, launch_in}
 use Rattle.mcv_core.specs.Launching.{errand_at, waiting_leg, with_legs, with_numbers}
 use Rattle.mcv_core.specs.Rows.{call_of, entries_of, errand_for, row_by, rows_by}
 
@@ -99,10 +101,18 @@ put_rows f legs n o = fun_ext (λ m. by_cases (nat_eq n m) m)
     by_cases true m = refl
     by_cases false m = refl
 
+-- the row of a leg that is launched
+abbrev row_in : (State → rows.State) → ErrandView → rows.LegRow
+row_in f v = record { call = v.call; entry = v.entry; launch = launch_in v; rest = arc_value v.laid.rest; state = f Waiting }
+
+seen_row : (f : State → rows.State) (o : Option Errand) → option_map (row_by f) (option_map waiting_leg o) ≡ option_map (row_in f) (option_map errand_view o)
+seen_row f None = refl
+seen_row f (Some e) = refl
+
 -- each entry that is due has ready what its leg takes with it
 abbrev pub AreReady : ℕ → Call → (Launch → Bool) → ℕ → List Launch → List Entry → Type 0
 AreReady k c due from es entries =
-    (j : ℕ) (l : Launch) → slice_get es j ≡ Some l → due l ≡ true → (errand_at entries (from + j) ≡ Some (errand_for k c (from + j))) × (launch_at (entries_of c) (from + j) ≡ l)
+    (j : ℕ) (l : Launch) → slice_get es j ≡ Some l → due l ≡ true → (option_map errand_view (errand_at entries (from + j)) ≡ Some (errand_for k c (from + j))) × (launch_at (entries_of c) (from + j) ≡ l)
 
 module _ (k : ℕ) (c : Call) (due : Launch → Bool) (f : State → rows.State) (waits : f Waiting ≡ rows.Waiting) where
   pub due_rows : (n from : ℕ) (es : List Launch) (entries : List Entry) (legs : ℕ → Option (Leg Errand)) → AreReady k c due from es entries
@@ -111,18 +121,18 @@ module _ (k : ℕ) (c : Call) (due : Launch → Bool) (f : State → rows.State)
   due_rows n from (l ∷ es) entries legs ready =
       let rest_ready : AreReady k c due (suc from) es entries = λ j m at t.
       let q : from + suc j ≡ suc from + j = omega arith in
-      subst (λ v. (errand_at entries v ≡ Some (errand_for k c v)) × (launch_at (entries_of c) v ≡ m)) q (ready (suc j) m at t) in
+      subst (λ v. (option_map errand_view (errand_at entries v) ≡ Some (errand_for k c v)) × (launch_at (entries_of c) v ≡ m)) q (ready (suc j) m at t) in
       let branches = λ (b : Bool). cond b (queued_rows due k (call_of c).rest (suc n) (suc from) es (put (rows_by f legs) n (Some (waiting k from (call_of c).rest l)))) (queued_rows due k (call_of c).rest n (suc from) es (rows_by f legs)) in
       let launching = λ (b : Bool). rows_by f (with_legs n (cond b (from ∷ places_from (suc from) due es) (places_from (suc from) due es)) entries legs) in
       elim (cases_Bool (due l)) [
         | inl t ↦
             let here = ready 0 l refl t in
             let zero : from + 0 ≡ from = omega arith in
-            let errand : errand_at entries from ≡ Some (errand_for k c from) = subst (λ v. errand_at entries v ≡ Some (errand_for k c v)) zero here.0 in
+            let errand : option_map errand_view (errand_at entries from) ≡ Some (errand_for k c from) = subst (λ v. option_map errand_view (errand_at entries v) ≡ Some (errand_for k c v)) zero here.0 in
             let launch : launch_at (entries_of c) from ≡ l = subst (λ v. launch_at (entries_of c) v ≡ l) zero here.1 in
             let row : rows_by f (put legs n (option_map waiting_leg (errand_at entries from))) ≡ put (rows_by f legs) n (Some (waiting k from (call_of c).rest l)) =
             put_rows f legs n (option_map waiting_leg (errand_at entries from))
-            ∙ ap (λ o. put (rows_by f legs) n (option_map (row_by f) (option_map waiting_leg o))) errand
+            ∙ ap (put (rows_by f legs) n) (seen_row f (errand_at entries from) ∙ ap (option_map (row_in f)) errand)
             ∙ ap (λ v. put (rows_by f legs) n (Some (record { call = Some k; entry = from; launch = launch_at (entries_of c) from; rest = (call_of c).rest; state = v }))) waits
             ∙ ap (λ v. put (rows_by f legs) n (Some (waiting k from (call_of c).rest v))) launch in
             ap launching t

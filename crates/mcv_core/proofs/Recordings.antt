@@ -32,6 +32,7 @@ use Rattle.mcv_core.specs.declared.call.Recorded.{Recorded}
 use Rattle.mcv_core.specs.declared.call.Recording.{Recording}
 use Rattle.mcv_core.specs.declared.errand.Errand.{Errand}
 use Rattle.mcv_core.specs.declared.launch.Entry.{Entry}
+use Rattle.mcv_core.specs.Errands.{ErrandView, errand_view, launch_in}
 use Rattle.mcv_core.specs.Launching.{errand_at, numbers_of, places_of, is_ready, with_legs, with_numbers, CanLaunch, IsLaunched}
 use Rattle.mcv_core.specs.Noting.{has_ended_by, AreAddressed, HasRecorded, IsNoted}
 use Rattle.mcv_core.specs.Rows.{call_of, call_row, entries_of, errand_for, has_outcome, rows_by, past_next, past_of, recorded_all, recorded_next, taken_at, IsRunning}
@@ -86,6 +87,10 @@ entry_at : (xs : List Entry) (j : ℕ) → j < length xs → (y : Entry) × (sli
 entry_at [] j low = absurd (omega (arith, low))
 entry_at (z ∷ xs) zero low = (z, refl)
 entry_at (z ∷ xs) (suc j) low = entry_at xs j (omega (arith, low))
+
+ready_of : (servers : ℕ) (o : Option Errand) (v : ErrandView) → option_map errand_view o ≡ Some v → (launch_in v).server.0 < servers → is_ready servers o ≡ true
+ready_of servers None v e low = no_some e
+ready_of servers (Some x) v e low = ap (λ u. nat_lt (launch_in u).server.0 servers) (same_some e) ∙ lt-ltb (launch_in v).server.0 servers low
 
 and_first : (b c : Bool) → (b && c) ≡ true → c ≡ true
 and_first true c e = e
@@ -161,8 +166,8 @@ module _ (r : RoutesValue) (w : Rows) (k : ℕ) (c : Call) (e : ℕ) (i : IsCore
     not_numbered : (j : ℕ) (m : Launch) → slice_get (entries_of c) j ≡ Some m → due m ≡ true → numbers_of c.entries.items j ≡ None
     not_numbered j m at t = none_of (numbers_of c.entries.items j) (row.linked j m at ∙ not_false (is_launched r (call_of c) m) (and_first _ _ t))
 
-    had : (j : ℕ) (m : Launch) → slice_get (entries_of c) j ≡ Some m → due m ≡ true → errand_at c1.entries.items j ≡ Some (errand_for k c j)
-    had j m at t = noted.errands j ∙ run.ready j (get_below (entries_of c) j m at) (not_numbered j m at t)
+    had : (j : ℕ) (m : Launch) → slice_get (entries_of c) j ≡ Some m → due m ≡ true → option_map errand_view (errand_at c1.entries.items j) ≡ Some (errand_for k c j)
+    had j m at t = ap (option_map errand_view) (noted.errands j) ∙ run.ready j (get_below (entries_of c) j m at) (not_numbered j m at t)
 
     pub can_launch : (legs : ℕ → Option (Leg Errand)) (room servers next : ℕ) → ((n : ℕ) → next ≤ n → legs n ≡ None) → count (λ l. not (is_launched r (call_of c) l)) (entries_of c) ≤ room
         → next + count (λ l. not (is_launched r (call_of c) l)) (entries_of c) < 2 ^ 64 → length r.servers ≤ servers → CanLaunch (fresh c1.state) c1.entries.items legs room servers next
@@ -178,14 +183,14 @@ module _ (r : RoutesValue) (w : Rows) (k : ℕ) (c : Call) (e : ℕ) (i : IsCore
               let same : d.index ≡ f = let q = d.is in omega (arith, q) in
               let here : slice_get (entries_of c) f ≡ Some d.launch = subst (λ v. slice_get (entries_of c) v ≡ Some d.launch) same d.at in
               let below = run.known f (get_below (entries_of c) f d.launch here) in
-              ap (is_ready servers) (had f d.launch here d.is_due) ∙ lt-ltb (launch_at (entries_of c) f).server.0 servers (omega (arith, below, known));
+              ready_of servers (errand_at c1.entries.items f) (errand_for k c f) (had f d.launch here d.is_due) (omega (arith, below, known));
           apart = λ a b f ga gb. places_apart due 0 (entries_of c) a b f (sym (ap (λ v. slice_get v a) fresh_is) ∙ ga) (sym (ap (λ v. slice_get v b) fresh_is) ∙ gb);
         }
 
     are_ready : AreReady k c due 0 (entries_of c) c1.entries.items
     are_ready j m at t =
         let q : j ≡ 0 + j = omega arith in
-        subst (λ v. (errand_at c1.entries.items v ≡ Some (errand_for k c v)) × (launch_at (entries_of c) v ≡ m)) q (had j m at t, at_launch (entries_of c) j m at)
+        subst (λ v. (option_map errand_view (errand_at c1.entries.items v) ≡ Some (errand_for k c v)) × (launch_at (entries_of c) v ≡ m)) q (had j m at t, at_launch (entries_of c) j m at)
 
     -- ---- and its fresh entries are launched
 
@@ -255,14 +260,14 @@ module _ (r : RoutesValue) (w : Rows) (k : ℕ) (c : Call) (e : ℕ) (i : IsCore
           let b : length c1.recorded.items ≡ length (c.recorded.items ++ record { entry = e; outcome = outcome; taken = Some taken } ∷ []) = ap length noted.recorded in
           omega (arith, a, b)
 
-      ready2 : (j : ℕ) → j < length (entries_of c) → numbers_of entries2.items j ≡ None → errand_at entries2.items j ≡ Some (errand_for k c j)
+      ready2 : (j : ℕ) → j < length (entries_of c) → numbers_of entries2.items j ≡ None → option_map errand_view (errand_at entries2.items j) ≡ Some (errand_for k c j)
       ready2 j below none =
           let n = len2 in
           let y = entry_at entries2.items j (omega (arith, n, below)) in
           let no_leg : y.0.leg ≡ None = sym (ap (option_and_then (λ z. z.leg)) y.1) ∙ none in
           let was = launched2.others j y.0 y.1 no_leg in
           let old_none : numbers_of c.entries.items j ≡ None = sym (noted.numbers j) ∙ ap (option_and_then (λ z. z.leg)) was ∙ no_leg in
-          ap (option_and_then (λ z. z.errand)) y.1 ∙ sym (ap (option_and_then (λ z. z.errand)) was) ∙ noted.errands j ∙ run.ready j below old_none
+          ap (option_map errand_view) (ap (option_and_then (λ z. z.errand)) y.1 ∙ sym (ap (option_and_then (λ z. z.errand)) was) ∙ noted.errands j) ∙ run.ready j below old_none
 
       replies2 : part_value taken ≡ part_value outcome → (j q : ℕ) → places_of entries2.items j ≡ Some q → c.taken ≡ false → taken_at c1.recorded.items q ≡ reply_at (call_of c2).recorded (launch_at (entries_of c) j).position
       replies2 same j q g untaken =

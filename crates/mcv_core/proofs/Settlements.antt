@@ -34,10 +34,11 @@ use Rattle.mcv_core.specs.declared.errand.Errand.{Errand}
 use Rattle.mcv_core.specs.Errands.{launch_of}
 use Rattle.mcv_core.specs.Noting.{AreAddressed, HasRecorded}
 use Rattle.mcv_core.specs.Rows.{all_rows, awaiting_rows, awaiting_state, call_of, call_row, call_rows, entries_of, row_by, rows_by, rows_of, state_of, IsRunning}
-use Rattle.mcv_core.specs.Sound.{one, IsSound}
+use Rattle.mcv_core.specs.Sound.{one, spooled_in, spooled_one, IsSound}
 use Rattle.mcv_core.proofs.Launches.{get_below}
 use Rattle.mcv_core.proofs.Places.{put_rows}
 use Rattle.mcv_core.proofs.Recordings.{at_launch, there_at}
+use Rattle.mcv_core.proofs.SpooledLegs.{spooled_stays}
 use Rattle.mcv_core.proofs.States.{rows_put}
 
 -- ---- a leg that goes
@@ -101,8 +102,8 @@ none_is : {A : Type 0} (o : Option A) → is_none o ≡ true → o ≡ None
 none_is None e = refl
 none_is (Some x) e = absurd (true≢false (sym e))
 
-module _ (r : RoutesValue) (calls : ℕ → Option Call) (legs : ℕ → Option (Leg Errand)) (since : Option ℕ) (moment next_call next_leg reserved queued running room servers : ℕ)
-    (i : IsSound r calls legs since moment next_call next_leg reserved queued running room servers) (n : ℕ) (l : Leg Errand) (at : legs n ≡ Some l) (k : ℕ) (c : Call) (own : l.content.call ≡ Some k)
+module _ (r : RoutesValue) (calls : ℕ → Option Call) (legs : ℕ → Option (Leg Errand)) (since : Option ℕ) (moment next_call next_leg reserved queued spooled running room servers : ℕ)
+    (i : IsSound r calls legs since moment next_call next_leg reserved queued spooled running room servers) (n : ℕ) (l : Leg Errand) (at : legs n ≡ Some l) (k : ℕ) (c : Call) (own : l.content.call ≡ Some k)
     (there : calls k ≡ Some c) (awaited : has_no_outcome (leg_of (row_by state_of l)) (call_of c) ≡ true) (o : Option (Leg Errand)) (settles : Settles l o) (legs1 : ℕ → Option (Leg Errand)) (legs1_is : legs1 ≡ put legs n o) where
   abbrev entry : ℕ
   entry = l.content.entry
@@ -338,11 +339,25 @@ module _ (r : RoutesValue) (calls : ℕ → Option Call) (legs : ℕ → Option 
         let launched = h.launched in
         omega (arith, put_one, old, one_put, more, same, a, launched)
 
-    pub settled : count_in (state_of l.state) ≡ 1 → count_of (option_map (row_by state_of) o) ≤ 1
-        → (queued2 running2 reserved2 room1 room2 servers2 : ℕ) → queued2 + 1 ≡ queued + count_of (option_map (row_by state_of) o) + result.launched → running2 + cond result.ended 1 0 ≡ running
+    spooled2_is : sum_below spooled_one (rows_by state_of legs2) (next_leg + result.launched) + spooled_in (state_of l.state) ≡ spooled + spooled_one (option_map (row_by state_of) o)
+    spooled2_is =
+        let put_one = sum_put spooled_one (rows_by state_of legs) n (option_map (row_by state_of) o) next_leg n_below in
+        let old : spooled_one (rows_by state_of legs n) ≡ spooled_in (state_of l.state) = ap spooled_one (here state_of) in
+        let first : sum_below spooled_one (rows_by state_of legs1) next_leg ≡ sum_below spooled_one (put (rows_by state_of legs) n (option_map (row_by state_of) o)) next_leg =
+        ap (λ g. sum_below spooled_one g next_leg) (ap (rows_by state_of) legs1_is ∙ put_rows state_of legs n o) in
+        let more = spooled_stays due k (call_of c).rest next_leg 0 (entries_of c) (rows_by state_of legs1) in
+        let same : sum_below spooled_one (rows_by state_of legs2) (next_leg + result.launched) ≡ sum_below spooled_one (queued_rows due k (call_of c).rest next_leg 0 (entries_of c) (rows_by state_of legs1)) (next_leg + length (filter due (entries_of c))) =
+        ap (λ g. sum_below spooled_one g (next_leg + result.launched)) (h.rows state_of refl)
+        ∙ ap (λ v. sum_below spooled_one (queued_rows due k (call_of c).rest next_leg 0 (entries_of c) (rows_by state_of legs1)) (next_leg + v)) h.launched in
+        let a = i.spooled_is in
+        omega (arith, put_one, old, first, more, same, a)
+
+    pub settled : count_in (state_of l.state) ≡ 1 → count_of (option_map (row_by state_of) o) ≤ 1 → spooled_in (state_of l.state) ≡ 0
+        → (queued2 spooled2 running2 reserved2 room1 room2 servers2 : ℕ) → queued2 + 1 ≡ queued + count_of (option_map (row_by state_of) o) + result.launched → spooled2 ≡ spooled + spooled_one (option_map (row_by state_of) o)
+        → running2 + cond result.ended 1 0 ≡ running
         → reserved2 + (result.launched + cond result.ended result.left 0) ≡ reserved → room ≤ room1 → room1 ≤ room2 + result.launched → servers2 ≡ servers
-        → IsSound r calls2 legs2 since moment next_call (next_leg + result.launched) reserved2 queued2 running2 room2 servers2
-    settled counted at_most queued2 running2n reserved2 room1 room2 servers2 queued_eq running_eq reserved_eq wide wide2 known =
+        → IsSound r calls2 legs2 since moment next_call (next_leg + result.launched) reserved2 queued2 spooled2 running2 room2 servers2
+    settled counted at_most unspooled queued2 spooled2 running2n reserved2 room1 room2 servers2 queued_eq spooled_eq running_eq reserved_eq wide wide2 known =
         record {
           core = core2 state_of as_it_is i.core;
           awaiting = core2 awaiting_state as_awaited i.awaiting;
@@ -351,6 +366,7 @@ module _ (r : RoutesValue) (calls : ℕ → Option Call) (legs : ℕ → Option 
           addressed = h.addressed addressed1;
           reserved_is = let a = reserved2_is in omega (arith, a, reserved_eq);
           queued_is = let a = queued2_is in omega (arith, a, queued_eq, counted);
+          spooled_is = let a = spooled2_is in omega (arith, a, spooled_eq, unspooled);
           running_is = let a = running2_is in omega (arith, a, running_eq);
           room_is = let a = i.room_is in omega (arith, a, reserved_eq, wide, wide2);
           limit = let a = i.limit in omega (arith, a, reserved_eq, queued_eq, at_most);

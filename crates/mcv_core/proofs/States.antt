@@ -14,12 +14,14 @@ use Rattle.mcv_events.specs.Rows.{LegRow, Rows, IsCore, awaits, is_unanswered, l
 use Rattle.mcv_events.specs.Events.{in_state}
 use Rattle.mcv_events.specs.QueuedLegs.{count_in, count_of, queued_legs}
 use Rattle.mcv_events.proofs.EventsAreMoves.{states_keep_cores}
+use Rattle.mcv_events.specs.Sums.{sum_below}
 use Rattle.mcv_events.proofs.QueuedLegs.{putting_counts}
+use Rattle.mcv_events.proofs.Sums.{sum_put}
 use Rattle.mcv_core.specs.declared.call.Call.{Call}
 use Rattle.mcv_core.specs.declared.errand.Errand.{Errand}
 use Rattle.mcv_core.specs.Errands.{launch_of}
 use Rattle.mcv_core.specs.Rows.{all_rows, awaiting_rows, awaiting_state, call_rows, row_by, rows_by, rows_of, state_of}
-use Rattle.mcv_core.specs.Sound.{IsSound}
+use Rattle.mcv_core.specs.Sound.{spooled_in, spooled_one, IsSound}
 use Rattle.mcv_core.proofs.Places.{put_rows}
 
 -- ---- rows
@@ -44,8 +46,8 @@ pub record CanChange (f : State → rows.State) (l : Leg Errand) (t : State) : T
   pub opens : is_unanswered (f t) ≡ true → is_unanswered (f l.state) ≡ true
   pub shuts : is_unanswered (f t) ≡ false → is_counted_delete (leg_of (row_by f l)) ≡ true
 
-module _ (r : RoutesValue) (calls : ℕ → Option Call) (legs : ℕ → Option (Leg Errand)) (since : Option ℕ) (moment next_call next_leg reserved queued running room servers : ℕ)
-    (i : IsSound r calls legs since moment next_call next_leg reserved queued running room servers) (n : ℕ) (l : Leg Errand) (at : legs n ≡ Some l) (t : State) where
+module _ (r : RoutesValue) (calls : ℕ → Option Call) (legs : ℕ → Option (Leg Errand)) (since : Option ℕ) (moment next_call next_leg reserved queued spooled running room servers : ℕ)
+    (i : IsSound r calls legs since moment next_call next_leg reserved queued spooled running room servers) (n : ℕ) (l : Leg Errand) (at : legs n ≡ Some l) (t : State) where
   pub core_changed : (f : State → rows.State) → IsCore r (all_rows f calls legs since next_call next_leg) → CanChange f l t → (legs2 : ℕ → Option (Leg Errand)) → legs2 ≡ with_state legs n t
       → IsCore r (all_rows f calls legs2 since next_call next_leg)
   core_changed f core can legs2 is =
@@ -53,9 +55,10 @@ module _ (r : RoutesValue) (calls : ℕ → Option Call) (legs : ℕ → Option 
       (states_keep_cores r (all_rows f calls legs since next_call next_leg) n (row_by f l) (f t) core (ap (option_map (row_by f)) at) can.opens can.shuts)
 
   pub changed : CanChange state_of l t → CanChange awaiting_state l t → (awaiting_state t ≡ rows.Held → awaits (call_rows calls) (row_by awaiting_state l) l.content.call ≡ false)
-      → (legs2 : ℕ → Option (Leg Errand)) → legs2 ≡ with_state legs n t → (queued2 room2 servers2 : ℕ) → queued2 + count_in (state_of l.state) ≡ queued + count_in (state_of t) → queued2 + reserved ≤ 65536
-      → room ≤ room2 → servers2 ≡ servers → IsSound r calls legs2 since moment next_call next_leg reserved queued2 running room2 servers2
-  changed can can_await refuses legs2 is queued2 room2 servers2 count small wide known =
+      → (legs2 : ℕ → Option (Leg Errand)) → legs2 ≡ with_state legs n t → (queued2 spooled2 room2 servers2 : ℕ) → queued2 + count_in (state_of l.state) ≡ queued + count_in (state_of t) → queued2 + reserved ≤ 65536
+      → spooled2 + spooled_in (state_of l.state) ≡ spooled + spooled_in (state_of t) → room ≤ room2 → servers2 ≡ servers
+      → IsSound r calls legs2 since moment next_call next_leg reserved queued2 spooled2 running room2 servers2
+  changed can can_await refuses legs2 is queued2 spooled2 room2 servers2 count small stored wide known =
       let w = rows_of calls legs since next_call next_leg in
       let here : w.legs n ≡ Some (row_by state_of l) = ap (option_map (row_by state_of)) at in
       let put_is : legs2 ≡ put legs n (Some (put_state t l)) = is ∙ state_put legs n l t at in
@@ -82,6 +85,14 @@ module _ (r : RoutesValue) (calls : ℕ → Option Call) (legs : ℕ → Option 
             ap queued_legs (rows_put state_of calls legs legs2 since next_call next_leg n (Some (put_state t l)) put_is) in
             let q = i.queued_is in
             omega (arith, p, old, same, q, count);
+        spooled_is =
+            let low = leg_below r w i.core n (row_by state_of l) here in
+            let p = sum_put spooled_one (rows_by state_of legs) n (Some (row_by state_of (put_state t l))) next_leg low in
+            let old : spooled_one (rows_by state_of legs n) ≡ spooled_in (state_of l.state) = ap spooled_one here in
+            let same : sum_below spooled_one (rows_by state_of legs2) next_leg ≡ sum_below spooled_one (put (rows_by state_of legs) n (Some (row_by state_of (put_state t l)))) next_leg =
+            ap (λ g. sum_below spooled_one g next_leg) (ap (rows_by state_of) put_is ∙ put_rows state_of legs n (Some (put_state t l))) in
+            let q = i.spooled_is in
+            omega (arith, p, old, same, q, stored);
         running_is = i.running_is;
         room_is = let a = i.room_is in omega (arith, a, wide);
         limit = small;

@@ -17,7 +17,7 @@ use Rattle.mcv_events.specs.Rows.{State, LegRow, CallRow, Rows}
 use Rattle.mcv_core.specs.declared.call.Call.{Call}
 use Rattle.mcv_core.specs.declared.call.Recorded.{Recorded}
 use Rattle.mcv_core.specs.declared.errand.Errand.{Errand}
-use Rattle.mcv_core.specs.Errands.{launch_of, rest_of}
+use Rattle.mcv_core.specs.Errands.{ErrandView, errand_view, launch_of, rest_of}
 use Rattle.mcv_core.specs.Launching.{errand_at, numbers_of, places_of}
 
 -- ---- calls
@@ -106,8 +106,8 @@ has_outcome call l = is_some (outcomes (history_of call.recorded) l.position)
 abbrev pub taken_at : List Recorded → ℕ → Option ReplyValue
 taken_at hs j = option_and_then (λ h. option_map part_value h.taken) (slice_get hs j)
 
-abbrev pub errand_for : ℕ → Call → ℕ → Errand
-errand_for k c e = record { call = Some k; laid = c.laid; entry = e }
+abbrev pub errand_for : ℕ → Call → ℕ → ErrandView
+errand_for k c e = record { call = Some k; laid = arc_value c.laid; entry = e }
 
 -- the call of this number. That its entries are all legs that it can launch, and which of them have legs, is said of its row
 pub record IsRunning (r : RoutesValue) (k : ℕ) (c : Call) : Type 0 where
@@ -115,7 +115,7 @@ pub record IsRunning (r : RoutesValue) (k : ℕ) (c : Call) : Type 0 where
   pub counted : count c.state ≡ length (entries_of c)
   pub len : length c.entries.items ≡ length (entries_of c)
   -- an entry that isn't launched has ready what its leg takes with it
-  pub ready : (e : ℕ) → e < length (entries_of c) → numbers_of c.entries.items e ≡ None → errand_at c.entries.items e ≡ Some (errand_for k c e)
+  pub ready : (e : ℕ) → e < length (entries_of c) → numbers_of c.entries.items e ≡ None → option_map errand_view (errand_at c.entries.items e) ≡ Some (errand_for k c e)
   -- an entry has a place exactly when it has an outcome, and its reply is there until the call's reply is taken
   pub placed : (e : ℕ) (l : Launch) → slice_get (entries_of c) e ≡ Some l → is_some (places_of c.entries.items e) ≡ has_outcome (call_of c) l
   pub replies : (e j : ℕ) → places_of c.entries.items e ≡ Some j → c.taken ≡ false → taken_at c.recorded.items j ≡ reply_at (call_of c).recorded (launch_at (entries_of c) e).position

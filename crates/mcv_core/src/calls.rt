@@ -1,6 +1,6 @@
 //! The running calls by number.
 
-ghost use Rattle.std.specs.Prelude.{◌≡◌, ◌<◌, ◌≤◌, ◌+◌, ℕ, Some, None, OnOk, option_copied};
+ghost use Rattle.std.specs.Prelude.{◌≡◌, ◌<◌, ◌≤◌, ◌+◌, ℕ, Some, None, OnOk, cond, option_copied};
 ghost use Rattle.mcv_queues.specs.Queues.{legs, room as leg_room, in_flight, servers as known};
 ghost use Rattle.mcv_world.specs.World.{put};
 ghost use Rattle.mcv_core.specs.declared.call.Call.{Call as Running};
@@ -56,6 +56,15 @@ impl Calls {
         ensures { calls_at self.new ≡ put (calls_at self.old) number None }
     {
         let _ = self.calls.remove(&number);
+    }
+
+    /// Takes a call out where it has ended.
+    pub fn remove_if(&mut self, number: u64, ended: bool)
+        ensures { calls_at self.new ≡ cond ended (put (calls_at self.old) number None) (calls_at self.old) }
+    {
+        if ended {
+            self.remove(number);
+        }
     }
 
     /// A call records the reply of an entry that is launched and has none. It takes no memory.

@@ -5,10 +5,23 @@
 //! them. Each event names the move of the world that it is.
 #![tactic(auto)]
 
+mod answer;
+mod begin;
 mod call;
 mod calls;
+mod core;
+mod counted;
+mod dispatcher;
 mod errand;
+mod facts;
 mod fault;
 mod launch;
+mod settle;
+mod step;
+mod take;
+mod turn;
 
+pub use core::Core;
 pub use fault::CoreFault;
+pub use step::{Change, Place, Step};
+pub use turn::Era;
