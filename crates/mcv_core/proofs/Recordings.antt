@@ -153,8 +153,10 @@ module _ (r : RoutesValue) (w : Rows) (k : ℕ) (c : Call) (e : ℕ) (i : IsCore
       (fresh1 : fresh c1.state ≡ places_from 0 (λ l. is_sent (tree_of r c.route) (situation_of (call_of c)) (choice_of (call_of c)) (history_by (entries_of c) ((e, outcome_of x) ∷ past_of c.recorded.items)) l
       && not (is_sent (tree_of r c.route) (situation_of (call_of c)) (choice_of (call_of c)) (history_by (entries_of c) (past_of c.recorded.items)) l)) (entries_of c)) where
     pub fresh_is : fresh c1.state ≡ places_from 0 due (entries_of c)
-    fresh_is = fresh1 ∙ ap (λ v. places_from 0 (λ l. is_sent (tree_of r c.route) (situation_of (call_of c)) (choice_of (call_of c)) ((p, outcome_of x) ∷ v) l
-    && not (is_sent (tree_of r c.route) (situation_of (call_of c)) (choice_of (call_of c)) v l)) (entries_of c)) (sym history)
+    fresh_is =
+        fresh1
+        ∙ ap (λ v. places_from 0 (λ l. is_sent (tree_of r c.route) (situation_of (call_of c)) (choice_of (call_of c)) ((p, outcome_of x) ∷ v) l
+            && not (is_sent (tree_of r c.route) (situation_of (call_of c)) (choice_of (call_of c)) v l)) (entries_of c)) (sym history)
 
     pub fresh_count : length (fresh c1.state) ≡ count due (entries_of c)
     fresh_count = ap length fresh_is ∙ places_count due 0 (entries_of c)

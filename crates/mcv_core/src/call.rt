@@ -63,7 +63,7 @@ pub struct Call {
 
 impl Entry {
     /// Keeps the place of the entry's reply.
-    fn record(&mut self, place: usize)
+    fn fill(&mut self, place: usize)
         ensures errand { self.new.errand ≡ self.old.errand }
         ensures leg { self.new.leg ≡ self.old.leg }
         ensures place { self.new.place ≡ Some place }
@@ -94,7 +94,7 @@ impl Call {
     {
         self.state.advance(entry, outcome.outcome());
         let place = self.recorded.len();
-        self.entries[entry].record(place);
+        self.entries[entry].fill(place);
         self.recorded.push_reserved(Recorded {
             entry,
             outcome,
@@ -120,9 +120,9 @@ impl Call {
         count
     }
 
-    /// Records the reply of an entry that is launched and has none, and launches the entries that are due then. It takes
+    /// Hears the reply of an entry that is launched and has none, and launches the entries that are due then. It takes
     /// no memory.
-    pub fn record(
+    pub fn hear(
         &mut self,
         queues: &mut Queues<Errand>,
         entry: usize,

@@ -67,8 +67,8 @@ impl Calls {
         }
     }
 
-    /// A call records the reply of an entry that is launched and has none. It takes no memory.
-    pub fn record(
+    /// A call hears the reply of an entry that is launched and has none. It takes no memory.
+    pub fn hear(
         &mut self,
         queues: &mut Queues<Errand>,
         number: u64,
@@ -84,7 +84,7 @@ impl Calls {
         ensures room { leg_room queues.old ≤ leg_room queues.new + result.launched }
     {
         match self.calls.get_mut(&number) {
-            Some(call) => call.record(queues, entry, outcome, taken, next),
+            Some(call) => call.hear(queues, entry, outcome, taken, next),
             None => Recording {
                 launched: 0,
                 left: 0,

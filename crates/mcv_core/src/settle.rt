@@ -100,7 +100,7 @@ impl Dispatcher {
         let Some(facts) = self.facts(leg) else { return };
         let Some(call) = facts.call else { return };
         leave(&mut self.queues, leg, to);
-        let step = self.calls.record(
+        let step = self.calls.hear(
             &mut self.queues,
             call,
             facts.entry,

@@ -4,7 +4,7 @@ use Rattle.mcv_queues.specs.Queues.{legs, room, servers as known}
 use Rattle.mcv_world.specs.World.{tree_of, situation_of, choice_of}
 use Rattle.mcv_core.specs.Rows.{call_of, entries_of, past_of}
 use Rattle.mcv_core.proofs.Recordings
-use Rattle.mcv_core.proofs.call.Call.record.Goals as goal
+use Rattle.mcv_core.proofs.call.Call.hear.Goals as goal
 
 pub note-requires : goal.note-requires
 note-requires c =
