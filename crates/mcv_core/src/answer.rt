@@ -6,6 +6,7 @@ ghost use Rattle.mcv_events.specs.Rows as rows;
 ghost use Rattle.mcv_queues.specs.Numbers.{IsLeast};
 ghost use Rattle.mcv_world.specs.World.{put};
 ghost use Rattle.mcv_core.specs.CoreView.{Does, HasEffect, answer_at, change_move, in_row_state, is_spooled, is_waiting, loss_at, refusing_at, spooling_at};
+ghost use Rattle.mcv_core.specs.Fault.{queue_fault};
 ghost use Rattle.mcv_core.specs.View.{core_view};
 
 use crate::counted::Counted;
@@ -20,8 +21,6 @@ use mcv_spool::{SpoolRecord, Stored};
 
 impl From<QueueFault> for CoreFault {
     ghost from_gives = { λ fault e. e ≡ queue_fault fault };
-
-    ghost use Rattle.mcv_core.specs.Fault.{queue_fault};
 
     fn from(fault: QueueFault) -> CoreFault {
         match fault {

@@ -7,6 +7,7 @@ ghost use Rattle.mcv_world.specs.Moves.{Began};
 ghost use Rattle.mcv_core.specs.Beginning.{AreReadied, HasBegun, IsFull};
 ghost use Rattle.mcv_core.specs.CoreView.{Moved};
 ghost use Rattle.mcv_core.specs.View.{core_view};
+ghost use Rattle.mcv_core.specs.declared.fault.CoreFault.TheVariants.{Memory as OutOfMemory};
 
 use crate::call::Call;
 use crate::dispatcher::Dispatcher;
@@ -26,9 +27,7 @@ const LEG_LIMIT: usize = 65_536;
 const ENTRY_LIMIT: usize = 1_000_000;
 
 impl From<AllocError> for CoreFault {
-    ghost from_gives = { λ _ e. e ≡ Memory };
-
-    ghost use Rattle.mcv_core.specs.declared.fault.CoreFault.TheVariants.{Memory};
+    ghost from_gives = { λ _ e. e ≡ OutOfMemory };
 
     fn from(_fault: AllocError) -> CoreFault {
         CoreFault::Memory
@@ -36,9 +35,7 @@ impl From<AllocError> for CoreFault {
 }
 
 impl<T: Drop> From<AllocFailed<T>> for CoreFault {
-    ghost from_gives = { λ _ e. e ≡ Memory };
-
-    ghost use Rattle.mcv_core.specs.declared.fault.CoreFault.TheVariants.{Memory};
+    ghost from_gives = { λ _ e. e ≡ OutOfMemory };
 
     fn from(_fault: AllocFailed<T>) -> CoreFault {
         CoreFault::Memory
@@ -87,18 +84,17 @@ impl Dispatcher {
         ensures refused { IfErr result (IsFull (core_view self.old) asked) }
         ensures err { OnErr result (core_view self.new ≡ core_view self.old) }
     {
-        let routes = self.accepted.routes();
-        let Some(route) = routes.route(asked.route) else {
+        let Asked {
+            request,
+            op,
+            route,
+            rest,
+            choice,
+        } = asked;
+        let Some(tree) = self.accepted.routes().route(route) else {
             return Err(CoreFault::UnknownPrefix);
         };
-        let (state, launches) = EvalState::begin(
-            alloc,
-            route,
-            asked.op,
-            &asked.rest,
-            self.since,
-            &asked.choice,
-        )?;
+        let (state, launches) = EvalState::begin(alloc, tree, op, &rest, self.since, &choice)?;
         let count = launches.len();
         self.has_room_for(count)?;
         let number = self.next_call;
@@ -106,8 +102,8 @@ impl Dispatcher {
             alloc,
             Laid {
                 launches,
-                rest: Arc::new(alloc, asked.rest)?,
-                request: Some(asked.request),
+                rest: Arc::new(alloc, rest)?,
+                request: Some(request),
             },
         )?;
         let entries = readied(alloc, &laid, number)?;
@@ -117,10 +113,10 @@ impl Dispatcher {
         self.add(
             number,
             Call {
-                op: asked.op,
-                route: asked.route,
+                op,
+                route,
                 since: self.since,
-                choice: asked.choice,
+                choice,
                 laid,
                 state,
                 entries,

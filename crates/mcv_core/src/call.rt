@@ -103,7 +103,7 @@ impl Call {
     }
 
     /// Launches the entries that are due since the last outcome. Gives how many that is. It takes no memory.
-    fn launch(&mut self, queues: &mut Queues<Errand>, next: u64) -> usize
+    pub fn launch(&mut self, queues: &mut Queues<Errand>, next: u64) -> usize
         requires can { CanLaunch (fresh self.old.state) self.old.entries.items (legs queues.old) (room queues.old) (known queues.old) next }
         requires left { length (fresh self.old.state) ≤ self.old.left }
         ensures launched { IsLaunched next (fresh self.old.state) self.old.entries.items self.new.entries.items (legs queues.old) (legs queues.new) }

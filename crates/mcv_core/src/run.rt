@@ -1,13 +1,10 @@
 //! Lists of events.
 
-use crate::core::Core;
+use crate::engine::Core;
 use crate::fault::CoreFault;
 use crate::step::Place;
 use mcv_base::{CallId, LegId, Moment, Part, Parts, Request, ServerId};
-use mcv_check::Accepted;
-use mcv_pools::KeyHash;
 use mcv_spool::Stored;
-use std::alloc::Global;
 use std::sync::Arc;
 
 /// What happens to a core.

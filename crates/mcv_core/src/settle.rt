@@ -58,6 +58,15 @@ impl Recording {
     }
 }
 
+impl Recording {
+    /// How many calls have ended.
+    fn ending(self) -> usize
+        ensures { result ≡ cond self.ended 1 0 }
+    {
+        if self.ended { 1 } else { 0 }
+    }
+}
+
 impl Settling {
     /// How many of the queued legs it takes away.
     fn leaving(self) -> usize
@@ -113,6 +122,6 @@ impl Dispatcher {
         self.reserved -= step.freed();
         self.queued = self.queued + step.launched - to.leaving();
         self.spooled += to.storing();
-        self.running -= usize::from(step.ended);
+        self.running -= step.ending();
     }
 }

@@ -1,11 +1,25 @@
-use Rattle.std.proofs.Common.{◌≡◌, ◌∙◌, ap, sym, subst, refl, rules}
+use Rattle.std.proofs.Common.{◌≡◌, ◌∙◌, ap, sym, subst, rules}
 use Rattle.std.specs.Option.{option_copied_mut}
 use Rattle.std.proofs.Math.Path.{fun_ext}
-use Rattle.mcv_world.proofs.Numbers.{same_some, no_some}
+use Rattle.mcv_queues.specs.Queues.{legs, room as leg_room, servers as known}
+use Rattle.mcv_world.proofs.Numbers.{same_some}
+use Rattle.mcv_core.specs.Calls.{IsRecordedAt, calls_at}
 use Rattle.mcv_core.specs.Noting.{CanNote}
 use Rattle.mcv_core.proofs.calls.Calls.hear.Goals as goal
 
 pub hear-requires : goal.hear-requires
 hear-requires c =
     let there = sym c.get_mut.ensures.value ∙ ap option_copied_mut c.in-Some.is in
-    record { can = subst (λ v. CanNote v _ _ _ _ _) (same_some (sym c.requires.can.there ∙ there)) c.requires.can.can }
+    record {
+      can = subst (λ v. CanNote v c.args.entry (legs c.args.queues.now) (leg_room c.args.queues.now) (known c.args.queues.now) c.args.next) (same_some (sym c.requires.can.there ∙ there)) c.requires.can.can;
+    }
+
+pub returns-in-Some-clause-recorded : goal.returns-in-Some-clause-recorded
+returns-in-Some-clause-recorded c call here =
+    let there = sym c.get_mut.ensures.value ∙ ap option_copied_mut c.in-Some.is in
+    subst (λ v. IsRecordedAt (calls_at c.args.self.now) _ c.args.number v c.args.entry c.args.outcome c.args.taken c.args.next (legs c.args.queues.now) (legs c.hear.new.queues) c.hear.result) (same_some (sym there ∙ here))
+    (record {
+      call = c.hear.new.self;
+      at = fun_ext (λ q. ((c.get_mut.follows.holds c.hear.new.self).3 (search rules)).0 q);
+      recorded = λ r w core can running next same. c.hear.ensures.recorded r w c.args.number core can running next same;
+    })
