@@ -33,10 +33,10 @@ count_at_most f (l ∷ es) =
 
 -- one that doesn't pass is there
 pub count_below : (f : Launch → Bool) (es : List Launch) (i : ℕ) (l : Launch) → slice_get es i ≡ Some l → f l ≡ false → count f es < length es
-count_below f [] i l at no = no_some at
-count_below f (m ∷ es) zero l at no = let q = count_at_most f es in let e = count_no f m es (ap f (same_some at) ∙ no) in omega (arith, q, e)
-count_below f (m ∷ es) (suc i) l at no =
-    let q = count_below f es i l at no in
+count_below f [] i l at fails = no_some at
+count_below f (m ∷ es) zero l at fails = let q = count_at_most f es in let e = count_no f m es (ap f (same_some at) ∙ fails) in omega (arith, q, e)
+count_below f (m ∷ es) (suc i) l at fails =
+    let q = count_below f es i l at fails in
     elim (cases_Bool (f m)) [
       | inl t ↦ let e = count_yes f m es t in omega (arith, q, e)
       | inr t ↦ let e = count_no f m es t in omega (arith, q, e)
@@ -74,14 +74,14 @@ count_more f g (l ∷ es) h =
 -- one more passes
 pub count_one_more : (f g : Launch → Bool) (es : List Launch) (i : ℕ) (l : Launch) → slice_get es i ≡ Some l → f l ≡ false → g l ≡ true
     → ((j : ℕ) (m : Launch) → slice_get es j ≡ Some m → (i ≡ j → ⊥) → f m ≡ g m) → count g es ≡ suc (count f es)
-count_one_more f g [] i l at no yes others = no_some at
-count_one_more f g (m ∷ es) zero l at no yes others =
-    let a = count_no f m es (ap f (same_some at) ∙ no) in
-    let b = count_yes g m es (ap g (same_some at) ∙ yes) in
+count_one_more f g [] i l at fails passes others = no_some at
+count_one_more f g (m ∷ es) zero l at fails passes others =
+    let a = count_no f m es (ap f (same_some at) ∙ fails) in
+    let b = count_yes g m es (ap g (same_some at) ∙ passes) in
     let c = count_alike f g es (λ j k here. others (suc j) k here (λ q. omega (arith, q))) in
     omega (arith, a, b, c)
-count_one_more f g (m ∷ es) (suc i) l at no yes others =
-    let q = count_one_more f g es i l at no yes (λ j k here ne. others (suc j) k here (λ e. ne (omega (arith, e)))) in
+count_one_more f g (m ∷ es) (suc i) l at fails passes others =
+    let q = count_one_more f g es i l at fails passes (λ j k here ne. others (suc j) k here (λ e. ne (omega (arith, e)))) in
     let same = others 0 m refl (λ q. omega (arith, q)) in
     elim (cases_Bool (f m)) [
       | inl t ↦

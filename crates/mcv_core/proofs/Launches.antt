@@ -83,7 +83,7 @@ module _ (next number i : ℕ) (fresh : List ℕ) (was entries : List Entry) (ol
   has_number = let low = get_below fresh i e here in let n = h.number_is in let bound = can.numbers in omega (arith, low, n, bound)
 
   pub has_room : 0 < room
-  has_room = let low = get_below fresh i e here in let a = h.room_is in let b = can.room in omega (arith, low, a, b)
+  has_room = let low = get_below fresh i e here in let a = h.room_is in let b = can.fits in omega (arith, low, a, b)
 
   module _ (before : Entry) (at : slice_get entries e ≡ Some before) where
     its : ready.0 ≡ before

@@ -91,8 +91,8 @@ due_numbers due n from (l ∷ es) f = by_cases (due l) (due_numbers due (suc n) 
     by_cases : (b : Bool) → with_numbers (suc n) (places_from (suc from) due es) (put f from (Some n)) ≡ numbered due (suc n) (suc from) es (put f from (Some n))
         → with_numbers n (places_from (suc from) due es) f ≡ numbered due n (suc from) es f
         → with_numbers n (cond b (from ∷ places_from (suc from) due es) (places_from (suc from) due es)) f ≡ cond b (numbered due (suc n) (suc from) es (put f from (Some n))) (numbered due n (suc from) es f)
-    by_cases true yes no = yes
-    by_cases false yes no = no
+    by_cases true first other = first
+    by_cases false first other = other
 
 pub put_rows : (f : State → rows.State) (legs : ℕ → Option (Leg Errand)) (n : ℕ) (o : Option (Leg Errand)) → rows_by f (put legs n o) ≡ put (rows_by f legs) n (option_map (row_by f) o)
 put_rows f legs n o = fun_ext (λ m. by_cases (nat_eq n m) m)

@@ -177,7 +177,7 @@ module _ (r : RoutesValue) (w : Rows) (k : ℕ) (c : Call) (e : ℕ) (i : IsCore
         let n = fresh_count in
         let m = within_left in
         record {
-          room = omega (arith, n, m, enough);
+          fits = omega (arith, n, m, enough);
           numbers = omega (arith, n, m, small);
           free = free;
           ready = λ j f at.

@@ -38,7 +38,7 @@ is_ready servers (Some e) = nat_lt (launch_of e).server.0 servers
 
 -- the entries can be launched: there is room, their numbers are free, and each has ready what its leg takes with it
 pub record CanLaunch (fresh : List ℕ) (entries : List Entry) (legs : ℕ → Option (Leg Errand)) (room servers next : ℕ) : Type 0 where
-  pub room : length fresh ≤ room
+  pub fits : length fresh ≤ room
   pub numbers : next + length fresh < 2 ^ 64
   pub free : (n : ℕ) → next ≤ n → legs n ≡ None
   pub ready : (i e : ℕ) → slice_get fresh i ≡ Some e → is_ready servers (errand_at entries e) ≡ true

@@ -19,8 +19,8 @@ note-requires c =
       room = Recordings.has_room q.routes q.rows q.number call c.args.entry q.core q.can q.running c.args.outcome c.args.taken;
     }
 
-pub launch-requires : goal.launch-requires
-launch-requires c =
+pub launch-launched-requires : goal.launch-launched-requires
+launch-launched-requires c =
     let q = c.requires.can in
     let call = c.args.self.now in
     let can = Recordings.can_advance q.routes q.rows q.number call c.args.entry q.core q.can q.running c.args.outcome c.args.taken in

@@ -1,10 +1,14 @@
 use Rattle.std.proofs.Common.{◌≡◌, ◌∙◌, ap, sym, subst, rules}
 use Rattle.std.specs.Option.{option_copied_mut}
 use Rattle.std.proofs.Math.Path.{fun_ext}
+use Rattle.mcv_base.specs.Reply.{part_value}
+use Rattle.mcv_plan.specs.Tracked.{launch_at}
 use Rattle.mcv_queues.specs.Queues.{legs, room as leg_room, servers as known}
+use Rattle.mcv_route.specs.Routes.{RoutesValue}
 use Rattle.mcv_world.proofs.Numbers.{same_some}
-use Rattle.mcv_core.specs.Calls.{IsRecordedAt, calls_at}
-use Rattle.mcv_core.specs.Noting.{CanNote}
+use Rattle.mcv_events.specs.Rows.{CanRecord, IsCore, Rows}
+use Rattle.mcv_core.specs.Noting.{CanNote, HasRecorded}
+use Rattle.mcv_core.specs.Rows.{call_row, entries_of, IsRunning}
 use Rattle.mcv_core.proofs.calls.Calls.hear.Goals as goal
 
 pub hear-requires : goal.hear-requires
@@ -17,9 +21,11 @@ hear-requires c =
 pub returns-in-Some-clause-recorded : goal.returns-in-Some-clause-recorded
 returns-in-Some-clause-recorded c call here =
     let there = sym c.get_mut.ensures.value ∙ ap option_copied_mut c.in-Some.is in
-    subst (λ v. IsRecordedAt (calls_at c.args.self.now) _ c.args.number v c.args.entry c.args.outcome c.args.taken c.args.next (legs c.args.queues.now) (legs c.hear.new.queues) c.hear.result) (same_some (sym there ∙ here))
-    (record {
+    record {
       call = c.hear.new.self;
       at = fun_ext (λ q. ((c.get_mut.follows.holds c.hear.new.self).3 (search rules)).0 q);
-      recorded = λ r w core can running next same. c.hear.ensures.recorded r w c.args.number core can running next same;
-    })
+      recorded = subst (λ v. (r : RoutesValue) (w : Rows) → IsCore r w → CanRecord r w c.args.number (call_row v) c.args.entry (launch_at (entries_of v) c.args.entry) → IsRunning r c.args.number v
+          → w.next_leg ≡ c.args.next → part_value c.args.taken ≡ part_value c.args.outcome
+          → HasRecorded r w c.args.number v c.hear.new.self c.args.entry (part_value c.args.outcome) (legs c.args.queues.now) (legs c.hear.new.queues) c.hear.result) (same_some (sym there ∙ here))
+          (λ r w core can running next same. c.hear.ensures.recorded r w c.args.number core can running next same);
+    }
