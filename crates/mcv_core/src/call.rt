@@ -1,6 +1,6 @@
 //! A running call: what it asks, how far it has come, and its entries.
 
-ghost use Rattle.std.specs.Prelude.{◌≡◌, ◌<◌, ◌≤◌, ◌+◌, ◌-◌, ◌∷◌, [], ℕ, List, Some, ◌&&◌, not, length, vec_len, vec_capacity};
+ghost use Rattle.std.specs.Prelude.{◌≡◌, ◌<◌, ◌≤◌, ◌+◌, ◌-◌, ◌∷◌, [], ℕ, List, Some, ◌&&◌, not, length, vec_capacity};
 ghost use Rattle.mcv_base.specs.Reply.{outcome_of, part_value};
 ghost use Rattle.mcv_plan.specs.Tracked.{CanAdvance, IsTracked, Past, count, fresh, history_by, is_sent, places_from};
 ghost use Rattle.mcv_queues.specs.Queues.{legs, room, in_flight, servers as known};
@@ -84,7 +84,7 @@ impl Call {
     fn note(&mut self, entry: usize, outcome: Part, taken: Part)
         requires known { entry < count self.old.state }
         requires within { entry < length self.old.entries.items }
-        requires room { vec_len self.old.recorded < vec_capacity self.old.recorded }
+        requires room { length self.old.recorded.items < vec_capacity self.old.recorded }
         ensures noted { IsNoted entry outcome taken self.old self.new }
         ensures count { count self.new.state ≡ count self.old.state }
         ensures tracked { (t : Tree) (s : Situation) (c : Chosen) (es : List Leg) (past : Past) → IsTracked t s c es past self.old.state → CanAdvance t s c es past entry
