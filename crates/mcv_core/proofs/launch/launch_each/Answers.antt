@@ -1,5 +1,5 @@
 use Rattle.std.proofs.Common.{rules, ◌≡◌, ◌<◌, ◌≤◌, ◌+◌, ◌∙◌, suc, length, get_or, set, Some, sym, ap, subst, refl, arith}
-use Rattle.std.proofs.lemmas.Option.{slice_get_read}
+use Rattle.std.proofs.lemmas.Option.{slice_get_read, slice_get-get_or}
 use Rattle.std.specs.Prelude.{slice_get}
 use Rattle.mcv_queues.specs.Queues.{legs, room, in_flight, servers as known}
 use Rattle.mcv_core.specs.Launching.{HasCome}
@@ -11,7 +11,7 @@ pub index_mut-requires : goal.index_mut-requires
 index_mut-requires c =
     let i = c.loop-entry.entry-index in
     let e = get_or c.args.fresh.now c.loop-entry.entry-index 0 in
-    let here : slice_get c.args.fresh.now i ≡ Some e = slice_get_read c.args.fresh.now (length c.args.fresh.now) i e refl c.loop-entry-test.true refl in
+    let here : slice_get c.args.fresh.now i ≡ Some e = slice_get-get_or c.args.fresh.now i 0 c.loop-entry-test.true in
     let low : e < length c.loop-entry.entries.items =
     Launches.there c.args.next c.loop-entry.number i c.args.fresh.now c.args.entries.now.items c.loop-entry.entries.items (legs c.args.queues.now) (legs c.loop-entry.queues) (room c.args.queues.now)
         (room c.loop-entry.queues) (known c.args.queues.now) c.requires.can c.loop-entry.invariant.come e here in
@@ -23,7 +23,7 @@ push-requires-clause-server c =
     let e = get_or c.args.fresh.now c.loop-entry.entry-index 0 in
     let entries = c.loop-entry.entries.items in
     let before = c.index_mut.result.now in
-    let here : slice_get c.args.fresh.now i ≡ Some e = slice_get_read c.args.fresh.now (length c.args.fresh.now) i e refl c.loop-entry-test.true refl in
+    let here : slice_get c.args.fresh.now i ≡ Some e = slice_get-get_or c.args.fresh.now i 0 c.loop-entry-test.true in
     let low : e < length entries =
     Launches.there c.args.next c.loop-entry.number i c.args.fresh.now c.args.entries.now.items entries (legs c.args.queues.now) (legs c.loop-entry.queues) (room c.args.queues.now) (room c.loop-entry.queues)
         (known c.args.queues.now) c.requires.can c.loop-entry.invariant.come e here in
@@ -40,7 +40,7 @@ loop-entry-preserved c =
     let e = get_or c.args.fresh.now c.loop-entry.entry-index 0 in
     let entries = c.loop-entry.entries.items in
     let before = c.index_mut.result.now in
-    let here : slice_get c.args.fresh.now i ≡ Some e = slice_get_read c.args.fresh.now (length c.args.fresh.now) i e refl c.loop-entry-test.true refl in
+    let here : slice_get c.args.fresh.now i ≡ Some e = slice_get-get_or c.args.fresh.now i 0 c.loop-entry-test.true in
     let low : e < length entries =
     Launches.there c.args.next c.loop-entry.number i c.args.fresh.now c.args.entries.now.items entries (legs c.args.queues.now) (legs c.loop-entry.queues) (room c.args.queues.now) (room c.loop-entry.queues)
         (known c.args.queues.now) c.requires.can c.loop-entry.invariant.come e here in
