@@ -5,9 +5,3 @@ pub mod Rows
 pub mod Noting
 pub mod Calls
 pub mod Sound
-pub mod Facts
-pub mod CoreView
-pub mod Settling
-pub mod View
-pub mod Turning
-pub mod Beginning
