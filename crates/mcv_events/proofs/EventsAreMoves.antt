@@ -357,7 +357,7 @@ module _ (r : RoutesValue) (w : Rows) (call : Call) (es : List Launch) (i : IsCo
 
   began_legs : (m : ℕ) → option_map leg_of (queued_rows due w.next_call call.rest w.next_leg 0 es w.legs m) ≡ live_leg (queue (world_of w).legs w.next_leg w.next_call call.rest (launched_by r call) m)
   began_legs m =
-      let q = Numbered.rows_queue due w.next_call call.rest w.next_leg 0 es w.legs (world_of w).legs (λ j. refl) m in
+      let q = Numbering.rows_queue due w.next_call call.rest w.next_leg 0 es w.legs (world_of w).legs (λ j. refl) m in
       sym (live_leg_of (queued_rows due w.next_call call.rest w.next_leg 0 es w.legs m)) ∙ ap live_leg (q ∙ ap (λ ls. queue (world_of w).legs w.next_leg w.next_call call.rest ls m) (sym launched_is))
 
   began_live : world_of (began_rows r w call es) ≡ live_of r (began r (world_of w) call)
@@ -373,20 +373,20 @@ module _ (r : RoutesValue) (w : Rows) (call : Call) (es : List Launch) (i : IsCo
   began_linked e l at =
       let zero_plus : e ≡ 0 + e = omega arith in
       elim (cases_Bool (due l)) [
-        | inl t ↦ Numbered.numbered_due due w.next_leg 0 es (λ j. None) e e l at zero_plus t ∙ sym t
-        | inr t ↦ ap is_some (Numbered.numbered_rest due w.next_leg 0 es (λ j. None) e e l at zero_plus t) ∙ sym t
+        | inl t ↦ Numbering.numbered_due due w.next_leg 0 es (λ j. None) e e l at zero_plus t ∙ sym t
+        | inr t ↦ ap is_some (Numbering.numbered_rest due w.next_leg 0 es (λ j. None) e e l at zero_plus t) ∙ sym t
       ]
 
   began_core : IsCore r (began_rows r w call es)
   began_core =
       record {
         calls_below = λ j high. put_other w.calls w.next_call j (Some (new_row r w call es)) (λ q. omega (arith, high, q)) ∙ i.calls_below j (omega (arith, high));
-        legs_below = λ m high. Numbered.rows_above due w.next_call call.rest w.next_leg 0 es w.legs m high ∙ i.legs_below m (omega (arith, high));
+        legs_below = λ m high. Numbering.rows_above due w.next_call call.rest w.next_leg 0 es w.legs m high ∙ i.legs_below m (omega (arith, high));
         call = λ j d f. elim (put_cases w.calls w.next_call j (Some (new_row r w call es)) d f) [
           | inl q ↦ subst (IsCallRow r) (same_some q.1) (record { laid = record { all = laid.all; rising = laid.rising }; runs = runs; linked = began_linked; closed = λ p y g. no_some (sym (nothing p) ∙ g) })
           | inr q ↦ i.call j d q.1
         ];
-        own = λ m s j d f g t. elim (Numbered.rows_back due w.next_call call.rest w.next_leg 0 es w.legs m s f) [
+        own = λ m s j d f g t. elim (Numbering.rows_back due w.next_call call.rest w.next_leg 0 es w.legs m s f) [
           | inl old ↦
               elim (put_cases w.calls w.next_call j (Some (new_row r w call es)) d t) [
                 | inl q ↦ let low = i.owner m s j old g in absurd (below_itself w.next_call (subst (λ v. v < w.next_call) (sym q.0) low))
@@ -400,18 +400,18 @@ module _ (r : RoutesValue) (w : Rows) (call : Call) (es : List Launch) (i : IsCo
               (subst (λ v. (slice_get es v.entry ≡ Some v.launch) × (new.legs v.entry ≡ Some m)) fresh.is
               (subst (λ v. slice_get es v ≡ Some fresh.launch) index fresh.at, fresh.number (λ j. None)))
         ];
-        awaited = λ m s f o. elim (Numbered.rows_back due w.next_call call.rest w.next_leg 0 es w.legs m s f) [
+        awaited = λ m s f o. elim (Numbering.rows_back due w.next_call call.rest w.next_leg 0 es w.legs m s f) [
           | inl old ↦
               let a = awaits_call w.calls s (i.awaited m s old o) in
               let low = i.owner m s a.0 old a.2 in
               call_awaits calls4 s (a.0, a.1, a.2, put_other w.calls w.next_call a.0 (Some (new_row r w call es)) (λ q. omega (arith, low, q)) ∙ a.3, a.4)
           | inr fresh ↦ call_awaits calls4 s (w.next_call, new_row r w call es, sym (ap (λ v. v.call) fresh.is), put_same w.calls w.next_call (Some (new_row r w call es)), nothing s.launch.position)
         ];
-        counted = λ m s f o. elim (Numbered.rows_back due w.next_call call.rest w.next_leg 0 es w.legs m s f) [
+        counted = λ m s f o. elim (Numbering.rows_back due w.next_call call.rest w.next_leg 0 es w.legs m s f) [
           | inl old ↦ i.counted m s old o
           | inr fresh ↦ absurd (true≢false (subst (λ v. is_unanswered v.state ≡ false) (sym fresh.is) o))
         ];
-        owner = λ m s j f g. elim (Numbered.rows_back due w.next_call call.rest w.next_leg 0 es w.legs m s f) [
+        owner = λ m s j f g. elim (Numbering.rows_back due w.next_call call.rest w.next_leg 0 es w.legs m s f) [
           | inl old ↦ let low = i.owner m s j old g in omega (arith, low)
           | inr fresh ↦ let jk : w.next_call ≡ j = same_some (ap (λ v. v.call) fresh.is ∙ g) in omega (arith, jk)
         ];

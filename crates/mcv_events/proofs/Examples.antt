@@ -1,5 +1,5 @@
 -- Small rows. Each is what an event makes of the rows before it.
-use Rattle.std.proofs.Common.{◌≡◌, ℕ, true, false, List, [], ◌∷◌, Option, Some, None, option_map, refl}
+use Rattle.std.proofs.Common.{◌≡◌, ℕ, true, false, [], ◌∷◌, Option, Some, None, option_map, refl}
 use Rattle.std.specs.Prelude.{option_and_then}
 use Rattle.mcv_base.specs.declared.operation.Mark.TheVariants.{Plain}
 use Rattle.mcv_base.specs.declared.operation.Op.TheVariants.{Delete}
@@ -13,7 +13,7 @@ use Rattle.mcv_world.specs.World.{Place, Queued, Call, reply_of}
 use Rattle.mcv_world.specs.Moves.{WasPerformed, new_call, with_reply}
 use Rattle.mcv_events.specs.Entries.{is_launched, is_due}
 use Rattle.mcv_events.specs.Rows.{State, Waiting, Sent, Held, InSpool, LegRow, Rows, waiting, world_of, with_leg_row}
-use Rattle.mcv_events.specs.Events.{answered_rows, spooled_rows, refused_rows, began_rows, taken_rows, in_state}
+use Rattle.mcv_events.specs.Events.{answered_rows, spooled_rows, refused_rows, began_rows, in_state}
 use Rattle.mcv_events.specs.Runs.{opened, Runs, done, moved}
 use Rattle.mcv_events.specs.Reservations.{reserved}
 use Rattle.mcv_events.specs.QueuedLegs.{queued_legs}

@@ -1,7 +1,6 @@
 -- How many legs are queued.
-use Rattle.std.proofs.Common.{◌≡◌, cond, inl, inr, ℕ, zero, suc, ◌+◌, ◌<◌, ◌≤◌, Bool, true, false, List, [], ◌∷◌, length, Option, Some, refl, ap, subst, arith}
+use Rattle.std.proofs.Common.{◌≡◌, cond, ℕ, suc, ◌+◌, Bool, true, false, List, [], ◌∷◌, length, Option, Some, ap, arith}
 use Rattle.std.specs.Prelude.{filter}
-use Rattle.std.proofs.lemmas.Bool.{cases_eq}
 use Rattle.mcv_route.specs.declared.launch.Launch.{Launch}
 use Rattle.mcv_world.specs.World.{put}
 use Rattle.mcv_events.specs.Entries.{is_launched, is_due}

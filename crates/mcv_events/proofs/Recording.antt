@@ -1,7 +1,7 @@
 -- A call of a core's rows that records a reply does what it does in the world that they keep.
 use Rattle.std.proofs.Common.{◌≡◌, ◌&&◌, ◌||◌, not, cond, inl, inr, ℕ, zero, suc, ◌+◌, ◌<◌, Bool, true, false, nat_eq, is_none, List, [], ◌∷◌, map, length, get_or, Option, Some, None, option_map, refl, sym, ap, ◌∙◌, subst, arith, true≢false}
 use Rattle.std.specs.Prelude.{filter, is_some, slice_get}
-use Rattle.std.specs.List.{AllPairs, list_all}
+use Rattle.std.specs.List.{AllPairs}
 use Rattle.std.proofs.lemmas.Bool.{cases_Bool, cases_eq, cases_lt, and_parts}
 use Rattle.mcv_base.specs.declared.reply.Outcome.{Outcome}
 use Rattle.mcv_base.specs.Reply.{ReplyValue, outcome_of}
@@ -164,7 +164,7 @@ module _ (r : RoutesValue) (w : Rows) (k : ℕ) (c : CallRow) (e : ℕ) (l : Lau
   legs_are : (m : ℕ) → option_map leg_of (queued_rows due k c.call.rest w.next_leg 0 c.entries w.legs m) ≡ live_leg (queue (world_of w).legs w.next_leg k c.call.rest (launched_since r c.call l.position x) m)
   legs_are m =
       let rows = queued_rows due k c.call.rest w.next_leg 0 c.entries w.legs m in
-      let q = Numbered.rows_queue due k c.call.rest w.next_leg 0 c.entries w.legs (world_of w).legs (λ j. refl) m in
+      let q = Numbering.rows_queue due k c.call.rest w.next_leg 0 c.entries w.legs (world_of w).legs (λ j. refl) m in
       sym (live_leg_of rows) ∙ ap live_leg (q ∙ ap (λ ls. queue (world_of w).legs w.next_leg k c.call.rest ls m) (sym fresh_is))
 
   pub recording_is_recorded : world_of (recorded_rows r w k c l.position x) ≡ live_of r (recorded_by r (world_of w) k c.call l.position x)
@@ -194,9 +194,9 @@ module _ (r : RoutesValue) (w : Rows) (k : ℕ) (c : CallRow) (e : ℕ) (l : Lau
   linked2 j m at =
       let zero_plus : j ≡ 0 + j = omega arith in
       elim (cases_Bool (due m)) [
-        | inl t ↦ Numbered.numbered_due due w.next_leg 0 c.entries c.legs j j m at zero_plus t ∙ sym (and_parts _ _ t).0
+        | inl t ↦ Numbering.numbered_due due w.next_leg 0 c.entries c.legs j j m at zero_plus t ∙ sym (and_parts _ _ t).0
         | inr t ↦
-            ap is_some (Numbered.numbered_rest due w.next_leg 0 c.entries c.legs j j m at zero_plus t)
+            ap is_some (Numbering.numbered_rest due w.next_leg 0 c.entries c.legs j j m at zero_plus t)
             ∙ row.linked j m at ∙ not_due (is_launched r c.call m) (is_launched r call2 m) (launched_stays m) t
       ]
 
@@ -226,7 +226,7 @@ module _ (r : RoutesValue) (w : Rows) (k : ℕ) (c : CallRow) (e : ℕ) (l : Lau
   kept_number j m v at f =
       let zero_plus : j ≡ 0 + j = omega arith in
       let launched = sym (row.linked j v at) ∙ ap is_some f in
-      Numbered.numbered_rest due w.next_leg 0 c.entries c.legs j j v at zero_plus (and_no (is_launched r call2 v) (is_launched r c.call v) launched) ∙ f
+      Numbering.numbered_rest due w.next_leg 0 c.entries c.legs j j v at zero_plus (and_no (is_launched r call2 v) (is_launched r c.call v) launched) ∙ f
 
   k_below : k < w.next_call
   k_below = elim (cases_lt k w.next_call) [ inl low ↦ low | inr high ↦ no_some (sym (i.calls_below k high) ∙ h.there) ]
@@ -267,14 +267,14 @@ module _ (r : RoutesValue) (w : Rows) (k : ℕ) (c : CallRow) (e : ℕ) (l : Lau
   recording_keeps_core =
       record {
         calls_below = λ j high. put_other w.calls k j (cond (has_ended r call2) None (Some c2)) (λ q. let low = k_below in omega (arith, low, high, q)) ∙ i.calls_below j high;
-        legs_below = λ m high. Numbered.rows_above due k c.call.rest w.next_leg 0 c.entries w.legs m high ∙ i.legs_below m (omega (arith, high));
+        legs_below = λ m high. Numbering.rows_above due k c.call.rest w.next_leg 0 c.entries w.legs m high ∙ i.legs_below m (omega (arith, high));
         call = λ j d f. elim (put_cases w.calls k j (cond (has_ended r call2) None (Some c2)) d f) [
           | inl q ↦
               let s = some_row (has_ended r call2) c2 d q.1 in
               subst (IsCallRow r) s.1 (record { laid = record { all = row.laid.all; rising = row.laid.rising }; runs = s.0; linked = linked2; closed = closed2 })
           | inr q ↦ i.call j d q.1
         ];
-        own = λ m s j d f g t. elim (Numbered.rows_back due k c.call.rest w.next_leg 0 c.entries w.legs m s f) [
+        own = λ m s j d f g t. elim (Numbering.rows_back due k c.call.rest w.next_leg 0 c.entries w.legs m s f) [
           | inl old ↦
               elim (put_cases w.calls k j (cond (has_ended r call2) None (Some c2)) d t) [
                 | inl q ↦
@@ -291,17 +291,17 @@ module _ (r : RoutesValue) (w : Rows) (k : ℕ) (c : CallRow) (e : ℕ) (l : Lau
               (subst (λ v. (slice_get c2.entries v.entry ≡ Some v.launch) × (c2.legs v.entry ≡ Some m)) new.is
               (subst (λ v. slice_get c.entries v ≡ Some new.launch) index new.at, new.number c.legs))
         ];
-        awaited = λ m s f opened. elim (Numbered.rows_back due k c.call.rest w.next_leg 0 c.entries w.legs m s f) [
+        awaited = λ m s f opened. elim (Numbering.rows_back due k c.call.rest w.next_leg 0 c.entries w.legs m s f) [
           | inl old ↦ call_awaits calls2 s (still_awaited m s old opened)
           | inr new ↦
               let a = new_awaited new.launch new.is_due in
               call_awaits calls2 s (k, c2, sym (ap (λ v. v.call) new.is), a.0, subst (λ v. o2 v.launch.position ≡ None) new.is a.1)
         ];
-        counted = λ m s f opened. elim (Numbered.rows_back due k c.call.rest w.next_leg 0 c.entries w.legs m s f) [
+        counted = λ m s f opened. elim (Numbering.rows_back due k c.call.rest w.next_leg 0 c.entries w.legs m s f) [
           | inl old ↦ i.counted m s old opened
           | inr new ↦ absurd (true≢false (subst (λ v. is_unanswered v.state ≡ false) (sym new.is) opened))
         ];
-        owner = λ m s j f g. elim (Numbered.rows_back due k c.call.rest w.next_leg 0 c.entries w.legs m s f) [
+        owner = λ m s j f g. elim (Numbering.rows_back due k c.call.rest w.next_leg 0 c.entries w.legs m s f) [
           | inl old ↦ i.owner m s j old g
           | inr new ↦ subst (λ v. v < w.next_call) (same_some (ap (λ v. v.call) new.is ∙ g)) k_below
         ];

@@ -1,7 +1,6 @@
 -- Calls and legs that have ended make no difference to later moves.
-use Rattle.std.proofs.Common.{◌≡◌, ◌&&◌, not, cond, inl, inr, ℕ, suc, ◌+◌, Bool, true, false, nat_eq, is_none, List, [], ◌∷◌, length, Option, Some, None, refl, sym, ap, ap₂, ◌∙◌, subst, true≢false}
+use Rattle.std.proofs.Common.{◌≡◌, ◌&&◌, not, cond, ℕ, suc, ◌+◌, Bool, true, false, nat_eq, is_none, List, [], ◌∷◌, length, Option, Some, None, refl, sym, ap, ap₂, ◌∙◌, subst, true≢false}
 use Rattle.std.specs.Prelude.{is_some}
-use Rattle.std.specs.List.{list_all}
 use Rattle.std.proofs.lemmas.Bool.{and_parts}
 use Rattle.mcv_base.specs.Reply.{ReplyValue, not_found, fixed_value}
 use Rattle.mcv_base.specs.declared.reply.FixedReply.TheVariants.{Lost}
@@ -9,7 +8,6 @@ use Rattle.mcv_base.specs.declared.reply.Outcome.{Outcome}
 use Rattle.mcv_route.specs.declared.launch.Launch.{Launch}
 use Rattle.mcv_route.specs.Outcomes.{outcomes}
 use Rattle.mcv_route.specs.Routes.{RoutesValue}
-use Rattle.mcv_rules.proofs.Among.{Among}
 use Rattle.mcv_world.specs.World.{Place, Queued, Performed, Spooled, Gone, Call, Leg, World, history_of, launched_by, reply_of, is_counted_delete, is_queued, is_spooled, put}
 use Rattle.mcv_world.specs.Moves.{Move, Began, Answered, WasSpooled, WasRefused, WasPerformed, EraBegan, Taken, counted_as, is_error_reply, is_one, has_no_outcome, is_awaited, can_be_answered, can_be_spooled, can_be_refused, can_be_taken, is_move, queued, queue, new_call, began, with_reply, launched_since, recorded_by, recorded_if, recorded_for, placed, answered_place, with_taken, with_leg, with_call, changed, after}
 use Rattle.mcv_world.specs.Live.{has_ended, running, live_at, live_leg, live_of}

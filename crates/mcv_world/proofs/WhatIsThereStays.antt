@@ -1,5 +1,5 @@
 -- A leg keeps its number and what it sends, and a call keeps its reply.
-use Rattle.std.proofs.Common.{◌≡◌, cond, inl, inr, ℕ, ◌<◌, Bool, true, false, is_none, Option, Some, None, refl, sym, ap, ◌∙◌, subst, arith, true≢false}
+use Rattle.std.proofs.Common.{◌≡◌, cond, inl, inr, ℕ, ◌<◌, Bool, true, false, Option, Some, None, refl, sym, ap, ◌∙◌, subst, arith}
 use Rattle.std.proofs.lemmas.Bool.{cases_eq}
 use Rattle.mcv_base.specs.Reply.{ReplyValue, not_found, fixed_value}
 use Rattle.mcv_base.specs.declared.reply.FixedReply.TheVariants.{Lost}
