@@ -1,0 +1,139 @@
+-- Small rows. Each is what an event makes of the rows before it.
+use Rattle.std.proofs.Common.{◌≡◌, ℕ, true, false, [], ◌∷◌, Option, Some, None, option_map, refl}
+use Rattle.std.specs.Prelude.{option_and_then}
+use Rattle.mcv_base.specs.declared.operation.Mark.TheVariants.{Plain}
+use Rattle.mcv_base.specs.declared.operation.Op.TheVariants.{Delete}
+use Rattle.mcv_base.specs.Reply.{ReplyValue, deleted, not_found, fault, lost_line}
+use Rattle.mcv_pools.specs.declared.symbol.HashFunc.TheVariants.{Ch3}
+use Rattle.mcv_route.specs.declared.launch.Answered.{Answered}
+use Rattle.mcv_route.specs.declared.launch.Launch.{Launch}
+use Rattle.mcv_route.specs.Routes.{RoutesValue}
+use Rattle.mcv_route.specs.Tree.{Tree, pool, failover, none, child}
+use Rattle.mcv_world.specs.World.{Place, Queued, Call, reply_of}
+use Rattle.mcv_world.specs.Moves.{WasPerformed, new_call, with_reply}
+use Rattle.mcv_events.specs.Entries.{is_launched, is_due}
+use Rattle.mcv_events.specs.Rows.{State, Waiting, Sent, Held, InSpool, LegRow, Rows, waiting, world_of, with_leg_row}
+use Rattle.mcv_events.specs.Events.{answered_rows, spooled_rows, refused_rows, began_rows, in_state}
+use Rattle.mcv_events.specs.Runs.{opened, Runs, done, moved}
+use Rattle.mcv_events.specs.Reservations.{reserved}
+use Rattle.mcv_events.specs.QueuedLegs.{queued_legs}
+use Rattle.mcv_events.specs.Status.{recorded_one, recorded_all}
+use Rattle.mcv_events.proofs.CoresKeepDeletes.{opened_is_core}
+use Rattle.mcv_events.proofs.EventsAreMoves.{performed_moves}
+
+abbrev server : ℕ → Tree
+server x = pool (record { symbol = 0; servers = x ∷ [] }) [] none
+
+-- servers 5 and 7 by failover
+abbrev routes : RoutesValue
+routes = record {
+  servers = [] ∷ [] ∷ [];
+  symbols = record { func = Ch3; salt = []; n = 1 } ∷ [];
+  entries = record { aliases = []; tree = failover (child (server 5) (child (server 7) none)) } ∷ [];
+}
+
+-- ---- a delete: its entries are both legs, and it launches the first one when it begins
+
+abbrev to_server : (position : ℕ) → (server : ℕ) → Launch
+to_server p x = record { position = p ∷ []; server = record { 0 = x }; op = Delete; mark = Plain }
+
+abbrev call : Call
+call = new_call (world_of (opened None [])) Delete 0 (97 ∷ []) (0 ∷ [])
+
+abbrev begun : Rows
+begun = began_rows routes (opened None []) call (to_server 0 5 ∷ to_server 1 7 ∷ [])
+
+abbrev first : LegRow
+first = waiting 0 0 (97 ∷ []) (to_server 0 5)
+
+abbrev state_at : Rows → ℕ → Option State
+state_at w n = option_map (λ s. s.state) (w.legs n)
+
+abbrev place_at : Rows → ℕ → Option Place
+place_at w n = option_map (λ s. s.place) ((world_of w).legs n)
+
+abbrev reply_at : Rows → ℕ → Option ReplyValue
+reply_at w k = option_and_then (λ c. reply_of routes c.call) (w.calls k)
+
+first_entry_is_launched : is_launched routes call (to_server 0 5) ≡ true
+first_entry_is_launched = refl
+
+second_entry_is_not_launched : is_launched routes call (to_server 1 7) ≡ false
+second_entry_is_not_launched = refl
+
+second_entry_is_due_after_an_error : is_due routes call (with_reply call (0 ∷ []) (fault lost_line)) (to_server 1 7) ≡ true
+second_entry_is_due_after_an_error = refl
+
+first_leg_waits : state_at begun 0 ≡ Some Waiting
+first_leg_waits = refl
+
+second_leg_is_not_there : state_at begun 1 ≡ None
+second_leg_is_not_there = refl
+
+second_leg_is_reserved : reserved routes begun ≡ 1
+second_leg_is_reserved = refl
+
+one_leg_is_queued : queued_legs begun ≡ 1
+one_leg_is_queued = refl
+
+-- ---- its first leg is sent, and lost, and refused by the spool
+
+abbrev in_first : State → Rows
+in_first t = with_leg_row begun 0 (Some (in_state first t))
+
+held_leg_is_queued : place_at (in_first Held) 0 ≡ Some Queued
+held_leg_is_queued = refl
+
+abbrev refused : Rows
+refused = refused_rows routes (in_first Held) (in_state first Held)
+
+refused_leg_stays_held : state_at refused 0 ≡ Some Held
+refused_leg_stays_held = refl
+
+second_leg_waits_after_the_refusal : state_at refused 1 ≡ Some Waiting
+second_leg_waits_after_the_refusal = refl
+
+nothing_more_is_reserved : reserved routes refused ≡ 0
+nothing_more_is_reserved = refl
+
+both_legs_are_queued : queued_legs refused ≡ 2
+both_legs_are_queued = refl
+
+-- ---- or spooled
+
+abbrev spooled : Rows
+spooled = spooled_rows routes (in_first Held) 0 (in_state first Held)
+
+spooled_leg_is_in_the_spool : state_at spooled 0 ≡ Some InSpool
+spooled_leg_is_in_the_spool = refl
+
+spooled_delete_is_not_found : reply_at spooled 0 ≡ Some not_found
+spooled_delete_is_not_found = refl
+
+-- ---- or answered
+
+abbrev answered : Rows
+answered = answered_rows routes (in_first Sent) 0 (in_state first Sent) deleted
+
+answered_leg_goes : state_at answered 0 ≡ None
+answered_leg_goes = refl
+
+answered_delete_replies : reply_at answered 0 ≡ Some deleted
+answered_delete_replies = refl
+
+-- ---- a record that the spool held
+
+opened_record_is_in_the_spool : state_at (opened None ((5, 97 ∷ []) ∷ [])) 0 ≡ Some InSpool
+opened_record_is_in_the_spool = refl
+
+replayed_record_is_performed : Runs routes (opened None ((5, 97 ∷ []) ∷ [])) (WasPerformed 0 ∷ []) (with_leg_row (opened None ((5, 97 ∷ []) ∷ [])) 0 None)
+replayed_record_is_performed =
+    let old = opened None ((5, 97 ∷ []) ∷ []) in
+    moved old (with_leg_row old 0 None) (with_leg_row old 0 None) (WasPerformed 0) [] tt
+    (performed_moves routes old 0 (record { call = None; entry = 0; launch = record { position = []; server = record { 0 = 5 }; op = Delete; mark = Plain }; rest = 97 ∷ []; state = InSpool }) (opened_is_core routes None ((5, 97 ∷ []) ∷ [])) refl refl)
+    (done (with_leg_row old 0 None))
+
+-- ---- what is recorded
+
+newest_is_first : (a b : Answered) → recorded_all (a ∷ b ∷ []) ≡ recorded_one b ∷ recorded_one a ∷ []
+newest_is_first a b = refl
