@@ -1,5 +1,5 @@
 -- What a call is begun with, and which request is refused (own).
-use Rattle.std.specs.Prelude.{◌≡◌, ℕ, true, List, Some, None, ⊤, ⊥, option_map, slice_get}
+use Rattle.std.specs.Prelude.{◌≡◌, ℕ, true, List, Some, None, ⊤, option_map, slice_get}
 use Rattle.std.specs.Arc.{arc_value}
 use Rattle.mcv_base.specs.declared.request.Ask.{Ask}
 use Rattle.mcv_base.specs.declared.request.Request.{Request}

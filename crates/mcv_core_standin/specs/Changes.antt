@@ -32,7 +32,7 @@ is_performed_by x s = is_spooled s.place && not (is_error_reply (counted_as s.la
 -- what a reply to the leg is: its answer, its performance, or no move
 abbrev pub answered_kind : CoreView → ℕ → ReplyValue → LegMove
 answered_kind v n x =
-    if is_move v.routes v.world (Answered n x) then kinds.Answered else if is_one (v.world.legs n) (is_performed_by x) then kinds.Performed else kinds.Nothing
+    if is_move v.routes v.world (Answered n x) then kinds.Answered else (if is_one (v.world.legs n) (is_performed_by x) then kinds.Performed else kinds.Nothing)
 
 -- what the loss of the leg is, which counts as this reply
 abbrev pub lost_kind : CoreView → ℕ → ReplyValue → LegMove

@@ -1,5 +1,5 @@
 -- What each event of a core answers and changes beside its move, and when it is refused (own).
-use Rattle.std.specs.Prelude.{◌≡◌, ◌+◌, ◌<◌, ◌≤◌, ℕ, Bool, true, false, Option, Some, None, ⊥, option_map}
+use Rattle.std.specs.Prelude.{◌≡◌, ◌+◌, ◌<◌, ◌≤◌, ℕ, Bool, true, false, Option, Some, None, option_map}
 use Rattle.std.specs.Arc.{arc_value}
 use Rattle.mcv_base.specs.Reply.{ReplyValue, part_value}
 use Rattle.mcv_base.specs.declared.request.Request.{Request}
@@ -7,6 +7,7 @@ use Rattle.mcv_route.specs.Routes.{RoutesValue}
 use Rattle.mcv_world.specs.World.{Call, World, put, reply_of}
 use Rattle.mcv_core_standin.specs.declared.answer.Begun.{Begun}
 use Rattle.mcv_core_standin.specs.declared.answer.Change.{Change}
+use Rattle.mcv_core_standin.specs.declared.answer.Launched.{Launched}
 use Rattle.mcv_core_standin.specs.declared.answer.LegMove.{LegMove}
 use Rattle.mcv_core_standin.specs.declared.answer.Taken.{Taken}
 use Rattle.mcv_core_standin.specs.declared.fault.CoreFault.{CoreFault}
@@ -21,11 +22,16 @@ use Rattle.mcv_core_standin.specs.View.{CoreView}
 
 -- ---- calls
 
+-- between two worlds these legs were launched
+pub record IsLaunched (old new : World) (l : Launched) : Type 0 where
+  pub first : l.first.0 ≡ old.next_leg
+  pub count : new.next_leg ≡ old.next_leg + l.count
+
 -- the request's call was begun, and what it launched waits
 pub record IsBegun (old new : CoreView) (request : Request) (key : ℕ) (b : Begun) : Type 0 where
   pub asked : IsAsked old.routes request key b.asked
   pub call : b.call.0 ≡ old.world.next_call
-  pub launched : new.world.next_leg ≡ old.world.next_leg + b.launched
+  pub launched : IsLaunched old.world new.world b.launched
   pub states : (m : ℕ) → new.states m ≡ with_launched old.world.next_leg new.world.legs old.states m
   pub marks : new.marks ≡ old.marks
   pub moment : new.moment ≡ old.moment
@@ -55,7 +61,7 @@ pub record IsChange (old new : CoreView) (n : ℕ) (kind : LegMove) (mark : Mark
   pub there : old.states n ≡ Some leg
   pub server : c.server.0 ≡ leg.server
   pub recorded : option_map (λ k. k.0) c.recorded ≡ recording_call old.world n kind
-  pub launched : new.world.next_leg ≡ old.world.next_leg + c.launched
+  pub launched : IsLaunched old.world new.world c.launched
   pub states : (m : ℕ) → new.states m ≡ with_launched old.world.next_leg new.world.legs (put old.states n (option_map (with_state leg) (state_after kind leg.state))) m
   pub marks : (s : ℕ) → new.marks s ≡ put_mark old.marks leg.server mark s
   pub moment : new.moment ≡ old.moment
@@ -90,7 +96,7 @@ pub record IsHandedOut (old new : CoreView) (s : ℕ) (was state : State) (n : �
   pub moment : new.moment ≡ old.moment
 
 -- a leg of the server is in flight
-pub record IsTaken (states : ℕ → Option LegState) (s : ℕ) : Type 0 where
+pub record IsBusy (states : ℕ → Option LegState) (s : ℕ) : Type 0 where
   pub number : ℕ
   pub leg : LegState
   pub there : states number ≡ Some leg
@@ -105,7 +111,7 @@ IsNotHandedOut v s was faults.LegsFull = ⊥
 IsNotHandedOut v s was faults.ChapterFull = ⊥
 IsNotHandedOut v s was faults.NothingWaiting = IsFree v.states s × ((n : ℕ) → IsAt v.states s was n → ⊥)
 IsNotHandedOut v s was faults.NoSuchLeg = ⊥
-IsNotHandedOut v s was faults.Busy = IsTaken v.states s
+IsNotHandedOut v s was faults.Busy = IsBusy v.states s
 IsNotHandedOut v s was faults.ClockBack = ⊥
 IsNotHandedOut v s was faults.Memory = ⊥
 IsNotHandedOut v s was faults.NoSuchCall = ⊥

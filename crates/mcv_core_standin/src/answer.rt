@@ -14,13 +14,19 @@ pub struct Asked {
     pub choice: Choice,
 }
 
+/// Legs that an event launched: so many, from this number on.
+#[derive(Clone, Copy, Debug, PartialEq, Eq)]
+pub struct Launched {
+    pub first: LegId,
+    pub count: u64,
+}
+
 /// A call that was begun.
 #[derive(Drop)]
 pub struct Begun {
     pub call: CallId,
     pub asked: Asked,
-    /// How many legs it launched. They have the next numbers.
-    pub launched: u64,
+    pub launched: Launched,
 }
 
 /// Which move of its leg an event was; Nothing where it was none.
@@ -42,8 +48,8 @@ pub struct Change {
     pub server: ServerId,
     /// The call that recorded an outcome of the leg.
     pub recorded: Option<CallId>,
-    /// How many legs that launched. They have the next numbers.
-    pub launched: u64,
+    /// What the call launched then.
+    pub launched: Launched,
 }
 
 /// The era that began at a break, or the first one.

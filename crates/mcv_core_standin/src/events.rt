@@ -1,6 +1,6 @@
 //! The core. It has no calls and no legs.
 
-ghost use Rattle.std.specs.Prelude.{◌≡◌, ◌≤◌, ◌<◌, ◌+◌, None, Some, true, false, ⊥, IfOk, OnOk, OnErr, IfErr, IfSome, IfNone, is_ok, is_some, option_map, nat_lt, not, MatchBool};
+ghost use Rattle.std.specs.Prelude.{◌≡◌, ◌≤◌, ◌<◌, ◌+◌, None, Some, true, false, IfOk, OnOk, OnErr, IfErr, IfSome, IfNone, is_ok, is_some, option_map, nat_lt, not, MatchBool};
 ghost use Rattle.std.specs.Arc.{arc_value};
 ghost use Rattle.mcv_base.specs.Reply.{part_value, fixed_value};
 ghost use Rattle.mcv_base.specs.declared.reply.FixedReply.TheVariants.{Lost as lost_reply};

@@ -10,7 +10,7 @@ mod events;
 mod fault;
 mod leg;
 
-pub use crate::answer::{Asked, Begun, Change, Era, LegMove, Taken};
+pub use crate::answer::{Asked, Begun, Change, Era, Launched, LegMove, Taken};
 pub use crate::events::Core;
 pub use crate::fault::CoreFault;
 pub use crate::leg::{LegState, Mark, State};

@@ -1,5 +1,5 @@
 -- A call whose reply can be taken after an event on a leg, and couldn't before, recorded an outcome of the leg.
-use Rattle.std.proofs.Common.{◌≡◌, ◌∙◌, ◌⊎◌, inl, inr, ⊥, ℕ, Bool, true, false, Option, Some, None, cond, refl, ap, sym, subst}
+use Rattle.std.proofs.Common.{◌≡◌, ◌∙◌, ◌⊎◌, inl, inr, ℕ, Bool, true, false, Option, Some, None, cond, refl, ap, sym, subst}
 use Rattle.std.specs.Prelude.{◌&&◌, option_and_then}
 use Rattle.std.proofs.lemmas.Bool.{cases_eq}
 use Rattle.mcv_base.specs.Reply.{ReplyValue, not_found, fixed_value}

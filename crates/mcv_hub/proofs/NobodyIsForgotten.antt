@@ -1,5 +1,5 @@
 -- Whoever can go on after an event on a leg could go on before it, or is woken.
-use Rattle.std.proofs.Common.{◌≡◌, ◌∙◌, ◌⊎◌, inl, inr, ⊥, ℕ, ◌<◌, ◌≤◌, Bool, true, false, Option, Some, None, cond, nat_lt, refl, ap, sym, subst, arith, true≢false}
+use Rattle.std.proofs.Common.{◌≡◌, ◌∙◌, ◌⊎◌, inl, inr, ℕ, ◌<◌, ◌≤◌, Bool, true, false, Option, Some, None, cond, nat_lt, refl, ap, sym, subst, arith, true≢false}
 use Rattle.std.specs.Prelude.{MatchBool, MatchOption, option_map}
 use Rattle.std.proofs.lemmas.Bool.{cases_eq, cases_lt}
 use Rattle.std.proofs.lemmas.Bool.Decides.{nat_tests}

@@ -1,5 +1,5 @@
 -- When receipts are good (own).
-use Rattle.std.specs.Prelude.{◌≡◌, ◌<◌, ℕ, Bool, false, List, Some, ⊤, ⊥, nat_lt, slice_get}
+use Rattle.std.specs.Prelude.{◌≡◌, ◌<◌, ℕ, Bool, false, List, Some, ⊤, nat_lt, slice_get}
 use Rattle.mcv_hub.specs.declared.entry.Entry.{Entry}
 use Rattle.mcv_hub.specs.declared.entry.Entry.TheVariants.{Taken}
 use Rattle.mcv_hub.specs.declared.receipts.Receipt.{Receipt}

@@ -1,5 +1,5 @@
 -- Who can go on, and whom an event wakes (own).
-use Rattle.std.specs.Prelude.{◌≡◌, ◌<◌, ◌≤◌, ◌⊎◌, ℕ, Bool, true, Some, ⊥, MatchBool, MatchOption, option_map}
+use Rattle.std.specs.Prelude.{◌≡◌, ◌<◌, ◌≤◌, ◌⊎◌, ℕ, Bool, true, Some, MatchBool, MatchOption, option_map}
 use Rattle.mcv_base.specs.Reply.{ReplyValue}
 use Rattle.mcv_base.specs.declared.request.CallId.{CallId}
 use Rattle.mcv_world.specs.Moves.{is_move, Taken}

@@ -1,6 +1,6 @@
 //! The locked state, lent to one thread.
 
-ghost use Rattle.std.specs.Prelude.{◌≡◌, ◌+◌, ◌<◌, ◌≤◌, ◌^◌, ◌⊎◌, [], ◌∷◌, ◌++◌, length, IfOk, OnOk, IfErr, OnErr, IfSome, IfNone, is_ok, is_some, not, nat_lt, count_by, ⊥};
+ghost use Rattle.std.specs.Prelude.{◌≡◌, ◌+◌, ◌<◌, ◌≤◌, ◌^◌, ◌⊎◌, [], ◌∷◌, ◌++◌, length, IfOk, OnOk, IfErr, OnErr, IfSome, IfNone, is_ok, is_some, not, nat_lt, count_by};
 ghost use Rattle.std.specs.Arc.{arc_value};
 ghost use Rattle.mcv_base.specs.Reply.{part_value, fixed_value};
 ghost use Rattle.mcv_base.specs.declared.reply.FixedReply.TheVariants.{Lost as lost_reply};
@@ -21,9 +21,9 @@ ghost use Rattle.mcv_hub.specs.State.{BeginsOne, IsKept, IsOneReply, IsSame, IsS
 ghost use Rattle.mcv_hub.specs.declared.entry.Entry.TheVariants.{Taken as taken_entry};
 ghost use Rattle.mcv_symbolic.specs.Covered.{AreCovered};
 
-use crate::hub::{Hub, Pass};
+use crate::pass::Pass;
 use crate::receipts::{Receipt, ReceiptFault, Report};
-use crate::rings::{Bell, Rings};
+use crate::rings::Rings;
 use crate::seat::{Seat, Started, TakenReply};
 use crate::state::HubState;
 use mcv_base::{CallId, LegId, Moment, Parts, Request, ServerId};
@@ -64,12 +64,8 @@ impl<'a, B: Ledger, T: Ledger> Guard<'a, B, T> {
         }
     }
 
-    /// Lets go of the lock until the hub's bell is rung, or for no reason; where it has no such bell the lock is kept.
-    pub fn wait<R: Wait>(self, rt: &R, hub: &Hub<B, T>, bell: Bell) -> Guard<'a, B, T> {
-        self.wait_at(rt, hub.bell(bell))
-    }
-
-    fn wait_at<R: Wait>(self, rt: &R, bell: Option<&Condvar>) -> Guard<'a, B, T> {
+    /// Lets go of the lock until the bell is rung, or for no reason; with no bell it keeps the lock.
+    pub(crate) fn wait_at<R: Wait>(self, rt: &R, bell: Option<&Condvar>) -> Guard<'a, B, T> {
         let Guard { state, pass } = self;
         let state = match bell {
             Some(bell) => bell.wait(rt, state),

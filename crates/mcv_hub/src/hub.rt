@@ -1,56 +1,17 @@
-//! The lock, the passes that it takes, and the bells on which threads wait.
+//! The lock, and the bells on which threads wait.
 
-ghost use Rattle.std.specs.Prelude.{◌≡◌, ◌+◌, IfSome};
+ghost use Rattle.std.specs.Prelude.{◌≡◌, ◌+◌};
 
 use crate::guard::Guard;
+use crate::pass::{Pass, Passes};
 use crate::rings::Bell;
-use crate::seat::Seat;
 use crate::state::HubState;
-use mcv_base::{CallId, ServerId};
+use mcv_base::{LegId, ServerId};
+use mcv_core_standin::{Change, Launched};
 use mcv_route::Routes;
 use std::alloc::{AllocError, Global};
-use std::marker::PhantomData;
-use std::sync::ledger::{Blank, Ledger, Share};
+use std::sync::ledger::{Blank, Ledger};
 use std::sync::{Condvar, Mutex, Wait};
-
-/// The right to get the lock, or to ask a server outside of it, one at a time. It can't be copied.
-#[derive(Drop)]
-pub struct Pass {
-    alone: PhantomData<()>,
-}
-
-/// Makes the passes of workers and sessions, and the seats of sessions.
-#[derive(Drop)]
-pub struct Passes<B: Ledger, T: Ledger> {
-    left: u64,
-    begun: Share<B>,
-    taken: Share<T>,
-    ghost begun_left: { begun.parts ≡ left + 1 },
-    ghost taken_left: { taken.parts ≡ left + 1 },
-    ghost begun_none: { begun.amount ≡ 0 },
-    ghost taken_none: { taken.amount ≡ 0 },
-}
-
-impl<B: Ledger, T: Ledger> Passes<B, T> {
-    /// A pass for one worker or session.
-    pub fn pass(&self) -> Pass {
-        Pass { alone: PhantomData }
-    }
-
-    /// A seat for one session, which has begun no call and taken no reply; None once all seats were given.
-    pub fn seat(&mut self) -> Option<Seat<B, T>>
-        ensures { IfSome result (λ s. (s.begun.parts ≡ 1) × (s.taken.parts ≡ 1) × (s.begun.amount ≡ 0) × (s.taken.amount ≡ 0)) }
-    {
-        if self.left == 0 {
-            return None;
-        }
-        let Passes { left, begun, taken } = self;
-        let begun = begun.split_off(1, 0);
-        let taken = taken.split_off(1, 0);
-        *left -= 1;
-        Some(Seat { begun, taken })
-    }
-}
 
 /// The state that threads share: one lock, and beside it a bell for each server's worker, bells for calls that sessions
 /// await, one for the spool's worker and one for the replayer.
@@ -97,12 +58,7 @@ impl<B: Ledger, T: Ledger> Hub<B, T> {
             spool: Condvar::new(),
             replayer: Condvar::new(),
         };
-        let passes = Passes {
-            left: seats,
-            begun,
-            taken,
-        };
-        Ok((hub, passes))
+        Ok((hub, Passes::new(seats, begun, taken)))
     }
 
     /// Waits for the lock.
@@ -110,9 +66,19 @@ impl<B: Ledger, T: Ledger> Hub<B, T> {
         Guard::new(self.state.lock(rt))
     }
 
+    /// Lets go of the lock until the bell is rung, or for no reason; where there is no such server the lock is kept.
+    pub fn wait<'a, R: Wait>(
+        &self,
+        rt: &R,
+        guard: Guard<'a, B, T>,
+        bell: Bell,
+    ) -> Guard<'a, B, T> {
+        guard.wait_at(rt, self.bell(bell))
+    }
+
     /// The condition variable of a bell. Calls whose numbers have one remainder by the number of their bells share one;
     /// None where there is no such server.
-    pub(crate) fn bell(&self, bell: Bell) -> Option<&Condvar> {
+    fn bell(&self, bell: Bell) -> Option<&Condvar> {
         match bell {
             Bell::Server(server) => self.servers.get(server.0 as usize),
             Bell::Call(call) => {
@@ -131,6 +97,34 @@ impl<B: Ledger, T: Ledger> Hub<B, T> {
     pub fn ring(&self, bell: Bell) {
         if let Some(bell) = self.bell(bell) {
             bell.notify_all();
+        }
+    }
+
+    /// Wakes whom an event on a leg lets go on. The guard is that of the event, just after it.
+    pub fn ring_changed(&self, guard: &Guard<'_, B, T>, change: &Change) {
+        let rings = guard.rings(change);
+        if let Some(server) = rings.server {
+            self.ring(Bell::Server(server));
+        }
+        if let Some(call) = rings.call {
+            self.ring(Bell::Call(call));
+        }
+        if rings.spool {
+            self.ring(Bell::Spool);
+        }
+        if rings.replayer {
+            self.ring(Bell::Replayer);
+        }
+        self.ring_launched(guard, change.launched);
+    }
+
+    /// Wakes the workers of the servers of legs that were launched. The guard is that of the event, just after it.
+    pub fn ring_launched(&self, guard: &Guard<'_, B, T>, launched: Launched) {
+        let first = launched.first.0;
+        for number in first..first.saturating_add(launched.count) {
+            if let Some(leg) = guard.leg_state(LegId(number)) {
+                self.ring(Bell::Server(ServerId(leg.server)));
+            }
         }
     }
 }

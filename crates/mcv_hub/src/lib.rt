@@ -11,6 +11,7 @@ mod guard;
 mod history;
 mod hub;
 mod laws;
+mod pass;
 mod receipts;
 mod rings;
 mod seat;
@@ -18,8 +19,9 @@ mod state;
 
 pub use crate::entry::Entry;
 pub use crate::guard::Guard;
-pub use crate::hub::{Hub, Pass, Passes};
+pub use crate::hub::Hub;
 pub use crate::laws::nobody_is_forgotten;
+pub use crate::pass::{Pass, Passes};
 pub use crate::receipts::{Receipt, ReceiptFault, Report};
 pub use crate::rings::{Bell, Rings};
 pub use crate::seat::{Seat, Started, TakenReply};

@@ -1,6 +1,6 @@
 //! Receipts of replies that were taken, and whether they are good.
 
-ghost use Rattle.std.specs.Prelude.{◌≡◌, ◌≢◌, ℕ, true, false, Some, ⊥, length, count_by, IfErr, IfOk, OnOk, slice_get, slice_set};
+ghost use Rattle.std.specs.Prelude.{◌≡◌, ◌≢◌, ℕ, true, false, Some, length, count_by, IfErr, IfOk, OnOk, slice_get, slice_set};
 ghost use Rattle.mcv_hub.specs.Receipts.{AreApart, AreGood, AreRefused, IsGood, is_older};
 
 use crate::entry::Entry;

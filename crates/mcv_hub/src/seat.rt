@@ -5,7 +5,7 @@ ghost use Rattle.std.specs.Arc.{arc_value};
 
 use crate::receipts::Receipt;
 use mcv_base::{CallId, Op, Part, Rest};
-use mcv_core_standin::Taken;
+use mcv_core_standin::{Launched, Taken};
 use std::sync::ledger::{Ledger, Share};
 
 /// One session's shares of the books of calls begun and of replies taken.
@@ -21,8 +21,7 @@ pub struct Seat<B: Ledger, T: Ledger> {
 #[derive(Clone, Copy, Debug, PartialEq, Eq)]
 pub struct Started {
     pub call: CallId,
-    /// How many legs it launched. They have the next numbers.
-    pub launched: u64,
+    pub launched: Launched,
 }
 
 /// A reply that was taken, with what its call was begun with. `take_reply` alone makes one, and it can't be copied.

@@ -1,6 +1,6 @@
 //! What lies under the lock.
 
-ghost use Rattle.std.specs.Prelude.{◌≡◌, ◌+◌, ◌<◌, ◌≤◌, ◌^◌, ◌⊎◌, [], ◌∷◌, ◌++◌, length, IfOk, OnOk, IfErr, OnErr, IfSome, IfNone, is_ok, is_some, not, nat_lt, count_by, ⊥};
+ghost use Rattle.std.specs.Prelude.{◌≡◌, ◌+◌, ◌<◌, ◌≤◌, ◌^◌, ◌⊎◌, [], ◌∷◌, ◌++◌, length, IfOk, OnOk, IfErr, OnErr, IfSome, IfNone, is_ok, is_some, not, nat_lt, count_by, true, Some, MatchOption};
 ghost use Rattle.std.specs.Arc.{arc_value};
 ghost use Rattle.mcv_base.specs.Reply.{part_value, fixed_value};
 ghost use Rattle.mcv_base.specs.declared.reply.FixedReply.TheVariants.{Lost as lost_reply};
@@ -10,7 +10,7 @@ ghost use Rattle.mcv_core_standin.specs.View.{IsIdle, Moved, MovedBy, Unmoved};
 ghost use Rattle.mcv_core_standin.specs.Core.{core_view};
 ghost use Rattle.mcv_core_standin.specs.Asked.{IsNotBegun};
 ghost use Rattle.mcv_core_standin.specs.Changes.{answered_kind, answered_mark, checked_mark, cleared_mark, era_move, is_held, is_in_flight, is_state, leg_move, lost_kind, lost_mark, refused_kind, same_mark};
-ghost use Rattle.mcv_core_standin.specs.Events.{CanTurn, IsBeside, IsChange, IsHandedOut, IsMarked, IsNotHandedOut};
+ghost use Rattle.mcv_core_standin.specs.Events.{CanSend, CanTurn, IsBeside, IsChange, IsHandedOut, IsMarked, IsNotHandedOut};
 ghost use Rattle.mcv_core_standin.specs.declared.answer.LegMove.TheVariants.{Spooled as spooled_kind};
 ghost use Rattle.mcv_core_standin.specs.declared.leg.State.TheVariants.{InReplay as in_replay, InSpool as in_spool, Sent as sent, Waiting as waiting};
 ghost use Rattle.mcv_hub.specs.History.{era_entry, leg_entry, lost_part, with_entry};
@@ -65,6 +65,18 @@ impl<B: Ledger, T: Ledger> Model for HubState<B, T> {
     ghost invariant = { λ s. IsHub (core_view s.core) s.history.items s.begun.total s.taken.total s.begun_before s.taken_before × HasRoom (vec_len s.history) (vec_capacity s.history) (core_view s.core).unwritten };
 }
 
+/// How many places a history of this length has to have free, where this many entries may still be written and a new
+/// call may write `room`; None where the chapter would have more than `MOST_ENTRIES`.
+fn places_for(len: usize, unwritten: usize, room: usize) -> Option<usize>
+    ensures { MatchOption result (2 ^ 62 < len + (unwritten + room)) (λ places. (places ≡ unwritten + room) × (len + places ≤ 2 ^ 62)) }
+{
+    let places = unwritten.checked_add(room)?;
+    if places > MOST_ENTRIES || len > MOST_ENTRIES - places {
+        return None;
+    }
+    Some(places)
+}
+
 /// Whether a leg waits for the spool.
 fn is_held(state: Option<LegState>) -> bool
     ensures { result ≡ is_state is_held state }
@@ -76,7 +88,8 @@ fn is_held(state: Option<LegState>) -> bool
 }
 
 impl<B: Ledger, T: Ledger> HubState<B, T> {
-    ghost use Rattle.mcv_hub.specs.Rings.{IsRings};
+    ghost use Rattle.mcv_base.specs.declared.request.CallId.{CallId};
+    ghost use Rattle.mcv_hub.specs.Rings.{IsRings, can_take};
     ghost use Rattle.mcv_hub.specs.State.{BeginsOne, IsKept, IsOneReply, IsSame, IsSameBooks, IsSameChapter, Replies};
     ghost use Rattle.mcv_symbolic.specs.Covered.{AreCovered};
     ghost use Rattle.mcv_hub.specs.declared.entry.Entry.TheVariants.{Taken as taken_entry};
@@ -127,15 +140,9 @@ impl<B: Ledger, T: Ledger> HubState<B, T> {
         ensures unshared { OnErr result ((seat.new.begun.amount ≡ seat.old.begun.amount) × (seat.new.taken.amount ≡ seat.old.taken.amount)) }
     {
         let room = self.core.room_of(request, key)?;
-        let Some(wanted) = self.core.unwritten().checked_add(room) else {
+        let Some(wanted) = places_for(self.history.len(), self.core.unwritten(), room) else {
             return Err(CoreFault::ChapterFull);
         };
-        let Some(entries) = self.history.len().checked_add(wanted) else {
-            return Err(CoreFault::ChapterFull);
-        };
-        if entries > MOST_ENTRIES {
-            return Err(CoreFault::ChapterFull);
-        }
         let Ok(()) = self.history.reserve(wanted) else {
             return Err(CoreFault::Memory);
         };
@@ -286,17 +293,33 @@ impl<B: Ledger, T: Ledger> HubState<B, T> {
         ensures { IsRings (core_view self.now.core) change.now result }
     {
         Rings {
-            server: if self.core.can_send(change.server) {
-                Some(change.server)
-            } else {
-                None
-            },
-            call: match change.recorded {
-                Some(call) => if self.core.can_take(call) { Some(call) } else { None },
-                None => None,
-            },
+            server: self.woken_server(change.server),
+            call: self.woken_call(change.recorded),
             spool: is_held(self.core.state(change.leg)),
             replayer: self.core.can_replay(change.server),
+        }
+    }
+
+    /// The server, where a leg can be sent to it.
+    fn woken_server(&self, server: ServerId) -> Option<ServerId>
+        ensures { MatchOption result (CanSend (core_view self.now.core).states server.0 → ⊥) (λ s. (s ≡ server) × CanSend (core_view self.now.core).states server.0) }
+    {
+        if self.core.can_send(server) {
+            Some(server)
+        } else {
+            None
+        }
+    }
+
+    /// The call, where its reply can be taken.
+    fn woken_call(&self, recorded: Option<CallId>) -> Option<CallId>
+        ensures { MatchOption result ((k : CallId) → recorded ≡ Some k → can_take (core_view self.now.core) k ≡ true → ⊥) (λ k. (recorded ≡ Some k) × (can_take (core_view self.now.core) k ≡ true)) }
+    {
+        let call = recorded?;
+        if self.core.can_take(call) {
+            Some(call)
+        } else {
+            None
         }
     }
 

@@ -12,7 +12,11 @@ invariant_of-self-2 g c =
       rw (c.push_reserved.ensures.items, c.reserve.ensures.items)
           (hub_moves (core_view inside.core) (core_view c.begin.new.self) c.in_ok-room.room inside.history.items (Began begun.asked) inside.begun.total inside.taken.total c.add.new.self.total inside.taken.total
           inside.begun_before inside.taken_before c.self.invariant.0 moved c.add.ensures.total (omega arith)),
-      omega (arith, c.self.invariant.1.within, moved.spends, c.push_reserved.ensures.len, c.push_reserved.ensures.capacity, c.in-Ok.ensures.ok, c.reserve.ensures.len, c.in-Some.ensures, c.unwritten.ensures),
+      let wanted = c.in-Some.ensures in
+      record {
+        within = omega (arith, moved.spends, c.push_reserved.ensures.len, c.push_reserved.ensures.capacity, c.in-Ok.ensures.ok, c.reserve.ensures.len, wanted.0, c.unwritten.ensures);
+        small = omega (arith, moved.spends, c.push_reserved.ensures.len, c.reserve.ensures.len, wanted.0, wanted.1, c.len.ensures, c.unwritten.ensures);
+      },
     )
 
 pub returns-clause-begins : goal.returns-clause-begins
