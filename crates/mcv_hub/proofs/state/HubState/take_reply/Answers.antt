@@ -11,7 +11,7 @@ invariant_of-self-2 g c =
       rw c.push_reserved.ensures.items
           (hub_moves (core_view inside.core) (core_view c.take.new.self) 0 inside.history.items (Taken c.args.call) inside.begun.total inside.taken.total inside.begun.total c.add.new.self.total
           inside.begun_before inside.taken_before c.self.invariant.0 moved (omega arith) c.add.ensures.total),
-      room_stays _ _ _ _ _ _ 1 c.self.invariant.1 moved.spends c.push_reserved.ensures.len c.push_reserved.ensures.capacity,
+      room_stays _ _ _ _ _ _ 1 c.self.invariant.1 (omega (arith, moved.spends)) c.push_reserved.ensures.len c.push_reserved.ensures.capacity,
     )
 
 pub returns-clause-reply : goal.returns-clause-reply
