@@ -1,6 +1,6 @@
 -- The definitions at small files.
-use Rattle.std.proofs.Common.{◌≡◌, [], ◌∷◌, ◌++◌, length, take, set, codes, Some, refl}
-use Rattle.mcv_spool.specs.File.{damage, marked, pending_from, read_record, slot_of, slots, slots_within}
+use Rattle.std.proofs.Common.{◌≡◌, [], ◌∷◌, ◌++◌, length, map, take, set, codes, None, Some, refl}
+use Rattle.mcv_spool.specs.File.{damage, marked, numbered, read_record, slot_of, slots, slots_within, waiting}
 use Rattle.mcv_base.specs.Server.{is_host, is_port, is_server}
 use Rattle.mcv_spool.specs.declared.record.SpoolRecord.{SpoolRecord}
 
@@ -31,10 +31,11 @@ damaged : damage 0 (set (slot_of first) 3 0 ∷ []) ≡ Some 0
 unfolding read_record is_server is_host is_port
 damaged = refl
 
-pending_one : pending_from 0 (slot_of first ∷ []) ≡ (0, first) ∷ []
+-- a slot whose record is done, and one whose is not
+pending_one : numbered 0 (map waiting (marked 0 (slot_of first ∷ []) ++ slot_of first ∷ [])) ≡ (1, first) ∷ []
 unfolding read_record is_server is_host is_port
 pending_one = refl
 
-pending_none : pending_from 0 (marked 0 (slot_of first ∷ [])) ≡ []
+pending_none : map waiting (marked 0 (slot_of first ∷ [])) ≡ None ∷ []
 unfolding read_record is_server is_host is_port
 pending_none = refl

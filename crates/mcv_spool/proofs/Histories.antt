@@ -3,14 +3,14 @@ use Rattle.std.proofs.Common.{◌≡◌, ◌⊎◌, inl, inr, ⊎_elim, ℕ, zer
 use Rattle.std.proofs.lemmas.Bool.{cases_eq}
 use Rattle.std.proofs.lemmas.Bool.Decides.{nat_tests}
 use Rattle.std.proofs.lemmas.List.{append-nil, length-map, map-append}
-use Rattle.std.proofs.lemmas.List.Elements.{Contains-append_right}
 use Rattle.std.specs.List.{Contains}
 use Rattle.mcv_spool.specs.Disk.{LeavesOnly}
-use Rattle.mcv_spool.specs.File.{damage, is_done, marked, pending_at, pending_from, read_record, slot_of, slots, slots_within}
+use Rattle.mcv_spool.specs.File.{damage, is_done, marked, numbered, read_record, slot_of, slots, slots_within, waiting}
 use Rattle.mcv_spool.specs.Version.{HasSlotsOf, IsBeforeOrAfter, IsVersion}
 use Rattle.mcv_spool.specs.History.{Told, HasNumber, IsKept, World, record_in, records_of, nothing_told, told_found, told_stored, told_tried, told_done, Call, History}
 use Rattle.mcv_spool.specs.declared.record.SpoolRecord.{SpoolRecord}
 use Rattle.mcv_spool.proofs.Marks.{records_marked}
+use Rattle.mcv_spool.proofs.Numbered.{is_listed}
 use Rattle.mcv_spool.proofs.Versions.{counted}
 
 -- a record that was just added isn't done
@@ -186,29 +186,27 @@ not_damaged j (s ∷ all) (r ∷ recs) same few =
     ∙ not_damaged (j + 1) all recs (ap (drop 1) same) (omega (arith, few))
 
 -- a record that isn't done is pending
-pub is_pending : (j k : ℕ) (all : List (List ℕ)) (recs : List SpoolRecord) (r : SpoolRecord) → map read_record all ≡ map Some recs → k < length recs → get_or recs k r ≡ r → is_done (get_or all k []) ≡ false
-    → Contains (pending_from j all) (j + k, r)
-is_pending j k [] [] r same h at undone = absurd (omega (arith, h))
-is_pending j k [] (x ∷ recs) r same h at undone = absurd (omega (arith, ap length same))
-is_pending j k (s ∷ all) [] r same h at undone = absurd (omega (arith, ap length same))
-is_pending j zero (s ∷ all) (x ∷ recs) r same h at undone =
+is_waiting : (k : ℕ) (all : List (List ℕ)) (recs : List SpoolRecord) (r : SpoolRecord) → map read_record all ≡ map Some recs → k < length recs → get_or recs k r ≡ r → is_done (get_or all k []) ≡ false
+    → get_or (map waiting all) k None ≡ Some r
+is_waiting k [] [] r same h at undone = absurd (omega (arith, h))
+is_waiting k [] (x ∷ recs) r same h at undone = absurd (omega (arith, ap length same))
+is_waiting k (s ∷ all) [] r same h at undone = absurd (omega (arith, ap length same))
+is_waiting zero (s ∷ all) (x ∷ recs) r same h at undone =
     let reads : read_record s ≡ Some r = (λ i. first_of_slots (same i)) ∙ (λ i. Some (at i)) in
-    let here : pending_from j (s ∷ all) ≡ (j, r) ∷ pending_from (j + 1) all = (λ i. pending_at j (undone i) (reads i) ++ pending_from (j + 1) all) in
-    let number : j ≡ j + zero = omega arith in
-    subst (λ n. Contains (pending_from j (s ∷ all)) (n, r)) number (subst (λ (l : List (ℕ × SpoolRecord)). Contains l (j, r)) (sym here) (0, omega arith, refl))
-is_pending j (suc k) (s ∷ all) (x ∷ recs) r same h at undone =
-    let behind : Contains (pending_from (j + 1) all) (j + 1 + k, r) = is_pending (j + 1) k all recs r (ap (drop 1) same) (omega (arith, h)) at undone in
-    let number : j + 1 + k ≡ j + suc k = omega arith in
-    subst (λ n. Contains (pending_from j (s ∷ all)) (n, r)) number (Contains-append_right (pending_at j (is_done s) (read_record s)) (pending_from (j + 1) all) (j + 1 + k, r) behind)
+    (λ i. cond (undone i) None (reads i))
+is_waiting (suc k) (s ∷ all) (x ∷ recs) r same h at undone = is_waiting k all recs r (ap (drop 1) same) (omega (arith, h)) at undone
 
 -- a record that was told is pending, or `done` was called for it
-pub pending_or_done : (t : Told) (file : List ℕ) → Whole t (slots file) → IsKept t file → (r : SpoolRecord) (k : ℕ) → HasNumber t r k → Contains t.done k ⊎ Contains (pending_from 0 (slots file)) (k, r)
+pub pending_or_done : (t : Told) (file : List ℕ) → Whole t (slots file) → IsKept t file → (r : SpoolRecord) (k : ℕ) → HasNumber t r k → Contains t.done k ⊎ Contains (numbered 0 (map waiting (slots file))) (k, r)
 pending_or_done t file whole kept r k number = by_done (is_done (get_or (slots file) k [])) refl
   where
-    by_done : (b : Bool) → is_done (get_or (slots file) k []) ≡ b → Contains t.done k ⊎ Contains (pending_from 0 (slots file)) (k, r)
+    there : k < length (map waiting (slots file))
+    there = omega (arith, number.0, length-map (slots file) waiting, length-map (slots file) read_record, ap length whole.0, length-map (t.found ++ t.stored) Some)
+
+    by_done : (b : Bool) → is_done (get_or (slots file) k []) ≡ b → Contains t.done k ⊎ Contains (numbered 0 (map waiting (slots file))) (k, r)
     by_done true is = inl (kept.done k is)
     by_done false is = let same : 0 + k ≡ k = omega arith in
-        inr (subst (λ n. Contains (pending_from 0 (slots file)) (n, r)) same (is_pending 0 k (slots file) (t.found ++ t.stored) r whole.0 number.0 number.1 is))
+        inr (subst (λ n. Contains (numbered 0 (map waiting (slots file))) (n, r)) same (is_listed 0 k (map waiting (slots file)) r there (is_waiting k (slots file) (t.found ++ t.stored) r whole.0 number.0 number.1 is)))
 
 -- what an `open` finds is what is kept
 pub found_kept : (t : Told) (file : List ℕ) (records : List SpoolRecord) → IsKept t file → map read_record (slots file) ≡ map Some records

@@ -29,7 +29,7 @@ AllOpen_set [] k s all one = tt
 AllOpen_set (t ∷ ss) zero s all one = (one, all.1)
 AllOpen_set (t ∷ ss) (suc k) s all one = (all.0, AllOpen_set ss k s all.1 one)
 
-open_at : (ss : List (List ℕ)) (k : ℕ) → AllOpen ss → k < length ss → IsOpenSlot (get_or ss k [])
+pub open_at : (ss : List (List ℕ)) (k : ℕ) → AllOpen ss → k < length ss → IsOpenSlot (get_or ss k [])
 open_at [] k all h = absurd (omega arith)
 open_at (s ∷ ss) zero all h = all.0
 open_at (s ∷ ss) (suc k) all h = open_at ss k all.1 (omega arith)

@@ -1,5 +1,5 @@
 -- How a run of disk calls goes on.
-use Rattle.std.proofs.Common.{inl, inr, ⊎_elim, ℕ, List, refl, ◌∙◌, arith}
+use Rattle.std.proofs.Common.{inl, inr, ⊎_elim, ℕ, ◌≤◌, List, refl, ◌∙◌, arith}
 use Rattle.mcv_spool.specs.Disk.{Changes, IsQuiet, LeavesOnly}
 
 module _ {D : Type 0} (seen : D → List ℕ) (may_leave : D → List ℕ → Type 0) (moment : D → ℕ) (left_since : D → ℕ → List ℕ → Type 0) where
@@ -35,6 +35,12 @@ module _ {D : Type 0} (seen : D → List ℕ) (may_leave : D → List ℕ → Ty
     later = so_far.later;
     since = λ t c le left. ⊎_elim (λ past. inl past) (λ p. inr (same c p)) (so_far.since t c le left);
   }
+
+  -- a read gives what has P, where a crash could leave nothing else before
+  pub seen_has : ((disk : D) → may_leave disk (seen disk)) → ((disk : D) (t : ℕ) (c : List ℕ) → t ≤ moment disk → may_leave disk c → left_since disk t c) → ((disk : D) (c : List ℕ) → left_since disk (moment disk) c → may_leave disk c)
+      → (old new : D) (P : List ℕ → Type 0) → LeavesOnly moment left_since old new P → ((c : List ℕ) → may_leave old c → P c) → P (seen new)
+  seen_has read_may_stay counts_now only_now old new P run before =
+      ⊎_elim (λ past. before (seen new) (only_now old (seen new) past)) (λ p. p) (run.since (moment old) (seen new) (omega arith) (counts_now new (moment old) (seen new) run.later (read_may_stay new)))
 
   pub quiet_start : (old : D) → IsQuiet seen may_leave moment left_since old old
   quiet_start old = record { same = refl; crash = λ c left. left; later = omega arith; since = λ t c le left. left; forgets_nothing = λ t c le left. left }

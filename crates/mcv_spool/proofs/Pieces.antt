@@ -1,8 +1,8 @@
 -- The slots of a file, read piece by piece.
-use Rattle.std.proofs.Common.{◌≡◌, ◌≢◌, inl, inr, ℕ, zero, suc, ◌+◌, ◌*◌, ◌<◌, ◌≤◌, min, true, false, true≢false, List, [], ◌∷◌, ◌++◌, length, get_or, take, drop, Some, None, is_none, cond, ◌==◌, ◌||◌, refl, sym, ◌∙◌, ap, arith, append_assoc, append-nil, length-append, length-drop, length-take, take-append-drop, take_all, get_or-take, take-take, drop-drop}
-use Rattle.std.proofs.lemmas.List.{drop-take, take_min}
+use Rattle.std.proofs.Common.{◌≡◌, ◌≢◌, inl, inr, ℕ, zero, suc, ◌+◌, ◌*◌, ◌<◌, ◌≤◌, min, true, false, true≢false, List, [], ◌∷◌, ◌++◌, length, map, get_or, take, drop, Option, Some, None, is_none, cond, ◌==◌, ◌||◌, refl, sym, ◌∙◌, ap, arith, append_assoc, append-nil, length-append, length-drop, length-take, take-append-drop, take_all, get_or-take, take-take, drop-drop}
+use Rattle.std.proofs.lemmas.List.{drop-take, length-map, map-append, take_min}
 use Rattle.mcv_spool.specs.Found.{IsFound}
-use Rattle.mcv_spool.specs.File.{damage, is_done, is_open, pending_at, pending_from, read_record, slots}
+use Rattle.mcv_spool.specs.File.{damage, is_open, read_record, slots, waiting}
 use Rattle.mcv_spool.proofs.Slots.{open_gate, open_longer, makes_open, shut_short, slots-open, slots-shut, truth}
 use Rattle.mcv_spool.specs.declared.record.SpoolRecord.{SpoolRecord}
 
@@ -75,14 +75,6 @@ damage-first k (x ∷ xs) ys j h = elim (truth (k == 1000000 || is_none (read_re
       ap (λ b. cond b (Some k) (damage (k + 1) (xs ++ ys))) good ∙ damage-first (k + 1) xs ys j (sym (ap (λ b. cond b (Some k) (damage (k + 1) xs)) good) ∙ h)
 ]
 
-pub pending-append : (k : ℕ) (xs ys : List (List ℕ)) → pending_from k (xs ++ ys) ≡ pending_from k xs ++ pending_from (k + length xs) ys
-pending-append k [] ys = ap (λ n. pending_from n ys) (omega arith)
-pending-append k (x ∷ xs) ys =
-    let first = pending_at k (is_done x) (read_record x) in
-    ap (λ (l : List (ℕ × SpoolRecord)). first ++ l) (pending-append (k + 1) xs ys)
-    ∙ sym (append_assoc first (pending_from (k + 1) xs) (pending_from (k + 1 + length xs) ys))
-    ∙ ap (λ n. (first ++ pending_from (k + 1) xs) ++ pending_from n ys) (omega arith)
-
 -- what is read of a piece, as long as what is left or a piece's size
 pub piece_read : (file bytes : List ℕ) (left size : ℕ) → length file ≡ left → size ≡ min left 1024001 → bytes ≡ take size file → bytes ≡ take 1024001 file
 piece_read file bytes left size left_is size_is is =
@@ -91,93 +83,88 @@ piece_read file bytes left size left_is size_is is =
 
 -- ---- a walk over the slots of some bytes
 
-pub record Walked (first : ℕ) (before : List (ℕ × SpoolRecord)) (bytes : List ℕ) (count : ℕ) (pending : List (ℕ × SpoolRecord)) (rest : List ℕ) : Type 0 where
-  pub total : count + length (slots rest) ≡ first + length (slots bytes)
-  pub left : 640 * count + length rest ≡ 640 * first + length bytes
-  pub undone : pending ++ pending_from count (slots rest) ≡ before ++ pending_from first (slots bytes)
-  pub sound : damage count (slots rest) ≡ damage first (slots bytes)
+pub record Walked (before : List (Option SpoolRecord)) (bytes : List ℕ) (pending : List (Option SpoolRecord)) (rest : List ℕ) : Type 0 where
+  pub left : 640 * length pending + length rest ≡ 640 * length before + length bytes
+  pub undone : pending ++ map waiting (slots rest) ≡ before ++ map waiting (slots bytes)
+  pub sound : damage (length pending) (slots rest) ≡ damage (length before) (slots bytes)
 
 slots_step : (rest : List ℕ) → 640 < length rest → get_or rest 0 0 ≢ 0 → slots rest ≡ take 640 rest ∷ slots (drop 640 rest)
 slots_step rest long gate = slots-open rest (makes_open (length rest) (get_or rest 0 0) long gate)
 
-module _ (first : ℕ) (before : List (ℕ × SpoolRecord)) (bytes : List ℕ) (count : ℕ) (pending : List (ℕ × SpoolRecord)) (rest : List ℕ) (so_far : Walked first before bytes count pending rest) where
+module _ (before : List (Option SpoolRecord)) (bytes : List ℕ) (pending : List (Option SpoolRecord)) (rest : List ℕ) (so_far : Walked before bytes pending rest) where
   -- one slot more
-  pub walk_on : 640 < length rest → get_or rest 0 0 ≢ 0 → (slot more : List ℕ) → slot ≡ take 640 rest → more ≡ drop 640 rest → (count' : ℕ) (pending' : List (ℕ × SpoolRecord)) → damage count (slot ∷ []) ≡ None
-      → count' ≡ count + 1 → pending' ≡ pending ++ pending_at count (is_done slot) (read_record slot) → Walked first before bytes count' pending' more
-  walk_on long gate slot more slot_is more_is count' pending' sound count_is pending_is =
+  pub walk_on : 640 < length rest → get_or rest 0 0 ≢ 0 → (slot more : List ℕ) → slot ≡ take 640 rest → more ≡ drop 640 rest → (pending' : List (Option SpoolRecord)) → damage (length pending) (slot ∷ []) ≡ None
+      → pending' ≡ pending ++ waiting slot ∷ [] → Walked before bytes pending' more
+  walk_on long gate slot more slot_is more_is pending' sound pending_is =
       let step : slots rest ≡ slot ∷ slots more = slots_step rest long gate ∙ (λ i. sym slot_is i ∷ slots (sym more_is i)) in
-      let one = pending_at count (is_done slot) (read_record slot) in
+      let count_is : length pending' ≡ length pending + 1 = ap length pending_is ∙ length-append pending (waiting slot ∷ []) in
       record {
-        total = omega (arith, so_far.total, count_is, ap length step);
         left = omega (arith, so_far.left, count_is, long, ap length more_is, length-drop 640 rest);
-        undone = (λ i. pending_is i ++ pending_from (count_is i) (slots more)) ∙ append_assoc pending one (pending_from (count + 1) (slots more))
-            ∙ ap (λ (ss : List (List ℕ)). pending ++ pending_from count ss) (sym step) ∙ so_far.undone;
-        sound = ap (λ n. damage n (slots more)) count_is ∙ sym (damage-append count (slot ∷ []) (slots more) sound) ∙ ap (damage count) (sym step) ∙ so_far.sound;
+        undone = ap (λ (l : List (Option SpoolRecord)). l ++ map waiting (slots more)) pending_is ∙ append_assoc pending (waiting slot ∷ []) (map waiting (slots more))
+            ∙ ap (λ (ss : List (List ℕ)). pending ++ map waiting ss) (sym step) ∙ so_far.undone;
+        sound = ap (λ n. damage n (slots more)) count_is ∙ sym (damage-append (length pending) (slot ∷ []) (slots more) sound) ∙ ap (damage (length pending)) (sym step) ∙ so_far.sound;
       }
 
   -- a slot that is damaged
-  pub walk_damaged : 640 < length rest → get_or rest 0 0 ≢ 0 → (slot : List ℕ) → slot ≡ take 640 rest → (k : ℕ) → damage count (slot ∷ []) ≡ Some k → damage first (slots bytes) ≡ Some k
+  pub walk_damaged : 640 < length rest → get_or rest 0 0 ≢ 0 → (slot : List ℕ) → slot ≡ take 640 rest → (k : ℕ) → damage (length pending) (slot ∷ []) ≡ Some k → damage (length before) (slots bytes) ≡ Some k
   walk_damaged long gate slot slot_is k h =
       let step : slots rest ≡ slot ∷ slots (drop 640 rest) = slots_step rest long gate ∙ ap (λ (l : List ℕ). l ∷ slots (drop 640 rest)) (sym slot_is) in
-      sym so_far.sound ∙ ap (damage count) step ∙ damage-first count (slot ∷ []) (slots (drop 640 rest)) k h
+      sym so_far.sound ∙ ap (damage (length pending)) step ∙ damage-first (length pending) (slot ∷ []) (slots (drop 640 rest)) k h
 
   module _ (shut : is_open rest ≡ false) where
-    pub walk_sound : damage first (slots bytes) ≡ None
-    walk_sound = sym so_far.sound ∙ ap (damage count) (slots-shut rest shut)
+    pub walk_sound : damage (length before) (slots bytes) ≡ None
+    walk_sound = sym so_far.sound ∙ ap (damage (length pending)) (slots-shut rest shut)
 
-    pub walk_total : count ≡ first + length (slots bytes)
-    walk_total = omega (arith, so_far.total, ap length (slots-shut rest shut))
-
-    pub walk_undone : pending ≡ before ++ pending_from first (slots bytes)
-    walk_undone = sym (append-nil pending) ∙ ap (λ (ss : List (List ℕ)). pending ++ pending_from count ss) (sym (slots-shut rest shut)) ∙ so_far.undone
+    pub walk_undone : pending ≡ before ++ map waiting (slots bytes)
+    walk_undone = sym (append-nil pending) ∙ ap (λ (ss : List (List ℕ)). pending ++ map waiting ss) (sym (slots-shut rest shut)) ∙ so_far.undone
 
 -- ---- what has been found of a file, and what is left
 
-pub record SoFar (file : List ℕ) (count : ℕ) (pending : List (ℕ × SpoolRecord)) : Type 0 where
-  pub total : count + length (slots (drop (640 * count) file)) ≡ length (slots file)
-  pub undone : pending ++ pending_from count (slots (drop (640 * count) file)) ≡ pending_from 0 (slots file)
-  pub sound : damage count (slots (drop (640 * count) file)) ≡ damage 0 (slots file)
+pub record SoFar (file : List ℕ) (pending : List (Option SpoolRecord)) : Type 0 where
+  pub undone : pending ++ map waiting (slots (drop (640 * length pending) file)) ≡ map waiting (slots file)
+  pub sound : damage (length pending) (slots (drop (640 * length pending) file)) ≡ damage 0 (slots file)
 
-module _ (file : List ℕ) (count : ℕ) (pending : List (ℕ × SpoolRecord)) (so_far : SoFar file count pending) (piece : List ℕ) (piece_is : piece ≡ take 1024001 (drop (640 * count) file)) where
-  slots_are : slots piece ≡ take 1600 (slots (drop (640 * count) file))
-  slots_are = ap slots piece_is ∙ slots-piece 1600 (drop (640 * count) file)
+module _ (file : List ℕ) (pending : List (Option SpoolRecord)) (so_far : SoFar file pending) (piece : List ℕ) (piece_is : piece ≡ take 1024001 (drop (640 * length pending) file)) where
+  abbrev behind : List (List ℕ)
+  behind = slots (drop (640 * length pending) file)
 
-  split : slots (drop (640 * count) file) ≡ slots piece ++ drop 1600 (slots (drop (640 * count) file))
-  split = sym (take-append-drop 1600 (slots (drop (640 * count) file))) ∙ ap (λ (l : List (List ℕ)). l ++ drop 1600 (slots (drop (640 * count) file))) (sym slots_are)
+  slots_are : slots piece ≡ take 1600 behind
+  slots_are = ap slots piece_is ∙ slots-piece 1600 (drop (640 * length pending) file)
+
+  split : behind ≡ slots piece ++ drop 1600 behind
+  split = sym (take-append-drop 1600 behind) ∙ ap (λ (l : List (List ℕ)). l ++ drop 1600 behind) (sym slots_are)
 
   -- a damaged slot of the piece is the file's
-  pub damaged_piece : (k : ℕ) → damage count (slots piece) ≡ Some k → damage 0 (slots file) ≡ Some k
-  damaged_piece k h = sym so_far.sound ∙ ap (damage count) split ∙ damage-first count (slots piece) (drop 1600 (slots (drop (640 * count) file))) k h
+  pub damaged_piece : (k : ℕ) → damage (length pending) (slots piece) ≡ Some k → damage 0 (slots file) ≡ Some k
+  damaged_piece k h = sym so_far.sound ∙ ap (damage (length pending)) split ∙ damage-first (length pending) (slots piece) (drop 1600 behind) k h
 
-  module _ (new_count : ℕ) (new_pending : List (ℕ × SpoolRecord)) (sound : damage count (slots piece) ≡ None) (count_is : new_count ≡ count + length (slots piece)) (pending_is : new_pending ≡ pending ++ pending_from count (slots piece)) where
+  module _ (new : List (Option SpoolRecord)) (sound : damage (length pending) (slots piece) ≡ None) (new_is : new ≡ pending ++ map waiting (slots piece)) where
+    count_is : length new ≡ length pending + length (slots piece)
+    count_is = omega (arith, ap length new_is, length-append pending (map waiting (slots piece)), length-map (slots piece) waiting)
+
     -- a piece with less than its slots is the last
-    pub ended : new_count < count + 1600 → IsFound file new_count new_pending
+    pub ended : length new < length pending + 1600 → IsFound file new
     ended less =
-        let few : length (slots (drop (640 * count) file)) ≤ 1600 = omega (arith, less, count_is, ap length slots_are, length-take 1600 (slots (drop (640 * count) file))) in
-        let all : slots piece ≡ slots (drop (640 * count) file) = slots_are ∙ take_all 1600 (slots (drop (640 * count) file)) few in
+        let few : length behind ≤ 1600 = omega (arith, less, count_is, ap length slots_are, length-take 1600 behind) in
+        let all : slots piece ≡ behind = slots_are ∙ take_all 1600 behind few in
         record {
-          sound = sym so_far.sound ∙ ap (damage count) (sym all) ∙ sound;
-          counted = count_is ∙ ap (λ (ss : List (List ℕ)). count + length ss) all ∙ so_far.total;
-          undone = pending_is ∙ ap (λ (ss : List (List ℕ)). pending ++ pending_from count ss) all ∙ so_far.undone;
+          sound = sym so_far.sound ∙ ap (damage (length pending)) (sym all) ∙ sound;
+          undone = new_is ∙ ap (λ (ss : List (List ℕ)). pending ++ map waiting ss) all ∙ so_far.undone;
         }
 
     -- a piece with all its slots
-    pub goes_on : new_count ≡ count + 1600 → SoFar file new_count new_pending
+    pub goes_on : length new ≡ length pending + 1600 → SoFar file new
     goes_on more =
         let full : length (slots piece) ≡ 1600 = omega (arith, count_is, more) in
-        let there : 1600 ≤ length (slots (drop (640 * count) file)) = omega (arith, full, ap length slots_are, length-take 1600 (slots (drop (640 * count) file))) in
-        let at : drop (640 * new_count) file ≡ drop (640 * 1600) (drop (640 * count) file) = ap (λ n. drop n file) (omega (arith, more)) ∙ sym (drop-drop (640 * 1600) (640 * count) file) in
-        let left : slots (drop (640 * new_count) file) ≡ drop 1600 (slots (drop (640 * count) file)) = ap slots at ∙ slots-behind 1600 (drop (640 * count) file) there in
-        let next : count + length (slots piece) ≡ new_count = sym count_is in
+        let there : 1600 ≤ length behind = omega (arith, full, ap length slots_are, length-take 1600 behind) in
+        let at : drop (640 * length new) file ≡ drop (640 * 1600) (drop (640 * length pending) file) = ap (λ n. drop n file) (omega (arith, more)) ∙ sym (drop-drop (640 * 1600) (640 * length pending) file) in
+        let left : slots (drop (640 * length new) file) ≡ drop 1600 behind = ap slots at ∙ slots-behind 1600 (drop (640 * length pending) file) there in
         record {
-          total = omega (arith, so_far.total, more, full, ap length left, ap length split, length-append (slots piece) (drop 1600 (slots (drop (640 * count) file))));
-          undone = ap (λ (l : List (ℕ × SpoolRecord)). l ++ pending_from new_count (slots (drop (640 * new_count) file))) pending_is
-              ∙ append_assoc pending (pending_from count (slots piece)) (pending_from new_count (slots (drop (640 * new_count) file)))
-              ∙ ap (λ (ss : List (List ℕ)). pending ++ (pending_from count (slots piece) ++ pending_from new_count ss)) left
-              ∙ ap (λ n. pending ++ (pending_from count (slots piece) ++ pending_from n (drop 1600 (slots (drop (640 * count) file))))) (sym next)
-              ∙ ap (λ (l : List (ℕ × SpoolRecord)). pending ++ l) (sym (pending-append count (slots piece) (drop 1600 (slots (drop (640 * count) file)))))
-              ∙ ap (λ (ss : List (List ℕ)). pending ++ pending_from count ss) (sym split)
+          undone = (λ i. new_is i ++ map waiting (left i))
+              ∙ append_assoc pending (map waiting (slots piece)) (map waiting (drop 1600 behind))
+              ∙ ap (λ (l : List (Option SpoolRecord)). pending ++ l) (sym (map-append waiting (slots piece) (drop 1600 behind)))
+              ∙ ap (λ (ss : List (List ℕ)). pending ++ map waiting ss) (sym split)
               ∙ so_far.undone;
-          sound = ap (damage new_count) left ∙ ap (λ n. damage n (drop 1600 (slots (drop (640 * count) file)))) (sym next)
-              ∙ sym (damage-append count (slots piece) (drop 1600 (slots (drop (640 * count) file))) sound) ∙ ap (damage count) (sym split) ∙ so_far.sound;
+          sound = ap (damage (length new)) left ∙ ap (λ n. damage n (drop 1600 behind)) count_is
+              ∙ sym (damage-append (length pending) (slots piece) (drop 1600 behind) sound) ∙ ap (damage (length pending)) (sym split) ∙ so_far.sound;
         }

@@ -91,7 +91,7 @@ kept = record {
       forgets_nothing = λ t c le left. inr left;
     },
   );
-  len_and_read = λ log. quiet_start read_of left_of length left_since_of log;
+  len_read_and_renew = λ log. quiet_start read_of left_of length left_since_of log;
   read_may_stay = read_left;
   counts_now = now_counts;
   only_now = now_only;

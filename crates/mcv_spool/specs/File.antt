@@ -65,15 +65,19 @@ abbrev pub damage : ℕ → List (List ℕ) → Option ℕ
 damage k [] = None
 damage k (slot ∷ all) = if k == slot_limit || is_none (read_record slot) then Some k else damage (k + 1) all
 
--- the record of slot k, if it is pending
-abbrev pub pending_at : ℕ → Bool → Option SpoolRecord → List (ℕ × SpoolRecord)
-pending_at k done None = []
-pending_at k done (Some r) = if done then [] else (k, r) ∷ []
+-- the record that is pending in a slot: its own, unless it is done
+abbrev pub waiting : List ℕ → Option SpoolRecord
+waiting slot = if is_done slot then None else read_record slot
+
+-- a record that is pending, with the number of its slot
+abbrev pub entry : ℕ → Option SpoolRecord → List (ℕ × SpoolRecord)
+entry k None = []
+entry k (Some r) = (k, r) ∷ []
 
 -- the records that are pending, with the numbers of their slots, the first of which is k
-abbrev pub pending_from : ℕ → List (List ℕ) → List (ℕ × SpoolRecord)
-pending_from k [] = []
-pending_from k (slot ∷ all) = pending_at k (is_done slot) (read_record slot) ++ pending_from (k + 1) all
+abbrev pub numbered : ℕ → List (Option SpoolRecord) → List (ℕ × SpoolRecord)
+numbered k [] = []
+numbered k (o ∷ all) = entry k o ++ numbered (k + 1) all
 
 -- the slots, with the record of slot k marked as done
 abbrev pub marked : ℕ → List (List ℕ) → List (List ℕ)

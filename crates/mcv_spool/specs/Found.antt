@@ -1,15 +1,14 @@
 -- What is known of a file once it has been read, and which refusals a call may give.
-use Rattle.std.specs.Prelude.{◌≡◌, ℕ, List, length, None, Result, Ok, Err}
-use Rattle.mcv_spool.specs.File.{slots, damage, pending_from}
+use Rattle.std.specs.Prelude.{◌≡◌, ℕ, List, map, None, Option, Result, Ok, Err}
+use Rattle.mcv_spool.specs.File.{slots, damage, waiting}
 use Rattle.mcv_spool.specs.declared.fault.SpoolFault.{SpoolFault}
 use Rattle.mcv_spool.specs.declared.fault.SpoolFault.TheVariants.{Device, Full, Memory, Reopen, Damaged}
 use Rattle.mcv_spool.specs.declared.record.SpoolRecord.{SpoolRecord}
 
--- no slot of the file is damaged, it has so many, and these records are pending
-pub record IsFound (file : List ℕ) (count : ℕ) (pending : List (ℕ × SpoolRecord)) : Type 0 where
+-- no slot of the file is damaged, and these are the records that are pending in them, slot by slot
+pub record IsFound (file : List ℕ) (pending : List (Option SpoolRecord)) : Type 0 where
   pub sound : damage 0 (slots file) ≡ None
-  pub counted : count ≡ length (slots file)
-  pub undone : pending ≡ pending_from 0 (slots file)
+  pub undone : pending ≡ map waiting (slots file)
 
 -- a refusal for want of memory, or of a damaged slot, if there is one
 abbrev pub IsFindFault : {T : Type 0} → Result T SpoolFault → Type 0

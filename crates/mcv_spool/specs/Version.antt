@@ -1,5 +1,5 @@
 -- What a crash may leave of a file: the same records, or these and one more.
-use Rattle.std.specs.Prelude.{◌≡◌, ◌⊎◌, ℕ, true, List, [], ◌∷◌, ◌++◌, map, slice_index_or}
+use Rattle.std.specs.Prelude.{◌≡◌, ◌⊎◌, ℕ, true, Option, List, [], ◌∷◌, ◌++◌, map, slice_index_or}
 use Rattle.mcv_spool.specs.File.{slots, read_record, is_done, IsClosed, slot_of}
 use Rattle.mcv_spool.specs.Found.{IsFound}
 use Rattle.mcv_spool.specs.declared.record.SpoolRecord.{SpoolRecord}
@@ -19,6 +19,6 @@ abbrev pub HasSlotsOf : (List ℕ → Type 0) → List ℕ → Type 0
 HasSlotsOf may_leave file = (before : List ℕ) × may_leave before × (slots file ≡ slots before)
 
 -- what a spool knows of its file: what a read gives, and that a crash leaves these records
-pub record IsSettled (file : List ℕ) (may_leave : List ℕ → Type 0) (count : ℕ) (pending : List (ℕ × SpoolRecord)) : Type 0 where
-  pub found : IsFound file count pending
+pub record IsSettled (file : List ℕ) (may_leave : List ℕ → Type 0) (pending : List (Option SpoolRecord)) : Type 0 where
+  pub found : IsFound file pending
   pub crash : (c : List ℕ) → may_leave c → IsVersion (slots file) c

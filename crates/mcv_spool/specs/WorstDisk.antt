@@ -33,7 +33,7 @@ pub record KeepsModel {D : Type 0} (seen : D → List ℕ) (may_leave : D → Li
       → (new : D) × (seen new ≡ written (seen old) at bytes) × Changes may_leave moment left_since (Torn at (length bytes)) old new
   pub cut : (old : D) (n : ℕ) → n ≤ length (seen old) → (new : D) × (seen new ≡ take n (seen old)) × Changes may_leave moment left_since (Cut n) old new
   pub sync : (old : D) → (new : D) × Only (seen old) (may_leave new) × IsQuiet seen may_leave moment left_since old new
-  pub len_and_read : (disk : D) → IsQuiet seen may_leave moment left_since disk disk
+  pub len_read_and_renew : (disk : D) → IsQuiet seen may_leave moment left_since disk disk
   pub read_may_stay : (disk : D) → may_leave disk (seen disk)
   pub counts_now : (disk : D) (t : ℕ) (c : List ℕ) → t ≤ moment disk → may_leave disk c → left_since disk t c
   pub only_now : (disk : D) (c : List ℕ) → left_since disk (moment disk) c → may_leave disk c

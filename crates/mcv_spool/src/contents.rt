@@ -1,13 +1,13 @@
-//! What a file holds: the slots before its end gate, and those of them that are pending.
+//! What a file holds: the slots before its end gate, and the records that are pending in them.
 
-ghost use Rattle.std.specs.Prelude.{◌≡◌, ℕ, ◌+◌, ◌*◌, ◌<◌, ◌≤◌, ◌==◌, not, nat_lt, true, None, Some, IsTrue, [], ◌∷◌, ◌++◌, length, filter, vec_len, vec_capacity, OnOk};
-ghost use Rattle.std.specs.List.{list_all, list_any};
-ghost use Rattle.mcv_spool.specs.File.{damage, is_done, pending_at, pending_from, read_record, slots};
+ghost use Rattle.std.specs.Prelude.{◌≡◌, ℕ, ◌+◌, ◌*◌, ◌<◌, ◌≤◌, ◌↔◌, true, None, Some, IsTrue, IsSome, [], ◌∷◌, ◌++◌, length, map, set, slice_index_or, vec_len, vec_capacity, IfOk, OnOk, is_some, if◌then◌else◌, MatchOption};
+ghost use Rattle.mcv_spool.specs.File.{damage, is_done, numbered, read_record, slots, waiting};
 ghost use Rattle.mcv_spool.specs.Found.{IsFindFault};
 
 use crate::fault::SpoolFault;
 use crate::record::{CLOSED, PENDING, SpoolRecord, read_record};
-use std::alloc::{AllocError, Global};
+use std::alloc::{AllocError, AllocFailed, Global};
+use std::marker::Model;
 
 /// The bytes of a slot.
 pub(crate) const SLOT_SIZE: usize = 640;
@@ -15,57 +15,124 @@ pub(crate) const SLOT_SIZE: usize = 640;
 /// The most slots of a file.
 pub(crate) const SLOT_LIMIT: usize = 1_000_000;
 
-/// How many slots a file has, as far as it is known, and which of their records are pending.
+/// What is kept of a slot: its record while it is pending, on the heap, and nothing once it is done.
+#[derive(Drop)]
+pub(crate) struct Slot {
+    record: Option<Box<SpoolRecord>>,
+}
+
+impl Model for Slot {
+    ghost use Rattle.std.specs.Prelude.{Option, option_map};
+    ghost use Rattle.mcv_spool.specs.declared.record.SpoolRecord.{SpoolRecord};
+
+    ghost Value = { Option SpoolRecord };
+
+    ghost view = { λ s. option_map (λ b. b.value) s.record };
+}
+
+impl Slot {
+    fn done() -> Slot
+        ensures { result ≡ None }
+    {
+        Slot { record: None }
+    }
+
+    pub(crate) fn pending(
+        alloc: Global,
+        delete: SpoolRecord,
+    ) -> Result<Slot, AllocFailed<SpoolRecord>>
+        ensures { IfOk result (λ slot. slot ≡ Some delete) }
+    {
+        Ok(Slot {
+            record: Some(Box::new(alloc, delete)?),
+        })
+    }
+
+    /// That of a slot with this record.
+    fn of(
+        alloc: Global,
+        delete: SpoolRecord,
+        is_pending: bool,
+    ) -> Result<Slot, AllocFailed<SpoolRecord>>
+        ensures { IfOk result (λ slot. slot ≡ (if is_pending then Some delete else None)) }
+    {
+        if is_pending {
+            Slot::pending(alloc, delete)
+        } else {
+            Ok(Slot::done())
+        }
+    }
+
+    fn is_pending(&self) -> bool
+        ensures { result ≡ is_some self.now }
+    {
+        self.record.is_some()
+    }
+
+    /// The record, while it is pending.
+    fn record(&self) -> Option<&SpoolRecord>
+        ensures { MatchOption result (self.now ≡ None) (λ r. self.now ≡ Some r.now) }
+    {
+        match &self.record {
+            Some(record) => Some(record),
+            None => None,
+        }
+    }
+}
+
+/// What is kept of the slots of a file, as far as they are known: the slot of number k at place k.
 #[derive(Drop)]
 pub(crate) struct Contents {
-    pub(crate) count: usize,
-    pub(crate) pending: Vec<(u64, SpoolRecord)>,
-    ghost few: { count ≤ 1000000 },
-    ghost numbered: { list_all (λ p. nat_lt p.0 1000000) pending.items ≡ true },
+    alloc: Global,
+    pub(crate) pending: Vec<Slot>,
+    ghost few: { length pending.items ≤ 1000000 },
 }
 
 impl Contents {
     /// Those of a file that has no slot.
     pub(crate) fn new(alloc: Global) -> Contents
-        ensures count { result.count ≡ 0 }
-        ensures pending { result.pending.items ≡ [] }
+        ensures { result.pending.items ≡ [] }
     {
         Contents {
-            count: 0,
+            alloc,
             pending: Vec::new(alloc),
         }
+    }
+
+    /// How many slots there are.
+    pub(crate) fn count(&self) -> usize
+        ensures value { result ≡ length self.now.pending.items }
+        ensures few { result ≤ 1000000 }
+    {
+        self.pending.len()
     }
 
     /// Takes one slot more.
     fn take(&mut self, slot: &[u8]) -> Result<(), SpoolFault>
         requires { length slot.now ≡ 640 }
-        ensures sound { OnOk result (damage self.old.count (slot.now ∷ []) ≡ None) }
-        ensures count { OnOk result (self.new.count ≡ self.old.count + 1) }
-        ensures pending { OnOk result (self.new.pending.items ≡ self.old.pending.items ++ pending_at self.old.count (is_done slot.now) (read_record slot.now)) }
-        ensures damaged { (k : ℕ) → result ≡ Err (SpoolFault.Damaged k) → damage self.old.count (slot.now ∷ []) ≡ Some k }
+        ensures sound { OnOk result (damage (length self.old.pending.items) (slot.now ∷ []) ≡ None) }
+        ensures pending { OnOk result (self.new.pending.items ≡ self.old.pending.items ++ waiting slot.now ∷ []) }
+        ensures damaged { (k : ℕ) → result ≡ Err (SpoolFault.Damaged k) → damage (length self.old.pending.items) (slot.now ∷ []) ≡ Some k }
         ensures alone { IsFindFault result }
     {
-        let seq = self.count as u64;
-        if self.count >= SLOT_LIMIT {
-            return Err(SpoolFault::Damaged(seq));
+        let number = self.pending.len() as u64;
+        if self.pending.len() >= SLOT_LIMIT {
+            return Err(SpoolFault::Damaged(number));
         }
         let Some(record) = read_record(slot) else {
-            return Err(SpoolFault::Damaged(seq));
+            return Err(SpoolFault::Damaged(number));
         };
-        if slot[1] == PENDING {
-            self.pending.push((seq, record))?;
-        }
-        self.count += 1;
+        let kept = Slot::of(self.alloc, record, slot[1] == PENDING)?;
+        self.pending.push(kept)?;
         Ok(())
     }
 
     /// Takes the slots with which the bytes begin.
     pub(crate) fn take_all(&mut self, bytes: &[u8]) -> Result<(), SpoolFault>
-        ensures sound { OnOk result (damage self.old.count (slots bytes.now) ≡ None) }
-        ensures count { OnOk result (self.new.count ≡ self.old.count + length (slots bytes.now)) }
-        ensures within { OnOk result (640 * self.new.count ≤ 640 * self.old.count + length bytes.now) }
-        ensures pending { OnOk result (self.new.pending.items ≡ self.old.pending.items ++ pending_from self.old.count (slots bytes.now)) }
-        ensures damaged { (k : ℕ) → result ≡ Err (SpoolFault.Damaged k) → damage self.old.count (slots bytes.now) ≡ Some k }
+        ensures sound { OnOk result (damage (length self.old.pending.items) (slots bytes.now) ≡ None) }
+        ensures within { OnOk result (640 * length self.new.pending.items ≤ 640 * length self.old.pending.items + length bytes.now) }
+        ensures pending { OnOk result (self.new.pending.items ≡ self.old.pending.items ++ map waiting (slots bytes.now)) }
+        ensures damaged { (k : ℕ) → result ≡ Err (SpoolFault.Damaged k) → damage (length self.old.pending.items) (slots bytes.now) ≡ Some k }
         ensures alone { IsFindFault result }
     {
         let mut rest = bytes;
@@ -77,41 +144,56 @@ impl Contents {
         Ok(())
     }
 
-    /// Makes room for one record.
+    /// Makes room for one slot.
     pub(crate) fn reserve(&mut self) -> Result<(), AllocError>
         ensures room { OnOk result (vec_len self.new.pending < vec_capacity self.new.pending) }
         ensures pending { self.new.pending.items ≡ self.old.pending.items }
-        ensures count { self.new.count ≡ self.old.count }
     {
         self.pending.reserve(1)
     }
 
-    /// Adds a record that has been written.
-    pub(crate) fn add(&mut self, delete: SpoolRecord)
-        requires few { self.old.count < 1000000 }
+    /// Adds a slot that has been written.
+    pub(crate) fn add(&mut self, slot: Slot)
+        requires few { length self.old.pending.items < 1000000 }
         requires room { vec_len self.old.pending < vec_capacity self.old.pending }
-        ensures pending { self.new.pending.items ≡ self.old.pending.items ++ (self.old.count, delete) ∷ [] }
-        ensures count { self.new.count ≡ self.old.count + 1 }
+        ensures { self.new.pending.items ≡ self.old.pending.items ++ slot ∷ [] }
     {
-        match self.pending.push((self.count as u64, delete)) {
-            Ok(()) => self.count += 1,
+        match self.pending.push(slot) {
+            Ok(()) => {}
             Err(_) => unreachable!(),
         }
     }
 
     /// Whether the record of this number is pending.
-    pub(crate) fn has(&self, seq: u64) -> bool
-        ensures value { result ≡ list_any (λ p. p.0 == seq) self.now.pending.items }
-        ensures small { IsTrue result → seq < 1000000 }
+    pub(crate) fn has(&self, number: usize) -> bool
+        ensures value { result ≡ is_some (slice_index_or self.now.pending.items number None) }
+        ensures there { IsTrue result → number < length self.now.pending.items }
+        ensures few { length self.now.pending.items ≤ 1000000 }
     {
-        self.pending.iter().any(|p| p.0 == seq)
+        match self.pending.get(number) {
+            Some(slot) => slot.is_pending(),
+            None => false,
+        }
     }
 
-    /// Takes a record away that is done.
-    pub(crate) fn drop_done(&mut self, seq: u64)
-        ensures pending { self.new.pending.items ≡ filter (λ p. not (p.0 == seq)) self.old.pending.items }
-        ensures count { self.new.count ≡ self.old.count }
+    /// Forgets the record of this number, which is done.
+    pub(crate) fn forget(&mut self, number: usize)
+        requires { number < length self.old.pending.items }
+        ensures { self.new.pending.items ≡ set self.old.pending.items number None }
     {
-        self.pending.retain(|p| p.0 != seq);
+        self.pending[number] = Slot::done();
+    }
+
+    /// The records that are pending, each with its number, in the order of numbers.
+    pub(crate) fn listed(&self) -> Result<Vec<(u64, SpoolRecord)>, AllocError>
+        ensures { IfOk result (λ list. list.items ≡ numbered 0 self.now.pending.items) }
+    {
+        let mut list = Vec::new(self.alloc);
+        for (number, slot) in self.pending.iter().enumerate() {
+            if let Some(record) = slot.record() {
+                list.push((number as u64, record.copied()))?;
+            }
+        }
+        Ok(list)
     }
 }

@@ -68,6 +68,12 @@ pub trait Disk: Drop {
         ensures counts { keeps_model → failures self.old ≤ failures self.new }
         ensures cause { keeps_model → OnErr result (failures self.old < failures self.new) };
 
+    /// Makes the disk one whose answers can be trusted again, where an earlier call failed. What a read gives stays.
+    fn renew(&mut self) -> Result<(), DiskFailed>
+        ensures quiet { keeps_model → IsQuiet seen may_leave moment left_since self.old self.new }
+        ensures counts { keeps_model → failures self.old ≤ failures self.new }
+        ensures cause { keeps_model → OnErr result (failures self.old < failures self.new) };
+
     /// What a read gives is one of the files that a crash may leave.
     ghost read_may_stay: { keeps_model → (disk : Self) → may_leave disk (seen disk) };
 

@@ -11,16 +11,20 @@ use std::path::Path;
 
 /// A file of the operating system, which one `FileDisk` has at a time.
 ///
-/// Once a `sync` has failed, each later call answers `DiskFailed` and asks nothing of the system. After a sync that failed Linux
-/// may count the bytes as written, answer Ok to the next sync and give them to readers from memory, while the disk has the
-/// old ones: then neither a later Ok nor what is read says anything of the disk. To go on, the process has to open the file
-/// anew. A new `FileDisk` trusts what it reads, and can't see that an earlier one was failed: so first the operator makes sure
-/// of the bytes, as by a copy of the file to a disk that works, which is written and synced anew.
+/// After a sync that failed Linux may count the bytes as written, answer Ok to the next sync and give them to readers from
+/// memory, while the disk has the old ones. So once a `sync` has failed, each later call answers `DiskFailed` and asks nothing
+/// of the system, until `renew` has written the bytes that aren't synced a second time: then the next sync speaks of them
+/// again. A new `FileDisk` trusts what it reads, and can't see that a sync of an earlier one had failed.
 #[derive(Drop)]
 pub struct FileDisk {
     file: File,
     sync_failed: bool,
+    /// Where something was written since the last sync that answered Ok: offsets and lengths.
+    unsynced: Vec<(usize, usize)>,
 }
+
+/// How many bytes are written a second time at once.
+const PART: usize = 1024;
 
 impl FileDisk {
     /// Opens the file of this name, and makes an empty one where there is none, which has its name on the disk too. The file is
@@ -41,6 +45,7 @@ impl FileDisk {
         Ok(FileDisk {
             file,
             sync_failed: false,
+            unsynced: Vec::new(rt.alloc()),
         })
     }
 
@@ -52,6 +57,26 @@ impl FileDisk {
             return Err(DiskFailed);
         }
         Ok(&self.file)
+    }
+
+    /// Writes the bytes of a range a second time, as far as they are still in the file.
+    fn write_again(&self, at: usize, len: usize) -> io::Result<()> {
+        let file_len = self.file.metadata()?.len();
+        let end = (at as u64).saturating_add(len as u64).min(file_len);
+        let mut part = [0; PART];
+        for start in (at as u64..end).step_by(PART) {
+            let size = (end - start).min(PART as u64) as usize;
+            self.file.read_exact_at(&mut part[..size], start)?;
+            self.file.write_all_at(&part[..size], start)?;
+        }
+        Ok(())
+    }
+
+    fn write_unsynced_again(&self) -> io::Result<()> {
+        for (at, len) in &self.unsynced {
+            self.write_again(*at, *len)?;
+        }
+        Ok(())
     }
 }
 
@@ -96,6 +121,10 @@ impl Disk for FileDisk {
     }
 
     fn write_at(&mut self, at: usize, bytes: &[u8]) -> Result<(), DiskFailed> {
+        // Before the write, which may fail after a part of the bytes.
+        self.unsynced
+            .push((at, bytes.len()))
+            .map_err(|_| DiskFailed)?;
         self.trusted_file()?
             .write_all_at(bytes, at as u64)
             .map_err(|_| DiskFailed)
@@ -108,8 +137,23 @@ impl Disk for FileDisk {
     }
 
     fn sync(&mut self) -> Result<(), DiskFailed> {
-        let synced = self.trusted_file()?.sync_data();
-        self.sync_failed = synced.is_err();
-        synced.map_err(|_| DiskFailed)
+        match self.trusted_file()?.sync_data() {
+            Ok(()) => {
+                self.unsynced.clear();
+                Ok(())
+            }
+            Err(_) => {
+                self.sync_failed = true;
+                Err(DiskFailed)
+            }
+        }
+    }
+
+    /// What isn't synced is written a second time: a crash may leave any bytes there already, so this adds nothing to what it
+    /// may leave.
+    fn renew(&mut self) -> Result<(), DiskFailed> {
+        self.write_unsynced_again().map_err(|_| DiskFailed)?;
+        self.sync_failed = false;
+        Ok(())
     }
 }

@@ -43,8 +43,8 @@ fn read_piece<D: Disk>(
 /// Reads a file of so many bytes, once, in large pieces.
 pub(crate) fn find<D: Disk>(alloc: Global, disk: &mut D, len: usize) -> Result<Contents, SpoolFault>
     requires { D.keeps_model → len ≡ length (D.seen disk.old) }
-    ensures found { D.keeps_model → IfOk result (λ found. IsFound (D.seen disk.old) found.count found.pending.items) }
-    ensures within { IfOk result (λ found. 640 * found.count ≤ len) }
+    ensures found { D.keeps_model → IfOk result (λ found. IsFound (D.seen disk.old) found.pending.items) }
+    ensures within { IfOk result (λ found. 640 * length found.pending.items ≤ len) }
     ensures damaged { D.keeps_model → (k : ℕ) → result ≡ Err (SpoolFault.Damaged k) → damage 0 (slots (D.seen disk.old)) ≡ Some k }
     ensures quiet { D.keeps_model → IsQuiet D.seen D.may_leave D.moment D.left_since disk.old disk.new }
     ensures counts { D.keeps_model → D.failures disk.old ≤ D.failures disk.new }
@@ -56,7 +56,7 @@ pub(crate) fn find<D: Disk>(alloc: Global, disk: &mut D, len: usize) -> Result<C
         let at = SLOT_SIZE * PIECE_SLOTS * number;
         let piece = read_piece(alloc, disk, at, len - at)?;
         found.take_all(&piece)?;
-        if found.count < PIECE_SLOTS * (number + 1) {
+        if found.count() < PIECE_SLOTS * (number + 1) {
             return Ok(found);
         }
     }

@@ -1,6 +1,6 @@
 //! Records, and the slots that spell them.
 
-ghost use Rattle.std.specs.Prelude.{◌≡◌, ◌+◌, ◌-◌, ◌*◌, ◌<◌, ◌≤◌, [], ◌∷◌, ◌++◌, length, replicate, Some};
+ghost use Rattle.std.specs.Prelude.{◌≡◌, ◌+◌, ◌-◌, ◌*◌, ◌<◌, ◌≤◌, [], ◌∷◌, ◌++◌, length, replicate, Some, IsTrue, ◌↔◌};
 ghost use Rattle.mcv_spool.specs.File.{body, number_at, read_parts, read_record, slot_of, two};
 
 use arrayvec::ArrayVec;
@@ -59,7 +59,15 @@ impl Stored {
 }
 
 impl SpoolRecord {
-    pub(crate) fn copied(&self) -> SpoolRecord
+    /// Whether it is of this server and this rest.
+    pub fn is(&self, server: &ServerText, rest: &Rest) -> bool
+        ensures { IsTrue result ↔ ((self.now.server ≡ server.now) × (self.now.rest ≡ rest.now)) }
+    {
+        self.server.as_bytes() == server.as_bytes() && self.rest.as_bytes() == rest.as_bytes()
+    }
+
+    /// The same record. It takes no memory.
+    pub fn copied(&self) -> SpoolRecord
         ensures { result ≡ self.now }
     {
         match (

@@ -1,21 +1,21 @@
 //! The spool: its file, and the records that are pending.
 
-ghost use Rattle.std.specs.Prelude.{◌≡◌, ◌≢◌, ◌⊎◌, ◌↔◌, ℕ, ◌+◌, ◌*◌, ◌<◌, ◌==◌, not, false, true, Some, [], ◌∷◌, ◌++◌, filter, IfOk, IfErr, OnOk, OnErr, IsOk, IsErrOf};
-ghost use Rattle.std.specs.List.{Contains, list_any};
+ghost use Rattle.std.specs.Prelude.{◌≡◌, ◌≢◌, ◌⊎◌, ◌↔◌, ℕ, ◌+◌, ◌*◌, ◌<◌, false, true, None, Some, IsSome, [], ◌∷◌, ◌++◌, length, set, slice_index_or, IfOk, IfErr, OnOk, OnErr, IsOk, IsErrOf};
+ghost use Rattle.std.specs.List.{Contains};
 ghost use Rattle.mcv_spool.specs.Disk.{LeavesOnly, Only};
-ghost use Rattle.mcv_spool.specs.File.{damage, marked, slot_of, slots};
+ghost use Rattle.mcv_spool.specs.File.{damage, marked, numbered, slot_of, slots};
 ghost use Rattle.mcv_spool.specs.Found.{IsAppendFault, IsDoneFault, IsFound, IsOpenFault, WritesNothing};
 ghost use Rattle.mcv_spool.specs.History.{Call, HasNumber, History, Told, append_stopped, append_told, done_told, records_of, reopen_told, shut, told_found, world};
 ghost use Rattle.mcv_spool.specs.declared.record.SpoolRecord.{SpoolRecord};
 ghost use Rattle.mcv_spool.specs.Version.{HasSlotsOf, IsBeforeOrAfter, IsSettled, IsVersion};
 
-use crate::contents::{Contents, SLOT_LIMIT, SLOT_SIZE};
+use crate::contents::{Contents, SLOT_LIMIT, SLOT_SIZE, Slot};
 use crate::disk::Disk;
 use crate::fault::SpoolFault;
 use crate::record::{SpoolRecord, Stored};
 use crate::recover::recover;
 use crate::write::{write_done, write_record};
-use std::alloc::Global;
+use std::alloc::{AllocError, Global};
 
 /// Records of deletes that their servers didn't take, in a file.
 #[derive(Drop)]
@@ -24,14 +24,14 @@ pub struct Spool<D: Disk> {
     alloc: Global,
     contents: Contents,
     needs_reopen: bool,
-    ghost settled: { D.keeps_model → needs_reopen ≡ false → IsSettled (D.seen disk) (D.may_leave disk) contents.count contents.pending.items },
+    ghost settled: { D.keeps_model → needs_reopen ≡ false → IsSettled (D.seen disk) (D.may_leave disk) contents.pending.items },
 }
 
 impl<D: Disk> Spool<D> {
     /// Opens the spool of a disk, whatever a stop left of it. Where it is refused, nothing is handed back.
     pub fn open(alloc: Global, disk: D) -> Result<Spool<D>, SpoolFault>
         ensures ready { IfOk result (λ spool. spool.needs_reopen ≡ false) }
-        ensures found { D.keeps_model → IfOk result (λ spool. IsFound (D.seen disk) spool.contents.count spool.contents.pending.items) }
+        ensures found { D.keeps_model → IfOk result (λ spool. IsFound (D.seen disk) spool.contents.pending.items) }
         ensures slots { D.keeps_model → IfOk result (λ spool. slots (D.seen spool.disk) ≡ slots (D.seen disk)) }
         ensures durable { D.keeps_model → IfOk result (λ spool. Only (D.seen spool.disk) (D.may_leave spool.disk)) }
         ensures damaged { D.keeps_model → (k : ℕ) → result ≡ Err (SpoolFault.Damaged k) → damage 0 (slots (D.seen disk)) ≡ Some k }
@@ -39,9 +39,9 @@ impl<D: Disk> Spool<D> {
         ensures any_moment { D.keeps_model → IfOk result (λ spool. LeavesOnly D.moment D.left_since disk spool.disk (HasSlotsOf (D.may_leave disk))) }
         ensures step { D.keeps_model → IfOk result (λ spool. Call D.seen D.may_leave D.moment D.left_since (shut disk) (world spool.disk spool.needs_reopen) (told_found (records_of (slots (D.seen disk)))) (λ t. t)) }
         // An `open` that is refused drops its disk. As the disk stood last, a call of it had failed where the fault is Device,
-        // and where it is another it reads as before. A crash at any moment of the call leaves the records that one before it
+        // and where it is another it reads as before; whichever it is, the slots are those of before. A crash at any moment of the call leaves the records that one before it
         // could have left.
-        ensures refused { D.keeps_model → IfErr result (λ fault. (last : D) × Call D.seen D.may_leave D.moment D.left_since (shut disk) (shut last) (λ t. t) (λ t. t) × (fault ≡ SpoolFault.Device → D.failures disk < D.failures last) × (fault ≢ SpoolFault.Device → D.seen last ≡ D.seen disk)) }
+        ensures refused { D.keeps_model → IfErr result (λ fault. (last : D) × Call D.seen D.may_leave D.moment D.left_since (shut disk) (shut last) (λ t. t) (λ t. t) × (fault ≡ SpoolFault.Device → D.failures disk < D.failures last) × (fault ≢ SpoolFault.Device → D.seen last ≡ D.seen disk) × (slots (D.seen last) ≡ slots (D.seen disk))) }
         ensures alone { IsOpenFault result }
     {
         let mut disk = disk;
@@ -58,8 +58,9 @@ impl<D: Disk> Spool<D> {
     pub fn reopen(&mut self) -> Result<(), SpoolFault>
         ensures ready { OnOk result (self.new.needs_reopen ≡ false) }
         ensures not_ready { OnErr result (self.new.needs_reopen ≡ true) }
-        ensures found { D.keeps_model → OnOk result (IsFound (D.seen self.old.disk) self.new.contents.count self.new.contents.pending.items) }
-        ensures slots { D.keeps_model → OnOk result (slots (D.seen self.new.disk) ≡ slots (D.seen self.old.disk)) }
+        ensures found { D.keeps_model → OnOk result (IsFound (D.seen self.old.disk) self.new.contents.pending.items) }
+        // Whatever it answers, Device too.
+        ensures slots { D.keeps_model → slots (D.seen self.new.disk) ≡ slots (D.seen self.old.disk) }
         ensures durable { D.keeps_model → OnOk result (Only (D.seen self.new.disk) (D.may_leave self.new.disk)) }
         ensures damaged { D.keeps_model → (k : ℕ) → result ≡ Err (SpoolFault.Damaged k) → damage 0 (slots (D.seen self.old.disk)) ≡ Some k }
         ensures any_moment { D.keeps_model → LeavesOnly D.moment D.left_since self.old.disk self.new.disk (HasSlotsOf (D.may_leave self.old.disk)) }
@@ -79,18 +80,18 @@ impl<D: Disk> Spool<D> {
 
     /// Writes a record. At `Ok` it is on the disk: each later `open` that answers Ok finds it (`what_was_told_is_kept`).
     pub fn append(&mut self, delete: SpoolRecord) -> Result<Stored, SpoolFault>
-        ensures stored { IfOk result (λ stored. (stored.seq ≡ self.old.contents.count) × (stored.record ≡ delete)) }
-        ensures pending { OnOk result (self.new.contents.pending.items ≡ self.old.contents.pending.items ++ (self.old.contents.count, delete) ∷ []) }
-        ensures count { OnOk result ((self.new.contents.count ≡ self.old.contents.count + 1) × (self.new.needs_reopen ≡ false)) }
+        ensures stored { IfOk result (λ stored. (stored.seq ≡ length self.old.contents.pending.items) × (stored.record ≡ delete)) }
+        ensures pending { OnOk result (self.new.contents.pending.items ≡ self.old.contents.pending.items ++ Some delete ∷ []) }
+        ensures ready { OnOk result (self.new.needs_reopen ≡ false) }
         ensures slots { D.keeps_model → OnOk result (slots (D.seen self.new.disk) ≡ slots (D.seen self.old.disk) ++ slot_of delete ∷ []) }
         ensures durable { D.keeps_model → OnOk result (Only (D.seen self.new.disk) (D.may_leave self.new.disk)) }
         // A crash at any moment of the call leaves the records of before, or these and the new one.
         ensures any_moment { D.keeps_model → self.old.needs_reopen ≡ false → LeavesOnly D.moment D.left_since self.old.disk self.new.disk (IsBeforeOrAfter (slots (D.seen self.old.disk)) delete) }
         ensures reopen { IsErrOf result SpoolFault.Reopen ↔ (self.old.needs_reopen ≡ true) }
-        ensures full { IsErrOf result SpoolFault.Full ↔ ((self.old.needs_reopen ≡ false) × (self.old.contents.count ≡ 1000000)) }
+        ensures full { IsErrOf result SpoolFault.Full ↔ ((self.old.needs_reopen ≡ false) × (length self.old.contents.pending.items ≡ 1000000)) }
         ensures device { D.keeps_model → IsErrOf result SpoolFault.Device → D.failures self.old.disk < D.failures self.new.disk }
         ensures broken { IsErrOf result SpoolFault.Device → self.new.needs_reopen ≡ true }
-        ensures unchanged { WritesNothing result → (self.new.disk ≡ self.old.disk) × (self.new.contents.count ≡ self.old.contents.count) × (self.new.contents.pending.items ≡ self.old.contents.pending.items) × (self.new.needs_reopen ≡ self.old.needs_reopen) }
+        ensures unchanged { WritesNothing result → (self.new.disk ≡ self.old.disk) × (self.new.contents.pending.items ≡ self.old.contents.pending.items) × (self.new.needs_reopen ≡ self.old.needs_reopen) }
         // Whatever refuses it, what was pending is pending still.
         ensures still_pending { OnErr result (self.new.contents.pending.items ≡ self.old.contents.pending.items) }
         ensures step { D.keeps_model → Call D.seen D.may_leave D.moment D.left_since (world self.old.disk self.old.needs_reopen) (world self.new.disk self.new.needs_reopen) (append_told result delete) (append_stopped result delete) }
@@ -99,27 +100,27 @@ impl<D: Disk> Spool<D> {
         if self.needs_reopen {
             return Err(SpoolFault::Reopen);
         }
-        let count = self.contents.count;
+        let count = self.contents.count();
         if count >= SLOT_LIMIT {
             return Err(SpoolFault::Full);
         }
         self.contents.reserve()?;
+        let slot = Slot::pending(self.alloc, delete.copied())?;
         self.needs_reopen = true;
         write_record(&mut self.disk, SLOT_SIZE * count, &delete)?;
-        let stored = Stored::new(count as u64, delete.copied());
-        self.contents.add(delete);
+        self.contents.add(slot);
         self.needs_reopen = false;
-        Ok(stored)
+        Ok(Stored::new(count as u64, delete))
     }
 
-    /// Marks a record as done. Where none of this number is pending, nothing is written.
+    /// Marks a record as done. Where none of this number is pending, nothing is written. It takes the same time however many
+    /// records are pending, and in whatever order they are done.
     pub fn done(&mut self, seq: u64) -> Result<(), SpoolFault>
-        ensures pending { OnOk result (self.new.contents.pending.items ≡ filter (λ p. not (p.0 == seq)) self.old.contents.pending.items) }
-        ensures count { (self.new.contents.count ≡ self.old.contents.count) }
-        ensures slots { D.keeps_model → OnOk result (list_any (λ p. p.0 == seq) self.old.contents.pending.items ≡ true → slots (D.seen self.new.disk) ≡ marked seq (slots (D.seen self.old.disk))) }
+        ensures pending { OnOk result (self.new.contents.pending.items ≡ set self.old.contents.pending.items seq None) }
+        ensures slots { D.keeps_model → OnOk result (IsSome (slice_index_or self.old.contents.pending.items seq None) → slots (D.seen self.new.disk) ≡ marked seq (slots (D.seen self.old.disk))) }
         ensures any_moment { D.keeps_model → self.old.needs_reopen ≡ false → LeavesOnly D.moment D.left_since self.old.disk self.new.disk (IsVersion (marked seq (slots (D.seen self.old.disk)))) }
         ensures reopen { IsErrOf result SpoolFault.Reopen ↔ (self.old.needs_reopen ≡ true) }
-        ensures nothing { self.old.needs_reopen ≡ false → list_any (λ p. p.0 == seq) self.old.contents.pending.items ≡ false → IsOk result × (self.new.disk ≡ self.old.disk) }
+        ensures nothing { self.old.needs_reopen ≡ false → slice_index_or self.old.contents.pending.items seq None ≡ None → IsOk result × (self.new.disk ≡ self.old.disk) }
         ensures device { D.keeps_model → IsErrOf result SpoolFault.Device → D.failures self.old.disk < D.failures self.new.disk }
         ensures broken { IsErrOf result SpoolFault.Device → self.new.needs_reopen ≡ true }
         ensures ready { OnOk result (self.new.needs_reopen ≡ false) }
@@ -132,23 +133,25 @@ impl<D: Disk> Spool<D> {
         if self.needs_reopen {
             return Err(SpoolFault::Reopen);
         }
-        if !self.contents.has(seq) {
+        let number = seq as usize;
+        if !self.contents.has(number) {
             return Ok(());
         }
         self.needs_reopen = true;
-        write_done(&mut self.disk, seq as usize)?;
-        self.contents.drop_done(seq);
+        write_done(&mut self.disk, number)?;
+        self.contents.forget(number);
         self.needs_reopen = false;
         Ok(())
     }
 
-    /// The records that are pending, each with its number, in the order in which they were appended.
-    pub fn pending(&self) -> &[(u64, SpoolRecord)]
-        ensures value { result.now ≡ self.now.contents.pending.items }
+    /// The records that are pending, each with its number, in the order in which they were appended: a copy of each. It looks
+    /// through all slots, so it is for once after `open`.
+    pub fn pending(&self) -> Result<Vec<(u64, SpoolRecord)>, AllocError>
+        ensures value { IfOk result (λ list. list.items ≡ numbered 0 self.now.contents.pending.items) }
         // A record that was told is missing only where `done` was called for its number. This speaks of a spool that
         // doesn't answer Reopen; a call that is refused leaves all as they were (`still_pending`).
-        ensures kept { D.keeps_model → (told : Told) → History D.seen D.may_leave D.moment D.left_since told (world self.now.disk self.now.needs_reopen) → self.now.needs_reopen ≡ false → (r : SpoolRecord) (k : ℕ) → HasNumber told r k → Contains told.done k ⊎ Contains result.now (k, r) }
+        ensures kept { D.keeps_model → IfOk result (λ list. (told : Told) → History D.seen D.may_leave D.moment D.left_since told (world self.now.disk self.now.needs_reopen) → self.now.needs_reopen ≡ false → (r : SpoolRecord) (k : ℕ) → HasNumber told r k → Contains told.done k ⊎ Contains list.items (k, r)) }
     {
-        &self.contents.pending
+        self.contents.listed()
     }
 }

@@ -216,4 +216,9 @@ impl Disk for Lent<'_> {
     fn sync(&mut self) -> Result<(), DiskFailed> {
         answer(self.disk.settle())
     }
+
+    /// It has nothing to mend, and is no call of the disk.
+    fn renew(&mut self) -> Result<(), DiskFailed> {
+        Ok(())
+    }
 }

@@ -7,7 +7,7 @@ use std::alloc::Global;
 use std::io::ErrorKind;
 use std::process::Abort;
 use std::test::Fail;
-use std::{env, fs, process};
+use std::{env, fs, process, thread};
 
 fn record(server: &[u8], rest: &[u8]) -> Option<SpoolRecord> {
     Some(SpoolRecord {
@@ -46,7 +46,7 @@ fn an_empty_file_and_one_of_one_byte_get_a_closed_gate(rt: HostRuntime) -> Resul
     let alloc = rt.alloc();
     for bytes in [b"".as_slice(), b"\x00", b"\x01", b"\xff"] {
         let mut disk = TestDisk::new(alloc, bytes.to_vec(alloc)?);
-        let is_empty = open(alloc, &mut disk)?.pending().is_empty();
+        let is_empty = open(alloc, &mut disk)?.pending()?.is_empty();
         assert!(rt; is_empty);
         assert!(rt; disk.bytes.as_slice() == b"\x00".as_slice());
     }
@@ -62,8 +62,8 @@ fn append_two(rt: &impl Abort, alloc: Global, disk: &mut TestDisk) -> Result<(),
     let second = spool.append(record(b"b:11211", b"ab").ok_or("record")?)?;
     assert!(rt; second.seq() == 1);
     spool.done(0)?;
-    assert!(rt; spool.pending().len() == 1);
-    assert!(rt; spool.pending().iter().all(|p| p.0 == 1));
+    assert!(rt; spool.pending()?.len() == 1);
+    assert!(rt; spool.pending()?.iter().all(|p| p.0 == 1));
     spool.done(0)?;
     spool.done(7)?;
     Ok(())
@@ -79,6 +79,58 @@ fn records_are_spelled_byte_for_byte(rt: HostRuntime) -> Result<(), Fail> {
     let (first, second) = bytes.split_at(640);
     assert!(rt; is_spelled(first, b"\x01\x01\x00\x07\x00\x01a:11211a", 626));
     assert!(rt; is_spelled(second, b"\x01\x00\x00\x07\x00\x02b:11211ab", 626));
+    Ok(())
+}
+
+/// Opens an empty file and appends three records.
+fn three(alloc: Global, disk: &mut TestDisk) -> Result<Spool<Lent<'_>>, Fail> {
+    let mut spool = open(alloc, disk)?;
+    for rest in [b"a", b"b", b"c"] {
+        spool.append(record(b"a:11211", rest).ok_or("record")?)?;
+    }
+    Ok(spool)
+}
+
+/// Whether so many records are pending, and their numbers are these digits.
+fn are_pending(spool: &Spool<Lent<'_>>, digits: &[u8]) -> bool {
+    let Ok(list) = spool.pending() else {
+        return false;
+    };
+    list.len() == digits.len()
+        && list
+            .iter()
+            .zip(digits)
+            .all(|(p, digit)| p.0 == u64::from(digit.saturating_sub(b'0')))
+}
+
+#[test]
+fn records_are_done_in_any_order(rt: HostRuntime) -> Result<(), Fail> {
+    let alloc = rt.alloc();
+    let mut disk = TestDisk::new(alloc, Vec::new(alloc));
+    let mut spool = three(alloc, &mut disk)?;
+    assert!(rt; are_pending(&spool, b"012"));
+    spool.done(1)?;
+    assert!(rt; are_pending(&spool, b"02"));
+    spool.done(2)?;
+    assert!(rt; are_pending(&spool, b"0"));
+    spool.done(u64::MAX)?;
+    assert!(rt; are_pending(&spool, b"0"));
+    let next = spool.append(record(b"a:11211", b"d").ok_or("record")?)?;
+    assert!(rt; next.seq() == 3 && are_pending(&spool, b"03"));
+    spool.reopen()?;
+    assert!(rt; are_pending(&spool, b"03"));
+    Ok(())
+}
+
+#[test]
+fn a_record_is_of_one_server_and_one_rest(rt: HostRuntime) -> Result<(), Fail> {
+    let one = record(b"a:11211", b"a").ok_or("record")?;
+    let copy = one.copied();
+    assert!(rt; one.is(&copy.server, &copy.rest));
+    for (server, rest) in [(b"b:11211", b"a"), (b"a:11212", b"a"), (b"a:11211", b"b")] {
+        let other = record(server, rest).ok_or("record")?;
+        assert!(rt; !one.is(&other.server, &other.rest));
+    }
     Ok(())
 }
 
@@ -113,7 +165,7 @@ fn a_failed_sync_wants_a_reopen(rt: HostRuntime) -> Result<(), Fail> {
     let failed = spool
         .append(record(b"b:11211", b"ab").ok_or("record")?)
         .err();
-    assert!(rt; failed == Some(SpoolFault::Device) && spool.pending().len() == 1);
+    assert!(rt; failed == Some(SpoolFault::Device) && spool.pending()?.len() == 1);
     let again = spool
         .append(record(b"b:11211", b"ab").ok_or("record")?)
         .err();
@@ -121,7 +173,7 @@ fn a_failed_sync_wants_a_reopen(rt: HostRuntime) -> Result<(), Fail> {
         again == Some(SpoolFault::Reopen) && spool.done(0).err() == Some(SpoolFault::Reopen)
     );
     spool.reopen()?;
-    assert!(rt; spool.pending().len() == 1);
+    assert!(rt; spool.pending()?.len() == 1);
     Ok(())
 }
 
@@ -158,9 +210,13 @@ fn run(alloc: Global, disk: &mut TestDisk) -> Told {
 /// Whether what is opened are the first records of the run, those stored among them, none missing but the one that is done.
 /// One record more is appended for the count.
 fn is_kept<D: Disk>(spool: &mut Spool<D>, told: &Told) -> bool {
-    let pending = spool.pending().len() as u64;
-    let are_of_the_run = spool.pending().iter().all(|p| p.1.rest.as_bytes()
-        == [b'a'.saturating_add(p.0.min(9) as u8)].as_slice());
+    let Ok(list) = spool.pending() else {
+        return false;
+    };
+    let pending = list.len() as u64;
+    let are_of_the_run = list.iter().all(|p| {
+        p.1.rest.as_bytes() == [b'a'.saturating_add(p.0.min(9) as u8)].as_slice()
+    });
     let Some(count) = slots_counted(spool) else {
         return false;
     };
@@ -263,14 +319,14 @@ fn append_two_to(rt: &HostRuntime, path: &str) -> Result<(), Fail> {
 fn a_file_of_the_system_keeps_records(rt: HostRuntime) -> Result<(), Fail> {
     let path = own_path(&rt, "records")?;
     fs::write(&rt, path.as_str(), "\x01torn")?;
-    assert!(rt; open_file(&rt, path.as_str())?.pending().is_empty());
+    assert!(rt; open_file(&rt, path.as_str())?.pending()?.is_empty());
     assert!(rt; fs::read(&rt, path.as_str())?.as_slice() == b"\x00".as_slice());
     append_two_to(&rt, path.as_str())?;
     let mut spool = open_file(&rt, path.as_str())?;
-    assert!(rt; spool.pending().len() == 1);
+    assert!(rt; spool.pending()?.len() == 1);
     assert!(rt;
         spool
-            .pending()
+            .pending()?
             .iter()
             .all(|p| p.0 == 1 && p.1.rest.as_bytes() == b"ab".as_slice())
     );
@@ -293,6 +349,38 @@ fn a_file_of_the_system_is_open_once(rt: HostRuntime) -> Result<(), Fail> {
     let mut again = FileDisk::open(&rt, path.as_str())?;
     assert!(rt; again.write_at(0, b"\x00").is_ok() && again.sync().is_ok());
     assert!(rt; again.len() == Ok(1));
+    fs::remove_file(&rt, path.as_str())?;
+    Ok(())
+}
+
+#[test]
+fn what_is_not_synced_is_written_again(rt: HostRuntime) -> Result<(), Fail> {
+    let path = own_path(&rt, "renewed")?;
+    let mut disk = FileDisk::open(&rt, path.as_str())?;
+    assert!(rt; disk.write_at(0, b"abc").is_ok() && disk.sync().is_ok());
+    assert!(rt; disk.write_at(1, b"xyz").is_ok() && disk.cut(3).is_ok());
+    assert!(rt; disk.renew().is_ok() && disk.sync().is_ok());
+    assert!(rt; fs::read(&rt, path.as_str())?.as_slice() == b"axy".as_slice());
+    fs::remove_file(&rt, path.as_str())?;
+    Ok(())
+}
+
+/// The number of a record that is appended, and how many are pending then.
+fn append_there(mut spool: Spool<FileDisk>) -> Option<(u64, usize)> {
+    let stored = spool.append(record(b"a:11211", b"a")?).ok()?;
+    let list = spool.pending().ok()?;
+    Some((stored.seq(), list.len()))
+}
+
+#[test]
+fn a_spool_goes_to_another_thread(rt: HostRuntime) -> Result<(), Fail> {
+    let path = own_path(&rt, "thread")?;
+    append_two_to(&rt, path.as_str())?;
+    let spool = open_file(&rt, path.as_str())?;
+    let child = thread::spawn(&rt, move || append_there(spool))
+        .ok()
+        .ok_or("thread")?;
+    assert!(rt; child.join(&rt) == Some((2, 2)));
     fs::remove_file(&rt, path.as_str())?;
     Ok(())
 }

@@ -11,7 +11,7 @@ returns-clause-step g c = λ model.
     Call.found (records_of all) (shut c.args.disk) (world c.recover.new.disk false)
     (record {
       reads = all_read 0 all (c.in_ok-contents.ensures.found model).sound;
-      same = c.in_ok-contents.ensures.slots model;
+      same = c.recover.ensures.slots model;
       durable = c.in_ok-contents.ensures.durable model;
       any_moment = c.recover.ensures.any_moment model;
     }) refl
@@ -24,4 +24,5 @@ returns-in_err-contents-clause-refused g c =
       Call.not_found (shut c.args.disk) (shut c.recover.new.disk) (c.recover.ensures.any_moment model) refl,
       λ is. c.in_err-contents.ensures.device model (ap Err (sym gone.2 ∙ is)),
       λ other. c.in_err-contents.ensures.unwritten model (λ is. other (gone.2 ∙ is)),
+      c.recover.ensures.slots model,
     ))

@@ -21,7 +21,7 @@ returns-clause-step g c = λ model.
     Call.found (records_of all) (world c.args.self.now.disk c.args.self.now.needs_reopen) (world c.recover.new.disk false)
     (record {
       reads = all_read 0 all (c.in_ok-self.ensures.found model).sound;
-      same = c.in_ok-self.ensures.slots model;
+      same = c.recover.ensures.slots model;
       durable = c.in_ok-self.ensures.durable model;
       any_moment = c.recover.ensures.any_moment model;
     }) refl
