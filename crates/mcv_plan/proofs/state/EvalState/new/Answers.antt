@@ -4,7 +4,7 @@ use Rattle.mcv_plan.specs.Entries.{legs_of}
 use Rattle.mcv_plan.specs.View.{view}
 use Rattle.mcv_plan.proofs.CoursesEvaluate.{courses_evaluate}
 use Rattle.mcv_plan.proofs.FirstWave.{first_after, first_fresh, first_kept, first_room, first_shape}
-use Rattle.mcv_plan.proofs.evaluation.EvalState.new.Goals as goal
+use Rattle.mcv_plan.proofs.state.EvalState.new.Goals as goal
 
 pub returns-clause-evaluates : goal.returns-clause-evaluates
 returns-clause-evaluates c = λ t s serves.

@@ -1,7 +1,7 @@
 use Rattle.std.proofs.Common.{◌∙◌, ap, length}
 use Rattle.mcv_plan.proofs.PastGrows.{after_next, entries_same, fresh_next, kept_next}
 use Rattle.mcv_plan.proofs.FirstWave.{within_count}
-use Rattle.mcv_plan.proofs.evaluation.EvalState.advance.Goals as goal
+use Rattle.mcv_plan.proofs.state.EvalState.advance.Goals as goal
 
 pub returns-clause-heard : goal.returns-clause-heard
 returns-clause-heard c = after_next c.args.entry c.args.outcome c.advance-reply.result _ _ c.args.self.now _ c.advance-reply.ensures.heard c.or-self.ensures
