@@ -1,11 +1,10 @@
 //! The finding of a gap.
 
-ghost use Rattle.std.specs.Prelude.{◌≡◌, ◌++◌, ◌<◌, All, Some, IfOk};
+ghost use Rattle.std.specs.Prelude.{◌≡◌, ◌++◌, ◌<◌, Some, IfOk};
 ghost use Rattle.mcv_classes.specs.Class.{IsMember};
 ghost use Rattle.mcv_classes.specs.Words.{class_words};
 ghost use Rattle.mcv_certify.specs.Gap.{IsGap, place_of_gap};
 ghost use Rattle.mcv_route.specs.View.{view};
-ghost use Rattle.mcv_base.specs.Key.{IsRest};
 ghost use Rattle.mcv_witness.specs.Breaks.{BreaksCoverage};
 ghost use Rattle.mcv_witness.specs.Finding.{finding_of};
 ghost use Rattle.mcv_make.specs.Place.{HasMember, StandsAtGap};
@@ -41,20 +40,6 @@ fn key_of(alloc: Global, prefix: &Prefix, rest: &Rest) -> Result<Vec<u8>, AllocE
     Ok(key)
 }
 
-/// What the type of bytes says of them; nothing here computes.
-fn bytes_fit(bytes: &[u8])
-    ensures { All (λ b. b < 256) bytes.now }
-{
-    let _ = bytes;
-}
-
-/// What the type of a rest says of it; nothing here computes.
-fn rest_fits(rest: &Rest)
-    ensures { IsRest rest.now }
-{
-    bytes_fit(rest.as_bytes());
-}
-
 /// The bytes of a word, in memory of their own.
 fn copied(alloc: Global, word: &[u8]) -> Result<Vec<u8>, AllocError>
     ensures { IfOk result (λ v. v.items ≡ word.now) }
@@ -81,7 +66,7 @@ fn find_behind(
     };
     let symbols = routes.symbols().as_slice();
     let rest = member_of(alloc, route, gap.class.as_slice())?;
-    rest_fits(&rest);
+    let _ = rest.as_bytes();
     let scene = Scene {
         route,
         rest: &rest,

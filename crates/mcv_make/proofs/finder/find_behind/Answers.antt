@@ -31,7 +31,7 @@ returns-clause-told c =
     let is : IsToldWith r c.args.prefix.now f =
     told r g c.requires.gap t c.in-Some.ensures rest member since c.opened.ensures.some pool c.in-Some-leaf_at.ensures c.args.prefix.now
     c.in_ok-key_of.field-0.items c.in_ok-choice.field-0 c.in_ok-op.field-0.op (outcomes_of c.in_ok-op.field-0.legs.items) (outcomes_of c.in_ok-deletes.field-0.items) chosen.0
-    c.rest_fits.ensures c.in_ok-key_of.ensures chosen.1 (chosen.2 ∙ ap (free_indexes chosen.0 g.server.0 pool.symbol g.at 0) symbols)
+    c.as_bytes.ensures.rest c.in_ok-key_of.ensures chosen.1 (chosen.2 ∙ ap (free_indexes chosen.0 g.server.0 pool.symbol g.at 0) symbols)
     c.in_ok-op.ensures.reading c.in_ok-op.ensures.first c.in_ok-op.ensures.led c.in_ok-deletes.ensures in
     let class : g.class.items ≡ c.in_ok-copied.field-0.items = sym (c.in_ok-copied.ensures ∙ c.as_slice-2.ensures.value) in
     let leaf : g.leaf ≡ c.in_ok-copy.field-0 = sym c.in_ok-copy.ensures in
