@@ -45,6 +45,8 @@ pub(crate) struct TestDisk {
     unsynced: Vec<(usize, usize)>,
     pub(crate) calls: Vec<Call>,
     pub(crate) trouble: Trouble,
+    /// How often it was renewed.
+    pub(crate) renewals: usize,
 }
 
 /// A test disk that is lent to a spool.
@@ -71,6 +73,7 @@ impl TestDisk {
             unsynced: Vec::new(alloc),
             calls: Vec::new(alloc),
             trouble: Trouble::None,
+            renewals: 0,
         }
     }
 
@@ -217,8 +220,9 @@ impl Disk for Lent<'_> {
         answer(self.disk.settle())
     }
 
-    /// It has nothing to mend, and is no call of the disk.
+    /// It has nothing to mend, and is counted apart from the calls.
     fn renew(&mut self) -> Result<(), DiskFailed> {
+        self.disk.renewals = self.disk.renewals.saturating_add(1);
         Ok(())
     }
 }
