@@ -1,0 +1,13 @@
+pub mod Fault
+pub mod Errands
+pub mod Launching
+pub mod Rows
+pub mod Noting
+pub mod Calls
+pub mod Sound
+pub mod Facts
+pub mod CoreView
+pub mod Settling
+pub mod View
+pub mod Turning
+pub mod Beginning

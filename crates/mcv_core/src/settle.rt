@@ -1,0 +1,127 @@
+//! A leg leaves its state, and its call records a reply of it.
+
+ghost use Rattle.std.specs.Prelude.{◌≡◌, ◌≤◌, ◌+◌, ◌^◌, ◌<◌, ◌&&◌, ℕ, None, cond, option_map};
+ghost use Rattle.mcv_base.specs.Reply.{part_value};
+ghost use Rattle.mcv_queues.specs.Legs.{is_in_flight, is_in_flight_to};
+ghost use Rattle.mcv_queues.specs.Queues.{in_flight, legs, room, servers as known};
+ghost use Rattle.mcv_world.specs.World.{put};
+ghost use Rattle.mcv_core.specs.Settling.{freed_by, is_gone, is_settling, is_storing_leg, settled_to};
+ghost use Rattle.mcv_core.specs.Facts.{facts_of as facts_seen};
+ghost use Rattle.mcv_core.specs.View.{CanSettle, core_view, has_settled};
+
+use crate::call::Recording;
+use crate::dispatcher::Dispatcher;
+use crate::errand::Errand;
+use crate::facts::{LegFacts, facts_of};
+use mcv_base::{LegId, Part};
+use mcv_queues::Queues;
+
+/// What becomes of a leg whose call records a reply of it.
+#[derive(Clone, Copy, Debug, PartialEq, Eq)]
+pub enum Settling {
+    /// It was answered, and is done with.
+    Gone,
+    /// It was held, and is stored in the spool.
+    InSpool,
+    /// It is held, and the spool refused it.
+    Refused,
+}
+
+/// The leg leaves its state.
+fn leave(queues: &mut Queues<Errand>, leg: LegId, to: Settling)
+    requires { is_in_flight (legs queues.old leg.0) ≡ is_gone to }
+    ensures legs { legs queues.new ≡ put (legs queues.old) leg.0 (settled_to to (legs queues.old leg.0)) }
+    ensures flights { (s : ℕ) → in_flight queues.new s ≡ cond (is_in_flight_to s (legs queues.old leg.0)) None (in_flight queues.old s) }
+    ensures servers { known queues.new ≡ known queues.old }
+    ensures room { room queues.old ≤ room queues.new }
+{
+    match to {
+        Settling::Gone => {
+            let _errand = queues.gone(leg);
+        }
+        Settling::InSpool => queues.spooled(leg),
+        Settling::Refused => queues.refused(leg),
+    }
+}
+
+impl Recording {
+    /// How many reserved legs are reserved no more.
+    fn freed(self) -> usize
+        requires { self.launched + self.left < 2 ^ 64 }
+        ensures { result ≡ freed_by self }
+    {
+        if self.ended {
+            self.launched + self.left
+        } else {
+            self.launched
+        }
+    }
+}
+
+impl Recording {
+    /// How many calls have ended.
+    fn ending(self) -> usize
+        ensures { result ≡ cond self.ended 1 0 }
+    {
+        if self.ended { 1 } else { 0 }
+    }
+}
+
+impl Settling {
+    /// How many of the queued legs it takes away.
+    fn leaving(self) -> usize
+        ensures { result ≡ is_settling self }
+    {
+        match self {
+            Settling::Gone | Settling::InSpool => 1,
+            Settling::Refused => 0,
+        }
+    }
+}
+
+impl Settling {
+    /// How many legs more it puts into the spool.
+    fn storing(self) -> usize
+        ensures { result ≡ is_storing_leg self }
+    {
+        match self {
+            Settling::InSpool => 1,
+            Settling::Gone | Settling::Refused => 0,
+        }
+    }
+}
+
+impl Dispatcher {
+    /// The facts of a leg, where it is queued or spooled.
+    pub(crate) fn facts(&self, leg: LegId) -> Option<LegFacts>
+        ensures { result ≡ option_map facts_seen (legs self.now.queues leg.0) }
+    {
+        let row = self.queues.get(leg)?;
+        Some(facts_of(row))
+    }
+
+    /// A leg that its call awaits leaves its state, and the call records this reply of it. It takes no memory.
+    pub(crate) fn settle(&mut self, leg: LegId, to: Settling, outcome: Part, taken: Part)
+        requires can { CanSettle self.old leg.0 to }
+        requires one { part_value taken ≡ part_value outcome }
+        ensures { core_view self.new ≡ has_settled self.old leg.0 to (part_value outcome) }
+    {
+        let Some(facts) = self.facts(leg) else { return };
+        let Some(call) = facts.call else { return };
+        leave(&mut self.queues, leg, to);
+        let step = self.calls.hear(
+            &mut self.queues,
+            call,
+            facts.entry,
+            outcome,
+            taken,
+            self.next_leg,
+        );
+        self.calls.remove_if(call, step.ended);
+        self.next_leg += step.launched as u64;
+        self.reserved -= step.freed();
+        self.queued = self.queued + step.launched - to.leaving();
+        self.spooled += to.storing();
+        self.running -= step.ending();
+    }
+}
