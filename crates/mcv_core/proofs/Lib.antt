@@ -1,6 +1,6 @@
 pub mod Launches
 pub mod Places
-pub mod Counts
+pub mod Passing
 pub mod Recordings
 pub mod SpooledLegs
 pub mod States

@@ -8,7 +8,7 @@ use Rattle.std.proofs.lemmas.Bool.{cases_Bool, cases_eq, cases_lt, and_parts, lt
 use Rattle.mcv_base.specs.declared.reply.Part.{Part}
 use Rattle.mcv_base.specs.Reply.{ReplyValue, outcome_of, part_value}
 use Rattle.mcv_plan.specs.declared.state.EvalState.{EvalState}
-use Rattle.mcv_plan.specs.Tracked.{CanAdvance, IsTracked, Past, count as entry_count, fresh, history_by, is_sent, launch_at, no_launch, places_from}
+use Rattle.mcv_core.specs.Tracked.{CanAdvance, IsTracked, Past, count as entry_count, fresh, history_by, is_sent, launch_at, places_from}
 use Rattle.mcv_queues.specs.declared.leg.Leg.{Leg}
 use Rattle.mcv_queues.specs.declared.leg.State.{State}
 use Rattle.mcv_queues.specs.declared.leg.State.TheVariants.{Waiting}
@@ -36,7 +36,7 @@ use Rattle.mcv_core.specs.Errands.{ErrandView, errand_view, launch_in}
 use Rattle.mcv_core.specs.Launching.{errand_at, numbers_of, places_of, is_ready, with_legs, with_numbers, CanLaunch, IsLaunched}
 use Rattle.mcv_core.specs.Noting.{has_ended_by, AreAddressed, HasRecorded, IsNoted}
 use Rattle.mcv_core.specs.Rows.{call_of, call_row, entries_of, errand_for, has_outcome, rows_by, past_next, past_of, recorded_all, recorded_next, taken_at, IsRunning}
-use Rattle.mcv_core.proofs.Counts.{all_by_count, count, count_below, count_both, count_more, count_one_more, count_up}
+use Rattle.mcv_core.proofs.Passing.{all_by_count, count, count_below, count_both, count_more, count_one_more, count_up}
 use Rattle.mcv_core.proofs.Launches.{get_below, launched_addressed}
 use Rattle.mcv_core.proofs.Places.{AreReady, due_at, due_numbers, due_rows, places_apart, places_count}
 

@@ -4,7 +4,7 @@ use Rattle.std.specs.Prelude.{filter, is_some, not, slice_get}
 use Rattle.std.proofs.Math.Path.{fun_ext}
 use Rattle.std.proofs.lemmas.Bool.{cases_Bool, cases_eq, cases_lt}
 use Rattle.mcv_base.specs.Reply.{ReplyValue, outcome_of}
-use Rattle.mcv_plan.specs.Tracked.{launch_at}
+use Rattle.mcv_core.specs.Tracked.{launch_at}
 use Rattle.mcv_queues.specs.declared.leg.Leg.{Leg}
 use Rattle.mcv_queues.specs.declared.leg.State.{State}
 use Rattle.mcv_queues.specs.declared.leg.State.TheVariants as states

@@ -3,7 +3,7 @@ use Rattle.std.specs.Prelude.{◌≡◌, ℕ, Option, Some, nat_eq}
 use Rattle.std.specs.HashMap as hash
 use Rattle.mcv_base.specs.declared.reply.Part.{Part}
 use Rattle.mcv_base.specs.Reply.{part_value}
-use Rattle.mcv_plan.specs.Tracked.{launch_at}
+use Rattle.mcv_core.specs.Tracked.{launch_at}
 use Rattle.mcv_queues.specs.declared.leg.Leg.{Leg}
 use Rattle.mcv_route.specs.Routes.{RoutesValue}
 use Rattle.mcv_world.specs.World.{put}

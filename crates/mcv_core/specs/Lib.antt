@@ -1,4 +1,5 @@
 pub mod Fault
+pub mod Tracked
 pub mod Errands
 pub mod Launching
 pub mod Rows

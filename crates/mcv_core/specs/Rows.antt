@@ -2,7 +2,7 @@
 use Rattle.std.specs.Prelude.{◌≡◌, ◌<◌, ◌≤◌, ℕ, Bool, false, not, List, [], ◌∷◌, Option, Some, None, fold, length, filter, is_some, option_map, option_and_then, slice_get, vec_capacity}
 use Rattle.std.specs.Arc.{arc_value}
 use Rattle.mcv_base.specs.Reply.{ReplyValue, outcome_of, part_value}
-use Rattle.mcv_plan.specs.Tracked.{IsTracked, Past, count, launch_at}
+use Rattle.mcv_core.specs.Tracked.{GoesToServers, IsTracked, Past, count, launch_at}
 use Rattle.mcv_queues.specs.declared.leg.Leg.{Leg}
 use Rattle.mcv_queues.specs.declared.leg.State as queued
 use Rattle.mcv_queues.specs.declared.leg.State.TheVariants as states
@@ -123,4 +123,4 @@ pub record IsRunning (r : RoutesValue) (k : ℕ) (c : Call) : Type 0 where
   pub left : c.left ≡ length (filter (λ l. not (is_launched r (call_of c) l)) (entries_of c))
   pub recorded : length c.recorded.items ≡ length (filter (has_outcome (call_of c)) (entries_of c))
   pub room : length (entries_of c) ≤ vec_capacity c.recorded
-  pub known : (e : ℕ) → e < length (entries_of c) → (launch_at (entries_of c) e).server.0 < length r.servers
+  pub known : GoesToServers (length r.servers) (tree_of r c.route) (situation_of (call_of c)) (choice_of (call_of c))

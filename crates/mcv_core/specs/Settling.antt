@@ -9,6 +9,7 @@ use Rattle.mcv_events.specs.Rows as rows
 use Rattle.mcv_events.specs.Rows.{LegRow, leg_of, with_leg_row}
 use Rattle.mcv_events.specs.Events.{in_state, recorded_rows_for}
 use Rattle.mcv_core.specs.declared.call.Recording.{Recording}
+use Rattle.mcv_core.specs.declared.counts.Counts.{Counts}
 use Rattle.mcv_core.specs.declared.errand.Errand.{Errand}
 use Rattle.mcv_core.specs.declared.settle.Settling.{Settling}
 use Rattle.mcv_core.specs.declared.settle.Settling.TheVariants as to
@@ -31,6 +32,13 @@ is_storing_leg to.Refused = 0
 
 abbrev pub freed_by : Recording → ℕ
 freed_by step = cond step.ended (step.launched + step.left) step.launched
+
+-- the counts after that
+pub record HasCounted (old : Counts) (to : Settling) (step : Recording) (new : Counts) : Type 0 where
+  pub reserved : new.reserved + freed_by step ≡ old.reserved
+  pub queued : new.queued + is_settling to ≡ old.queued + step.launched
+  pub spooled : new.spooled ≡ old.spooled + is_storing_leg to
+  pub running : new.running + cond step.ended 1 0 ≡ old.running
 
 abbrev pub settled_to : Settling → Option (Leg Errand) → Option (Leg Errand)
 settled_to to.Gone o = None

@@ -63,9 +63,8 @@ impl Dispatcher {
 
     /// A leg in flight was answered.
     pub fn answered(&mut self, leg: LegId, parts: Parts) -> Result<Step, CoreFault>
-        requires one { part_value parts.taken ≡ part_value parts.outcome }
-        ensures effect { HasEffect (answer_at (core_view self.old) leg.0 (part_value parts.outcome)) (core_view self.old) (core_view self.new) result }
-        ensures does { IfOk result (λ step. Does (core_view self.old) (core_view self.new) (change_move leg.0 (part_value parts.outcome) step.change)) }
+        ensures effect { HasEffect (answer_at (core_view self.old) leg.0 parts) (core_view self.old) (core_view self.new) result }
+        ensures does { IfOk result (λ step. Does (core_view self.old) (core_view self.new) (change_move leg.0 parts step.change)) }
     {
         let facts = self.facts(leg).ok_or(CoreFault::NoSuchLeg)?;
         let counted = Counted::of(facts.op, parts);
@@ -126,7 +125,7 @@ impl Dispatcher {
             };
         }
         let _errand = self.queues.gone(leg);
-        self.spooled -= 1;
+        self.counts.spooled -= 1;
         Step {
             place: Place::Performed,
             change: Change::Performed,
@@ -149,8 +148,8 @@ impl Dispatcher {
             }
             State::Refused => {
                 self.queues.spooled(leg);
-                self.queued -= 1;
-                self.spooled += 1;
+                self.counts.queued -= 1;
+                self.counts.spooled += 1;
             }
             State::Waiting | State::Sent | State::InSpool | State::InReplay => {
                 return Err(CoreFault::NoSuchLeg);

@@ -14,8 +14,8 @@ use crate::dispatcher::Dispatcher;
 use crate::errand::{Errand, Laid};
 use crate::fault::CoreFault;
 use crate::launch::Entry;
+use crate::progress::open;
 use mcv_base::{CallId, Op, Request, Rest};
-use mcv_plan::EvalState;
 use mcv_pools::Choice;
 use std::alloc::{AllocError, AllocFailed, Global};
 use std::sync::Arc;
@@ -94,7 +94,7 @@ impl Dispatcher {
         let Some(tree) = self.accepted.routes().route(route) else {
             return Err(CoreFault::UnknownPrefix);
         };
-        let (state, launches) = EvalState::begin(alloc, tree, op, &rest, self.since, &choice)?;
+        let (state, launches) = open(alloc, tree, op, &rest, self.since, &choice)?;
         let count = launches.len();
         self.has_room_for(count)?;
         let number = self.next_call;
@@ -109,7 +109,7 @@ impl Dispatcher {
         let entries = readied(alloc, &laid, number)?;
         let recorded = Vec::with_capacity(alloc, count)?;
         self.calls.reserve()?;
-        self.queues.reserve(self.reserved + count)?;
+        self.queues.reserve(self.counts.reserved + count)?;
         self.add(
             number,
             Call {
@@ -130,9 +130,9 @@ impl Dispatcher {
 
     /// Whether a call with so many entries can begin: `LegsFull` and `ChapterFull` are looked for in this order.
     fn has_room_for(&self, count: usize) -> Result<(), CoreFault> {
-        if count > LEG_LIMIT - self.queued - self.reserved
+        if count > LEG_LIMIT - self.counts.queued - self.counts.reserved
             || self.next_call == u64::MAX
-            || u64::MAX - self.next_leg <= (self.reserved + count) as u64
+            || u64::MAX - self.next_leg <= (self.counts.reserved + count) as u64
         {
             return Err(CoreFault::LegsFull);
         }
@@ -149,9 +149,9 @@ impl Dispatcher {
         self.calls.add(number, call);
         self.next_call += 1;
         self.next_leg += launched as u64;
-        self.reserved += count - launched;
-        self.queued += launched;
-        self.running += 1;
+        self.counts.reserved += count - launched;
+        self.counts.queued += launched;
+        self.counts.running += 1;
         self.entries += 2 + 3 * count;
     }
 }

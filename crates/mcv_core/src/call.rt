@@ -2,7 +2,7 @@
 
 ghost use Rattle.std.specs.Prelude.{◌≡◌, ◌<◌, ◌≤◌, ◌+◌, ◌-◌, ◌∷◌, [], ℕ, List, Some, ◌&&◌, not, length, vec_capacity};
 ghost use Rattle.mcv_base.specs.Reply.{outcome_of, part_value};
-ghost use Rattle.mcv_plan.specs.Tracked.{CanAdvance, IsTracked, Past, count, fresh, history_by, is_sent, places_from};
+ghost use Rattle.mcv_core.specs.Tracked.{CanAdvance, IsTracked, Past, count, fresh, history_by, is_sent, places_from};
 ghost use Rattle.mcv_queues.specs.Queues.{legs, room, in_flight, servers as known};
 ghost use Rattle.mcv_route.specs.declared.launch.Launch.{Launch as Leg};
 ghost use Rattle.mcv_route.specs.Outcomes.{Choice as Chosen};
@@ -12,11 +12,12 @@ ghost use Rattle.mcv_core.specs.Launching.{CanLaunch, IsLaunched};
 ghost use Rattle.mcv_core.specs.Noting.{CanNote, HasRecorded, IsNoted, has_ended_by};
 ghost use Rattle.mcv_core.specs.Rows.{call_row, entries_of, IsRunning};
 ghost use Rattle.mcv_events.specs.Rows.{CanRecord, IsCore, Rows};
-ghost use Rattle.mcv_plan.specs.Tracked.{launch_at};
+ghost use Rattle.mcv_core.specs.Tracked.{launch_at};
 ghost use Rattle.mcv_route.specs.Routes.{RoutesValue};
 
 use crate::errand::{Errand, Laid};
 use crate::launch::{Entry, launch_each};
+use crate::progress::advance;
 use mcv_base::{Moment, Op, Part};
 use mcv_plan::EvalState;
 use mcv_pools::Choice;
@@ -92,7 +93,7 @@ impl Call {
         ensures fresh { (t : Tree) (s : Situation) (c : Chosen) (es : List Leg) (past : Past) → IsTracked t s c es past self.old.state → CanAdvance t s c es past entry
             → fresh self.new.state ≡ places_from 0 (λ l. is_sent t s c (history_by es ((entry, outcome_of (part_value outcome)) ∷ past)) l && not (is_sent t s c (history_by es past) l)) es }
     {
-        self.state.advance(entry, outcome.outcome());
+        advance(&mut self.state, entry, outcome.outcome());
         let place = self.recorded.len();
         self.entries[entry].fill(place);
         self.recorded.push_reserved(Recorded {

@@ -1,12 +1,14 @@
 //! The running calls with their legs, and what is counted of them. Its events stand in the files beside.
 
-ghost use Rattle.std.specs.Prelude.{option_map};
+ghost use Rattle.std.specs.Prelude.{◌≡◌, length, option_map};
 ghost use Rattle.std.specs.Arc.{arc_value};
+ghost use Rattle.mcv_queues.specs.Marks.{servers as marked_servers};
 ghost use Rattle.mcv_queues.specs.Queues.{legs, room as leg_room, servers as known};
 ghost use Rattle.mcv_core.specs.Calls.{calls_at};
 ghost use Rattle.mcv_core.specs.Sound.{IsSound};
 
 use crate::calls::Calls;
+use crate::counts::Counts;
 use crate::errand::Errand;
 use mcv_base::Moment;
 use mcv_check::Accepted;
@@ -25,16 +27,10 @@ pub struct Dispatcher {
     pub(crate) moment: Moment,
     pub(crate) next_call: u64,
     pub(crate) next_leg: u64,
-    /// How many legs the running calls may still launch.
-    pub(crate) reserved: usize,
-    /// How many legs are queued.
-    pub(crate) queued: usize,
-    /// How many legs are in the spool.
-    pub(crate) spooled: usize,
-    /// How many calls run.
-    pub(crate) running: usize,
+    pub(crate) counts: Counts,
     /// How many entries the chapter's calls and spooled legs may write.
     pub(crate) entries: usize,
     pub(crate) chapter: u64,
-    ghost sound: { IsSound (arc_value accepted) (calls_at calls) (legs queues) (option_map (λ m. m.0) since) moment.0 next_call next_leg reserved queued spooled running (leg_room queues) (known queues) },
+    ghost sound: { IsSound (arc_value accepted) (calls_at calls) (legs queues) (option_map (λ m. m.0) since) moment.0 next_call next_leg counts.reserved counts.queued counts.spooled counts.running (leg_room queues) (known queues) },
+    ghost table: { marked_servers marks ≡ length (arc_value accepted).servers },
 }

@@ -5,11 +5,10 @@ ghost use Rattle.mcv_base.specs.Reply.{part_value};
 ghost use Rattle.mcv_queues.specs.Legs.{is_in_flight, is_in_flight_to};
 ghost use Rattle.mcv_queues.specs.Queues.{in_flight, legs, room, servers as known};
 ghost use Rattle.mcv_world.specs.World.{put};
-ghost use Rattle.mcv_core.specs.Settling.{freed_by, is_gone, is_settling, is_storing_leg, settled_to};
+ghost use Rattle.mcv_core.specs.Settling.{is_gone, settled_to};
 ghost use Rattle.mcv_core.specs.Facts.{facts_of as facts_seen};
 ghost use Rattle.mcv_core.specs.View.{CanSettle, core_view, has_settled};
 
-use crate::call::Recording;
 use crate::dispatcher::Dispatcher;
 use crate::errand::Errand;
 use crate::facts::{LegFacts, facts_of};
@@ -44,53 +43,6 @@ fn leave(queues: &mut Queues<Errand>, leg: LegId, to: Settling)
     }
 }
 
-impl Recording {
-    /// How many reserved legs are reserved no more.
-    fn freed(self) -> usize
-        requires { self.launched + self.left < 2 ^ 64 }
-        ensures { result ≡ freed_by self }
-    {
-        if self.ended {
-            self.launched + self.left
-        } else {
-            self.launched
-        }
-    }
-}
-
-impl Recording {
-    /// How many calls have ended.
-    fn ending(self) -> usize
-        ensures { result ≡ cond self.ended 1 0 }
-    {
-        if self.ended { 1 } else { 0 }
-    }
-}
-
-impl Settling {
-    /// How many of the queued legs it takes away.
-    fn leaving(self) -> usize
-        ensures { result ≡ is_settling self }
-    {
-        match self {
-            Settling::Gone | Settling::InSpool => 1,
-            Settling::Refused => 0,
-        }
-    }
-}
-
-impl Settling {
-    /// How many legs more it puts into the spool.
-    fn storing(self) -> usize
-        ensures { result ≡ is_storing_leg self }
-    {
-        match self {
-            Settling::InSpool => 1,
-            Settling::Gone | Settling::Refused => 0,
-        }
-    }
-}
-
 impl Dispatcher {
     /// The facts of a leg, where it is queued or spooled.
     pub(crate) fn facts(&self, leg: LegId) -> Option<LegFacts>
@@ -119,9 +71,6 @@ impl Dispatcher {
         );
         self.calls.remove_if(call, step.ended);
         self.next_leg += step.launched as u64;
-        self.reserved -= step.freed();
-        self.queued = self.queued + step.launched - to.leaving();
-        self.spooled += to.storing();
-        self.running -= step.ending();
+        self.counts = self.counts.settled(to, step);
     }
 }

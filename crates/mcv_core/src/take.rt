@@ -76,8 +76,8 @@ impl Dispatcher {
         let taking = self.calls.take(call.0).ok_or(CoreFault::NoSuchCall)?;
         self.calls.remove_if(call.0, taking.ended);
         if taking.ended {
-            self.running -= 1;
-            self.reserved -= taking.left;
+            self.counts.running -= 1;
+            self.counts.reserved -= taking.left;
         }
         Ok(taking.part)
     }

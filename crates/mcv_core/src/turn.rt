@@ -47,14 +47,14 @@ impl Dispatcher {
         ensures busy { IfErr result (λ fault. (fault ≡ CoreFault.Busy) × (CanTurn (core_view self.old) → ⊥)) }
         ensures err { OnErr result (core_view self.new ≡ core_view self.old) }
     {
-        if self.running > 0 || self.queued > 0 || self.queues.in_replay().is_some() {
+        if self.counts.running > 0 || self.counts.queued > 0 || self.queues.in_replay().is_some() {
             return Err(CoreFault::Busy);
         }
         let Some(chapter) = self.chapter.checked_add(1) else {
             return Err(CoreFault::Busy);
         };
         self.chapter = chapter;
-        self.entries = self.spooled;
+        self.entries = self.counts.spooled;
         Ok(())
     }
 
