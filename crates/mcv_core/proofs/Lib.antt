@@ -1,7 +1,10 @@
 pub mod Launches
 pub mod Places
 pub mod Passing
+pub mod Tracking
 pub mod Recordings
 pub mod SpooledLegs
 pub mod States
 pub mod Settlements
+pub mod LegViews
+pub mod Does

@@ -16,13 +16,14 @@ use Rattle.mcv_route.specs.declared.launch.Launch.{Launch}
 use Rattle.mcv_route.specs.Launched.{launched}
 use Rattle.mcv_route.specs.Outcomes.{is_same, outcomes}
 use Rattle.mcv_route.specs.Routes.{RoutesValue}
+use Rattle.mcv_route.specs.Verdict.{Has}
 use Rattle.mcv_rules.proofs.Orders.{same_is, same_self}
 use Rattle.mcv_world.specs.World as world
 use Rattle.mcv_world.specs.World.{tree_of, situation_of, choice_of, history_of, is_settled, launched_by, reply_at, put}
 use Rattle.mcv_world.specs.Live.{has_ended}
 use Rattle.mcv_world.specs.Moves.{with_reply}
 use Rattle.mcv_world.proofs.Numbers.{same_some, no_some, put_same, put_other}
-use Rattle.mcv_events.specs.Entries.{IsLaidOut, is_launched, is_due, has_leg_at}
+use Rattle.mcv_events.specs.Entries.{IsLaidOut, is_launched, is_due, has_leg_at, launches_under}
 use Rattle.mcv_events.specs.Rows as rows
 use Rattle.mcv_events.specs.Rows.{Rows, CallRow, IsCore, IsCallRow, CanRecord, numbered, queued_rows, recorded_row}
 use Rattle.mcv_events.proofs.Entries.{not_true, settled_by_entries}
@@ -38,6 +39,7 @@ use Rattle.mcv_core.specs.Noting.{has_ended_by, AreAddressed, HasRecorded, IsNot
 use Rattle.mcv_core.specs.Rows.{call_of, call_row, entries_of, errand_for, has_outcome, rows_by, past_next, past_of, recorded_all, recorded_next, taken_at, IsRunning}
 use Rattle.mcv_core.proofs.Passing.{all_by_count, count, count_below, count_both, count_more, count_one_more, count_up}
 use Rattle.mcv_core.proofs.Launches.{get_below, launched_addressed}
+use Rattle.mcv_core.proofs.Tracking.{at_launch, there_at}
 use Rattle.mcv_core.proofs.Places.{AreReady, due_at, due_numbers, due_rows, places_apart, places_count}
 
 -- ---- lists
@@ -45,16 +47,6 @@ use Rattle.mcv_core.proofs.Places.{AreReady, due_at, due_numbers, due_rows, plac
 pub fold_last : {A B : Type 0} (f : B → A → B) (b : B) (xs : List A) (x : A) → fold f b (xs ++ x ∷ []) ≡ f (fold f b xs) x
 fold_last f b [] x = refl
 fold_last f b (y ∷ xs) x = fold_last f (f b y) xs x
-
-pub at_launch : (es : List Launch) (e : ℕ) (l : Launch) → slice_get es e ≡ Some l → launch_at es e ≡ l
-at_launch [] e l h = no_some h
-at_launch (m ∷ es) zero l h = same_some h
-at_launch (m ∷ es) (suc e) l h = at_launch es e l h
-
-pub there_at : (es : List Launch) (e : ℕ) → e < length es → slice_get es e ≡ Some (launch_at es e)
-there_at [] e low = absurd (omega (arith, low))
-there_at (m ∷ es) zero low = refl
-there_at (m ∷ es) (suc e) low = there_at es e (omega (arith, low))
 
 get_append : {A : Type 0} (xs : List A) (y : A) (j : ℕ) → j < length xs → slice_get (xs ++ y ∷ []) j ≡ slice_get xs j
 get_append [] y j low = absurd (omega (arith, low))
@@ -95,6 +87,19 @@ ready_of servers (Some x) v e low = ap (λ u. nat_lt (launch_in u).server.0 serv
 and_first : (b c : Bool) → (b && c) ≡ true → c ≡ true
 and_first true c e = e
 and_first false c e = absurd (true≢false (sym e))
+
+and_second : (b c : Bool) → (b && c) ≡ true → b ≡ true
+and_second true c e = refl
+and_second false c e = e
+
+filter_has : (test : Launch → Bool) (es : List Launch) (j : ℕ) (l : Launch) → slice_get es j ≡ Some l → test l ≡ true → Has (filter test es) (λ m. m ≡ l)
+filter_has test [] j l at t = no_some at
+filter_has test (m ∷ es) zero l at t = let q : m ≡ l = same_some at in subst (λ b. Has (cond b (m ∷ filter test es) (filter test es)) (λ k. k ≡ l)) (sym (ap test q ∙ t)) (inl q)
+filter_has test (m ∷ es) (suc j) l at t = by_cases (test m) (filter_has test es j l at t)
+  where
+    by_cases : (b : Bool) → Has (filter test es) (λ k. k ≡ l) → Has (cond b (m ∷ filter test es) (filter test es)) (λ k. k ≡ l)
+    by_cases true h = inr h
+    by_cases false h = h
 
 not_false : (b : Bool) → not b ≡ true → b ≡ false
 not_false true e = absurd (true≢false (sym e))
@@ -171,6 +176,12 @@ module _ (r : RoutesValue) (w : Rows) (k : ℕ) (c : Call) (e : ℕ) (i : IsCore
     had : (j : ℕ) (m : Launch) → slice_get (entries_of c) j ≡ Some m → due m ≡ true → option_map errand_view (errand_at c1.entries.items j) ≡ Some (errand_for k c j)
     had j m at t = ap (option_map errand_view) (noted.errands j) ∙ run.ready j (get_below (entries_of c) j m at) (not_numbered j m at t)
 
+    -- its server is in the table
+    goes_to : (j : ℕ) (m : Launch) → slice_get (entries_of c) j ≡ Some m → due m ≡ true → m.server.0 < length r.servers
+    goes_to j m at t =
+        let o = outcomes (history_of (with_reply (call_of c) p x).recorded) in
+        run.known o m (subst (λ v. Has v (λ k. k ≡ m)) (sym (row.laid.all o)) (filter_has (λ l. has_leg_at (launches_under r (call_of c) o) l.position) (entries_of c) j m at (and_second _ _ t)))
+
     pub can_launch : (legs : ℕ → Option (Leg Errand)) (room servers next : ℕ) → ((n : ℕ) → next ≤ n → legs n ≡ None) → count (λ l. not (is_launched r (call_of c) l)) (entries_of c) ≤ room
         → next + count (λ l. not (is_launched r (call_of c) l)) (entries_of c) < 2 ^ 64 → length r.servers ≤ servers → CanLaunch (fresh c1.state) c1.entries.items legs room servers next
     can_launch legs room servers next free enough small known =
@@ -184,8 +195,9 @@ module _ (r : RoutesValue) (w : Rows) (k : ℕ) (c : Call) (e : ℕ) (i : IsCore
               let d = due_at due 0 (entries_of c) j f (sym (ap (λ v. slice_get v j) fresh_is) ∙ at) in
               let same : d.index ≡ f = let q = d.is in omega (arith, q) in
               let here : slice_get (entries_of c) f ≡ Some d.launch = subst (λ v. slice_get (entries_of c) v ≡ Some d.launch) same d.at in
-              let below = run.known f (get_below (entries_of c) f d.launch here) in
-              ready_of servers (errand_at c1.entries.items f) (errand_for k c f) (had f d.launch here d.is_due) (omega (arith, below, known));
+              let below = goes_to f d.launch here d.is_due in
+              let at_it : (launch_in (errand_for k c f)).server.0 ≡ d.launch.server.0 = ap (λ v. v.server.0) (at_launch (entries_of c) f d.launch here) in
+              ready_of servers (errand_at c1.entries.items f) (errand_for k c f) (had f d.launch here d.is_due) (omega (arith, below, known, at_it));
           apart = λ a b f ga gb. places_apart due 0 (entries_of c) a b f (sym (ap (λ v. slice_get v a) fresh_is) ∙ ga) (sym (ap (λ v. slice_get v b) fresh_is) ∙ gb);
         }
 

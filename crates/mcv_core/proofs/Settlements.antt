@@ -23,7 +23,7 @@ use Rattle.mcv_events.specs.Rows.{CallRow, LegRow, Rows, IsCore, CanRecord, awai
 use Rattle.mcv_events.specs.QueuedLegs.{count_in, count_of, queued_legs}
 use Rattle.mcv_events.specs.Reservations.{reserved as reserved_by, unlaunched_of}
 use Rattle.mcv_events.specs.Sums.{sum_below}
-use Rattle.mcv_events.proofs.EventsAreMoves.{states_keep_cores}
+use Rattle.mcv_events.proofs.EventsAreMoves.{core_dropped, states_keep_cores}
 use Rattle.mcv_events.proofs.Numbering
 use Rattle.mcv_events.proofs.QueuedLegs.{putting_counts, recording_queues}
 use Rattle.mcv_events.proofs.Recording.{recording_keeps_core}
@@ -37,30 +37,9 @@ use Rattle.mcv_core.specs.Rows.{all_rows, awaiting_rows, awaiting_state, call_of
 use Rattle.mcv_core.specs.Sound.{one, spooled_in, spooled_one, IsSound}
 use Rattle.mcv_core.proofs.Launches.{get_below}
 use Rattle.mcv_core.proofs.Places.{put_rows}
-use Rattle.mcv_core.proofs.Recordings.{at_launch, there_at}
+use Rattle.mcv_core.proofs.Tracking.{at_launch, there_at}
 use Rattle.mcv_core.proofs.SpooledLegs.{spooled_stays}
 use Rattle.mcv_core.proofs.States.{rows_put}
-
--- ---- a leg that goes
-
-pub dropped : (r : RoutesValue) (w : Rows) (n : ℕ) → IsCore r w → IsCore r (with_leg_row w n None)
-dropped r w n i =
-    record {
-      calls_below = i.calls_below;
-      legs_below = λ m high. put_none (nat_eq n m) (w.legs m) (i.legs_below m high);
-      call = i.call;
-      own = λ m z k c f g h. i.own m z k c (was m z f) g h;
-      awaited = λ m z f g. i.awaited m z (was m z f) g;
-      counted = λ m z f g. i.counted m z (was m z f) g;
-      owner = λ m z k f g. i.owner m z k (was m z f) g;
-    }
-  where
-    put_none : (b : Bool) (o : Option LegRow) → o ≡ None → cond b None o ≡ None
-    put_none true o e = refl
-    put_none false o e = e
-
-    was : (m : ℕ) (z : LegRow) → put w.legs n None m ≡ Some z → w.legs m ≡ Some z
-    was m z f = elim (put_cases w.legs n m None z f) [ inl q ↦ no_some q.1 | inr q ↦ q.1 ]
 
 -- what a leg becomes: nothing, or itself in a state in which it isn't unanswered, where it is a counted delete's
 pub record Stays (l : Leg Errand) (o : Option (Leg Errand)) : Type 0 where
@@ -130,7 +109,7 @@ module _ (r : RoutesValue) (calls : ℕ → Option Call) (legs : ℕ → Option 
   core1 : (f : State → rows.State) → IsView f → IsCore r (all_rows f calls legs since next_call next_leg) → IsCore r (all_rows f calls legs1 since next_call next_leg)
   core1 f view core =
       subst (IsCore r) (sym (w1_is f)) (elim settles [
-        | inl gone ↦ subst (λ v. IsCore r (with_leg_row (all_rows f calls legs since next_call next_leg) n (option_map (row_by f) v))) (sym gone) (dropped r (all_rows f calls legs since next_call next_leg) n core)
+        | inl gone ↦ subst (λ v. IsCore r (with_leg_row (all_rows f calls legs since next_call next_leg) n (option_map (row_by f) v))) (sym gone) (core_dropped r (all_rows f calls legs since next_call next_leg) n core)
         | inr stays ↦
             subst (λ v. IsCore r (with_leg_row (all_rows f calls legs since next_call next_leg) n (option_map (row_by f) v))) (sym stays.is)
             (states_keep_cores r (all_rows f calls legs since next_call next_leg) n (row_by f l) (f stays.state) core (here f) (λ t. absurd (true≢false (sym t ∙ view.shuts stays.state stays.shut stays.shut_too))) (λ t. stays.counted))

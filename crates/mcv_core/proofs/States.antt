@@ -13,7 +13,7 @@ use Rattle.mcv_events.specs.Rows as rows
 use Rattle.mcv_events.specs.Rows.{LegRow, Rows, IsCore, awaits, is_unanswered, leg_of, with_leg_row}
 use Rattle.mcv_events.specs.Events.{in_state}
 use Rattle.mcv_events.specs.QueuedLegs.{count_in, count_of, queued_legs}
-use Rattle.mcv_events.proofs.EventsAreMoves.{states_keep_cores}
+use Rattle.mcv_events.proofs.EventsAreMoves.{core_dropped, states_keep_cores}
 use Rattle.mcv_events.specs.Sums.{sum_below}
 use Rattle.mcv_events.proofs.QueuedLegs.{putting_counts}
 use Rattle.mcv_events.proofs.Sums.{sum_put}
@@ -96,6 +96,70 @@ module _ (r : RoutesValue) (calls : ℕ → Option Call) (legs : ℕ → Option 
         running_is = i.running_is;
         room_is = let a = i.room_is in omega (arith, a, wide);
         limit = small;
+        numbers = i.numbers;
+        known = let a = i.known in omega (arith, a, known);
+        era = i.era;
+      }
+
+-- ---- a leg of the spool goes
+
+module _ (r : RoutesValue) (calls : ℕ → Option Call) (legs : ℕ → Option (Leg Errand)) (since : Option ℕ) (moment next_call next_leg reserved queued spooled running room servers : ℕ)
+    (i : IsSound r calls legs since moment next_call next_leg reserved queued spooled running room servers) (n : ℕ) (l : Leg Errand) (at : legs n ≡ Some l) where
+  here : (f : State → rows.State) → rows_by f legs n ≡ Some (row_by f l)
+  here f = ap (option_map (row_by f)) at
+
+  below : n < next_leg
+  below = leg_below r (rows_of calls legs since next_call next_leg) i.core n (row_by state_of l) (here state_of)
+
+  core_gone : (f : State → rows.State) → IsCore r (all_rows f calls legs since next_call next_leg) → (legs2 : ℕ → Option (Leg Errand)) → legs2 ≡ put legs n None → IsCore r (all_rows f calls legs2 since next_call next_leg)
+  core_gone f core legs2 is = subst (IsCore r) (sym (rows_put f calls legs legs2 since next_call next_leg n None is)) (core_dropped r (all_rows f calls legs since next_call next_leg) n core)
+
+  spooled_put : sum_below spooled_one (put (rows_by state_of legs) n None) next_leg + spooled_in (state_of l.state) ≡ spooled
+  spooled_put =
+      let p = sum_put spooled_one (rows_by state_of legs) n None next_leg below in
+      let old : spooled_one (rows_by state_of legs n) ≡ spooled_in (state_of l.state) = ap spooled_one (here state_of) in
+      let q = i.spooled_is in
+      omega (arith, p, old, q)
+
+  queued_put : queued_legs (with_leg_row (rows_of calls legs since next_call next_leg) n None) + count_in (state_of l.state) ≡ queued
+  queued_put =
+      let p = putting_counts (rows_of calls legs since next_call next_leg) n None below in
+      let old : count_of (rows_by state_of legs n) ≡ count_in (state_of l.state) = ap count_of (here state_of) in
+      let q = i.queued_is in
+      omega (arith, p, old, q)
+
+  pub one_spooled : state_of l.state ≡ rows.InSpool → 1 ≤ spooled
+  one_spooled e = let p = spooled_put in let one : spooled_in (state_of l.state) ≡ 1 = ap spooled_in e in omega (arith, p, one)
+
+  pub one_queued : count_in (state_of l.state) ≡ 1 → 1 ≤ queued
+  one_queued e = let p = queued_put in omega (arith, p, e)
+
+  pub gone : state_of l.state ≡ rows.InSpool → (legs2 : ℕ → Option (Leg Errand)) → legs2 ≡ put legs n None → (spooled2 : ℕ) → spooled2 + 1 ≡ spooled → (room2 servers2 : ℕ) → room ≤ room2 → servers2 ≡ servers
+      → IsSound r calls legs2 since moment next_call next_leg reserved queued spooled2 running room2 servers2
+  gone spooled_now legs2 is spooled2 less room2 servers2 wide known =
+      let old : (m : ℕ) (z : Leg Errand) → legs2 m ≡ Some z → legs m ≡ Some z = λ m z f. elim (put_cases legs n m None z (sym (ap (λ g. g m) is) ∙ f)) [ inl q ↦ no_some q.1 | inr q ↦ q.1 ] in
+      let rows_is : (f : State → rows.State) → rows_by f legs2 ≡ put (rows_by f legs) n None = λ f. ap (rows_by f) is ∙ put_rows f legs n None in
+      record {
+        core = core_gone state_of i.core legs2 is;
+        awaiting = core_gone awaiting_state i.awaiting legs2 is;
+        refused = λ m s f held. elim (put_cases (rows_by awaiting_state legs) n m None s (sym (ap (λ g. g m) (rows_is awaiting_state)) ∙ f)) [ inl q ↦ no_some q.1 | inr q ↦ i.refused m s q.1 held ];
+        calls_run = i.calls_run;
+        addressed = λ m z f. i.addressed m z (old m z f);
+        reserved_is = i.reserved_is;
+        queued_is =
+            let p = queued_put in
+            let none : count_in (state_of l.state) ≡ 0 = ap count_in spooled_now in
+            let same : queued_legs (rows_of calls legs2 since next_call next_leg) ≡ queued_legs (with_leg_row (rows_of calls legs since next_call next_leg) n None) =
+            ap queued_legs (rows_put state_of calls legs legs2 since next_call next_leg n None is) in
+            omega (arith, p, none, same);
+        spooled_is =
+            let p = spooled_put in
+            let one : spooled_in (state_of l.state) ≡ 1 = ap spooled_in spooled_now in
+            let same : sum_below spooled_one (rows_by state_of legs2) next_leg ≡ sum_below spooled_one (put (rows_by state_of legs) n None) next_leg = ap (λ g. sum_below spooled_one g next_leg) (rows_is state_of) in
+            omega (arith, p, one, same, less);
+        running_is = i.running_is;
+        room_is = let a = i.room_is in omega (arith, a, wide);
+        limit = i.limit;
         numbers = i.numbers;
         known = let a = i.known in omega (arith, a, known);
         era = i.era;

@@ -1,20 +1,20 @@
 -- What contracts see of a core, and what its events do to that: the rules of the core (own).
-use Rattle.std.specs.Prelude.{◌≡◌, ℕ, ◌&&◌, Bool, true, false, List, Option, Some, None, Result, Ok, Err, cond, length, nat_eq, option_map, slice_get}
+use Rattle.std.specs.Prelude.{◌≡◌, ℕ, ◌&&◌, not, Bool, true, false, List, Option, Some, None, Result, Ok, Err, cond, length, nat_eq, option_map, slice_get}
 use Rattle.std.specs.Str.{bytes_eq}
 use Rattle.mcv_base.specs.declared.reply.FixedReply.TheVariants.{Lost}
+use Rattle.mcv_base.specs.Operation.{is_delete}
 use Rattle.mcv_base.specs.Reply.{ReplyValue, fixed_value}
 use Rattle.mcv_queues.specs.declared.marks.Mark.{Mark}
 use Rattle.mcv_queues.specs.Marks.{answered_mark, lost_mark, put_mark}
 use Rattle.mcv_queues.specs.Numbers.{names}
 use Rattle.mcv_route.specs.Routes.{RoutesValue}
-use Rattle.mcv_world.specs.World as world
 use Rattle.mcv_world.specs.World.{is_counted_delete, put}
 use Rattle.mcv_world.specs.Live.{live_of}
-use Rattle.mcv_world.specs.Moves.{Move, Answered, WasSpooled, WasRefused, WasPerformed, EraBegan, answered_place, counted_as, is_error_reply}
+use Rattle.mcv_world.specs.Moves.{Move, Answered, WasSpooled, WasRefused, WasPerformed, EraBegan, counted_as, is_error_reply}
 use Rattle.mcv_world.specs.Possible.{IsAllowed, IsOpening}
 use Rattle.mcv_events.specs.Rows as rows
 use Rattle.mcv_events.specs.Rows.{IsCore, LegRow, Rows, awaits, leg_of, with_leg_row, world_of}
-use Rattle.mcv_events.specs.Events.{Moves, answered_rows, in_state, refused_rows, spooled_rows}
+use Rattle.mcv_events.specs.Events.{Moves, in_state, recorded_rows_for, refused_rows, spooled_rows}
 use Rattle.mcv_core.specs.declared.fault.CoreFault.{CoreFault}
 use Rattle.mcv_core.specs.declared.fault.CoreFault.TheVariants.{NoSuchLeg}
 use Rattle.mcv_core.specs.declared.step.Change.{Change}
@@ -76,40 +76,58 @@ abbrev pub HasEffect : Effect → CoreView → CoreView → Result Step CoreFaul
 HasEffect (refuses fault) old new result = (result ≡ Err fault) × (new ≡ old)
 HasEffect (does step v) old new result = (result ≡ Ok step) × (new ≡ v)
 
--- the leg isn't in flight any more, and its server's mark changes
-abbrev pub landed : CoreView → LegRow → (Mark → Mark) → CoreView
-landed v s g = record v { flights = put v.flights s.launch.server.0 None; marks = put_mark (length v.routes.servers) v.marks s.launch.server.0 g }
+-- the same of an event that isn't refused
+abbrev pub HasDone : Effect → CoreView → Step → Type 0
+HasDone (refuses fault) new step = ⊥
+HasDone (does done v) new step = (step ≡ done) × (new ≡ v)
+
+-- the mark of a server changes
+abbrev pub with_mark : CoreView → ℕ → (Mark → Mark) → CoreView
+with_mark v server g = record v { marks = put_mark (length v.routes.servers) v.marks server g }
+
+-- the leg isn't in flight any more
+abbrev pub landed : CoreView → LegRow → CoreView
+landed v s = record v { flights = put v.flights s.launch.server.0 None }
 
 abbrev pub step_to : Place → Change → Step
 step_to place change = record { place = place; change = change }
 
-abbrev pub place_seen : world.Place → Place
-place_seen world.Queued = places.Held
-place_seen world.Performed = places.Performed
-place_seen world.Spooled = places.Spooled
-place_seen world.Gone = places.Gone
+-- a delete is performed by any answer but an error
+abbrev pub place_after : LegRow → ReplyValue → Place
+place_after s y = cond (is_delete s.launch.op && not (is_error_reply y)) places.Performed places.Gone
 
 -- a counted delete leg that its server didn't perform is held, and its call has no outcome of it yet
-abbrev pub held : CoreView → ℕ → LegRow → (Mark → Mark) → Effect
-held v n s g = does (step_to places.Held changes.Nothing) (record (landed v s g) { rows = with_leg_row v.rows n (Some (in_state s rows.Held)) })
+abbrev pub held : CoreView → ℕ → LegRow → Effect
+held v n s = does (step_to places.Held changes.Nothing) (record (landed v s) { rows = with_leg_row v.rows n (Some (in_state s rows.Held)) })
 
 -- any other leg is done with, and its call records the reply
-abbrev pub answered : CoreView → ℕ → LegRow → ReplyValue → (Mark → Mark) → Effect
-answered v n s x g = does (step_to (place_seen (answered_place s.launch.op (counted_as s.launch.op x))) changes.Answered) (record (landed v s g) { rows = answered_rows v.routes v.rows n s x })
+abbrev pub answered : CoreView → ℕ → LegRow → ReplyValue → Effect
+answered v n s y = does (step_to (place_after s y) changes.Answered) (record (landed v s) { rows = recorded_rows_for v.routes (with_leg_row v.rows n None) s y s.call })
 
-abbrev pub is_unperformed : LegRow → ReplyValue → Bool
-is_unperformed s x = is_error_reply (counted_as s.launch.op x)
+-- a leg that was sent has this reply
+abbrev pub sent_in : CoreView → ℕ → ReplyValue → LegRow → Effect
+sent_in v n y s = cond (is_counted_delete (leg_of s) && is_error_reply y) (held v n s) (answered v n s y)
 
--- a leg in replay waits in the spool again
-abbrev pub waits_again : CoreView → LegRow → (Mark → Mark) → Effect
-waits_again v s g = does (step_to places.Spooled changes.Nothing) (landed v s g)
+-- a leg in replay is performed, or waits in the spool again
+abbrev pub replayed_in : CoreView → ℕ → Bool → LegRow → Effect
+replayed_in v n failed s =
+    cond failed (does (step_to places.Spooled changes.Nothing) (landed v s)) (does (step_to places.Performed changes.Performed) (record (landed v s) { rows = with_leg_row v.rows n None }))
 
-abbrev pub performed : CoreView → ℕ → LegRow → (Mark → Mark) → Effect
-performed v n s g = does (step_to places.Performed changes.Performed) (record (landed v s g) { rows = with_leg_row v.rows n None })
+-- a held leg is in the spool, and its call records NOT_FOUND, if it has no outcome
+abbrev pub stored : CoreView → ℕ → LegRow → Effect
+stored v n s = does (step_to places.Spooled changes.Spooled) (record v { rows = spooled_rows v.routes v.rows n s })
+
+-- the spool refused a held leg: its call records an error, once
+abbrev pub refused : CoreView → LegRow → Effect
+refused v s = cond (awaits v.rows.calls s s.call) (does (step_to places.Held changes.Refused) (record v { rows = refused_rows v.routes v.rows s })) (does (step_to places.Held changes.Nothing) v)
 
 abbrev pub is_text : List ℕ → Option (List ℕ) → Bool
 is_text text None = false
 is_text text (Some t) = bytes_eq text t
+
+abbrev pub at_row : (LegRow → Effect) → Option LegRow → Effect
+at_row f None = refuses NoSuchLeg
+at_row f (Some s) = f s
 
 module _ (v : CoreView) (n : ℕ) where
   abbrev pub flies : LegRow → Bool
@@ -118,34 +136,29 @@ module _ (v : CoreView) (n : ℕ) where
   -- a leg that is sent or in replay was answered
   abbrev pub answer_in : ReplyValue → LegRow → rows.State → Effect
   answer_in x s rows.Waiting = refuses NoSuchLeg
-  answer_in x s rows.Sent = cond (is_counted_delete (leg_of s) && is_unperformed s x) (held v n s answered_mark) (answered v n s x answered_mark)
+  answer_in x s rows.Sent = sent_in (with_mark v s.launch.server.0 answered_mark) n (counted_as s.launch.op x) s
   answer_in x s rows.Held = refuses NoSuchLeg
-  answer_in x s rows.InSpool = cond (flies s) (cond (is_unperformed s x) (waits_again v s answered_mark) (performed v n s answered_mark)) (refuses NoSuchLeg)
+  answer_in x s rows.InSpool = cond (flies s) (replayed_in (with_mark v s.launch.server.0 answered_mark) n (is_error_reply (counted_as s.launch.op x)) s) (refuses NoSuchLeg)
 
   -- or was lost
   abbrev pub loss_in : LegRow → rows.State → Effect
   loss_in s rows.Waiting = refuses NoSuchLeg
-  loss_in s rows.Sent = cond (is_counted_delete (leg_of s)) (held v n s lost_mark) (answered v n s (fixed_value Lost) lost_mark)
+  loss_in s rows.Sent = sent_in (with_mark v s.launch.server.0 lost_mark) n (fixed_value Lost) s
   loss_in s rows.Held = refuses NoSuchLeg
-  loss_in s rows.InSpool = cond (flies s) (waits_again v s lost_mark) (refuses NoSuchLeg)
+  loss_in s rows.InSpool = cond (flies s) (replayed_in (with_mark v s.launch.server.0 lost_mark) n true s) (refuses NoSuchLeg)
 
   -- a held leg is in the spool, where the record is the leg's
   abbrev pub spooling_in : Bool → LegRow → rows.State → Effect
   spooling_in its s rows.Waiting = refuses NoSuchLeg
   spooling_in its s rows.Sent = refuses NoSuchLeg
-  spooling_in its s rows.Held = cond its (does (step_to places.Spooled changes.Spooled) (record v { rows = spooled_rows v.routes v.rows n s })) (refuses NoSuchLeg)
+  spooling_in its s rows.Held = cond its (stored v n s) (refuses NoSuchLeg)
   spooling_in its s rows.InSpool = refuses NoSuchLeg
 
-  -- the spool refused a held leg: its call records an error, once
   abbrev pub refusing_in : LegRow → rows.State → Effect
   refusing_in s rows.Waiting = refuses NoSuchLeg
   refusing_in s rows.Sent = refuses NoSuchLeg
-  refusing_in s rows.Held = cond (awaits v.rows.calls s s.call) (does (step_to places.Held changes.Refused) (record v { rows = refused_rows v.routes v.rows s })) (does (step_to places.Held changes.Nothing) v)
+  refusing_in s rows.Held = refused v s
   refusing_in s rows.InSpool = refuses NoSuchLeg
-
-  abbrev pub at_row : (LegRow → Effect) → Option LegRow → Effect
-  at_row f None = refuses NoSuchLeg
-  at_row f (Some s) = f s
 
   abbrev pub answer_at : ReplyValue → Effect
   answer_at x = at_row (λ s. answer_in x s s.state) (v.rows.legs n)

@@ -1,5 +1,5 @@
 -- How far a call has come, by the definitions of its route (own).
-use Rattle.std.specs.Prelude.{◌≡◌, ◌<◌, ℕ, suc, Bool, true, List, [], ◌∷◌, None, cond, length, ∥◌∥₁}
+use Rattle.std.specs.Prelude.{◌≡◌, ◌<◌, ℕ, suc, Bool, true, List, [], ◌∷◌, None, cond, length}
 use Rattle.std.specs.List.{list_any}
 use Rattle.mcv_route.specs.declared.launch.Launch.{Launch}
 use Rattle.mcv_route.specs.Launched.{launched}
