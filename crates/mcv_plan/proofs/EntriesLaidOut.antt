@@ -1,7 +1,6 @@
 -- What is launched is a part of the entries: those at whose positions something is launched.
 use Rattle.std.proofs.Common.{◌≡◌, ◌<◌, ◌≤◌, ◌+◌, ◌⊎◌, inl, inr, cond, ℕ, zero, suc, Bool, true, false, ◌||◌, nat_eq, List, [], ◌∷◌, ◌++◌, length, map, get_or, Option, Some, None, option_map, refl, sym, ap, ap₂, ◌∙◌, arith}
-use Rattle.std.specs.Prelude.{list_any}
-use Rattle.std.specs.List.{AllPairs, filter}
+use Rattle.std.specs.List.{AllPairs, filter, list_any}
 use Rattle.std.specs.Cmp.Lexicographic.{slice_cmp}
 use Rattle.std.specs.Ordering.{nat_cmp}
 use Rattle.std.specs.declared.cmp.Ordering.{Ordering}
@@ -65,11 +64,11 @@ below_count (suc n) from k h = elim (or_cases (nat_eq from k) (holds k (numbers 
 
 pub has_number : (n from k : ℕ) → from ≤ k → k < from + n → holds k (numbers from n) ≡ true
 has_number zero from k h g = absurd (omega (arith, h, g))
-has_number (suc n) from k h g = by_first (nat_eq from k) refl
+has_number (suc n) from k h g = by_first (nat_eq from k) refl (λ e. has_number n (suc from) k (grind (arith, e, h)) (omega (arith, g)))
   where
-    by_first : (t : Bool) → nat_eq from k ≡ t → (t || holds k (numbers (suc from) n)) ≡ true
-    by_first true e = refl
-    by_first false e = has_number n (suc from) k (grind (arith, e, h)) (omega (arith, g))
+    by_first : (t : Bool) → nat_eq from k ≡ t → (nat_eq from k ≡ false → holds k (numbers (suc from) n) ≡ true) → (t || holds k (numbers (suc from) n)) ≡ true
+    by_first true e later = refl
+    by_first false e later = later e
 
 -- ---- positions
 

@@ -17,6 +17,13 @@ use Rattle.mcv_plan.proofs.CoursesBuilt.{count_entries}
 use Rattle.mcv_plan.proofs.EntriesLaidOut.{has_number}
 use Rattle.mcv_plan.proofs.Local.{answered_plan, entries_plan, sends_plan}
 
+-- its legs are the first of the list
+pub legs_begun : (c : Choice) (p : Plan) (old ls : List Launch) → old ≡ [] → ls ≡ old ++ legs_of c p → ls ≡ legs_of c p
+legs_begun c p old ls none is = is ∙ ap (λ xs. xs ++ legs_of c p) none
+
+pub built_begun : (c : Choice) (p : Plan) (old : List Launch) (s : State) → old ≡ [] → IsBuilt c p (length old) s → IsBuilt c p zero s
+built_begun c p old s none built = (rw none at built)
+
 module _ (c : Choice) (p : Plan) (course : Course) (ls : List Launch) (built : IsBuilt c p zero (view course)) (is : ls ≡ legs_of c p) where
   -- how many legs it has
   pub first_count : length (entries (view course)) ≡ length ls
@@ -25,10 +32,10 @@ module _ (c : Choice) (p : Plan) (course : Course) (ls : List Launch) (built : I
   pub first_shape : length (entries (plan (view course))) ≡ length ls
   first_shape = ap length (entries_plan (view course)) ∙ first_count
 
-  pub first_room : (fresh : Vec ℕ Global) → fresh.items ≡ [] → vec_capacity fresh ≡ length ls → length fresh.items + length (entries (view course)) ≤ vec_capacity fresh
+  pub first_room : (fresh : Vec ℕ Global) → fresh.items ≡ [] → length ls ≤ vec_capacity fresh → length fresh.items + length (entries (view course)) ≤ vec_capacity fresh
   first_room fresh none room = let empty = ap length none in omega (arith, empty, room, first_count)
 
-  pub first_kept : (fresh : Vec ℕ Global) → vec_capacity fresh ≡ length ls → IsKept course fresh
+  pub first_kept : (fresh : Vec ℕ Global) → length ls ≤ vec_capacity fresh → IsKept course fresh
   first_kept fresh room = record {
     placed = built.placed;
     numbered = built.numbered ∙ ap (λ n. numbers zero n) (sym (count_entries (view course) (legs_of c p) zero built.numbered));

@@ -188,7 +188,7 @@ fold_alike w c own x a (p ∷ ps) r e =
     (ap₂ (next_reply w) e (r.0 own) ∙ sym (next_alike w a.answer (arrived own p).answer a.came (arrived own p).came))
 
 pub turn_replies : (c : Choice) (w : After) (v : Vec Plan Global) → ReplyEach c v.items → RepliesAs c (InTurn w v)
-turn_replies c w v r own = rw (sent-InTurn c (arrivals.outcome_in own) w v, arrived-InTurn own u v) (each v.items r)
+turn_replies c w v r own = rw (sent-InTurn c (arrivals.outcome_in own) w v, arrived-InTurn own w v) (each v.items r)
   where
     each : (ps : List Plan) → ReplyEach c ps → together (next_reply w) (Some Error) (replies_each (map (sent c (arrivals.outcome_in own)) ps)) ≡ option_map (λ y. y.outcome) (together (arrivals.next_arrived w) (arrivals.arrived_at_once ErrorRoute) (map (arrived own) ps)).answer
     each [] r = refl

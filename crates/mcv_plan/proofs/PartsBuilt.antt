@@ -10,7 +10,8 @@ use Rattle.mcv_rules.specs.Laid.{launch_of}
 use Rattle.mcv_rules.specs.declared.arrival.After.{After}
 use Rattle.mcv_rules.specs.declared.plan.PlannedLeg.{PlannedLeg}
 use Rattle.mcv_rules.specs.declared.plan.Plan.{Plan, Send, Reply, All, Beside, InTurn, OnHit, Shadowed, the_lemmas}
-use Rattle.mcv_rules.proofs.Plans.{places-All, places-Beside, places-InTurn, places-OnHit, places-Reply, places-Send, places-Shadowed, kind-All, kind-Beside, kind-InTurn, kind-OnHit, kind-Shadowed, sent-All, sent-Beside, sent-InTurn, arrived-All, arrived-Beside, arrived-InTurn}
+use Rattle.mcv_rules.proofs.Places.{places-All, places-Beside, places-InTurn, places-OnHit, places-Reply, places-Send, places-Shadowed, kind-All, kind-Beside, kind-InTurn, kind-OnHit, kind-Shadowed}
+use Rattle.mcv_rules.proofs.Plans.{sent-All, sent-Beside, sent-InTurn, arrived-All, arrived-Beside, arrived-InTurn}
 use Rattle.mcv_plan.specs.declared.answer.Answer.{Answer}
 use Rattle.mcv_plan.specs.Reached.{answer_of, goes_on_after, is_hit, nothing, prevails, stop, waits}
 use Rattle.mcv_plan.specs.State.{State, States, send, reply, all, in_turn, beside, on_hit, none, more, states_of, Either, IsUnheard, ReflectEach, ReflectTurn, Reflects, all_from, answered, answered_each, answers_each, are_placed, each_placed, entries, entries_each, is_placed, within}

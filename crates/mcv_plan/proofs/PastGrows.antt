@@ -50,28 +50,29 @@ or_reply : (t : ℕ) (r old : Option Answer) (x y : Option Reached) → Changes 
 or_reply t None old x y f e = e ∙ sym (ap answer_of f)
 or_reply t (Some a) old x y f e = sym (ap answer_of f.1)
 
-module _ (e : ℕ) (x : Outcome) (r : Option Answer) (b a : List ℕ) (s u : EvalState) (h : Heard e x r b a (view s.course) (view u.course)) where
-  at_once_sent : (es : Past) → IsAwaited es e (shape s) → holds e (sends (own_of es) (view s.course)) ≡ true
-  at_once_sent es w = (rw (sends_plan (own_of es) (view s.course)) at w.launched)
+at_once_sent : (e : ℕ) (s : EvalState) (es : Past) → IsAwaited es e (shape s) → holds e (sends (own_of es) (view s.course)) ≡ true
+at_once_sent e s es w = (rw (sends_plan (own_of es) (view s.course)) at w.launched)
 
+module _ (e : ℕ) (x : Outcome) (r : Option Answer) (b a : List ℕ) (s u : EvalState) (h : Heard e x r b a (view s.course) (view u.course)) where
   pub after_next : u.reply ≡ option_or r s.reply → (es : Past) → IsAfter es s → IsAwaited es e (shape s) → IsAfter ((e, x) ∷ es) u
   after_next is es at w =
       let own = own_of es in
       let t = suc (length es) in
       let q = put own e (reached e x t) in
-      let sent = at_once_sent es w in
+      let sent = at_once_sent e s es w in
       let was : s.reply ≡ answer_of (answered own (view s.course)) = at.reply ∙ ap answer_of (answered_plan own (view s.course)) in
       record {
         reflects = h.reflects own t w.none (before_past es) sent at.reflects;
         reply = is ∙ or_reply t r s.reply (answered own (view s.course)) (answered q (view s.course)) (h.reply own t w.none (before_past es) sent at.reflects) was ∙ ap answer_of (sym (answered_plan q (view s.course)) ∙ ap (answered q) (sym h.same));
       }
 
+module _ (e : ℕ) (x : Outcome) (r : Option Answer) (b a : List ℕ) (s : EvalState) (d : Course) (h : Heard e x r b a (view s.course) (view d)) where
   pub fresh_next : b ≡ [] → entries (view s.course) ≡ numbers zero (length (entries (view s.course))) → (es : Past) → IsAfter es s → IsAwaited es e (shape s)
       → a ≡ new_of (sends (own_of es) (shape s)) (sends (own_of ((e, x) ∷ es)) (shape s))
   fresh_next empty numbered es at w =
       let own = own_of es in
       let q = own_of ((e, x) ∷ es) in
-      let f = h.fresh own (suc (length es)) w.none (before_past es) (at_once_sent es w) at.reflects in
+      let f = h.fresh own (suc (length es)) w.none (before_past es) (at_once_sent e s es w) at.reflects in
       let all : a ≡ f.0 = f.1 ∙ ap (λ k. k ++ f.0) empty in
       all
       ∙ fresh_are_new (sends own (view s.course)) f.0 (sends q (view s.course)) f.2 (launched_once q (view s.course) zero (length (entries (view s.course))) numbered)

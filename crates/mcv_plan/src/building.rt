@@ -3,7 +3,6 @@
 ghost use Rattle.std.specs.Prelude.{◌≡◌, ◌++◌, Box, IfOk, List, OnOk, Vec, length, map, slice_index, ℕ};
 ghost use Rattle.std.specs.declared.alloc.Global.{Global};
 ghost use Rattle.mcv_route.specs.Children.{is_within, joined};
-ghost use Rattle.mcv_route.specs.Outcomes.{Choice};
 ghost use Rattle.mcv_rules.specs.declared.plan.Plan.{All, Beside, InTurn, OnHit, Plan};
 ghost use Rattle.mcv_plan.specs.Built.{BuiltEach, IsBuilt};
 ghost use Rattle.mcv_plan.specs.Entries.{legs_of};
@@ -107,7 +106,7 @@ fn build_on_hit(
 
 /// All at once. None at all reply as ErrorRoute does.
 fn all(children: Children) -> Course
-    ensures { (c : Choice) (v : Vec Plan Global) (from : ℕ) → BuiltEach c v.items from children.ends.items (map view children.courses.items) → IsBuilt c (All v) from (view result) }
+    ensures { (c : ℕ → ℕ) (v : Vec Plan Global) (from : ℕ) → BuiltEach c v.items from children.ends.items (map view children.courses.items) → IsBuilt c (All v) from (view result) }
 {
     if children.courses.is_empty() {
         return Course::Reply(FixedReply::ErrorRoute);
@@ -124,7 +123,7 @@ fn all(children: Children) -> Course
 
 /// All at once, the first of which is waited for. None at all reply as ErrorRoute does.
 fn beside(children: Children) -> Course
-    ensures { (c : Choice) (v : Vec Plan Global) (from : ℕ) → BuiltEach c v.items from children.ends.items (map view children.courses.items) → IsBuilt c (Beside v) from (view result) }
+    ensures { (c : ℕ → ℕ) (v : Vec Plan Global) (from : ℕ) → BuiltEach c v.items from children.ends.items (map view children.courses.items) → IsBuilt c (Beside v) from (view result) }
 {
     if children.courses.is_empty() {
         return Course::Reply(FixedReply::ErrorRoute);
@@ -137,7 +136,7 @@ fn beside(children: Children) -> Course
 
 /// One after another. None at all reply as ErrorRoute does.
 fn in_turn(after: After, children: Children) -> Course
-    ensures { (c : Choice) (v : Vec Plan Global) (from : ℕ) → BuiltEach c v.items from children.ends.items (map view children.courses.items) → IsBuilt c (InTurn after v) from (view result) }
+    ensures { (c : ℕ → ℕ) (v : Vec Plan Global) (from : ℕ) → BuiltEach c v.items from children.ends.items (map view children.courses.items) → IsBuilt c (InTurn after v) from (view result) }
 {
     if children.courses.is_empty() {
         return Course::Reply(FixedReply::ErrorRoute);

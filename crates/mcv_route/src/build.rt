@@ -304,6 +304,9 @@ fn build_last(
 {
     match last {
         None => Ok(None),
-        Some(route) => Ok(Some(build_boxed(alloc, route, lists, symbols)?)),
+        Some(route) => {
+            let route = build_route(alloc, route, lists, symbols)?;
+            Ok(Some(Box::new(alloc, route)?))
+        }
     }
 }

@@ -204,14 +204,14 @@ shadow_legs-places symbol k t (x ∷ shadows) s =
     ∙ append_assoc (positions t) (positions (plan x.1 (under k s))) (joined (map (λ f. f.places) (shadow_legs symbol (suc k) shadows s)))
 
 -- one shadow more
-pub shadow-grows : (P : Plan → Type 0) (symbol : ℕ) (ps : List Plan) (shadows : List Shadow) (n : ℕ) (shadow : Shadow) (target : Box Plan Global) (s : Situation) → n < length shadows → shadow ≡ get_or shadows n shadow
-    → LedBy P ps (shadow_legs symbol 0 (map shadow_view (take n shadows)) s) → Serves target.value (shadow_view shadow).1 (under n s)
-    → LedBy P (ps ++ Shadowed symbol (shadow_view shadow).0.first (shadow_view shadow).0.last target ∷ []) (shadow_legs symbol 0 (map shadow_view (take (n + 1) shadows)) s)
-shadow-grows P symbol ps shadows n shadow target s h is a f =
-    let x = shadow_view shadow in
+pub shadow-grows : (P : Plan → Type 0) (symbol : ℕ) (ps : List Plan) (shadows : List Shadow) (n : ℕ) (copied : Shadow) (target : Box Plan Global) (s : Situation) → n < length shadows → copied ≡ get_or shadows n copied
+    → LedBy P ps (shadow_legs symbol 0 (map shadow_view (take n shadows)) s) → Serves target.value (shadow_view copied).1 (under n s)
+    → LedBy P (ps ++ Shadowed symbol (shadow_view copied).0.first (shadow_view copied).0.last target ∷ []) (shadow_legs symbol 0 (map shadow_view (take (n + 1) shadows)) s)
+shadow-grows P symbol ps shadows n copied target s h is a f =
+    let x = shadow_view copied in
     let so_far = map shadow_view (take n shadows) in
     let count : length so_far ≡ n = length-map (take n shadows) shadow_view ∙ length-take-le n shadows (omega (arith, h)) in
-    rw (add-one n, take-suc shadows n shadow h, ← is, map-append shadow_view (take n shadows) (shadow ∷ []), shadow_legs-append symbol 0 n so_far x s (omega (arith, count)))
+    rw (add-one n, take-suc shadows n copied h, ← is, map-append shadow_view (take n shadows) (copied ∷ []), shadow_legs-append symbol 0 n so_far x s (omega (arith, count)))
     (led-append P ps (shadow_legs symbol 0 so_far s) (Shadowed symbol x.0.first x.0.last target) (shadow_leg symbol n x s) a
     (record {
       legs = λ c o. rw (sent-Shadowed c o symbol x.0.first x.0.last target, f.sends c o) refl;

@@ -81,7 +81,7 @@ does_child n u ts s t d h is = record {
   sends = λ c o. d.sends c o ∙ rw (each-launched 0 ts s c o) (chosen (λ u v. launched u v c o) [] s ts 0 n n t h is (omega arith));
   replies = λ o. d.replies o ∙ rw (each-replies 0 ts s o) (chosen (λ u v. replies.replies u v o) (refused ∷ []) s ts 0 n n t h is (omega arith));
   reply = λ es. d.reply es ∙ rw (each-reply 0 ts s es) (chosen (λ u v. reply u v es) (Some refused) s ts 0 n n t h is (omega arith));
-  places = ap positions (d.plans ∙ rw (each-plan 0 ts s) (chosen (λ u v. normal.plan u v) (planned.Reply Error) s ts 0 n n t h is (omega arith)));
+  places = ap positions {y = normal.plan t (under n s)} (d.plans ∙ rw (each-plan 0 ts s) (chosen (λ u v. normal.plan u v) (planned.Reply Error) s ts 0 n n t h is (omega arith)));
 }
 
 pub does_error : (n : ℕ) (u : Tree) (ts : List Tree) (s : Situation) → Chooses n u (trees_of ts) s → length ts ≤ n → Does u s error s
@@ -90,7 +90,7 @@ does_error n u ts s d h = record {
   sends = λ c o. d.sends c o ∙ rw (each-launched 0 ts s c o) (unchosen (λ u v. launched u v c o) [] s ts 0 n h);
   replies = λ o. d.replies o ∙ rw (each-replies 0 ts s o) (unchosen (λ u v. replies.replies u v o) (refused ∷ []) s ts 0 n h);
   reply = λ es. d.reply es ∙ rw (each-reply 0 ts s es) (unchosen (λ u v. reply u v es) (Some refused) s ts 0 n h);
-  places = ap positions (d.plans ∙ rw (each-plan 0 ts s) (unchosen (λ u v. normal.plan u v) (planned.Reply Error) s ts 0 n h));
+  places = ap positions {y = planned.Reply Error} (d.plans ∙ rw (each-plan 0 ts s) (unchosen (λ u v. normal.plan u v) (planned.Reply Error) s ts 0 n h));
 }
 
 -- ---- policies, with more routes after them

@@ -12,8 +12,8 @@ loop-child-preserved c = λ s.
     let cs = c.args.children.now in
     let i = c.loop-child.child-index in
     let p = c.child-item.result in
-    worst_on cs i p c.loop-child.worst c.worse.result c.reply_at_once.result _ c.loop-child-test.true c.child-item.is
-    (c.reply_at_once.ensures (reflects_next nothing cs i p c.loop-child-test.true c.child-item.is s)) c.worse.ensures (c.loop-child.invariant s)
+    worst_on cs i p c.loop-child.worst c.worse-worst.result c.reply_at_once.result _ c.loop-child-test.true c.child-item.is
+    (c.reply_at_once.ensures (reflects_next nothing cs i p c.loop-child-test.true c.child-item.is s)) c.worse-worst.ensures (c.loop-child.invariant s)
 
 pub returns : goal.returns
 returns c = λ s.

@@ -1,5 +1,6 @@
 use Rattle.std.proofs.Common.{rules, arith, true, false, ◌≡◌, ◌<◌, ◌≤◌, ◌+◌, [], ◌∷◌, ◌++◌, length, map, sym, ap, ◌∙◌, refl, length-append, slice_index}
 use Rattle.std.proofs.lemmas.List.{take_all}
+use Rattle.std.proofs.lemmas.Result.{IfOk-weaker}
 use Rattle.mcv_route.specs.Children.{is_within, joined}
 use Rattle.mcv_base.specs.declared.reply.FixedReply.TheVariants.{ErrorRoute}
 use Rattle.mcv_plan.specs.Built.{BuiltEach, IsBuilt}
@@ -30,3 +31,39 @@ build_each-returns-clause-entries t c = rw (take_all c.loop-plan.plan-index c.ar
 
 pub build_each-returns-clause-courses : goal.build_each-returns-clause-courses
 build_each-returns-clause-courses t c = rw (take_all c.loop-plan.plan-index c.args.plans.now c.loop-plan-test.false) at c.loop-plan.invariant.courses
+
+-- ---- one part
+
+pub build-returns-in_ok-push-in-Send-clause-course : goal.build-returns-in_ok-push-in-Send-clause-course
+build-returns-in_ok-push-in-Send-clause-course t c =
+    rw c.in-Send.is (sent_at (slice_index c.args.choice.now) c.in-Send.leg c.len-entry.result (length c.args.entries.now.items) (search rules))
+
+pub build-returns-in-Reply-clause-course : goal.build-returns-in-Reply-clause-course
+build-returns-in-Reply-clause-course t c =
+    rw (c.in-Reply.is, view-Reply c.in-Reply.reply) (built_reply (slice_index c.args.choice.now) c.in-Reply.reply (length c.args.entries.now.items))
+
+pub build-returns-then-is_within-clause-course : goal.build-returns-then-is_within-clause-course
+build-returns-then-is_within-clause-course t c =
+    let m = c.in-Shadowed in
+    let choice = slice_index c.args.choice.now in
+    let from = length c.args.entries.now.items in
+    let on : is_within (record { first = m.first; last = m.last }) (choice m.symbol) ≡ true = rw c.index.ensures at (sym c.is_within.ensures ∙ c.if-is_within.true) in
+    IfOk-weaker c.build.result (λ s. IsBuilt choice m.target.value from (view s)) (λ s. IsBuilt choice c.args.plan.now from (view s))
+    (λ s built. rw m.is (built_shadow choice m.symbol m.first m.last from m.target (view s) on built)) (rw c.deref-then-is_within.ensures at c.build.ensures.course)
+
+pub build-returns-else-is_within-clause-course : goal.build-returns-else-is_within-clause-course
+build-returns-else-is_within-clause-course t c =
+    let m = c.in-Shadowed in
+    let choice = slice_index c.args.choice.now in
+    let off : is_within (record { first = m.first; last = m.last }) (choice m.symbol) ≡ false = rw c.index.ensures at (sym c.is_within.ensures ∙ c.if-is_within.false) in
+    rw m.is (silent_at choice m.symbol m.first m.last (length c.args.entries.now.items) m.target off)
+
+pub build_on_hit-returns-clause-course : goal.build_on_hit-returns-clause-course
+build_on_hit-returns-clause-course t c = λ p q e f.
+    let choice = slice_index c.args.choice.now in
+    let from = length c.args.entries.now.items in
+    let end_is : c.len-end.result ≡ length c.build.new.entries.items = search rules in
+    let count : c.len-end.result ≡ from + length (legs_of choice c.args.first.now) = end_is ∙ ap length c.in_ok-first.ensures.entries ∙ length-append c.args.entries.now.items (legs_of choice c.args.first.now) in
+    let behind : IsBuilt choice c.args.second.now c.len-end.result (view c.in_ok-second.second) = rw end_is c.in_ok-second.ensures.course in
+    rw (view-OnHit c.in_ok-new.field-0 c.len-end.result c.in_ok-new-2.field-0, c.in_ok-new.ensures.ok, c.in_ok-new-2.ensures.ok)
+    (built_on_hit choice p q from c.len-end.result (view c.in_ok-first.first) (view c.in_ok-second.second) (rw e c.in_ok-first.ensures.course) (rw e count) (rw f behind))

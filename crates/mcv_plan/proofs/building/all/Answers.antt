@@ -18,5 +18,5 @@ returns c = λ choice v from h.
     let ss = map view courses.items in
     let some = some_courses courses _ c.is_empty.ensures c.if-is_empty.false in
     let ready = each_ready choice v.items from es ss h in
-    rw (view-All c.args.children.ends courses c.waiting_at_once.result c.worst_at_once.result)
-    (built_all choice v from es ss c.waiting_at_once.result c.worst_at_once.result some h ((rw c.deref.ensures.value at c.waiting_at_once.ensures) ready) ((rw c.deref-2.ensures.value at c.worst_at_once.ensures) ready))
+    rw (view-All c.args.children.ends courses c.waiting_at_once-waiting.result c.worst_at_once-worst.result)
+    (built_all choice v from es ss c.waiting_at_once-waiting.result c.worst_at_once-worst.result some h ((rw c.deref.ensures.value at c.waiting_at_once-waiting.ensures) ready) ((rw c.deref-2.ensures.value at c.worst_at_once-worst.ensures) ready))

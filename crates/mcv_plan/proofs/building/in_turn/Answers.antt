@@ -18,5 +18,5 @@ returns c = λ choice v from h.
     let ss = map view courses.items in
     let some = some_courses courses _ c.is_empty.ensures c.if-is_empty.false in
     let ready = each_ready choice v.items from es ss h in
-    rw (view-InTurn c.args.after c.args.children.ends courses c.search_at_once.result.1)
-    (built_in_turn choice c.args.after v from es ss c.search_at_once.result.1 some h ((rw c.deref.ensures.value at c.search_at_once.ensures.steps) ready))
+    rw (view-InTurn c.args.after c.args.children.ends courses c.search_at_once-current.result.1)
+    (built_in_turn choice c.args.after v from es ss c.search_at_once-current.result.1 some h ((rw c.deref.ensures.value at c.search_at_once-current.ensures.steps) ready))

@@ -55,9 +55,9 @@ build_policies-loop-policy-preserved t c =
     c.loop-policy.built.items _ ((out-NamedPolicy c.policy-item.result).op) (named_of (out-NamedPolicy c.policy-item.result).route) (view c.in_ok-route.route) c.loop-policy-test.true c.policy-item.is
     (policy_of-out c.policy-item.result) (search (rules, made.the_lemmas)) c.loop-policy.invariant c.in_ok-route.ensures)
 
-pub build_last-build_boxed-requires : goal.build_last-build_boxed-requires
-build_last-build_boxed-requires t c =
-    (search (rules, asked.the_lemmas), (c.requires.filled, sound-last (map list_view c.args.lists.now) c.args.last.now c.in-Some.route c.in-Some.is c.requires.sound))
+pub build_last-build_route-requires : goal.build_last-build_route-requires
+build_last-build_route-requires t c =
+    (search (rules, asked.the_lemmas), (c.requires.filled, rw c.deref.ensures (sound-last (map list_view c.args.lists.now) c.args.last.now c.in-Some.route c.in-Some.is c.requires.sound)))
 
 pub build_boxed-build_route-requires : goal.build_boxed-build_route-requires
 build_boxed-build_route-requires t c = (search (rules, asked.the_lemmas), (c.requires.filled, rw c.deref.ensures c.requires.sound))
