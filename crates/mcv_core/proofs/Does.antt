@@ -14,7 +14,7 @@ use Rattle.mcv_events.specs.Events.{in_state}
 use Rattle.mcv_events.proofs.EventsAreMoves.{answered_moves, performed_moves, refused_moves, spooled_moves, states_are_no_moves, states_keep_cores}
 use Rattle.mcv_core.specs.declared.fault.CoreFault.{CoreFault}
 use Rattle.mcv_core.specs.declared.step.Step.{Step}
-use Rattle.mcv_core.specs.CoreView.{CoreView, Does, Effect, HasEffect, answer_at, answer_in, answered, at_row, change_move, does, flies, held, is_record, landed, loss_at, loss_in, refused, refuses, refusing_at, refusing_in, replayed_in, sent_in, spooling_at, spooling_in, stored, with_mark}
+use Rattle.mcv_core.specs.CoreView.{CoreView, Does, Effect, HasEffect, answer_at, answer_in, answered, at_row, change_move, does, flies, held, is_record, landed, loss_at, loss_in, refused, refuses, refusing_at, refusing_in, replayed_in, sent_in, spooling_at, spooling_in, with_mark}
 
 -- the effect is the move that it names, where the reply was this
 abbrev IsMove : CoreView → ℕ → ReplyValue → Effect → Type 0

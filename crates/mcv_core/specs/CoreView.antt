@@ -114,8 +114,8 @@ replayed_in v n failed s =
     cond failed (does (step_to places.Spooled changes.Nothing) (landed v s)) (does (step_to places.Performed changes.Performed) (record (landed v s) { rows = with_leg_row v.rows n None }))
 
 -- a held leg is in the spool, and its call records NOT_FOUND, if it has no outcome
-abbrev pub stored : CoreView → ℕ → LegRow → Effect
-stored v n s = does (step_to places.Spooled changes.Spooled) (record v { rows = spooled_rows v.routes v.rows n s })
+abbrev pub stores : CoreView → ℕ → LegRow → Effect
+stores v n s = does (step_to places.Spooled changes.Spooled) (record v { rows = spooled_rows v.routes v.rows n s })
 
 -- the spool refused a held leg: its call records an error, once
 abbrev pub refused : CoreView → LegRow → Effect
@@ -132,6 +132,16 @@ at_row f (Some s) = f s
 module _ (v : CoreView) (n : ℕ) where
   abbrev pub flies : LegRow → Bool
   flies s = names (v.flights s.launch.server.0) n
+
+  -- a leg in flight has this reply
+  abbrev pub landing_in : ReplyValue → LegRow → rows.State → Effect
+  landing_in y s rows.Waiting = refuses NoSuchLeg
+  landing_in y s rows.Sent = sent_in v n y s
+  landing_in y s rows.Held = refuses NoSuchLeg
+  landing_in y s rows.InSpool = replayed_in v n (is_error_reply y) s
+
+  abbrev pub landing_at : ReplyValue → Effect
+  landing_at y = at_row (λ s. landing_in y s s.state) (v.rows.legs n)
 
   -- a leg that is sent or in replay was answered
   abbrev pub answer_in : ReplyValue → LegRow → rows.State → Effect
@@ -151,7 +161,7 @@ module _ (v : CoreView) (n : ℕ) where
   abbrev pub spooling_in : Bool → LegRow → rows.State → Effect
   spooling_in its s rows.Waiting = refuses NoSuchLeg
   spooling_in its s rows.Sent = refuses NoSuchLeg
-  spooling_in its s rows.Held = cond its (stored v n s) (refuses NoSuchLeg)
+  spooling_in its s rows.Held = cond its (stores v n s) (refuses NoSuchLeg)
   spooling_in its s rows.InSpool = refuses NoSuchLeg
 
   abbrev pub refusing_in : LegRow → rows.State → Effect

@@ -48,7 +48,7 @@ settled_to to.Refused o = option_map (put_state states.Refused) o
 abbrev pub row_to : Settling → LegRow → Option LegRow
 row_to to.Gone s = None
 row_to to.InSpool s = Some (in_state s rows.InSpool)
-row_to to.Refused s = Some s
+row_to to.Refused s = Some (in_state s rows.Held)
 
 -- what is in flight to each server then
 abbrev pub flights_to : Settling → (ℕ → Option ℕ) → ℕ → ℕ → Option ℕ

@@ -4,7 +4,7 @@ ghost use Rattle.std.specs.Prelude.{◌≡◌, true, false, Some, IfOk, IfErr, o
 ghost use Rattle.mcv_base.specs.Reply.{fixed_value, part_value};
 ghost use Rattle.mcv_queues.specs.Legs.{is_flight, is_in_flight};
 ghost use Rattle.mcv_queues.specs.Queues.{legs};
-ghost use Rattle.mcv_core.specs.CoreView.{Does, HasDone, HasEffect, answer_at, at_row, change_move, held, loss_at, replayed_in, sent_in};
+ghost use Rattle.mcv_core.specs.CoreView.{Does, HasDone, HasEffect, answer_at, at_row, change_move, held, landing_at, loss_at, replayed_in, sent_in};
 ghost use Rattle.mcv_core.specs.Facts.{facts_of as facts_seen};
 ghost use Rattle.mcv_core.specs.View.{core_view};
 

@@ -3,7 +3,7 @@
 use crate::begin::Asked;
 use crate::dispatcher::Dispatcher;
 use crate::fault::CoreFault;
-use mcv_base::{CallId, Request, hashed_part, split_key};
+use mcv_base::{CallId, Op, Prefix, Request, Rest, hashed_part, split_key};
 use mcv_pools::{KeyHash, choose};
 use std::alloc::Global;
 use std::sync::Arc;
@@ -24,28 +24,41 @@ impl<H: KeyHash + Drop> Core<H> {
         request: Arc<Request>,
         key: usize,
     ) -> Result<CallId, CoreFault> {
-        let Request::Ask(ask) = &*request else {
-            return Err(CoreFault::BadKey);
-        };
-        let op = ask.op;
-        let Some(word) = ask.keys.get(key) else {
-            return Err(CoreFault::BadKey);
-        };
-        let Ok((prefix, rest)) = split_key(word.as_slice()) else {
-            return Err(CoreFault::BadKey);
-        };
+        let asked = self.asked(alloc, request, key)?;
+        self.dispatcher.begin(alloc, asked)
+    }
+
+    /// What a call for this key asks for.
+    fn asked(
+        &self,
+        alloc: Global,
+        request: Arc<Request>,
+        key: usize,
+    ) -> Result<Asked, CoreFault> {
+        let (op, prefix, rest) = key_of(&request, key)?;
         let routes = self.dispatcher.accepted.routes();
         let route = routes.route_of(&prefix).ok_or(CoreFault::UnknownPrefix)?;
         let choice = choose(alloc, &self.hash, routes.symbols(), hashed_part(&rest))?;
-        self.dispatcher.begin(
-            alloc,
-            Asked {
-                request,
-                op,
-                route,
-                rest,
-                choice,
-            },
-        )
+        Ok(Asked {
+            request,
+            op,
+            route,
+            rest,
+            choice,
+        })
+    }
+}
+
+/// The operation of a request, and the prefix and the rest of one of its keys.
+fn key_of(request: &Request, key: usize) -> Result<(Op, Prefix, Rest), CoreFault> {
+    let Request::Ask(ask) = request else {
+        return Err(CoreFault::BadKey);
+    };
+    let Some(word) = ask.keys.get(key) else {
+        return Err(CoreFault::BadKey);
+    };
+    match split_key(word.as_slice()) {
+        Ok((prefix, rest)) => Ok((ask.op, prefix, rest)),
+        Err(_) => Err(CoreFault::BadKey),
     }
 }
