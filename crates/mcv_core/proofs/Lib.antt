@@ -7,4 +7,5 @@ pub mod SpooledLegs
 pub mod States
 pub mod Settlements
 pub mod LegViews
+pub mod Settled
 pub mod Does

@@ -96,14 +96,14 @@ module _ (r : RoutesValue) (calls : ℕ → Option Call) (legs : ℕ → Option 
   its : (slice_get (entries_of c) entry ≡ Some (launch_of l.content)) × ((call_row c).legs entry ≡ Some n)
   its = i.core.own n (row_by state_of l) k (call_row c) (here state_of) own row_there
 
-  launch_is : launch_at (entries_of c) entry ≡ launch_of l.content
+  pub launch_is : launch_at (entries_of c) entry ≡ launch_of l.content
   launch_is = at_launch (entries_of c) entry (launch_of l.content) its.0
 
   pub unheard : outcomes (history_of (call_of c).recorded) (launch_at (entries_of c) entry).position ≡ None
   unheard = ap (λ v. outcomes (history_of (call_of c).recorded) v.position) launch_is ∙ none_is (outcomes (history_of (call_of c).recorded) (launch_of l.content).position) awaited
 
   -- the rows before the reply is recorded
-  w1_is : (f : State → rows.State) → all_rows f calls legs1 since next_call next_leg ≡ with_leg_row (all_rows f calls legs since next_call next_leg) n (option_map (row_by f) o)
+  pub w1_is : (f : State → rows.State) → all_rows f calls legs1 since next_call next_leg ≡ with_leg_row (all_rows f calls legs since next_call next_leg) n (option_map (row_by f) o)
   w1_is f = rows_put f calls legs legs1 since next_call next_leg n o legs1_is
 
   core1 : (f : State → rows.State) → IsView f → IsCore r (all_rows f calls legs since next_call next_leg) → IsCore r (all_rows f calls legs1 since next_call next_leg)
@@ -190,7 +190,7 @@ module _ (r : RoutesValue) (calls : ℕ → Option Call) (legs : ℕ → Option 
         ap call_rows calls2_is ∙ call_put calls k (cond result.ended None (Some d))
         ∙ ap (put (call_rows calls) k) (cond_some result.ended (has_ended r (with_reply (call_of c) p x)) d (call_row d) (h.ended ∙ ap (has_ended r) call_is) refl)
 
-    rows2_is : (f : State → rows.State) → IsView f → all_rows f calls2 legs2 since next_call (next_leg + result.launched) ≡ recorded_rows r (all_rows f calls legs1 since next_call next_leg) k (call_row c) p x
+    pub rows2_is : (f : State → rows.State) → IsView f → all_rows f calls2 legs2 since next_call (next_leg + result.launched) ≡ recorded_rows r (all_rows f calls legs1 since next_call next_leg) k (call_row c) p x
     rows2_is f view = λ j. record {
       calls = (calls2_rows ∙ ap (λ v. put (call_rows calls) k (cond (has_ended r (with_reply (call_of c) p x)) None (Some v))) h.row) j;
       legs = h.rows f view.waits j;
@@ -292,7 +292,7 @@ module _ (r : RoutesValue) (calls : ℕ → Option Call) (legs : ℕ → Option 
         by_cases true = omega arith
         by_cases false = let e = left in omega (arith, e)
 
-    running2_is : sum_below one (call_rows calls2) next_call + cond result.ended 1 0 ≡ running
+    pub running2_is : sum_below one (call_rows calls2) next_call + cond result.ended 1 0 ≡ running
     running2_is =
         let rows2 : call_rows calls2 ≡ put (call_rows calls) k (option_map call_row (cond result.ended None (Some d))) = ap call_rows calls2_is ∙ call_put calls k (cond result.ended None (Some d)) in
         let p = sum_put one (call_rows calls) k (option_map call_row (cond result.ended None (Some d))) next_call k_below in

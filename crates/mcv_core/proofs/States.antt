@@ -1,5 +1,5 @@
 -- A leg's state changes, and its call records nothing.
-use Rattle.std.proofs.Common.{◌≡◌, cond, inl, inr, ℕ, suc, ◌+◌, ◌<◌, ◌≤◌, Bool, true, false, nat_eq, Option, Some, None, option_map, refl, sym, ap, ◌∙◌, subst, arith, true≢false}
+use Rattle.std.proofs.Common.{◌≡◌, cond, inl, inr, ℕ, zero, suc, ◌+◌, ◌<◌, ◌≤◌, Bool, true, false, nat_eq, Option, Some, None, option_map, refl, sym, ap, ◌∙◌, subst, arith, true≢false}
 use Rattle.std.specs.Prelude.{slice_get}
 use Rattle.std.proofs.Math.Path.{fun_ext}
 use Rattle.std.proofs.lemmas.Bool.{cases_eq, cases_lt}
@@ -103,6 +103,16 @@ module _ (r : RoutesValue) (calls : ℕ → Option Call) (legs : ℕ → Option 
 
 -- ---- a leg of the spool goes
 
+at_most_one : (o : Option LegRow) → spooled_one o ≤ 1
+at_most_one None = omega arith
+at_most_one (Some s) = by_state s.state
+  where
+    by_state : (t : rows.State) → spooled_in t ≤ 1
+    by_state rows.Waiting = omega arith
+    by_state rows.Sent = omega arith
+    by_state rows.Held = omega arith
+    by_state rows.InSpool = omega arith
+
 module _ (r : RoutesValue) (calls : ℕ → Option Call) (legs : ℕ → Option (Leg Errand)) (since : Option ℕ) (moment next_call next_leg reserved queued spooled running room servers : ℕ)
     (i : IsSound r calls legs since moment next_call next_leg reserved queued spooled running room servers) (n : ℕ) (l : Leg Errand) (at : legs n ≡ Some l) where
   here : (f : State → rows.State) → rows_by f legs n ≡ Some (row_by f l)
@@ -133,6 +143,20 @@ module _ (r : RoutesValue) (calls : ℕ → Option Call) (legs : ℕ → Option 
 
   pub one_queued : count_in (state_of l.state) ≡ 1 → 1 ≤ queued
   one_queued e = let p = queued_put in omega (arith, p, e)
+
+  more_at_most : (f : ℕ → Option LegRow) (m : ℕ) → sum_below spooled_one f m ≤ m
+  more_at_most f zero = omega arith
+  more_at_most f (suc m) = let q = more_at_most f m in let one = at_most_one (f m) in omega (arith, q, one)
+
+  -- one more can be in the spool
+  pub more_spooled : spooled_in (state_of l.state) ≡ 0 → spooled + 1 ≤ next_leg
+  more_spooled none =
+      let in_spool : LegRow = in_state (row_by state_of l) rows.InSpool in
+      let p = sum_put spooled_one (rows_by state_of legs) n (Some in_spool) next_leg below in
+      let old : spooled_one (rows_by state_of legs n) ≡ spooled_in (state_of l.state) = ap spooled_one (here state_of) in
+      let most = more_at_most (put (rows_by state_of legs) n (Some in_spool)) next_leg in
+      let q = i.spooled_is in
+      omega (arith, p, old, none, most, q)
 
   pub gone : state_of l.state ≡ rows.InSpool → (legs2 : ℕ → Option (Leg Errand)) → legs2 ≡ put legs n None → (spooled2 : ℕ) → spooled2 + 1 ≡ spooled → (room2 servers2 : ℕ) → room ≤ room2 → servers2 ≡ servers
       → IsSound r calls legs2 since moment next_call next_leg reserved queued spooled2 running room2 servers2
