@@ -9,3 +9,4 @@ pub mod Settlements
 pub mod LegViews
 pub mod Settled
 pub mod Does
+pub mod Resting

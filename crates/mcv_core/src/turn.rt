@@ -1,11 +1,11 @@
 //! The clock, chapters and marks.
 
-ghost use Rattle.std.specs.Prelude.{◌≡◌, ◌+◌, ◌<◌, ◌^◌, Some, None, IfOk, IfErr, OnOk, OnErr, length, option_map};
-ghost use Rattle.mcv_queues.specs.Marks.{checked_mark, no_mark, put_mark};
-ghost use Rattle.mcv_route.specs.Eras.{breaks_of, since_at};
-ghost use Rattle.mcv_core.specs.CoreView.{Does, IsQuiet, Unmoved};
-ghost use Rattle.mcv_core.specs.Turning.{CanTurn, era_move, in_era};
-ghost use Rattle.mcv_core.specs.View.{core_view, since_of};
+ghost use Rattle.std.specs.Prelude.{◌≡◌, ◌+◌, ◌<◌, ◌^◌, ◌↔◌, Some, None, IfOk, IfErr, IfSome, OnOk, OnErr, IsTrue, length, option_map};
+ghost use Rattle.mcv_queues.specs.Marks.{checked_mark, no_mark};
+ghost use Rattle.mcv_route.specs.Eras.{breaks_of, era_at, since_at};
+ghost use Rattle.mcv_core.specs.CoreView.{Does, IsQuiet, Unmoved, with_mark};
+ghost use Rattle.mcv_core.specs.Turning.{CanTurn, IsAtRest, era_move, in_era, spooled_legs};
+ghost use Rattle.mcv_core.specs.View.{core_view};
 
 use crate::dispatcher::Dispatcher;
 use crate::fault::CoreFault;
@@ -15,6 +15,20 @@ use mcv_base::{Moment, ServerId};
 #[derive(Clone, Copy, Debug, PartialEq, Eq)]
 pub struct Era {
     pub since: Option<Moment>,
+}
+
+impl Era {
+    /// The era that began at the second break, where that isn't the first one.
+    fn after(old: Option<Moment>, since: Option<Moment>) -> Option<Era>
+        ensures changed { IfSome result (λ era. era.since ≡ since) }
+        ensures same { result ≡ None → since ≡ old }
+    {
+        if since == old {
+            None
+        } else {
+            Some(Era { since })
+        }
+    }
 }
 
 impl Dispatcher {
@@ -29,25 +43,29 @@ impl Dispatcher {
             return Err(CoreFault::ClockBack);
         }
         let since = self.accepted.routes().since(moment);
-        let era = if since == self.since {
-            None
-        } else {
-            Some(Era { since })
-        };
+        let era = Era::after(self.since, since);
         self.moment = moment;
         self.since = since;
         Ok(era)
     }
 
-    /// A new chapter begins, where no call runs, no leg is queued and none is in replay.
+    /// Whether no call runs, no leg is queued and none is in replay.
+    fn is_at_rest(&self) -> bool
+        ensures { IsTrue result ↔ IsAtRest (core_view self.now) }
+    {
+        self.counts.running == 0 && self.counts.queued == 0 && self.queues.in_replay().is_none()
+    }
+
+    /// A new chapter begins, where no call runs, no leg is queued and none is in replay. It has an entry for each leg in
+    /// the spool.
     pub fn turn(&mut self) -> Result<(), CoreFault>
-        ensures view { OnOk result (core_view self.new ≡ record (core_view self.old) { chapter = (core_view self.old).chapter + 1; entries = (core_view self.new).entries }) }
+        ensures view { OnOk result (core_view self.new ≡ record (core_view self.old) { chapter = (core_view self.old).chapter + 1; entries = spooled_legs (core_view self.old).rows }) }
         ensures quiet { OnOk result (IsQuiet (core_view self.new)) }
         ensures does { OnOk result (Unmoved (core_view self.old) (core_view self.new)) }
         ensures busy { IfErr result (λ fault. (fault ≡ CoreFault.Busy) × (CanTurn (core_view self.old) → ⊥)) }
         ensures err { OnErr result (core_view self.new ≡ core_view self.old) }
     {
-        if self.counts.running > 0 || self.counts.queued > 0 || self.queues.in_replay().is_some() {
+        if !self.is_at_rest() {
             return Err(CoreFault::Busy);
         }
         let Some(chapter) = self.chapter.checked_add(1) else {
@@ -60,14 +78,14 @@ impl Dispatcher {
 
     /// Marks the server where three or more failures came in a row.
     pub fn mark(&mut self, server: ServerId)
-        ensures { core_view self.new ≡ record (core_view self.old) { marks = put_mark (length (core_view self.old).routes.servers) (core_view self.old).marks server.0 checked_mark } }
+        ensures { core_view self.new ≡ with_mark (core_view self.old) server.0 checked_mark }
     {
         self.marks.mark(server);
     }
 
     /// Takes the server's mark away, and its failures with it.
     pub fn unmark(&mut self, server: ServerId)
-        ensures { core_view self.new ≡ record (core_view self.old) { marks = put_mark (length (core_view self.old).routes.servers) (core_view self.old).marks server.0 (λ m. no_mark) } }
+        ensures { core_view self.new ≡ with_mark (core_view self.old) server.0 (λ m. no_mark) }
     {
         self.marks.unmark(server);
     }
@@ -80,7 +98,9 @@ impl Dispatcher {
     }
 
     /// The number of the era.
-    pub fn era(&self) -> usize {
+    pub fn era(&self) -> usize
+        ensures { result ≡ era_at (breaks_of (core_view self.now).routes) (core_view self.now).moment }
+    {
         self.accepted.routes().era_of(self.moment)
     }
 
