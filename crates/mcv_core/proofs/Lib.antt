@@ -10,3 +10,4 @@ pub mod LegViews
 pub mod Settled
 pub mod Does
 pub mod Resting
+pub mod Taken

@@ -63,14 +63,14 @@ as_it_is = record { waits = refl; shuts = λ t a b. a }
 pub as_awaited : IsView awaiting_state
 as_awaited = record { waits = refl; shuts = λ t a b. b }
 
-cond_some : (b b2 : Bool) (d : Call) (row : CallRow) → b ≡ b2 → call_row d ≡ row → option_map call_row (cond b None (Some d)) ≡ cond b2 None (Some row)
+pub cond_some : (b b2 : Bool) (d : Call) (row : CallRow) → b ≡ b2 → call_row d ≡ row → option_map call_row (cond b None (Some d)) ≡ cond b2 None (Some row)
 cond_some b b2 d row e f = ap (λ v. option_map call_row (cond v None (Some d))) e ∙ by_cases b2
   where
     by_cases : (v : Bool) → option_map call_row (cond v None (Some d)) ≡ cond v None (Some row)
     by_cases true = refl
     by_cases false = ap (λ v. Some v) f
 
-call_put : (calls : ℕ → Option Call) (k : ℕ) (o : Option Call) → call_rows (put calls k o) ≡ put (call_rows calls) k (option_map call_row o)
+pub call_put : (calls : ℕ → Option Call) (k : ℕ) (o : Option Call) → call_rows (put calls k o) ≡ put (call_rows calls) k (option_map call_row o)
 call_put calls k o = fun_ext (λ m. by_cases (nat_eq k m) m)
   where
     by_cases : (b : Bool) (m : ℕ) → option_map call_row (cond b o (calls m)) ≡ cond b (option_map call_row o) (option_map call_row (calls m))

@@ -11,4 +11,5 @@ pub mod CoreView
 pub mod Settling
 pub mod View
 pub mod Turning
+pub mod Taking
 pub mod Beginning
