@@ -2,6 +2,7 @@
 use Rattle.std.proofs.Common.{◌≡◌, ◌<◌, ◌≤◌, ◌+◌, cond, ℕ, zero, suc, Bool, true, false, nat_eq, List, [], ◌∷◌, ◌++◌, length, map, Option, Some, None, option_map, refl, sym, ap, ap₂, ◌∙◌, subst, arith}
 use Rattle.std.specs.Prelude.{◌==◌}
 use Rattle.std.specs.List.{AllPairs, filter}
+use Rattle.std.proofs.lemmas.List.{length-map}
 use Rattle.mcv_base.specs.declared.operation.Op.{Op}
 use Rattle.mcv_base.specs.declared.reply.Outcome.{Outcome}
 use Rattle.mcv_base.specs.declared.reply.Outcome.TheVariants.{Good, Soft, Error}
@@ -38,6 +39,7 @@ use Rattle.mcv_rules.specs.Places.{is_plain, kind_of, places_of}
 use Rattle.mcv_rules.proofs.Rising.{IsPart, both-parts, no-part, pairs, plan_rises, whole-part}
 use Rattle.mcv_plan.specs.Built as sublists
 use Rattle.mcv_plan.specs.Built.{IsBuilt, IsSublist}
+use Rattle.mcv_plan.specs.Counts.{legs_in}
 use Rattle.mcv_plan.specs.Entries.{legs_of, numbers}
 use Rattle.mcv_plan.specs.Evaluation.{leg_at}
 use Rattle.mcv_plan.specs.Laws.{Evaluates, IsLaidOut, IsReply, has_position, history_at, position_at}
@@ -134,6 +136,11 @@ sublist_part ps qs sublists.done = no-part []
 sublist_part ps qs (sublists.kept p x y f) = both-parts (p ∷ []) x (p ∷ []) y (whole-part (p ∷ [])) (sublist_part x y f)
 sublist_part ps qs (sublists.left_out q x y f) = both-parts [] x (q ∷ []) y (no-part (q ∷ [])) (sublist_part x y f)
 
+sublist_count : (ps qs : List (List ℕ)) → IsSublist ps qs → length ps ≤ length qs
+sublist_count ps qs sublists.done = omega arith
+sublist_count ps qs (sublists.kept p x y f) = omega (arith, sublist_count x y f)
+sublist_count ps qs (sublists.left_out q x y f) = omega (arith, sublist_count x y f)
+
 -- ---- the law
 
 module _ (p : Plan) (t : Tree) (situation : Situation) (c : Choice) (s : State) (serves : Serves p t situation) (rise : AllPairs StandsBefore (map (λ l. l.position) (legs_of c p))) (course : IsCourseOf c p s) where
@@ -203,17 +210,19 @@ module _ (p : Plan) (t : Tree) (situation : Situation) (c : Choice) (s : State) 
     rising = rise;
   }
 
-  evaluates : Evaluates t situation c ls s
-  evaluates = record {
+  evaluates : length ls ≤ legs_in t situation → Evaluates t situation c ls s
+  evaluates few = record {
     laid = laid_out;
     numbered = course.numbered;
     launches = λ past legal. (after past legal).launches;
     replies = λ past legal. (after past legal).replies;
     once = λ past. launched_once (own_of past) s zero (length ls) course.numbered;
+    bound = few;
   }
 
 pub courses_evaluate : (p : Plan) (t : Tree) (situation : Situation) (c : Choice) (s : State) → Serves p t situation → IsBuilt c p zero s → Evaluates t situation c (legs_of c p) (plan s)
 courses_evaluate p t situation c s serves built =
     let part = sublist_part (map (λ l. l.position) (legs_of c p)) (places_of p) built.places in
     let rise = part.rising (rw serves.places (plan_rises t situation)) in
-    evaluates p t situation c (plan s) serves (pairs (map (λ l. l.position) (legs_of c p)) rise) (course_of c p s serves.kind built)
+    let few : length (legs_of c p) ≤ legs_in t situation = omega (arith, sublist_count (map (λ l. l.position) (legs_of c p)) (places_of p) built.places, length-map (legs_of c p) (λ l. l.position), ap length serves.places) in
+    evaluates p t situation c (plan s) serves (pairs (map (λ l. l.position) (legs_of c p)) rise) (course_of c p s serves.kind built) few

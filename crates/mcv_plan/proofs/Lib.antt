@@ -17,4 +17,5 @@ pub mod LaunchedOnce
 pub mod CoursesBuilt
 pub mod EntriesLaidOut
 pub mod CoursesEvaluate
+pub mod CountsAdd
 pub mod FirstWave

@@ -6,4 +6,5 @@ pub mod Parts
 pub mod Entries
 pub mod Built
 pub mod Evaluation
+pub mod Counts
 pub mod Laws

@@ -9,6 +9,7 @@
 mod answer;
 mod at_once;
 mod building;
+mod counting;
 mod course;
 mod evaluation;
 mod hearing;
@@ -16,4 +17,5 @@ mod opening;
 mod state;
 
 pub use answer::{Answer, Source};
+pub use counting::most_legs;
 pub use state::EvalState;
