@@ -1,0 +1,9 @@
+pub mod Reached
+pub mod State
+pub mod View
+pub mod Past
+pub mod Parts
+pub mod Entries
+pub mod Built
+pub mod Evaluation
+pub mod Laws
