@@ -11,3 +11,4 @@ pub mod Settled
 pub mod Does
 pub mod Resting
 pub mod Taken
+pub mod Begun

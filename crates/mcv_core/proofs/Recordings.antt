@@ -57,7 +57,7 @@ get_last : {A : Type 0} (xs : List A) (y : A) → slice_get (xs ++ y ∷ []) (le
 get_last [] y = refl
 get_last (x ∷ xs) y = get_last xs y
 
-none_of : {A : Type 0} (o : Option A) → is_some o ≡ false → o ≡ None
+pub none_of : {A : Type 0} (o : Option A) → is_some o ≡ false → o ≡ None
 none_of None e = refl
 none_of (Some x) e = absurd (true≢false e)
 
@@ -75,12 +75,12 @@ history_from es all past (h ∷ hs) e = history_from es (recorded_next es all h)
 pub history_is : (es : List Launch) (hs : List Recorded) → history_of (recorded_all es hs) ≡ history_by es (past_of hs)
 history_is es hs = history_from es [] [] hs refl
 
-entry_at : (xs : List Entry) (j : ℕ) → j < length xs → (y : Entry) × (slice_get xs j ≡ Some y)
+pub entry_at : (xs : List Entry) (j : ℕ) → j < length xs → (y : Entry) × (slice_get xs j ≡ Some y)
 entry_at [] j low = absurd (omega (arith, low))
 entry_at (z ∷ xs) zero low = (z, refl)
 entry_at (z ∷ xs) (suc j) low = entry_at xs j (omega (arith, low))
 
-ready_of : (servers : ℕ) (o : Option Errand) (v : ErrandView) → option_map errand_view o ≡ Some v → (launch_in v).server.0 < servers → is_ready servers o ≡ true
+pub ready_of : (servers : ℕ) (o : Option Errand) (v : ErrandView) → option_map errand_view o ≡ Some v → (launch_in v).server.0 < servers → is_ready servers o ≡ true
 ready_of servers None v e low = no_some e
 ready_of servers (Some x) v e low = ap (λ u. nat_lt (launch_in u).server.0 servers) (same_some e) ∙ lt-ltb (launch_in v).server.0 servers low
 
@@ -92,7 +92,7 @@ and_second : (b c : Bool) → (b && c) ≡ true → b ≡ true
 and_second true c e = refl
 and_second false c e = e
 
-filter_has : (test : Launch → Bool) (es : List Launch) (j : ℕ) (l : Launch) → slice_get es j ≡ Some l → test l ≡ true → Has (filter test es) (λ m. m ≡ l)
+pub filter_has : (test : Launch → Bool) (es : List Launch) (j : ℕ) (l : Launch) → slice_get es j ≡ Some l → test l ≡ true → Has (filter test es) (λ m. m ≡ l)
 filter_has test [] j l at t = no_some at
 filter_has test (m ∷ es) zero l at t = let q : m ≡ l = same_some at in subst (λ b. Has (cond b (m ∷ filter test es) (filter test es)) (λ k. k ≡ l)) (sym (ap test q ∙ t)) (inl q)
 filter_has test (m ∷ es) (suc j) l at t = by_cases (test m) (filter_has test es j l at t)

@@ -1,22 +1,28 @@
-//! Calls begin, and a core is opened: what takes memory.
+//! Calls begin: what takes memory.
 
-ghost use Rattle.std.specs.Prelude.{◌≡◌, IfOk, IfErr, OnOk, OnErr, slice_index};
+ghost use Rattle.std.specs.Arc.{arc_value};
+ghost use Rattle.std.specs.Prelude.{◌≡◌, ◌+◌, ◌*◌, ◌<◌, ◌≤◌, ◌^◌, ◌⊎◌, IfOk, IfErr, OnOk, OnErr, slice_index};
+ghost use Rattle.mcv_queues.specs.Queues.{room as leg_room};
 ghost use Rattle.mcv_route.specs.Outcomes.{IsChoice};
 ghost use Rattle.mcv_symbolic.specs.Covered.{sizes_of};
 ghost use Rattle.mcv_world.specs.Moves.{Began};
-ghost use Rattle.mcv_core.specs.Beginning.{AreReadied, HasBegun, IsFull};
+ghost use Rattle.mcv_core.specs.Beginning.{AreReadied, AreTooMany, CanAdd, HasBegun, HasRoom, IsFull, IsNewCall, began_by, has_begun};
+ghost use Rattle.mcv_core.specs.Calls.{room as call_room};
 ghost use Rattle.mcv_core.specs.CoreView.{Moved};
 ghost use Rattle.mcv_core.specs.View.{core_view};
 ghost use Rattle.mcv_core.specs.declared.fault.CoreFault.TheVariants.{Memory as OutOfMemory};
 
 use crate::call::Call;
+use crate::counts::Counts;
 use crate::dispatcher::Dispatcher;
 use crate::errand::{Errand, Laid};
 use crate::fault::CoreFault;
 use crate::launch::Entry;
 use crate::progress::open;
-use mcv_base::{CallId, Op, Request, Rest};
+use mcv_base::{CallId, Moment, Op, Request, Rest};
+use mcv_plan::EvalState;
 use mcv_pools::Choice;
+use mcv_route::Launch;
 use std::alloc::{AllocError, AllocFailed, Global};
 use std::sync::Arc;
 
@@ -54,7 +60,7 @@ pub struct Asked {
 
 /// The entries of a call that begins, each with what its leg takes with it.
 fn readied(alloc: Global, laid: &Arc<Laid>, number: u64) -> Result<Vec<Entry>, AllocError>
-    ensures { IfOk result (λ entries. AreReadied laid.now number entries.items) }
+    ensures { IfOk result (λ entries. AreReadied (arc_value laid.now) number entries.items) }
 {
     let count = laid.launches.len();
     let mut entries = Vec::with_capacity(alloc, count)?;
@@ -73,6 +79,69 @@ fn readied(alloc: Global, laid: &Arc<Laid>, number: u64) -> Result<Vec<Entry>, A
     Ok(entries)
 }
 
+/// The call before anything is launched.
+fn new_call(
+    alloc: Global,
+    number: u64,
+    since: Option<Moment>,
+    asked: Asked,
+    state: EvalState,
+    launches: Vec<Launch>,
+) -> Result<Call, AllocError>
+    ensures { IfOk result (λ c. IsNewCall number since asked state launches.items c) }
+{
+    let Asked {
+        request,
+        op,
+        route,
+        rest,
+        choice,
+    } = asked;
+    let count = launches.len();
+    let laid = Arc::new(
+        alloc,
+        Laid {
+            launches,
+            rest: Arc::new(alloc, rest)?,
+            request: Some(request),
+        },
+    )?;
+    let entries = readied(alloc, &laid, number)?;
+    let recorded = Vec::with_capacity(alloc, count)?;
+    Ok(Call {
+        op,
+        route,
+        since,
+        choice,
+        laid,
+        state,
+        entries,
+        recorded,
+        left: count,
+        taken: false,
+    })
+}
+
+impl Counts {
+    /// The counts after a call of so many entries began, and launched some of them.
+    fn begun(self, count: usize, launched: usize) -> Counts
+        requires within { launched ≤ count }
+        requires small { self.queued + self.reserved + count ≤ 65536 }
+        requires running { self.running + 1 < 2 ^ 64 }
+        ensures reserved { result.reserved + launched ≡ self.reserved + count }
+        ensures queued { result.queued ≡ self.queued + launched }
+        ensures spooled { result.spooled ≡ self.spooled }
+        ensures running { result.running ≡ self.running + 1 }
+    {
+        Counts {
+            reserved: self.reserved + (count - launched),
+            queued: self.queued + launched,
+            spooled: self.spooled,
+            running: self.running + 1,
+        }
+    }
+}
+
 impl Dispatcher {
     /// Begins a call: the legs that it launches at once are queued. It takes all memory of the call first, or changes
     /// nothing that contracts see.
@@ -84,52 +153,30 @@ impl Dispatcher {
         ensures refused { IfErr result (IsFull (core_view self.old) asked) }
         ensures err { OnErr result (core_view self.new ≡ core_view self.old) }
     {
-        let Asked {
-            request,
-            op,
-            route,
-            rest,
-            choice,
-        } = asked;
-        let Some(tree) = self.accepted.routes().route(route) else {
+        let Some(tree) = self.accepted.routes().route(asked.route) else {
             return Err(CoreFault::UnknownPrefix);
         };
-        let (state, launches) = open(alloc, tree, op, &rest, self.since, &choice)?;
-        let count = launches.len();
-        self.has_room_for(count)?;
-        let number = self.next_call;
-        let laid = Arc::new(
+        let (state, launches) = open(
             alloc,
-            Laid {
-                launches,
-                rest: Arc::new(alloc, rest)?,
-                request: Some(request),
-            },
+            tree,
+            asked.op,
+            &asked.rest,
+            self.since,
+            &asked.choice,
         )?;
-        let entries = readied(alloc, &laid, number)?;
-        let recorded = Vec::with_capacity(alloc, count)?;
-        self.calls.reserve()?;
-        self.queues.reserve(self.counts.reserved + count)?;
-        self.add(
-            number,
-            Call {
-                op,
-                route,
-                since: self.since,
-                choice,
-                laid,
-                state,
-                entries,
-                recorded,
-                left: count,
-                taken: false,
-            },
-        );
-        Ok(CallId(number))
+        self.has_room_for(launches.len())?;
+        let call = new_call(alloc, self.next_call, self.since, asked, state, launches)?;
+        self.make_room(call.left)?;
+        Ok(self.add(call))
     }
 
     /// Whether a call with so many entries can begin: `LegsFull` and `ChapterFull` are looked for in this order.
-    fn has_room_for(&self, count: usize) -> Result<(), CoreFault> {
+    fn has_room_for(&self, count: usize) -> Result<(), CoreFault>
+        ensures ok { OnOk result (HasRoom self.now count) }
+        ensures legs { IfErr result (λ fault. (fault ≡ CoreFault.LegsFull) ⊎ (fault ≡ CoreFault.ChapterFull)) }
+        ensures full { IfErr result (λ fault. fault ≡ CoreFault.LegsFull → AreTooMany self.now count) }
+        ensures entries { IfErr result (λ fault. fault ≡ CoreFault.ChapterFull → 1000000 < self.now.entries + (2 + 3 * count)) }
+    {
         if count > LEG_LIMIT - self.counts.queued - self.counts.reserved
             || self.next_call == u64::MAX
             || u64::MAX - self.next_leg <= (self.counts.reserved + count) as u64
@@ -142,16 +189,35 @@ impl Dispatcher {
         Ok(())
     }
 
+    /// Makes room for a call with so many entries.
+    fn make_room(&mut self, count: usize) -> Result<(), CoreFault>
+        requires { self.old.counts.reserved + count < 2 ^ 64 }
+        ensures view { core_view self.new ≡ core_view self.old }
+        ensures same { self.new ≡ record self.old { calls = self.new.calls; queues = self.new.queues } }
+        ensures calls { OnOk result (0 < call_room self.new.calls) }
+        ensures legs { OnOk result (self.old.counts.reserved + count ≤ leg_room self.new.queues) }
+        ensures err { IfErr result (λ fault. fault ≡ OutOfMemory) }
+    {
+        self.calls.reserve()?;
+        self.queues.reserve(self.counts.reserved + count)?;
+        Ok(())
+    }
+
     /// Adds a call for which there is room, and launches what is launched at once.
-    fn add(&mut self, number: u64, mut call: Call) {
+    fn add(&mut self, mut call: Call) -> CallId
+        requires { CanAdd self.old call }
+        ensures number { result.0 ≡ (core_view self.old).rows.next_call }
+        ensures view { core_view self.new ≡ has_begun (core_view self.old) call }
+        ensures moves { Moved (core_view self.old) (core_view self.new) (began_by call) }
+    {
+        let number = self.next_call;
         let count = call.left;
         let launched = call.launch(&mut self.queues, self.next_leg);
         self.calls.add(number, call);
         self.next_call += 1;
         self.next_leg += launched as u64;
-        self.counts.reserved += count - launched;
-        self.counts.queued += launched;
-        self.counts.running += 1;
+        self.counts = self.counts.begun(count, launched);
         self.entries += 2 + 3 * count;
+        CallId(number)
     }
 }

@@ -1,0 +1,292 @@
+-- A call begins.
+use Rattle.std.proofs.Common.{◌≡◌, ◌&&◌, not, cond, inl, inr, ℕ, zero, suc, ◌+◌, ◌*◌, ◌-◌, ◌<◌, ◌≤◌, ◌^◌, Bool, true, false, nat_eq, List, [], ◌∷◌, length, Vec, Option, Some, None, option_map, refl, sym, ap, ◌∙◌, subst, arith, true≢false, vec_capacity}
+use Rattle.std.specs.Arc.{arc_value}
+use Rattle.std.specs.declared.alloc.Global.{Global}
+use Rattle.std.specs.Prelude.{filter, is_some, option_and_then, slice_get}
+use Rattle.std.proofs.Math.Path.{fun_ext}
+use Rattle.std.proofs.lemmas.Bool.{cases_Bool, cases_eq, cases_lt}
+use Rattle.mcv_queues.specs.declared.leg.Leg.{Leg}
+use Rattle.mcv_queues.specs.declared.leg.State.{State}
+use Rattle.mcv_queues.specs.declared.leg.State.TheVariants.{Waiting}
+use Rattle.mcv_queues.specs.declared.queues.Queues.{Queues}
+use Rattle.mcv_queues.specs.Queues.{in_flight, legs, room, servers}
+use Rattle.mcv_route.specs.declared.launch.Launch.{Launch}
+use Rattle.mcv_route.specs.Outcomes.{outcomes}
+use Rattle.mcv_route.specs.Routes.{RoutesValue}
+use Rattle.mcv_route.specs.Verdict.{Has}
+use Rattle.mcv_world.specs.World as world
+use Rattle.mcv_world.specs.World.{put, tree_of, situation_of, choice_of, history_of}
+use Rattle.mcv_world.specs.Moves.{has_no_outcome, is_one, new_call}
+use Rattle.mcv_world.proofs.Numbers.{no_some, put_cases, put_other, put_same, same_some}
+use Rattle.mcv_events.specs.Entries.{IsLaidOut, has_leg_at, is_launched, launches_under}
+use Rattle.mcv_events.specs.Rows as rows
+use Rattle.mcv_events.specs.Rows.{CallRow, IsCore, LegRow, Rows, awaits, is_unanswered, leg_of, numbered, queued_rows, world_of}
+use Rattle.mcv_events.specs.Events.{Moves, began_rows, new_row}
+use Rattle.mcv_events.specs.QueuedLegs.{queued_legs}
+use Rattle.mcv_events.specs.Reservations.{reserved as reserved_by}
+use Rattle.mcv_events.specs.Sums.{sum_below}
+use Rattle.mcv_events.proofs.EventsAreMoves.{began_moves}
+use Rattle.mcv_events.proofs.Numbering
+use Rattle.mcv_events.proofs.QueuedLegs.{beginning_queues}
+use Rattle.mcv_events.proofs.Reservations.{beginning_reserves}
+use Rattle.mcv_events.proofs.Sums.{sum_above}
+use Rattle.mcv_core.specs.declared.call.Call.{Call}
+use Rattle.mcv_core.specs.declared.calls.Calls.{Calls}
+use Rattle.mcv_core.specs.declared.counts.Counts.{Counts}
+use Rattle.mcv_core.specs.declared.dispatcher.Dispatcher.{Dispatcher}
+use Rattle.mcv_core.specs.declared.errand.Errand.{Errand}
+use Rattle.mcv_core.specs.declared.launch.Entry.{Entry}
+use Rattle.mcv_core.specs.Beginning.{CanAdd, IsErrandOf, began_by, has_begun}
+use Rattle.mcv_core.specs.Calls.{calls_at}
+use Rattle.mcv_core.specs.CoreView.{Moved}
+use Rattle.mcv_core.specs.Errands.{errand_view, launch_of}
+use Rattle.mcv_core.specs.Launching.{errand_at, numbers_of, places_of, with_legs, with_numbers, CanLaunch, IsLaunched}
+use Rattle.mcv_core.specs.Rows.{all_rows, awaiting_rows, awaiting_state, call_of, call_row, call_rows, entries_of, errand_for, has_outcome, past_of, recorded_all, row_by, rows_by, rows_of, state_of, IsRunning}
+use Rattle.mcv_core.specs.Sound.{one, spooled_one, IsSound}
+use Rattle.mcv_core.specs.Tracked.{GoesToServers, IsTracked, fresh, is_sent, launch_at, places_from}
+use Rattle.mcv_core.specs.View.{core_view, since_of}
+use Rattle.mcv_core.proofs.Launches.{get_below, launched_addressed}
+use Rattle.mcv_core.proofs.Passing.{count, count_alike, count_at_most, count_both}
+use Rattle.mcv_core.proofs.Places.{AreReady, due_at, due_numbers, due_rows, places_apart, places_count}
+use Rattle.mcv_core.proofs.Recordings.{entry_at, filter_has, none_of, ready_of}
+use Rattle.mcv_core.proofs.Settlements.{call_put}
+use Rattle.mcv_core.proofs.SpooledLegs.{spooled_stays}
+use Rattle.mcv_core.proofs.Tracking.{at_launch}
+
+none_row : (o : Option (Leg Errand)) → option_map (row_by state_of) o ≡ None → o ≡ None
+none_row None e = refl
+none_row (Some l) e = no_some (sym e)
+
+count_none : (f : Launch → Bool) (es : List Launch) → ((l : Launch) → f l ≡ false) → count f es ≡ 0
+count_none f [] h = refl
+count_none f (l ∷ es) h = by_case (f l) (h l) (count_none f es h)
+  where
+    by_case : (b : Bool) → b ≡ false → count f es ≡ 0 → length (cond b (l ∷ filter f es) (filter f es)) ≡ 0
+    by_case true e n = absurd (true≢false e)
+    by_case false e n = n
+
+module _ (d : Dispatcher) (c : Call) (can : CanAdd d c) where
+  abbrev r : RoutesValue
+  r = arc_value d.accepted
+
+  abbrev es : List Launch
+  es = entries_of c
+
+  abbrev new : world.Call
+  new = new_call (world_of (core_view d).rows) c.op c.route (call_of c).rest c.choice
+
+  abbrev first : Launch → Bool
+  first = is_launched r new
+
+  call_is : call_of c ≡ new
+  call_is = λ j. record {
+    op = c.op;
+    route = c.route;
+    rest = (call_of c).rest;
+    since = ap (option_map (λ m. m.0)) can.since_is j;
+    choice = c.choice;
+    recorded = ap (recorded_all (entries_of c)) can.unlaunched.recorded j;
+    taken = can.unlaunched.taken j;
+  }
+
+  pub laid : IsLaidOut r new es
+  laid = subst (λ v. IsLaidOut r v (entries_of c)) call_is (record { all = can.opened.laid.all; rising = can.opened.laid.rising })
+
+  fresh_is : fresh c.state ≡ places_from 0 first es
+  fresh_is = subst (λ v. fresh c.state ≡ places_from 0 (is_sent (tree_of (arc_value d.accepted) v.route) (situation_of v) (choice_of v) []) (entries_of c)) call_is can.opened.fresh_is
+
+  pub fresh_count : length (fresh c.state) ≡ count first es
+  fresh_count = ap length fresh_is ∙ places_count first 0 (entries_of c)
+
+  pub fresh_within : length (fresh c.state) ≤ c.left
+  fresh_within = let n = fresh_count in let most = count_at_most first (entries_of c) in let left = can.unlaunched.left in omega (arith, n, most, left)
+
+  -- ---- its entries
+
+  no_number : (e : ℕ) → numbers_of c.entries.items e ≡ None
+  no_number e = by_entry (slice_get c.entries.items e) refl
+    where
+      by_entry : (o : Option Entry) → slice_get c.entries.items e ≡ o → option_and_then (λ x. x.leg) o ≡ None
+      by_entry None at = refl
+      by_entry (Some x) at = (can.unlaunched.readied.each e x at).0
+
+  no_place : (e : ℕ) → places_of c.entries.items e ≡ None
+  no_place e = by_entry (slice_get c.entries.items e) refl
+    where
+      by_entry : (o : Option Entry) → slice_get c.entries.items e ≡ o → option_and_then (λ x. x.place) o ≡ None
+      by_entry None at = refl
+      by_entry (Some x) at = (can.unlaunched.readied.each e x at).1
+
+  had : (e : ℕ) → e < length es → option_map errand_view (errand_at c.entries.items e) ≡ Some (errand_for d.next_call c e)
+  had e low =
+      let len = can.unlaunched.readied.len in
+      let x = entry_at c.entries.items e (omega (arith, low, len)) in
+      ap (λ o. option_map errand_view (option_and_then (λ y. y.errand) o)) x.1 ∙ by_errand x.0.errand (can.unlaunched.readied.each e x.0 x.1).2
+    where
+      by_errand : (o : Option Errand) → IsErrandOf (arc_value c.laid) d.next_call e o → option_map errand_view o ≡ Some (errand_for d.next_call c e)
+      by_errand None h = absurd h
+      by_errand (Some errand) h = λ j. Some (record { call = h.0 j; laid = h.2 j; entry = h.1 j })
+
+  goes_to : (j : ℕ) (m : Launch) → slice_get es j ≡ Some m → first m ≡ true → m.server.0 < length r.servers
+  goes_to j m at t =
+      let o = outcomes (history_of new.recorded) in
+      let goes = subst (λ v. GoesToServers (length (arc_value d.accepted).servers) (tree_of (arc_value d.accepted) v.route) (situation_of v) (choice_of v)) call_is can.goes in
+      goes o m (subst (λ v. Has v (λ k. k ≡ m)) (sym (laid.all o)) (filter_has (λ l. has_leg_at (launches_under r new o) l.position) (entries_of c) j m at t))
+
+  pub can_launch : CanLaunch (fresh c.state) c.entries.items (legs d.queues) (room d.queues) (servers d.queues) d.next_leg
+  can_launch =
+      let n = fresh_within in
+      let fit = can.legs_fit in
+      let numbers = can.has_room.leg_numbers in
+      record {
+        fits = omega (arith, n, fit);
+        numbers = omega (arith, n, numbers);
+        free = λ m high. none_row (legs d.queues m) (d.sound.core.legs_below m high);
+        ready = λ j f at.
+            let here = due_at first 0 (entries_of c) j f (sym (ap (λ v. slice_get v j) fresh_is) ∙ at) in
+            let same : here.index ≡ f = let q = here.is in omega (arith, q) in
+            let there : slice_get (entries_of c) f ≡ Some here.launch = subst (λ v. slice_get (entries_of c) v ≡ Some here.launch) same here.at in
+            let below = goes_to f here.launch there here.is_due in
+            let known = d.sound.known in
+            let at_it : (launch_at (entries_of c) f).server.0 ≡ here.launch.server.0 = ap (λ v. v.server.0) (at_launch (entries_of c) f here.launch there) in
+            ready_of (servers d.queues) (errand_at c.entries.items f) (errand_for d.next_call c f) (had f (get_below (entries_of c) f here.launch there)) (omega (arith, below, known, at_it));
+        apart = λ a b f ga gb. places_apart first 0 (entries_of c) a b f (sym (ap (λ v. slice_get v a) fresh_is) ∙ ga) (sym (ap (λ v. slice_get v b) fresh_is) ∙ gb);
+      }
+
+  are_ready : AreReady d.next_call c first 0 es c.entries.items
+  are_ready j m at t =
+      let q : j ≡ 0 + j = omega arith in
+      subst (λ v. (option_map errand_view (errand_at c.entries.items v) ≡ Some (errand_for d.next_call c v)) × (launch_at (entries_of c) v ≡ m)) q (had j (get_below (entries_of c) j m at), at_launch (entries_of c) j m at)
+
+  module _ (entries2 : Vec Entry Global) (q2 : Queues Errand) (launched2 : IsLaunched d.next_leg (fresh c.state) c.entries.items entries2.items (legs d.queues) (legs q2)) where
+    abbrev c2 : Call
+    c2 = record c { entries = entries2; left = c.left - length (fresh c.state) }
+
+    row_is : call_row c2 ≡ new_row r (core_view d).rows new es
+    row_is = λ j. record {
+      call = call_is j;
+      entries = entries_of c;
+      legs = (launched2.numbers ∙ ap (λ v. with_numbers d.next_leg v (numbers_of c.entries.items)) fresh_is ∙ due_numbers first d.next_leg 0 (entries_of c) (numbers_of c.entries.items)
+          ∙ ap (numbered first d.next_leg 0 (entries_of c)) (fun_ext no_number)) j;
+    }
+
+    legs_rows : (f : State → rows.State) → f Waiting ≡ rows.Waiting → rows_by f (legs q2) ≡ queued_rows first d.next_call (call_of c).rest d.next_leg 0 es (rows_by f (legs d.queues))
+    legs_rows f waits =
+        ap (rows_by f) (launched2.legs_are ∙ ap (λ v. with_legs d.next_leg v c.entries.items (legs d.queues)) fresh_is) ∙ due_rows d.next_call c first f waits d.next_leg 0 (entries_of c) c.entries.items (legs d.queues) are_ready
+
+    -- ---- what holds of a running call
+
+    len2 : length entries2.items ≡ length es
+    len2 = launched2.len ∙ can.unlaunched.readied.len
+
+    none_recorded : (l : Launch) → has_outcome (call_of c2) l ≡ false
+    none_recorded l = ap (λ v. is_some (outcomes (history_of v) l.position)) (ap (recorded_all (entries_of c)) can.unlaunched.recorded)
+
+    place_none : (e : ℕ) → places_of entries2.items e ≡ None
+    place_none e = launched2.places e ∙ no_place e
+
+    running : IsRunning r d.next_call c2
+    running = record {
+      tracked = subst (λ v. IsTracked (tree_of (arc_value d.accepted) c.route) (situation_of (call_of c)) (choice_of (call_of c)) (entries_of c) v c.state) (sym (ap past_of can.unlaunched.recorded)) can.opened.tracked;
+      counted = can.opened.counted;
+      len = len2;
+      ready = λ e low none.
+          let n = len2 in
+          let x = entry_at entries2.items e (omega (arith, n, low)) in
+          let was = launched2.others e x.0 x.1 (sym (ap (option_and_then (λ z. z.leg)) x.1) ∙ none) in
+          ap (λ o. option_map errand_view (option_and_then (λ z. z.errand) o)) (x.1 ∙ sym was) ∙ had e low;
+      placed = λ e l at. ap is_some (place_none e) ∙ sym (none_recorded l);
+      replies = λ e j at untaken. no_some (sym (place_none e) ∙ at);
+      within = λ e j at. no_some (sym (place_none e) ∙ at);
+      left =
+          let n = fresh_count in
+          let both = count_both first (entries_of c) in
+          let left = can.unlaunched.left in
+          let same : count (λ l. not (is_launched r (call_of c2) l)) (entries_of c) ≡ count (λ l. not (first l)) (entries_of c) = ap (λ v. count (λ l. not (is_launched r v l)) (entries_of c)) call_is in
+          omega (arith, n, both, left, same);
+      recorded = ap length can.unlaunched.recorded ∙ sym (count_none (has_outcome (call_of c2)) (entries_of c) none_recorded);
+      room = can.unlaunched.room;
+      known = can.goes;
+    }
+
+    module _ (calls2 : Calls) (calls2_is : calls_at calls2 ≡ put (calls_at d.calls) d.next_call (Some c2)) where
+      calls_are : call_rows (calls_at calls2) ≡ put (call_rows (calls_at d.calls)) d.next_call (Some (new_row r (core_view d).rows new es))
+      calls_are = ap call_rows calls2_is ∙ call_put (calls_at d.calls) d.next_call (Some c2) ∙ ap (λ v. put (call_rows (calls_at d.calls)) d.next_call (Some v)) row_is
+
+      pub rows_are : (f : State → rows.State) → f Waiting ≡ rows.Waiting
+          → all_rows f (calls_at calls2) (legs q2) (since_of d) (suc d.next_call) (d.next_leg + length (fresh c.state)) ≡ began_rows r (all_rows f (calls_at d.calls) (legs d.queues) (since_of d) d.next_call d.next_leg) new es
+      rows_are f waits = λ j. record { calls = calls_are j; legs = legs_rows f waits j; since = since_of d; next_call = suc d.next_call; next_leg = ap (λ v. d.next_leg + v) fresh_count j }
+
+      moves_by : (f : State → rows.State) → f Waiting ≡ rows.Waiting → IsCore r (all_rows f (calls_at d.calls) (legs d.queues) (since_of d) d.next_call d.next_leg)
+          → Moves r (all_rows f (calls_at d.calls) (legs d.queues) (since_of d) d.next_call d.next_leg) (all_rows f (calls_at calls2) (legs q2) (since_of d) (suc d.next_call) (d.next_leg + length (fresh c.state))) (began_by c)
+      moves_by f waits core =
+          subst (λ v. Moves r (all_rows f (calls_at d.calls) (legs d.queues) (since_of d) d.next_call d.next_leg) v (began_by c)) (sym (rows_are f waits))
+          (began_moves r (all_rows f (calls_at d.calls) (legs d.queues) (since_of d) d.next_call d.next_leg) c.op c.route (call_of c).rest c.choice es core laid)
+
+      pub moved : Moved (core_view d) (has_begun (core_view d) c) (began_by c)
+      moved = record { allowed = can.begins; moves = began_moves r (core_view d).rows c.op c.route (call_of c).rest c.choice es d.sound.core laid; routes = refl }
+
+      -- a leg that was there is awaited by none but its own call, which isn't this one
+      awaited_less : (n : ℕ) (s : LegRow) → rows_by awaiting_state (legs d.queues) n ≡ Some s → (j : Option ℕ) → s.call ≡ j → awaits (call_rows (calls_at d.calls)) s j ≡ false → awaits (call_rows (calls_at calls2)) s j ≡ false
+      awaited_less n s at None is e = refl
+      awaited_less n s at (Some j) is e =
+          let low = d.sound.awaiting.owner n s j at is in
+          ap (λ v. is_one v (λ z. has_no_outcome (leg_of s) z.call)) (ap (λ g. g j) calls_are ∙ put_other (call_rows (calls_at d.calls)) d.next_call j _ (λ q. omega (arith, low, q))) ∙ e
+
+      refused_on : (m : ℕ) (s : LegRow) → rows_by awaiting_state (legs q2) m ≡ Some s → s.state ≡ rows.Held → awaits (call_rows (calls_at calls2)) s s.call ≡ false
+      refused_on m s f held =
+          elim (Numbering.rows_back first d.next_call (call_of c).rest d.next_leg 0 (entries_of c) (rows_by awaiting_state (legs d.queues)) m s (sym (ap (λ g. g m) (legs_rows awaiting_state refl)) ∙ f)) [
+            | inl old ↦ awaited_less m s old s.call refl (d.sound.refused m s old held)
+            | inr fresh_row ↦ absurd (true≢false (ap (λ v. is_unanswered v.state) fresh_row.is ∙ ap is_unanswered held))
+          ]
+
+      running_on : (j : ℕ) (z : Call) → calls_at calls2 j ≡ Some z → IsRunning r j z
+      running_on j z f =
+          elim (put_cases (calls_at d.calls) d.next_call j (Some c2) z (sym (ap (λ g. g j) calls2_is) ∙ f)) [
+            | inl q ↦ subst (λ v. IsRunning r v z) q.0 (subst (IsRunning r d.next_call) (same_some q.1) running)
+            | inr q ↦ d.sound.calls_run j z q.1
+          ]
+
+      pub sound_begun : (counts : Counts) → counts.reserved + length (fresh c.state) ≡ d.counts.reserved + c.left → counts.queued ≡ d.counts.queued + length (fresh c.state) → counts.spooled ≡ d.counts.spooled
+          → counts.running ≡ d.counts.running + 1 → room d.queues ≤ room q2 + length (fresh c.state) → servers q2 ≡ servers d.queues
+          → IsSound r (calls_at calls2) (legs q2) (since_of d) d.moment.0 (suc d.next_call) (d.next_leg + length (fresh c.state)) counts.reserved counts.queued counts.spooled counts.running (room q2) (servers q2)
+      sound_begun counts reserved queued spooled running_is wide known =
+          let w = (core_view d).rows in
+          let n = fresh_count in
+          let left = can.unlaunched.left in
+          record {
+            core = (moves_by state_of refl d.sound.core).core;
+            awaiting = (moves_by awaiting_state refl d.sound.awaiting).core;
+            refused = refused_on;
+            calls_run = running_on;
+            addressed = subst (λ g. (m : ℕ) (l : Leg Errand) → g m ≡ Some l → l.server ≡ (launch_of l.content).server) (sym launched2.legs_are) (launched_addressed d.next_leg (fresh c.state) c.entries.items (legs d.queues) d.sound.addressed);
+            reserved_is =
+                let more = beginning_reserves r w new es in
+                let same : reserved_by r (rows_of (calls_at calls2) (legs q2) (since_of d) (suc d.next_call) (d.next_leg + length (fresh c.state))) ≡ reserved_by r (began_rows r w new es) = ap (reserved_by r) (rows_are state_of refl) in
+                let a = d.sound.reserved_is in
+                omega (arith, more, same, a, n, left, reserved);
+            queued_is =
+                let more = beginning_queues r w new es in
+                let same : queued_legs (rows_of (calls_at calls2) (legs q2) (since_of d) (suc d.next_call) (d.next_leg + length (fresh c.state))) ≡ queued_legs (began_rows r w new es) = ap queued_legs (rows_are state_of refl) in
+                let a = d.sound.queued_is in
+                omega (arith, more, same, a, n, queued);
+            spooled_is =
+                let more = spooled_stays first d.next_call (call_of c).rest d.next_leg 0 (entries_of c) (rows_by state_of (legs d.queues)) in
+                let same : sum_below spooled_one (rows_by state_of (legs q2)) (d.next_leg + length (fresh c.state))
+                    ≡ sum_below spooled_one (queued_rows first d.next_call (call_of c).rest d.next_leg 0 (entries_of c) (rows_by state_of (legs d.queues))) (d.next_leg + length (filter first (entries_of c))) =
+                ap (λ g. sum_below spooled_one g (d.next_leg + length (fresh c.state))) (legs_rows state_of refl)
+                ∙ ap (λ v. sum_below spooled_one (queued_rows first d.next_call (call_of c).rest d.next_leg 0 (entries_of c) (rows_by state_of (legs d.queues))) (d.next_leg + v)) n in
+                let a = d.sound.spooled_is in
+                omega (arith, more, same, a, spooled);
+            running_is =
+                let below = sum_above one (call_rows (calls_at d.calls)) d.next_call (Some (new_row r w new es)) d.next_call (omega arith) in
+                let here : one (put (call_rows (calls_at d.calls)) d.next_call (Some (new_row r w new es)) d.next_call) ≡ 1 = ap one (put_same (call_rows (calls_at d.calls)) d.next_call (Some (new_row r w new es))) in
+                let same : sum_below one (call_rows (calls_at calls2)) (suc d.next_call) ≡ sum_below one (put (call_rows (calls_at d.calls)) d.next_call (Some (new_row r w new es))) (suc d.next_call) = ap (λ g. sum_below one g (suc d.next_call)) calls_are in
+                let a = d.sound.running_is in
+                omega (arith, below, here, same, a, running_is);
+            room_is = let fit = can.legs_fit in omega (arith, fit, reserved, wide);
+            limit = let fit = can.has_room.legs in omega (arith, fit, reserved, queued);
+            numbers = let fit = can.has_room.leg_numbers in omega (arith, fit, reserved);
+            known = let a = d.sound.known in omega (arith, a, known);
+            era = d.sound.era;
+          }
