@@ -1,12 +1,14 @@
 //! Legs in flight are answered and lost.
 
-ghost use Rattle.std.specs.Prelude.{◌≡◌, true, false, Some, IfOk, IfErr, option_map};
+ghost use Rattle.std.specs.Prelude.{◌≡◌, ◌&&◌, not, cond, true, false, Some, IfOk, IfErr, option_map};
+ghost use Rattle.mcv_base.specs.Operation.{is_delete};
 ghost use Rattle.mcv_base.specs.Reply.{fixed_value, part_value};
 ghost use Rattle.mcv_queues.specs.Legs.{is_flight, is_in_flight};
 ghost use Rattle.mcv_queues.specs.Queues.{legs};
 ghost use Rattle.mcv_core.specs.CoreView.{Does, HasDone, HasEffect, answer_at, at_row, change_move, held, landing_at, loss_at, replayed_in, sent_in};
 ghost use Rattle.mcv_core.specs.Facts.{facts_of as facts_seen};
 ghost use Rattle.mcv_core.specs.View.{core_view};
+ghost use Rattle.mcv_core.specs.declared.step.Place.TheVariants as places;
 
 use crate::counted::Counted;
 use crate::dispatcher::Dispatcher;
@@ -76,11 +78,7 @@ impl Dispatcher {
         if facts.counted_delete && failed {
             return self.hold(leg, facts);
         }
-        let place = if matches!(facts.op, Op::Delete) && !failed {
-            Place::Performed
-        } else {
-            Place::Gone
-        };
+        let place = Place::after(facts.op, failed);
         self.settle(leg, Settling::Gone, counted.outcome, counted.taken);
         Step {
             place,
@@ -120,6 +118,19 @@ impl Dispatcher {
         Step {
             place: Place::Performed,
             change: Change::Performed,
+        }
+    }
+}
+
+impl Place {
+    /// Where a leg is that had a reply and isn't held: a delete is performed by any answer but an error.
+    fn after(op: Op, failed: bool) -> Place
+        ensures { result ≡ cond (is_delete op && not failed) places.Performed places.Gone }
+    {
+        if op.is_delete() && !failed {
+            Place::Performed
+        } else {
+            Place::Gone
         }
     }
 }

@@ -1,7 +1,7 @@
 //! What the core looks at of a leg, without a loan of it.
 
 ghost use Rattle.std.specs.Prelude.{◌≡◌};
-ghost use Rattle.mcv_core.specs.Facts.{facts_of, is_counting_delete};
+ghost use Rattle.mcv_core.specs.Facts.{facts_of};
 
 use crate::errand::Errand;
 use mcv_base::{Mark, Op, ServerId};
@@ -32,14 +32,8 @@ pub fn facts_of(leg: &Leg<Errand>) -> LegFacts
         server: leg.server,
         state: leg.state,
         op,
-        counted_delete: is_counted_delete(op, mark),
+        counted_delete: op.is_delete() && mark.is_counting(),
         call: errand.call,
         entry: errand.entry,
     }
-}
-
-fn is_counted_delete(op: Op, mark: Mark) -> bool
-    ensures { result ≡ is_counting_delete op mark }
-{
-    matches!(op, Op::Delete) && !matches!(mark, Mark::Shadow)
 }
