@@ -1,6 +1,7 @@
 -- Legs in flight that are answered or lost, and held legs that the spool stores or refuses.
 use Rattle.std.proofs.Common.{◌≡◌, ◌&&◌, not, cond, inl, inr, ℕ, Bool, true, false, nat_eq, length, List, Option, Some, None, Result, Ok, Err, option_map, refl, sym, ap, ◌∙◌, subst, true≢false}
 use Rattle.std.specs.Arc.{arc_value}
+use Rattle.std.proofs.Math.Path.{fun_ext}
 use Rattle.mcv_base.specs.declared.reply.FixedReply.TheVariants.{Lost}
 use Rattle.mcv_base.specs.Reply.{ReplyValue, fixed_value, not_found}
 use Rattle.mcv_queues.specs.declared.leg.Leg.{Leg}
@@ -8,14 +9,16 @@ use Rattle.mcv_queues.specs.declared.leg.State.{State}
 use Rattle.mcv_queues.specs.declared.leg.State.TheVariants as states
 use Rattle.mcv_queues.specs.declared.marks.Mark.{Mark}
 use Rattle.mcv_queues.specs.declared.marks.Marks.{Marks}
-use Rattle.mcv_queues.specs.Legs.{is_flight, is_in_flight}
+use Rattle.mcv_queues.specs.Legs.{is_flight, is_in_flight, with_state}
 use Rattle.mcv_queues.specs.Marks.{answered_mark, lost_mark, marks, put_mark, servers as marked_servers}
-use Rattle.mcv_queues.specs.Queues.{legs}
+use Rattle.mcv_queues.specs.declared.queues.Queues.{Queues}
+use Rattle.mcv_queues.specs.Queues.{in_flight, legs}
 use Rattle.mcv_world.specs.World.{is_counted_delete}
 use Rattle.mcv_world.specs.Moves.{counted_as, has_no_outcome, is_error_reply, is_one}
 use Rattle.mcv_world.proofs.Numbers.{no_some, same_some}
 use Rattle.mcv_events.specs.Rows as rows
-use Rattle.mcv_events.specs.Rows.{LegRow, awaits, is_unanswered, leg_of}
+use Rattle.mcv_events.specs.Rows.{CallRow, LegRow, Rows, awaits, is_unanswered, leg_of, recorded_rows, with_leg_row}
+use Rattle.mcv_events.specs.Events.{in_state, recorded_rows_for, recorded_rows_if, refused_rows, spooled_rows}
 use Rattle.mcv_events.specs.QueuedLegs.{count_in}
 use Rattle.mcv_core.specs.declared.call.Call.{Call}
 use Rattle.mcv_core.specs.declared.dispatcher.Dispatcher.{Dispatcher}
@@ -25,15 +28,17 @@ use Rattle.mcv_core.specs.declared.fault.CoreFault.{CoreFault}
 use Rattle.mcv_core.specs.declared.fault.CoreFault.TheVariants.{NoSuchLeg}
 use Rattle.mcv_core.specs.declared.settle.Settling.{Settling}
 use Rattle.mcv_core.specs.declared.settle.Settling.TheVariants as kinds
+use Rattle.mcv_core.specs.declared.step.Change.TheVariants as changes
+use Rattle.mcv_core.specs.declared.step.Place.TheVariants as places
 use Rattle.mcv_core.specs.declared.step.Step.{Step}
 use Rattle.mcv_core.specs.Calls.{calls_at}
-use Rattle.mcv_core.specs.CoreView.{CoreView, Effect, HasDone, HasEffect, answer_at, answer_in, at_row, does, flies, is_record, landing_at, landing_in, loss_at, loss_in, refused, refuses, refusing_at, refusing_in, replayed_in, sent_in, spooling_at, spooling_in, stores, with_mark}
+use Rattle.mcv_core.specs.CoreView.{CoreView, Effect, HasDone, HasEffect, answer_at, answer_in, at_row, does, flies, is_record, landing_at, landing_in, loss_at, loss_in, refused, refuses, refusing_at, refusing_in, replayed_in, sent_in, spooling_at, spooling_in, step_to, stores, with_mark}
 use Rattle.mcv_core.specs.Errands.{launch_of}
-use Rattle.mcv_core.specs.Facts.{facts_of}
+use Rattle.mcv_core.specs.Facts.{counts_in, facts_of, state_in}
 use Rattle.mcv_core.specs.Rows.{awaiting_state, call_of, call_row, call_rows, row_by, rows_by, state_of}
-use Rattle.mcv_core.specs.Settling.{is_gone}
-use Rattle.mcv_core.specs.View.{CanSettle, core_view}
-use Rattle.mcv_core.proofs.LegViews.{flies_by_state, there}
+use Rattle.mcv_core.specs.Settling.{is_gone, settled_row}
+use Rattle.mcv_core.specs.View.{CanSettle, core_view, has_settled}
+use Rattle.mcv_core.proofs.LegViews.{flies_by_state, row_stays, state_rows, there, view_with}
 
 -- ---- the leg of these facts
 
@@ -45,6 +50,24 @@ pub record IsSeen (o : Option (Leg Errand)) (facts : LegFacts) : Type 0 where
 pub seen : (o : Option (Leg Errand)) (facts : LegFacts) → option_map facts_of o ≡ Some facts → IsSeen o facts
 seen None facts e = no_some e
 seen (Some l) facts e = record { leg = l; at = refl; is = same_some e }
+
+-- the leg in this state
+pub record IsStated (o : Option (Leg Errand)) (t : State) : Type 0 where
+  pub leg : Leg Errand
+  pub at : o ≡ Some leg
+  pub is : leg.state ≡ t
+
+pub stated : (o : Option (Leg Errand)) (t : State) → state_in o ≡ Some t → IsStated o t
+stated None t e = no_some e
+stated (Some l) t e = record { leg = l; at = refl; is = same_some e }
+
+pub state_of_seen : (o : Option (Leg Errand)) (facts : LegFacts) → option_map facts_of o ≡ Some facts → state_in o ≡ Some facts.state
+state_of_seen None facts e = no_some e
+state_of_seen (Some l) facts e = ap (λ f. Some f.state) (same_some e)
+
+pub counts_of_seen : (o : Option (Leg Errand)) (facts : LegFacts) → option_map facts_of o ≡ Some facts → counts_in o ≡ facts.counted_delete
+counts_of_seen None facts e = no_some e
+counts_of_seen (Some l) facts e = ap (λ f. f.counted_delete) (same_some e)
 
 -- ---- effects
 
@@ -174,6 +197,35 @@ module _ (d : Dispatcher) (n : ℕ) (l : Leg Errand) (at : legs d.queues n ≡ S
 
   pub awaits_refused : l.state ≡ states.Refused → awaits (core_view d).rows.calls (row_by state_of l) (row_by state_of l).call ≡ false
   awaits_refused is = same_awaits l.content.call ∙ d.sound.refused n (row_by awaiting_state l) (ap (option_map (row_by awaiting_state)) at) (ap awaiting_state is)
+
+  -- a leg that the spool had refused is stored: its call has its outcome, or has ended
+  pub stored_view : l.state ≡ states.Refused → (q : Queues Errand) → legs q ≡ with_state (legs d.queues) n states.InSpool → ((m : ℕ) → in_flight q m ≡ in_flight d.queues m)
+      → view_with d q ≡ record (core_view d) { rows = spooled_rows (arc_value d.accepted) (core_view d).rows n (row_by state_of l) }
+  stored_view is q legs_are flights_are =
+      let w1 : Rows = with_leg_row (core_view d).rows n (Some (in_state (row_by state_of l) rows.InSpool)) in
+      let rows_are : (view_with d q).rows ≡ recorded_rows_for (arc_value d.accepted) w1 (row_by state_of l) not_found l.content.call =
+      state_rows d n l at states.InSpool q legs_are ∙ sym (none_recorded w1 l.content.call (awaits_refused is)) in
+      λ j. record (core_view d) { rows = rows_are j; flights = fun_ext flights_are j }
+    where
+      by_call : (w1 : Rows) (k : ℕ) (o : Option CallRow) → is_one o (λ c. has_no_outcome (leg_of (row_by state_of l)) c.call) ≡ false → recorded_rows_if (arc_value d.accepted) w1 (row_by state_of l) not_found k o ≡ w1
+      by_call w1 k None t = refl
+      by_call w1 k (Some c) t = ap (λ b. cond b (recorded_rows (arc_value d.accepted) w1 k c (launch_of l.content).position not_found) w1) t
+
+      none_recorded : (w1 : Rows) (o : Option ℕ) → awaits w1.calls (row_by state_of l) o ≡ false → recorded_rows_for (arc_value d.accepted) w1 (row_by state_of l) not_found o ≡ w1
+      none_recorded w1 None e = refl
+      none_recorded w1 (Some k) e = by_call w1 k (w1.calls k) e
+
+  -- a held leg that the spool refuses stays, and its call records an error
+  pub refused_done : l.state ≡ states.Held → (x : ReplyValue) → x ≡ fixed_value Lost → (new : CoreView) → new ≡ has_settled d n kinds.Refused x → HasDone (at_row (refused (core_view d)) ((core_view d).rows.legs n)) new (step_to places.Held changes.Refused)
+  refused_done held x x_is new is =
+      let stays : with_leg_row (core_view d).rows n (Some (in_state (row_by state_of l) rows.Held)) ≡ (core_view d).rows =
+      ap (λ t. with_leg_row (core_view d).rows n (Some (in_state (row_by state_of l) t))) (sym (ap state_of held)) ∙ row_stays d n l at (row_by state_of l) (there d n l at) in
+      let settled : new ≡ record (core_view d) { rows = refused_rows (arc_value d.accepted) (core_view d).rows (row_by state_of l) } =
+      is ∙ ap (settled_row (core_view d) n kinds.Refused x) (there d n l at) ∙ ap (λ y. settled_row (core_view d) n kinds.Refused y (Some (row_by state_of l))) x_is
+      ∙ ap (λ w. record (core_view d) { rows = recorded_rows_for (arc_value d.accepted) w (row_by state_of l) (fixed_value Lost) l.content.call }) stays in
+      subst (λ o. HasDone (at_row (refused (core_view d)) o) new (step_to places.Held changes.Refused)) (sym (there d n l at))
+      (subst (λ b. HasDone (cond b (does (step_to places.Held changes.Refused) (record (core_view d) { rows = refused_rows (arc_value d.accepted) (core_view d).rows (row_by state_of l) })) (does (step_to places.Held changes.Nothing) (core_view d)))
+      new (step_to places.Held changes.Refused)) (sym (awaits_held held)) (refl, settled))
 
 -- ---- refusals
 

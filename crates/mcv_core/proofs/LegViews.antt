@@ -1,5 +1,5 @@
 -- What becomes of the dispatcher and its view where a leg changes its state, or goes.
-use Rattle.std.proofs.Common.{◌≡◌, ◌&&◌, cond, inl, inr, ℕ, ◌+◌, ◌<◌, ◌≤◌, Bool, true, false, nat_eq, Option, Some, None, option_map, refl, sym, ap, ◌∙◌, subst, arith, true≢false}
+use Rattle.std.proofs.Common.{◌≡◌, ◌&&◌, cond, inl, inr, ℕ, ◌+◌, ◌<◌, ◌≤◌, ◌^◌, Bool, true, false, nat_eq, Option, Some, None, option_map, refl, sym, ap, ◌∙◌, subst, arith, true≢false}
 use Rattle.std.specs.Arc.{arc_value}
 use Rattle.std.proofs.Math.Path.{fun_ext}
 use Rattle.std.proofs.lemmas.Bool.{cases_eq}
@@ -17,6 +17,7 @@ use Rattle.mcv_events.specs.QueuedLegs.{count_in}
 use Rattle.mcv_events.specs.Rows as rows
 use Rattle.mcv_events.specs.Rows.{LegRow, Rows, is_unanswered, leg_of, with_leg_row}
 use Rattle.mcv_events.specs.Events.{in_state}
+use Rattle.mcv_core.specs.declared.counts.Counts.{Counts}
 use Rattle.mcv_core.specs.declared.dispatcher.Dispatcher.{Dispatcher}
 use Rattle.mcv_core.specs.declared.errand.Errand.{Errand}
 use Rattle.mcv_core.specs.Calls.{calls_at}
@@ -41,6 +42,9 @@ view_with d q = record (core_view d) { rows = rows_of (calls_at d.calls) (legs q
 
 abbrev pub IsSoundWith : Dispatcher → Queues Errand → (queued spooled : ℕ) → Type 0
 IsSoundWith d q queued spooled = IsSound (arc_value d.accepted) (calls_at d.calls) (legs q) (since_of d) d.moment.0 d.next_call d.next_leg d.counts.reserved queued spooled d.counts.running (room q) (servers q)
+
+abbrev pub IsSoundBy : Dispatcher → Queues Errand → Counts → Type 0
+IsSoundBy d q counts = IsSound (arc_value d.accepted) (calls_at d.calls) (legs q) (since_of d) d.moment.0 d.next_call d.next_leg counts.reserved counts.queued counts.spooled counts.running (room q) (servers q)
 
 module _ (d : Dispatcher) (n : ℕ) (l : Leg Errand) (at : legs d.queues n ≡ Some l) where
   abbrev pub its_row : LegRow
@@ -176,3 +180,11 @@ module _ (d : Dispatcher) (n : ℕ) (l : Leg Errand) (at : legs d.queues n ≡ S
   some_queued counted =
       States.one_queued (arc_value d.accepted) (calls_at d.calls) (legs d.queues) (since_of d) d.moment.0 d.next_call d.next_leg d.counts.reserved d.counts.queued d.counts.spooled d.counts.running (room d.queues)
       (servers d.queues) d.sound n l at counted
+
+  -- one more can be in the spool
+  pub spool_fits : spooled_in (state_of l.state) ≡ 0 → d.counts.spooled + 1 < 2 ^ 64
+  spool_fits none =
+      let below = States.more_spooled (arc_value d.accepted) (calls_at d.calls) (legs d.queues) (since_of d) d.moment.0 d.next_call d.next_leg d.counts.reserved d.counts.queued d.counts.spooled d.counts.running (room d.queues)
+      (servers d.queues) d.sound n l at none in
+      let numbers = d.sound.numbers in
+      omega (arith, below, numbers)

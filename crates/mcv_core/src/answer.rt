@@ -6,7 +6,7 @@ ghost use Rattle.mcv_base.specs.Reply.{fixed_value, part_value};
 ghost use Rattle.mcv_queues.specs.Legs.{is_flight, is_in_flight};
 ghost use Rattle.mcv_queues.specs.Queues.{legs};
 ghost use Rattle.mcv_core.specs.CoreView.{Does, HasDone, HasEffect, answer_at, at_row, change_move, held, landing_at, loss_at, replayed_in, sent_in};
-ghost use Rattle.mcv_core.specs.Facts.{facts_of as facts_seen};
+ghost use Rattle.mcv_core.specs.Facts.{counts_in, facts_of as facts_seen, state_in};
 ghost use Rattle.mcv_core.specs.View.{core_view};
 ghost use Rattle.mcv_core.specs.declared.step.Place.TheVariants as places;
 
@@ -60,10 +60,14 @@ impl Dispatcher {
         requires one { part_value counted.taken ≡ part_value counted.outcome }
         ensures { HasDone (landing_at (core_view self.old) leg.0 (part_value counted.outcome)) (core_view self.new) result }
     {
-        if matches!(facts.state, State::InReplay) {
-            self.land_replay(leg, facts, counted.is_error())
+        let replayed = matches!(facts.state, State::InReplay);
+        if !replayed {
+            return self.land_sent(leg, facts, counted);
+        }
+        if counted.is_error() {
+            self.wait_again(leg)
         } else {
-            self.land_sent(leg, facts, counted)
+            self.perform(leg)
         }
     }
 
@@ -76,7 +80,7 @@ impl Dispatcher {
     {
         let failed = counted.is_error();
         if facts.counted_delete && failed {
-            return self.hold(leg, facts);
+            return self.hold(leg);
         }
         let place = Place::after(facts.op, failed);
         self.settle(leg, Settling::Gone, counted.outcome, counted.taken);
@@ -87,10 +91,9 @@ impl Dispatcher {
     }
 
     /// A counted delete leg that its server didn't perform is held.
-    fn hold(&mut self, leg: LegId, facts: LegFacts) -> Step
-        requires at { option_map facts_seen (legs self.old.queues leg.0) ≡ Some facts }
-        requires sent { facts.state ≡ State.Sent }
-        requires counted { facts.counted_delete ≡ true }
+    fn hold(&mut self, leg: LegId) -> Step
+        requires sent { state_in (legs self.old.queues leg.0) ≡ Some State.Sent }
+        requires counted { counts_in (legs self.old.queues leg.0) ≡ true }
         ensures { HasDone (at_row (held (core_view self.old) leg.0) ((core_view self.old).rows.legs leg.0)) (core_view self.new) result }
     {
         self.queues.held(leg);
@@ -100,21 +103,25 @@ impl Dispatcher {
         }
     }
 
-    /// A leg in replay was performed, or not.
-    fn land_replay(&mut self, leg: LegId, facts: LegFacts, failed: bool) -> Step
-        requires at { option_map facts_seen (legs self.old.queues leg.0) ≡ Some facts }
-        requires replayed { facts.state ≡ State.InReplay }
-        ensures { HasDone (at_row (replayed_in (core_view self.old) leg.0 failed) ((core_view self.old).rows.legs leg.0)) (core_view self.new) result }
+    /// A leg in replay waits in the spool again.
+    fn wait_again(&mut self, leg: LegId) -> Step
+        requires { state_in (legs self.old.queues leg.0) ≡ Some State.InReplay }
+        ensures { HasDone (at_row (replayed_in (core_view self.old) leg.0 true) ((core_view self.old).rows.legs leg.0)) (core_view self.new) result }
     {
-        if failed {
-            self.queues.replay_failed(leg);
-            return Step {
-                place: Place::Spooled,
-                change: Change::Nothing,
-            };
+        self.queues.replay_failed(leg);
+        Step {
+            place: Place::Spooled,
+            change: Change::Nothing,
         }
-        let _errand = self.queues.gone(leg);
-        self.counts.spooled -= 1;
+    }
+
+    /// A leg in replay was performed.
+    fn perform(&mut self, leg: LegId) -> Step
+        requires { state_in (legs self.old.queues leg.0) ≡ Some State.InReplay }
+        ensures { HasDone (at_row (replayed_in (core_view self.old) leg.0 false) ((core_view self.old).rows.legs leg.0)) (core_view self.new) result }
+    {
+        let _ = self.queues.gone(leg);
+        self.counts = self.counts.performed();
         Step {
             place: Place::Performed,
             change: Change::Performed,

@@ -1,6 +1,6 @@
 //! How many legs there are, and how many calls.
 
-ghost use Rattle.std.specs.Prelude.{◌≡◌, ◌+◌, ◌≤◌, ◌<◌, ◌^◌, cond};
+ghost use Rattle.std.specs.Prelude.{◌≡◌, ◌+◌, ◌-◌, ◌≤◌, ◌<◌, ◌^◌, cond};
 ghost use Rattle.mcv_core.specs.Settling.{HasCounted, freed_by, is_settling, is_storing_leg};
 
 use crate::call::Recording;
@@ -77,6 +77,30 @@ impl Counts {
             queued: self.queued + step.launched - to.leaving(),
             spooled: self.spooled + to.storing(),
             running: self.running - step.ending(),
+        }
+    }
+
+    /// The counts after a leg of the spool was performed.
+    pub fn performed(self) -> Counts
+        requires { 1 ≤ self.spooled }
+        ensures { result ≡ record self { spooled = self.spooled - 1 } }
+    {
+        Counts {
+            spooled: self.spooled - 1,
+            ..self
+        }
+    }
+
+    /// The counts after a queued leg was stored in the spool.
+    pub fn stored(self) -> Counts
+        requires queued { 1 ≤ self.queued }
+        requires fits { self.spooled + 1 < 2 ^ 64 }
+        ensures { result ≡ record self { queued = self.queued - 1; spooled = self.spooled + 1 } }
+    {
+        Counts {
+            queued: self.queued - 1,
+            spooled: self.spooled + 1,
+            ..self
         }
     }
 }

@@ -1,6 +1,6 @@
 //! A leg leaves its state, and its call records a reply of it.
 
-ghost use Rattle.std.specs.Prelude.{◌≡◌, ◌≤◌, ◌+◌, ◌^◌, ◌<◌, ◌&&◌, ℕ, None, cond, option_map};
+ghost use Rattle.std.specs.Prelude.{◌≡◌, ◌≤◌, ◌+◌, ◌^◌, ◌<◌, ◌&&◌, ℕ, None, cond, option_and_then, option_map, unwrap_or};
 ghost use Rattle.mcv_base.specs.Reply.{part_value};
 ghost use Rattle.mcv_queues.specs.Legs.{is_in_flight, is_in_flight_to};
 ghost use Rattle.mcv_queues.specs.Queues.{in_flight, legs, room, servers as known};
@@ -26,6 +26,13 @@ pub enum Settling {
     Refused,
 }
 
+/// The call and the entry of a leg.
+#[derive(Clone, Copy)]
+struct Owner {
+    call: u64,
+    entry: usize,
+}
+
 /// The leg leaves its state.
 fn leave(queues: &mut Queues<Errand>, leg: LegId, to: Settling)
     requires { is_in_flight (legs queues.old leg.0) ≡ is_gone to }
@@ -36,7 +43,7 @@ fn leave(queues: &mut Queues<Errand>, leg: LegId, to: Settling)
 {
     match to {
         Settling::Gone => {
-            let _errand = queues.gone(leg);
+            let _ = queues.gone(leg);
         }
         Settling::InSpool => queues.spooled(leg),
         Settling::Refused => queues.refused(leg),
@@ -52,25 +59,46 @@ impl Dispatcher {
         Some(facts_of(row))
     }
 
+    /// The call and the entry of a leg; both 0 where it has none.
+    fn owner_of(&self, leg: LegId) -> Owner
+        ensures call { result.call ≡ unwrap_or (option_and_then (λ l. l.content.call) (legs self.now.queues leg.0)) 0 }
+        ensures entry { result.entry ≡ unwrap_or (option_map (λ l. l.content.entry) (legs self.now.queues leg.0)) 0 }
+    {
+        match self.queues.get(leg) {
+            Some(row) => Owner {
+                call: row.content.call.unwrap_or(0),
+                entry: row.content.entry,
+            },
+            None => Owner { call: 0, entry: 0 },
+        }
+    }
+
     /// A leg that its call awaits leaves its state, and the call records this reply of it. It takes no memory.
     pub(crate) fn settle(&mut self, leg: LegId, to: Settling, outcome: Part, taken: Part)
         requires can { CanSettle self.old leg.0 to }
         requires one { part_value taken ≡ part_value outcome }
         ensures { core_view self.new ≡ has_settled self.old leg.0 to (part_value outcome) }
     {
-        let Some(facts) = self.facts(leg) else { return };
-        let Some(call) = facts.call else { return };
+        let owner = self.owner_of(leg);
         leave(&mut self.queues, leg, to);
         let step = self.calls.hear(
             &mut self.queues,
-            call,
-            facts.entry,
+            owner.call,
+            owner.entry,
             outcome,
             taken,
             self.next_leg,
         );
-        self.calls.remove_if(call, step.ended);
-        self.next_leg += step.launched as u64;
+        self.calls.remove_if(owner.call, step.ended);
+        self.next_leg = number_after(self.next_leg, step.launched);
         self.counts = self.counts.settled(to, step);
     }
+}
+
+/// The number after so many legs.
+pub(crate) fn number_after(next: u64, launched: usize) -> u64
+    requires { next + launched < 2 ^ 64 }
+    ensures { result ≡ next + launched }
+{
+    next + launched as u64
 }

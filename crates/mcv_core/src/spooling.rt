@@ -1,16 +1,15 @@
 //! The spool stores and refuses held legs.
 
-ghost use Rattle.std.specs.Prelude.{◌≡◌, ◌⊎◌, Some, IfOk, option_map};
+ghost use Rattle.std.specs.Prelude.{◌≡◌, Some, IfOk};
 ghost use Rattle.mcv_base.specs.Reply.{fixed_value, not_found};
 ghost use Rattle.mcv_queues.specs.Queues.{legs};
 ghost use Rattle.mcv_world.specs.Moves.{is_one};
 ghost use Rattle.mcv_core.specs.CoreView.{Does, HasDone, HasEffect, at_row, change_move, is_record, refused, refusing_at, spooling_at, stores};
-ghost use Rattle.mcv_core.specs.Facts.{facts_of as facts_seen};
+ghost use Rattle.mcv_core.specs.Facts.{state_in};
 ghost use Rattle.mcv_core.specs.View.{core_view};
 
 use crate::counted::Counted;
 use crate::dispatcher::Dispatcher;
-use crate::facts::LegFacts;
 use crate::fault::CoreFault;
 use crate::settle::Settling;
 use crate::step::{Change, Place, Step};
@@ -31,8 +30,8 @@ impl Dispatcher {
             return Err(CoreFault::NoSuchLeg);
         };
         match facts.state {
-            State::Held => Ok(self.store_held(leg, facts)),
-            State::Refused => Ok(self.store_refused(leg, facts)),
+            State::Held => Ok(self.store_held(leg)),
+            State::Refused => Ok(self.store_refused(leg)),
             State::Waiting | State::Sent | State::InSpool | State::InReplay => {
                 Err(CoreFault::NoSuchLeg)
             }
@@ -48,7 +47,7 @@ impl Dispatcher {
             return Err(CoreFault::NoSuchLeg);
         };
         match facts.state {
-            State::Held => Ok(self.refuse(leg, facts)),
+            State::Held => Ok(self.refuse(leg)),
             State::Refused => Ok(Step {
                 place: Place::Held,
                 change: Change::Nothing,
@@ -74,9 +73,8 @@ impl Dispatcher {
     }
 
     /// A held leg without an outcome is stored.
-    fn store_held(&mut self, leg: LegId, facts: LegFacts) -> Step
-        requires at { option_map facts_seen (legs self.old.queues leg.0) ≡ Some facts }
-        requires held { facts.state ≡ State.Held }
+    fn store_held(&mut self, leg: LegId) -> Step
+        requires { state_in (legs self.old.queues leg.0) ≡ Some State.Held }
         ensures { HasDone (at_row (stores (core_view self.old) leg.0) ((core_view self.old).rows.legs leg.0)) (core_view self.new) result }
     {
         let reply = Counted::not_found();
@@ -88,14 +86,12 @@ impl Dispatcher {
     }
 
     /// A leg that the spool had refused, so that it has an outcome, is stored.
-    fn store_refused(&mut self, leg: LegId, facts: LegFacts) -> Step
-        requires at { option_map facts_seen (legs self.old.queues leg.0) ≡ Some facts }
-        requires refused { facts.state ≡ State.Refused }
+    fn store_refused(&mut self, leg: LegId) -> Step
+        requires { state_in (legs self.old.queues leg.0) ≡ Some State.Refused }
         ensures { HasDone (at_row (stores (core_view self.old) leg.0) ((core_view self.old).rows.legs leg.0)) (core_view self.new) result }
     {
         self.queues.spooled(leg);
-        self.counts.queued -= 1;
-        self.counts.spooled += 1;
+        self.counts = self.counts.stored();
         Step {
             place: Place::Spooled,
             change: Change::Spooled,
@@ -103,9 +99,8 @@ impl Dispatcher {
     }
 
     /// The spool refused a held leg without an outcome.
-    fn refuse(&mut self, leg: LegId, facts: LegFacts) -> Step
-        requires at { option_map facts_seen (legs self.old.queues leg.0) ≡ Some facts }
-        requires held { facts.state ≡ State.Held }
+    fn refuse(&mut self, leg: LegId) -> Step
+        requires { state_in (legs self.old.queues leg.0) ≡ Some State.Held }
         ensures { HasDone (at_row (refused (core_view self.old)) ((core_view self.old).rows.legs leg.0)) (core_view self.new) result }
     {
         let reply = Counted::lost();
