@@ -108,12 +108,6 @@ children_more routes i route s total more h is f e =
     capped_more total more (legs_each 0 (children_of (take i routes)) s) (legs_in (view route) (under i s)) e f
     ∙ ap capped (sym (next_child 0 i routes i route s h is (omega arith)))
 
-pub targets_more : (shadows : List Shadow) (i : ℕ) (x : Shadow) (s : Situation) (total more : ℕ) → i < length shadows → x ≡ get_or shadows i x
-    → more ≡ capped (legs_in (shadow_view x).1 (under i s)) → total ≡ capped (legs_each 0 (targets_of (take i shadows)) s) → min (total + more) (2 ^ 64 - 1) ≡ capped (legs_each 0 (targets_of (take (i + 1) shadows)) s)
-targets_more shadows i x s total more h is f e =
-    capped_more total more (legs_each 0 (targets_of (take i shadows)) s) (legs_in (shadow_view x).1 (under i s)) e f
-    ∙ ap capped (sym (next_target shadows i x s h is))
-
 -- ---- the first, and the others, for which no one waits
 
 -- the first child's legs, and those of the others so far
@@ -168,12 +162,18 @@ shadow_places symbol k t (x ∷ shadows) s =
     shadow_places symbol (suc k) (planned.Shadowed symbol x.0.first x.0.last t (plan x.1 (under k s))) shadows s
     ∙ append_assoc (positions t) (positions (plan x.1 (under k s))) (joined (map positions (plan_each (suc k) (trees_of (map (λ x. x.1) shadows)) s)))
 
--- the targets' legs, and its own
-pub pool_count : (q : Pool) (shadows : List Shadow) (s : Situation) (n : ℕ) → n ≡ capped (legs_each 0 (targets_of shadows) (shadowed s)) → min (n + 1) (2 ^ 64 - 1) ≡ capped (legs_in (pool q (ranges_of shadows) (targets_of shadows)) s)
-pool_count q shadows s n e =
-    capped_more n 1 (legs_each 0 (targets_of shadows) (shadowed s)) 1 e refl
-    ∙ ap capped (add-one (legs_each 0 (targets_of shadows) (shadowed s)))
-    ∙ ap (λ ps. capped (length ps)) (sym (shadow_places q.symbol 0 (planned.Send (leg_of q s)) (map shadow_view shadows) (shadowed s)))
+-- its own leg, and those of the targets so far
+pub pool_more : (shadows : List Shadow) (i : ℕ) (x : Shadow) (s : Situation) (total more : ℕ) → i < length shadows → x ≡ get_or shadows i x
+    → more ≡ capped (legs_in (shadow_view x).1 (under i s)) → total ≡ capped (suc (legs_each 0 (targets_of (take i shadows)) s)) → min (total + more) (2 ^ 64 - 1) ≡ capped (suc (legs_each 0 (targets_of (take (i + 1) shadows)) s))
+pool_more shadows i x s total more h is f e =
+    capped_more total more (suc (legs_each 0 (targets_of (take i shadows)) s)) (legs_in (shadow_view x).1 (under i s)) e f
+    ∙ ap capped (moved (legs_each 0 (targets_of (take i shadows)) s) (legs_in (shadow_view x).1 (under i s)) (legs_each 0 (targets_of (take (i + 1) shadows)) s) (next_target shadows i x s h is))
+  where
+    moved : (a b c : ℕ) → c ≡ a + b → suc a + b ≡ suc c
+    moved a b c f = omega (arith, f)
+
+pub pool_count : (q : Pool) (shadows : List Shadow) (s : Situation) (n : ℕ) → n ≡ capped (suc (legs_each 0 (targets_of shadows) (shadowed s))) → n ≡ capped (legs_in (pool q (ranges_of shadows) (targets_of shadows)) s)
+pool_count q shadows s n e = e ∙ ap (λ ps. capped (length ps)) (sym (shadow_places q.symbol 0 (planned.Send (leg_of q s)) (map shadow_view shadows) (shadowed s)))
 
 -- ---- the chosen policy
 

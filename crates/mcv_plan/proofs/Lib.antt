@@ -18,4 +18,5 @@ pub mod CoursesBuilt
 pub mod EntriesLaidOut
 pub mod CoursesEvaluate
 pub mod CountsAdd
+pub mod KnownOutcomes
 pub mod FirstWave

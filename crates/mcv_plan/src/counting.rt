@@ -2,9 +2,9 @@
 
 ghost use Rattle.std.specs.Prelude.{◌≡◌, List, option_map, ℕ};
 ghost use Rattle.mcv_route.specs.Situation.{asked as asked_of};
-ghost use Rattle.mcv_route.specs.Tree.{all_initial};
+ghost use Rattle.mcv_route.specs.Tree.{Pool, all_initial, miss_failover, pool};
 ghost use Rattle.mcv_route.specs.View.{view};
-ghost use Rattle.mcv_rules.specs.Laid.{children_of, situation_at, targets_of};
+ghost use Rattle.mcv_rules.specs.Laid.{children_of, ranges_of, situation_at, targets_of};
 ghost use Rattle.mcv_plan.specs.Counts.{capped, legs_each, legs_in};
 
 use mcv_base::{Mark, Moment, Op, Rest};
@@ -33,10 +33,7 @@ fn count(route: &Route, asked: &Asked) -> usize
     ensures { (position : List ℕ) → result ≡ capped (legs_in (view route.now) (situation_at asked.now position)) }
 {
     match route {
-        Route::Pool { shadows, .. } => {
-            let shadowed = asked.shadowed();
-            count_targets(shadows, &shadowed).saturating_add(1)
-        }
+        Route::Pool { shadows, .. } => count_pool(shadows, asked),
         Route::Null => 0,
         Route::Error => 0,
         Route::AllSync(children) => count_each(children, asked),
@@ -46,22 +43,15 @@ fn count(route: &Route, asked: &Asked) -> usize
             count_each(children, &unheard)
         }
         Route::Failover(children) => count_each(children, asked),
-        Route::MissFailover(children) => {
-            if asked.op.is_reading() {
-                return count_each(children, asked);
-            }
-            match children.first() {
-                Some(first) => count(first, asked),
-                None => 0,
-            }
-        }
+        Route::MissFailover(children) => count_misses(children, asked),
         Route::WarmUp { cold, warm, .. } => {
             let first = count(cold, asked);
             if asked.op.is_reading() {
-                let adding = asked.adding();
                 let second = count(warm, asked);
-                let third = count(cold, &adding);
-                first.saturating_add(second).saturating_add(third)
+                let adding = asked.adding();
+                let filling = count(cold, &adding);
+                let both = first.saturating_add(second);
+                both.saturating_add(filling)
             } else {
                 first
             }
@@ -74,7 +64,11 @@ fn count(route: &Route, asked: &Asked) -> usize
         } => match asked.way(*start, *interval) {
             Way::From => count(from, asked),
             Way::To => count(to, asked),
-            Way::Both => count(from, asked).saturating_add(count(to, asked)),
+            Way::Both => {
+                let source = count(from, asked);
+                let target = count(to, asked);
+                source.saturating_add(target)
+            }
         },
         Route::PrefixSelector { policies, wildcard } => {
             let number = prefix_number(policies, asked.rest);
@@ -94,11 +88,12 @@ fn count(route: &Route, asked: &Asked) -> usize
             let number = policy_number(policies, asked.op);
             if number < policies.len() {
                 let policy = &policies[number];
-                return count(&policy.route, asked);
-            }
-            match default_policy {
-                Some(route) => count(route, asked),
-                None => 0,
+                count(&policy.route, asked)
+            } else {
+                match default_policy {
+                    Some(route) => count(route, asked),
+                    None => 0,
+                }
             }
         }
     }
@@ -132,14 +127,29 @@ fn count_initial(children: &[Route], asked: &Asked) -> usize
     total
 }
 
-/// Those of all shadows' targets.
+/// Those of all children for what reads, and of the first child for the rest.
 #[cycle(counting)]
-fn count_targets(shadows: &[Shadow], asked: &Asked) -> usize
-    ensures { (position : List ℕ) → result ≡ capped (legs_each 0 (targets_of shadows.now) (situation_at asked.now position)) }
+fn count_misses(children: &[Route], asked: &Asked) -> usize
+    ensures { (position : List ℕ) → result ≡ capped (legs_in (miss_failover (children_of children.now)) (situation_at asked.now position)) }
 {
-    let mut total: usize = 0;
+    if !asked.op.is_reading() {
+        return match children.first() {
+            Some(first) => count(first, asked),
+            None => 0,
+        };
+    }
+    count_each(children, asked)
+}
+
+/// A pool's own, and those of all shadows' targets.
+#[cycle(counting)]
+fn count_pool(shadows: &[Shadow], asked: &Asked) -> usize
+    ensures { (q : Pool) (position : List ℕ) → result ≡ capped (legs_in (pool q (ranges_of shadows.now) (targets_of shadows.now)) (situation_at asked.now position)) }
+{
+    let shadowed = asked.shadowed();
+    let mut total: usize = 1;
     for shadow in shadows {
-        total = total.saturating_add(count(&shadow.target, asked));
+        total = total.saturating_add(count(&shadow.target, &shadowed));
     }
     total
 }

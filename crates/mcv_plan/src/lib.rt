@@ -13,6 +13,7 @@ mod counting;
 mod course;
 mod evaluation;
 mod hearing;
+mod launched;
 mod opening;
 mod state;
 
