@@ -14,7 +14,7 @@ use Rattle.mcv_events.specs.Events.{in_state}
 use Rattle.mcv_events.proofs.EventsAreMoves.{answered_moves, performed_moves, refused_moves, spooled_moves, states_are_no_moves, states_keep_cores}
 use Rattle.mcv_core.specs.declared.fault.CoreFault.{CoreFault}
 use Rattle.mcv_core.specs.declared.step.Step.{Step}
-use Rattle.mcv_core.specs.CoreView.{CoreView, Does, Effect, HasEffect, answer_at, answer_in, answered, at_row, change_move, does, flies, held, is_record, landed, loss_at, loss_in, refused, refuses, refusing_at, refusing_in, replayed_in, sent_in, spooling_at, spooling_in, with_mark}
+use Rattle.mcv_core.specs.CoreView.{CoreView, Does, Effect, HasEffect, answer_at, answer_in, at_row, change_move, does, finished, flies, held, is_record, landed, loss_at, loss_in, refused, refuses, refusing_at, refusing_in, replayed_in, sent_in, spooling_at, spooling_in, with_mark}
 
 -- the effect is the move that it names, where the reply was this
 abbrev IsMove : CoreView → ℕ → ReplyValue → Effect → Type 0
@@ -35,7 +35,7 @@ by_test v n x false e f yes other = other refl
 module _ (v : CoreView) (core : IsCore v.routes v.rows) (n : ℕ) (s : LegRow) (at : v.rows.legs n ≡ Some s) where
   sent : (g : Mark → Mark) (x : ReplyValue) → s.state ≡ rows.Sent → IsMove v n x (sent_in (with_mark v s.launch.server.0 g) n (counted_as s.launch.op x) s)
   sent g x is =
-      by_test v n x (is_counted_delete (leg_of s) && is_error_reply (counted_as s.launch.op x)) (held (with_mark v s.launch.server.0 g) n s) (answered (with_mark v s.launch.server.0 g) n s (counted_as s.launch.op x))
+      by_test v n x (is_counted_delete (leg_of s) && is_error_reply (counted_as s.launch.op x)) (held (with_mark v s.launch.server.0 g) n s) (finished (with_mark v s.launch.server.0 g) n (counted_as s.launch.op x) s)
       (λ e. record {
         world = states_are_no_moves v.rows n s rows.Held at (sym (ap place_of is));
         core = states_keep_cores v.routes v.rows n s rows.Held core at (λ t. absurd (true≢false (sym t))) (λ t. both_first (is_counted_delete (leg_of s)) _ e);

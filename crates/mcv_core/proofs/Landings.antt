@@ -180,8 +180,8 @@ module _ (d : Dispatcher) (n : ℕ) (l : Leg Errand) (at : legs d.queues n ≡ S
 
   pub can_settle : (to : Settling) → is_unanswered (awaiting_state l.state) ≡ true → is_flight l.state ≡ is_gone to → count_in (state_of l.state) ≡ 1 → (is_gone to ≡ false → is_counted_delete (leg_of (row_by state_of l)) ≡ true)
       → CanSettle d n to
-  can_settle to open flies_is counts counted =
-      let a = awaited_by l.content.call refl (d.sound.awaiting.awaited n (row_by awaiting_state l) (ap (option_map (row_by awaiting_state)) at) open) in
+  can_settle to unanswered flies_is counts counted =
+      let a = awaited_by l.content.call refl (d.sound.awaiting.awaited n (row_by awaiting_state l) (ap (option_map (row_by awaiting_state)) at) unanswered) in
       record { leg = l; call = a.0; running = a.1; at = at; own = a.2; there = a.3; awaited = a.4; flies = flies_is; queued = counts; counted = counted }
 
   pub counted_held : is_unanswered (state_of l.state) ≡ false → is_counted_delete (leg_of (row_by state_of l)) ≡ true

@@ -9,6 +9,7 @@ pub mod Settlements
 pub mod LegViews
 pub mod Settled
 pub mod Does
+pub mod Sendings
 pub mod Landings
 pub mod Resting
 pub mod Taken

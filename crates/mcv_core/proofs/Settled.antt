@@ -1,6 +1,7 @@
 -- After a leg has left its state, and its call has recorded a reply of it.
 use Rattle.std.proofs.Common.{◌≡◌, cond, inl, inr, ℕ, suc, ◌+◌, ◌<◌, ◌≤◌, ◌^◌, Bool, true, false, nat_eq, Option, Some, None, option_map, refl, sym, ap, ◌∙◌, subst, arith, true≢false}
 use Rattle.std.specs.Arc.{arc_value}
+use Rattle.std.specs.Prelude.{option_and_then, unwrap_or}
 use Rattle.std.proofs.Math.Path.{fun_ext}
 use Rattle.std.proofs.lemmas.Bool.{cases_eq}
 use Rattle.mcv_base.specs.declared.reply.Part.{Part}
@@ -203,3 +204,28 @@ module _ (d : Dispatcher) (n : ℕ) (to : Settling) (can : CanSettle d n to) whe
         pub view_settled : ((m : ℕ) → in_flight q1 m ≡ cond (is_in_flight_to m (legs d.queues n)) None (in_flight d.queues m)) → ((m : ℕ) → in_flight q2 m ≡ in_flight q1 m)
             → record (core_view d) { rows = rows_of (calls_at calls3) (legs q2) (since_of d) d.next_call (d.next_leg + result.launched); flights = in_flight q2 } ≡ has_settled d n to x
         view_settled left same_flights = view_then (in_flight q2) (flies_to d n can.leg can.at to can.flies (in_flight q2) (λ m. same_flights m ∙ left m))
+
+-- ---- the same of the numbers that the code has found
+
+pub owner_call : (d : Dispatcher) (n : ℕ) (to : Settling) (can : CanSettle d n to) (call : ℕ) → call ≡ unwrap_or (option_and_then (λ l. l.content.call) (legs d.queues n)) 0 → can.call ≡ call
+owner_call d n to can call e = sym (e ∙ ap (λ o. unwrap_or (option_and_then (λ (l : Leg Errand). l.content.call) o) 0) can.at ∙ ap (λ o. unwrap_or o 0) can.own)
+
+pub owner_entry : (d : Dispatcher) (n : ℕ) (to : Settling) (can : CanSettle d n to) (entry : ℕ) → entry ≡ unwrap_or (option_map (λ l. l.content.entry) (legs d.queues n)) 0 → can.leg.content.entry ≡ entry
+owner_entry d n to can entry e = sym (e ∙ ap (λ o. unwrap_or (option_map (λ (l : Leg Errand). l.content.entry) o) 0) can.at)
+
+pub code_can_note : (d : Dispatcher) (n : ℕ) (to : Settling) (can : CanSettle d n to) (q1 : Queues Errand) → legs q1 ≡ put (legs d.queues) n (settled_to to (legs d.queues n)) → room d.queues ≤ room q1 → servers q1 ≡ servers d.queues
+    → (call entry : ℕ) → can.call ≡ call → can.leg.content.entry ≡ entry → CanNoteAt (calls_at d.calls) call entry (legs q1) (room q1) (servers q1) d.next_leg
+code_can_note d n to can q1 legs_are wide known call entry call_is entry_is =
+    subst (λ k. CanNoteAt (calls_at d.calls) k entry (legs q1) (room q1) (servers q1) d.next_leg) call_is
+    (subst (λ e. CanNoteAt (calls_at d.calls) can.call e (legs q1) (room q1) (servers q1) d.next_leg) entry_is (can_note d n to can q1 legs_are wide known))
+
+pub code_recorded : (d : Dispatcher) (n : ℕ) (to : Settling) (can : CanSettle d n to) (q1 : Queues Errand) (call entry : ℕ) → can.call ≡ call → can.leg.content.entry ≡ entry → (outcome taken : Part) (calls2 : ℕ → Option Call) (q2 : Queues Errand)
+    (result : Recording) → ((c : Call) → calls_at d.calls call ≡ Some c → IsRecordedAt (calls_at d.calls) calls2 call c entry outcome taken d.next_leg (legs q1) (legs q2) result)
+    → IsRecordedAt (calls_at d.calls) calls2 can.call can.running can.leg.content.entry outcome taken d.next_leg (legs q1) (legs q2) result
+code_recorded d n to can q1 call entry call_is entry_is outcome taken calls2 q2 result raw =
+    subst (λ k. IsRecordedAt (calls_at d.calls) calls2 k can.running can.leg.content.entry outcome taken d.next_leg (legs q1) (legs q2) result) (sym call_is)
+    (subst (λ e. IsRecordedAt (calls_at d.calls) calls2 call can.running e outcome taken d.next_leg (legs q1) (legs q2) result) (sym entry_is) (raw can.running (ap (calls_at d.calls) (sym call_is) ∙ can.there)))
+
+pub code_removed : (d : Dispatcher) (n : ℕ) (to : Settling) (can : CanSettle d n to) (call : ℕ) → can.call ≡ call → (calls2 calls3 : ℕ → Option Call) (ended : Bool) → calls3 ≡ cond ended (put calls2 call None) calls2
+    → calls3 ≡ cond ended (put calls2 can.call None) calls2
+code_removed d n to can call call_is calls2 calls3 ended e = e ∙ ap (λ k. cond ended (put calls2 k None) calls2) (sym call_is)

@@ -1,5 +1,5 @@
 -- A call's state follows its outcomes: its launched entries by their numbers.
-use Rattle.std.proofs.Common.{◌≡◌, ◌&&◌, ◌||◌, not, cond, inl, inr, ℕ, zero, suc, ◌+◌, ◌<◌, ◌≤◌, Bool, true, false, nat_eq, List, [], ◌∷◌, map, length, Option, Some, None, refl, sym, ap, ◌∙◌, subst, arith, true≢false}
+use Rattle.std.proofs.Common.{◌≡◌, ◌&&◌, ◌||◌, not, cond, inl, inr, ℕ, zero, suc, ◌+◌, ◌<◌, ◌≤◌, Bool, true, false, nat_eq, List, [], ◌∷◌, map, length, get_or, Option, Some, None, refl, sym, ap, ◌∙◌, subst, arith, true≢false}
 use Rattle.std.specs.Prelude.{⊤, filter, slice_get}
 use Rattle.std.specs.List.{AllPairs}
 use Rattle.std.proofs.Math.Logic.{∥∥₁_elim}
@@ -42,6 +42,11 @@ pub there_at : (es : List Launch) (e : ℕ) → e < length es → slice_get es e
 there_at [] e low = absurd (omega (arith, low))
 there_at (m ∷ es) zero low = refl
 there_at (m ∷ es) (suc e) low = there_at es e (omega (arith, low))
+
+pub launch_get : (es : List Launch) (e : ℕ) → launch_at es e ≡ get_or es e no_leg
+launch_get [] e = refl
+launch_get (m ∷ es) zero = refl
+launch_get (m ∷ es) (suc e) = launch_get es e
 
 abbrev AreBelow : ℕ → List ℕ → Type 0
 AreBelow n [] = ⊤
@@ -158,7 +163,7 @@ module _ (t : Tree) (s : Situation) (c : Choice) (es : List Launch) (course : St
   sends_are =
       same_numbers es (sends (own_of past) course) (places_from 0 (is_sent t s c (history_by es past)) es) law.laid.rising (are_below (length es) (sends (own_of past) course) sends_below)
       (below_sum (0 + length es) (length es) (places_from 0 (is_sent t s c (history_by es past)) es) (omega arith) (places_below (is_sent t s c (history_by es past)) 0 es))
-      (law.launches past legal ∙ law.laid.all (outcomes (history_by es past)) ∙ sym (map_places (is_sent t s c (history_by es past)) 0 es es (λ j l at. at_launch es j l at)))
+      (law.launches past legal ∙ law.laid.all (outcomes (history_by es past)) ∙ sym (map_places (is_sent t s c (history_by es past)) 0 es es (λ j l at. let z : 0 + j ≡ j = omega arith in ap (launch_at es) z ∙ at_launch es j l at)))
 
 -- ---- outcomes
 

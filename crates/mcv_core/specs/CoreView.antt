@@ -101,12 +101,12 @@ abbrev pub held : CoreView → ℕ → LegRow → Effect
 held v n s = does (step_to places.Held changes.Nothing) (record (landed v s) { rows = with_leg_row v.rows n (Some (in_state s rows.Held)) })
 
 -- any other leg is done with, and its call records the reply
-abbrev pub answered : CoreView → ℕ → LegRow → ReplyValue → Effect
-answered v n s y = does (step_to (place_after s y) changes.Answered) (record (landed v s) { rows = recorded_rows_for v.routes (with_leg_row v.rows n None) s y s.call })
+abbrev pub finished : CoreView → ℕ → ReplyValue → LegRow → Effect
+finished v n y s = does (step_to (place_after s y) changes.Answered) (record (landed v s) { rows = recorded_rows_for v.routes (with_leg_row v.rows n None) s y s.call })
 
 -- a leg that was sent has this reply
 abbrev pub sent_in : CoreView → ℕ → ReplyValue → LegRow → Effect
-sent_in v n y s = cond (is_counted_delete (leg_of s) && is_error_reply y) (held v n s) (answered v n s y)
+sent_in v n y s = cond (is_counted_delete (leg_of s) && is_error_reply y) (held v n s) (finished v n y s)
 
 -- a leg in replay is performed, or waits in the spool again
 abbrev pub replayed_in : CoreView → ℕ → Bool → LegRow → Effect

@@ -5,7 +5,7 @@ ghost use Rattle.mcv_base.specs.Operation.{is_delete};
 ghost use Rattle.mcv_base.specs.Reply.{fixed_value, part_value};
 ghost use Rattle.mcv_queues.specs.Legs.{is_flight, is_in_flight};
 ghost use Rattle.mcv_queues.specs.Queues.{legs};
-ghost use Rattle.mcv_core.specs.CoreView.{Does, HasDone, HasEffect, answer_at, at_row, change_move, held, landing_at, loss_at, replayed_in, sent_in};
+ghost use Rattle.mcv_core.specs.CoreView.{Does, HasDone, HasEffect, answer_at, at_row, change_move, finished, held, landing_at, loss_at, replayed_in, sent_in};
 ghost use Rattle.mcv_core.specs.Facts.{counts_in, facts_of as facts_seen, state_in};
 ghost use Rattle.mcv_core.specs.View.{core_view};
 ghost use Rattle.mcv_core.specs.declared.step.Place.TheVariants as places;
@@ -25,10 +25,14 @@ impl Dispatcher {
         ensures effect { HasEffect (answer_at (core_view self.old) leg.0 parts) (core_view self.old) (core_view self.new) result }
         ensures does { IfOk result (λ step. Does (core_view self.old) (core_view self.new) (change_move leg.0 parts step.change)) }
     {
-        let facts = self.flying(leg)?;
-        let counted = Counted::of(facts.op, parts);
-        self.marks.answered(facts.server);
-        Ok(self.land(leg, facts, counted))
+        match self.flying(leg) {
+            Ok(facts) => {
+                let counted = Counted::of(facts.op, parts);
+                self.marks.answered(facts.server);
+                Ok(self.land(leg, facts, counted))
+            }
+            Err(fault) => Err(fault),
+        }
     }
 
     /// A leg in flight was lost.
@@ -36,9 +40,13 @@ impl Dispatcher {
         ensures effect { HasEffect (loss_at (core_view self.old) leg.0) (core_view self.old) (core_view self.new) result }
         ensures does { IfOk result (λ step. Does (core_view self.old) (core_view self.new) (change_move leg.0 (fixed_value FixedReply.Lost) step.change)) }
     {
-        let facts = self.flying(leg)?;
-        self.marks.lost(facts.server);
-        Ok(self.land(leg, facts, Counted::lost()))
+        match self.flying(leg) {
+            Ok(facts) => {
+                self.marks.lost(facts.server);
+                Ok(self.land(leg, facts, Counted::lost()))
+            }
+            Err(fault) => Err(fault),
+        }
     }
 
     /// What the core looks at of a leg in flight.
@@ -78,11 +86,21 @@ impl Dispatcher {
         requires one { part_value counted.taken ≡ part_value counted.outcome }
         ensures { HasDone (at_row (sent_in (core_view self.old) leg.0 (part_value counted.outcome)) ((core_view self.old).rows.legs leg.0)) (core_view self.new) result }
     {
-        let failed = counted.is_error();
-        if facts.counted_delete && failed {
-            return self.hold(leg);
+        if facts.counted_delete && counted.is_error() {
+            self.hold(leg)
+        } else {
+            self.finish(leg, facts, counted)
         }
-        let place = Place::after(facts.op, failed);
+    }
+
+    /// A leg that was sent is done with, and its call records this reply.
+    fn finish(&mut self, leg: LegId, facts: LegFacts, counted: Counted) -> Step
+        requires at { option_map facts_seen (legs self.old.queues leg.0) ≡ Some facts }
+        requires sent { facts.state ≡ State.Sent }
+        requires one { part_value counted.taken ≡ part_value counted.outcome }
+        ensures { HasDone (at_row (finished (core_view self.old) leg.0 (part_value counted.outcome)) ((core_view self.old).rows.legs leg.0)) (core_view self.new) result }
+    {
+        let place = Place::after(facts.op, counted.is_error());
         self.settle(leg, Settling::Gone, counted.outcome, counted.taken);
         Step {
             place,

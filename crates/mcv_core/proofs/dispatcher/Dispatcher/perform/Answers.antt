@@ -16,10 +16,10 @@ use Rattle.mcv_core.proofs.dispatcher.Dispatcher.perform.Goals as goal
 pub gone-requires : goal.gone-requires
 gone-requires c =
     let l = stated (legs c.args.self.now.queues c.args.leg.0) states.InReplay c.requires in
-    ap is_in_flight l.at ∙ ap is_flight l.is
+    record { there = ap is_in_flight l.at ∙ ap is_flight l.is }
 
-pub performed-requires : goal.performed-requires
-performed-requires c =
+pub performed-self-requires : goal.performed-self-requires
+performed-self-requires c =
     let d = c.args.self.now in
     let l = stated (legs d.queues c.args.leg.0) states.InReplay c.requires in
     LegViews.some_spooled d c.args.leg.0 l.leg l.at l.is
@@ -29,9 +29,9 @@ invariant_of-self c =
     let d = c.args.self.now in
     let l = stated (legs d.queues c.args.leg.0) states.InReplay c.requires in
     let some = LegViews.some_spooled d c.args.leg.0 l.leg l.at l.is in
-    let less : c.performed.result.spooled + 1 ≡ d.counts.spooled = let e : c.performed.result.spooled ≡ d.counts.spooled - 1 = ap (λ v. v.spooled) c.performed.ensures in omega (arith, e, some) in
+    let less : c.performed-self.result.spooled + 1 ≡ d.counts.spooled = let e : c.performed-self.result.spooled ≡ d.counts.spooled - 1 = ap (λ v. v.spooled) c.performed-self.ensures in omega (arith, e, some) in
     record {
-      sound = subst (λ v. LegViews.IsSoundBy d c.gone.new.self v) (sym c.performed.ensures)
+      sound = subst (λ v. LegViews.IsSoundBy d c.gone.new.self v) (sym c.performed-self.ensures)
           (LegViews.sound_gone d c.args.leg.0 l.leg l.at l.is c.gone.new.self c.gone.ensures.legs c.gone.ensures.room c.gone.ensures.servers (d.counts.spooled - 1) (omega (arith, some)));
       table = d.table;
     }

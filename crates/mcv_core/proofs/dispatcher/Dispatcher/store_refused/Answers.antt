@@ -21,8 +21,8 @@ spooled-requires c =
     let l = stated (legs c.args.self.now.queues c.args.leg.0) states.Refused c.requires in
     ap is_in_flight l.at ∙ ap is_flight l.is
 
-pub stored-requires : goal.stored-requires
-stored-requires c =
+pub stored-self-requires : goal.stored-self-requires
+stored-self-requires c =
     let d = c.args.self.now in
     let l = stated (legs d.queues c.args.leg.0) states.Refused c.requires in
     record { queued = LegViews.some_queued d c.args.leg.0 l.leg l.at (ap (λ t. count_in (state_of t)) l.is); fits = LegViews.spool_fits d c.args.leg.0 l.leg l.at (ap (λ t. spooled_in (state_of t)) l.is) }
@@ -33,7 +33,7 @@ invariant_of-self c =
     let l = stated (legs d.queues c.args.leg.0) states.Refused c.requires in
     let some = LegViews.some_queued d c.args.leg.0 l.leg l.at (ap (λ t. count_in (state_of t)) l.is) in
     record {
-      sound = subst (λ v. LegViews.IsSoundBy d c.spooled.new.self v) (sym c.stored.ensures)
+      sound = subst (λ v. LegViews.IsSoundBy d c.spooled.new.self v) (sym c.stored-self.ensures)
           (LegViews.sound_stored d c.args.leg.0 l.leg l.at l.is c.spooled.new.self c.spooled.ensures.legs c.spooled.ensures.room c.spooled.ensures.servers (d.counts.queued - 1) (omega (arith, some)));
       table = d.table;
     }
