@@ -55,11 +55,11 @@ searched_on w cs i p found found2 all x y h is on f e inv =
     let here : found ++ (wave (view p) ++ more) ≡ all = (rw (on, next cs i p h is) at inv) in
     rw (f, e) (append_assoc found (wave (view p)) more ∙ here)
 
-pub answer_on : (o : Own) (w : After) (cs : List Course) (i : ℕ) (p : Course) (x y all : Option Answer) → i < length cs → p ≡ get_or cs i p → goes_on_after w x ≡ true
-    → y ≡ answer_of (answered o (view p)) → answer_from w x (answers_each o (seen (drop i cs))) ≡ all → answer_from w y (answers_each o (seen (drop (i + 1) cs))) ≡ all
-answer_on o w cs i p x y all h is on e inv =
-    let more = answers_each o (seen (drop (i + 1) cs)) in
-    let here : cond (goes_on_after w x) (answer_from w (answer_of (answered o (view p))) more) x ≡ all = (rw (next cs i p h is) at inv) in
+pub answer_on : (w : After) (cs : List Course) (i : ℕ) (p : Course) (x y all : Option Answer) → i < length cs → p ≡ get_or cs i p → goes_on_after w x ≡ true
+    → y ≡ replies_at_once (view p) → answer_from w x (answers_each nothing (seen (drop i cs))) ≡ all → answer_from w y (answers_each nothing (seen (drop (i + 1) cs))) ≡ all
+answer_on w cs i p x y all h is on e inv =
+    let more = answers_each nothing (seen (drop (i + 1) cs)) in
+    let here : cond (goes_on_after w x) (answer_from w (replies_at_once (view p)) more) x ≡ all = (rw (next cs i p h is) at inv) in
     rw e (rw on at here)
 
 pub steps_on : (w : After) (cs : List Course) (i : ℕ) (p : Course) (x y : Option Answer) (n all : ℕ) → i < length cs → p ≡ get_or cs i p → goes_on_after w x ≡ true
@@ -80,7 +80,7 @@ steps_stop w x (y ∷ ys) off = rw off refl
 
 -- ---- the reply of a search
 
-pub at_answer : (n : ℕ) (x : Option Reached) → answer_of (option_map (at n) x) ≡ answer_of x
+at_answer : (n : ℕ) (x : Option Reached) → answer_of (option_map (at n) x) ≡ answer_of x
 at_answer n None = refl
 at_answer n (Some a) = refl
 
@@ -97,9 +97,9 @@ search_answer w x [] = refl
 search_answer w None (y ∷ ys) = refl
 search_answer w (Some a) (y ∷ ys) = goes_along a (search_from w y ys) (answer_from w (answer_of y) (map answer_of ys)) (goes_on w a.answer.outcome) (search_answer w y ys)
 
-pub search_answers : (o : Own) (w : After) (first : Course) (others cs : List Course) (x r : Option Answer) → cs ≡ first ∷ others → x ≡ answer_of (answered o (view first))
-    → r ≡ answer_from w x (answers_each o (seen others)) → r ≡ answer_of (search_answered w (answered_each o (seen cs)))
-search_answers o w first others cs x r is e a = rw is (a ∙ ap (λ z. answer_from w z (answers_each o (seen others))) e ∙ sym (search_answer w (answered o (view first)) (answered_each o (seen others))))
+pub search_answers : (w : After) (first : Course) (others cs : List Course) (x r : Option Answer) → cs ≡ first ∷ others → x ≡ replies_at_once (view first)
+    → r ≡ answer_from w x (answers_each nothing (seen others)) → r ≡ answer_of (search_answered w (answered_each nothing (seen cs)))
+search_answers w first others cs x r is e a = rw is (a ∙ ap (λ z. answer_from w z (answers_each nothing (seen others))) e ∙ sym (search_answer w (answered nothing (view first)) (answered_each nothing (seen others))))
 
 pub room_left : (n m cap : ℕ) (ks bs : List ℕ) → m ≤ n + length ks → n + length (ks ++ bs) ≤ cap → m + length bs ≤ cap
 room_left n m cap ks bs f room = omega (arith, f, room, length-append ks bs)

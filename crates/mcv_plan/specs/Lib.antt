@@ -2,6 +2,7 @@ pub mod Reached
 pub mod State
 pub mod View
 pub mod Past
+pub mod Known
 pub mod Parts
 pub mod Entries
 pub mod Built

@@ -1,5 +1,5 @@
 -- A call after a list of outcomes.
-use Rattle.std.specs.Prelude.{◌≡◌, ◌≤◌, ℕ, zero, suc, false, true, ⊤, List, [], ◌∷◌, if◌then◌else◌, length, None, Option, Some, option_map, slice_index_or, vec_capacity, Vec}
+use Rattle.std.specs.Prelude.{◌≡◌, ◌≤◌, ℕ, zero, suc, false, true, ⊤, List, [], ◌∷◌, if◌then◌else◌, length, None, Option, Some, vec_capacity, Vec}
 use Rattle.std.specs.declared.alloc.Global.{Global}
 use Rattle.mcv_base.specs.declared.reply.Outcome.{Outcome}
 use Rattle.mcv_plan.specs.declared.answer.Answer.{Answer}
@@ -16,10 +16,6 @@ Past = List (ℕ × Outcome)
 abbrev pub own_of : Past → Own
 own_of [] = nothing
 own_of (e ∷ es) = put (own_of es) e.0 (reached e.0 e.1 (suc (length es)))
-
--- where exactly these outcomes are known, by the legs' numbers
-abbrev pub own_in : List (Option Outcome) → Own
-own_in outcomes k = option_map (λ x. reached k x 0) (slice_index_or outcomes k None)
 
 -- each outcome is of a leg that was sent and had none
 abbrev pub IsLegal : State → Past → Type 0

@@ -75,7 +75,7 @@ pub fn waiting_at_once(children: &[Course]) -> usize
 }
 
 /// One, where there is no reply.
-pub fn missing(reply: Option<Answer>) -> usize
+fn missing(reply: Option<Answer>) -> usize
     ensures value { result ≡ missing_in reply }
     ensures bound { result ≤ 1 }
 {
@@ -97,7 +97,7 @@ pub fn worst_at_once(children: &[Course]) -> Option<Answer>
 }
 
 /// The worse of the worst so far and a later reply, where that is there.
-pub fn worse(worst: Option<Answer>, reply: Option<Answer>) -> Option<Answer>
+fn worse(worst: Option<Answer>, reply: Option<Answer>) -> Option<Answer>
     ensures { result ≡ worse_of worst reply }
 {
     match reply {

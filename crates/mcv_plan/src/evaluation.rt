@@ -6,8 +6,9 @@ ghost use Rattle.mcv_route.specs.Tree.{Tree};
 ghost use Rattle.mcv_rules.specs.Laid.{Serves};
 ghost use Rattle.mcv_plan.specs.Entries.{legs_of};
 ghost use Rattle.mcv_plan.specs.Evaluation.{IsAfter, IsAwaited, legs_count, shape};
+ghost use Rattle.mcv_plan.specs.Known.{own_in};
 ghost use Rattle.mcv_plan.specs.Laws.{Evaluates};
-ghost use Rattle.mcv_plan.specs.Past.{Past, new_of, own_in, own_of};
+ghost use Rattle.mcv_plan.specs.Past.{Past, new_of, own_of};
 ghost use Rattle.mcv_plan.specs.State.{holds, sends, wave};
 
 use crate::answer::Answer;

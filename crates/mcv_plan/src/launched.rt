@@ -1,14 +1,13 @@
 //! Which legs are launched where exactly these outcomes are known. Nothing here takes memory.
 
-ghost use Rattle.std.specs.Prelude.{◌≡◌};
+ghost use Rattle.std.specs.Prelude.{◌≡◌, ◌++◌, [], if◌then◌else◌};
 ghost use Rattle.mcv_route.specs.Children.{joined};
-ghost use Rattle.mcv_plan.specs.Past.{own_in};
-ghost use Rattle.mcv_plan.specs.Reached.{all_answered, answer_of, first_answered, search_answered, searched};
+ghost use Rattle.mcv_plan.specs.Known.{own_in};
+ghost use Rattle.mcv_plan.specs.Reached.{all_answered, answer_of, first_answered, is_hit, search_answered, searched};
 ghost use Rattle.mcv_plan.specs.State.{answered, answered_each, answers_each, holds, sends, sends_each};
 ghost use Rattle.mcv_plan.specs.View.{seen, view};
 
 use crate::answer::{Answer, Source, goes_on_after, is_hit};
-use crate::at_once::{missing, worse};
 use crate::course::Course;
 use mcv_base::Outcome;
 use mcv_rules::After;
@@ -28,15 +27,7 @@ pub fn launches(course: &Course, outcomes: &[Option<Outcome>], entry: usize) -> 
             ..
         } => search_launches(*after, children, outcomes, entry),
         Course::Beside { children, .. } => any_launches(children, outcomes, entry),
-        Course::OnHit { first, second, .. } => {
-            if launches(first, outcomes, entry) {
-                return true;
-            }
-            if is_hit(reply_in(first, outcomes)) {
-                return launches(second, outcomes, entry);
-            }
-            false
-        }
+        Course::OnHit { first, second, .. } => hit_launches(first, second, outcomes, entry),
     }
 }
 
@@ -74,6 +65,25 @@ fn search_launches(
     false
 }
 
+/// Whether the first does, or after its hit the second.
+#[cycle(launching)]
+fn hit_launches(
+    first: &Course,
+    second: &Course,
+    outcomes: &[Option<Outcome>],
+    entry: usize,
+) -> bool
+    ensures { result ≡ holds entry (sends (own_in outcomes.now) (view first.now) ++ (if is_hit (answer_of (answered (own_in outcomes.now) (view first.now))) then sends (own_in outcomes.now) (view second.now) else [])) }
+{
+    if launches(first, outcomes, entry) {
+        return true;
+    }
+    if is_hit(reply_in(first, outcomes)) {
+        return launches(second, outcomes, entry);
+    }
+    false
+}
+
 /// The course's reply.
 #[cycle(replying)]
 fn reply_in(course: &Course, outcomes: &[Option<Outcome>]) -> Option<Answer>
@@ -98,14 +108,12 @@ fn reply_in(course: &Course, outcomes: &[Option<Outcome>]) -> Option<Answer>
 fn worst_in(children: &[Course], outcomes: &[Option<Outcome>]) -> Option<Answer>
     ensures { result ≡ answer_of (all_answered (answered_each (own_in outcomes.now) (seen children.now))) }
 {
-    let mut waiting = 0;
     let mut worst = None;
     for child in children {
-        let reply = reply_in(child, outcomes);
-        waiting += missing(reply);
-        worst = worse(worst, reply);
+        let answer = reply_in(child, outcomes)?;
+        worst = Some(answer.over(worst));
     }
-    if waiting == 0 { worst } else { None }
+    worst
 }
 
 /// The reply of a search among the children.

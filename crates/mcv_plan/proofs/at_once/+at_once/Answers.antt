@@ -16,7 +16,7 @@ search_at_once-loop-child-preserved t c =
     let p = c.child-item.result in
     let on : goes_on_after c.args.after c.loop-child.reply ≡ true = sym c.goes_on_after.ensures ∙ c.if-not-goes_on_after.false in
     record {
-      reply = λ s. answer_on nothing c.args.after others i p c.loop-child.reply c.reply_at_once-reply-in-loop-child.result _ c.loop-child-test.true c.child-item.is on
+      reply = λ s. answer_on c.args.after others i p c.loop-child.reply c.reply_at_once-reply-in-loop-child.result _ c.loop-child-test.true c.child-item.is on
           (c.reply_at_once-reply-in-loop-child.ensures (reflects_next nothing others i p c.loop-child-test.true c.child-item.is s)) (here.reply s);
       steps = λ s. steps_on c.args.after others i p c.loop-child.reply c.reply_at_once-reply-in-loop-child.result c.loop-child.steps _ c.loop-child-test.true c.child-item.is on
           (c.reply_at_once-reply-in-loop-child.ensures (reflects_next nothing others i p c.loop-child-test.true c.child-item.is s)) (here.steps s);
@@ -30,7 +30,7 @@ search_at_once-returns-then-not-goes_on_after-clause-reply t c = λ s.
     let shape : c.args.children.now ≡ c.in-Some.first.now ∷ others = search rules in
     let off : goes_on_after c.args.after c.loop-child.reply ≡ false = sym c.goes_on_after.ensures ∙ c.if-not-goes_on_after.true in
     let left = answers_each nothing (seen (drop c.loop-child.child-index others)) in
-    search_answers nothing c.args.after c.in-Some.first.now others c.args.children.now c.reply_at_once-reply.result _ shape (c.reply_at_once-reply.ensures (rw shape at s).0)
+    search_answers c.args.after c.in-Some.first.now others c.args.children.now c.reply_at_once-reply.result _ shape (c.reply_at_once-reply.ensures (rw shape at s).0)
     (sym (answer_stops c.args.after c.loop-child.reply left off) ∙ c.loop-child.invariant.reply (rw shape at s).1)
 
 pub search_at_once-returns-clause-reply : goal.search_at_once-returns-clause-reply
@@ -38,7 +38,7 @@ search_at_once-returns-clause-reply t c = λ s.
     let others = c.in-Some.others.now in
     let shape : c.args.children.now ≡ c.in-Some.first.now ∷ others = search rules in
     let end = ap (λ ds. answer_from c.args.after c.loop-child.reply (answers_each nothing (seen ds))) (sym (drop_all c.loop-child.child-index others c.loop-child-test.false)) in
-    search_answers nothing c.args.after c.in-Some.first.now others c.args.children.now c.reply_at_once-reply.result _ shape (c.reply_at_once-reply.ensures (rw shape at s).0)
+    search_answers c.args.after c.in-Some.first.now others c.args.children.now c.reply_at_once-reply.result _ shape (c.reply_at_once-reply.ensures (rw shape at s).0)
     (end ∙ c.loop-child.invariant.reply (rw shape at s).1)
 
 pub reply_at_once-returns-in-InTurn : goal.reply_at_once-returns-in-InTurn

@@ -11,7 +11,7 @@ loop-child-preserved c =
     let i = c.loop-child.child-index in
     let p = c.child-item.result in
     record {
-      waiting = λ s. waits_on nothing cs i p c.loop-child.waiting c.missing-waiting.result _ c.reply_at_once.result c.loop-child-test.true c.child-item.is
+      waiting = λ s. waits_on cs i p c.loop-child.waiting c.missing-waiting.result _ c.reply_at_once.result c.loop-child-test.true c.child-item.is
           (c.reply_at_once.ensures (reflects_next nothing cs i p c.loop-child-test.true c.child-item.is s)) c.missing-waiting.ensures.value (here.waiting s);
       bound = omega (arith, here.bound, c.missing-waiting.ensures.bound);
     }

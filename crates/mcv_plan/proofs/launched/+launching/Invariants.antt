@@ -1,9 +1,10 @@
-use Rattle.std.proofs.Common.{◌≡◌, ◌+◌, ◌*◌, drop}
+use Rattle.std.proofs.Common.{◌≡◌, ◌+◌, ◌*◌, max, drop}
 use Rattle.mcv_route.specs.Children.{joined}
-use Rattle.mcv_plan.specs.Past.{own_in}
+use Rattle.mcv_plan.specs.Known.{own_in}
 use Rattle.mcv_plan.specs.Reached.{searched}
 use Rattle.mcv_plan.specs.State.{answers_each, holds, sends_each}
 use Rattle.mcv_plan.specs.View.{seen}
+use Rattle.mcv_plan.specs.declared.course.Course.{size-Course}
 use Rattle.mcv_plan.proofs.launched.+launching.Given as goal
 
 -- none so far launches it
@@ -24,3 +25,6 @@ decreases-any_launches l = 2 * goal.size-any_launches l + 1
 
 abbrev pub decreases-search_launches : goal.decreases-search_launches
 decreases-search_launches l = 2 * goal.size-search_launches l + 1
+
+abbrev pub decreases-hit_launches : goal.decreases-hit_launches
+decreases-hit_launches l = 2 * max (size-Course l.first.now) (size-Course l.second.now) + 1

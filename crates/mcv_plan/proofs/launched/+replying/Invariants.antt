@@ -1,5 +1,5 @@
-use Rattle.std.proofs.Common.{None, ◌≡◌, ◌≤◌, ◌+◌, ◌*◌, drop}
-use Rattle.mcv_plan.specs.Past.{own_in}
+use Rattle.std.proofs.Common.{None, ◌≡◌, ◌+◌, ◌*◌, drop}
+use Rattle.mcv_plan.specs.Known.{own_in}
 use Rattle.mcv_plan.specs.Reached.{answer_from, waits}
 use Rattle.mcv_plan.specs.State.{answered_each, answers_each}
 use Rattle.mcv_plan.specs.View.{seen}
@@ -8,9 +8,8 @@ use Rattle.mcv_plan.proofs.launched.+replying.Given as goal
 
 abbrev pub invariant-worst_in-loop-child : goal.invariant-worst_in-loop-child
 invariant-worst_in-loop-child l = record {
-  waiting : l.waiting + waits (answered_each (own_in l.outcomes) (seen (drop l.child-index l.children))) ≡ waits (answered_each (own_in l.outcomes) (seen l.children));
+  all : waits (answered_each (own_in l.outcomes) (seen (drop l.child-index l.children))) ≡ waits (answered_each (own_in l.outcomes) (seen l.children));
   worst : worst_from l.worst (answered_each (own_in l.outcomes) (seen (drop l.child-index l.children))) ≡ worst_from None (answered_each (own_in l.outcomes) (seen l.children));
-  bound : l.waiting ≤ l.child-index;
 }
 
 abbrev pub invariant-search_in-loop-child : goal.invariant-search_in-loop-child

@@ -21,7 +21,7 @@ go_on-loop-child-preserved t c =
     record {
       fresh = λ s. searched_on c.args.after others i p c.loop-child.fresh.items c.open-answered.new.fresh.items _ c.loop-child.answered c.open-answered.result c.loop-child-test.true c.child-item.is on
           (next.fresh (reflects_next nothing others i p c.loop-child-test.true c.child-item.is s)) (next.reply (reflects_next nothing others i p c.loop-child-test.true c.child-item.is s)) (here.fresh s);
-      reply = λ s. answer_on nothing c.args.after others i p c.loop-child.answered c.open-answered.result _ c.loop-child-test.true c.child-item.is on
+      reply = λ s. answer_on c.args.after others i p c.loop-child.answered c.open-answered.result _ c.loop-child-test.true c.child-item.is on
           (next.reply (reflects_next nothing others i p c.loop-child-test.true c.child-item.is s)) (here.reply s);
       steps = λ s. steps_on c.args.after others i p c.loop-child.answered c.open-answered.result c.loop-child.steps _ c.loop-child-test.true c.child-item.is on
           (next.reply (reflects_next nothing others i p c.loop-child-test.true c.child-item.is s)) (here.steps s);
@@ -51,7 +51,7 @@ open_in_turn-go_on-answered-requires t c =
 pub open_in_turn-returns-clause-reply : goal.open_in_turn-returns-clause-reply
 open_in_turn-returns-clause-reply t c = λ s.
     let shape : c.args.children.now ≡ c.in_ok-first.first.now ∷ c.in_ok-first.others.now = search rules in
-    search_answers nothing c.args.after c.in_ok-first.first.now c.in_ok-first.others.now c.args.children.now c.open-answered.result _ shape
+    search_answers c.args.after c.in_ok-first.first.now c.in_ok-first.others.now c.args.children.now c.open-answered.result _ shape
     (c.open-answered.ensures.reply (rw shape at s).0) (c.go_on-answered.ensures.reply (rw shape at s).1)
 
 pub open_on_hit-open-requires : goal.open_on_hit-open-requires

@@ -1,5 +1,5 @@
 use Rattle.std.proofs.Common.{◌∙◌, ap, sym}
-use Rattle.mcv_plan.specs.Past.{own_in}
+use Rattle.mcv_plan.specs.Known.{own_in}
 use Rattle.mcv_plan.specs.State.{holds}
 use Rattle.mcv_plan.specs.View.{view}
 use Rattle.mcv_plan.proofs.Local.{sends_plan}
