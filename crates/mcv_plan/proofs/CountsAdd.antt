@@ -1,5 +1,5 @@
 -- The legs of a handle are those of its children together.
-use Rattle.std.proofs.Common.{◌≡◌, ◌<◌, ◌≤◌, ◌+◌, ◌^◌, ◌-◌, ℕ, suc, zero, Bool, true, false, List, [], ◌∷◌, ◌++◌, length, map, take, get_or, Vec, Box, Global, Option, Some, None, refl, sym, ap, ◌∙◌, subst, arith, add-one, append-nil, append_assoc, length-append}
+use Rattle.std.proofs.Common.{◌≡◌, ◌<◌, ◌≤◌, ◌+◌, ◌^◌, ◌-◌, ℕ, suc, zero, true, false, List, [], ◌∷◌, ◌++◌, length, map, take, get_or, Vec, Box, Global, Option, Some, None, refl, sym, ap, ◌∙◌, subst, arith, add-one, append-nil, append_assoc, length-append}
 use Rattle.std.specs.Prelude.{min}
 use Rattle.std.proofs.Math.Nat.{add-zero}
 use Rattle.std.proofs.Math.Seq.{take-suc}
@@ -7,6 +7,7 @@ use Rattle.std.proofs.lemmas.List.{length-take-le, length-map, map-append}
 use Rattle.mcv_base.specs.declared.reply.Outcome.TheVariants.{Soft}
 use Rattle.mcv_base.specs.Operation.{is_reading}
 use Rattle.mcv_route.specs.Children.{joined, policy_of, prefix_policy, to_both, way_of}
+use Rattle.mcv_route.specs.Outcomes.{Choice}
 use Rattle.mcv_route.specs.Situation.{Situation, adding, asynchronous, shadowed, under}
 use Rattle.mcv_route.specs.Tree.{Pool, Range, Tree, Trees, all_async, all_initial, all_sync, child, error, failover, migrate, miss_failover, pool, warm_up}
 use Rattle.mcv_route.specs.View.{last_view, operation_view, prefix_view, shadow_view, trees_of, view}
@@ -15,14 +16,19 @@ use Rattle.mcv_route.specs.declared.tree.PrefixPolicy.{PrefixPolicy, out-PrefixP
 use Rattle.mcv_route.specs.declared.tree.Route.{OperationSelector, PrefixSelector, Route}
 use Rattle.mcv_route.specs.declared.tree.Shadow.{Shadow}
 use Rattle.mcv_route.proofs.Views.{operation_view-out, prefix_view-out, view-OperationSelector, view-PrefixSelector}
-use Rattle.mcv_rules.specs.Laid.{children_of, operations_of, prefixes_of, ranges_of, targets_of}
+use Rattle.mcv_rules.specs.Laid.{Serves, children_of, operations_of, prefixes_of, ranges_of, targets_of}
+use Rattle.mcv_rules.specs.Places.{places_of}
 use Rattle.mcv_rules.specs.Plan as planned
 use Rattle.mcv_rules.specs.Plans.{leg_of, plan, plan_each, with_shadows}
 use Rattle.mcv_rules.specs.Sound.{positions}
+use Rattle.mcv_rules.specs.declared.plan.Plan.{Plan}
 use Rattle.mcv_rules.proofs.Besides.{first_of}
 use Rattle.mcv_rules.proofs.Choosing.{Chooses, does_child, does_error, last_at, length-prefixes, length-routes, miss_chooses, operation_chooses, policy_at, policy_of-le, prefix_chooses, prefix_policy-le, routes_before}
 use Rattle.mcv_rules.proofs.Serving.{Does, positions-fold, positions-together}
+use Rattle.mcv_plan.specs.Built as sublists
+use Rattle.mcv_plan.specs.Built.{IsSublist}
 use Rattle.mcv_plan.specs.Counts.{capped, legs_each, legs_in}
+use Rattle.mcv_plan.specs.Entries.{legs_of}
 
 -- ---- caps
 
@@ -227,3 +233,15 @@ pub no_wildcard_count : (policies : Vec PrefixPolicy Global) (n : ℕ) (s : Situ
 no_wildcard_count policies n s e h =
     rw (view-PrefixSelector policies None)
     (no_last_count prefix_view _ policies.items n s (prefix_chooses (prefixes_of policies.items) _ s n e) h)
+
+-- ---- under a choice
+
+sublist_count : (ps qs : List (List ℕ)) → IsSublist ps qs → length ps ≤ length qs
+sublist_count ps qs sublists.done = omega arith
+sublist_count ps qs (sublists.kept p x y f) = omega (arith, sublist_count x y f)
+sublist_count ps qs (sublists.left_out q x y f) = omega (arith, sublist_count x y f)
+
+-- never more than the route has
+pub choice_bounded : (p : Plan) (t : Tree) (s : Situation) (c : Choice) → Serves p t s → IsSublist (map (λ l. l.position) (legs_of c p)) (places_of p) → length (legs_of c p) ≤ legs_in t s
+choice_bounded p t s c serves f =
+    omega (arith, sublist_count (map (λ l. l.position) (legs_of c p)) (places_of p) f, length-map (legs_of c p) (λ l. l.position), ap length serves.places)

@@ -2,7 +2,6 @@
 use Rattle.std.proofs.Common.{◌≡◌, ◌<◌, ◌≤◌, ◌+◌, cond, ℕ, zero, suc, Bool, true, false, nat_eq, List, [], ◌∷◌, ◌++◌, length, map, Option, Some, None, option_map, refl, sym, ap, ap₂, ◌∙◌, subst, arith}
 use Rattle.std.specs.Prelude.{◌==◌}
 use Rattle.std.specs.List.{AllPairs, filter}
-use Rattle.std.proofs.lemmas.List.{length-map}
 use Rattle.mcv_base.specs.declared.operation.Op.{Op}
 use Rattle.mcv_base.specs.declared.reply.Outcome.{Outcome}
 use Rattle.mcv_base.specs.declared.reply.Outcome.TheVariants.{Good, Soft, Error}
@@ -47,6 +46,7 @@ use Rattle.mcv_plan.specs.Parts.{AnswersAs, IsFixed, IsOwnOf, SendsAs, reached_o
 use Rattle.mcv_plan.specs.Past.{IsLegal, Past, own_of}
 use Rattle.mcv_plan.specs.Reached.{Own, answer_of}
 use Rattle.mcv_plan.specs.State.{State, answered, entries, holds, plan, sends}
+use Rattle.mcv_plan.proofs.CountsAdd.{choice_bounded}
 use Rattle.mcv_plan.proofs.Local.{answered_plan, entries_plan, sends_plan}
 use Rattle.mcv_plan.proofs.PartsBuilt.{plain_beside}
 use Rattle.mcv_plan.proofs.EntriesLaidOut.{all_legs, below_count, follow_all, part_is_filter, placed_apart}
@@ -136,11 +136,6 @@ sublist_part ps qs sublists.done = no-part []
 sublist_part ps qs (sublists.kept p x y f) = both-parts (p ∷ []) x (p ∷ []) y (whole-part (p ∷ [])) (sublist_part x y f)
 sublist_part ps qs (sublists.left_out q x y f) = both-parts [] x (q ∷ []) y (no-part (q ∷ [])) (sublist_part x y f)
 
-sublist_count : (ps qs : List (List ℕ)) → IsSublist ps qs → length ps ≤ length qs
-sublist_count ps qs sublists.done = omega arith
-sublist_count ps qs (sublists.kept p x y f) = omega (arith, sublist_count x y f)
-sublist_count ps qs (sublists.left_out q x y f) = omega (arith, sublist_count x y f)
-
 -- ---- the law
 
 module _ (p : Plan) (t : Tree) (situation : Situation) (c : Choice) (s : State) (serves : Serves p t situation) (rise : AllPairs StandsBefore (map (λ l. l.position) (legs_of c p))) (course : IsCourseOf c p s) where
@@ -224,5 +219,4 @@ pub courses_evaluate : (p : Plan) (t : Tree) (situation : Situation) (c : Choice
 courses_evaluate p t situation c s serves built =
     let part = sublist_part (map (λ l. l.position) (legs_of c p)) (places_of p) built.places in
     let rise = part.rising (rw serves.places (plan_rises t situation)) in
-    let few : length (legs_of c p) ≤ legs_in t situation = omega (arith, sublist_count (map (λ l. l.position) (legs_of c p)) (places_of p) built.places, length-map (legs_of c p) (λ l. l.position), ap length serves.places) in
-    evaluates p t situation c (plan s) serves (pairs (map (λ l. l.position) (legs_of c p)) rise) (course_of c p s serves.kind built) few
+    evaluates p t situation c (plan s) serves (pairs (map (λ l. l.position) (legs_of c p)) rise) (course_of c p s serves.kind built) (choice_bounded p t situation c serves built.places)

@@ -1,4 +1,4 @@
-use Rattle.std.proofs.Common.{rules, true, false, Some, ◌≡◌, ◌∷◌, ◌∙◌, ap, drop, sym}
+use Rattle.std.proofs.Common.{rules, true, false, None, Some, ◌≡◌, ◌∷◌, ◌∙◌, ap, drop, sym}
 use Rattle.std.proofs.lemmas.List.{drop_all}
 use Rattle.mcv_plan.specs.Known.{own_in}
 use Rattle.mcv_plan.specs.Reached.{answer_from, answer_of, goes_on_after}
@@ -18,7 +18,8 @@ worst_in-loop-child-preserved t c =
     let i = c.loop-child.child-index in
     let p = c.child-item.result in
     let answer = c.in_ok-answer.answer in
-    let there : Some answer ≡ answer_of (answered o (view p)) = sym c.in_ok-answer.was ∙ c.reply_in.ensures in
+    let some : c.reply_in.result ≡ Some answer = search rules in
+    let there : Some answer ≡ answer_of (answered o (view p)) = sym some ∙ c.reply_in.ensures in
     record {
       all = waits_in o cs i p c.loop-child-test.true c.child-item.is answer _ there here.all;
       worst = worst_in o cs i p c.loop-child-test.true c.child-item.is answer c.loop-child.worst _ _ there (ap Some c.over.ensures) here.worst;
@@ -26,8 +27,10 @@ worst_in-loop-child-preserved t c =
 
 pub worst_in-returns-in_err-answer : goal.worst_in-returns-in_err-answer
 worst_in-returns-in_err-answer t c =
-    let o = own_in c.args.outcomes.now in
-    none_in o c.args.children.now c.loop-child.child-index c.child-item.result c.loop-child-test.true c.child-item.is (sym c.in_err-answer.was ∙ c.reply_in.ensures) c.loop-child.invariant.all
+    let silent : c.reply_in.result ≡ None = search rules in
+    let gone : c.from_residual.result ≡ None = search rules in
+    gone
+    ∙ none_in (own_in c.args.outcomes.now) c.args.children.now c.loop-child.child-index c.child-item.result c.loop-child-test.true c.child-item.is (sym silent ∙ c.reply_in.ensures) c.loop-child.invariant.all
 
 pub worst_in-returns : goal.worst_in-returns
 worst_in-returns t c =
