@@ -29,8 +29,8 @@ does_of v new n x step (does done u) good h =
     subst (λ w. Does v w (change_move n x step.change)) (sym h.1) (subst (λ s. Does v u (change_move n x s.change)) same good)
 
 by_test : (v : CoreView) (n : ℕ) (x : ReplyValue) (b : Bool) (e f : Effect) → (b ≡ true → IsMove v n x e) → (b ≡ false → IsMove v n x f) → IsMove v n x (cond b e f)
-by_test v n x true e f yes other = yes refl
-by_test v n x false e f yes other = other refl
+by_test v n x true e f one other = one refl
+by_test v n x false e f one other = other refl
 
 module _ (v : CoreView) (core : IsCore v.routes v.rows) (n : ℕ) (s : LegRow) (at : v.rows.legs n ≡ Some s) where
   sent : (g : Mark → Mark) (x : ReplyValue) → s.state ≡ rows.Sent → IsMove v n x (sent_in (with_mark v s.launch.server.0 g) n (counted_as s.launch.op x) s)

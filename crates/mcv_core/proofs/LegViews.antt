@@ -95,7 +95,7 @@ module _ (d : Dispatcher) (n : ℕ) (l : Leg Errand) (at : legs d.queues n ≡ S
   gone_view q is flies e = λ j. record (core_view d) { rows = gone_rows q is j; flights = flights_landed flies (in_flight q) e j }
 
   -- its row stays as it was
-  row_stays : (s : LegRow) → (core_view d).rows.legs n ≡ Some s → with_leg_row (core_view d).rows n (Some s) ≡ (core_view d).rows
+  pub row_stays : (s : LegRow) → (core_view d).rows.legs n ≡ Some s → with_leg_row (core_view d).rows n (Some s) ≡ (core_view d).rows
   row_stays s e = λ j. record (core_view d).rows { legs = fun_ext (λ m. put_again (core_view d).rows.legs n m s e) j }
     where
       put_again : (f : ℕ → Option LegRow) (k m : ℕ) (s2 : LegRow) → f k ≡ Some s2 → put f k (Some s2) m ≡ f m

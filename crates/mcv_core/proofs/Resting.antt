@@ -3,6 +3,7 @@ use Rattle.std.proofs.Common.{◌≡◌, ◌⊎◌, ◌&&◌, cond, inl, inr, �
 use Rattle.std.specs.Arc.{arc_value}
 use Rattle.std.specs.Prelude.{IfSome}
 use Rattle.std.proofs.lemmas.Bool.{cases_Bool, cases_lt}
+use Rattle.mcv_base.specs.declared.request.Moment.{Moment}
 use Rattle.mcv_queues.specs.declared.leg.Leg.{Leg}
 use Rattle.mcv_queues.specs.declared.leg.State.{State}
 use Rattle.mcv_queues.specs.declared.leg.State.TheVariants as states
@@ -56,18 +57,18 @@ sound_in_era r calls legs2 since moment next_call next_leg reserved queued spool
 }
 
 -- the era's move, or none where the era is the same
-pub era_does : (d : Dispatcher) (since : Option ℕ) (moment : ℕ) → since ≡ since_at (breaks_of (arc_value d.accepted)) moment → (era : Option Era) → IfSome era (λ e. option_map (λ m. m.0) e.since ≡ since)
-    → (era ≡ None → since ≡ since_of d) → Does (core_view d) (record (in_era (core_view d) since) { moment = moment }) (era_move era)
+pub era_does : (d : Dispatcher) (since : Option Moment) (moment : ℕ) → option_map (λ m. m.0) since ≡ since_at (breaks_of (arc_value d.accepted)) moment → (era : Option Era) → IfSome era (λ e. e.since ≡ since)
+    → (era ≡ None → since ≡ d.since) → Does (core_view d) (record (in_era (core_view d) (option_map (λ m. m.0) since)) { moment = moment }) (era_move era)
 era_does d since moment is None changed same = record {
-  world = λ j. record (world_of (core_view d).rows) { since = same refl j };
-  core = (era_moves (arc_value d.accepted) (core_view d).rows since d.sound.core).core;
+  world = λ j. record (world_of (core_view d).rows) { since = ap (option_map (λ (m : Moment). m.0)) (same refl) j };
+  core = (era_moves (arc_value d.accepted) (core_view d).rows (option_map (λ m. m.0) since) d.sound.core).core;
   routes = refl;
 }
 era_does d since moment is (Some era) changed same =
-    subst (λ v. Does (core_view d) (record (in_era (core_view d) since) { moment = moment }) (Some (EraBegan v))) (sym changed)
+    subst (λ v. Does (core_view d) (record (in_era (core_view d) (option_map (λ m. m.0) since)) { moment = moment }) (Some (EraBegan (option_map (λ (m : Moment). m.0) v)))) (sym changed)
     (record {
       allowed = subst (IsEra (arc_value d.accepted)) (sym is) (moments_have_eras (arc_value d.accepted) moment);
-      moves = era_moves (arc_value d.accepted) (core_view d).rows since d.sound.core;
+      moves = era_moves (arc_value d.accepted) (core_view d).rows (option_map (λ m. m.0) since) d.sound.core;
       routes = refl;
     })
 

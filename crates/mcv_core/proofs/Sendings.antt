@@ -1,6 +1,13 @@
 -- Legs that are sent, for the first time or from the spool.
 use Rattle.std.proofs.Common.{◌≡◌, ◌&&◌, cond, inl, inr, ℕ, Bool, true, false, nat_eq, Option, Some, None, option_map, refl, sym, ap, ◌∙◌, subst, true≢false}
+use Rattle.std.proofs.Common.{Result, Ok, Err}
+use Rattle.std.specs.Prelude.{IfErr, IfOk}
 use Rattle.std.specs.Arc.{arc_value}
+use Rattle.mcv_base.specs.declared.request.LegId.{LegId}
+use Rattle.mcv_queues.specs.declared.fault.QueueFault.{QueueFault}
+use Rattle.mcv_queues.specs.declared.fault.QueueFault.TheVariants as queue_faults
+use Rattle.mcv_core.specs.declared.fault.CoreFault.TheVariants as core_faults
+use Rattle.mcv_core.specs.Fault.{queue_fault}
 use Rattle.std.proofs.Math.Path.{fun_ext}
 use Rattle.mcv_queues.specs.declared.leg.Leg.{Leg}
 use Rattle.mcv_queues.specs.declared.leg.State.{State}
@@ -143,3 +150,19 @@ module _ (d : Dispatcher) (s : ℕ) where
 
     pub replayed_does : (h : IsIn n states.InSpool) → legs q ≡ with_state (legs d.queues) n states.InReplay → IsCore (arc_value d.accepted) (LegViews.view_with d q).rows → Unmoved (core_view d) (LegViews.view_with d q)
     replayed_does h is core = record { world = ap world_of (replayed_rows h is); core = core; routes = refl }
+
+-- ---- what holds of the dispatcher, sent or refused
+
+pub next_sound : (d : Dispatcher) (s : ℕ) (result : Result LegId QueueFault) (q : Queues Errand) → IfOk result (λ leg. IsLeast (is_in (legs d.queues) (WaitingFor s)) (Some leg.0)) → IfOk result (λ leg. legs q ≡ with_state (legs d.queues) leg.0 states.Sent)
+    → IfErr result (λ fault. q ≡ d.queues) → room q ≡ room d.queues → servers q ≡ servers d.queues → LegViews.IsSoundWith d q d.counts.queued d.counts.spooled
+next_sound d s (Ok leg) q first sent same room_is known = let h = first_waits d s leg.0 first in LegViews.sound_sent d leg.0 h.leg h.at h.is q sent room_is known
+next_sound d s (Err fault) q first sent same room_is known = subst (λ v. LegViews.IsSoundWith d v d.counts.queued d.counts.spooled) (sym same) d.sound
+
+pub replay_sound : (d : Dispatcher) (s : ℕ) (result : Result LegId QueueFault) (q : Queues Errand) → IfOk result (λ leg. IsLeast (is_in (legs d.queues) (SpooledFor s)) (Some leg.0)) → IfOk result (λ leg. legs q ≡ with_state (legs d.queues) leg.0 states.InReplay)
+    → IfErr result (λ fault. q ≡ d.queues) → room q ≡ room d.queues → servers q ≡ servers d.queues → LegViews.IsSoundWith d q d.counts.queued d.counts.spooled
+replay_sound d s (Ok leg) q first sent same room_is known = let h = first_spooled d s leg.0 first in LegViews.sound_replayed d leg.0 h.leg h.at h.is q sent room_is known
+replay_sound d s (Err fault) q first sent same room_is known = subst (λ v. LegViews.IsSoundWith d v d.counts.queued d.counts.spooled) (sym same) d.sound
+
+pub nothing_waits : (fault : QueueFault) → queue_fault fault ≡ core_faults.NothingWaiting → fault ≡ queue_faults.NothingWaiting
+nothing_waits queue_faults.Busy e = absurd cc
+nothing_waits queue_faults.NothingWaiting e = refl

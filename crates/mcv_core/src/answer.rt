@@ -8,6 +8,7 @@ ghost use Rattle.mcv_queues.specs.Queues.{legs};
 ghost use Rattle.mcv_core.specs.CoreView.{Does, HasDone, HasEffect, answer_at, at_row, change_move, finished, held, landing_at, loss_at, replayed_in, sent_in};
 ghost use Rattle.mcv_core.specs.Facts.{counts_in, facts_of as facts_seen, state_in};
 ghost use Rattle.mcv_core.specs.View.{core_view};
+ghost use Rattle.mcv_base.specs.declared.reply.FixedReply.TheVariants.{Lost as LostReply};
 ghost use Rattle.mcv_core.specs.declared.step.Place.TheVariants as places;
 
 use crate::counted::Counted;
@@ -38,7 +39,7 @@ impl Dispatcher {
     /// A leg in flight was lost.
     pub fn lost(&mut self, leg: LegId) -> Result<Step, CoreFault>
         ensures effect { HasEffect (loss_at (core_view self.old) leg.0) (core_view self.old) (core_view self.new) result }
-        ensures does { IfOk result (λ step. Does (core_view self.old) (core_view self.new) (change_move leg.0 (fixed_value FixedReply.Lost) step.change)) }
+        ensures does { IfOk result (λ step. Does (core_view self.old) (core_view self.new) (change_move leg.0 (fixed_value LostReply) step.change)) }
     {
         match self.flying(leg) {
             Ok(facts) => {

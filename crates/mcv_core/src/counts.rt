@@ -1,6 +1,6 @@
 //! How many legs there are, and how many calls.
 
-ghost use Rattle.std.specs.Prelude.{◌≡◌, ◌+◌, ◌-◌, ◌≤◌, ◌<◌, ◌^◌, cond};
+ghost use Rattle.std.specs.Prelude.{◌≡◌, ◌↔◌, ◌+◌, ◌-◌, ◌≤◌, IsTrue, ◌<◌, ◌^◌, cond};
 ghost use Rattle.mcv_core.specs.Settling.{HasCounted, freed_by, is_settling, is_storing_leg};
 
 use crate::call::Recording;
@@ -102,5 +102,12 @@ impl Counts {
             spooled: self.spooled + 1,
             ..self
         }
+    }
+
+    /// Whether no call runs and no leg is queued.
+    pub fn are_quiet(self) -> bool
+        ensures { IsTrue result ↔ ((self.running ≡ 0) × (self.queued ≡ 0)) }
+    {
+        self.running == 0 && self.queued == 0
     }
 }

@@ -3,7 +3,7 @@
 ghost use Rattle.std.specs.Prelude.{◌≡◌};
 ghost use Rattle.mcv_core.specs.Errands.{launch_of};
 
-use mcv_base::{Request, Rest, ServerId};
+use mcv_base::{Mark, Op, Request, Rest, ServerId};
 use mcv_route::Launch;
 use std::sync::Arc;
 
@@ -33,6 +33,26 @@ impl Errand {
         match self.laid.launches.get(self.entry) {
             Some(launch) => launch.server,
             None => ServerId(0),
+        }
+    }
+
+    /// Its operation.
+    pub fn op(&self) -> Op
+        ensures { result ≡ (launch_of self.now).op }
+    {
+        match self.laid.launches.get(self.entry) {
+            Some(launch) => launch.op,
+            None => Op::Get,
+        }
+    }
+
+    /// Its mark.
+    pub fn mark(&self) -> Mark
+        ensures { result ≡ (launch_of self.now).mark }
+    {
+        match self.laid.launches.get(self.entry) {
+            Some(launch) => launch.mark,
+            None => Mark::Plain,
         }
     }
 }

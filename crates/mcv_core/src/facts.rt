@@ -1,7 +1,7 @@
 //! What the core looks at of a leg, without a loan of it.
 
 ghost use Rattle.std.specs.Prelude.{◌≡◌};
-ghost use Rattle.mcv_core.specs.Facts.{facts_of};
+ghost use Rattle.mcv_core.specs.Facts.{facts_of, is_counting_delete};
 
 use crate::errand::Errand;
 use mcv_base::{Mark, Op, ServerId};
@@ -24,16 +24,20 @@ pub fn facts_of(leg: &Leg<Errand>) -> LegFacts
     ensures { result ≡ facts_of leg.now }
 {
     let errand = &leg.content;
-    let (op, mark) = match errand.laid.launches.get(errand.entry) {
-        Some(launch) => (launch.op, launch.mark),
-        None => (Op::Get, Mark::Plain),
-    };
+    let op = errand.op();
     LegFacts {
         server: leg.server,
         state: leg.state,
         op,
-        counted_delete: op.is_delete() && mark.is_counting(),
+        counted_delete: is_counting_delete(op, errand.mark()),
         call: errand.call,
         entry: errand.entry,
     }
+}
+
+/// Whether it is a delete that lies under no shadow.
+fn is_counting_delete(op: Op, mark: Mark) -> bool
+    ensures { result ≡ is_counting_delete op mark }
+{
+    op.is_delete() && mark.is_counting()
 }

@@ -13,10 +13,11 @@ use crate::fault::CoreFault;
 use mcv_base::{LegId, ServerId};
 use mcv_queues::QueueFault;
 
-impl From<QueueFault> for CoreFault {
-    ghost from_gives = { λ fault e. e ≡ queue_fault fault };
-
-    fn from(fault: QueueFault) -> CoreFault {
+impl CoreFault {
+    /// Why a server is handed no leg.
+    fn refused(fault: QueueFault) -> CoreFault
+        ensures { result ≡ queue_fault fault }
+    {
         match fault {
             QueueFault::Busy => CoreFault::Busy,
             QueueFault::NothingWaiting => CoreFault::NothingWaiting,
@@ -36,8 +37,10 @@ impl Dispatcher {
         ensures only { IfErr result (λ fault. (fault ≡ CoreFault.Busy) ⊎ (fault ≡ CoreFault.NothingWaiting)) }
         ensures err { OnErr result (core_view self.new ≡ core_view self.old) }
     {
-        let leg = self.queues.next(server)?;
-        Ok(leg)
+        match self.queues.next(server) {
+            Ok(leg) => Ok(leg),
+            Err(fault) => Err(CoreFault::refused(fault)),
+        }
     }
 
     /// Sends the first leg of a server that is in the spool: the one with the least number. It stays in the spool.
@@ -51,7 +54,9 @@ impl Dispatcher {
         ensures only { IfErr result (λ fault. (fault ≡ CoreFault.Busy) ⊎ (fault ≡ CoreFault.NothingWaiting)) }
         ensures err { OnErr result (core_view self.new ≡ core_view self.old) }
     {
-        let leg = self.queues.replay(server)?;
-        Ok(leg)
+        match self.queues.replay(server) {
+            Ok(leg) => Ok(leg),
+            Err(fault) => Err(CoreFault::refused(fault)),
+        }
     }
 }

@@ -7,6 +7,7 @@ ghost use Rattle.mcv_world.specs.Moves.{is_one};
 ghost use Rattle.mcv_core.specs.CoreView.{Does, HasDone, HasEffect, at_row, change_move, is_record, refused, refusing_at, spooling_at, stores};
 ghost use Rattle.mcv_core.specs.Facts.{state_in};
 ghost use Rattle.mcv_core.specs.View.{core_view};
+ghost use Rattle.mcv_base.specs.declared.reply.FixedReply.TheVariants.{Lost as LostReply};
 
 use crate::counted::Counted;
 use crate::dispatcher::Dispatcher;
@@ -41,7 +42,7 @@ impl Dispatcher {
     /// The spool refused a held leg: its call records an error, unless it has an outcome.
     pub fn spool_refused(&mut self, leg: LegId) -> Result<Step, CoreFault>
         ensures effect { HasEffect (refusing_at (core_view self.old) leg.0) (core_view self.old) (core_view self.new) result }
-        ensures does { IfOk result (λ step. Does (core_view self.old) (core_view self.new) (change_move leg.0 (fixed_value FixedReply.Lost) step.change)) }
+        ensures does { IfOk result (λ step. Does (core_view self.old) (core_view self.new) (change_move leg.0 (fixed_value LostReply) step.change)) }
     {
         let Some(facts) = self.facts(leg) else {
             return Err(CoreFault::NoSuchLeg);

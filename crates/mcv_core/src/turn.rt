@@ -53,7 +53,10 @@ impl Dispatcher {
     fn is_at_rest(&self) -> bool
         ensures { IsTrue result ↔ IsAtRest (core_view self.now) }
     {
-        self.counts.running == 0 && self.counts.queued == 0 && self.queues.in_replay().is_none()
+        if !self.counts.are_quiet() {
+            return false;
+        }
+        self.queues.in_replay().is_none()
     }
 
     /// A new chapter begins, where no call runs, no leg is queued and none is in replay. It has an entry for each leg in
