@@ -4,6 +4,15 @@ use Rattle.std.specs.Arc.{arc_value}
 use Rattle.std.specs.declared.alloc.Global.{Global}
 use Rattle.std.specs.Prelude.{filter, is_some, option_and_then, slice_get}
 use Rattle.std.proofs.Math.Path.{fun_ext}
+use Rattle.std.specs.Prelude.{unwrap_or}
+use Rattle.std.proofs.lemmas.Option.{get_or_from_slice_get, slice_get_within}
+use Rattle.mcv_base.specs.declared.operation.Op.{Op}
+use Rattle.mcv_blocks.proofs.PoolSizes.{entry_sized, pool_sound}
+use Rattle.mcv_symbolic.specs.Covered.{sizes_of}
+use Rattle.mcv_rules.proofs.Leaves.{legs_are_of_pools}
+use Rattle.mcv_route.specs.Launched.{launched}
+use Rattle.mcv_route.specs.Situation.{asked}
+use Rattle.mcv_route.specs.Tree.{error}
 use Rattle.std.proofs.lemmas.Bool.{cases_Bool, cases_eq, cases_lt}
 use Rattle.mcv_queues.specs.declared.leg.Leg.{Leg}
 use Rattle.mcv_queues.specs.declared.leg.State.{State}
@@ -11,8 +20,8 @@ use Rattle.mcv_queues.specs.declared.leg.State.TheVariants.{Waiting}
 use Rattle.mcv_queues.specs.declared.queues.Queues.{Queues}
 use Rattle.mcv_queues.specs.Queues.{in_flight, legs, room, servers}
 use Rattle.mcv_route.specs.declared.launch.Launch.{Launch}
-use Rattle.mcv_route.specs.Outcomes.{outcomes}
-use Rattle.mcv_route.specs.Routes.{RoutesValue}
+use Rattle.mcv_route.specs.Outcomes.{Choice, IsChoice, outcomes}
+use Rattle.mcv_route.specs.Routes.{IsSoundRoutes, IsSoundTree, RouteEntry, RoutesValue}
 use Rattle.mcv_route.specs.Verdict.{Has}
 use Rattle.mcv_world.specs.World as world
 use Rattle.mcv_world.specs.World.{put, tree_of, situation_of, choice_of, history_of}
@@ -290,3 +299,23 @@ module _ (d : Dispatcher) (c : Call) (can : CanAdd d c) where
             known = let a = d.sound.known in omega (arith, a, known);
             era = d.sound.era;
           }
+
+-- ---- where legs go
+
+pub goes_to_servers : (r : RoutesValue) (route : ℕ) (entry : RouteEntry) → slice_get r.entries route ≡ Some entry → IsSoundRoutes r → (op : Op) (rest : List ℕ) (since : Option ℕ) (c : Choice) → IsChoice (sizes_of r) c
+    → GoesToServers (length r.servers) (tree_of r route) (asked op rest since) c
+goes_to_servers r route entry at sound op rest since c choice o l h =
+    let tree : tree_of r route ≡ entry.tree = ap (λ v. unwrap_or (option_map (λ e. e.tree) v) error) at in
+    let here : Has (launched entry.tree (asked op rest since) c o) (λ m. m ≡ l) = subst (λ t. Has (launched t (asked op rest since) c o) (λ m. m ≡ l)) tree h in
+    let leg = legs_are_of_pools entry.tree op rest since c o l here in
+    let low = slice_get_within r.entries route entry at in
+    let its = get_or_from_slice_get r.entries route entry entry at in
+    let sized = entry_sized r entry sound (route, low, its) l.position leg.0 leg.1 in
+    let sound_tree : IsSoundTree (length r.servers) r.symbols entry.tree = subst (λ (e : RouteEntry). IsSoundTree (length r.servers) r.symbols e.tree) its (sound route entry low) in
+    let pool = pool_sound (length r.servers) r.symbols entry.tree l.position leg.0 sound_tree leg.1 in
+    let index = choice leg.0.symbol sized.0 in
+    let size = sized.1 in
+    let below : c leg.0.symbol < length leg.0.servers = omega (arith, index, size) in
+    let server = pool.known (c leg.0.symbol) 0 below in
+    let same = leg.2 in
+    omega (arith, server, same)

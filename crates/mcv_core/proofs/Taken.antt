@@ -50,16 +50,19 @@ use Rattle.mcv_core.specs.declared.calls.Calls.{Calls}
 use Rattle.mcv_core.specs.declared.counts.Counts.{Counts}
 use Rattle.mcv_core.specs.declared.dispatcher.Dispatcher.{Dispatcher}
 use Rattle.mcv_core.specs.declared.errand.Errand.{Errand}
+use Rattle.mcv_core.specs.declared.take.Taking.{Taking}
 use Rattle.mcv_core.specs.Calls.{calls_at}
+use Rattle.mcv_core.specs.CoreView.{Moved}
 use Rattle.mcv_core.specs.Launching.{places_of}
 use Rattle.mcv_core.specs.Noting.{has_ended_by}
 use Rattle.mcv_core.specs.Rows.{all_rows, awaiting_rows, awaiting_state, call_of, call_row, call_rows, entries_of, has_outcome, past_next, past_of, recorded_all, recorded_next, rows_by, rows_of, state_of, taken_at, IsRunning}
 use Rattle.mcv_core.specs.Sound.{one, IsSound}
-use Rattle.mcv_core.specs.Taking.{AreKept, HasTaken, kept_of, source_reply}
+use Rattle.mcv_core.specs.Taking.{AreKept, HasTaken, IsTakenAt, kept_of, source_reply}
 use Rattle.mcv_core.specs.Tracked.{IsTracked, Past, history_by, launch_at}
 use Rattle.mcv_core.specs.View.{core_view, since_of}
 use Rattle.mcv_core.proofs.Passing.{all_by_count, count, count_both}
 use Rattle.mcv_core.proofs.Recordings.{history_is}
+use Rattle.mcv_core.proofs.Settled.{removed}
 use Rattle.mcv_core.proofs.Settlements.{call_put, cond_some}
 use Rattle.mcv_core.proofs.Tracking.{there_at}
 
@@ -378,3 +381,90 @@ module _ (d : Dispatcher) (k : ℕ) (c : Call) (there : calls_at d.calls k ≡ S
         by_taken : (b : Bool) → cond b None (reply_of r (call_of c)) ≡ None → (not b && is_some (reply_of r (call_of c))) ≡ false
         by_taken true e = refl
         by_taken false e = ap is_some e
+
+-- ---- the same of what the code has found
+
+pub there_of : (calls : ℕ → Option Call) (k : ℕ) (result : Option Taking) (t : Taking) → (calls k ≡ None → result ≡ None) → result ≡ Some t → (c : Call) × (calls k ≡ Some c)
+there_of calls k result t absent is = by_call (calls k) refl
+  where
+    by_call : (o : Option Call) → calls k ≡ o → (c : Call) × (calls k ≡ Some c)
+    by_call None at = no_some (sym (absent at) ∙ is)
+    by_call (Some c) at = (c, at)
+
+pub absent_of : (calls calls2 : ℕ → Option Call) (k : ℕ) (result : Option Taking) → ((c : Call) → calls k ≡ Some c → IsTakenAt calls calls2 k c result) → result ≡ None → calls k ≡ None
+absent_of calls calls2 k result there is = by_call (calls k) refl
+  where
+    by_call : (o : Option Call) → calls k ≡ o → calls k ≡ None
+    by_call None at = at
+    by_call (Some c) at = no_some (sym is ∙ (there c at).is)
+
+sound_alike : (r : RoutesValue) (calls calls2 : ℕ → Option Call) (legs2 : ℕ → Option (Leg Errand)) (since : Option ℕ) (moment next_call next_leg : ℕ) (counts counts2 : Counts) (room2 servers2 : ℕ) → calls2 ≡ calls → counts2.reserved ≡ counts.reserved
+    → counts2.queued ≡ counts.queued → counts2.spooled ≡ counts.spooled → counts2.running ≡ counts.running
+    → IsSound r calls legs2 since moment next_call next_leg counts.reserved counts.queued counts.spooled counts.running room2 servers2
+    → IsSound r calls2 legs2 since moment next_call next_leg counts2.reserved counts2.queued counts2.spooled counts2.running room2 servers2
+sound_alike r calls calls2 legs2 since moment next_call next_leg counts counts2 room2 servers2 a b c e f h =
+    subst (λ v. IsSound r v legs2 since moment next_call next_leg counts2.reserved counts2.queued counts2.spooled counts2.running room2 servers2) (sym a)
+    (subst (λ v. IsSound r calls legs2 since moment next_call next_leg v counts2.queued counts2.spooled counts2.running room2 servers2) (sym b)
+    (subst (λ v. IsSound r calls legs2 since moment next_call next_leg counts.reserved v counts2.spooled counts2.running room2 servers2) (sym c)
+    (subst (λ v. IsSound r calls legs2 since moment next_call next_leg counts.reserved counts.queued v counts2.running room2 servers2) (sym e)
+    (subst (λ v. IsSound r calls legs2 since moment next_call next_leg counts.reserved counts.queued counts.spooled v room2 servers2) (sym f) h))))
+
+module _ (d : Dispatcher) (k : ℕ) (calls2 : Calls) (result : Option Taking) (there : (c : Call) → calls_at d.calls k ≡ Some c → IsTakenAt (calls_at d.calls) (calls_at calls2) k c result) (t : Taking) (found : (c : Call) × (calls_at d.calls k ≡ Some c))
+    (is : result ≡ Some t) where
+  abbrev was : IsTakenAt (calls_at d.calls) (calls_at calls2) k found.0 result
+  was = there found.0 found.1
+
+  t_is : t ≡ record { part = was.part; left = was.call.left; ended = has_ended_by was.call }
+  t_is = same_some (sym is ∙ was.is)
+
+  pub left_fits : t.left ≤ d.counts.reserved
+  left_fits = let low = left_reserved d k found.0 found.1 in let same = left_is (arc_value d.accepted) k found.0 (d.sound.calls_run k found.0 found.1) was.call was.part was.took in let e : t.left ≡ was.call.left = ap (λ v. v.left) t_is in omega (arith, low, same, e)
+
+  pub runs : 1 ≤ d.counts.running
+  runs = one_runs d k found.0 found.1
+
+  pub part_of : t.part ≡ was.part
+  part_of = ap (λ v. v.part) t_is
+
+  module _ (calls3 : Calls) (calls3_is : calls_at calls3 ≡ cond t.ended (put (calls_at calls2) k None) (calls_at calls2)) where
+    calls3_put : calls_at calls3 ≡ put (calls_at d.calls) k (cond (has_ended_by was.call) None (Some was.call))
+    calls3_put = removed (calls_at d.calls) (calls_at calls2) (calls_at calls3) k was.call (has_ended_by was.call) was.at (calls3_is ∙ ap (λ b. cond b (put (calls_at calls2) k None) (calls_at calls2)) (ap (λ v. v.ended) t_is))
+
+    unchanged : was.part ≡ None → calls_at calls3 ≡ calls_at d.calls
+    unchanged none =
+        calls3_put ∙ ap (λ b. put (calls_at d.calls) k (cond b None (Some was.call))) (nothing_ends d k found.0 found.1 was.call was.part was.took none) ∙ nothing_changes d k found.0 found.1 was.call was.part was.took none
+
+    pub sound_then : (counts : Counts) → counts.queued ≡ d.counts.queued → counts.spooled ≡ d.counts.spooled → counts.reserved + cond t.ended t.left 0 ≡ d.counts.reserved → counts.running + cond t.ended 1 0 ≡ d.counts.running
+        → IsSound (arc_value d.accepted) (calls_at calls3) (legs d.queues) (since_of d) d.moment.0 d.next_call d.next_leg counts.reserved counts.queued counts.spooled counts.running (room d.queues) (servers d.queues)
+    sound_then counts queued spooled reserved running_is = by_part was.part refl
+      where
+        reserved2 : counts.reserved + cond (has_ended_by was.call) was.call.left 0 ≡ d.counts.reserved
+        reserved2 = ap (λ v. counts.reserved + cond v.ended v.left 0) (sym t_is) ∙ reserved
+
+        running2 : counts.running + cond (has_ended_by was.call) 1 0 ≡ d.counts.running
+        running2 = ap (λ v. counts.running + cond v.ended 1 0) (sym t_is) ∙ running_is
+
+        by_part : (o : Option Part) → was.part ≡ o
+            → IsSound (arc_value d.accepted) (calls_at calls3) (legs d.queues) (since_of d) d.moment.0 d.next_call d.next_leg counts.reserved counts.queued counts.spooled counts.running (room d.queues) (servers d.queues)
+        by_part None none =
+            let stays = nothing_ends d k found.0 found.1 was.call was.part was.took none in
+            let a : counts.reserved + 0 ≡ d.counts.reserved = ap (λ b. counts.reserved + cond b was.call.left 0) (sym stays) ∙ reserved2 in
+            let b : counts.running + 0 ≡ d.counts.running = ap (λ b. counts.running + cond b 1 0) (sym stays) ∙ running2 in
+            sound_alike (arc_value d.accepted) (calls_at d.calls) (calls_at calls3) (legs d.queues) (since_of d) d.moment.0 d.next_call d.next_leg d.counts counts (room d.queues) (servers d.queues) (unchanged none) (omega (arith, a)) queued spooled
+            (omega (arith, b)) d.sound
+        by_part (Some p) some = sound_taken d k found.0 found.1 was.call was.part was.took p some calls3 calls3_put counts queued spooled reserved2 running2
+
+    -- ---- what contracts see
+
+    pub moves_then : (p : Part) → t.part ≡ Some p → Moved (core_view d) (record (core_view d) { rows = rows_of (calls_at calls3) (legs d.queues) (since_of d) d.next_call d.next_leg }) (Taken k)
+    moves_then p some = record { allowed = tt; moves = is_move_of d k found.0 found.1 was.call was.part was.took p (sym part_of ∙ some) calls3 calls3_put state_of d.sound.core; routes = refl }
+
+    pub reply_then : (p : Part) → t.part ≡ Some p → option_and_then (reply_of (arc_value d.accepted)) ((world_of (core_view d).rows).calls k) ≡ Some (part_value p)
+    reply_then p some =
+        ap (λ o. option_and_then (reply_of (arc_value d.accepted)) (option_map (λ z. z.call) (option_map call_row o))) found.1 ∙ replied d k found.0 found.1 was.call was.part was.took p (sym part_of ∙ some)
+
+    pub none_then : t.part ≡ None
+        → (record (core_view d) { rows = rows_of (calls_at calls3) (legs d.queues) (since_of d) d.next_call d.next_leg } ≡ core_view d) × (is_move (arc_value d.accepted) (world_of (core_view d).rows) (Taken k) ≡ false)
+    none_then none =
+        let stays = unchanged (sym part_of ∙ none) in
+        (ap (λ f. record (core_view d) { rows = rows_of f (legs d.queues) (since_of d) d.next_call d.next_leg }) stays, not_taken d k found.0 found.1 was.call was.part was.took (sym part_of ∙ none))
