@@ -1,5 +1,5 @@
 -- The parts of a plan tell what the landed definitions say.
-use Rattle.std.proofs.Common.{◌≡◌, ◌⊎◌, inl, inr, ◌<◌, ◌≤◌, ◌+◌, cond, max, ℕ, zero, suc, Bool, true, false, ◌&&◌, ◌||◌, nat_eq, nat_lt, nat_le, List, [], ◌∷◌, ◌++◌, length, map, Option, Some, None, option_map, refl, sym, ap, ap₂, ◌∙◌, arith}
+use Rattle.std.proofs.Common.{◌≡◌, ◌⊎◌, inl, inr, ◌<◌, ◌≤◌, cond, max, ℕ, suc, Bool, true, false, ◌&&◌, ◌||◌, nat_lt, nat_le, List, [], ◌∷◌, map, Option, Some, None, option_map, refl, sym, ap, ◌∙◌, arith}
 use Rattle.std.specs.Prelude.{◌==◌, fold}
 use Rattle.mcv_base.specs.declared.reply.Outcome.{Outcome}
 use Rattle.mcv_base.specs.declared.reply.Outcome.TheVariants.{Good, Soft, Error}
@@ -9,7 +9,6 @@ use Rattle.mcv_rules.specs.declared.arrival.Answer as answers
 use Rattle.mcv_rules.specs.declared.arrival.Arrival.{Arrival}
 use Rattle.mcv_rules.specs.declared.status.Source as sources
 use Rattle.mcv_rules.specs.declared.arrival.After.{After}
-use Rattle.mcv_plan.specs.declared.answer.Answer.{Answer}
 use Rattle.mcv_plan.specs.declared.answer.Source.{Source}
 use Rattle.mcv_plan.specs.Reached.{Reached, all_answered, at, came_of, goes_on, join, last_came, later, next_answered, prevails, search_from, waits, weight}
 use Rattle.mcv_plan.specs.Parts.{said, reached_of}

@@ -1,5 +1,5 @@
 -- The legs of a handle are those of its children together.
-use Rattle.std.proofs.Common.{◌≡◌, ◌<◌, ◌≤◌, ◌+◌, ◌^◌, ◌-◌, ℕ, suc, zero, true, false, List, [], ◌∷◌, ◌++◌, length, map, take, get_or, Vec, Box, Global, Option, Some, None, refl, sym, ap, ◌∙◌, subst, arith, add-one, append-nil, append_assoc, length-append}
+use Rattle.std.proofs.Common.{◌≡◌, ◌<◌, ◌≤◌, ◌+◌, ◌^◌, ◌-◌, ℕ, suc, true, false, List, [], ◌∷◌, ◌++◌, length, map, take, get_or, Vec, Box, Global, Option, Some, None, refl, sym, ap, ◌∙◌, subst, arith, add-one, append-nil, append_assoc, length-append}
 use Rattle.std.specs.Prelude.{min}
 use Rattle.std.proofs.Math.Nat.{add-zero}
 use Rattle.std.proofs.Math.Seq.{take-suc}

@@ -1,6 +1,6 @@
 -- Courses in memory are those of their plans: one more in a list, and one part at a time.
-use Rattle.std.proofs.Common.{◌≡◌, ◌≢◌, ◌<◌, ◌≤◌, ◌+◌, cond, ℕ, zero, suc, Bool, true, false, List, [], ◌∷◌, ◌++◌, length, map, take, get_or, Vec, Box, Global, Option, refl, sym, ap, ap₂, ◌∙◌, subst, arith, add-one, append-nil, append_assoc, length-append, vec_len}
-use Rattle.std.specs.Prelude.{◌==◌, vec_capacity}
+use Rattle.std.proofs.Common.{◌≡◌, ◌≢◌, ◌<◌, ◌+◌, ℕ, zero, suc, Bool, true, false, List, [], ◌∷◌, ◌++◌, length, map, take, get_or, Vec, Box, Global, refl, sym, ap, ◌∙◌, arith, add-one, append-nil, append_assoc, length-append, vec_len}
+use Rattle.std.specs.Prelude.{◌==◌}
 use Rattle.std.proofs.Math.Seq.{take-suc}
 use Rattle.std.proofs.lemmas.List.{length-map, map-append}
 use Rattle.mcv_base.specs.declared.reply.FixedReply.TheVariants.{ErrorRoute}
@@ -9,7 +9,6 @@ use Rattle.mcv_route.specs.Children.{is_within, joined}
 use Rattle.mcv_route.specs.Outcomes.{Choice}
 use Rattle.mcv_rules.specs.declared.plan.PlannedLeg.{PlannedLeg}
 use Rattle.mcv_rules.specs.declared.plan.Plan.{Plan, Send, Shadowed}
-use Rattle.mcv_plan.specs.declared.answer.Answer.{Answer}
 use Rattle.mcv_plan.specs.declared.course.Course as courses
 use Rattle.mcv_plan.specs.declared.course.Course.{Course}
 use Rattle.mcv_plan.specs.Built.{BuiltEach, IsBuilt}

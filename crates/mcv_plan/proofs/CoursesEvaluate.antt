@@ -1,11 +1,10 @@
 -- The course of a plan that serves a route launches and replies as the definitions say.
-use Rattle.std.proofs.Common.{◌≡◌, ◌<◌, ◌≤◌, ◌+◌, cond, ℕ, zero, suc, Bool, true, false, nat_eq, List, [], ◌∷◌, ◌++◌, length, map, Option, Some, None, option_map, refl, sym, ap, ap₂, ◌∙◌, subst, arith}
+use Rattle.std.proofs.Common.{◌≡◌, ◌<◌, ◌≤◌, cond, ℕ, zero, true, false, List, [], ◌∷◌, ◌++◌, length, map, Option, Some, None, option_map, refl, sym, ap, ◌∙◌, arith}
 use Rattle.std.specs.Prelude.{◌==◌}
-use Rattle.std.specs.List.{AllPairs, filter}
+use Rattle.std.specs.List.{AllPairs}
 use Rattle.mcv_base.specs.declared.operation.Op.{Op}
 use Rattle.mcv_base.specs.declared.reply.Outcome.{Outcome}
 use Rattle.mcv_base.specs.declared.reply.Outcome.TheVariants.{Good, Soft, Error}
-use Rattle.mcv_base.specs.declared.reply.FixedReply.{FixedReply}
 use Rattle.mcv_base.specs.declared.reply.FixedReply.TheVariants as fixed_replies
 use Rattle.mcv_base.specs.declared.reply.Part.{Part}
 use Rattle.mcv_base.specs.declared.reply.Part.TheVariants as parts
@@ -13,16 +12,15 @@ use Rattle.mcv_base.specs.Reply.{outcome_of, part_value}
 use Rattle.mcv_route.specs.declared.launch.Answered.{Answered}
 use Rattle.mcv_route.specs.declared.launch.Launch.{Launch}
 use Rattle.mcv_route.specs.Launched.{launched}
-use Rattle.mcv_route.specs.Outcomes.{Choice, History, Outcomes, outcomes}
+use Rattle.mcv_route.specs.Outcomes.{Choice, Outcomes, outcomes}
 use Rattle.mcv_route.specs.Replies as definition
-use Rattle.mcv_route.specs.Reply.{Arrival, arrival, came, reply}
+use Rattle.mcv_route.specs.Reply.{arrival, came, reply}
 use Rattle.mcv_route.specs.Situation.{Situation}
 use Rattle.mcv_route.specs.Tree.{Tree}
 use Rattle.mcv_route.specs.Verdict.{Has}
 use Rattle.mcv_rules.specs.Arrivals as arrivals
 use Rattle.mcv_rules.specs.declared.arrival.Answer as answers
 use Rattle.mcv_rules.specs.declared.arrival.Arrival as theirs
-use Rattle.mcv_rules.specs.declared.status.Source as sources
 use Rattle.mcv_rules.specs.declared.status.Source.TheVariants as variants
 use Rattle.mcv_rules.specs.declared.plan.Plan.{Plan}
 use Rattle.mcv_rules.specs.History.{history_of, place_of}
@@ -32,8 +30,6 @@ use Rattle.mcv_rules.specs.Rows.{StandsBefore}
 use Rattle.mcv_rules.specs.Status.{source_of}
 use Rattle.mcv_rules.proofs.One.{reply_is_one_of}
 use Rattle.mcv_rules.proofs.True.{answers_are_true}
-use Rattle.mcv_plan.specs.declared.answer.Source.{Source}
-use Rattle.mcv_plan.specs.declared.answer.Source.TheVariants.{Fixed}
 use Rattle.mcv_rules.specs.Places.{is_plain, kind_of, places_of}
 use Rattle.mcv_rules.proofs.Rising.{IsPart, both-parts, no-part, pairs, plan_rises, whole-part}
 use Rattle.mcv_plan.specs.Built as sublists
@@ -41,18 +37,18 @@ use Rattle.mcv_plan.specs.Built.{IsBuilt, IsSublist}
 use Rattle.mcv_plan.specs.Counts.{legs_in}
 use Rattle.mcv_plan.specs.Entries.{legs_of, numbers}
 use Rattle.mcv_plan.specs.Evaluation.{leg_at}
-use Rattle.mcv_plan.specs.Laws.{Evaluates, IsLaidOut, IsReply, has_position, history_at, position_at}
-use Rattle.mcv_plan.specs.Parts.{AnswersAs, IsFixed, IsOwnOf, SendsAs, reached_of}
+use Rattle.mcv_plan.specs.Laws.{Evaluates, IsLaidOut, IsReply, history_at, position_at}
+use Rattle.mcv_plan.specs.Parts.{AnswersAs, IsFixed, SendsAs, reached_of}
 use Rattle.mcv_plan.specs.Past.{IsLegal, Past, own_of}
 use Rattle.mcv_plan.specs.Reached.{Own, answer_of}
-use Rattle.mcv_plan.specs.State.{State, answered, entries, holds, plan, sends}
+use Rattle.mcv_plan.specs.State.{State, answered, entries, plan, sends}
 use Rattle.mcv_plan.proofs.CountsAdd.{choice_bounded}
 use Rattle.mcv_plan.proofs.Local.{answered_plan, entries_plan, sends_plan}
 use Rattle.mcv_plan.proofs.PartsBuilt.{plain_beside}
 use Rattle.mcv_plan.proofs.EntriesLaidOut.{all_legs, below_count, follow_all, part_is_filter, placed_apart}
 use Rattle.mcv_plan.proofs.LaunchedOnce.{first_within, launched_once, once_entries, sends_part}
 use Rattle.mcv_plan.proofs.PartsAgree.{course_serves}
-use Rattle.mcv_plan.proofs.Records.{ArePlacedApart, IsNumbered, Records, numbered_by, numbered_place, past_is_recorded, said}
+use Rattle.mcv_plan.proofs.Records.{ArePlacedApart, Records, numbered_by, numbered_place, past_is_recorded, said}
 
 -- ---- a list of outcomes as the routes' definitions have it
 

@@ -1,5 +1,5 @@
 -- The state of a call before any outcome.
-use Rattle.std.proofs.Common.{◌≡◌, ◌<◌, ◌≤◌, ◌+◌, ℕ, zero, true, List, [], ◌++◌, length, Vec, Global, Option, refl, sym, ap, ◌∙◌, arith}
+use Rattle.std.proofs.Common.{◌≡◌, ◌<◌, ◌≤◌, ◌+◌, ℕ, zero, true, List, [], ◌++◌, length, Vec, Global, sym, ap, ◌∙◌, arith}
 use Rattle.std.specs.Prelude.{vec_capacity}
 use Rattle.mcv_route.specs.declared.launch.Launch.{Launch}
 use Rattle.mcv_route.specs.Outcomes.{Choice}
@@ -8,7 +8,7 @@ use Rattle.mcv_plan.specs.declared.course.Course.{Course}
 use Rattle.mcv_plan.specs.declared.state.EvalState.{EvalState}
 use Rattle.mcv_plan.specs.Built.{IsBuilt}
 use Rattle.mcv_plan.specs.Entries.{legs_of, numbers}
-use Rattle.mcv_plan.specs.Evaluation.{IsAfter, legs_count, shape}
+use Rattle.mcv_plan.specs.Evaluation.{IsAfter}
 use Rattle.mcv_plan.specs.Past.{IsKept}
 use Rattle.mcv_plan.specs.Reached.{answer_of, nothing}
 use Rattle.mcv_plan.specs.State.{Reflects, State, entries, holds, replies_at_once, wave, plan}

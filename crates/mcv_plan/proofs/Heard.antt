@@ -1,15 +1,14 @@
 -- What an outcome changes in a part, by what it changes in a child.
-use Rattle.std.proofs.Common.{◌≡◌, ◌≢◌, ◌<◌, ◌≤◌, ◌+◌, ◌-◌, ◌⊎◌, inl, inr, cond, max, ℕ, zero, suc, Bool, true, false, ◌||◌, ◌&&◌, nat_eq, nat_lt, nat_le, List, [], ◌∷◌, ◌++◌, length, map, Option, Some, None, option_map, refl, sym, ap, ap₂, subst, ◌∙◌, append-nil, append_assoc, arith}
-use Rattle.std.specs.Prelude.{◌==◌, slice_get, slice_set}
+use Rattle.std.proofs.Common.{◌≡◌, ◌<◌, ◌-◌, inl, inr, cond, ℕ, zero, suc, Bool, true, false, nat_eq, List, [], ◌∷◌, ◌++◌, Option, Some, None, option_map, refl, sym, ap, ◌∙◌, append-nil, append_assoc, arith}
+use Rattle.std.specs.Prelude.{◌==◌}
 use Rattle.mcv_base.specs.declared.reply.Outcome.{Outcome}
 use Rattle.mcv_route.specs.Children.{joined}
-use Rattle.mcv_rules.specs.declared.arrival.After.{After}
 use Rattle.mcv_plan.specs.declared.answer.Answer.{Answer}
-use Rattle.mcv_plan.specs.Reached.{Own, Reached, IsBefore, IsMerge, Changes, ChangesAt, nothing, put, reached, answer_of, all_answered, at, came_of, goes_on, goes_on_after, is_hit, join, last_came, later, next_answered, over, prevails, search_from, search_answered, searched, stop, waits, weight, first_answered, of_entry, done, kept, added}
-use Rattle.mcv_plan.specs.State.{State, States, send, reply, all, in_turn, beside, on_hit, none, more, states_of, Either, Heard, HeardAt, IsOnlyIn, IsUnheard, Reflects, ReflectEach, ReflectTurn, answers_each, entries, entries_each, holds, plan, plan_each, sends, sends_each, answered, answered_each, wave, replies_at_once, within, all_from}
-use Rattle.mcv_plan.proofs.Local.{Agree, agree_put, agree_unheard, reflect_local_each, either_map, reflects_local, answered_local, answered_local_each, answered_plan, answered_plan_each, sends_local, sends_local_each, holds_left, holds_right, holds_cases, or_cases, or_left, unheard_local}
+use Rattle.mcv_plan.specs.Reached.{Own, Reached, IsBefore, IsMerge, Changes, ChangesAt, nothing, put, reached, answer_of, all_answered, at, is_hit, last_came, over, prevails, waits, first_answered, of_entry}
+use Rattle.mcv_plan.specs.State.{State, send, all, beside, on_hit, states_of, Heard, HeardAt, IsOnlyIn, IsUnheard, Reflects, ReflectEach, entries, entries_each, holds, plan, plan_each, sends, sends_each, answered, answered_each, wave}
+use Rattle.mcv_plan.proofs.Local.{Agree, agree_put, agree_unheard, either_map, reflects_local, answered_local, answered_plan, sends_local, holds_cases, unheard_local}
 use Rattle.mcv_plan.proofs.Merges.{merge_append, merge_before, merge_behind, merge_new, merge_same}
-use Rattle.mcv_plan.proofs.Lists.{AreBefore, each_before, last_set, merge_set, only_one, only_other, over_answer, over_answered, plan_set, positive, prevails_set, sends_at, sends_within, some_same, within_if, reflect_set, reflects_at, changes_at, answered_same, waits_set}
+use Rattle.mcv_plan.proofs.Lists.{AreBefore, each_before, last_set, merge_set, only_one, over_answer, over_answered, plan_set, positive, prevails_set, sends_at, sends_within, within_if, reflect_set, reflects_at, changes_at, answered_same, waits_set}
 
 suc_zero : (n : ℕ) → (suc n == 0) ≡ false
 suc_zero n = grind arith

@@ -1,16 +1,14 @@
 -- Several parts of a plan, of which one has answered more.
-use Rattle.std.proofs.Common.{◌≡◌, ◌≢◌, ◌<◌, ◌≤◌, ◌+◌, ◌-◌, ◌⊎◌, inl, inr, cond, max, ℕ, zero, suc, Bool, true, false, ◌||◌, ◌&&◌, nat_eq, nat_lt, nat_le, List, [], ◌∷◌, ◌++◌, length, map, Option, Some, None, option_map, refl, sym, ap, ap₂, subst, ◌∙◌, arith}
+use Rattle.std.proofs.Common.{◌≡◌, ◌<◌, inl, inr, cond, max, ℕ, zero, suc, Bool, true, false, nat_le, List, [], ◌∷◌, ◌++◌, Option, Some, None, option_map, refl, sym, ap, ap₂, ◌∙◌, arith}
 use Rattle.std.specs.Prelude.{◌==◌, slice_get, slice_set}
 use Rattle.mcv_base.specs.declared.reply.Outcome.{Outcome}
-use Rattle.mcv_base.specs.declared.reply.FixedReply.{FixedReply}
 use Rattle.mcv_route.specs.Children.{joined}
-use Rattle.mcv_route.specs.Replies.{badness}
 use Rattle.mcv_rules.specs.declared.arrival.After.{After}
 use Rattle.mcv_plan.specs.declared.answer.Answer.{Answer}
-use Rattle.mcv_plan.specs.Reached.{Own, Reached, IsBefore, IsMerge, Changes, ChangesAt, nothing, put, reached, answer_of, all_answered, at, came_of, goes_on, goes_on_after, is_hit, join, last_came, later, next_answered, over, prevails, search_from, search_answered, searched, stop, waits, weight, first_answered}
-use Rattle.mcv_plan.specs.State.{State, States, send, reply, all, in_turn, beside, on_hit, none, more, states_of, Heard, HeardAt, IsOnlyIn, IsUnheard, Reflects, ReflectEach, ReflectTurn, answers_each, entries, entries_each, holds, plan, plan_each, sends, sends_each, answered, answered_each}
-use Rattle.mcv_plan.proofs.Local.{Agree, agree_put, reflect_local_each, reflects_local, answered_local, answered_local_each, answered_plan, answered_plan_each, sends_local, sends_local_each, holds_left, holds_right, holds_cases, or_cases}
-use Rattle.mcv_plan.proofs.Merges.{merge_before, merge_behind, merge_same}
+use Rattle.mcv_plan.specs.Reached.{Own, Reached, IsBefore, IsMerge, Changes, ChangesAt, put, reached, answer_of, all_answered, at, came_of, goes_on, goes_on_after, is_hit, join, last_came, over, prevails, search_from, search_answered, searched, waits, weight, first_answered}
+use Rattle.mcv_plan.specs.State.{State, States, send, reply, all, in_turn, beside, on_hit, none, more, states_of, IsOnlyIn, Reflects, ReflectEach, answers_each, entries, entries_each, holds, plan, plan_each, sends, sends_each, answered, answered_each}
+use Rattle.mcv_plan.proofs.Local.{agree_put, reflect_local_each, reflects_local, answered_local, answered_local_each, answered_plan_each, sends_local, sends_local_each, holds_left, holds_right, holds_cases}
+use Rattle.mcv_plan.proofs.Merges.{merge_before, merge_behind}
 
 -- ---- when
 

@@ -1,11 +1,9 @@
 -- What a part of a plan has answered and sent depends on the outcomes of its own legs alone.
-use Rattle.std.proofs.Common.{◌≡◌, ◌<◌, ◌≤◌, ◌+◌, ◌⊎◌, inl, inr, cond, max, ℕ, zero, suc, Bool, true, false, ◌||◌, ◌&&◌, nat_eq, nat_lt, List, [], ◌∷◌, ◌++◌, length, map, Option, Some, None, option_map, refl, sym, ap, ap₂, ◌∙◌, arith}
-use Rattle.std.specs.Prelude.{◌==◌}
+use Rattle.std.proofs.Common.{◌≡◌, ◌⊎◌, inl, inr, cond, ℕ, Bool, true, false, ◌||◌, nat_eq, List, [], ◌∷◌, ◌++◌, map, Option, Some, refl, sym, ap, ap₂, ◌∙◌, arith}
 use Rattle.mcv_route.specs.Children.{joined}
 use Rattle.mcv_rules.specs.declared.arrival.After.{After}
-use Rattle.mcv_plan.specs.declared.answer.Answer.{Answer}
-use Rattle.mcv_plan.specs.Reached.{Own, Reached, IsBefore, nothing, put, answer_of, all_answered, at, came_of, goes_on, goes_on_after, is_hit, join, last_came, later, next_answered, prevails, search_from, search_answered, searched, stop, waits, weight, first_answered}
-use Rattle.mcv_plan.specs.State.{State, States, send, reply, all, in_turn, beside, on_hit, none, more, Either, IsUnheard, Reflects, ReflectEach, ReflectTurn, all_from, answers_each, are_placed, each_placed, entries, entries_each, holds, is_placed, plan, plan_each, sends, sends_each, answered, answered_each, within}
+use Rattle.mcv_plan.specs.Reached.{Own, Reached, nothing, put, answer_of, all_answered, goes_on_after, is_hit, prevails, search_answered, searched, stop, waits, first_answered}
+use Rattle.mcv_plan.specs.State.{State, States, send, reply, all, in_turn, beside, on_hit, none, more, Either, IsUnheard, Reflects, ReflectEach, ReflectTurn, entries, entries_each, holds, plan, plan_each, sends, sends_each, answered, answered_each}
 
 -- ---- lists of numbers
 

@@ -1,5 +1,5 @@
 -- Lists of legs with those of a part that has sent more.
-use Rattle.std.proofs.Common.{◌≡◌, ℕ, List, [], ◌∷◌, ◌++◌, refl, sym, ap, ◌∙◌, append-nil}
+use Rattle.std.proofs.Common.{ℕ, List, [], ◌∷◌, ◌++◌, append-nil}
 use Rattle.mcv_plan.specs.Reached.{IsMerge, done, kept, added}
 
 pub merge_same : (xs : List ℕ) → IsMerge xs [] xs

@@ -2,7 +2,6 @@
 use Rattle.std.proofs.Common.{◌≡◌, ◌≢◌, ◌||◌, nat_eq, inl, inr, arith, cond, max, ℕ, Bool, true, false, Some, None, option_map, List, [], ◌∷◌, ◌++◌, map, Option, Vec, Box, Global, refl, sym, ap, ap₂, ◌∙◌}
 use Rattle.std.specs.Prelude.{fold}
 use Rattle.mcv_base.specs.declared.reply.FixedReply.{FixedReply}
-use Rattle.mcv_base.specs.Reply.{outcome_of, fixed_value}
 use Rattle.mcv_route.specs.Children.{child_or, joined, together}
 use Rattle.mcv_base.specs.declared.reply.FixedReply.TheVariants.{ErrorRoute}
 use Rattle.mcv_rules.specs.Arrivals as arrivals
@@ -32,7 +31,7 @@ use Rattle.mcv_rules.proofs.Plans.{sent-Send, sent-Reply, sent-Shadowed, sent-Al
 use Rattle.mcv_rules.specs.declared.arrival.After.{After}
 use Rattle.mcv_plan.specs.declared.answer.Answer.{Answer}
 use Rattle.mcv_plan.specs.declared.answer.Source.{Source}
-use Rattle.mcv_plan.specs.Reached.{IsMerge, done, kept, added, Own, Reached, all_answered, answer_of, first_answered, goes_on, goes_on_after, is_hit, search_answered, searched}
+use Rattle.mcv_plan.specs.Reached.{IsMerge, done, kept, added, Own, all_answered, answer_of, goes_on_after, is_hit, search_answered, searched}
 use Rattle.mcv_plan.specs.State.{State, send, reply, all, in_turn, beside, on_hit, states_of, entries, entries_each, holds, answered_each, answers_each, sends, sends_each, answered}
 use Rattle.mcv_plan.specs.Parts.{AnswersAs, IsFixed, IsOwnOf, RepliesAs, SendsAs, reached_of}
 use Rattle.mcv_plan.specs.Past.{IsOnce, new_of}

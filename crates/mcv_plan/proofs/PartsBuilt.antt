@@ -1,5 +1,5 @@
 -- The course of each kind of part is that of its plan, where its children's courses are those of their plans.
-use Rattle.std.proofs.Common.{◌≡◌, ◌≢◌, ◌≤◌, ◌+◌, cond, ℕ, zero, suc, Bool, true, false, ◌&&◌, nat_le, nat_lt, List, [], ◌∷◌, ◌++◌, length, map, Vec, Box, Global, Option, Some, None, refl, sym, ap, ap₂, ◌∙◌, subst, arith, rules, length-append}
+use Rattle.std.proofs.Common.{◌≡◌, ◌≢◌, ◌≤◌, ◌+◌, cond, ℕ, zero, suc, Bool, true, false, ◌&&◌, nat_le, nat_lt, List, [], ◌∷◌, ◌++◌, length, map, Vec, Box, Global, Option, refl, sym, ap, ap₂, ◌∙◌, subst, arith, rules, length-append}
 use Rattle.mcv_base.specs.declared.reply.FixedReply.{FixedReply}
 use Rattle.mcv_base.specs.declared.reply.FixedReply.TheVariants.{ErrorRoute}
 use Rattle.mcv_route.specs.declared.launch.Launch.{Launch}
@@ -14,10 +14,10 @@ use Rattle.mcv_rules.proofs.Places.{places-All, places-Beside, places-InTurn, pl
 use Rattle.mcv_rules.proofs.Plans.{sent-All, sent-Beside, sent-InTurn, arrived-All, arrived-Beside, arrived-InTurn}
 use Rattle.mcv_plan.specs.declared.answer.Answer.{Answer}
 use Rattle.mcv_plan.specs.Reached.{answer_of, goes_on_after, is_hit, nothing, prevails, stop, waits}
-use Rattle.mcv_plan.specs.State.{State, States, send, reply, all, in_turn, beside, on_hit, none, more, states_of, Either, IsUnheard, ReflectEach, ReflectTurn, Reflects, all_from, answered, answered_each, answers_each, are_placed, each_placed, entries, entries_each, is_placed, within}
+use Rattle.mcv_plan.specs.State.{State, States, send, reply, all, in_turn, beside, on_hit, none, more, states_of, Either, IsUnheard, ReflectEach, ReflectTurn, Reflects, all_from, answered, answered_each, answers_each, are_placed, each_placed, entries, entries_each, within}
 use Rattle.mcv_rules.specs.Places.{Kind, plain, shadow, misplaced, are_beside, are_led, are_plain, is_beside, is_plain, kind_of, places_of, plain_if, shadow_if}
 use Rattle.mcv_plan.specs.Entries.{legs_of, numbers}
-use Rattle.mcv_plan.specs.Parts.{AnswersAs, RepliesAs, SendsAs}
+use Rattle.mcv_plan.specs.Parts.{AnswersAs, RepliesAs}
 use Rattle.mcv_plan.specs.Built.{BuiltEach, Follow, IsBuilt, IsSublist, done, kept, left_out}
 use Rattle.mcv_plan.proofs.PartsAgree.{AnswerEach, ReplyEach, SendEach, all_answers, all_replies, all_sends, beside_answers, beside_replies, beside_sends, hit_answers, hit_replies, hit_sends, reply_answers, reply_replies, reply_sends, send_answers, send_replies, send_sends, shadow_is_silent, shadow_sends, turn_answers, turn_replies, turn_sends}
 

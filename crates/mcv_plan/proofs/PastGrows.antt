@@ -1,5 +1,5 @@
 -- After one outcome more the state is that of one outcome more.
-use Rattle.std.proofs.Common.{◌≡◌, ◌<◌, ◌≤◌, ◌+◌, cond, ℕ, zero, suc, Bool, true, false, ◌&&◌, ◌||◌, nat_eq, nat_lt, List, [], ◌∷◌, ◌++◌, length, Vec, Global, Option, Some, None, option_map, refl, sym, ap, ap₂, ◌∙◌, arith}
+use Rattle.std.proofs.Common.{◌≡◌, cond, ℕ, zero, suc, Bool, true, false, ◌&&◌, nat_eq, nat_lt, List, [], ◌∷◌, ◌++◌, length, Vec, Global, Option, Some, None, refl, sym, ap, ap₂, ◌∙◌, arith}
 use Rattle.mcv_base.specs.declared.reply.Outcome.{Outcome}
 use Rattle.mcv_plan.specs.declared.answer.Answer.{Answer}
 use Rattle.mcv_plan.specs.Reached.{Own, Reached, IsBefore, Changes, answer_of, came_of, put, reached}
@@ -8,8 +8,7 @@ use Rattle.std.specs.Option.{option_or}
 use Rattle.mcv_plan.specs.declared.course.Course.{Course}
 use Rattle.mcv_plan.specs.View.{view}
 use Rattle.mcv_plan.specs.State.{Heard, holds, sends, answered}
-use Rattle.mcv_plan.specs.Reached.{IsMerge}
-use Rattle.mcv_plan.specs.State.{State, States, send, reply, all, in_turn, beside, on_hit, none, more, all_from, are_placed, each_placed, entries, entries_each, is_placed, plan, plan_each, within}
+use Rattle.mcv_plan.specs.State.{State, States, send, reply, all, in_turn, beside, on_hit, none, more, all_from, are_placed, each_placed, entries, is_placed, plan, plan_each, within}
 use Rattle.mcv_plan.specs.Past.{IsKept, Past, new_of, own_of}
 use Rattle.mcv_plan.specs.Entries.{numbers}
 use Rattle.mcv_plan.specs.Evaluation.{IsAfter, IsAwaited, shape}

@@ -1,5 +1,5 @@
 -- The outcomes of a call, as a list of legs' numbers and as a list of positions.
-use Rattle.std.proofs.Common.{◌≡◌, ◌<◌, ◌≤◌, ◌+◌, ◌⊎◌, inl, inr, cond, ℕ, zero, suc, Bool, true, false, nat_eq, List, [], ◌∷◌, ◌++◌, length, map, take, get_or, Option, Some, None, option_map, refl, sym, ap, ap₂, ◌∙◌, arith, length-append}
+use Rattle.std.proofs.Common.{◌≡◌, ◌<◌, ◌+◌, ◌⊎◌, inl, inr, cond, ℕ, zero, suc, Bool, true, false, nat_eq, List, [], ◌∷◌, ◌++◌, length, map, take, get_or, Option, Some, None, option_map, refl, sym, ap, ap₂, ◌∙◌, arith, length-append}
 use Rattle.std.specs.Prelude.{unwrap_or, is_none, is_some, slice_get}
 use Rattle.mcv_base.specs.declared.reply.Outcome.{Outcome}
 use Rattle.mcv_base.specs.Reply.{outcome_of, part_value}
@@ -11,10 +11,10 @@ use Rattle.mcv_rules.specs.History.{entry_of, history_of, place_of}
 use Rattle.mcv_rules.specs.declared.status.Source.TheVariants.{Outcome as sources_place}
 use Rattle.mcv_rules.specs.declared.arrival.Arrival.{Arrival}
 use Rattle.mcv_rules.specs.declared.status.Source as sources
-use Rattle.mcv_rules.proofs.Own.{own_found-grows, count-grows, first_at, history_of-append, next_found, outcome_first, own_outcome, told, told_at}
+use Rattle.mcv_rules.proofs.Own.{own_found-grows, count-grows, history_of-append, next_found, outcome_first, own_outcome, told, told_at}
 use Rattle.mcv_rules.proofs.Orders.{same_is}
 use Rattle.mcv_plan.specs.declared.answer.Source.{Source}
-use Rattle.mcv_plan.specs.Reached.{Own, Reached, put, reached}
+use Rattle.mcv_plan.specs.Reached.{Reached, reached}
 use Rattle.mcv_plan.specs.State.{holds}
 use Rattle.mcv_plan.specs.Past.{Past, own_of}
 use Rattle.mcv_rules.specs.declared.status.Source.TheVariants as variants

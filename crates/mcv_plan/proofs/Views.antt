@@ -1,5 +1,5 @@
 -- A course in memory, one level at a time.
-use Rattle.std.proofs.Common.{◌≡◌, ◌∙◌, ap, sym, length, ℕ, List, Option, Vec, Box, Global, rules}
+use Rattle.std.proofs.Common.{◌≡◌, ℕ, List, Option, Vec, Box, Global, rules}
 use Rattle.mcv_base.specs.declared.reply.FixedReply.{FixedReply}
 use Rattle.mcv_rules.specs.declared.arrival.After.{After}
 use Rattle.mcv_plan.specs.declared.answer.Answer.{Answer}

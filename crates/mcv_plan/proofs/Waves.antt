@@ -5,8 +5,8 @@ use Rattle.mcv_route.specs.Children.{joined}
 use Rattle.mcv_rules.specs.declared.arrival.After.{After}
 use Rattle.mcv_plan.specs.declared.answer.Answer.{Answer}
 use Rattle.mcv_plan.specs.declared.course.Course.{Course}
-use Rattle.mcv_plan.specs.Reached.{Own, Reached, nothing, answer_of, answer_from, goes_on, goes_on_after, next_answered, search_from, search_answered, searched, stop_from, at}
-use Rattle.mcv_plan.specs.State.{State, Reflects, ReflectEach, answers_each, entries, entries_each, replies_at_once, sends_each, answered, answered_each, wave}
+use Rattle.mcv_plan.specs.Reached.{Own, Reached, nothing, answer_of, answer_from, goes_on, goes_on_after, search_from, search_answered, searched, stop_from, at}
+use Rattle.mcv_plan.specs.State.{Reflects, ReflectEach, answers_each, entries, entries_each, replies_at_once, sends_each, answered, answered_each, wave}
 use Rattle.mcv_plan.specs.View.{seen, view}
 
 pub next : (cs : List Course) (i : ℕ) (p : Course) → i < length cs → p ≡ get_or cs i p → drop i cs ≡ p ∷ drop (i + 1) cs

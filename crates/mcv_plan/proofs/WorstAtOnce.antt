@@ -1,11 +1,10 @@
 -- The worst of replies that are there at once, one after another: of equal ones the last.
-use Rattle.std.proofs.Common.{◌≡◌, ◌<◌, ◌≤◌, ◌+◌, cond, ℕ, zero, suc, Bool, true, false, ◌&&◌, ◌||◌, nat_eq, nat_lt, nat_le, List, [], ◌∷◌, ◌++◌, length, map, drop, get_or, Option, Some, None, refl, sym, ap, ap₂, ◌∙◌, arith}
+use Rattle.std.proofs.Common.{◌≡◌, ◌<◌, ◌+◌, cond, ℕ, Bool, true, false, ◌&&◌, ◌||◌, nat_lt, nat_le, List, [], ◌∷◌, length, drop, get_or, Option, Some, None, refl, sym, ap, ◌∙◌, arith}
 use Rattle.std.specs.Prelude.{◌==◌}
-use Rattle.mcv_route.specs.Replies.{badness}
 use Rattle.mcv_plan.specs.declared.answer.Answer.{Answer}
 use Rattle.mcv_plan.specs.declared.course.Course.{Course}
 use Rattle.mcv_plan.specs.Reached.{IsBefore, Reached, answer_of, came_of, join, later, missing_in, nothing, over, prevails, waits, weight, worse_of}
-use Rattle.mcv_plan.specs.State.{State, States, answered, answered_each, replies_at_once}
+use Rattle.mcv_plan.specs.State.{States, answered, answered_each, replies_at_once}
 use Rattle.mcv_plan.specs.View.{seen, view}
 use Rattle.mcv_plan.proofs.ArrivalsAgree.{join_assoc}
 use Rattle.mcv_plan.proofs.Lists.{AreBefore, each_before}

@@ -1,5 +1,5 @@
 -- That a course is that of a plan under a choice, its legs numbered from a number on.
-use Rattle.std.specs.Prelude.{◌≡◌, ◌+◌, ℕ, suc, true, ⊤, List, [], ◌∷◌, ◌++◌, length, map}
+use Rattle.std.specs.Prelude.{◌≡◌, ◌+◌, ℕ, suc, true, ⊤, List, [], ◌∷◌, length, map}
 use Rattle.mcv_route.specs.declared.launch.Launch.{Launch}
 use Rattle.mcv_route.specs.Outcomes.{Choice}
 use Rattle.mcv_rules.specs.declared.plan.Plan.{Plan}

@@ -1,5 +1,5 @@
 -- That a call's evaluation does what the definitions of routes say: which legs are launched, and which reply it has.
-use Rattle.std.specs.Prelude.{◌≡◌, ◌<◌, ◌≤◌, ℕ, zero, true, ⊤, Bool, List, map, length, Option, Some, None}
+use Rattle.std.specs.Prelude.{◌≡◌, ◌<◌, ◌≤◌, ℕ, zero, ⊤, Bool, List, map, length, Option, Some, None}
 use Rattle.std.specs.List.{AllPairs, filter, list_any}
 use Rattle.mcv_base.specs.declared.operation.Op.{Op}
 use Rattle.mcv_base.specs.declared.reply.FixedReply.TheVariants.{ErrorRoute}

@@ -1,5 +1,5 @@
 -- That a part of a course does what a part of a plan does: it answers what the plan answers, and sends what the plan sends.
-use Rattle.std.specs.Prelude.{◌≡◌, ◌≢◌, ℕ, true, List, false, if◌then◌else◌, nat_eq, length, ◌++◌, None, [], ◌∷◌, map, fold, Option, option_map, Box, Vec, ⊤}
+use Rattle.std.specs.Prelude.{◌≡◌, ℕ, true, List, map, Option, option_map}
 use Rattle.mcv_base.specs.declared.reply.FixedReply.{FixedReply}
 use Rattle.mcv_rules.specs.Arrivals as arrivals
 use Rattle.mcv_route.specs.declared.launch.Launch.{Launch}

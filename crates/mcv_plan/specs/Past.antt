@@ -1,12 +1,11 @@
 -- A call after a list of outcomes.
-use Rattle.std.specs.Prelude.{◌≡◌, ◌≤◌, ℕ, zero, suc, false, true, ⊤, List, [], ◌∷◌, if◌then◌else◌, length, None, Option, Some, vec_capacity, Vec}
+use Rattle.std.specs.Prelude.{◌≡◌, ◌≤◌, ℕ, zero, suc, false, true, ⊤, List, [], ◌∷◌, if◌then◌else◌, length, None, vec_capacity, Vec}
 use Rattle.std.specs.declared.alloc.Global.{Global}
 use Rattle.mcv_base.specs.declared.reply.Outcome.{Outcome}
-use Rattle.mcv_plan.specs.declared.answer.Answer.{Answer}
 use Rattle.mcv_plan.specs.declared.course.Course.{Course}
 use Rattle.mcv_plan.specs.Entries.{numbers}
-use Rattle.mcv_plan.specs.Reached.{Own, IsMerge, answer_of, nothing, put, reached}
-use Rattle.mcv_plan.specs.State.{State, Reflects, entries, holds, is_placed, plan, sends, answered}
+use Rattle.mcv_plan.specs.Reached.{Own, nothing, put, reached}
+use Rattle.mcv_plan.specs.State.{State, entries, holds, is_placed, sends}
 use Rattle.mcv_plan.specs.View.{view}
 
 -- the legs' numbers with their outcomes, the newest first

@@ -17,9 +17,7 @@ pub fn reply_at_once(course: &Course) -> Option<Answer>
     match course {
         Course::Send(_) => None,
         Course::Reply(reply) => Some(Answer::fixed(*reply)),
-        Course::All { waiting, worst, .. } => {
-            if *waiting == 0 { *worst } else { None }
-        }
+        Course::All { waiting, worst, .. } => { if *waiting == 0 { *worst } else { None } }
         Course::InTurn {
             after,
             children,

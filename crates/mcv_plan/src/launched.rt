@@ -67,12 +67,7 @@ fn search_launches(
 
 /// Whether the first does, or after its hit the second.
 #[cycle(launching)]
-fn hit_launches(
-    first: &Course,
-    second: &Course,
-    outcomes: &[Option<Outcome>],
-    entry: usize,
-) -> bool
+fn hit_launches(first: &Course, second: &Course, outcomes: &[Option<Outcome>], entry: usize) -> bool
     ensures { result ≡ holds entry (sends (own_in outcomes.now) (view first.now) ++ (if is_hit (answer_of (answered (own_in outcomes.now) (view first.now))) then sends (own_in outcomes.now) (view second.now) else [])) }
 {
     if launches(first, outcomes, entry) {

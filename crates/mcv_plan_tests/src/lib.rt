@@ -2,6 +2,6 @@
 #![tactic(auto)]
 
 #[cfg(test)]
-mod rows;
-#[cfg(test)]
 mod routes;
+#[cfg(test)]
+mod rows;

@@ -72,9 +72,21 @@ fn first_marked(entries: &[Launch], mark: Mark) -> Option<usize> {
 fn a_warm_up_fills_its_cold_side(rt: HostRuntime) -> Result<(), Fail> {
     let alloc = rt.alloc();
     let route = warm_up(alloc)?;
-    let text = steps(alloc, &route, Op::Get, None, &[(0, Outcome::Soft), (1, Outcome::Good)])?;
+    let text = steps(
+        alloc,
+        &route,
+        Op::Get,
+        None,
+        &[(0, Outcome::Soft), (1, Outcome::Good)],
+    )?;
     assert_eq!(rt; text.as_str(), "[ 0 ][ 1 ][ 2 ] reply 1");
-    let missed = steps(alloc, &route, Op::Get, None, &[(0, Outcome::Soft), (1, Outcome::Soft)])?;
+    let missed = steps(
+        alloc,
+        &route,
+        Op::Get,
+        None,
+        &[(0, Outcome::Soft), (1, Outcome::Soft)],
+    )?;
     assert_eq!(rt; missed.as_str(), "[ 0 ][ 1 ][ ] reply 1");
     let hit = steps(alloc, &route, Op::Get, None, &[(0, Outcome::Good)])?;
     assert_eq!(rt; hit.as_str(), "[ 0 ][ ] reply 0");
@@ -97,7 +109,13 @@ fn the_add_is_marked(rt: HostRuntime) -> Result<(), Fail> {
 fn the_last_of_the_worst_is_the_reply(rt: HostRuntime) -> Result<(), Fail> {
     let alloc = rt.alloc();
     let route = Route::AllSync(pools(alloc, 2)?);
-    let text = steps(alloc, &route, Op::Delete, None, &[(1, Outcome::Error), (0, Outcome::Error)])?;
+    let text = steps(
+        alloc,
+        &route,
+        Op::Delete,
+        None,
+        &[(1, Outcome::Error), (0, Outcome::Error)],
+    )?;
     assert_eq!(rt; text.as_str(), "[ 0 1 ][ ][ ] reply 0");
     Ok(())
 }
@@ -106,7 +124,13 @@ fn the_last_of_the_worst_is_the_reply(rt: HostRuntime) -> Result<(), Fail> {
 fn the_first_is_waited_for(rt: HostRuntime) -> Result<(), Fail> {
     let alloc = rt.alloc();
     let route = Route::AllInitial(pools(alloc, 2)?);
-    let text = steps(alloc, &route, Op::Delete, None, &[(1, Outcome::Error), (0, Outcome::Good)])?;
+    let text = steps(
+        alloc,
+        &route,
+        Op::Delete,
+        None,
+        &[(1, Outcome::Error), (0, Outcome::Good)],
+    )?;
     assert_eq!(rt; text.as_str(), "[ 0 1 ][ ][ ] reply 0");
     let others = Route::AllAsync(pools(alloc, 2)?);
     let text = steps(alloc, &others, Op::Delete, None, &[(1, Outcome::Error)])?;
@@ -118,7 +142,13 @@ fn the_first_is_waited_for(rt: HostRuntime) -> Result<(), Fail> {
 fn searches_go_on_after_what_they_pass(rt: HostRuntime) -> Result<(), Fail> {
     let alloc = rt.alloc();
     let errors = Route::Failover(pools(alloc, 3)?);
-    let text = steps(alloc, &errors, Op::Get, None, &[(0, Outcome::Error), (1, Outcome::Soft)])?;
+    let text = steps(
+        alloc,
+        &errors,
+        Op::Get,
+        None,
+        &[(0, Outcome::Error), (1, Outcome::Soft)],
+    )?;
     assert_eq!(rt; text.as_str(), "[ 0 ][ 1 ][ ] reply 1");
     let misses = Route::MissFailover(pools(alloc, 3)?);
     let text = steps(
@@ -136,7 +166,13 @@ fn searches_go_on_after_what_they_pass(rt: HostRuntime) -> Result<(), Fail> {
 fn no_one_waits_for_a_shadow(rt: HostRuntime) -> Result<(), Fail> {
     let alloc = rt.alloc();
     let route = shadowed(alloc)?;
-    let text = steps(alloc, &route, Op::Get, None, &[(0, Outcome::Good), (1, Outcome::Error)])?;
+    let text = steps(
+        alloc,
+        &route,
+        Op::Get,
+        None,
+        &[(0, Outcome::Good), (1, Outcome::Error)],
+    )?;
     assert_eq!(rt; text.as_str(), "[ 0 1 ][ ] reply 0[ ] reply 0");
     Ok(())
 }
@@ -146,7 +182,13 @@ fn deletes_of_a_migration_go_to_both(rt: HostRuntime) -> Result<(), Fail> {
     let alloc = rt.alloc();
     let route = migration(alloc)?;
     let moment = Some(Moment(105));
-    let text = steps(alloc, &route, Op::Delete, moment, &[(0, Outcome::Good), (1, Outcome::Soft)])?;
+    let text = steps(
+        alloc,
+        &route,
+        Op::Delete,
+        moment,
+        &[(0, Outcome::Good), (1, Outcome::Soft)],
+    )?;
     assert_eq!(rt; text.as_str(), "[ 0 1 ][ ][ ] reply 1");
     let text = steps(alloc, &route, Op::Get, moment, &[(0, Outcome::Good)])?;
     assert_eq!(rt; text.as_str(), "[ 0 ][ ] reply 0");
@@ -157,7 +199,12 @@ fn deletes_of_a_migration_go_to_both(rt: HostRuntime) -> Result<(), Fail> {
 fn wide_routes(rt: HostRuntime) -> Result<(), Fail> {
     let alloc = rt.alloc();
     let choice = Choice::new(Vec::new(alloc));
-    let plan = plan_of(alloc, &Route::AllSync(pools(alloc, 4096)?), Op::Delete, None)?;
+    let plan = plan_of(
+        alloc,
+        &Route::AllSync(pools(alloc, 4096)?),
+        Op::Delete,
+        None,
+    )?;
     let (mut state, entries) = EvalState::new(alloc, &plan, &choice)?;
     assert!(rt; state.fresh().len() == entries.len());
     for entry in 0..entries.len() {
@@ -247,14 +294,40 @@ fn are_launched(state: &EvalState, known: &[Option<Outcome>], launched: &[bool])
 fn what_was_fresh_is_launched(rt: HostRuntime) -> Result<(), Fail> {
     let alloc = rt.alloc();
     let filling = warm_up(alloc)?;
-    let hit = agrees(alloc, &filling, Op::Get, &[(0, Outcome::Soft), (1, Outcome::Good)])?;
+    let hit = agrees(
+        alloc,
+        &filling,
+        Op::Get,
+        &[(0, Outcome::Soft), (1, Outcome::Good)],
+    )?;
     assert!(rt; hit);
-    assert!(rt; agrees(alloc, &filling, Op::Get, &[(0, Outcome::Soft), (1, Outcome::Soft)])?);
+    assert!(rt;
+        agrees(
+            alloc,
+            &filling,
+            Op::Get,
+            &[(0, Outcome::Soft), (1, Outcome::Soft)]
+        )?
+    );
     assert!(rt; agrees(alloc, &filling, Op::Get, &[(0, Outcome::Good)])?);
     let errors = Route::Failover(pools(alloc, 3)?);
-    assert!(rt; agrees(alloc, &errors, Op::Get, &[(0, Outcome::Error), (1, Outcome::Soft)])?);
+    assert!(rt;
+        agrees(
+            alloc,
+            &errors,
+            Op::Get,
+            &[(0, Outcome::Error), (1, Outcome::Soft)]
+        )?
+    );
     let all = Route::AllSync(pools(alloc, 2)?);
-    assert!(rt; agrees(alloc, &all, Op::Delete, &[(1, Outcome::Error), (0, Outcome::Error)])?);
+    assert!(rt;
+        agrees(
+            alloc,
+            &all,
+            Op::Delete,
+            &[(1, Outcome::Error), (0, Outcome::Error)]
+        )?
+    );
     assert!(rt; agrees(alloc, &shadowed(alloc)?, Op::Get, &[(1, Outcome::Error)])?);
     Ok(())
 }

@@ -7,7 +7,7 @@ use mcv_spool::{Disk, DiskFailed};
 use std::alloc::{AllocError, Global};
 
 /// What a call of the disk was.
-#[derive(Clone, Copy, Debug, PartialEq, Eq)]
+#[derive(Clone, Copy, PartialEq, Eq)]
 pub(crate) enum Call {
     Len,
     Read(usize),
@@ -17,7 +17,7 @@ pub(crate) enum Call {
 }
 
 /// What becomes of the call of a number.
-#[derive(Clone, Copy, Debug, PartialEq, Eq)]
+#[derive(Clone, Copy, PartialEq, Eq)]
 pub(crate) enum Trouble {
     None,
     /// It fails, and a write is cut short.
@@ -27,7 +27,7 @@ pub(crate) enum Trouble {
 }
 
 /// Which of the files that a crash may leave is taken.
-#[derive(Clone, Copy, Debug, PartialEq, Eq)]
+#[derive(Clone, Copy, PartialEq, Eq)]
 pub(crate) enum Left {
     /// What was synced.
     Synced,
@@ -56,7 +56,7 @@ pub(crate) struct Lent<'a> {
 }
 
 /// What a call has to do: all, a part and then fail, or nothing.
-#[derive(Clone, Copy, Debug, PartialEq, Eq)]
+#[derive(Clone, Copy, PartialEq, Eq)]
 enum Turn {
     All,
     Part,

@@ -257,13 +257,13 @@ struct Told {
 
 /// Appends three records and marks the first as done.
 fn run_on(spool: &mut Spool<Lent<'_>>) -> Told {
-    let mut stored = 0;
+    let mut stored = 0u64;
     for rest in [b"a", b"b", b"c"] {
         if append(spool, b"a:11211", rest).is_none() {
             let done = false;
             return Told { stored, done };
         }
-        stored += 1;
+        stored = stored.saturating_add(1);
     }
     let _ = spool.done(0);
     let done = true;

@@ -1,13 +1,12 @@
-use Rattle.std.proofs.Common.{rules, arith, true, false, ◌≡◌, ◌<◌, ◌≤◌, ◌+◌, [], ◌∷◌, ◌++◌, length, map, sym, ap, ◌∙◌, refl, length-append, slice_index}
+use Rattle.std.proofs.Common.{rules, true, false, ◌≡◌, ◌+◌, length, sym, ap, ◌∙◌, length-append, slice_index}
 use Rattle.std.proofs.lemmas.List.{take_all}
 use Rattle.std.proofs.lemmas.Result.{IfOk-weaker}
-use Rattle.mcv_route.specs.Children.{is_within, joined}
-use Rattle.mcv_base.specs.declared.reply.FixedReply.TheVariants.{ErrorRoute}
-use Rattle.mcv_plan.specs.Built.{BuiltEach, IsBuilt}
+use Rattle.mcv_route.specs.Children.{is_within}
+use Rattle.mcv_plan.specs.Built.{IsBuilt}
 use Rattle.mcv_plan.specs.Entries.{legs_of}
 use Rattle.mcv_plan.specs.View.{view}
 use Rattle.mcv_plan.proofs.CoursesBuilt.{courses_grow, entries_grow, sent_at, silent_at}
-use Rattle.mcv_plan.proofs.PartsBuilt.{built_on_hit, built_reply, built_shadow, legs-All, legs-Beside, legs-InTurn, legs-OnHit, legs-Reply, legs-Send, legs-Shadowed}
+use Rattle.mcv_plan.proofs.PartsBuilt.{built_on_hit, built_reply, built_shadow}
 use Rattle.mcv_plan.proofs.Views.{view-OnHit, view-Reply}
 use Rattle.mcv_plan.proofs.building.+building.Goals as goal
 

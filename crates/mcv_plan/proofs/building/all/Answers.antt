@@ -1,4 +1,4 @@
-use Rattle.std.proofs.Common.{◌≡◌, ◌∙◌, map, sym, rules}
+use Rattle.std.proofs.Common.{map}
 use Rattle.mcv_base.specs.declared.reply.FixedReply.TheVariants.{ErrorRoute}
 use Rattle.mcv_plan.specs.View.{view}
 use Rattle.mcv_plan.proofs.CoursesBuilt.{no_courses, some_courses}

@@ -1,8 +1,8 @@
-use Rattle.std.proofs.Common.{◌≡◌, ◌∙◌, map, sym, rules}
+use Rattle.std.proofs.Common.{map}
 use Rattle.mcv_base.specs.declared.reply.FixedReply.TheVariants.{ErrorRoute}
 use Rattle.mcv_plan.specs.View.{view}
 use Rattle.mcv_plan.proofs.CoursesBuilt.{no_courses, some_courses}
-use Rattle.mcv_plan.proofs.PartsBuilt.{built_beside, built_no_beside, each_ready, none_built}
+use Rattle.mcv_plan.proofs.PartsBuilt.{built_beside, built_no_beside, none_built}
 use Rattle.mcv_plan.proofs.Views.{view-Beside, view-Reply}
 use Rattle.mcv_plan.proofs.building.beside.Goals as goal
 

@@ -1,8 +1,8 @@
-use Rattle.std.proofs.Common.{rules, arith, true, false, ◌≡◌, ◌<◌, ◌≤◌, ◌+◌, [], ◌∷◌, ◌++◌, Some, length, refl, sym, ap, ◌∙◌}
+use Rattle.std.proofs.Common.{rules, arith, true, false, ◌≡◌, ◌<◌, ◌≤◌, ◌+◌, [], ◌∷◌, ◌++◌, length, refl, sym, ap, ◌∙◌}
 use Rattle.std.proofs.lemmas.List.{take_all}
 use Rattle.mcv_base.specs.Operation.{is_reading}
 use Rattle.mcv_route.specs.Children.{policy_of, prefix_policy, to_both, to_from, to_to, way_of}
-use Rattle.mcv_route.specs.Situation.{asynchronous, shadowed, under}
+use Rattle.mcv_route.specs.Situation.{shadowed, under}
 use Rattle.mcv_route.specs.Tree.{migrate, warm_up}
 use Rattle.mcv_route.specs.View.{pool_view, view}
 use Rattle.mcv_route.proofs.Views.{shadow_view-out, view-AllAsync, view-AllInitial, view-AllSync, view-Error, view-Failover, view-Migrate, view-MissFailover, view-Null, view-Pool, view-WarmUp}

@@ -1,4 +1,4 @@
-use Rattle.std.proofs.Common.{rules, ◌≡◌, ◌≤◌, ◌+◌, ◌∷◌, ◌∙◌, sym, true, arith}
+use Rattle.std.proofs.Common.{rules, ◌≡◌, ◌∷◌, ◌∙◌, sym, true, arith}
 use Rattle.mcv_plan.specs.Reached.{goes_on_after}
 use Rattle.mcv_plan.specs.State.{entries}
 use Rattle.mcv_plan.specs.View.{seen, view}

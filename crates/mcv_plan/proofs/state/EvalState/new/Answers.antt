@@ -1,4 +1,4 @@
-use Rattle.std.proofs.Common.{◌≡◌, ◌≤◌, ◌∙◌, arith, length, rules, slice_index, sym}
+use Rattle.std.proofs.Common.{◌≡◌, ◌∙◌, arith, length, rules, slice_index, sym}
 use Rattle.mcv_plan.specs.View.{view}
 use Rattle.mcv_plan.proofs.CoursesEvaluate.{courses_evaluate}
 use Rattle.mcv_plan.proofs.FirstWave.{built_begun, first_after, first_count, first_fresh, first_kept, first_room, first_shape, legs_begun}
