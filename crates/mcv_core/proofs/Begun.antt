@@ -66,6 +66,14 @@ none_row : (o : Option (Leg Errand)) → option_map (row_by state_of) o ≡ None
 none_row None e = refl
 none_row (Some l) e = no_some (sym e)
 
+one_at_most : (o : Option CallRow) → one o ≤ 1
+one_at_most None = omega arith
+one_at_most (Some c) = omega arith
+
+at_most_each : (f : ℕ → Option CallRow) (m : ℕ) → sum_below one f m ≤ m
+at_most_each f zero = omega arith
+at_most_each f (suc m) = let here = one_at_most (f m) in let others = at_most_each f m in omega (arith, here, others)
+
 count_none : (f : Launch → Bool) (es : List Launch) → ((l : Launch) → f l ≡ false) → count f es ≡ 0
 count_none f [] h = refl
 count_none f (l ∷ es) h = by_case (f l) (h l) (count_none f es h)
@@ -100,6 +108,12 @@ module _ (d : Dispatcher) (c : Call) (can : CanAdd d c) where
 
   pub laid : IsLaidOut r new es
   laid = subst (λ v. IsLaidOut r v (entries_of c)) call_is (record { all = can.opened.laid.all; rising = can.opened.laid.rising })
+
+  pub moved : Moved (core_view d) (has_begun (core_view d) c) (began_by c)
+  moved = record { allowed = can.begins; moves = began_moves r (core_view d).rows c.op c.route (call_of c).rest c.choice es d.sound.core laid; routes = refl }
+
+  pub runs_fit : d.counts.running ≤ d.next_call
+  runs_fit = let most = at_most_each (call_rows (calls_at d.calls)) d.next_call in let a = d.sound.running_is in omega (arith, most, a)
 
   fresh_is : fresh c.state ≡ places_from 0 first es
   fresh_is = subst (λ v. fresh c.state ≡ places_from 0 (is_sent (tree_of (arc_value d.accepted) v.route) (situation_of v) (choice_of v) []) (entries_of c)) call_is can.opened.fresh_is
@@ -231,9 +245,6 @@ module _ (d : Dispatcher) (c : Call) (can : CanAdd d c) where
       moves_by f waits core =
           subst (λ v. Moves r (all_rows f (calls_at d.calls) (legs d.queues) (since_of d) d.next_call d.next_leg) v (began_by c)) (sym (rows_are f waits))
           (began_moves r (all_rows f (calls_at d.calls) (legs d.queues) (since_of d) d.next_call d.next_leg) c.op c.route (call_of c).rest c.choice es core laid)
-
-      pub moved : Moved (core_view d) (has_begun (core_view d) c) (began_by c)
-      moved = record { allowed = can.begins; moves = began_moves r (core_view d).rows c.op c.route (call_of c).rest c.choice es d.sound.core laid; routes = refl }
 
       -- a leg that was there is awaited by none but its own call, which isn't this one
       awaited_less : (n : ℕ) (s : LegRow) → rows_by awaiting_state (legs d.queues) n ≡ Some s → (j : Option ℕ) → s.call ≡ j → awaits (call_rows (calls_at d.calls)) s j ≡ false → awaits (call_rows (calls_at calls2)) s j ≡ false

@@ -287,6 +287,15 @@ module _ (d : Dispatcher) (n : ℕ) (l : Leg Errand) (at : legs d.queues n ≡ S
       let same : refusing_at (core_view d) n ≡ refused (core_view d) (row_by state_of l) = refusing_row ∙ ap (λ t. refusing_in (core_view d) n (row_by state_of l) (state_of t)) held in
       subst (λ e. HasEffect e (core_view d) new (Ok step)) (sym same) (effect_of (refused (core_view d) (row_by state_of l)) (core_view d) new step (subst (λ o. HasDone (at_row (refused (core_view d)) o) new step) (there d n l at) h))
 
+  -- one that the spool had refused stays as it is
+  pub refusing_again : l.state ≡ states.Refused → HasEffect (refusing_at (core_view d) n) (core_view d) (core_view d) (Ok (step_to places.Held changes.Nothing))
+  refusing_again is =
+      let same : refusing_at (core_view d) n ≡ does (step_to places.Held changes.Nothing) (core_view d) =
+      refusing_row ∙ ap (λ t. refusing_in (core_view d) n (row_by state_of l) (state_of t)) is
+      ∙ ap (λ b. cond b (does (step_to places.Held changes.Refused) (record (core_view d) { rows = refused_rows (arc_value d.accepted) (core_view d).rows (row_by state_of l) })) (does (step_to places.Held changes.Nothing) (core_view d)))
+        (awaits_refused d n l at is) in
+      subst (λ e. HasEffect e (core_view d) (core_view d) (Ok (step_to places.Held changes.Nothing))) (sym same) (refl, refl)
+
   not_refused : (t : rows.State) → (t ≡ rows.Held → ⊥) → refusing_in (core_view d) n (row_by state_of l) t ≡ refuses NoSuchLeg
   not_refused rows.Waiting no_hold = refl
   not_refused rows.Sent no_hold = refl

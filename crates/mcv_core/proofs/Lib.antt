@@ -13,4 +13,5 @@ pub mod Sendings
 pub mod Landings
 pub mod Resting
 pub mod Taken
+pub mod HandingOut
 pub mod Begun

@@ -384,19 +384,16 @@ module _ (d : Dispatcher) (k : ℕ) (c : Call) (there : calls_at d.calls k ≡ S
 
 -- ---- the same of what the code has found
 
-pub there_of : (calls : ℕ → Option Call) (k : ℕ) (result : Option Taking) (t : Taking) → (calls k ≡ None → result ≡ None) → result ≡ Some t → (c : Call) × (calls k ≡ Some c)
-there_of calls k result t absent is = by_call (calls k) refl
+pub found_of : (calls : ℕ → Option Call) (k : ℕ) → is_some (calls k) ≡ true → (c : Call) × (calls k ≡ Some c)
+found_of calls k h = by_call (calls k) refl h
   where
-    by_call : (o : Option Call) → calls k ≡ o → (c : Call) × (calls k ≡ Some c)
-    by_call None at = no_some (sym (absent at) ∙ is)
-    by_call (Some c) at = (c, at)
+    by_call : (o : Option Call) → calls k ≡ o → is_some o ≡ true → (c : Call) × (calls k ≡ Some c)
+    by_call None at t = absurd (true≢false (sym t))
+    by_call (Some c) at t = (c, at)
 
-pub absent_of : (calls calls2 : ℕ → Option Call) (k : ℕ) (result : Option Taking) → ((c : Call) → calls k ≡ Some c → IsTakenAt calls calls2 k c result) → result ≡ None → calls k ≡ None
-absent_of calls calls2 k result there is = by_call (calls k) refl
-  where
-    by_call : (o : Option Call) → calls k ≡ o → calls k ≡ None
-    by_call None at = at
-    by_call (Some c) at = no_some (sym is ∙ (there c at).is)
+pub no_row : (o : Option Call) → is_some o ≡ false → option_map call_row o ≡ None
+no_row None e = refl
+no_row (Some c) e = absurd (true≢false e)
 
 sound_alike : (r : RoutesValue) (calls calls2 : ℕ → Option Call) (legs2 : ℕ → Option (Leg Errand)) (since : Option ℕ) (moment next_call next_leg : ℕ) (counts counts2 : Counts) (room2 servers2 : ℕ) → calls2 ≡ calls → counts2.reserved ≡ counts.reserved
     → counts2.queued ≡ counts.queued → counts2.spooled ≡ counts.spooled → counts2.running ≡ counts.running
@@ -409,13 +406,15 @@ sound_alike r calls calls2 legs2 since moment next_call next_leg counts counts2 
     (subst (λ v. IsSound r calls legs2 since moment next_call next_leg counts.reserved counts.queued v counts2.running room2 servers2) (sym e)
     (subst (λ v. IsSound r calls legs2 since moment next_call next_leg counts.reserved counts.queued counts.spooled v room2 servers2) (sym f) h))))
 
-module _ (d : Dispatcher) (k : ℕ) (calls2 : Calls) (result : Option Taking) (there : (c : Call) → calls_at d.calls k ≡ Some c → IsTakenAt (calls_at d.calls) (calls_at calls2) k c result) (t : Taking) (found : (c : Call) × (calls_at d.calls k ≡ Some c))
-    (is : result ≡ Some t) where
+module _ (d : Dispatcher) (k : ℕ) (calls2 : Calls) (result : Taking) (there : (c : Call) → calls_at d.calls k ≡ Some c → IsTakenAt (calls_at d.calls) (calls_at calls2) k c result) (found : (c : Call) × (calls_at d.calls k ≡ Some c)) where
+  abbrev t : Taking
+  t = result
+
   abbrev was : IsTakenAt (calls_at d.calls) (calls_at calls2) k found.0 result
   was = there found.0 found.1
 
   t_is : t ≡ record { part = was.part; left = was.call.left; ended = has_ended_by was.call }
-  t_is = same_some (sym is ∙ was.is)
+  t_is = was.is
 
   pub left_fits : t.left ≤ d.counts.reserved
   left_fits = let low = left_reserved d k found.0 found.1 in let same = left_is (arc_value d.accepted) k found.0 (d.sound.calls_run k found.0 found.1) was.call was.part was.took in let e : t.left ≡ was.call.left = ap (λ v. v.left) t_is in omega (arith, low, same, e)

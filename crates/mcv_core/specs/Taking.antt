@@ -35,9 +35,9 @@ pub record HasTaken (old new : Call) (result : Option Part) : Type 0 where
   pub none : result ≡ None → new ≡ old
 
 -- the call at the number is this one then
-pub record IsTakenAt (old new : ℕ → Option Call) (number : ℕ) (c : Call) (result : Option Taking) : Type 0 where
+pub record IsTakenAt (old new : ℕ → Option Call) (number : ℕ) (c : Call) (result : Taking) : Type 0 where
   pub call : Call
   pub part : Option Part
   pub at : new ≡ put old number (Some call)
   pub took : HasTaken c call part
-  pub is : result ≡ Some (record { part = part; left = call.left; ended = has_ended_by call })
+  pub is : result ≡ record { part = part; left = call.left; ended = has_ended_by call }

@@ -43,8 +43,9 @@ impl Dispatcher {
     {
         match self.flying(leg) {
             Ok(facts) => {
+                let counted = Counted::lost();
                 self.marks.lost(facts.server);
-                Ok(self.land(leg, facts, Counted::lost()))
+                Ok(self.land(leg, facts, counted))
             }
             Err(fault) => Err(fault),
         }

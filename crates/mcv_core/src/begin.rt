@@ -19,6 +19,7 @@ use crate::errand::{Errand, Laid};
 use crate::fault::CoreFault;
 use crate::launch::Entry;
 use crate::progress::open;
+use crate::settle::number_after;
 use mcv_base::{CallId, Moment, Op, Request, Rest};
 use mcv_plan::EvalState;
 use mcv_pools::Choice;
@@ -177,10 +178,13 @@ impl Dispatcher {
         ensures full { IfErr result (λ fault. fault ≡ CoreFault.LegsFull → AreTooMany self.now count) }
         ensures entries { IfErr result (λ fault. fault ≡ CoreFault.ChapterFull → 1000000 < self.now.entries + (2 + 3 * count)) }
     {
-        if count > LEG_LIMIT - self.counts.queued - self.counts.reserved
-            || self.next_call == u64::MAX
-            || u64::MAX - self.next_leg <= (self.counts.reserved + count) as u64
-        {
+        if count > LEG_LIMIT - self.counts.queued - self.counts.reserved {
+            return Err(CoreFault::LegsFull);
+        }
+        if self.next_call == u64::MAX {
+            return Err(CoreFault::LegsFull);
+        }
+        if u64::MAX - self.next_leg < (self.counts.reserved + count) as u64 {
             return Err(CoreFault::LegsFull);
         }
         if self.entries > ENTRY_LIMIT || 2 + 3 * count > ENTRY_LIMIT - self.entries {
@@ -193,7 +197,9 @@ impl Dispatcher {
     fn make_room(&mut self, count: usize) -> Result<(), CoreFault>
         requires { self.old.counts.reserved + count < 2 ^ 64 }
         ensures view { core_view self.new ≡ core_view self.old }
-        ensures same { self.new ≡ record self.old { calls = self.new.calls; queues = self.new.queues } }
+        ensures counts { self.new.counts ≡ self.old.counts }
+        ensures accepted { self.new.accepted ≡ self.old.accepted }
+        ensures since { self.new.since ≡ self.old.since }
         ensures calls { OnOk result (0 < call_room self.new.calls) }
         ensures legs { OnOk result (self.old.counts.reserved + count ≤ leg_room self.new.queues) }
         ensures err { IfErr result (λ fault. fault ≡ OutOfMemory) }
@@ -215,7 +221,7 @@ impl Dispatcher {
         let launched = call.launch(&mut self.queues, self.next_leg);
         self.calls.add(number, call);
         self.next_call += 1;
-        self.next_leg += launched as u64;
+        self.next_leg = number_after(self.next_leg, launched);
         self.counts = self.counts.begun(count, launched);
         self.entries += 2 + 3 * count;
         CallId(number)

@@ -48,9 +48,22 @@ impl Call {
         ensures value { option_map part_value result ≡ option_and_then (taken_at self.old.recorded.items) (places_of self.old.entries.items entry) }
         ensures none { result ≡ None → self.new ≡ self.old }
     {
-        let place = self.entries.get(entry)?.place?;
+        let Some(place) = self.place_of(entry) else {
+            return None;
+        };
         if place < self.recorded.len() {
             self.recorded[place].hand_out()
+        } else {
+            None
+        }
+    }
+
+    /// The place of the reply that an entry has.
+    fn place_of(&self, entry: usize) -> Option<usize>
+        ensures { result ≡ places_of self.now.entries.items entry }
+    {
+        if entry < self.entries.len() {
+            self.entries[entry].place
         } else {
             None
         }
@@ -84,22 +97,31 @@ impl Call {
 }
 
 impl Calls {
-    /// Takes the reply of a call, once it is there; None where no such call runs.
-    fn take(&mut self, number: u64) -> Option<Taking>
-        ensures there { (c : Running) → calls_at self.old number ≡ Some c → IsTakenAt (calls_at self.old) (calls_at self.new) number c result }
-        ensures absent { calls_at self.old number ≡ None → result ≡ None }
-        ensures same { calls_at self.old number ≡ None → calls_at self.new ≡ calls_at self.old }
+    /// Whether the call runs.
+    fn has(&self, number: u64) -> bool
+        ensures { result ≡ is_some (calls_at self.now number) }
+    {
+        self.calls.contains_key(&number)
+    }
+
+    /// Takes the reply of a call, once it is there.
+    fn take(&mut self, number: u64) -> Taking
+        ensures { (c : Running) → calls_at self.old number ≡ Some c → IsTakenAt (calls_at self.old) (calls_at self.new) number c result }
     {
         match self.calls.get_mut(&number) {
             Some(call) => {
                 let part = call.take();
-                Some(Taking {
+                Taking {
                     part,
                     left: call.left,
                     ended: call.has_ended(),
-                })
+                }
             }
-            None => None,
+            None => Taking {
+                part: None,
+                left: 0,
+                ended: false,
+            },
         }
     }
 }
@@ -134,9 +156,10 @@ impl Dispatcher {
         ensures none { IfOk result (λ o. IfNone o ((core_view self.new ≡ core_view self.old) × (is_move (core_view self.old).routes (world_of (core_view self.old).rows) (WasTaken call.0) ≡ false))) }
         ensures err { IfErr result (λ fault. (fault ≡ CoreFault.NoSuchCall) × (core_view self.new ≡ core_view self.old) × ((core_view self.old).rows.calls call.0 ≡ None)) }
     {
-        let Some(taking) = self.calls.take(call.0) else {
+        if !self.calls.has(call.0) {
             return Err(CoreFault::NoSuchCall);
-        };
+        }
+        let taking = self.calls.take(call.0);
         self.calls.remove_if(call.0, taking.ended);
         self.counts = self.counts.taken(taking.ended, taking.left);
         Ok(taking.part)

@@ -25,7 +25,7 @@ use Rattle.mcv_core.proofs.LegViews
 use Rattle.mcv_core.proofs.dispatcher.Dispatcher.lost.Goals as goal
 
 pub land-requires : goal.land-requires
-land-requires c = record { at = c.in-Ok.ensures.at; flies = c.in-Ok.ensures.flies; one = c.lost-2.ensures.taken ∙ sym c.lost-2.ensures.outcome }
+land-requires c = record { at = c.in-Ok.ensures.at; flies = c.in-Ok.ensures.flies; one = c.lost-counted.ensures.taken ∙ sym c.lost-counted.ensures.outcome }
 
 pub returns-in-Ok-clause-effect : goal.returns-in-Ok-clause-effect
 returns-in-Ok-clause-effect c =
@@ -33,7 +33,7 @@ returns-in-Ok-clause-effect c =
     let n = c.args.leg.0 in
     let l = Landings.seen (legs d.queues n) c.in-Ok.facts c.in-Ok.ensures.at in
     let server : c.in-Ok.facts.server.0 ≡ (launch_of l.leg.content).server.0 = ap (λ f. f.server.0) (sym l.is) ∙ ap (λ v. v.0) (LegViews.server_is d n l.leg l.at) in
-    Landings.loss_effect d n l.leg l.at (ap (λ f. is_flight f.state) l.is ∙ c.in-Ok.ensures.flies) (part_value c.lost-2.result.outcome) c.lost-2.ensures.outcome (record (core_view d) { marks = marks c.lost.new.self })
+    Landings.loss_effect d n l.leg l.at (ap (λ f. is_flight f.state) l.is ∙ c.in-Ok.ensures.flies) (part_value c.lost-counted.result.outcome) c.lost-counted.ensures.outcome (record (core_view d) { marks = marks c.lost.new.self })
     (core_view c.land.new.self) c.land.result (Landings.marked_view d c.lost.new.self c.in-Ok.facts.server.0 (launch_of l.leg.content).server.0 lost_mark c.lost.ensures.marks server) c.land.ensures
 
 pub returns-in-Ok-clause-does : goal.returns-in-Ok-clause-does
