@@ -1,10 +1,18 @@
 -- A call begins.
-use Rattle.std.proofs.Common.{◌≡◌, ◌&&◌, not, cond, inl, inr, ℕ, zero, suc, ◌+◌, ◌*◌, ◌-◌, ◌<◌, ◌≤◌, ◌^◌, Bool, true, false, nat_eq, List, [], ◌∷◌, length, Vec, Option, Some, None, option_map, refl, sym, ap, ◌∙◌, subst, arith, true≢false, vec_capacity}
+use Rattle.std.proofs.Common.{◌≡◌, ◌⊎◌, ◌&&◌, not, cond, inl, inr, ℕ, zero, suc, ◌+◌, ◌*◌, ◌-◌, ◌<◌, ◌≤◌, ◌^◌, Bool, true, false, nat_eq, List, [], ◌∷◌, length, Vec, Option, Some, None, option_map, refl, sym, ap, ◌∙◌, subst, arith, true≢false, vec_capacity}
 use Rattle.std.specs.Arc.{arc_value}
 use Rattle.std.specs.declared.alloc.Global.{Global}
 use Rattle.std.specs.Prelude.{filter, is_some, option_and_then, slice_get}
 use Rattle.std.proofs.Math.Path.{fun_ext}
-use Rattle.std.specs.Prelude.{unwrap_or}
+use Rattle.std.specs.Prelude.{slice_index, unwrap_or}
+use Rattle.mcv_base.specs.Key.{IsRest}
+use Rattle.mcv_base.specs.declared.request.Moment.{Moment}
+use Rattle.mcv_plan.specs.declared.state.EvalState.{EvalState}
+use Rattle.mcv_core.specs.declared.begin.Asked.{Asked}
+use Rattle.mcv_core.specs.declared.fault.CoreFault.{CoreFault}
+use Rattle.mcv_core.specs.declared.fault.CoreFault.TheVariants.{LegsFull, ChapterFull}
+use Rattle.mcv_plan.specs.Laws as plans
+use Rattle.mcv_route.specs.Tree.{Tree}
 use Rattle.std.proofs.lemmas.Option.{get_or_from_slice_get, slice_get_within}
 use Rattle.mcv_base.specs.declared.operation.Op.{Op}
 use Rattle.mcv_blocks.proofs.PoolSizes.{entry_sized, pool_sound}
@@ -25,7 +33,7 @@ use Rattle.mcv_route.specs.Routes.{IsSoundRoutes, IsSoundTree, RouteEntry, Route
 use Rattle.mcv_route.specs.Verdict.{Has}
 use Rattle.mcv_world.specs.World as world
 use Rattle.mcv_world.specs.World.{put, tree_of, situation_of, choice_of, history_of}
-use Rattle.mcv_world.specs.Moves.{has_no_outcome, is_one, new_call}
+use Rattle.mcv_world.specs.Moves.{Began, has_no_outcome, is_one, new_call}
 use Rattle.mcv_world.proofs.Numbers.{no_some, put_cases, put_other, put_same, same_some}
 use Rattle.mcv_events.specs.Entries.{IsLaidOut, has_leg_at, is_launched, launches_under}
 use Rattle.mcv_events.specs.Rows as rows
@@ -45,14 +53,14 @@ use Rattle.mcv_core.specs.declared.counts.Counts.{Counts}
 use Rattle.mcv_core.specs.declared.dispatcher.Dispatcher.{Dispatcher}
 use Rattle.mcv_core.specs.declared.errand.Errand.{Errand}
 use Rattle.mcv_core.specs.declared.launch.Entry.{Entry}
-use Rattle.mcv_core.specs.Beginning.{CanAdd, IsErrandOf, began_by, has_begun}
-use Rattle.mcv_core.specs.Calls.{calls_at}
-use Rattle.mcv_core.specs.CoreView.{Moved}
+use Rattle.mcv_core.specs.Beginning.{AreTooMany, CanAdd, CanStart, DontFit, HasBegun, HasRoom, IsErrandOf, IsFull, IsNewCall, began_by, has_begun}
+use Rattle.mcv_core.specs.Calls.{calls_at, room as call_room}
+use Rattle.mcv_core.specs.CoreView.{CoreView, Moved}
 use Rattle.mcv_core.specs.Errands.{errand_view, launch_of}
 use Rattle.mcv_core.specs.Launching.{errand_at, numbers_of, places_of, with_legs, with_numbers, CanLaunch, IsLaunched}
 use Rattle.mcv_core.specs.Rows.{all_rows, awaiting_rows, awaiting_state, call_of, call_row, call_rows, entries_of, errand_for, has_outcome, past_of, recorded_all, row_by, rows_by, rows_of, state_of, IsRunning}
 use Rattle.mcv_core.specs.Sound.{one, spooled_one, IsSound}
-use Rattle.mcv_core.specs.Tracked.{GoesToServers, IsTracked, fresh, is_sent, launch_at, places_from}
+use Rattle.mcv_core.specs.Tracked.{GoesToServers, HasOpened, IsTracked, fresh, is_sent, launch_at, places_from}
 use Rattle.mcv_core.specs.View.{core_view, since_of}
 use Rattle.mcv_core.proofs.Launches.{get_below, launched_addressed}
 use Rattle.mcv_core.proofs.Passing.{count, count_alike, count_at_most, count_both}
@@ -330,3 +338,155 @@ goes_to_servers r route entry at sound op rest since c choice o l h =
     let server = pool.known (c leg.0.symbol) 0 below in
     let same = leg.2 in
     omega (arith, server, same)
+
+-- ---- more room
+
+pub sound_roomier : (d : Dispatcher) (calls2 : Calls) (q2 : Queues Errand) → calls_at calls2 ≡ calls_at d.calls → legs q2 ≡ legs d.queues → room d.queues ≤ room q2 → servers q2 ≡ servers d.queues
+    → IsSound (arc_value d.accepted) (calls_at calls2) (legs q2) (since_of d) d.moment.0 d.next_call d.next_leg d.counts.reserved d.counts.queued d.counts.spooled d.counts.running (room q2) (servers q2)
+sound_roomier d calls2 q2 calls_are legs_are wide known =
+    let i = d.sound in
+    subst (λ f. IsSound (arc_value d.accepted) f (legs q2) (since_of d) d.moment.0 d.next_call d.next_leg d.counts.reserved d.counts.queued d.counts.spooled d.counts.running (room q2) (servers q2)) (sym calls_are)
+    (subst (λ g. IsSound (arc_value d.accepted) (calls_at d.calls) g (since_of d) d.moment.0 d.next_call d.next_leg d.counts.reserved d.counts.queued d.counts.spooled d.counts.running (room q2) (servers q2)) (sym legs_are)
+    (record {
+      core = i.core;
+      awaiting = i.awaiting;
+      refused = i.refused;
+      calls_run = i.calls_run;
+      addressed = i.addressed;
+      reserved_is = i.reserved_is;
+      queued_is = i.queued_is;
+      spooled_is = i.spooled_is;
+      running_is = i.running_is;
+      room_is = let a = i.room_is in omega (arith, a, wide);
+      limit = i.limit;
+      numbers = i.numbers;
+      known = let a = i.known in omega (arith, a, known);
+      era = i.era;
+    }))
+
+-- ---- why a call doesn't begin
+
+pub laid_for : (d : Dispatcher) (asks : Asked) (state : EvalState) (launches : List Launch) (tree : Tree) → option_map (λ t. t) (Some tree) ≡ option_map (λ e. e.tree) (slice_get (arc_value d.accepted).entries asks.route)
+    → HasOpened tree (asked asks.op asks.rest (option_map (λ m. m.0) d.since)) (slice_index asks.choice) launches state
+    → IsLaidOut (arc_value d.accepted) (new_call (world_of (core_view d).rows) asks.op asks.route asks.rest asks.choice) launches
+laid_for d asks state launches tree at opened =
+    let same : tree_of (arc_value d.accepted) asks.route ≡ tree = ap (λ o. unwrap_or o error) (sym at) in
+    let laid2 = subst (λ t. plans.IsLaidOut t (asked asks.op asks.rest (option_map (λ m. m.0) d.since)) (slice_index asks.choice) launches) (sym same) opened.laid in
+    record { all = laid2.all; rising = laid2.rising }
+
+pub too_many : (d : Dispatcher) (count : ℕ) → AreTooMany d count → DontFit (core_view d) count
+too_many d count many =
+    let queued = d.sound.queued_is in
+    let reserved = d.sound.reserved_is in
+    record {
+      full = elim many.full [
+        | inl full ↦ inl (omega (arith, full, queued, reserved))
+        | inr more ↦ elim more [ inl call ↦ inr (inl call) | inr leg ↦ inr (inr (omega (arith, leg, reserved))) ]
+      ];
+    }
+
+pub refused_as : (d : Dispatcher) (asks : Asked) (launches : List Launch) (fault : CoreFault) → IsLaidOut (arc_value d.accepted) (new_call (world_of (core_view d).rows) asks.op asks.route asks.rest asks.choice) launches
+    → (fault ≡ LegsFull) ⊎ (fault ≡ ChapterFull) → (fault ≡ LegsFull → AreTooMany d (length launches)) → (fault ≡ ChapterFull → 1000000 < d.entries + (2 + 3 * length launches)) → IsFull (core_view d) asks fault
+refused_as d asks launches fault laid_out either many unrecorded =
+    elim either [
+      | inl legs_full ↦ subst (IsFull (core_view d) asks) (sym legs_full) (record { entries = launches; laid = laid_out; full = too_many d (length launches) (many legs_full) })
+      | inr entries_full ↦ subst (IsFull (core_view d) asks) (sym entries_full) (record { entries = launches; laid = laid_out; full = unrecorded entries_full })
+    ]
+
+pub entry_of : (o : Option RouteEntry) (t : Tree) → Some t ≡ option_map (λ e. e.tree) o → (e : RouteEntry) × (o ≡ Some e) × (t ≡ e.tree)
+entry_of None t e = no_some (sym e)
+entry_of (Some x) t e = (x, refl, same_some e)
+
+pub can_start : (d : Dispatcher) (asks : Asked) (state : EvalState) (launches : List Launch) (t : Tree) → Some t ≡ option_map (λ e. e.tree) (slice_get (arc_value d.accepted).entries asks.route)
+    → IsChoice (sizes_of (arc_value d.accepted)) (slice_index asks.choice) → HasOpened t (asked asks.op asks.rest (option_map (λ m. m.0) d.since)) (slice_index asks.choice) launches state → HasRoom d (length launches)
+    → CanStart d asks state launches
+can_start d asks state launches t at choice opened fits =
+    let e = entry_of (slice_get (arc_value d.accepted).entries asks.route) t at in
+    record {
+      entry = e.0;
+      there = e.1;
+      choice = choice;
+      opened = subst (λ z. HasOpened z (asked asks.op asks.rest (option_map (λ m. m.0) d.since)) (slice_index asks.choice) launches state) e.2 opened;
+      fits = fits;
+    }
+
+pub same_room : (d d2 : Dispatcher) (count : ℕ) → d2.counts ≡ d.counts → d2.next_call ≡ d.next_call → d2.next_leg ≡ d.next_leg → d2.entries ≡ d.entries → HasRoom d count → HasRoom d2 count
+same_room d d2 count counts call leg entries h =
+    let a : d2.counts.queued ≡ d.counts.queued = ap (λ v. v.queued) counts in
+    let b : d2.counts.reserved ≡ d.counts.reserved = ap (λ v. v.reserved) counts in
+    let l = h.legs in
+    let c = h.call_numbers in
+    let n = h.leg_numbers in
+    let m = h.entries in
+    record { legs = omega (arith, a, b, l); call_numbers = omega (arith, call, c); leg_numbers = omega (arith, leg, b, n); entries = omega (arith, entries, m) }
+
+-- after more room was made
+pub can_add_then : (d d2 : Dispatcher) (asks : Asked) (state : EvalState) (launches : List Launch) (c : Call) (can : CanStart d asks state launches) → d2.accepted ≡ d.accepted → d2.since ≡ d.since → d2.counts ≡ d.counts → d2.next_call ≡ d.next_call
+    → d2.next_leg ≡ d.next_leg → d2.entries ≡ d.entries → IsSoundRoutes (arc_value d2.accepted) → IsRest asks.rest → IsNewCall d2.next_call d2.since asks state launches c → 0 < call_room d2.calls → d.counts.reserved + length launches ≤ room d2.queues
+    → CanAdd d2 c
+can_add_then d d2 asks state launches c can accepted since counts call leg entries sound rest made calls_fit legs_fit =
+    let b : d2.counts.reserved ≡ d.counts.reserved = ap (λ v. v.reserved) counts in
+    can_add d2 asks state launches c can.entry (ap (λ a. slice_get (arc_value a).entries asks.route) accepted ∙ can.there) sound rest (subst (λ a. IsChoice (sizes_of (arc_value a)) (slice_index asks.choice)) (sym accepted) can.choice) made
+    (subst (λ s. HasOpened can.entry.tree (asked asks.op asks.rest (option_map (λ m. m.0) s)) (slice_index asks.choice) launches state) (sym since) can.opened) (same_room d d2 (length launches) counts call leg entries can.fits) calls_fit (omega (arith, b, legs_fit))
+
+-- ---- what contracts see of a call that began
+
+pub laid_start : (d : Dispatcher) (asks : Asked) (state : EvalState) (launches : List Launch) → CanStart d asks state launches → IsLaidOut (arc_value d.accepted) (new_call (world_of (core_view d).rows) asks.op asks.route asks.rest asks.choice) launches
+laid_start d asks state launches can = laid_for d asks state launches can.entry.tree (sym (ap (option_map (λ e. e.tree)) can.there)) can.opened
+
+pub moved_as : (d d2 : Dispatcher) (asks : Asked) (state : EvalState) (launches : List Launch) (c : Call) (new : CoreView) (number : ℕ) (since : Option Moment) → core_view d2 ≡ core_view d → IsNewCall number since asks state launches c
+    → Moved (core_view d2) new (began_by c) → Moved (core_view d) new (Began asks.op asks.route asks.rest asks.choice)
+moved_as d d2 asks state launches c new number since same made h =
+    subst (λ v. Moved v new (Began asks.op asks.route asks.rest asks.choice)) same
+    (subst (λ m. Moved (core_view d2) new m) (λ j. Began (made.op j) (made.route j) (made.rest j) (made.choice j)) h)
+
+
+pub has_begun_as : (d d2 : Dispatcher) (asks : Asked) (state : EvalState) (launches : List Launch) (c : Call) (new : CoreView) (number : ℕ) (since : Option Moment) → core_view d2 ≡ core_view d → IsNewCall number since asks state launches c
+    → new ≡ has_begun (core_view d2) c → IsLaidOut (arc_value d.accepted) (new_call (world_of (core_view d).rows) asks.op asks.route asks.rest asks.choice) launches
+    → HasBegun (core_view d) new asks.op asks.route asks.rest asks.choice
+has_begun_as d d2 asks state launches c new number since same made is laid_out = record {
+  entries = launches;
+  laid = laid_out;
+  view =
+      is ∙ ap (λ v. has_begun v c) same
+      ∙ (λ j. record (core_view d) {
+          rows = began_rows (arc_value d.accepted) (core_view d).rows (new_call (world_of (core_view d).rows) (made.op j) (made.route j) (made.rest j) (made.choice j)) (made.entries j);
+          entries = d.entries + (2 + 3 * length (made.entries j));
+        });
+}
+-- ---- a call that is made can be added
+
+pub can_add : (d : Dispatcher) (asks : Asked) (state : EvalState) (launches : List Launch) (c : Call) (entry : RouteEntry) → slice_get (arc_value d.accepted).entries asks.route ≡ Some entry → IsSoundRoutes (arc_value d.accepted) → IsRest asks.rest
+    → IsChoice (sizes_of (arc_value d.accepted)) (slice_index asks.choice) → IsNewCall d.next_call d.since asks state launches c
+    → HasOpened entry.tree (asked asks.op asks.rest (option_map (λ m. m.0) d.since)) (slice_index asks.choice) launches state → HasRoom d (length launches) → 0 < call_room d.calls → d.counts.reserved + length launches ≤ room d.queues → CanAdd d c
+can_add d asks state launches c entry at sound rest choice new opened fits calls_fit legs_fit =
+    let r : RoutesValue = arc_value d.accepted in
+    let tree : tree_of r asks.route ≡ entry.tree = ap (λ v. unwrap_or (option_map (λ e. e.tree) v) error) at in
+    let count : length launches ≡ c.left = ap length (sym new.entries) ∙ sym new.unlaunched.left in
+    let route_at : slice_get r.entries c.route ≡ Some entry = ap (slice_get r.entries) new.route ∙ at in
+    let since : option_map (λ (m : Moment). m.0) c.since ≡ option_map (λ m. m.0) d.since = ap (option_map (λ m. m.0)) new.since_is in
+    let situations : asked asks.op asks.rest (option_map (λ m. m.0) d.since) ≡ situation_of (call_of c) = λ j. asked (sym new.op j) (sym new.rest j) (sym since j) in
+    let choices : slice_index asks.choice ≡ choice_of (call_of c) = ap slice_index (sym new.choice) in
+    let trees : entry.tree ≡ tree_of r c.route = sym tree ∙ ap (tree_of r) (sym new.route) in
+    record {
+      begins = record {
+        entry = entry;
+        there = route_at;
+        rest_is = subst IsRest (sym new.rest) rest;
+        choice_is = subst (IsChoice (sizes_of r)) choices choice;
+      };
+      since_is = new.since_is;
+      opened = subst (λ t. HasOpened t (situation_of (call_of c)) (choice_of (call_of c)) (entries_of c) c.state) trees
+          (subst (λ s. HasOpened entry.tree s (choice_of (call_of c)) (entries_of c) c.state) situations
+          (subst (λ h. HasOpened entry.tree (asked asks.op asks.rest (option_map (λ m. m.0) d.since)) h (entries_of c) c.state) choices
+          (subst (λ es. HasOpened entry.tree (asked asks.op asks.rest (option_map (λ m. m.0) d.since)) (slice_index asks.choice) es c.state) (sym new.entries)
+          (subst (λ z. HasOpened entry.tree (asked asks.op asks.rest (option_map (λ m. m.0) d.since)) (slice_index asks.choice) launches z) (sym new.state_is) opened))));
+      goes = subst (λ t. GoesToServers (length r.servers) t (situation_of (call_of c)) (choice_of (call_of c))) (ap (tree_of r) (sym new.route))
+          (subst (λ s. GoesToServers (length r.servers) (tree_of r asks.route) s (choice_of (call_of c))) situations
+          (subst (λ h. GoesToServers (length r.servers) (tree_of r asks.route) (asked asks.op asks.rest (option_map (λ m. m.0) d.since)) h) choices
+          (goes_to_servers r asks.route entry at sound asks.op asks.rest (option_map (λ m. m.0) d.since) (slice_index asks.choice) choice)));
+      unlaunched = new.unlaunched;
+      has_room = subst (HasRoom d) count fits;
+      calls_fit = calls_fit;
+      legs_fit = omega (arith, legs_fit, count);
+    }

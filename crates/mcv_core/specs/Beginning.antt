@@ -1,11 +1,15 @@
 -- A call begins (own).
 use Rattle.std.specs.Arc.{arc_value}
-use Rattle.std.specs.Prelude.{◌≡◌, ◌<◌, ◌≤◌, ◌⊎◌, ◌+◌, ◌*◌, ◌^◌, ℕ, false, List, [], Option, Some, None, ⊤, length, option_map, slice_get, vec_capacity}
+use Rattle.std.specs.Prelude.{◌≡◌, ◌<◌, ◌≤◌, ◌⊎◌, ◌+◌, ◌*◌, ◌^◌, ℕ, false, List, [], Option, Some, None, ⊤, length, option_map, slice_get, slice_index, vec_capacity}
 use Rattle.mcv_base.specs.declared.operation.Op.{Op}
 use Rattle.mcv_base.specs.declared.request.Moment.{Moment}
 use Rattle.mcv_plan.specs.declared.state.EvalState.{EvalState}
 use Rattle.mcv_queues.specs.Queues.{room as leg_room}
 use Rattle.mcv_route.specs.declared.launch.Launch.{Launch}
+use Rattle.mcv_route.specs.Outcomes.{IsChoice}
+use Rattle.mcv_route.specs.Routes.{RouteEntry}
+use Rattle.mcv_route.specs.Situation.{asked}
+use Rattle.mcv_symbolic.specs.Covered.{sizes_of}
 use Rattle.mcv_world.specs.Moves.{Began, Move, new_call}
 use Rattle.mcv_world.specs.Possible.{CanBegin}
 use Rattle.mcv_world.specs.World.{choice_of, situation_of, tree_of}
@@ -122,3 +126,11 @@ pub record CanAdd (d : Dispatcher) (c : Call) : Type 0 where
 
 abbrev pub has_begun : CoreView → Call → CoreView
 has_begun v c = record v { rows = began_rows v.routes v.rows (new_call (world_of v.rows) c.op c.route (call_of c).rest c.choice) (entries_of c); entries = v.entries + (2 + 3 * length (entries_of c)) }
+
+-- the call's entries are laid out, and fit
+pub record CanStart (d : Dispatcher) (asks : Asked) (state : EvalState) (launches : List Launch) : Type 0 where
+  pub entry : RouteEntry
+  pub there : slice_get (arc_value d.accepted).entries asks.route ≡ Some entry
+  pub choice : IsChoice (sizes_of (arc_value d.accepted)) (slice_index asks.choice)
+  pub opened : HasOpened entry.tree (asked asks.op asks.rest (option_map (λ m. m.0) d.since)) (slice_index asks.choice) launches state
+  pub fits : HasRoom d (length launches)

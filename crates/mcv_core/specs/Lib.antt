@@ -13,3 +13,4 @@ pub mod View
 pub mod Turning
 pub mod Taking
 pub mod Beginning
+pub mod Opening

@@ -3,10 +3,12 @@
 ghost use Rattle.std.specs.Arc.{arc_value};
 ghost use Rattle.std.specs.Prelude.{◌≡◌, ◌+◌, ◌*◌, ◌<◌, ◌≤◌, ◌^◌, ◌⊎◌, IfOk, IfErr, OnOk, OnErr, slice_index};
 ghost use Rattle.mcv_queues.specs.Queues.{room as leg_room};
+ghost use Rattle.mcv_base.specs.Key.{IsRest};
 ghost use Rattle.mcv_route.specs.Outcomes.{IsChoice};
+ghost use Rattle.mcv_route.specs.Routes.{IsSoundRoutes};
 ghost use Rattle.mcv_symbolic.specs.Covered.{sizes_of};
 ghost use Rattle.mcv_world.specs.Moves.{Began};
-ghost use Rattle.mcv_core.specs.Beginning.{AreReadied, AreTooMany, CanAdd, HasBegun, HasRoom, IsFull, IsNewCall, began_by, has_begun};
+ghost use Rattle.mcv_core.specs.Beginning.{AreReadied, AreTooMany, CanAdd, CanStart, HasBegun, HasRoom, IsFull, IsNewCall, began_by, has_begun};
 ghost use Rattle.mcv_core.specs.Calls.{room as call_room};
 ghost use Rattle.mcv_core.specs.CoreView.{Moved};
 ghost use Rattle.mcv_core.specs.View.{core_view};
@@ -23,7 +25,7 @@ use crate::settle::number_after;
 use mcv_base::{CallId, Moment, Op, Request, Rest};
 use mcv_plan::EvalState;
 use mcv_pools::Choice;
-use mcv_route::Launch;
+use mcv_route::{Launch, Routes};
 use std::alloc::{AllocError, AllocFailed, Global};
 use std::sync::Arc;
 
@@ -57,6 +59,20 @@ pub struct Asked {
     pub route: usize,
     pub rest: Rest,
     pub choice: Choice,
+}
+
+/// The pools of the routes are sound.
+fn routes_are_sound(routes: &Routes)
+    ensures { IsSoundRoutes routes.now }
+{
+    let _servers = routes.servers();
+}
+
+/// A rest has 1 to 250 key bytes.
+fn rest_is_sound(rest: &Rest)
+    ensures { IsRest rest.now }
+{
+    let _bytes = rest.as_bytes();
 }
 
 /// The entries of a call that begins, each with what its leg takes with it.
@@ -157,7 +173,7 @@ impl Dispatcher {
         let Some(tree) = self.accepted.routes().route(asked.route) else {
             return Err(CoreFault::UnknownPrefix);
         };
-        let (state, launches) = open(
+        let laid = open(
             alloc,
             tree,
             asked.op,
@@ -165,9 +181,38 @@ impl Dispatcher {
             self.since,
             &asked.choice,
         )?;
-        self.has_room_for(launches.len())?;
-        let call = new_call(alloc, self.next_call, self.since, asked, state, launches)?;
-        self.make_room(call.left)?;
+        match self.has_room_for(laid.1.len()) {
+            Ok(()) => self.start(alloc, asked, laid.0, laid.1),
+            Err(fault) => Err(fault),
+        }
+    }
+
+    /// Makes a call for which there is room, and adds it.
+    fn start(
+        &mut self,
+        alloc: Global,
+        asked: Asked,
+        state: EvalState,
+        launches: Vec<Launch>,
+    ) -> Result<CallId, CoreFault>
+        requires can { CanStart self.old asked state launches.items }
+        ensures moves { IfOk result (λ call. Moved (core_view self.old) (core_view self.new) (Began asked.op asked.route asked.rest asked.choice)) }
+        ensures call { IfOk result (λ call. call.0 ≡ (core_view self.old).rows.next_call) }
+        ensures view { OnOk result (HasBegun (core_view self.old) (core_view self.new) asked.op asked.route asked.rest asked.choice) }
+        ensures memory { IfErr result (λ fault. fault ≡ OutOfMemory) }
+        ensures err { OnErr result (core_view self.new ≡ core_view self.old) }
+    {
+        self.make_room(launches.len())?;
+        routes_are_sound(self.accepted.routes());
+        rest_is_sound(&asked.rest);
+        let call = new_call(
+            alloc,
+            self.next_call,
+            self.since,
+            asked,
+            state,
+            launches,
+        )?;
         Ok(self.add(call))
     }
 
@@ -200,6 +245,9 @@ impl Dispatcher {
         ensures counts { self.new.counts ≡ self.old.counts }
         ensures accepted { self.new.accepted ≡ self.old.accepted }
         ensures since { self.new.since ≡ self.old.since }
+        ensures next_call { self.new.next_call ≡ self.old.next_call }
+        ensures next_leg { self.new.next_leg ≡ self.old.next_leg }
+        ensures entries { self.new.entries ≡ self.old.entries }
         ensures calls { OnOk result (0 < call_room self.new.calls) }
         ensures legs { OnOk result (self.old.counts.reserved + count ≤ leg_room self.new.queues) }
         ensures err { IfErr result (λ fault. fault ≡ OutOfMemory) }

@@ -17,6 +17,7 @@ mod errand;
 mod facts;
 mod fault;
 mod launch;
+mod opening;
 mod progress;
 mod run;
 mod send;
@@ -26,6 +27,7 @@ mod step;
 mod take;
 mod turn;
 
+pub use dispatcher::Dispatcher;
 pub use engine::Core;
 pub use fault::CoreFault;
 pub use run::{Answer, Event, Run};

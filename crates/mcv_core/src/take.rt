@@ -51,10 +51,20 @@ impl Call {
         let Some(place) = self.place_of(entry) else {
             return None;
         };
+        if !self.is_there(place) {
+            return None;
+        }
+        self.recorded[place].hand_out()
+    }
+
+    /// Whether the reply at the place is there, and wasn't taken.
+    fn is_there(&self, place: usize) -> bool
+        ensures { result ≡ is_some (taken_at self.now.recorded.items place) }
+    {
         if place < self.recorded.len() {
-            self.recorded[place].hand_out()
+            self.recorded[place].taken.is_some()
         } else {
-            None
+            false
         }
     }
 
