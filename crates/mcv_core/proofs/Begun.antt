@@ -420,15 +420,6 @@ same_room d d2 count counts call leg entries h =
     let m = h.entries in
     record { legs = omega (arith, a, b, l); call_numbers = omega (arith, call, c); leg_numbers = omega (arith, leg, b, n); entries = omega (arith, entries, m) }
 
--- after more room was made
-pub can_add_then : (d d2 : Dispatcher) (asks : Asked) (state : EvalState) (launches : List Launch) (c : Call) (can : CanStart d asks state launches) → d2.accepted ≡ d.accepted → d2.since ≡ d.since → d2.counts ≡ d.counts → d2.next_call ≡ d.next_call
-    → d2.next_leg ≡ d.next_leg → d2.entries ≡ d.entries → IsSoundRoutes (arc_value d2.accepted) → IsRest asks.rest → IsNewCall d2.next_call d2.since asks state launches c → 0 < call_room d2.calls → d.counts.reserved + length launches ≤ room d2.queues
-    → CanAdd d2 c
-can_add_then d d2 asks state launches c can accepted since counts call leg entries sound rest made calls_fit legs_fit =
-    let b : d2.counts.reserved ≡ d.counts.reserved = ap (λ v. v.reserved) counts in
-    can_add d2 asks state launches c can.entry (ap (λ a. slice_get (arc_value a).entries asks.route) accepted ∙ can.there) sound rest (subst (λ a. IsChoice (sizes_of (arc_value a)) (slice_index asks.choice)) (sym accepted) can.choice) made
-    (subst (λ s. HasOpened can.entry.tree (asked asks.op asks.rest (option_map (λ m. m.0) s)) (slice_index asks.choice) launches state) (sym since) can.opened) (same_room d d2 (length launches) counts call leg entries can.fits) calls_fit (omega (arith, b, legs_fit))
-
 -- ---- what contracts see of a call that began
 
 pub laid_start : (d : Dispatcher) (asks : Asked) (state : EvalState) (launches : List Launch) → CanStart d asks state launches → IsLaidOut (arc_value d.accepted) (new_call (world_of (core_view d).rows) asks.op asks.route asks.rest asks.choice) launches
@@ -490,3 +481,12 @@ can_add d asks state launches c entry at sound rest choice new opened fits calls
       calls_fit = calls_fit;
       legs_fit = omega (arith, legs_fit, count);
     }
+
+-- after more room was made
+pub can_add_then : (d d2 : Dispatcher) (asks : Asked) (state : EvalState) (launches : List Launch) (c : Call) (can : CanStart d asks state launches) → d2.accepted ≡ d.accepted → d2.since ≡ d.since → d2.counts ≡ d.counts → d2.next_call ≡ d.next_call
+    → d2.next_leg ≡ d.next_leg → d2.entries ≡ d.entries → IsSoundRoutes (arc_value d2.accepted) → IsRest asks.rest → IsNewCall d2.next_call d2.since asks state launches c → 0 < call_room d2.calls → d.counts.reserved + length launches ≤ room d2.queues
+    → CanAdd d2 c
+can_add_then d d2 asks state launches c can accepted since counts call leg entries sound rest made calls_fit legs_fit =
+    let b : d2.counts.reserved ≡ d.counts.reserved = ap (λ v. v.reserved) counts in
+    can_add d2 asks state launches c can.entry (ap (λ a. slice_get (arc_value a).entries asks.route) accepted ∙ can.there) sound rest (subst (λ a. IsChoice (sizes_of (arc_value a)) (slice_index asks.choice)) (sym accepted) can.choice) made
+    (subst (λ s. HasOpened can.entry.tree (asked asks.op asks.rest (option_map (λ m. m.0) s)) (slice_index asks.choice) launches state) (sym since) can.opened) (same_room d d2 (length launches) counts call leg entries can.fits) calls_fit (omega (arith, b, legs_fit))

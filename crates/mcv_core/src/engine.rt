@@ -2,6 +2,7 @@
 
 ghost use Rattle.std.specs.Arc.{arc_value};
 ghost use Rattle.std.specs.Prelude.{◌≡◌, IfOk, IfErr};
+ghost use Rattle.mcv_pools.specs.Choice.{HasIndexEach};
 ghost use Rattle.mcv_core.specs.Opening.{opened_view};
 ghost use Rattle.mcv_core.specs.View.{core_view};
 ghost use Rattle.mcv_core.specs.declared.fault.CoreFault.TheVariants.{Memory as OutOfMemory};
@@ -67,7 +68,9 @@ impl<H: KeyHash + Drop> Core<H> {
         alloc: Global,
         request: Arc<Request>,
         key: usize,
-    ) -> Result<Asked, CoreFault> {
+    ) -> Result<Asked, CoreFault>
+        ensures { IfOk result (λ asked. HasIndexEach (core_view self.now.dispatcher).routes.symbols asked.choice) }
+    {
         let (op, prefix, rest) = key_of(&request, key)?;
         let routes = self.dispatcher.accepted.routes();
         let route = routes.route_of(&prefix).ok_or(CoreFault::UnknownPrefix)?;
