@@ -1,0 +1,17 @@
+pub mod Launches
+pub mod Places
+pub mod Passing
+pub mod Tracking
+pub mod Recordings
+pub mod SpooledLegs
+pub mod States
+pub mod Settlements
+pub mod LegViews
+pub mod Settled
+pub mod Does
+pub mod Sendings
+pub mod Landings
+pub mod Resting
+pub mod Taken
+pub mod HandingOut
+pub mod Begun

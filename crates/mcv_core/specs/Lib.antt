@@ -1,0 +1,16 @@
+pub mod Fault
+pub mod Tracked
+pub mod Errands
+pub mod Launching
+pub mod Rows
+pub mod Noting
+pub mod Calls
+pub mod Sound
+pub mod Facts
+pub mod CoreView
+pub mod Settling
+pub mod View
+pub mod Turning
+pub mod Taking
+pub mod Beginning
+pub mod Opening
