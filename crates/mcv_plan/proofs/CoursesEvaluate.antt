@@ -1,5 +1,5 @@
 -- The course of a plan that serves a route launches and replies as the definitions say.
-use Rattle.std.proofs.Common.{◌≡◌, ◌<◌, cond, ℕ, zero, true, false, List, [], ◌∷◌, ◌++◌, length, map, Option, Some, None, option_map, refl, sym, ap, ◌∙◌, arith}
+use Rattle.std.proofs.Common.{◌≡◌, ◌<◌, ◌≤◌, cond, ℕ, zero, true, false, List, [], ◌∷◌, ◌++◌, length, map, Option, Some, None, option_map, refl, sym, ap, ◌∙◌, arith}
 use Rattle.std.specs.Prelude.{◌==◌}
 use Rattle.std.specs.List.{AllPairs}
 use Rattle.mcv_base.specs.declared.operation.Op.{Op}
@@ -34,6 +34,7 @@ use Rattle.mcv_rules.specs.Places.{is_plain, kind_of, places_of}
 use Rattle.mcv_rules.proofs.Rising.{IsPart, both-parts, no-part, pairs, plan_rises, whole-part}
 use Rattle.mcv_plan.specs.Built as sublists
 use Rattle.mcv_plan.specs.Built.{IsBuilt, IsSublist}
+use Rattle.mcv_plan.specs.Counts.{legs_in}
 use Rattle.mcv_plan.specs.Entries.{legs_of, numbers}
 use Rattle.mcv_plan.specs.Evaluation.{leg_at}
 use Rattle.mcv_plan.specs.Laws.{Evaluates, IsLaidOut, IsReply, history_at, position_at}
@@ -41,6 +42,7 @@ use Rattle.mcv_plan.specs.Parts.{AnswersAs, IsFixed, SendsAs, reached_of}
 use Rattle.mcv_plan.specs.Past.{IsLegal, Past, own_of}
 use Rattle.mcv_plan.specs.Reached.{Own, answer_of}
 use Rattle.mcv_plan.specs.State.{State, answered, entries, plan, sends}
+use Rattle.mcv_plan.proofs.CountsAdd.{choice_bounded}
 use Rattle.mcv_plan.proofs.Local.{answered_plan, entries_plan, sends_plan}
 use Rattle.mcv_plan.proofs.PartsBuilt.{plain_beside}
 use Rattle.mcv_plan.proofs.EntriesLaidOut.{all_legs, below_count, follow_all, part_is_filter, placed_apart}
@@ -199,17 +201,18 @@ module _ (p : Plan) (t : Tree) (situation : Situation) (c : Choice) (s : State) 
     rising = rise;
   }
 
-  evaluates : Evaluates t situation c ls s
-  evaluates = record {
+  evaluates : length ls ≤ legs_in t situation → Evaluates t situation c ls s
+  evaluates few = record {
     laid = laid_out;
     numbered = course.numbered;
     launches = λ past legal. (after past legal).launches;
     replies = λ past legal. (after past legal).replies;
     once = λ past. launched_once (own_of past) s zero (length ls) course.numbered;
+    bound = few;
   }
 
 pub courses_evaluate : (p : Plan) (t : Tree) (situation : Situation) (c : Choice) (s : State) → Serves p t situation → IsBuilt c p zero s → Evaluates t situation c (legs_of c p) (plan s)
 courses_evaluate p t situation c s serves built =
     let part = sublist_part (map (λ l. l.position) (legs_of c p)) (places_of p) built.places in
     let rise = part.rising (rw serves.places (plan_rises t situation)) in
-    evaluates p t situation c (plan s) serves (pairs (map (λ l. l.position) (legs_of c p)) rise) (course_of c p s serves.kind built)
+    evaluates p t situation c (plan s) serves (pairs (map (λ l. l.position) (legs_of c p)) rise) (course_of c p s serves.kind built) (choice_bounded p t situation c serves built.places)

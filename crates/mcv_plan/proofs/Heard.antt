@@ -112,17 +112,17 @@ module _ (ends : List ℕ) (ss us : List State) (e : ℕ) (x : Outcome) (i : ℕ
   heard_beside r h = record {
     same = ap (λ z. beside ends z) (same_plans r h);
     reflects = λ o t n b sent s. reflect_in r h o t n b sent s;
-    reply = λ o t n b sent s. first_tells t r i (answered_each o (states_of ss)) (answered_each (put o e (reached e x t)) (states_of ss)) (answered_in r h o t n b sent s);
+    reply = λ o t n b sent s. first_reports t r i (answered_each o (states_of ss)) (answered_each (put o e (reached e x t)) (states_of ss)) (answered_in r h o t n b sent s);
     fresh = λ o t n b sent s. fresh_in r h o t n b sent s;
   }
     where
-      first_tells : (t : ℕ) (r : Option Answer) (j : ℕ) (xs ys : List (Option Reached)) → ChangesAt t r j xs ys → Changes t (cond (j == 0) r None) (first_answered xs) (first_answered ys)
-      first_tells t None zero xs ys f = ap first_answered f
-      first_tells t None (suc j) xs ys f = rw (suc_zero j) (ap first_answered f)
-      first_tells t (Some a) zero [] ys f = absurd (let g = f.0 in cc)
-      first_tells t (Some a) zero (z ∷ xs) ys f = let g : Some z ≡ Some None = f.0 in let w : z ≡ None = cc in (w, ap first_answered f.1)
-      first_tells t (Some a) (suc j) [] ys f = absurd (let g = f.0 in cc)
-      first_tells t (Some a) (suc j) (z ∷ xs) ys f = rw (suc_zero j) (ap first_answered f.1)
+      first_reports : (t : ℕ) (r : Option Answer) (j : ℕ) (xs ys : List (Option Reached)) → ChangesAt t r j xs ys → Changes t (cond (j == 0) r None) (first_answered xs) (first_answered ys)
+      first_reports t None zero xs ys f = ap first_answered f
+      first_reports t None (suc j) xs ys f = rw (suc_zero j) (ap first_answered f)
+      first_reports t (Some a) zero [] ys f = absurd (let g = f.0 in cc)
+      first_reports t (Some a) zero (z ∷ xs) ys f = let g : Some z ≡ Some None = f.0 in let w : z ≡ None = cc in (w, ap first_answered f.1)
+      first_reports t (Some a) (suc j) [] ys f = absurd (let g = f.0 in cc)
+      first_reports t (Some a) (suc j) (z ∷ xs) ys f = rw (suc_zero j) (ap first_answered f.1)
 
 -- ---- after a hit
 

@@ -17,4 +17,6 @@ pub mod LaunchedOnce
 pub mod CoursesBuilt
 pub mod EntriesLaidOut
 pub mod CoursesEvaluate
+pub mod CountsAdd
+pub mod KnownOutcomes
 pub mod FirstWave

@@ -29,7 +29,7 @@ later_before a b h g = elim (nat_lt (weight a) (weight b) || ((weight a == weigh
   | false ↦ h
 ]
 
-abbrev fold_join : Option Reached → List (Option Reached) → Option Reached
+abbrev pub fold_join : Option Reached → List (Option Reached) → Option Reached
 fold_join x [] = x
 fold_join x (y ∷ ys) = fold_join (join x y) ys
 
@@ -37,11 +37,11 @@ join_none : (x : Option Reached) → join x None ≡ x
 join_none None = refl
 join_none (Some a) = refl
 
-fold_join_is : (x : Option Reached) (xs : List (Option Reached)) → fold_join x xs ≡ join x (prevails xs)
+pub fold_join_is : (x : Option Reached) (xs : List (Option Reached)) → fold_join x xs ≡ join x (prevails xs)
 fold_join_is x [] = sym (join_none x)
 fold_join_is x (y ∷ ys) = fold_join_is (join x y) ys ∙ join_assoc x y (prevails ys)
 
-worst_folds : (x : Option Reached) (xs : List (Option Reached)) → came_of x < 1 → AreBefore 1 xs → worst_from (answer_of x) xs ≡ answer_of (fold_join x xs)
+pub worst_folds : (x : Option Reached) (xs : List (Option Reached)) → came_of x < 1 → AreBefore 1 xs → worst_from (answer_of x) xs ≡ answer_of (fold_join x xs)
 worst_folds x [] h f = refl
 worst_folds x (None ∷ xs) h f = worst_folds x xs h f.1 ∙ ap (λ z. answer_of (fold_join z xs)) (sym (join_none x))
 worst_folds None (Some b ∷ xs) h f = worst_folds (Some b) xs f.0 f.1

@@ -1,5 +1,5 @@
 -- That a call's evaluation does what the definitions of routes say: which legs are launched, and which reply it has.
-use Rattle.std.specs.Prelude.{◌≡◌, ◌<◌, ℕ, zero, ⊤, Bool, List, map, length, Option, Some, None}
+use Rattle.std.specs.Prelude.{◌≡◌, ◌<◌, ◌≤◌, ℕ, zero, ⊤, Bool, List, map, length, Option, Some, None}
 use Rattle.std.specs.List.{AllPairs, filter, list_any}
 use Rattle.mcv_base.specs.declared.operation.Op.{Op}
 use Rattle.mcv_base.specs.declared.reply.FixedReply.TheVariants.{ErrorRoute}
@@ -15,6 +15,7 @@ use Rattle.mcv_rules.specs.Status.{default_reply}
 use Rattle.mcv_plan.specs.declared.answer.Answer.{Answer}
 use Rattle.mcv_plan.specs.declared.answer.Source.{Source}
 use Rattle.mcv_plan.specs.declared.answer.Source.TheVariants.{Entry, Fixed}
+use Rattle.mcv_plan.specs.Counts.{legs_in}
 use Rattle.mcv_plan.specs.Entries.{numbers}
 use Rattle.mcv_plan.specs.Evaluation.{leg_at}
 use Rattle.mcv_plan.specs.Past.{IsLegal, IsOnce, Past, own_of}
@@ -64,3 +65,5 @@ pub record Evaluates (t : Tree) (situation : Situation) (c : Choice) (ls : List 
   pub launches : (past : Past) → IsLegal s past → map (leg_at ls) (sends (own_of past) s) ≡ launched t situation c (outcomes (history_at ls past))
   pub replies : (past : Past) → IsLegal s past → IsReply ls situation.op (answer_of (answered (own_of past) s)) (reply t situation (history_at ls past))
   pub once : (past : Past) → IsOnce (sends (own_of past) s)
+  -- never more than the route has
+  pub bound : length ls ≤ legs_in t situation

@@ -6,13 +6,15 @@ ghost use Rattle.mcv_route.specs.Tree.{Tree};
 ghost use Rattle.mcv_rules.specs.Laid.{Serves};
 ghost use Rattle.mcv_plan.specs.Entries.{legs_of};
 ghost use Rattle.mcv_plan.specs.Evaluation.{IsAfter, IsAwaited, legs_count, shape};
+ghost use Rattle.mcv_plan.specs.Known.{own_in};
 ghost use Rattle.mcv_plan.specs.Laws.{Evaluates};
 ghost use Rattle.mcv_plan.specs.Past.{Past, new_of, own_of};
-ghost use Rattle.mcv_plan.specs.State.{sends, wave};
+ghost use Rattle.mcv_plan.specs.State.{holds, sends, wave};
 
 use crate::answer::Answer;
 use crate::building::build;
 use crate::hearing::advance;
+use crate::launched::launches;
 use crate::opening::open;
 use crate::state::EvalState;
 use mcv_base::Outcome;
@@ -67,6 +69,14 @@ impl EvalState {
         ensures { result ≡ self.now.reply }
     {
         self.reply
+    }
+
+    /// Whether the leg with this number is launched, where exactly these outcomes are known, by the legs' numbers. Takes
+    /// no memory; the outcomes that have come so far don't matter.
+    pub fn is_launched(&self, outcomes: &[Option<Outcome>], entry: usize) -> bool
+        ensures { result ≡ holds entry (sends (own_in outcomes.now) (shape self.now)) }
+    {
+        launches(&self.course, outcomes, entry)
     }
 
     /// How many legs the call can launch: their numbers are those below.

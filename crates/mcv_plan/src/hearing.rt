@@ -12,7 +12,7 @@ use crate::opening::{go_on_behind, open};
 use mcv_base::Outcome;
 use mcv_rules::After;
 
-/// Takes in the outcome of a leg, and tells the reply, if that has come now.
+/// Takes in the outcome of a leg, and reports the reply, if that has come now.
 #[cycle(hearing)]
 pub fn advance(
     course: &mut Course,

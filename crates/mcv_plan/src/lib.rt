@@ -9,11 +9,14 @@
 mod answer;
 mod at_once;
 mod building;
+mod counting;
 mod course;
 mod evaluation;
 mod hearing;
+mod launched;
 mod opening;
 mod state;
 
 pub use answer::{Answer, Source};
+pub use counting::most_legs;
 pub use state::EvalState;

@@ -10,7 +10,7 @@ use crate::answer::{Answer, goes_on_after, is_hit};
 use crate::course::Course;
 use mcv_rules::After;
 
-/// Launches the legs that wait for nothing, and tells the reply that is there at once.
+/// Launches the legs that wait for nothing, and reports the reply that is there at once.
 #[cycle(opening)]
 pub fn open(course: &Course, fresh: &mut Vec<usize>) -> Option<Answer>
     requires { length fresh.old.items + length (entries (view course.now)) ≤ vec_capacity fresh.old }
@@ -44,7 +44,7 @@ pub fn open(course: &Course, fresh: &mut Vec<usize>) -> Option<Answer>
     }
 }
 
-/// Opens all, and tells the first one's reply.
+/// Opens all, and reports the first one's reply.
 #[cycle(opening)]
 fn open_all(children: &[Course], fresh: &mut Vec<usize>) -> Option<Answer>
     requires { length fresh.old.items + length (joined (entries_each (seen children.now))) ≤ vec_capacity fresh.old }

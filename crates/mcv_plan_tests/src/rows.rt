@@ -2,7 +2,7 @@
 
 use crate::routes::{migration, pools, shadowed, warm_up};
 use mcv_base::{Mark, Moment, Op, Outcome, Position, Rest};
-use mcv_plan::{EvalState, Source};
+use mcv_plan::{EvalState, Source, most_legs};
 use mcv_pools::Choice;
 use mcv_route::{Launch, Route};
 use mcv_rules::{Asked, Plan, laid_out};
@@ -213,5 +213,121 @@ fn wide_routes(rt: HostRuntime) -> Result<(), Fail> {
         }
     }
     assert!(rt; state.status().is_some());
+    Ok(())
+}
+
+/// The most legs of a call of `a`.
+fn most(route: &Route, op: Op, since: Option<Moment>) -> Result<usize, Fail> {
+    let Some(rest) = Rest::of(b"a") else {
+        return Err(Fail::from("no rest"));
+    };
+    Ok(most_legs(route, op, &rest, since))
+}
+
+#[test]
+fn the_most_legs_are_those_of_all_parts(rt: HostRuntime) -> Result<(), Fail> {
+    let alloc = rt.alloc();
+    let filling = warm_up(alloc)?;
+    assert!(rt; most(&filling, Op::Get, None)? == 3);
+    assert!(rt; most(&filling, Op::Set, None)? == 1);
+    assert!(rt; most(&shadowed(alloc)?, Op::Get, None)? == 2);
+    assert!(rt; most(&Route::Failover(pools(alloc, 3)?), Op::Delete, None)? == 3);
+    let misses = Route::MissFailover(pools(alloc, 3)?);
+    assert!(rt; most(&misses, Op::Get, None)? == 3);
+    assert!(rt; most(&misses, Op::Delete, None)? == 1);
+    assert!(rt; most(&Route::AllAsync(pools(alloc, 5)?), Op::Delete, None)? == 5);
+    assert!(rt; most(&Route::AllInitial(pools(alloc, 5)?), Op::Delete, None)? == 5);
+    assert!(rt; most(&Route::AllInitial(pools(alloc, 0)?), Op::Delete, None)? == 0);
+    let moving = migration(alloc)?;
+    assert!(rt; most(&moving, Op::Delete, Some(Moment(105)))? == 2);
+    assert!(rt; most(&moving, Op::Delete, None)? == 1);
+    Ok(())
+}
+
+/// Whether after each of the outcomes the legs that were fresh so far are those that are launched.
+fn agrees(
+    alloc: Global,
+    route: &Route,
+    op: Op,
+    outcomes: &[(usize, Outcome)],
+) -> Result<bool, Fail> {
+    let plan = plan_of(alloc, route, op, None)?;
+    let choice = Choice::new(Vec::new(alloc));
+    let (mut state, entries) = EvalState::new(alloc, &plan, &choice)?;
+    let mut known = Vec::new(alloc);
+    let mut launched = Vec::new(alloc);
+    for _ in 0..entries.len() {
+        known.push(None)?;
+        launched.push(false)?;
+    }
+    mark_fresh(&state, &mut launched);
+    let mut well = are_launched(&state, &known, &launched);
+    for (entry, outcome) in outcomes {
+        if *entry < state.legs() && *entry < known.len() {
+            state.advance(*entry, *outcome);
+            known[*entry] = Some(*outcome);
+        }
+        mark_fresh(&state, &mut launched);
+        well = well && are_launched(&state, &known, &launched);
+    }
+    Ok(well)
+}
+
+fn mark_fresh(state: &EvalState, launched: &mut Vec<bool>) {
+    for entry in state.fresh() {
+        if let Some(mark) = launched.get_mut(*entry) {
+            *mark = true;
+        }
+    }
+}
+
+fn are_launched(state: &EvalState, known: &[Option<Outcome>], launched: &[bool]) -> bool {
+    for (entry, mark) in launched.iter().enumerate() {
+        if state.is_launched(known, entry) != *mark {
+            return false;
+        }
+    }
+    !state.is_launched(known, launched.len())
+}
+
+#[test]
+fn what_was_fresh_is_launched(rt: HostRuntime) -> Result<(), Fail> {
+    let alloc = rt.alloc();
+    let filling = warm_up(alloc)?;
+    let hit = agrees(
+        alloc,
+        &filling,
+        Op::Get,
+        &[(0, Outcome::Soft), (1, Outcome::Good)],
+    )?;
+    assert!(rt; hit);
+    assert!(rt;
+        agrees(
+            alloc,
+            &filling,
+            Op::Get,
+            &[(0, Outcome::Soft), (1, Outcome::Soft)]
+        )?
+    );
+    assert!(rt; agrees(alloc, &filling, Op::Get, &[(0, Outcome::Good)])?);
+    let errors = Route::Failover(pools(alloc, 3)?);
+    assert!(rt;
+        agrees(
+            alloc,
+            &errors,
+            Op::Get,
+            &[(0, Outcome::Error), (1, Outcome::Soft)]
+        )?
+    );
+    let all = Route::AllSync(pools(alloc, 2)?);
+    assert!(rt;
+        agrees(
+            alloc,
+            &all,
+            Op::Delete,
+            &[(1, Outcome::Error), (0, Outcome::Error)]
+        )?
+    );
+    assert!(rt; agrees(alloc, &shadowed(alloc)?, Op::Get, &[(1, Outcome::Error)])?);
     Ok(())
 }
