@@ -53,7 +53,7 @@ use Rattle.mcv_core.specs.declared.counts.Counts.{Counts}
 use Rattle.mcv_core.specs.declared.dispatcher.Dispatcher.{Dispatcher}
 use Rattle.mcv_core.specs.declared.errand.Errand.{Errand}
 use Rattle.mcv_core.specs.declared.launch.Entry.{Entry}
-use Rattle.mcv_core.specs.Beginning.{AreTooMany, CanAdd, CanStart, DontFit, HasBegun, HasRoom, IsErrandOf, IsFull, IsNewCall, began_by, has_begun}
+use Rattle.mcv_core.specs.Beginning.{CanAdd, CanStart, HasBegun, HasLegRoom, HasRoom, IsErrandOf, IsFull, IsNewCall, LegsFit, began_by, has_begun}
 use Rattle.mcv_core.specs.Calls.{calls_at, room as call_room}
 use Rattle.mcv_core.specs.CoreView.{CoreView, Moved}
 use Rattle.mcv_core.specs.Errands.{errand_view, launch_of}
@@ -168,7 +168,7 @@ module _ (d : Dispatcher) (c : Call) (can : CanAdd d c) where
   can_launch =
       let n = fresh_within in
       let fit = can.legs_fit in
-      let numbers = can.has_room.leg_numbers in
+      let numbers = can.has_room.legs.leg_numbers in
       record {
         fits = omega (arith, n, fit);
         numbers = omega (arith, n, numbers);
@@ -313,8 +313,8 @@ module _ (d : Dispatcher) (c : Call) (can : CanAdd d c) where
                 let a = d.sound.running_is in
                 omega (arith, below, here, same, a, running_is);
             room_is = let fit = can.legs_fit in omega (arith, fit, reserved, wide);
-            limit = let fit = can.has_room.legs in omega (arith, fit, reserved, queued);
-            numbers = let fit = can.has_room.leg_numbers in omega (arith, fit, reserved);
+            limit = let fit = can.has_room.legs.legs in omega (arith, fit, reserved, queued);
+            numbers = let fit = can.has_room.legs.leg_numbers in omega (arith, fit, reserved);
             known = let a = d.sound.known in omega (arith, a, known);
             era = d.sound.era;
           }
@@ -374,23 +374,33 @@ laid_for d asks state launches tree at opened =
     let laid2 = subst (λ t. plans.IsLaidOut t (asked asks.op asks.rest (option_map (λ m. m.0) d.since)) (slice_index asks.choice) launches) (sym same) opened.laid in
     record { all = laid2.all; rising = laid2.rising }
 
-pub too_many : (d : Dispatcher) (count : ℕ) → AreTooMany d count → DontFit (core_view d) count
-too_many d count many =
+-- the counts say what fits
+pub leg_room : (d : Dispatcher) (count : ℕ) → LegsFit (core_view d) count → HasLegRoom d count
+leg_room d count fit =
     let queued = d.sound.queued_is in
     let reserved = d.sound.reserved_is in
-    record {
-      full = elim many.full [
-        | inl full ↦ inl (omega (arith, full, queued, reserved))
-        | inr more ↦ elim more [ inl call ↦ inr (inl call) | inr leg ↦ inr (inr (omega (arith, leg, reserved))) ]
-      ];
-    }
+    let a = fit.limit in
+    let b = fit.legs in
+    record { legs = omega (arith, a, queued, reserved); call_numbers = fit.calls; leg_numbers = omega (arith, b, reserved) }
+
+pub legs_have_room : (d : Dispatcher) (count : ℕ) → HasLegRoom d count → LegsFit (core_view d) count
+legs_have_room d count fit =
+    let queued = d.sound.queued_is in
+    let reserved = d.sound.reserved_is in
+    let a = fit.legs in
+    let b = fit.leg_numbers in
+    record { limit = omega (arith, a, queued, reserved); calls = fit.call_numbers; legs = omega (arith, b, reserved) }
 
 pub refused_as : (d : Dispatcher) (asks : Asked) (launches : List Launch) (fault : CoreFault) → IsLaidOut (arc_value d.accepted) (new_call (world_of (core_view d).rows) asks.op asks.route asks.rest asks.choice) launches
-    → (fault ≡ LegsFull) ⊎ (fault ≡ ChapterFull) → (fault ≡ LegsFull → AreTooMany d (length launches)) → (fault ≡ ChapterFull → 1000000 < d.entries + (2 + 3 * length launches)) → IsFull (core_view d) asks fault
+    → (fault ≡ LegsFull) ⊎ (fault ≡ ChapterFull) → (fault ≡ LegsFull → HasLegRoom d (length launches) → ⊥) → (fault ≡ ChapterFull → HasLegRoom d (length launches) × (1000000 < d.entries + (2 + 3 * length launches)))
+    → IsFull (core_view d) asks fault
 refused_as d asks launches fault laid_out either many unrecorded =
     elim either [
-      | inl legs_full ↦ subst (IsFull (core_view d) asks) (sym legs_full) (record { entries = launches; laid = laid_out; full = too_many d (length launches) (many legs_full) })
-      | inr entries_full ↦ subst (IsFull (core_view d) asks) (sym entries_full) (record { entries = launches; laid = laid_out; full = unrecorded entries_full })
+      | inl full ↦ subst (IsFull (core_view d) asks) (sym full) (record { entries = launches; laid = laid_out; full = λ fit. many full (leg_room d (length launches) fit) })
+      | inr full ↦
+        let f = unrecorded full in
+        let over = f.1 in
+        subst (IsFull (core_view d) asks) (sym full) (record { entries = launches; laid = laid_out; full = (legs_have_room d (length launches) f.0, λ fit. omega (arith, over, fit)) })
     ]
 
 pub entry_of : (o : Option RouteEntry) (t : Tree) → Some t ≡ option_map (λ e. e.tree) o → (e : RouteEntry) × (o ≡ Some e) × (t ≡ e.tree)
@@ -414,11 +424,11 @@ pub same_room : (d d2 : Dispatcher) (count : ℕ) → d2.counts ≡ d.counts →
 same_room d d2 count counts call leg entries h =
     let a : d2.counts.queued ≡ d.counts.queued = ap (λ v. v.queued) counts in
     let b : d2.counts.reserved ≡ d.counts.reserved = ap (λ v. v.reserved) counts in
-    let l = h.legs in
-    let c = h.call_numbers in
-    let n = h.leg_numbers in
+    let l = h.legs.legs in
+    let c = h.legs.call_numbers in
+    let n = h.legs.leg_numbers in
     let m = h.entries in
-    record { legs = omega (arith, a, b, l); call_numbers = omega (arith, call, c); leg_numbers = omega (arith, leg, b, n); entries = omega (arith, entries, m) }
+    record { legs = record { legs = omega (arith, a, b, l); call_numbers = omega (arith, call, c); leg_numbers = omega (arith, leg, b, n) }; entries = omega (arith, entries, m) }
 
 -- ---- what contracts see of a call that began
 
@@ -433,11 +443,13 @@ moved_as d d2 asks state launches c new number since same made h =
 
 
 pub has_begun_as : (d d2 : Dispatcher) (asks : Asked) (state : EvalState) (launches : List Launch) (c : Call) (new : CoreView) (number : ℕ) (since : Option Moment) → core_view d2 ≡ core_view d → IsNewCall number since asks state launches c
-    → new ≡ has_begun (core_view d2) c → IsLaidOut (arc_value d.accepted) (new_call (world_of (core_view d).rows) asks.op asks.route asks.rest asks.choice) launches
+    → new ≡ has_begun (core_view d2) c → IsLaidOut (arc_value d.accepted) (new_call (world_of (core_view d).rows) asks.op asks.route asks.rest asks.choice) launches → HasRoom d (length launches)
     → HasBegun (core_view d) new asks.op asks.route asks.rest asks.choice
-has_begun_as d d2 asks state launches c new number since same made is laid_out = record {
+has_begun_as d d2 asks state launches c new number since same made is laid_out fits = record {
   entries = launches;
   laid = laid_out;
+  legs_fit = legs_have_room d (length launches) fits.legs;
+  history_fits = fits.entries;
   view =
       is ∙ ap (λ v. has_begun v c) same
       ∙ (λ j. record (core_view d) {
@@ -488,5 +500,6 @@ pub can_add_then : (d d2 : Dispatcher) (asks : Asked) (state : EvalState) (launc
     → CanAdd d2 c
 can_add_then d d2 asks state launches c can accepted since counts call leg entries sound rest made calls_fit legs_fit =
     let b : d2.counts.reserved ≡ d.counts.reserved = ap (λ v. v.reserved) counts in
-    can_add d2 asks state launches c can.entry (ap (λ a. slice_get (arc_value a).entries asks.route) accepted ∙ can.there) sound rest (subst (λ a. IsChoice (sizes_of (arc_value a)) (slice_index asks.choice)) (sym accepted) can.choice) made
+    let routes : arc_value d2.accepted ≡ arc_value d.accepted = ap arc_value accepted in
+    can_add d2 asks state launches c can.entry (ap (λ (r : RoutesValue). slice_get r.entries asks.route) routes ∙ can.there) sound rest (subst (λ (r : RoutesValue). IsChoice (sizes_of r) (slice_index asks.choice)) (sym routes) can.choice) made
     (subst (λ s. HasOpened can.entry.tree (asked asks.op asks.rest (option_map (λ m. m.0) s)) (slice_index asks.choice) launches state) (sym since) can.opened) (same_room d d2 (length launches) counts call leg entries can.fits) calls_fit (omega (arith, b, legs_fit))

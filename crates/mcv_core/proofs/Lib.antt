@@ -10,8 +10,12 @@ pub mod LegViews
 pub mod Settled
 pub mod Does
 pub mod Sendings
+pub mod Keeping
 pub mod Landings
 pub mod Resting
 pub mod Taken
 pub mod HandingOut
+pub mod Answering
 pub mod Begun
+pub mod Answering
+pub mod Keeping

@@ -1,6 +1,6 @@
 -- A call begins (own).
 use Rattle.std.specs.Arc.{arc_value}
-use Rattle.std.specs.Prelude.{◌≡◌, ◌<◌, ◌≤◌, ◌⊎◌, ◌+◌, ◌*◌, ◌^◌, ℕ, false, List, [], Option, Some, None, ⊤, length, option_map, slice_get, slice_index, vec_capacity}
+use Rattle.std.specs.Prelude.{◌≡◌, ◌<◌, ◌≤◌, ◌+◌, ◌*◌, ◌^◌, ℕ, false, List, [], Option, Some, None, ⊤, length, option_map, slice_get, slice_index, vec_capacity}
 use Rattle.mcv_base.specs.declared.operation.Op.{Op}
 use Rattle.mcv_base.specs.declared.request.Moment.{Moment}
 use Rattle.mcv_plan.specs.declared.state.EvalState.{EvalState}
@@ -31,22 +31,30 @@ use Rattle.mcv_core.specs.declared.fault.CoreFault.{CoreFault}
 use Rattle.mcv_core.specs.declared.fault.CoreFault.TheVariants.{UnknownPrefix, BadKey, LegsFull, ChapterFull, NothingWaiting, NoSuchLeg, Busy, ClockBack, Memory, NoSuchCall}
 use Rattle.mcv_core.specs.declared.launch.Entry.{Entry}
 
+-- so many entries more fit: at most 65,536 legs are queued or reserved, and numbers are below 2^64
+pub record LegsFit (v : CoreView) (count : ℕ) : Type 0 where
+  pub limit : queued_legs v.rows + reserved v.routes v.rows + count ≤ 65536
+  pub calls : v.rows.next_call + 1 < 2 ^ 64
+  pub legs : v.rows.next_leg + reserved v.routes v.rows + count < 2 ^ 64
+
+-- the chapter's history has room for two entries of the call, and three for each leg that it can launch
+abbrev pub HistoryFits : CoreView → ℕ → Type 0
+HistoryFits v count = v.entries + (2 + 3 * count) ≤ 1000000
+
 -- the call is added with its entries, and what it launches at once waits
 pub record HasBegun (old new : CoreView) (op : Op) (route : ℕ) (rest choice : List ℕ) : Type 0 where
   pub entries : List Launch
   pub laid : IsLaidOut old.routes (new_call (world_of old.rows) op route rest choice) entries
+  pub legs_fit : LegsFit old (length entries)
+  pub history_fits : HistoryFits old (length entries)
   pub view : new ≡ record old { rows = began_rows old.routes old.rows (new_call (world_of old.rows) op route rest choice) entries; entries = old.entries + (2 + 3 * length entries) }
 
--- so many entries more don't fit: 65,536 legs are queued or reserved at most, and numbers are below 2^64
-pub record DontFit (v : CoreView) (count : ℕ) : Type 0 where
-  pub full : (65536 < queued_legs v.rows + reserved v.routes v.rows + count) ⊎ (2 ^ 64 ≤ v.rows.next_call + 1) ⊎ (2 ^ 64 ≤ v.rows.next_leg + reserved v.routes v.rows + count)
-
--- why a call of these entries didn't begin: the chapter's history has two for the call, and three for each entry
+-- why a call of these entries didn't begin: the legs are looked at before the history
 abbrev pub IsFullFor : CoreView → List Launch → CoreFault → Type 0
 IsFullFor v entries UnknownPrefix = ⊥
 IsFullFor v entries BadKey = ⊥
-IsFullFor v entries LegsFull = DontFit v (length entries)
-IsFullFor v entries ChapterFull = 1000000 < v.entries + (2 + 3 * length entries)
+IsFullFor v entries LegsFull = LegsFit v (length entries) → ⊥
+IsFullFor v entries ChapterFull = LegsFit v (length entries) × (HistoryFits v (length entries) → ⊥)
 IsFullFor v entries NothingWaiting = ⊥
 IsFullFor v entries NoSuchLeg = ⊥
 IsFullFor v entries Busy = ⊥
@@ -100,15 +108,16 @@ pub record IsNewCall (number : ℕ) (since : Option Moment) (asked : Asked) (sta
   pub entries : entries_of c ≡ launches
   pub unlaunched : IsUnlaunched number c
 
--- so many entries more fit
-pub record HasRoom (d : Dispatcher) (count : ℕ) : Type 0 where
+-- what the code counts says that so many legs more fit
+pub record HasLegRoom (d : Dispatcher) (count : ℕ) : Type 0 where
   pub legs : d.counts.queued + d.counts.reserved + count ≤ 65536
   pub call_numbers : d.next_call + 1 < 2 ^ 64
   pub leg_numbers : d.next_leg + d.counts.reserved + count < 2 ^ 64
-  pub entries : d.entries + (2 + 3 * count) ≤ 1000000
 
-pub record AreTooMany (d : Dispatcher) (count : ℕ) : Type 0 where
-  pub full : (65536 < d.counts.queued + d.counts.reserved + count) ⊎ (2 ^ 64 ≤ d.next_call + 1) ⊎ (2 ^ 64 ≤ d.next_leg + d.counts.reserved + count)
+-- and so many entries of the history
+pub record HasRoom (d : Dispatcher) (count : ℕ) : Type 0 where
+  pub legs : HasLegRoom d count
+  pub entries : d.entries + (2 + 3 * count) ≤ 1000000
 
 abbrev pub began_by : Call → Move
 began_by c = Began c.op c.route (call_of c).rest c.choice

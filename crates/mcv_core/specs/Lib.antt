@@ -14,3 +14,6 @@ pub mod Turning
 pub mod Taking
 pub mod Beginning
 pub mod Opening
+pub mod Asking
+pub mod Steps
+pub mod Answers

@@ -8,7 +8,7 @@ ghost use Rattle.mcv_route.specs.Outcomes.{IsChoice};
 ghost use Rattle.mcv_route.specs.Routes.{IsSoundRoutes};
 ghost use Rattle.mcv_symbolic.specs.Covered.{sizes_of};
 ghost use Rattle.mcv_world.specs.Moves.{Began};
-ghost use Rattle.mcv_core.specs.Beginning.{AreReadied, AreTooMany, CanAdd, CanStart, HasBegun, HasRoom, IsFull, IsNewCall, began_by, has_begun};
+ghost use Rattle.mcv_core.specs.Beginning.{AreReadied, CanAdd, CanStart, HasBegun, HasLegRoom, HasRoom, IsFull, IsNewCall, began_by, has_begun};
 ghost use Rattle.mcv_core.specs.Calls.{room as call_room};
 ghost use Rattle.mcv_core.specs.CoreView.{Moved};
 ghost use Rattle.mcv_core.specs.View.{core_view};
@@ -220,8 +220,8 @@ impl Dispatcher {
     fn has_room_for(&self, count: usize) -> Result<(), CoreFault>
         ensures ok { OnOk result (HasRoom self.now count) }
         ensures legs { IfErr result (λ fault. (fault ≡ CoreFault.LegsFull) ⊎ (fault ≡ CoreFault.ChapterFull)) }
-        ensures full { IfErr result (λ fault. fault ≡ CoreFault.LegsFull → AreTooMany self.now count) }
-        ensures entries { IfErr result (λ fault. fault ≡ CoreFault.ChapterFull → 1000000 < self.now.entries + (2 + 3 * count)) }
+        ensures full { IfErr result (λ fault. fault ≡ CoreFault.LegsFull → HasLegRoom self.now count → ⊥) }
+        ensures entries { IfErr result (λ fault. fault ≡ CoreFault.ChapterFull → HasLegRoom self.now count × (1000000 < self.now.entries + (2 + 3 * count))) }
     {
         if count > LEG_LIMIT - self.counts.queued - self.counts.reserved {
             return Err(CoreFault::LegsFull);

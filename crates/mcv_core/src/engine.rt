@@ -1,8 +1,9 @@
 //! The core: the dispatcher with the hash that picks the servers of a key.
 
 ghost use Rattle.std.specs.Arc.{arc_value};
-ghost use Rattle.std.specs.Prelude.{◌≡◌, IfOk, IfErr};
+ghost use Rattle.std.specs.Prelude.{◌≡◌, Some, None, IfOk, IfErr, IfSome, OnErr};
 ghost use Rattle.mcv_pools.specs.Choice.{HasIndexEach};
+ghost use Rattle.mcv_core.specs.Asking.{HasBegunFor, HasNoKey, IsAsked, IsKeyOf, IsRefusedFor};
 ghost use Rattle.mcv_core.specs.Opening.{opened_view};
 ghost use Rattle.mcv_core.specs.View.{core_view};
 ghost use Rattle.mcv_core.specs.declared.fault.CoreFault.TheVariants.{Memory as OutOfMemory};
@@ -20,8 +21,8 @@ use std::sync::Arc;
 /// The core of the proxy.
 #[derive(Drop)]
 pub struct Core<H> {
-    dispatcher: Dispatcher,
-    hash: H,
+    pub(crate) dispatcher: Dispatcher,
+    pub(crate) hash: H,
 }
 
 impl<H: KeyHash + Drop> Core<H> {
@@ -34,6 +35,7 @@ impl<H: KeyHash + Drop> Core<H> {
         records: &[(u64, SpoolRecord)],
     ) -> Result<Core<H>, CoreFault>
         ensures view { IfOk result (λ core. core_view core.dispatcher ≡ opened_view (arc_value accepted) records.now) }
+        ensures hash { IfOk result (λ core. core.hash ≡ hash) }
         ensures err { IfErr result (λ fault. fault ≡ OutOfMemory) }
     {
         let dispatcher = Dispatcher::open(alloc, accepted, records)?;
@@ -46,20 +48,31 @@ impl<H: KeyHash + Drop> Core<H> {
     }
 
     /// What the readers look at.
-    pub fn state(&self) -> &Dispatcher {
+    pub fn state(&self) -> &Dispatcher
+        ensures { result.now ≡ self.now.dispatcher }
+    {
         &self.dispatcher
     }
 
-    /// Begins a call for one key of a request. `BadKey` and `UnknownPrefix`, `LegsFull` and `ChapterFull` are looked for
-    /// in this order; `Memory` may come before them.
+    /// Begins a call for one key of a request, counted from 0: its route is that of the key's prefix, its servers are those
+    /// that the hash picks, and its era is the core's. `BadKey`, `UnknownPrefix`, `LegsFull` and `ChapterFull` are looked
+    /// for in this order; `Memory` may come before them. A refused call changes nothing that contracts see.
     pub fn begin(
         &mut self,
         alloc: Global,
         request: Arc<Request>,
         key: usize,
-    ) -> Result<CallId, CoreFault> {
-        let asked = self.asked(alloc, request, key)?;
-        self.dispatcher.begin(alloc, asked)
+    ) -> Result<CallId, CoreFault>
+        ensures begun { IfOk result (λ call. HasBegunFor (core_view self.old.dispatcher) (H.chosen self.old.hash) (arc_value request) key (core_view self.new.dispatcher)) }
+        ensures call { IfOk result (λ call. call.0 ≡ (core_view self.old.dispatcher).rows.next_call) }
+        ensures refused { IfErr result (IsRefusedFor (core_view self.old.dispatcher) (H.chosen self.old.hash) (arc_value request) key) }
+        ensures err { OnErr result (core_view self.new.dispatcher ≡ core_view self.old.dispatcher) }
+        ensures hash { self.new.hash ≡ self.old.hash }
+    {
+        match self.asked(alloc, request, key) {
+            Ok(asked) => self.dispatcher.begin(alloc, asked),
+            Err(fault) => Err(fault),
+        }
     }
 
     /// What a call for this key asks for.
@@ -69,11 +82,17 @@ impl<H: KeyHash + Drop> Core<H> {
         request: Arc<Request>,
         key: usize,
     ) -> Result<Asked, CoreFault>
-        ensures { IfOk result (λ asked. HasIndexEach (core_view self.now.dispatcher).routes.symbols asked.choice) }
+        ensures asked { IfOk result (λ asked. IsAsked (core_view self.now.dispatcher).routes (H.chosen self.now.hash) (arc_value request) key asked.op asked.route asked.rest asked.choice) }
+        ensures within { IfOk result (λ asked. HasIndexEach (core_view self.now.dispatcher).routes.symbols asked.choice) }
+        ensures refused { IfErr result (IsRefusedFor (core_view self.now.dispatcher) (H.chosen self.now.hash) (arc_value request) key) }
     {
-        let (op, prefix, rest) = key_of(&request, key)?;
+        let Some((op, prefix, rest)) = key_of(&request, key) else {
+            return Err(CoreFault::BadKey);
+        };
         let routes = self.dispatcher.accepted.routes();
-        let route = routes.route_of(&prefix).ok_or(CoreFault::UnknownPrefix)?;
+        let Some(route) = routes.route_of(&prefix) else {
+            return Err(CoreFault::UnknownPrefix);
+        };
         let choice = choose(alloc, &self.hash, routes.symbols(), hashed_part(&rest))?;
         Ok(Asked {
             request,
@@ -86,15 +105,16 @@ impl<H: KeyHash + Drop> Core<H> {
 }
 
 /// The operation of a request, and the prefix and the rest of one of its keys.
-fn key_of(request: &Request, key: usize) -> Result<(Op, Prefix, Rest), CoreFault> {
+fn key_of(request: &Request, key: usize) -> Option<(Op, Prefix, Rest)>
+    ensures some { IfSome result (λ k. IsKeyOf request.now key k.0 k.1 k.2) }
+    ensures none { result ≡ None → HasNoKey request.now key }
+{
     let Request::Ask(ask) = request else {
-        return Err(CoreFault::BadKey);
+        return None;
     };
-    let Some(word) = ask.keys.get(key) else {
-        return Err(CoreFault::BadKey);
-    };
+    let word = ask.keys.get(key)?;
     match split_key(word.as_slice()) {
-        Ok((prefix, rest)) => Ok((ask.op, prefix, rest)),
-        Err(_) => Err(CoreFault::BadKey),
+        Ok((prefix, rest)) => Some((ask.op, prefix, rest)),
+        Err(_) => None,
     }
 }

@@ -23,14 +23,14 @@ pub number_after-self-requires : goal.number_after-self-requires
 number_after-self-requires c =
     let within = Begun.fresh_within c.args.self.now c.args.call c.requires in
     let n = c.launch-launched.ensures.count in
-    let fit = c.requires.has_room.leg_numbers in
+    let fit = c.requires.has_room.legs.leg_numbers in
     omega (arith, within, n, fit)
 
 pub begun-self-requires-clause-within : goal.begun-self-requires-clause-within
 begun-self-requires-clause-within c = let within = Begun.fresh_within c.args.self.now c.args.call c.requires in let n = c.launch-launched.ensures.count in omega (arith, within, n)
 
 pub begun-self-requires-clause-running : goal.begun-self-requires-clause-running
-begun-self-requires-clause-running c = let few = Begun.runs_fit c.args.self.now c.args.call c.requires in let fit = c.requires.has_room.call_numbers in omega (arith, few, fit)
+begun-self-requires-clause-running c = let few = Begun.runs_fit c.args.self.now c.args.call c.requires in let fit = c.requires.has_room.legs.call_numbers in omega (arith, few, fit)
 
 pub invariant_of-self : goal.invariant_of-self
 invariant_of-self c =
