@@ -14,3 +14,4 @@ pub mod Turning
 pub mod Taking
 pub mod Beginning
 pub mod Opening
+pub mod Readers
