@@ -29,8 +29,17 @@ fn a_get_has_its_hit(rt: HostRuntime) -> Result<(), Fail> {
     assert!(rt; matches!(events.next(A), Ok(LegId(0))));
     assert!(rt; matches!(events.place(LegId(0)), Some(Place::Sent)));
     let body = Arc::new(alloc, Vec::from_slice(alloc, b"v")?)?;
-    let hit = Reply::Hit { flags: 7, cas: None, body };
-    assert!(rt; leads_to(events.answered(LegId(0), Parts::new(alloc, hit)?), Place::Gone));
+    let hit = Reply::Hit {
+        flags: 7,
+        cas: None,
+        body,
+    };
+    assert!(rt;
+        leads_to(
+            events.answered(LegId(0), Parts::new(alloc, hit)?),
+            Place::Gone
+        )
+    );
     let Ok(Some(part)) = events.take(call) else {
         return Err(Fail::from("no reply"));
     };
@@ -47,7 +56,7 @@ fn a_leg_has_what_its_call_asks(rt: HostRuntime) -> Result<(), Fail> {
         return Err(Fail::from("no leg"));
     };
     assert!(rt; leg.server.is(A) && leg.op.is(Op::Get));
-    assert!(rt; leg.rest.as_bytes() == b"a");
+    assert!(rt; leg.rest.as_bytes() == b"a".as_slice());
     assert!(rt; leg.call == Some(call));
     assert!(rt; matches!(leg.request, Some(Request::Ask(_))));
     assert!(rt; core.state().leg(LegId(1)).is_none());
@@ -55,7 +64,12 @@ fn a_leg_has_what_its_call_asks(rt: HostRuntime) -> Result<(), Fail> {
 }
 
 /// Begins so many calls.
-fn begin_many(alloc: Global, core: &mut Core<Fnv>, request: &Arc<Request>, count: u64) -> Result<(), Fail> {
+fn begin_many(
+    alloc: Global,
+    core: &mut Core<Fnv>,
+    request: &Arc<Request>,
+    count: u64,
+) -> Result<(), Fail> {
     for _ in 0..count {
         if core.begin(alloc, Arc::try_clone(request)?, 0).is_err() {
             return Err(Fail::from("the call is refused"));
@@ -84,11 +98,18 @@ fn is_missed(alloc: Global, core: &mut Core<Fnv>, request: Arc<Request>) -> bool
     let Ok(leg) = events.next(A) else {
         return false;
     };
-    leads_to(events.answered(leg, Parts::fixed(FixedReply::Miss)), Place::Gone)
-        && matches!(events.take(call), Ok(Some(Part::Fixed(FixedReply::Miss))))
+    leads_to(
+        events.answered(leg, Parts::fixed(FixedReply::Miss)),
+        Place::Gone,
+    ) && matches!(events.take(call), Ok(Some(Part::Fixed(FixedReply::Miss))))
 }
 
-fn miss_many(alloc: Global, core: &mut Core<Fnv>, request: &Arc<Request>, count: u64) -> Result<(), Fail> {
+fn miss_many(
+    alloc: Global,
+    core: &mut Core<Fnv>,
+    request: &Arc<Request>,
+    count: u64,
+) -> Result<(), Fail> {
     for _ in 0..count {
         if !is_missed(alloc, core, Arc::try_clone(request)?) {
             return Err(Fail::from("a get has no miss"));

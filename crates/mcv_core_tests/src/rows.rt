@@ -18,7 +18,12 @@ fn an_answered_delete_is_performed(rt: HostRuntime) -> Result<(), Fail> {
     let step = events.answered(LegId(0), Parts::new(alloc, Reply::NotFound)?);
     assert!(rt; matches!(step, Ok(step) if step.place == Place::Performed));
     assert!(rt; matches!(events.next(A), Ok(LegId(1))));
-    assert!(rt; matches!(events.answered(LegId(0), Parts::new(alloc, Reply::NotFound)?), Err(CoreFault::NoSuchLeg)));
+    assert!(rt;
+        matches!(
+            events.answered(LegId(0), Parts::new(alloc, Reply::NotFound)?),
+            Err(CoreFault::NoSuchLeg)
+        )
+    );
     Ok(())
 }
 

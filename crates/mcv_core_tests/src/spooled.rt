@@ -69,7 +69,7 @@ fn an_opened_leg_is_a_delete_of_its_record(rt: HostRuntime) -> Result<(), Fail> 
         return Err(Fail::from("no leg"));
     };
     assert!(rt; leg.server.is(A) && leg.op.is_delete() && leg.mark.is_counting());
-    assert!(rt; leg.rest.as_bytes() == b"k");
+    assert!(rt; leg.rest.as_bytes() == b"k".as_slice());
     assert!(rt; leg.call.is_none() && leg.request.is_none());
     Ok(())
 }
@@ -86,7 +86,12 @@ fn a_stored_delete_is_not_found(rt: HostRuntime) -> Result<(), Fail> {
     let step = events.spooled(LegId(0), stored(alloc, b"a:11211", b"a")?);
     assert!(rt; leads_to(step, Place::Spooled));
     assert!(rt; events.held().is_none());
-    assert!(rt; matches!(events.take(CallId(0)), Ok(Some(Part::Fixed(FixedReply::NotFound)))));
+    assert!(rt;
+        matches!(
+            events.take(CallId(0)),
+            Ok(Some(Part::Fixed(FixedReply::NotFound)))
+        )
+    );
     assert!(rt; matches!(events.take(CallId(0)), Err(CoreFault::NoSuchCall)));
     assert!(rt; events.turn().is_ok());
     assert!(rt; events.entries() == 1);
@@ -102,7 +107,12 @@ fn a_stored_delete_is_replayed_until_it_is_performed(rt: HostRuntime) -> Result<
     assert!(rt; leads_to(step, Place::Spooled));
     assert!(rt; matches!(events.replay(A), Ok(LegId(0))));
     let fault = Reply::Fault(Vec::from_slice(alloc, b"SERVER_ERROR busy")?);
-    assert!(rt; leads_to(events.answered(LegId(0), Parts::new(alloc, fault)?), Place::Spooled));
+    assert!(rt;
+        leads_to(
+            events.answered(LegId(0), Parts::new(alloc, fault)?),
+            Place::Spooled
+        )
+    );
     assert!(rt; matches!(events.replay(A), Ok(LegId(0))));
     assert!(rt; leads_to(events.lost(LegId(0)), Place::Spooled));
     assert!(rt; matches!(events.replay(A), Ok(LegId(0))));
@@ -118,7 +128,12 @@ fn a_refused_delete_is_an_error_and_stays_held(rt: HostRuntime) -> Result<(), Fa
     let mut core = with_a_lost_delete(alloc)?;
     let events = core.events();
     assert!(rt; leads_to(events.spool_refused(LegId(0)), Place::Held));
-    assert!(rt; matches!(events.take(CallId(0)), Ok(Some(Part::Fixed(FixedReply::Lost)))));
+    assert!(rt;
+        matches!(
+            events.take(CallId(0)),
+            Ok(Some(Part::Fixed(FixedReply::Lost)))
+        )
+    );
     assert!(rt; leads_to(events.spool_refused(LegId(0)), Place::Held));
     assert!(rt; matches!(events.place(LegId(0)), Some(Place::Held)));
     assert!(rt; matches!(events.turn(), Err(CoreFault::Busy)));

@@ -1,5 +1,5 @@
 use Rattle.mcv_core.proofs.Readings
-use Rattle.mcv_core.proofs.readers.Dispatcher.held.Goals as goal
+use Rattle.mcv_core.proofs.dispatcher.Dispatcher.held.Goals as goal
 
 pub returns-in-Some : goal.returns-in-Some
 returns-in-Some c = Readings.first_held c.args.self.now c.in-Some.leg.0 c.in-Some.ensures.some
