@@ -1,15 +1,17 @@
 -- What is read of a core's legs (own).
-use Rattle.std.specs.Prelude.{◌≡◌, ◌&&◌, ◌⊎◌, ℕ, Bool, true, false, List, Option, Some, None, IsSome, option_and_then, option_map}
+use Rattle.std.specs.Prelude.{◌&&◌, ◌⊎◌, ℕ, Bool, true, false, List, Option, Some, None, IsSome, option_and_then, option_map}
 use Rattle.std.specs.Arc.{arc_value}
 use Rattle.mcv_base.specs.declared.operation.Mark.{Mark}
 use Rattle.mcv_base.specs.declared.operation.Op.{Op}
 use Rattle.mcv_base.specs.declared.request.Request.{Request}
 use Rattle.mcv_base.specs.declared.request.ServerId.{ServerId}
+use Rattle.mcv_queues.specs.declared.leg.Leg.{Leg}
 use Rattle.mcv_queues.specs.Numbers.{IsLeast}
 use Rattle.mcv_queues.specs.Queues.{legs}
 use Rattle.mcv_events.specs.Rows as rows
 use Rattle.mcv_events.specs.Rows.{LegRow, Rows, awaits}
 use Rattle.mcv_core.specs.declared.dispatcher.Dispatcher.{Dispatcher}
+use Rattle.mcv_core.specs.declared.errand.Errand.{Errand}
 use Rattle.mcv_core.specs.declared.readers.LegView.{LegView}
 use Rattle.mcv_core.specs.declared.step.Place.{Place}
 use Rattle.mcv_core.specs.declared.step.Place.TheVariants as places
@@ -59,5 +61,8 @@ abbrev pub seen_row : LegRow → LegSeen
 seen_row s = record { call = s.call; server = s.launch.server; op = s.launch.op; mark = s.launch.mark; rest = s.rest }
 
 -- what the client asked whose call launched the leg
+abbrev pub request_in : Errand → Option Request
+request_in e = option_map arc_value (arc_value e.laid).request
+
 abbrev pub request_of : Dispatcher → ℕ → Option Request
-request_of d n = option_and_then (λ l. option_map arc_value (arc_value l.content.laid).request) (legs d.queues n)
+request_of d n = option_and_then (λ (l : Leg Errand). request_in l.content) (legs d.queues n)

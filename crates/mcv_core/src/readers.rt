@@ -2,9 +2,8 @@
 
 ghost use Rattle.std.specs.Prelude.{◌≡◌, option_and_then, option_copied, option_map};
 ghost use Rattle.mcv_queues.specs.Numbers.{leg_number};
-ghost use Rattle.std.specs.Arc.{arc_value};
 ghost use Rattle.mcv_core.specs.Errands.{launch_of, rest_of};
-ghost use Rattle.mcv_core.specs.Readers.{IsFirstHeld, place_of, request_of, seen, seen_row};
+ghost use Rattle.mcv_core.specs.Readers.{IsFirstHeld, place_of, request_in, request_of, seen, seen_row};
 ghost use Rattle.mcv_core.specs.Rows.{state_of};
 ghost use Rattle.mcv_core.specs.View.{core_view};
 
@@ -49,7 +48,7 @@ impl Errand {
         ensures op { result.op ≡ (launch_of self.now).op }
         ensures mark { result.mark ≡ (launch_of self.now).mark }
         ensures rest { result.rest.now ≡ rest_of self.now }
-        ensures request { option_copied result.request ≡ option_map arc_value (arc_value self.now.laid).request }
+        ensures request { option_copied result.request ≡ request_in self.now }
     {
         LegView {
             call: self.call.map(CallId),
