@@ -2,4 +2,10 @@
 #![tactic(auto)]
 
 #[cfg(test)]
+mod gets;
+#[cfg(test)]
 mod rows;
+#[cfg(test)]
+mod setup;
+#[cfg(test)]
+mod spooled;

@@ -1,68 +1,9 @@
 //! What a core answers, event by event.
 
-use mcv_base::{Ask, CallId, LegId, Moment, Op, Parts, Reply, Request, ServerId};
-use mcv_check::check;
-use mcv_config::read_config;
-use mcv_core::{Core, CoreFault, Place};
-use mcv_make::make;
-use mcv_pools::Fnv;
-use mcv_route::Routes;
-use std::alloc::Global;
-use std::sync::Arc;
+use crate::setup::{A, B, BOTH, MOVING, ONE, begin, core_of};
+use mcv_base::{CallId, LegId, Moment, Op, Parts, Reply};
+use mcv_core::{CoreFault, Place};
 use std::test::Fail;
-
-/// One pool of one server.
-const ONE: &str = "{\"pools\":{\"A\":{\"servers\":[\"a:11211\"]}},\"route\":\"PoolRoute|A\"}";
-
-/// Deletes go to both pools, and the first one replies.
-const BOTH: &str = "{\"pools\":{\"A\":{\"servers\":[\"a:11211\"]},\"B\":{\"servers\":[\"b:11211\"]}},\"route\":{\"type\":\"OperationSelectorRoute\",\"operation_policies\":{\"delete\":{\"type\":\"AllInitialRoute\",\"children\":[\"PoolRoute|A\",\"PoolRoute|B\"]}},\"default_policy\":\"PoolRoute|B\"}}";
-
-/// A migration.
-const MOVING: &str = "{\"pools\":{\"A\":{\"servers\":[\"a:11211\"]},\"B\":{\"servers\":[\"b:11211\"]}},\"route\":{\"type\":\"MigrateRoute\",\"from\":\"PoolRoute|A\",\"to\":\"PoolRoute|B\",\"start_time\":1000,\"interval\":3600}}";
-
-const A: ServerId = ServerId(0);
-const B: ServerId = ServerId(1);
-
-fn core_of(alloc: Global, text: &str) -> Result<Core<Fnv>, Fail> {
-    let Ok(config) = read_config(alloc, text.as_bytes()) else {
-        return Err(Fail::from("the text is refused"));
-    };
-    let routes = Routes::build(alloc, config)?;
-    let Ok(certificate) = make(alloc, &routes) else {
-        return Err(Fail::from("the routes aren't covered"));
-    };
-    let Ok(accepted) = check(alloc, routes, &certificate) else {
-        return Err(Fail::from("the certificate is refused"));
-    };
-    match Core::new(alloc, Arc::new(alloc, accepted)?, Fnv, &[]) {
-        Ok(core) => Ok(core),
-        Err(_) => Err(Fail::from("out of memory")),
-    }
-}
-
-fn request(alloc: Global, op: Op) -> Result<Arc<Request>, Fail> {
-    let mut keys = Vec::new(alloc);
-    keys.push(Vec::from_slice(alloc, b"a")?)?;
-    Ok(Arc::new(
-        alloc,
-        Request::Ask(Ask {
-            op,
-            keys,
-            flags: 0,
-            exptime: 0,
-            body: Arc::new(alloc, Vec::new(alloc))?,
-            cas: None,
-            noreply: false,
-        }),
-    )?)
-}
-
-fn begin(alloc: Global, core: &mut Core<Fnv>, op: Op) -> Result<CallId, Fail> {
-    match core.begin(alloc, request(alloc, op)?, 0) {
-        Ok(call) => Ok(call),
-        Err(_) => Err(Fail::from("the call is refused")),
-    }
-}
 
 #[test]
 fn an_answered_delete_is_performed(rt: HostRuntime) -> Result<(), Fail> {
@@ -77,7 +18,12 @@ fn an_answered_delete_is_performed(rt: HostRuntime) -> Result<(), Fail> {
     let step = events.answered(LegId(0), Parts::new(alloc, Reply::NotFound)?);
     assert!(rt; matches!(step, Ok(step) if step.place == Place::Performed));
     assert!(rt; matches!(events.next(A), Ok(LegId(1))));
-    assert!(rt; matches!(events.answered(LegId(0), Parts::new(alloc, Reply::NotFound)?), Err(CoreFault::NoSuchLeg)));
+    assert!(rt;
+        matches!(
+            events.answered(LegId(0), Parts::new(alloc, Reply::NotFound)?),
+            Err(CoreFault::NoSuchLeg)
+        )
+    );
     Ok(())
 }
 
