@@ -15,3 +15,4 @@ pub mod Resting
 pub mod Taken
 pub mod HandingOut
 pub mod Begun
+pub mod Opened
