@@ -6,11 +6,10 @@ use Rattle.std.specs.Prelude.{slice_get, slice_index}
 use Rattle.std.specs.Str.{bytes_eq, IsAscii, IsUtf8}
 use Rattle.std.proofs.lemmas.Bool.{cases_eq}
 use Rattle.std.proofs.lemmas.Bool.Decides.{nat_tests}
-use Rattle.std.proofs.lemmas.List.Quantifiers.{position-Some}
+use Rattle.std.proofs.lemmas.List.{take_more}
 use Rattle.std.proofs.lemmas.Option.{slice_get-get_or, slice_get_past}
 use Rattle.std.proofs.lemmas.Str.{IsAscii-append, IsUtf8-from_ascii}
 use Rattle.std.proofs.Math.Path.{fun_ext}
-use Rattle.std.proofs.Math.Seq.{take-suc}
 use Rattle.mcv_base.specs.declared.request.ServerId.{ServerId}
 use Rattle.mcv_base.specs.Server.{colon, is_host, is_port, is_server}
 use Rattle.mcv_base.proofs.Colon.{server_has_parts}
@@ -68,10 +67,6 @@ server_utf8 text h =
     let tail : IsAscii ((colon ∷ []) ++ parts.1.0) = IsAscii-append (colon ∷ []) parts.1.0 colon_ascii (port_ascii parts.1.0 parts.1.1.1.1) in
     IsUtf8-from_ascii text (subst IsAscii (sym parts.1.1.0) (IsAscii-append parts.0 (colon ∷ parts.1.0) (host_ascii parts.0 parts.1.1.1.0) tail))
 
--- a number of the table is below its length
-pub within : (servers : List (List ℕ)) (text : List ℕ) (o : Option ServerId) (s : ServerId) → option_map (λ s. s.0) o ≡ number_in bytes_eq servers text → o ≡ Some s → s.0 < length servers
-within servers text o s is e = (position-Some (bytes_eq text) servers s.0 [] (sym is ∙ ap (option_map (λ s. s.0)) e)).0
-
 -- ---- the records whose servers are in the table
 
 module _ (servers : List (List ℕ)) where
@@ -84,17 +79,10 @@ module _ (servers : List (List ℕ)) where
       by_number None e = e
       by_number (Some s) e = ap (λ l. (s, x.1.rest) ∷ l) e
 
-  pub known_next : (records : List (ℕ × SpoolRecord)) (i : ℕ) (d : ℕ × SpoolRecord) → i < length records
-      → known_records servers (take (suc i) records) ≡ known_records servers (take i records) ++ with_server (number_in bytes_eq servers (get_or records i d).1.server) (get_or records i d).1.rest []
-  known_next records i d below = ap (known_records servers) (take-suc records i d below) ∙ known_append (take i records) (get_or records i d ∷ [])
-
-  pub known_few : (xs : List (ℕ × SpoolRecord)) → length (known_records servers xs) ≤ length xs
-  known_few [] = omega arith
-  known_few (x ∷ xs) = by_number (number_in bytes_eq servers x.1.server) (known_few xs)
-    where
-      by_number : (o : Option ℕ) → length (known_records servers xs) ≤ length xs → length (with_server o x.1.rest (known_records servers xs)) ≤ length (x ∷ xs)
-      by_number None e = omega (arith, e)
-      by_number (Some s) e = omega (arith, e)
+  pub known_more : (records : List (ℕ × SpoolRecord)) (i : ℕ) (x : ℕ × SpoolRecord) → i < length records → x ≡ get_or records i x
+      → known_records servers (take (i + 1) records) ≡ known_records servers (take i records) ++ with_server (number_in bytes_eq servers x.1.server) x.1.rest []
+  known_more records i x below is =
+      ap (known_records servers) (take_more records i x below ∙ ap (λ y. take i records ++ y ∷ []) (sym is)) ∙ known_append (take i records) (x ∷ [])
 
 -- ---- a leg is added
 
@@ -166,14 +154,6 @@ pub stored : (before : List OpenedRecord) (old : ℕ → Option (Leg Errand)) (c
     → AreOpened (before ++ with_server o rest []) new next
 stored before old count are server rest e is o o_is new new_is next next_is =
     subst (λ v. AreOpened (before ++ with_server v rest []) new next) o_is (one_more before old count are server rest e is new new_is next next_is)
-
-append_none : {A : Type 0} (xs : List A) → xs ++ [] ≡ xs
-append_none [] = refl
-append_none (x ∷ xs) = ap (λ l. x ∷ l) (append_none xs)
-
--- and where it has none
-pub left : (before : List OpenedRecord) (old : ℕ → Option (Leg Errand)) (count : ℕ) → AreOpened before old count → (rest : List ℕ) (o : Option ℕ) → None ≡ o → AreOpened (before ++ with_server o rest []) old count
-left before old count are rest o o_is = subst (λ v. AreOpened (before ++ with_server v rest []) old count) o_is (subst (λ v. AreOpened v old count) (sym (append_none before)) are)
 
 -- ---- sums
 

@@ -100,6 +100,7 @@ impl Opened {
         requires known { known self.old.queues ≡ length servers.now }
         requires small { self.old.count + 1 < 2 ^ 64 }
         ensures opened { (before : List OpenedRecord) → AreOpened before (legs self.old.queues) self.old.count → OnOk result (AreOpened (before ++ with_server (number_in bytes_eq servers.now delete.now.server) delete.now.rest []) (legs self.new.queues) self.new.count) }
+        ensures count { self.new.count ≤ self.old.count + 1 }
         ensures flights { (s : ℕ) → in_flight self.new.queues s ≡ in_flight self.old.queues s }
         ensures servers { known self.new.queues ≡ known self.old.queues }
         ensures room { leg_room self.old.queues ≤ leg_room self.new.queues + 1 }
@@ -114,6 +115,7 @@ impl Opened {
 }
 
 /// The legs of the records whose servers are in the table.
+#[tactic(none)]
 fn opened_legs(
     alloc: Global,
     accepted: &Accepted,
@@ -136,6 +138,7 @@ fn opened_legs(
 impl Dispatcher {
     /// No call runs, and the records whose servers are in the table are legs in the spool, numbered from 0 in their order.
     /// The other records are left to the file.
+    #[tactic(none)]
     pub fn open(
         alloc: Global,
         accepted: Arc<Accepted>,
