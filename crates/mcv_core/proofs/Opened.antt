@@ -64,10 +64,16 @@ colon_ascii = all_small (λ c. nat_eq c 58) (λ c e. grind (arith, nat_tests)) (
 pub server_utf8 : (text : List ℕ) → is_server text ≡ true → IsUtf8 text
 server_utf8 text h =
     let parts = server_has_parts text h in
-    let tail : IsAscii ((colon ∷ []) ++ parts.1.0) = IsAscii-append (colon ∷ []) parts.1.0 colon_ascii (port_ascii parts.1.0 parts.1.1.1.1) in
-    IsUtf8-from_ascii text (subst IsAscii (sym parts.1.1.0) (IsAscii-append parts.0 (colon ∷ parts.1.0) (host_ascii parts.0 parts.1.1.1.0) tail))
+    let tail : IsAscii ((colon ∷ []) ++ parts.1) = IsAscii-append (colon ∷ []) parts.1 colon_ascii (port_ascii parts.1 parts.4) in
+    IsUtf8-from_ascii text (subst IsAscii (sym parts.2) (IsAscii-append parts.0 (colon ∷ parts.1) (host_ascii parts.0 parts.3) tail))
 
 -- ---- the records whose servers are in the table
+
+take_past : {A : Type 0} (xs : List A) (i : ℕ) → (i < length xs → ⊥) → take i xs ≡ xs
+take_past [] zero past = refl
+take_past [] (suc i) past = refl
+take_past (x ∷ xs) zero past = absurd (past (omega arith))
+take_past (x ∷ xs) (suc i) past = ap (λ l. x ∷ l) (take_past xs i (λ low. past (omega (arith, low))))
 
 module _ (servers : List (List ℕ)) where
   known_append : (xs ys : List (ℕ × SpoolRecord)) → known_records servers (xs ++ ys) ≡ known_records servers xs ++ known_records servers ys
@@ -83,6 +89,9 @@ module _ (servers : List (List ℕ)) where
       → known_records servers (take (i + 1) records) ≡ known_records servers (take i records) ++ with_server (number_in bytes_eq servers x.1.server) x.1.rest []
   known_more records i x below is =
       ap (known_records servers) (take_more records i x below ∙ ap (λ y. take i records ++ y ∷ []) (sym is)) ∙ known_append (take i records) (x ∷ [])
+
+  pub known_all : (records : List (ℕ × SpoolRecord)) (i : ℕ) → (i < length records → ⊥) → known_records servers (take i records) ≡ known_records servers records
+  known_all records i past = ap (known_records servers) (take_past records i past)
 
 -- ---- a leg is added
 

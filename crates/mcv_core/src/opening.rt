@@ -115,7 +115,6 @@ impl Opened {
 }
 
 /// The legs of the records whose servers are in the table.
-#[tactic(none)]
 fn opened_legs(
     alloc: Global,
     accepted: &Accepted,
@@ -138,7 +137,6 @@ fn opened_legs(
 impl Dispatcher {
     /// No call runs, and the records whose servers are in the table are legs in the spool, numbered from 0 in their order.
     /// The other records are left to the file.
-    #[tactic(none)]
     pub fn open(
         alloc: Global,
         accepted: Arc<Accepted>,
@@ -148,11 +146,13 @@ impl Dispatcher {
         ensures err { IfErr result (λ fault. fault ≡ OutOfMemory) }
     {
         let opened = opened_legs(alloc, &accepted, records)?;
-        let marks = Marks::new(alloc, accepted.routes().servers().len())?;
-        let since = accepted.routes().since(Moment(0));
+        let routes = accepted.routes();
+        let marks = Marks::new(alloc, routes.servers().len())?;
+        let since = routes.since(Moment(0));
+        let calls = Calls::new(alloc);
         Ok(Dispatcher {
             accepted,
-            calls: Calls::new(alloc),
+            calls,
             queues: opened.queues,
             marks,
             since,
