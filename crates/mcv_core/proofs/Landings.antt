@@ -293,7 +293,7 @@ module _ (d : Dispatcher) (n : ℕ) (l : Leg Errand) (at : legs d.queues n ≡ S
       let same : refusing_at (core_view d) n ≡ does (step_to places.Held changes.Nothing) (core_view d) =
       refusing_row ∙ ap (λ t. refusing_in (core_view d) n (row_by state_of l) (state_of t)) is
       ∙ ap (λ b. cond b (does (step_to places.Held changes.Refused) (record (core_view d) { rows = refused_rows (arc_value d.accepted) (core_view d).rows (row_by state_of l) })) (does (step_to places.Held changes.Nothing) (core_view d)))
-        (awaits_refused d n l at is) in
+      (awaits_refused d n l at is) in
       subst (λ e. HasEffect e (core_view d) (core_view d) (Ok (step_to places.Held changes.Nothing))) (sym same) (refl, refl)
 
   not_refused : (t : rows.State) → (t ≡ rows.Held → ⊥) → refusing_in (core_view d) n (row_by state_of l) t ≡ refuses NoSuchLeg

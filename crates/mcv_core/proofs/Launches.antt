@@ -163,7 +163,7 @@ pub launched_addressed : (n : ℕ) (fresh : List ℕ) (entries : List Entry) (le
 launched_addressed n [] entries legs h = h
 launched_addressed n (e ∷ fresh) entries legs h =
     launched_addressed (suc n) fresh entries (put legs n (option_map waiting_leg (errand_at entries e)))
-        (λ m l at. elim (cases_eq n m) [
-          | inl q ↦ some_waiting (errand_at entries e) l (sym (put_same legs n (option_map waiting_leg (errand_at entries e))) ∙ subst (λ v. put legs n (option_map waiting_leg (errand_at entries e)) v ≡ Some l) (sym q) at)
-          | inr ne ↦ h m l (sym (put_other legs n m (option_map waiting_leg (errand_at entries e)) ne) ∙ at)
-        ])
+    (λ m l at. elim (cases_eq n m) [
+      | inl q ↦ some_waiting (errand_at entries e) l (sym (put_same legs n (option_map waiting_leg (errand_at entries e))) ∙ subst (λ v. put legs n (option_map waiting_leg (errand_at entries e)) v ≡ Some l) (sym q) at)
+      | inr ne ↦ h m l (sym (put_other legs n m (option_map waiting_leg (errand_at entries e)) ne) ∙ at)
+    ])

@@ -1,5 +1,5 @@
 -- A core is opened.
-use Rattle.std.proofs.Common.{◌≡◌, ◌⊎◌, ◌&&◌, cond, inl, inr, ℕ, zero, suc, ◌+◌, ◌<◌, ◌≤◌, ◌^◌, Bool, true, false, nat_eq, List, [], ◌∷◌, ◌++◌, length, get_or, take, nat_le, Option, Some, None, option_map, refl, sym, ap, ◌∙◌, subst, arith, length-append}
+use Rattle.std.proofs.Common.{◌≡◌, ◌&&◌, cond, inl, inr, ℕ, zero, suc, ◌+◌, ◌<◌, ◌^◌, Bool, true, false, nat_eq, List, [], ◌∷◌, ◌++◌, length, get_or, take, nat_le, Option, Some, None, option_map, refl, sym, ap, ◌∙◌, subst, arith, length-append}
 use Rattle.std.specs.Char.{is_ascii_digit, is_ascii_graphic}
 use Rattle.std.specs.List.{list_all}
 use Rattle.std.specs.Prelude.{slice_get, slice_index}
@@ -27,7 +27,7 @@ use Rattle.mcv_spool.specs.declared.record.SpoolRecord.{SpoolRecord}
 use Rattle.mcv_world.specs.World.{put}
 use Rattle.mcv_world.proofs.Numbers.{no_some, put_cases, put_other, put_same, same_some}
 use Rattle.mcv_events.specs.Rows as rows
-use Rattle.mcv_events.specs.Rows.{IsCore, LegRow, Rows, awaits}
+use Rattle.mcv_events.specs.Rows.{IsCore, LegRow}
 use Rattle.mcv_events.specs.QueuedLegs.{count_in, count_of}
 use Rattle.mcv_events.specs.Runs.{OpenedRecord, opened, spooled_row}
 use Rattle.mcv_events.specs.Sums.{sum_below}
@@ -43,7 +43,7 @@ use Rattle.mcv_core.specs.Sound.{spooled_one, IsSound}
 -- ---- a server's text is UTF-8
 
 small : (lo hi c : ℕ) → hi < 128 → (nat_le lo c && nat_le c hi) ≡ true → c < 128
-small lo hi c least h = let most : nat_le c hi ≡ true = (both _ _ h).1 in grind (arith, nat_tests)
+small lo hi c least h = let most : nat_le c hi ≡ true = (both (nat_le lo c) (nat_le c hi) h).1 in grind (arith, nat_tests)
 
 all_small : (p : ℕ → Bool) → ((c : ℕ) → p c ≡ true → c < 128) → (bs : List ℕ) → list_all p bs ≡ true → (i : ℕ) → slice_index bs i < 128
 all_small p each [] all i = omega arith

@@ -161,7 +161,7 @@ module _ (r : RoutesValue) (w : Rows) (k : ℕ) (c : Call) (e : ℕ) (i : IsCore
     fresh_is =
         fresh1
         ∙ ap (λ v. places_from 0 (λ l. is_sent (tree_of r c.route) (situation_of (call_of c)) (choice_of (call_of c)) ((p, outcome_of x) ∷ v) l
-            && not (is_sent (tree_of r c.route) (situation_of (call_of c)) (choice_of (call_of c)) v l)) (entries_of c)) (sym history)
+        && not (is_sent (tree_of r c.route) (situation_of (call_of c)) (choice_of (call_of c)) v l)) (entries_of c)) (sym history)
 
     pub fresh_count : length (fresh c1.state) ≡ count due (entries_of c)
     fresh_count = ap length fresh_is ∙ places_count due 0 (entries_of c)
@@ -338,7 +338,7 @@ module _ (r : RoutesValue) (w : Rows) (k : ℕ) (c : Call) (e : ℕ) (i : IsCore
           let a = run.recorded in
           let b = longer in
           let one = count_one_more (has_outcome (call_of c)) (has_outcome (call_of c2)) (entries_of c) e (launch_at (entries_of c) e) h.entry (ap is_some h.no_outcome) (has_it e (launch_at (entries_of c) e) h.entry refl)
-              (λ j m at ne. sym (has_others j m at ne)) in
+          (λ j m at ne. sym (has_others j m at ne)) in
           omega (arith, a, b, one)
 
       pub running : part_value taken ≡ part_value outcome → IsRunning r k c2

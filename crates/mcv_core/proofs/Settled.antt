@@ -77,9 +77,9 @@ freed_is step = by_cases step.ended
 
 put_twice : {A : Type 0} (f : ℕ → Option A) (k : ℕ) (v w : Option A) → put (put f k v) k w ≡ put f k w
 put_twice f k v w = fun_ext (λ m. elim (cases_eq k m) [
-    | inl q ↦ subst (λ j. put (put f k v) k w j ≡ put f k w j) q (put_same (put f k v) k w ∙ sym (put_same f k w))
-    | inr ne ↦ put_other (put f k v) k m w ne ∙ put_other f k m v ne ∙ sym (put_other f k m w ne)
-  ])
+  | inl q ↦ subst (λ j. put (put f k v) k w j ≡ put f k w j) q (put_same (put f k v) k w ∙ sym (put_same f k w))
+  | inr ne ↦ put_other (put f k v) k m w ne ∙ put_other f k m v ne ∙ sym (put_other f k m w ne)
+])
 
 -- the calls, where the one that has recorded goes if it has ended
 pub removed : (calls calls2 calls3 : ℕ → Option Call) (k : ℕ) (c : Call) (ended : Bool) → calls2 ≡ put calls k (Some c) → calls3 ≡ cond ended (put calls2 k None) calls2 → calls3 ≡ put calls k (cond ended None (Some c))
@@ -183,7 +183,7 @@ module _ (d : Dispatcher) (n : ℕ) (to : Settling) (can : CanSettle d n to) whe
             Settlements.rows2_is (arc_value d.accepted) (calls_at d.calls) (legs d.queues) (since_of d) d.moment.0 d.next_call d.next_leg d.counts.reserved d.counts.queued d.counts.spooled d.counts.running (room d.queues) (servers d.queues) d.sound n can.leg can.at can.call can.running can.own can.there can.awaited (settled_to to (Some can.leg)) settles (legs q1) legs1_put x recorded.call (legs q2) result has (calls_at calls3) calls3_put state_of Settlements.as_it_is
             ∙ ap (λ v. recorded_rows (arc_value d.accepted) w1 can.call (call_row can.running) v.position x) (Settlements.launch_is (arc_value d.accepted) (calls_at d.calls) (legs d.queues) (since_of d) d.moment.0 d.next_call d.next_leg d.counts.reserved d.counts.queued d.counts.spooled d.counts.running (room d.queues) (servers d.queues) d.sound n can.leg can.at can.call can.running can.own can.there can.awaited (settled_to to (Some can.leg)) settles (legs q1) legs1_put)
             ∙ ap (λ v. recorded_rows (arc_value d.accepted) v can.call (call_row can.running) (launch_of can.leg.content).position x)
-              (Settlements.w1_is (arc_value d.accepted) (calls_at d.calls) (legs d.queues) (since_of d) d.moment.0 d.next_call d.next_leg d.counts.reserved d.counts.queued d.counts.spooled d.counts.running (room d.queues) (servers d.queues) d.sound n can.leg can.at can.call can.running can.own can.there can.awaited (settled_to to (Some can.leg)) settles (legs q1) legs1_put state_of ∙ ap (with_leg_row (core_view d).rows n) (row_is_to can.leg to))
+            (Settlements.w1_is (arc_value d.accepted) (calls_at d.calls) (legs d.queues) (since_of d) d.moment.0 d.next_call d.next_leg d.counts.reserved d.counts.queued d.counts.spooled d.counts.running (room d.queues) (servers d.queues) d.sound n can.leg can.at can.call can.running can.own can.there can.awaited (settled_to to (Some can.leg)) settles (legs q1) legs1_put state_of ∙ ap (with_leg_row (core_view d).rows n) (row_is_to can.leg to))
 
         -- the call runs and awaits the leg
         if_awaited : (v : Rows) (s : LegRow) → v.calls can.call ≡ Some (call_row can.running) → has_no_outcome (leg_of s) (call_of can.running) ≡ true

@@ -369,9 +369,9 @@ module _ (d : Dispatcher) (k : ℕ) (c : Call) (there : calls_at d.calls k ≡ S
 
     pub nothing_changes : part ≡ None → put (calls_at d.calls) k (Some c2) ≡ calls_at d.calls
     nothing_changes none = fun_ext (λ m. elim (cases_eq k m) [
-        | inl q ↦ subst (λ v. put (calls_at d.calls) k (Some c2) v ≡ calls_at d.calls v) q (put_same (calls_at d.calls) k (Some c2) ∙ ap (λ v. Some v) (took.none none) ∙ sym there)
-        | inr ne ↦ put_other (calls_at d.calls) k m (Some c2) ne
-      ])
+      | inl q ↦ subst (λ v. put (calls_at d.calls) k (Some c2) v ≡ calls_at d.calls v) q (put_same (calls_at d.calls) k (Some c2) ∙ ap (λ v. Some v) (took.none none) ∙ sym there)
+      | inr ne ↦ put_other (calls_at d.calls) k m (Some c2) ne
+    ])
 
     -- there is none to be taken then
     pub not_taken : part ≡ None → is_move r (world_of (core_view d).rows) (Taken k) ≡ false

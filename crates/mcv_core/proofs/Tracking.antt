@@ -208,7 +208,7 @@ module _ (t : Tree) (s : Situation) (c : Choice) (es : List Launch) (past : Past
       ∙ ap (λ v. new_of v (sends (own_of ((e, x) ∷ past)) (shape old))) (sends_are t s c es (shape old) at.evaluates past at.legal)
       ∙ ap (new_of (places_from 0 (is_sent t s c (history_by es past)) es)) (sends_are t s c es (shape old) at.evaluates ((e, x) ∷ past) (legal_on at))
       ∙ new_places (places_from 0 (is_sent t s c (history_by es past)) es) (is_sent t s c (history_by es past)) (is_sent t s c (history_by es ((e, x) ∷ past))) 0 es
-        (λ j l there. holds_place (is_sent t s c (history_by es past)) 0 es j l there))
+      (λ j l there. holds_place (is_sent t s c (history_by es past)) 0 es j l there))
 
 -- ---- before any outcome
 

@@ -63,12 +63,7 @@ impl<H: KeyHash + Drop> Core<H> {
     }
 
     /// What a call for this key asks for.
-    fn asked(
-        &self,
-        alloc: Global,
-        request: Arc<Request>,
-        key: usize,
-    ) -> Result<Asked, CoreFault>
+    fn asked(&self, alloc: Global, request: Arc<Request>, key: usize) -> Result<Asked, CoreFault>
         ensures { IfOk result (λ asked. HasIndexEach (core_view self.now.dispatcher).routes.symbols asked.choice) }
     {
         let (op, prefix, rest) = key_of(&request, key)?;

@@ -14,7 +14,7 @@ index_mut-requires c =
     let here : slice_get c.args.fresh.now i ≡ Some e = slice_get-get_or c.args.fresh.now i 0 c.loop-entry-test.true in
     let low : e < length c.loop-entry.entries.items =
     Launches.there c.args.next c.loop-entry.number i c.args.fresh.now c.args.entries.now.items c.loop-entry.entries.items (legs c.args.queues.now) (legs c.loop-entry.queues) (room c.args.queues.now)
-        (room c.loop-entry.queues) (known c.args.queues.now) c.requires.can c.loop-entry.invariant.come e here in
+    (room c.loop-entry.queues) (known c.args.queues.now) c.requires.can c.loop-entry.invariant.come e here in
     search rules
 
 pub push-requires-clause-server : goal.push-requires-clause-server
@@ -26,10 +26,10 @@ push-requires-clause-server c =
     let here : slice_get c.args.fresh.now i ≡ Some e = slice_get-get_or c.args.fresh.now i 0 c.loop-entry-test.true in
     let low : e < length entries =
     Launches.there c.args.next c.loop-entry.number i c.args.fresh.now c.args.entries.now.items entries (legs c.args.queues.now) (legs c.loop-entry.queues) (room c.args.queues.now) (room c.loop-entry.queues)
-        (known c.args.queues.now) c.requires.can c.loop-entry.invariant.come e here in
+    (known c.args.queues.now) c.requires.can c.loop-entry.invariant.come e here in
     let at : slice_get entries e ≡ Some before = slice_get_read entries (length entries) e before refl low c.index_mut.ensures.value in
     let k = Launches.is_known c.args.next c.loop-entry.number i c.args.fresh.now c.args.entries.now.items entries (legs c.args.queues.now) (legs c.loop-entry.queues) (room c.args.queues.now)
-        (room c.loop-entry.queues) (known c.args.queues.now) c.requires.can c.loop-entry.invariant.come e here before at c.in-Some.errand (sym c.launch.ensures.errand ∙ c.in-Some.is) in
+    (room c.loop-entry.queues) (known c.args.queues.now) c.requires.can c.loop-entry.invariant.come e here before at c.in-Some.errand (sym c.launch.ensures.errand ∙ c.in-Some.is) in
     let s = ap (λ v. v.0) c.server-server.ensures in
     let q = c.loop-entry.invariant.servers in
     omega (arith, k, s, q)
@@ -43,16 +43,16 @@ loop-entry-preserved c =
     let here : slice_get c.args.fresh.now i ≡ Some e = slice_get-get_or c.args.fresh.now i 0 c.loop-entry-test.true in
     let low : e < length entries =
     Launches.there c.args.next c.loop-entry.number i c.args.fresh.now c.args.entries.now.items entries (legs c.args.queues.now) (legs c.loop-entry.queues) (room c.args.queues.now) (room c.loop-entry.queues)
-        (known c.args.queues.now) c.requires.can c.loop-entry.invariant.come e here in
+    (known c.args.queues.now) c.requires.can c.loop-entry.invariant.come e here in
     let at : slice_get entries e ≡ Some before = slice_get_read entries (length entries) e before refl low c.index_mut.ensures.value in
     let more : suc c.loop-entry.number ≡ c.loop-entry.number + 1 = omega arith in
     let step : suc c.loop-entry.entry-index ≡ c.loop-entry.entry-index + 1 = omega arith in
     elim c.match-launch.branch [
       | in-Some w ↦
           let come = Launches.one_more c.args.next c.loop-entry.number i c.args.fresh.now c.args.entries.now.items entries (legs c.args.queues.now) (legs c.loop-entry.queues) (room c.args.queues.now)
-              (room c.loop-entry.queues) (known c.args.queues.now) c.requires.can c.loop-entry.invariant.come e here before at c.launch.new.self w.in-Some.errand w.server-server.result
-              (set entries e c.launch.new.self) (legs c.match-launch.queues) (room c.match-launch.queues) (sym c.launch.ensures.errand ∙ w.in-Some.is) c.launch.ensures.leg c.launch.ensures.place refl
-              w.server-server.ensures (ap legs w.queues-is ∙ w.push.ensures.legs) (subst (λ q. room c.loop-entry.queues ≤ room q + 1) (sym w.queues-is) w.push.ensures.room) in
+          (room c.loop-entry.queues) (known c.args.queues.now) c.requires.can c.loop-entry.invariant.come e here before at c.launch.new.self w.in-Some.errand w.server-server.result
+          (set entries e c.launch.new.self) (legs c.match-launch.queues) (room c.match-launch.queues) (sym c.launch.ensures.errand ∙ w.in-Some.is) c.launch.ensures.leg c.launch.ensures.place refl
+          w.server-server.ensures (ap legs w.queues-is ∙ w.push.ensures.legs) (subst (λ q. room c.loop-entry.queues ≤ room q + 1) (sym w.queues-is) w.push.ensures.room) in
           record {
             come = subst (λ n. HasCome c.args.next n (c.loop-entry.entry-index + 1) c.args.fresh.now c.args.entries.now.items (set entries e c.launch.new.self) (legs c.args.queues.now)
                 (legs c.match-launch.queues) (room c.args.queues.now) (room c.match-launch.queues)) more
@@ -63,5 +63,5 @@ loop-entry-preserved c =
           }
       | in_default w ↦
           absurd (Launches.has_errand c.args.next c.loop-entry.number i c.args.fresh.now c.args.entries.now.items entries (legs c.args.queues.now) (legs c.loop-entry.queues) (room c.args.queues.now)
-              (room c.loop-entry.queues) (known c.args.queues.now) c.requires.can c.loop-entry.invariant.come e here before at (sym c.launch.ensures.errand ∙ w.in_default.is))
+          (room c.loop-entry.queues) (known c.args.queues.now) c.requires.can c.loop-entry.invariant.come e here before at (sym c.launch.ensures.errand ∙ w.in_default.is))
     ]

@@ -1,4 +1,4 @@
-use Rattle.std.proofs.Common.{◌≡◌, ◌∙◌, ◌<◌, length, sym, ap, subst, take, arith}
+use Rattle.std.proofs.Common.{◌∙◌, length, sym, ap, subst, take, arith}
 use Rattle.mcv_queues.specs.Queues.{legs}
 use Rattle.mcv_route.specs.Routes.{RoutesValue}
 use Rattle.mcv_core.specs.Opening.{AreOpened, known_records}

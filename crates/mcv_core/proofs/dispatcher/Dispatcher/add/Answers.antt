@@ -42,7 +42,7 @@ invariant_of-self c =
     let reserved = c.begun-self.ensures.reserved in
     let queued = c.begun-self.ensures.queued in
     let sound = Begun.sound_begun d call c.requires c.launch-launched.new.self.entries c.launch-launched.new.queues c.launch-launched.ensures.launched c.add.new.self calls_are c.begun-self.result (omega (arith, reserved, n)) (omega (arith, queued, n))
-        c.begun-self.ensures.spooled c.begun-self.ensures.running c.launch-launched.ensures.room c.launch-launched.ensures.servers in
+    c.begun-self.ensures.spooled c.begun-self.ensures.running c.launch-launched.ensures.room c.launch-launched.ensures.servers in
     let next : suc d.next_call ≡ d.next_call + 1 = omega arith in
     let number : d.next_leg + length (fresh call.state) ≡ c.number_after-self.result = let e = c.number_after-self.ensures in omega (arith, e, n) in
     record {
@@ -63,8 +63,8 @@ returns-clause-view c =
     let next : d.next_call + 1 ≡ suc d.next_call = omega arith in
     let number : c.number_after-self.result ≡ d.next_leg + length (fresh call.state) = let e = c.number_after-self.ensures in omega (arith, e, n) in
     let rows = ap (λ k. rows_of (calls_at c.add.new.self) (legs c.launch-launched.new.queues) (since_of d) k c.number_after-self.result) next
-        ∙ ap (λ m. rows_of (calls_at c.add.new.self) (legs c.launch-launched.new.queues) (since_of d) (suc d.next_call) m) number
-        ∙ Begun.rows_are d call c.requires c.launch-launched.new.self.entries c.launch-launched.new.queues c.launch-launched.ensures.launched c.add.new.self calls_are state_of refl in
+    ∙ ap (λ m. rows_of (calls_at c.add.new.self) (legs c.launch-launched.new.queues) (since_of d) (suc d.next_call) m) number
+    ∙ Begun.rows_are d call c.requires c.launch-launched.new.self.entries c.launch-launched.new.queues c.launch-launched.ensures.launched c.add.new.self calls_are state_of refl in
     let entries = ap (λ m. d.entries + (2 + 3 * m)) c.requires.unlaunched.left in
     let flights = fun_ext c.launch-launched.ensures.flights in
     λ j. record (core_view d) { rows = rows j; flights = flights j; entries = entries j }

@@ -26,6 +26,7 @@ returns c =
     let d = c.args.self.now in
     let quiet : c.are_quiet.result ≡ true = search rules in
     let zeros = c.are_quiet.ensures.0 quiet in
-    let test : c.is_none.result ≡ is_none c.in_replay.result = search rules in
-    (λ t. Resting.at_rest d zeros.0 zeros.1 (subst (λ o. IsLeast (is_in (legs d.queues) LegsInReplay) (option_map leg_number o)) (none_of c.in_replay.result (sym test ∙ t)) c.in_replay.ensures),
-     λ h. test ∙ none_from leg_number c.in_replay.result (Resting.rest_replays d h (option_map leg_number c.in_replay.result) c.in_replay.ensures))
+    let test : c.is_none.result ≡ is_none c.in_replay.result = search rules in (
+      λ t. Resting.at_rest d zeros.0 zeros.1 (subst (λ o. IsLeast (is_in (legs d.queues) LegsInReplay) (option_map leg_number o)) (none_of c.in_replay.result (sym test ∙ t)) c.in_replay.ensures),
+      λ h. test ∙ none_from leg_number c.in_replay.result (Resting.rest_replays d h (option_map leg_number c.in_replay.result) c.in_replay.ensures),
+    )

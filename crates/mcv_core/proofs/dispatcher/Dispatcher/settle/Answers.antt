@@ -28,7 +28,7 @@ number_after-self-requires c =
     let call_is = Settled.owner_call d n c.args.to can c.owner_of-owner.result.call c.owner_of-owner.ensures.call in
     let entry_is = Settled.owner_entry d n c.args.to can c.owner_of-owner.result.entry c.owner_of-owner.ensures.entry in
     let recorded = Settled.code_recorded d n c.args.to can c.leave.new.queues c.owner_of-owner.result.call c.owner_of-owner.result.entry call_is entry_is c.args.outcome c.args.taken (calls_at c.hear-step.new.self) c.hear-step.new.queues
-        c.hear-step.result c.hear-step.ensures.recorded in
+    c.hear-step.result c.hear-step.ensures.recorded in
     Settled.numbers_fit d n c.args.to can c.leave.new.queues c.leave.ensures.legs c.args.outcome c.args.taken c.requires.one (calls_at c.hear-step.new.self) c.hear-step.new.queues c.hear-step.result recorded
 
 pub settled-self-requires : goal.settled-self-requires
@@ -39,7 +39,7 @@ settled-self-requires c =
     let call_is = Settled.owner_call d n c.args.to can c.owner_of-owner.result.call c.owner_of-owner.ensures.call in
     let entry_is = Settled.owner_entry d n c.args.to can c.owner_of-owner.result.entry c.owner_of-owner.ensures.entry in
     let recorded = Settled.code_recorded d n c.args.to can c.leave.new.queues c.owner_of-owner.result.call c.owner_of-owner.result.entry call_is entry_is c.args.outcome c.args.taken (calls_at c.hear-step.new.self) c.hear-step.new.queues
-        c.hear-step.result c.hear-step.ensures.recorded in
+    c.hear-step.result c.hear-step.ensures.recorded in
     let removed = Settled.code_removed d n c.args.to can c.owner_of-owner.result.call call_is (calls_at c.hear-step.new.self) (calls_at c.remove_if.new.self) c.hear-step.result.ended c.remove_if.ensures in
     record {
       spent = Settled.spent d n c.args.to can c.leave.new.queues c.leave.ensures.legs c.args.outcome c.args.taken c.requires.one (calls_at c.hear-step.new.self) c.hear-step.new.queues c.hear-step.result recorded;
@@ -57,7 +57,7 @@ invariant_of-self c =
     let call_is = Settled.owner_call d n c.args.to can c.owner_of-owner.result.call c.owner_of-owner.ensures.call in
     let entry_is = Settled.owner_entry d n c.args.to can c.owner_of-owner.result.entry c.owner_of-owner.ensures.entry in
     let recorded = Settled.code_recorded d n c.args.to can c.leave.new.queues c.owner_of-owner.result.call c.owner_of-owner.result.entry call_is entry_is c.args.outcome c.args.taken (calls_at c.hear-step.new.self) c.hear-step.new.queues
-        c.hear-step.result c.hear-step.ensures.recorded in
+    c.hear-step.result c.hear-step.ensures.recorded in
     let removed = Settled.code_removed d n c.args.to can c.owner_of-owner.result.call call_is (calls_at c.hear-step.new.self) (calls_at c.remove_if.new.self) c.hear-step.result.ended c.remove_if.ensures in
     record {
       sound = subst (λ m. IsSound (arc_value d.accepted) (calls_at c.remove_if.new.self) (legs c.hear-step.new.queues) (since_of d) d.moment.0 d.next_call m c.settled-self.result.reserved c.settled-self.result.queued c.settled-self.result.spooled
@@ -74,7 +74,7 @@ returns c =
     let call_is = Settled.owner_call d n c.args.to can c.owner_of-owner.result.call c.owner_of-owner.ensures.call in
     let entry_is = Settled.owner_entry d n c.args.to can c.owner_of-owner.result.entry c.owner_of-owner.ensures.entry in
     let recorded = Settled.code_recorded d n c.args.to can c.leave.new.queues c.owner_of-owner.result.call c.owner_of-owner.result.entry call_is entry_is c.args.outcome c.args.taken (calls_at c.hear-step.new.self) c.hear-step.new.queues
-        c.hear-step.result c.hear-step.ensures.recorded in
+    c.hear-step.result c.hear-step.ensures.recorded in
     let removed = Settled.code_removed d n c.args.to can c.owner_of-owner.result.call call_is (calls_at c.hear-step.new.self) (calls_at c.remove_if.new.self) c.hear-step.result.ended c.remove_if.ensures in
     ap (λ m. record (core_view d) { rows = rows_of (calls_at c.remove_if.new.self) (legs c.hear-step.new.queues) (since_of d) d.next_call m; flights = in_flight c.hear-step.new.queues }) c.number_after-self.ensures
     ∙ Settled.view_settled d n c.args.to can c.leave.new.queues c.leave.ensures.legs c.args.outcome c.args.taken c.requires.one (calls_at c.hear-step.new.self) c.hear-step.new.queues c.hear-step.result recorded c.remove_if.new.self removed c.leave.ensures.flights c.hear-step.ensures.flights

@@ -33,6 +33,8 @@ pub returns : goal.returns
 returns c =
     let d = c.args.self.now in
     let l = Landings.stated (legs d.queues c.args.leg.0) states.Held c.requires in
-    subst (λ o. HasDone (at_row (stores (core_view d) c.args.leg.0) o) (core_view c.settle.new.self) (step_to places.Spooled changes.Spooled)) (sym (LegViews.there d c.args.leg.0 l.leg l.at))
-    (refl, c.settle.ensures ∙ ap (settled_row (core_view d) c.args.leg.0 kinds.InSpool (part_value c.not_found-reply.result.outcome)) (LegViews.there d c.args.leg.0 l.leg l.at)
-    ∙ ap (λ x. settled_row (core_view d) c.args.leg.0 kinds.InSpool x (Some (row_by state_of l.leg))) c.not_found-reply.ensures.outcome)
+    subst (λ o. HasDone (at_row (stores (core_view d) c.args.leg.0) o) (core_view c.settle.new.self) (step_to places.Spooled changes.Spooled)) (sym (LegViews.there d c.args.leg.0 l.leg l.at)) (
+      refl,
+      c.settle.ensures ∙ ap (settled_row (core_view d) c.args.leg.0 kinds.InSpool (part_value c.not_found-reply.result.outcome)) (LegViews.there d c.args.leg.0 l.leg l.at)
+          ∙ ap (λ x. settled_row (core_view d) c.args.leg.0 kinds.InSpool x (Some (row_by state_of l.leg))) c.not_found-reply.ensures.outcome,
+    )
