@@ -301,7 +301,7 @@ module _ (d : Dispatcher) (c : Call) (can : CanAdd d c) where
             spooled_is =
                 let more = spooled_stays first d.next_call (call_of c).rest d.next_leg 0 (entries_of c) (rows_by state_of (legs d.queues)) in
                 let same : sum_below spooled_one (rows_by state_of (legs q2)) (d.next_leg + length (fresh c.state))
-                    ≡ sum_below spooled_one (queued_rows first d.next_call (call_of c).rest d.next_leg 0 (entries_of c) (rows_by state_of (legs d.queues))) (d.next_leg + length (filter first (entries_of c))) =
+                ≡ sum_below spooled_one (queued_rows first d.next_call (call_of c).rest d.next_leg 0 (entries_of c) (rows_by state_of (legs d.queues))) (d.next_leg + length (filter first (entries_of c))) =
                 ap (λ g. sum_below spooled_one g (d.next_leg + length (fresh c.state))) (legs_rows state_of refl)
                 ∙ ap (λ v. sum_below spooled_one (queued_rows first d.next_call (call_of c).rest d.next_leg 0 (entries_of c) (rows_by state_of (legs d.queues))) (d.next_leg + v)) n in
                 let a = d.sound.spooled_is in
@@ -398,9 +398,9 @@ refused_as d asks launches fault laid_out either many unrecorded =
     elim either [
       | inl full ↦ subst (IsFull (core_view d) asks) (sym full) (record { entries = launches; laid = laid_out; full = λ fit. many full (leg_room d (length launches) fit) })
       | inr full ↦
-        let f = unrecorded full in
-        let over = f.1 in
-        subst (IsFull (core_view d) asks) (sym full) (record { entries = launches; laid = laid_out; full = (legs_have_room d (length launches) f.0, λ fit. omega (arith, over, fit)) })
+          let f = unrecorded full in
+          let over = f.1 in
+          subst (IsFull (core_view d) asks) (sym full) (record { entries = launches; laid = laid_out; full = (legs_have_room d (length launches) f.0, λ fit. omega (arith, over, fit)) })
     ]
 
 pub entry_of : (o : Option RouteEntry) (t : Tree) → Some t ≡ option_map (λ e. e.tree) o → (e : RouteEntry) × (o ≡ Some e) × (t ≡ e.tree)
@@ -441,7 +441,6 @@ moved_as d d2 asks state launches c new number since same made h =
     subst (λ v. Moved v new (Began asks.op asks.route asks.rest asks.choice)) same
     (subst (λ m. Moved (core_view d2) new m) (λ j. Began (made.op j) (made.route j) (made.rest j) (made.choice j)) h)
 
-
 pub has_begun_as : (d d2 : Dispatcher) (asks : Asked) (state : EvalState) (launches : List Launch) (c : Call) (new : CoreView) (number : ℕ) (since : Option Moment) → core_view d2 ≡ core_view d → IsNewCall number since asks state launches c
     → new ≡ has_begun (core_view d2) c → IsLaidOut (arc_value d.accepted) (new_call (world_of (core_view d).rows) asks.op asks.route asks.rest asks.choice) launches → HasRoom d (length launches)
     → HasBegun (core_view d) new asks.op asks.route asks.rest asks.choice
@@ -453,10 +452,11 @@ has_begun_as d d2 asks state launches c new number since same made is laid_out f
   view =
       is ∙ ap (λ v. has_begun v c) same
       ∙ (λ j. record (core_view d) {
-          rows = began_rows (arc_value d.accepted) (core_view d).rows (new_call (world_of (core_view d).rows) (made.op j) (made.route j) (made.rest j) (made.choice j)) (made.entries j);
-          entries = d.entries + (2 + 3 * length (made.entries j));
-        });
+        rows = began_rows (arc_value d.accepted) (core_view d).rows (new_call (world_of (core_view d).rows) (made.op j) (made.route j) (made.rest j) (made.choice j)) (made.entries j);
+        entries = d.entries + (2 + 3 * length (made.entries j));
+      });
 }
+
 -- ---- a call that is made can be added
 
 pub can_add : (d : Dispatcher) (asks : Asked) (state : EvalState) (launches : List Launch) (c : Call) (entry : RouteEntry) → slice_get (arc_value d.accepted).entries asks.route ≡ Some entry → IsSoundRoutes (arc_value d.accepted) → IsRest asks.rest

@@ -17,9 +17,5 @@ pub mod Taken
 pub mod HandingOut
 pub mod Answering
 pub mod Begun
-<<<<<<< HEAD
-pub mod Answering
-pub mod Keeping
-=======
 pub mod Readings
->>>>>>> a6a22f9ae4b6b747c06c5631abf1338dff1fe233
+pub mod Opened

@@ -14,10 +14,7 @@ pub mod Turning
 pub mod Taking
 pub mod Beginning
 pub mod Opening
-<<<<<<< HEAD
 pub mod Asking
 pub mod Steps
 pub mod Answers
-=======
 pub mod Readers
->>>>>>> a6a22f9ae4b6b747c06c5631abf1338dff1fe233

@@ -205,14 +205,7 @@ impl Dispatcher {
         self.make_room(launches.len())?;
         routes_are_sound(self.accepted.routes());
         rest_is_sound(&asked.rest);
-        let call = new_call(
-            alloc,
-            self.next_call,
-            self.since,
-            asked,
-            state,
-            launches,
-        )?;
+        let call = new_call(alloc, self.next_call, self.since, asked, state, launches)?;
         Ok(self.add(call))
     }
 

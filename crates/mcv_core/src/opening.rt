@@ -1,8 +1,14 @@
 //! A core is opened with the records that the spool held.
 
 ghost use Rattle.std.specs.Arc.{arc_value};
-ghost use Rattle.std.specs.Prelude.{◌≡◌, IfOk, IfErr};
-ghost use Rattle.mcv_core.specs.Opening.{opened_view};
+ghost use Rattle.std.specs.Prelude.{◌≡◌, ◌<◌, ◌≤◌, ◌+◌, ◌^◌, ◌++◌, ℕ, List, [], Some, None, IfOk, IfErr, OnOk, length, option_map};
+ghost use Rattle.std.specs.Str.{bytes_eq};
+ghost use Rattle.mcv_events.specs.Runs.{OpenedRecord};
+ghost use Rattle.mcv_pools.specs.Table.{number_in};
+ghost use Rattle.mcv_queues.specs.declared.leg.State.TheVariants.{InSpool};
+ghost use Rattle.mcv_queues.specs.Queues.{in_flight, legs, room as leg_room, servers as known};
+ghost use Rattle.mcv_world.specs.World.{put};
+ghost use Rattle.mcv_core.specs.Opening.{AreOpened, IsOpenedErrand, known_records, opened_view, with_server};
 ghost use Rattle.mcv_core.specs.View.{core_view};
 ghost use Rattle.mcv_core.specs.declared.fault.CoreFault.TheVariants.{Memory as OutOfMemory};
 
@@ -13,6 +19,7 @@ use crate::errand::{Errand, Laid};
 use crate::fault::CoreFault;
 use mcv_base::{LegId, Mark, Moment, Op, Position, Rest, ServerId};
 use mcv_check::Accepted;
+use mcv_pools::Servers;
 use mcv_queues::{Marks, Queues};
 use mcv_route::Launch;
 use mcv_spool::SpoolRecord;
@@ -27,7 +34,9 @@ struct Opened {
 }
 
 /// What the leg of an opened record takes with it: a delete at the root, of no call.
-fn errand_of(alloc: Global, server: ServerId, rest: Rest) -> Result<Errand, AllocError> {
+fn errand_of(alloc: Global, server: ServerId, rest: Rest) -> Result<Errand, AllocError>
+    ensures { IfOk result (λ e. IsOpenedErrand server rest e) }
+{
     let mut launches = Vec::with_capacity(alloc, 1)?;
     launches.push(Launch {
         position: Position::root(alloc),
@@ -50,13 +59,58 @@ fn errand_of(alloc: Global, server: ServerId, rest: Rest) -> Result<Errand, Allo
     })
 }
 
+/// The number of the record's server, if it is in the table.
+fn server_of(servers: &Servers, delete: &SpoolRecord) -> Option<ServerId>
+    ensures { option_map (λ s. s.0) result ≡ number_in bytes_eq servers.now delete.now.server }
+{
+    match std::str::from_utf8(delete.server.as_bytes()) {
+        Ok(text) => servers.find(text),
+        Err(_) => None,
+    }
+}
+
 impl Opened {
-    /// Puts the leg of a record into the spool.
-    fn add(&mut self, server: ServerId, errand: Errand) {
+    /// Puts a leg into the spool.
+    fn add(&mut self, server: ServerId, errand: Errand)
+        requires room { 0 < leg_room self.old.queues }
+        requires free { legs self.old.queues self.old.count ≡ None }
+        requires known { server.0 < known self.old.queues }
+        requires small { self.old.count + 1 < 2 ^ 64 }
+        ensures legs { legs self.new.queues ≡ put (legs self.old.queues) self.old.count (Some (record { server = server; state = InSpool; content = errand })) }
+        ensures count { self.new.count ≡ self.old.count + 1 }
+        ensures flights { (s : ℕ) → in_flight self.new.queues s ≡ in_flight self.old.queues s }
+        ensures servers { known self.new.queues ≡ known self.old.queues }
+        ensures room { leg_room self.old.queues ≤ leg_room self.new.queues + 1 }
+    {
         let leg = LegId(self.count as u64);
         self.queues.push(leg, server, errand);
         self.queues.spooled(leg);
         self.count += 1;
+    }
+
+    /// Puts the leg of a record into the spool, if its server is in the table.
+    fn store(
+        &mut self,
+        alloc: Global,
+        servers: &Servers,
+        delete: &SpoolRecord,
+    ) -> Result<(), AllocError>
+        requires room { 0 < leg_room self.old.queues }
+        requires free { legs self.old.queues self.old.count ≡ None }
+        requires known { known self.old.queues ≡ length servers.now }
+        requires small { self.old.count + 1 < 2 ^ 64 }
+        ensures opened { (before : List OpenedRecord) → AreOpened before (legs self.old.queues) self.old.count → OnOk result (AreOpened (before ++ with_server (number_in bytes_eq servers.now delete.now.server) delete.now.rest []) (legs self.new.queues) self.new.count) }
+        ensures count { self.new.count ≤ self.old.count + 1 }
+        ensures flights { (s : ℕ) → in_flight self.new.queues s ≡ in_flight self.old.queues s }
+        ensures servers { known self.new.queues ≡ known self.old.queues }
+        ensures room { leg_room self.old.queues ≤ leg_room self.new.queues + 1 }
+    {
+        let Some(server) = server_of(servers, delete) else {
+            return Ok(());
+        };
+        let errand = errand_of(alloc, server, delete.rest.copied())?;
+        self.add(server, errand);
+        Ok(())
     }
 }
 
@@ -65,18 +119,17 @@ fn opened_legs(
     alloc: Global,
     accepted: &Accepted,
     records: &[(u64, SpoolRecord)],
-) -> Result<Opened, AllocError> {
+) -> Result<Opened, AllocError>
+    ensures opened { IfOk result (λ o. AreOpened (known_records accepted.now.servers records.now) (legs o.queues) o.count) }
+    ensures flights { IfOk result (λ o. (s : ℕ) → in_flight o.queues s ≡ None) }
+    ensures servers { IfOk result (λ o. known o.queues ≡ length accepted.now.servers) }
+{
     let servers = accepted.routes().servers();
     let mut queues = Queues::new(alloc, servers.len())?;
     queues.reserve(records.len())?;
     let mut opened = Opened { queues, count: 0 };
     for record in records {
-        let delete = &record.1;
-        if let Ok(text) = std::str::from_utf8(delete.server.as_bytes()) {
-            if let Some(server) = servers.find(text) {
-                opened.add(server, errand_of(alloc, server, delete.rest.copied())?);
-            }
-        }
+        opened.store(alloc, servers, &record.1)?;
     }
     Ok(opened)
 }
@@ -93,11 +146,13 @@ impl Dispatcher {
         ensures err { IfErr result (λ fault. fault ≡ OutOfMemory) }
     {
         let opened = opened_legs(alloc, &accepted, records)?;
-        let marks = Marks::new(alloc, accepted.routes().servers().len())?;
-        let since = accepted.routes().since(Moment(0));
+        let routes = accepted.routes();
+        let marks = Marks::new(alloc, routes.servers().len())?;
+        let since = routes.since(Moment(0));
+        let calls = Calls::new(alloc);
         Ok(Dispatcher {
             accepted,
-            calls: Calls::new(alloc),
+            calls,
             queues: opened.queues,
             marks,
             since,
