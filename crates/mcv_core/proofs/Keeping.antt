@@ -17,6 +17,7 @@ use Rattle.mcv_events.specs.Rows.{Rows, world_of}
 use Rattle.mcv_events.specs.Events.{Moves}
 use Rattle.mcv_events.specs.Runs.{Runs, done, moved, no_move, opened}
 use Rattle.mcv_events.proofs.CoresKeepDeletes.{cores_keep_deletes, opened_is_core, runs_are_moves}
+use Rattle.mcv_core.proofs.Acknowledged.{answered_calls_are_kept}
 use Rattle.mcv_core.specs.CoreView.{CoreView, Does, Moved, Unmoved}
 use Rattle.mcv_core.specs.Opening.{known_records, opened_view}
 use Rattle.mcv_core.specs.Steps.{AreAnswered, DeletesAreKept, EventsKeepDeletes, IsAnswered, KeepsDeletes, OpenedCoresKeepDeletes, Step, Steps, with_move}
@@ -129,7 +130,8 @@ module _ (chosen : SymbolValue → List ℕ → ℕ) where
       → DeletesAreKept chosen (opened_view r records) events answers w
   deletes_are_kept r records events answers w covered h =
       let q = cores_keep_deletes r (since_at (breaks_of r) 0) (known_records r.servers records) h.moves w.rows covered (moments_have_eras r 0) (steps_run (opened_view r records) w events answers h.moves h.steps).runs in
-      record { moves = h.moves; steps = h.steps; kept = q.0; live = q.1 }
+      let o = opened_cores_keep_deletes r records covered in
+      record { moves = h.moves; steps = h.steps; kept = q.0; acknowledged = answered_calls_are_kept r chosen (opened_view r records) w o.world events answers h.moves covered o.is o.live refl h.steps; live = q.1 }
 
   -- one event more
   pub answer_more : (start v w : CoreView) (events : List Event) (answers : List Answer) (e : Event) (a : Answer) → AreAnswered chosen start events answers v → IsAnswered chosen v e a w → AreAnswered chosen start (events ++ e ∷ []) (answers ++ a ∷ []) w

@@ -19,3 +19,4 @@ pub mod Answering
 pub mod Begun
 pub mod Readings
 pub mod Opened
+pub mod Acknowledged

@@ -15,6 +15,7 @@ pub mod Taking
 pub mod Beginning
 pub mod Opening
 pub mod Asking
+pub mod Acknowledged
 pub mod Steps
 pub mod Answers
 pub mod Readers

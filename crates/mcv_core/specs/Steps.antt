@@ -23,7 +23,8 @@ use Rattle.mcv_world.specs.Moves.{Move, Began, Taken, is_move, run}
 use Rattle.mcv_world.specs.World.{World, reply_of}
 use Rattle.mcv_events.specs.Rows.{world_of}
 use Rattle.mcv_symbolic.specs.Covered.{AreCovered}
-use Rattle.mcv_core.specs.Asking.{HasBegunFor, IsRefusedFor}
+use Rattle.mcv_core.specs.Acknowledged.{AnsweredCallsAreKept}
+use Rattle.mcv_core.specs.Asking.{HasBegunFor}
 use Rattle.mcv_core.specs.CoreView.{CoreView, Does, Moved, Unmoved, change_move, with_mark}
 use Rattle.mcv_core.specs.Opening.{opened_view}
 use Rattle.mcv_core.specs.Turning.{era_move}
@@ -78,11 +79,12 @@ pub record AreAnswered (chosen : SymbolValue → List ℕ → ℕ) (start : Core
 
 -- ---- deletes are kept
 
--- and deletes are kept in the world that their moves lead to, of which the core keeps what is left
+-- and deletes are kept in the world that their moves lead to, the answered ones among them, and of which the core keeps what is left
 pub record DeletesAreKept (chosen : SymbolValue → List ℕ → ℕ) (start : CoreView) (events : List Event) (answers : List Answer) (w : CoreView) : Type 0 where
   pub moves : List Move
   pub steps : Steps chosen start events answers moves w
   pub kept : Kept start.routes (run start.routes (world_of start.rows) moves)
+  pub acknowledged : AnsweredCallsAreKept start.routes chosen events answers (run start.routes (world_of start.rows) moves)
   pub live : live_of start.routes (run start.routes (world_of start.rows) moves) ≡ world_of w.rows
 
 -- the core keeps what is left of a world in which deletes are kept
