@@ -109,7 +109,7 @@ calls_stay r w m i k call h = by_cases (is_move r w m)
 
 -- ---- the last event, or an earlier one
 
-nothing_at : {A : Type 0} (n : ℕ) (x : A) → slice_get {A} [] n ≡ Some x → ⊥
+nothing_at : {A : Type 0} (n : ℕ) (x : A) → slice_get {X = A} [] n ≡ Some x → ⊥
 nothing_at n x e = no_some e
 
 last_or_earlier : (es : List Event) (xs : List Answer) (e x : Event) (a y : Answer) (n : ℕ) → length es ≡ length xs → slice_get (es ++ e ∷ []) n ≡ Some x → slice_get (xs ++ a ∷ []) n ≡ Some y

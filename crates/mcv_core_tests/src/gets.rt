@@ -63,6 +63,19 @@ fn a_leg_has_what_its_call_asks(rt: HostRuntime) -> Result<(), Fail> {
     Ok(())
 }
 
+/// Gets search one server 64 times over, while it fails: a call reserves 64 legs, and 194 entries.
+fn searching(alloc: Global) -> Result<String, Fail> {
+    let mut text = String::from_str(
+        alloc,
+        "{\"pools\":{\"A\":{\"servers\":[\"a:11211\"]}},\"route\":{\"type\":\"OperationSelectorRoute\",\"operation_policies\":{\"delete\":\"PoolRoute|A\"},\"default_policy\":{\"type\":\"FailoverRoute\",\"children\":[",
+    )?;
+    for _ in 0..63 {
+        text.push_str("\"PoolRoute|A\",")?;
+    }
+    text.push_str("\"PoolRoute|A\"]}}}")?;
+    Ok(text)
+}
+
 /// Begins so many calls.
 fn begin_many(
     alloc: Global,
@@ -81,10 +94,11 @@ fn begin_many(
 #[test]
 fn a_core_holds_65536_legs(rt: HostRuntime) -> Result<(), Fail> {
     let alloc = rt.alloc();
-    let mut core = core_of(alloc, ONE)?;
-    let delete = request(alloc, Op::Delete)?;
-    begin_many(alloc, &mut core, &delete, 65_536)?;
-    let one_more = core.begin(alloc, delete, 0);
+    let text = searching(alloc)?;
+    let mut core = core_of(alloc, text.as_str())?;
+    let get = request(alloc, Op::Get)?;
+    begin_many(alloc, &mut core, &get, 1_024)?;
+    let one_more = core.begin(alloc, get, 0);
     assert!(rt; matches!(one_more, Err(CoreFault::LegsFull)));
     Ok(())
 }
@@ -119,12 +133,13 @@ fn miss_many(
 }
 
 #[test]
-fn a_chapter_holds_200000_gets(rt: HostRuntime) -> Result<(), Fail> {
+fn a_chapter_holds_a_million_entries(rt: HostRuntime) -> Result<(), Fail> {
     let alloc = rt.alloc();
-    let mut core = core_of(alloc, ONE)?;
+    let text = searching(alloc)?;
+    let mut core = core_of(alloc, text.as_str())?;
     let get = request(alloc, Op::Get)?;
-    miss_many(alloc, &mut core, &get, 200_000)?;
-    assert!(rt; core.state().entries() == 1_000_000);
+    miss_many(alloc, &mut core, &get, 5_154)?;
+    assert!(rt; core.state().entries() == 999_876);
     let one_more = core.begin(alloc, Arc::try_clone(&get)?, 0);
     assert!(rt; matches!(one_more, Err(CoreFault::ChapterFull)));
     assert!(rt; core.events().turn().is_ok());
