@@ -128,6 +128,7 @@ module _ (chosen : SymbolValue → List ℕ → ℕ) where
 
   pub deletes_are_kept : (r : RoutesValue) (records : List (ℕ × SpoolRecord)) (events : List Event) (answers : List Answer) (w : CoreView) → AreCovered r → AreAnswered chosen (opened_view r records) events answers w
       → DeletesAreKept chosen (opened_view r records) events answers w
+  unfolding opened_cores_keep_deletes
   deletes_are_kept r records events answers w covered h =
       let q = cores_keep_deletes r (since_at (breaks_of r) 0) (known_records r.servers records) h.moves w.rows covered (moments_have_eras r 0) (steps_run (opened_view r records) w events answers h.moves h.steps).runs in
       let o = opened_cores_keep_deletes r records covered in
