@@ -162,7 +162,7 @@ impl Counts {
 impl Dispatcher {
     /// Begins a call: the legs that it launches at once are queued. It takes all memory of the call first, or changes
     /// nothing that contracts see.
-    pub fn begin(&mut self, alloc: Global, asked: Asked) -> Result<CallId, CoreFault>
+    pub(crate) fn begin(&mut self, alloc: Global, asked: Asked) -> Result<CallId, CoreFault>
         requires choice { IsChoice (sizes_of (core_view self.old).routes) (slice_index asked.choice) }
         ensures moves { IfOk result (λ call. Moved (core_view self.old) (core_view self.new) (Began asked.op asked.route asked.rest asked.choice)) }
         ensures call { IfOk result (λ call. call.0 ≡ (core_view self.old).rows.next_call) }

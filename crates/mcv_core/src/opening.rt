@@ -137,7 +137,7 @@ fn opened_legs(
 impl Dispatcher {
     /// No call runs, and the records whose servers are in the table are legs in the spool, numbered from 0 in their order.
     /// The other records are left to the file.
-    pub fn open(
+    pub(crate) fn open(
         alloc: Global,
         accepted: Arc<Accepted>,
         records: &[(u64, SpoolRecord)],

@@ -1,7 +1,7 @@
 //! Gets, and how much a core holds.
 
 use crate::setup::{A, ONE, begin, core_of, leads_to, request};
-use mcv_base::{FixedReply, LegId, Op, Part, Parts, Reply, Request};
+use mcv_base::{LegId, Op, Part, Parts, Reply, Request};
 use mcv_core::{Core, CoreFault, Place};
 use mcv_pools::Fnv;
 use std::alloc::Global;
@@ -100,49 +100,5 @@ fn a_core_holds_65536_legs(rt: HostRuntime) -> Result<(), Fail> {
     begin_many(alloc, &mut core, &get, 1_024)?;
     let one_more = core.begin(alloc, get, 0);
     assert!(rt; matches!(one_more, Err(CoreFault::LegsFull)));
-    Ok(())
-}
-
-/// Whether a get begins, has a miss and is taken.
-fn is_missed(alloc: Global, core: &mut Core<Fnv>, request: Arc<Request>) -> bool {
-    let Ok(call) = core.begin(alloc, request, 0) else {
-        return false;
-    };
-    let events = core.events();
-    let Ok(leg) = events.next(A) else {
-        return false;
-    };
-    leads_to(
-        events.answered(leg, Parts::fixed(FixedReply::Miss)),
-        Place::Gone,
-    ) && matches!(events.take(call), Ok(Some(Part::Fixed(FixedReply::Miss))))
-}
-
-fn miss_many(
-    alloc: Global,
-    core: &mut Core<Fnv>,
-    request: &Arc<Request>,
-    count: u64,
-) -> Result<(), Fail> {
-    for _ in 0..count {
-        if !is_missed(alloc, core, Arc::try_clone(request)?) {
-            return Err(Fail::from("a get has no miss"));
-        }
-    }
-    Ok(())
-}
-
-#[test]
-fn a_chapter_holds_a_million_entries(rt: HostRuntime) -> Result<(), Fail> {
-    let alloc = rt.alloc();
-    let text = searching(alloc)?;
-    let mut core = core_of(alloc, text.as_str())?;
-    let get = request(alloc, Op::Get)?;
-    miss_many(alloc, &mut core, &get, 5_154)?;
-    assert!(rt; core.state().entries() == 999_876);
-    let one_more = core.begin(alloc, Arc::try_clone(&get)?, 0);
-    assert!(rt; matches!(one_more, Err(CoreFault::ChapterFull)));
-    assert!(rt; core.events().turn().is_ok());
-    assert!(rt; is_missed(alloc, &mut core, get));
     Ok(())
 }
