@@ -140,11 +140,15 @@ module _ (r : RoutesValue) (chosen : SymbolValue → List ℕ → ℕ) where
   same_asked : (o : World) (w : World) (k : ℕ) (request : Request) (key : ℕ) → ((call : Call) → IsSameCall (o.calls k) call → IsSameCall (w.calls k) call) → IsAskedCall o k request key → IsAskedCall w k request key
   same_asked o w k request key stay h =
       let s = stay h.call (record { now = h.call; is = h.there; op = refl; route = refl; rest = refl; choice = refl }) in
-      record { call = s.now; there = s.is; asked =
-        subst (λ c. IsAsked r chosen request key s.now.op s.now.route s.now.rest c) (sym s.choice)
-        (subst (λ z. IsAsked r chosen request key s.now.op s.now.route z h.call.choice) (sym s.rest)
-        (subst (λ n. IsAsked r chosen request key s.now.op n h.call.rest h.call.choice) (sym s.route)
-        (subst (λ p. IsAsked r chosen request key p h.call.route h.call.rest h.call.choice) (sym s.op) h.asked))) }
+      record {
+        call = s.now;
+        there = s.is;
+        asked =
+            subst (λ c. IsAsked r chosen request key s.now.op s.now.route s.now.rest c) (sym s.choice)
+            (subst (λ z. IsAsked r chosen request key s.now.op s.now.route z h.call.choice) (sym s.rest)
+            (subst (λ n. IsAsked r chosen request key s.now.op n h.call.rest h.call.choice) (sym s.route)
+            (subst (λ p. IsAsked r chosen request key p h.call.route h.call.rest h.call.choice) (sym s.op) h.asked)));
+      }
 
   -- one event more, of which it is known what it adds
   one_more : (o w : World) (v u : CoreView) (events : List Event) (answers : List Answer) (e : Event) (a : Answer) → Holds o v events answers → IsWorld r w → live_of r w ≡ world_of u.rows → u.routes ≡ r
@@ -237,13 +241,13 @@ module _ (r : RoutesValue) (chosen : SymbolValue → List ℕ → ℕ) where
       let there : put o.calls o.next_call (Some c) call.0 ≡ Some c = subst (λ i. put o.calls o.next_call (Some c) i ≡ Some c) (sym next) (put_same o.calls o.next_call (Some c)) in
       one_more o (after r o m) v u events answers (event.Begin request key) (answer.Call call) h n.is n.live n.routes (calls_stay r o m h.is) (replies_stay r o m h.is)
       (λ k asks place g. let e = same_some g in
-        let same : call.0 ≡ k = ap (λ z. z.1) e in
-        record {
-          call = c;
-          there = subst (λ i. put o.calls o.next_call (Some c) i ≡ Some c) same there;
-          asked = subst (λ q. IsAsked r chosen q place b.op b.route b.rest b.choice) (ap (λ z. z.0.0) e) (subst (λ q. IsAsked r chosen (arc_value request) q b.op b.route b.rest b.choice) (ap (λ z. z.0.1) e)
-              (subst (λ q. IsAsked q chosen (arc_value request) key b.op b.route b.rest b.choice) h.routes b.asked));
-        })
+      let same : call.0 ≡ k = ap (λ z. z.1) e in
+      record {
+        call = c;
+        there = subst (λ i. put o.calls o.next_call (Some c) i ≡ Some c) same there;
+        asked = subst (λ q. IsAsked r chosen q place b.op b.route b.rest b.choice) (ap (λ z. z.0.0) e) (subst (λ q. IsAsked r chosen (arc_value request) q b.op b.route b.rest b.choice) (ap (λ z. z.0.1) e)
+            (subst (λ q. IsAsked q chosen (arc_value request) key b.op b.route b.rest b.choice) h.routes b.asked));
+      })
       (λ k x g. no_some g)
 
   live_reply : (o : Option Call) (x : ReplyValue) → option_and_then (reply_of r) (running r o) ≡ Some x → HasReply r o x
@@ -265,7 +269,7 @@ module _ (r : RoutesValue) (chosen : SymbolValue → List ℕ → ℕ) where
       one_more o (after r o m) v u events answers (event.Take call) (answer.Reply (Some part)) h n.is n.live n.routes (calls_stay r o m h.is) (replies_stay r o m h.is)
       (λ k request key g. no_some g)
       (λ k x g. let e = same_some g in
-        subst (λ i. HasReply r ((after r o m).calls i) x) (ap (λ z. z.0) e) (subst (λ y. HasReply r ((after r o m).calls call.0) y) (ap (λ z. z.1) e) has))
+      subst (λ i. HasReply r ((after r o m).calls i) x) (ap (λ z. z.0) e) (subst (λ y. HasReply r ((after r o m).calls call.0) y) (ap (λ z. z.1) e) has))
 
   step_holds : (o : World) (v u : CoreView) (events : List Event) (answers : List Answer) (e : Event) (a : Answer) (m : Option Move) → Holds o v events answers → Step chosen v e a m u
       → Holds (run r o (with_move [] m)) u (events ++ e ∷ []) (answers ++ a ∷ [])

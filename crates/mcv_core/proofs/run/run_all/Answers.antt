@@ -18,5 +18,5 @@ returns-clause-kept g c =
     let answered : AreAnswered (h c.in_ok-core.core.hash) (core_view c.in_ok-core.core.dispatcher) events c.in_ok-answers.answers.items w = c.in_ok-answers.ensures.answered in
     let from : AreAnswered (h c.args.hash) (opened_view r []) events c.in_ok-answers.answers.items w =
     subst (λ v. AreAnswered (h c.args.hash) v events c.in_ok-answers.answers.items w) c.in_ok-core.ensures.view
-        (subst (λ k. AreAnswered (h k) (core_view c.in_ok-core.core.dispatcher) events c.in_ok-answers.answers.items w) c.in_ok-core.ensures.hash answered) in
+    (subst (λ k. AreAnswered (h k) (core_view c.in_ok-core.core.dispatcher) events c.in_ok-answers.answers.items w) c.in_ok-core.ensures.hash answered) in
     Keeping.deletes_are_kept (h c.args.hash) r [] events c.in_ok-answers.answers.items w covered from
