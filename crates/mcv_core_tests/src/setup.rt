@@ -95,16 +95,21 @@ pub(crate) fn record(server: &[u8], rest: &[u8]) -> Result<SpoolRecord, Fail> {
 
 /// A record that a spool has stored.
 pub(crate) fn stored(alloc: Global, server: &[u8], rest: &[u8]) -> Result<Stored, Fail> {
+    match stored_record(alloc, record(server, rest)?) {
+        Some(stored) => Ok(stored),
+        None => Err(Fail::from("the record is refused")),
+    }
+}
+
+/// The record, stored by a spool of its own.
+pub(crate) fn stored_record(alloc: Global, delete: SpoolRecord) -> Option<Stored> {
     let disk = MemoryDisk {
         bytes: Vec::new(alloc),
     };
     let Ok(mut spool) = Spool::open(alloc, disk) else {
-        return Err(Fail::from("the spool is refused"));
+        return None;
     };
-    match spool.append(record(server, rest)?) {
-        Ok(stored) => Ok(stored),
-        Err(_) => Err(Fail::from("the record is refused")),
-    }
+    spool.append(delete).ok()
 }
 
 /// A file in memory. It says nothing of the model, so it isn't proved to keep it.
