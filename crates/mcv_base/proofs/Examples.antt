@@ -1,6 +1,9 @@
 -- The definitions at small words.
-use Rattle.std.proofs.Common.{◌≡◌, [], true, false, refl, codes}
-use Rattle.mcv_base.specs.Key.{IsCut, IsHashedCut, IsName, IsRoutingPrefix, IsKeyFault, default_prefix, hashed_part, is_key_word}
+use Rattle.std.proofs.Common.{◌≡◌, ◌<◌, [], true, false, Some, None, refl, codes, lit<}
+use Rattle.std.proofs.lemmas.List.Elements.{All-cons, All-nil}
+use Rattle.mcv_base.specs.declared.operation.Op.TheVariants.{Get, Gets, Set, Add, Delete}
+use Rattle.mcv_base.specs.Reply.{may_answer, hit, miss, exists, not_found, fault}
+use Rattle.mcv_base.specs.Key.{IsCut, IsHashedCut, IsName, IsRest, IsRoutingPrefix, IsKeyFault, default_prefix, hashed_part, is_key_word}
 use Rattle.mcv_base.specs.Position.{position_text}
 use Rattle.mcv_base.specs.Server.{is_host, is_port, is_server}
 use Rattle.mcv_base.specs.declared.key.KeyFault.TheVariants.{NoRest}
@@ -48,6 +51,34 @@ not_before_the_second cut =
 
 a_blank_is_no_key_byte : is_key_word (codes "a b") ≡ false
 a_blank_is_no_key_byte = refl
+
+a_is_a_rest : IsRest (codes "a")
+a_is_a_rest = record { key = refl; bytes = All-cons (λ b. b < 256) 97 [] (lit< tt) (All-nil (λ b. b < 256)) }
+
+-- replies and operations
+number_for_gets : may_answer Gets (hit 0 (Some 7) (codes "x")) ≡ true
+number_for_gets = refl
+
+no_number_for_get : may_answer Get (hit 0 (Some 7) (codes "x")) ≡ false
+no_number_for_get = refl
+
+no_number_missing_for_gets : may_answer Gets (hit 0 None (codes "x")) ≡ false
+no_number_missing_for_gets = refl
+
+miss_for_a_delete : may_answer Delete miss ≡ false
+miss_for_a_delete = refl
+
+not_found_for_a_delete : may_answer Delete not_found ≡ true
+not_found_for_a_delete = refl
+
+not_found_for_a_set : may_answer Set not_found ≡ false
+not_found_for_a_set = refl
+
+exists_for_an_add : may_answer Add exists ≡ false
+exists_for_an_add = refl
+
+fault_for_a_delete : may_answer Delete (fault (codes "ERROR")) ≡ true
+fault_for_a_delete = refl
 
 root : position_text [] ≡ codes "-"
 root = refl

@@ -1,5 +1,5 @@
 -- Key words: the routing prefix, the rest and the hashed part are cuts of one list of bytes.
-use Rattle.std.specs.Prelude.{◌≡◌, ◌≢◌, ◌<◌, ◌≤◌, ℕ, ◌+◌, Bool, true, false, ◌&&◌, not, nat_le, nat_lt, ◌==◌, List, [], ◌∷◌, ◌++◌, length, drop, codes, if◌then◌else◌}
+use Rattle.std.specs.Prelude.{◌≡◌, ◌≢◌, ◌<◌, ◌≤◌, ℕ, ◌+◌, Bool, true, false, ◌&&◌, not, All, nat_le, nat_lt, ◌==◌, List, [], ◌∷◌, ◌++◌, length, drop, codes, if◌then◌else◌}
 use Rattle.std.specs.List.{list_all}
 use Rattle.mcv_base.specs.declared.key.KeyFault.{KeyFault}
 use Rattle.mcv_base.specs.declared.key.KeyFault.TheVariants.{Empty, TooLong, BadByte, NoRest}
@@ -11,6 +11,11 @@ is_key_byte b = nat_le 33 b && not (b == 127)
 -- 1 to 250 such bytes (protocol.txt)
 abbrev pub is_key_word : List ℕ → Bool
 is_key_word word = nat_lt 0 (length word) && (nat_le (length word) 250 && list_all is_key_byte word)
+
+-- a rest: 1 to 250 key bytes
+pub record IsRest (rest : List ℕ) : Type 0 where
+  pub key : is_key_word rest ≡ true
+  pub bytes : All (λ b. b < 256) rest
 
 -- the byte is not in the list
 abbrev pub lacks : ℕ → List ℕ → Bool

@@ -48,6 +48,19 @@ is_reading Cas = false
 is_reading Delete = false
 is_reading Touch = false
 
+-- an operation that sends a value to be stored (protocol.txt, "Storage commands")
+abbrev pub is_storing : Op → Bool
+is_storing Get = false
+is_storing Gets = false
+is_storing Set = true
+is_storing Add = true
+is_storing Replace = true
+is_storing Append = true
+is_storing Prepend = true
+is_storing Cas = true
+is_storing Delete = false
+is_storing Touch = false
+
 abbrev pub is_delete : Op → Bool
 is_delete Get = false
 is_delete Gets = false

@@ -1,6 +1,9 @@
 -- What a server says to a leg (memcached, protocol.txt), and what that amounts to.
-use Rattle.std.specs.Prelude.{ℕ, List, Option, Bool, true, false, codes}
+use Rattle.std.specs.Prelude.{ℕ, List, Option, Some, None, Bool, true, false, ◌||◌, codes}
 use Rattle.std.specs.Arc.{arc_value}
+use Rattle.mcv_base.specs.Operation.{is_delete, is_reading, is_same_op, is_storing}
+use Rattle.mcv_base.specs.declared.operation.Op.{Op}
+use Rattle.mcv_base.specs.declared.operation.Op.TheVariants.{Get, Gets, Cas, Touch}
 use Rattle.mcv_base.specs.declared.reply.Outcome.{Outcome}
 use Rattle.mcv_base.specs.declared.reply.Outcome.TheVariants.{Good, Soft, Error}
 use Rattle.mcv_base.specs.declared.reply.Reply.{Reply}
@@ -33,6 +36,19 @@ outcome_of not_found = Soft
 outcome_of deleted = Good
 outcome_of touched = Good
 outcome_of (fault line) = Error
+
+-- which replies a server gives which operations (protocol.txt, "Retrieval command", "Storage commands", "Deletion", "Touch" and, for faults, "Error strings"); only gets is told the unique number of a value
+abbrev pub may_answer : Op → ReplyValue → Bool
+may_answer op (hit flags None body) = is_same_op op Get
+may_answer op (hit flags (Some cas) body) = is_same_op op Gets
+may_answer op miss = is_reading op
+may_answer op stored = is_storing op
+may_answer op not_stored = is_storing op
+may_answer op exists = is_same_op op Cas
+may_answer op not_found = is_same_op op Cas || is_delete op || is_same_op op Touch
+may_answer op deleted = is_delete op
+may_answer op touched = is_same_op op Touch
+may_answer op (fault line) = true
 
 abbrev pub reply_value : Reply → ReplyValue
 reply_value (replies.Hit flags cas body) = hit flags cas (arc_value body).items

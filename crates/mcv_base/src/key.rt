@@ -2,7 +2,10 @@
 
 ghost use Rattle.std.specs.Prelude.{◌≡◌, ◌≤◌, ℕ, List, [], IfOk, OnOk, IfErr, IsTrue, MatchOption, false, true, ⊤, length, take};
 ghost use Rattle.std.specs.List.{list_all};
-ghost use Rattle.mcv_base.specs.Key.{IsCut, IsHashedCut, IsKeyFault, IsNamed, IsRoutingPrefix, IsUnnamed, IsUnrouted, begins_with, default_prefix, hashed_part, is_key_byte, is_key_word, key_fault_number};
+ghost use Rattle.std.specs.Str.{bytes_eq};
+ghost use Rattle.std.specs.Cmp.{partial_equiv_from_equiv};
+ghost use Rattle.std.specs.Cmp.Lexicographic.{nat_list_eq_equiv};
+ghost use Rattle.mcv_base.specs.Key.{IsCut, IsHashedCut, IsKeyFault, IsNamed, IsRest, IsRoutingPrefix, IsUnnamed, IsUnrouted, begins_with, default_prefix, hashed_part, is_key_byte, is_key_word, key_fault_number};
 
 use arrayvec::ArrayVec;
 use memchr::{memchr, memmem};
@@ -61,9 +64,9 @@ pub struct Rest {
 }
 
 impl Model for Rest {
-    ghost use Rattle.std.specs.Prelude.{List, ℕ, IsTrue};
+    ghost use Rattle.std.specs.Prelude.{List, ℕ};
     ghost use Rattle.std.specs.Coded.{coded_ℕ, coded_list};
-    ghost use Rattle.mcv_base.specs.Key.{is_key_word};
+    ghost use Rattle.mcv_base.specs.Key.{IsRest};
 
     ghost Value = { List ℕ };
 
@@ -71,7 +74,7 @@ impl Model for Rest {
 
     ghost view = { λ r. r.word.items };
 
-    ghost invariant = { λ r. IsTrue (is_key_word r.word.items) };
+    ghost invariant = { λ r. IsRest r.word.items };
 }
 
 impl Prefix {
@@ -116,9 +119,33 @@ impl Rest {
     pub fn as_bytes(&self) -> &[u8]
         ensures value { result.now ≡ self.now }
         ensures valid { IsTrue (is_key_word self.now) }
+        ensures rest { IsRest self.now }
     {
         self.word.as_slice()
     }
+
+    /// A second value of the same bytes. It takes no memory.
+    pub fn copied(&self) -> Rest
+        ensures { result ≡ self.now }
+    {
+        Rest {
+            word: held(self.word.as_slice()),
+        }
+    }
+}
+
+impl PartialEq for Rest {
+    ghost eq = { bytes_eq };
+
+    ghost laws = { partial_equiv_from_equiv nat_list_eq_equiv };
+
+    fn eq(&self, other: &Rest) -> bool {
+        self.word.as_slice() == other.word.as_slice()
+    }
+}
+
+impl Eq for Rest {
+    ghost laws = { nat_list_eq_equiv };
 }
 
 fn held(bytes: &[u8]) -> ArrayVec<u8, 250>

@@ -1,7 +1,7 @@
 //! The operations of memcached's classic text protocol, and the marks of legs.
 
 ghost use Rattle.std.specs.Prelude.{◌≡◌, ◌≢◌, MatchOption};
-ghost use Rattle.mcv_base.specs.Operation.{is_reading, is_same_op, op_name};
+ghost use Rattle.mcv_base.specs.Operation.{is_counting, is_delete, is_reading, is_same_op, is_storing, op_name};
 
 /// An operation of the classic text protocol (memcached's `protocol.txt`) that routes know.
 #[derive(Clone, Copy, Debug, PartialEq, Eq)]
@@ -81,5 +81,31 @@ impl Op {
         ensures { result ≡ is_reading self }
     {
         matches!(self, Op::Get | Op::Gets)
+    }
+
+    /// Whether it sends a value to be stored: set, add, replace, append, prepend and cas.
+    pub fn is_storing(self) -> bool
+        ensures { result ≡ is_storing self }
+    {
+        matches!(
+            self,
+            Op::Set | Op::Add | Op::Replace | Op::Append | Op::Prepend | Op::Cas
+        )
+    }
+
+    /// Whether it is delete.
+    pub fn is_delete(self) -> bool
+        ensures { result ≡ is_delete self }
+    {
+        matches!(self, Op::Delete)
+    }
+}
+
+impl Mark {
+    /// Whether a leg with this mark counts for an acknowledged delete: all but a shadow's.
+    pub fn is_counting(self) -> bool
+        ensures { result ≡ is_counting self }
+    {
+        !matches!(self, Mark::Shadow)
     }
 }

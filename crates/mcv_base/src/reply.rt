@@ -1,9 +1,11 @@
 //! What a server says to a leg, and what that amounts to.
 
 ghost use Rattle.std.specs.Prelude.{◌≡◌, IfOk, IsOk, IsTrue};
-ghost use Rattle.mcv_base.specs.Reply.{fixed_value, is_small, outcome_of, part_value, reply_value};
+ghost use Rattle.mcv_base.specs.Reply.{fixed_value, is_small, may_answer, outcome_of, part_value, reply_value};
 
+use crate::operation::Op;
 use std::alloc::{AllocError, Global};
+use std::marker::Model;
 use std::sync::Arc;
 
 /// What a reply amounts to for the handles of a route.
@@ -60,12 +62,23 @@ pub enum Part {
     Owned(Arc<Reply>),
 }
 
-/// One reply three times over: for a call's outcomes, for who takes it, and for the history.
+/// One reply three times over: for a call's outcomes, for who takes it, and for the history. Clauses see the reply.
 #[derive(Debug, Drop)]
 pub struct Parts {
-    pub outcome: Part,
-    pub taken: Part,
-    pub history: Part,
+    outcome: Part,
+    taken: Part,
+    history: Part,
+}
+
+impl Model for Parts {
+    ghost use Rattle.std.specs.Prelude.{◌≡◌};
+    ghost use Rattle.mcv_base.specs.Reply.{ReplyValue, part_value};
+
+    ghost Value = { ReplyValue };
+
+    ghost view = { λ p. part_value p.outcome };
+
+    ghost invariant = { λ p. (part_value p.taken ≡ part_value p.outcome) × (part_value p.history ≡ part_value p.outcome) };
 }
 
 impl Reply {
@@ -77,6 +90,23 @@ impl Reply {
             Reply::Hit { .. } | Reply::Stored | Reply::Deleted | Reply::Touched => Outcome::Good,
             Reply::Miss | Reply::NotFound | Reply::NotStored | Reply::Exists => Outcome::Soft,
             Reply::Fault(_) => Outcome::Error,
+        }
+    }
+
+    /// Whether a server may answer the operation so (memcached's `protocol.txt`): any operation with a Fault.
+    pub fn may_answer(&self, op: Op) -> bool
+        ensures { result ≡ may_answer op (reply_value self.now) }
+    {
+        match self {
+            Reply::Hit { cas: None, .. } => op.is(Op::Get),
+            Reply::Hit { cas: Some(_), .. } => op.is(Op::Gets),
+            Reply::Miss => op.is_reading(),
+            Reply::Stored | Reply::NotStored => op.is_storing(),
+            Reply::Exists => op.is(Op::Cas),
+            Reply::NotFound => op.is(Op::Cas) || op.is_delete() || op.is(Op::Touch),
+            Reply::Deleted => op.is_delete(),
+            Reply::Touched => op.is(Op::Touch),
+            Reply::Fault(_) => true,
         }
     }
 }
@@ -93,6 +123,21 @@ impl FixedReply {
             FixedReply::ErrorRoute | FixedReply::Lost => Outcome::Error,
         }
     }
+
+    /// Whether a server may answer the operation so; the proxy's own Faults may answer any.
+    pub fn may_answer(self, op: Op) -> bool
+        ensures { result ≡ may_answer op (fixed_value self) }
+    {
+        match self {
+            FixedReply::Miss => op.is_reading(),
+            FixedReply::Stored | FixedReply::NotStored => op.is_storing(),
+            FixedReply::Exists => op.is(Op::Cas),
+            FixedReply::NotFound => op.is(Op::Cas) || op.is_delete() || op.is(Op::Touch),
+            FixedReply::Deleted => op.is_delete(),
+            FixedReply::Touched => op.is(Op::Touch),
+            FixedReply::ErrorRoute | FixedReply::Lost => true,
+        }
+    }
 }
 
 impl Part {
@@ -105,14 +150,22 @@ impl Part {
             Part::Owned(reply) => reply.outcome(),
         }
     }
+
+    /// Whether a server may answer the operation so.
+    pub fn may_answer(&self, op: Op) -> bool
+        ensures { result ≡ may_answer op (part_value self.now) }
+    {
+        match self {
+            Part::Fixed(reply) => reply.may_answer(op),
+            Part::Owned(reply) => reply.may_answer(op),
+        }
+    }
 }
 
 impl Parts {
     /// Three parts of the reply. It takes memory for a Hit and a Fault alone.
     pub fn new(alloc: Global, reply: Reply) -> Result<Parts, AllocError>
-        ensures outcome { IfOk result (λ p. part_value p.outcome ≡ reply_value reply) }
-        ensures taken { IfOk result (λ p. part_value p.taken ≡ reply_value reply) }
-        ensures history { IfOk result (λ p. part_value p.history ≡ reply_value reply) }
+        ensures value { IfOk result (λ p. p ≡ reply_value reply) }
         ensures small { IsTrue (is_small (reply_value reply)) → IsOk result }
     {
         match reply {
@@ -132,9 +185,7 @@ impl Parts {
     }
 
     fn shared(alloc: Global, reply: Reply) -> Result<Parts, AllocError>
-        ensures outcome { IfOk result (λ p. part_value p.outcome ≡ reply_value reply) }
-        ensures taken { IfOk result (λ p. part_value p.taken ≡ reply_value reply) }
-        ensures history { IfOk result (λ p. part_value p.history ≡ reply_value reply) }
+        ensures { IfOk result (λ p. p ≡ reply_value reply) }
     {
         let first = Arc::new(alloc, reply)?;
         let second = Arc::try_clone(&first)?;
@@ -148,14 +199,35 @@ impl Parts {
 
     /// Three parts of a reply that takes no memory.
     pub fn fixed(reply: FixedReply) -> Parts
-        ensures outcome { part_value result.outcome ≡ fixed_value reply }
-        ensures taken { part_value result.taken ≡ fixed_value reply }
-        ensures history { part_value result.history ≡ fixed_value reply }
+        ensures { result ≡ fixed_value reply }
     {
         Parts {
             outcome: Part::Fixed(reply),
             taken: Part::Fixed(reply),
             history: Part::Fixed(reply),
         }
+    }
+
+    /// What the reply amounts to.
+    pub fn outcome(&self) -> Outcome
+        ensures { result ≡ outcome_of self.now }
+    {
+        self.outcome.outcome()
+    }
+
+    /// Whether a server may answer the operation so.
+    pub fn may_answer(&self, op: Op) -> bool
+        ensures { result ≡ may_answer op self.now }
+    {
+        self.outcome.may_answer(op)
+    }
+
+    /// The three parts: for a call's outcomes, for who takes the reply, and for the history.
+    pub fn into_parts(self) -> (Part, Part, Part)
+        ensures outcome { part_value result.0 ≡ self }
+        ensures taken { part_value result.1 ≡ self }
+        ensures history { part_value result.2 ≡ self }
+    {
+        (self.outcome, self.taken, self.history)
     }
 }

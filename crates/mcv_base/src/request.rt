@@ -1,5 +1,7 @@
 //! Requests of clients and of legs, and the numbers that name what they touch.
 
+ghost use Rattle.std.specs.Prelude.{◌≡◌, ◌==◌};
+
 use crate::key::Rest;
 use crate::operation::Op;
 use std::sync::Arc;
@@ -8,13 +10,40 @@ use std::sync::Arc;
 #[derive(Clone, Copy, Debug, PartialEq, Eq, PartialOrd, Ord)]
 pub struct CallId(pub u64);
 
+impl CallId {
+    /// Whether the two are one call's.
+    pub fn is(self, other: CallId) -> bool
+        ensures { result ≡ (self.0 == other.0) }
+    {
+        self == other
+    }
+}
+
 /// The number of a leg, rising from 0.
 #[derive(Clone, Copy, Debug, PartialEq, Eq, PartialOrd, Ord)]
 pub struct LegId(pub u64);
 
+impl LegId {
+    /// Whether the two are one leg's.
+    pub fn is(self, other: LegId) -> bool
+        ensures { result ≡ (self.0 == other.0) }
+    {
+        self == other
+    }
+}
+
 /// The number of a server in the table of servers.
 #[derive(Clone, Copy, Debug, PartialEq, Eq, PartialOrd, Ord)]
 pub struct ServerId(pub u32);
+
+impl ServerId {
+    /// Whether the two are one server's.
+    pub fn is(self, other: ServerId) -> bool
+        ensures { result ≡ (self.0 == other.0) }
+    {
+        self == other
+    }
+}
 
 /// A moment, in seconds.
 #[derive(Clone, Copy, Debug, PartialEq, Eq, PartialOrd, Ord)]

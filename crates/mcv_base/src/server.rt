@@ -4,6 +4,9 @@
 
 ghost use Rattle.std.specs.Prelude.{◌≡◌, ◌<◌, ◌≤◌, ◌↔◌, ℕ, List, length, IfSome, IsTrue, MatchOption, false, true};
 ghost use Rattle.std.specs.List.{list_all};
+ghost use Rattle.std.specs.Str.{bytes_eq};
+ghost use Rattle.std.specs.Cmp.{partial_equiv_from_equiv};
+ghost use Rattle.std.specs.Cmp.Lexicographic.{nat_list_eq_equiv};
 ghost use Rattle.std.specs.Char.{is_ascii_digit, is_ascii_graphic};
 ghost use Rattle.mcv_base.specs.Server.{colon, number, is_port, is_host, is_server, last_below, IsServer};
 
@@ -50,6 +53,29 @@ impl ServerText {
     {
         self.text.as_slice()
     }
+
+    /// A second value of the same text. It takes no memory.
+    pub fn copied(&self) -> ServerText
+        ensures { result ≡ self.now }
+    {
+        ServerText {
+            text: held(self.text.as_slice()),
+        }
+    }
+}
+
+impl PartialEq for ServerText {
+    ghost eq = { bytes_eq };
+
+    ghost laws = { partial_equiv_from_equiv nat_list_eq_equiv };
+
+    fn eq(&self, other: &ServerText) -> bool {
+        self.text.as_slice() == other.text.as_slice()
+    }
+}
+
+impl Eq for ServerText {
+    ghost laws = { nat_list_eq_equiv };
 }
 
 fn held(bytes: &[u8]) -> ArrayVec<u8, 261>

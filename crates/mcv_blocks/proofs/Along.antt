@@ -16,13 +16,14 @@ use Rattle.mcv_judge.specs.Faults.{AreInOrder, IsInOrder, block_cmp}
 use Rattle.mcv_judge.specs.Reason.{BlockValue, LegValue}
 use Rattle.mcv_route.specs.Routes.{IsSoundRoutes, IsSoundTree, RouteEntry, RoutesValue}
 use Rattle.mcv_route.specs.Tree.{Tree}
+use Rattle.mcv_route.specs.Eras.{HasEra}
 use Rattle.mcv_blocks.specs.Blocks.{AreBlocksOf, HasBlockFor, IsBlockOf, IsPlaceOf, pool_for}
-use Rattle.mcv_blocks.specs.Places.{AreRouteClasses, HasEra, IsRouteClass, class_cmp}
+use Rattle.mcv_blocks.specs.Places.{AreRouteClasses, IsRouteClass, class_cmp}
 use Rattle.mcv_blocks.specs.Spots.{AreSpotsOf, IsBlockFor, Spot, eras_from, spot, spot_cmp, spots_of}
 use Rattle.mcv_blocks.specs.declared.classes.RouteClass.{RouteClass}
 use Rattle.mcv_blocks.proofs.Listed.{less}
 use Rattle.mcv_blocks.proofs.PoolSizes.{pool_sound}
-use Rattle.mcv_blocks.proofs.RisingLists.{at_first, behind_first, first_or_behind, none_there, rises_behind}
+use Rattle.mcv_route.proofs.RisingLists.{at_first, behind_first, first_or_behind, none_there, rises_behind}
 
 -- ---- spots rise
 

@@ -19,7 +19,7 @@ use Rattle.mcv_judge.proofs.First.{nat_equal, then_equal}
 use Rattle.mcv_judge.proofs.Order.{places_total}
 use Rattle.mcv_symbolic.specs.Justified.{IsReadableAt}
 use Rattle.mcv_blocks.specs.Blocks.{AreBlocksOf, IsBlockOf}
-use Rattle.mcv_blocks.proofs.RisingLists.{one_of}
+use Rattle.mcv_route.proofs.RisingLists.{one_of}
 use Rattle.mcv_blocks.proofs.Searches.{finds_one, found, from_flat_map, from_map, into_flat_map, into_map, some_passes}
 use Rattle.mcv_blocks.proofs.Unique.{one_block, one_leg}
 

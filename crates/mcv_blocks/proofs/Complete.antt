@@ -7,12 +7,12 @@ use Rattle.std.proofs.lemmas.Bool.{and_from, and_parts, cases_eq, eq-eqb}
 use Rattle.std.proofs.lemmas.Cmp.{nat_list_cmp_total, tied_itself}
 use Rattle.std.proofs.lemmas.List.Elements.{All-cons, All-nil}
 use Rattle.std.proofs.lemmas.Option.{get_or_from_slice_get, same_Some, slice_get-get_or, slice_get_within}
-use Rattle.mcv_base.specs.Key.{is_key_byte}
+use Rattle.mcv_base.specs.Key.{IsRest, is_key_byte}
 use Rattle.mcv_route.specs.Places.{pool_at_position}
 use Rattle.mcv_route.specs.Tree.{Pool, Tree}
 use Rattle.mcv_classes.specs.Class.{IsMember}
 use Rattle.mcv_classes.specs.Words.{class_words}
-use Rattle.mcv_symbolic.specs.Covered.{CoveredByMembers, IsRest, sizes_of}
+use Rattle.mcv_symbolic.specs.Covered.{CoveredByMembers, sizes_of}
 use Rattle.mcv_symbolic.specs.Justified.{IsAcknowledgedPool, IsAnswered, IsJustified, IsReadableAt}
 use Rattle.mcv_cert.specs.Pair.{never, same, all, list_cmp}
 use Rattle.mcv_judge.specs.Reason.{BlockValue, HasReason, LegValue, fault_of_leg, fill_a_symbol, fill_symbol_of, has_server, have_server, is_one_missing, is_same_list, is_same_server, is_there_with, leg_at, server_at, unless}
@@ -20,7 +20,7 @@ use Rattle.mcv_judge.specs.declared.fault.PairFault.TheVariants.{CanBeAcknowledg
 use Rattle.mcv_blocks.specs.Blocks.{IsAcknowledgedAt, IsBlockAt, pool_for}
 use Rattle.mcv_blocks.specs.Coverage.{CoveredHasReasons}
 use Rattle.mcv_blocks.proofs.Answered.{equal_of, list_equal}
-use Rattle.mcv_blocks.proofs.BreakTables.{era_there}
+use Rattle.mcv_route.proofs.BreakTables.{era_there}
 use Rattle.mcv_blocks.proofs.PoolSizes.{AreSized, entry_sized}
 use Rattle.mcv_blocks.proofs.Searches.{finds_one, found}
 use Rattle.mcv_blocks.proofs.Sound.{symbol_of, there_with}

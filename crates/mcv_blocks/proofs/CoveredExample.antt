@@ -20,7 +20,8 @@ use Rattle.mcv_rules.specs.Plan.{Leg}
 use Rattle.mcv_rules.specs.Plans as plans
 use Rattle.mcv_classes.specs.Class.{IsFree}
 use Rattle.mcv_classes.specs.Words.{class_words}
-use Rattle.mcv_symbolic.specs.Covered.{AreCovered, IsEra}
+use Rattle.mcv_route.specs.Eras.{IsEra}
+use Rattle.mcv_symbolic.specs.Covered.{AreCovered}
 use Rattle.mcv_symbolic.specs.Justified.{IsNeverAcknowledged, IsReadableAt}
 use Rattle.mcv_symbolic.proofs.Exactness.{acknowledged_is_exact, done_is_exact, hits_are_exact}
 use Rattle.mcv_symbolic.proofs.Whole.{covered_by_members}
@@ -30,8 +31,8 @@ use Rattle.mcv_judge.specs.Faults.{AreInOrder, AreLegsRising, IsFaultless, IsInO
 use Rattle.mcv_judge.specs.Reason.{BlockValue, LegValue, is_whole}
 use Rattle.mcv_judge.proofs.Answered.{answered_faultless}
 use Rattle.mcv_blocks.specs.Blocks.{AreBlocksOf, AreLeavesAt, HasBlockFor, IsAcknowledgedAt, IsBlockOf, IsJustifiedBy, IsPlaceOf, pool_for}
-use Rattle.mcv_blocks.proofs.BreakTables.{era_there}
-use Rattle.mcv_blocks.proofs.RisingLists.{at_first, behind_first, first_or_behind, none_there}
+use Rattle.mcv_route.proofs.BreakTables.{era_there}
+use Rattle.mcv_route.proofs.RisingLists.{at_first, behind_first, first_or_behind, none_there}
 use Rattle.mcv_blocks.proofs.Sound.{justified_is_covered}
 
 -- ---- the configuration

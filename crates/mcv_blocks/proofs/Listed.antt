@@ -18,7 +18,7 @@ use Rattle.mcv_route.specs.Routes.{RouteEntry, RoutesValue}
 use Rattle.mcv_route.specs.Tree.{Tree, pool, null, error, all_sync, all_initial, all_async, failover, miss_failover, warm_up, migrate, prefix_selector, operation_selector}
 use Rattle.mcv_blocks.specs.Places.{AreRouteClasses, IsRouteClass, class_cmp, of_route}
 use Rattle.mcv_blocks.specs.declared.classes.RouteClass.{RouteClass}
-use Rattle.mcv_blocks.proofs.RisingLists.{rises_behind}
+use Rattle.mcv_route.proofs.RisingLists.{rises_behind}
 use Rattle.mcv_blocks.proofs.Searches.{into_map}
 
 -- ---- lists

@@ -26,7 +26,7 @@ use Rattle.mcv_blocks.specs.Merged.{leaf_of, leaves_of, merge}
 use Rattle.mcv_blocks.specs.Sets.{AreCases, SetsValue}
 use Rattle.mcv_blocks.proofs.Existing.{either_hit}
 use Rattle.mcv_blocks.proofs.Merging.{merged_leaves, positions-all}
-use Rattle.mcv_blocks.proofs.RisingLists.{rises_behind}
+use Rattle.mcv_route.proofs.RisingLists.{rises_behind}
 
 -- ---- the legs of a plan, lent
 

@@ -4,7 +4,7 @@ use Rattle.std.specs.Prelude.{find, flat_map}
 use Rattle.std.specs.List.{Contains, list_any}
 use Rattle.std.proofs.lemmas.Bool.{cases_Bool, false≢true}
 use Rattle.std.proofs.lemmas.List.Elements.{Contains-append_cases, Contains-append_left, Contains-append_right}
-use Rattle.mcv_blocks.proofs.RisingLists.{at_first, behind_first, first_or_behind, none_there}
+use Rattle.mcv_route.proofs.RisingLists.{at_first, behind_first, first_or_behind, none_there}
 
 -- ---- searches
 

@@ -10,7 +10,8 @@ use Rattle.mcv_route.specs.Routes.{RouteEntry, RoutesValue, IsSoundRoutes}
 use Rattle.mcv_route.specs.Tree.{Pool, Tree}
 use Rattle.mcv_classes.specs.Class.{IsMember}
 use Rattle.mcv_classes.specs.Words.{class_words}
-use Rattle.mcv_symbolic.specs.Covered.{CoveredByMembers, IsEra, sizes_of}
+use Rattle.mcv_route.specs.Eras.{IsEra}
+use Rattle.mcv_symbolic.specs.Covered.{CoveredByMembers, sizes_of}
 use Rattle.mcv_symbolic.specs.Justified.{IsAcknowledgedPool, IsAnswered, IsJustified, IsNeverAcknowledged, IsReadableAt}
 use Rattle.mcv_cert.specs.Pair.{AreRising, PairValue, ReasonValue, never, twin, same, all, index_of, list_cmp}
 use Rattle.mcv_judge.specs.Faults.{IsFaultless}
@@ -20,7 +21,7 @@ use Rattle.mcv_judge.specs.declared.fault.PairFault.TheVariants.{CanBeAcknowledg
 use Rattle.mcv_blocks.specs.Blocks.{AreBlocksOf, IsAcknowledgedAt, IsBlockAt, IsBlockOf, IsPlaceOf, pool_for}
 use Rattle.mcv_blocks.specs.Coverage.{JustifiedIsCovered}
 use Rattle.mcv_blocks.proofs.Answered.{equal_of, has_reason, list_equal, owed_there}
-use Rattle.mcv_blocks.proofs.BreakTables.{era_numbered}
+use Rattle.mcv_route.proofs.BreakTables.{era_numbered}
 use Rattle.mcv_blocks.proofs.PoolSizes.{AreSized, entry_sized}
 use Rattle.mcv_blocks.proofs.Searches.{found}
 use Rattle.mcv_blocks.proofs.Unique.{block_has, has_property, leg_there, pool_of_leg}

@@ -9,8 +9,9 @@ use Rattle.mcv_judge.specs.Reason.{BlockValue, LegValue}
 use Rattle.mcv_route.specs.Routes.{RouteEntry, RoutesValue}
 use Rattle.mcv_route.specs.Tree.{Tree}
 use Rattle.mcv_symbolic.specs.Justified.{IsNeverAcknowledged, IsReadableAt}
-use Rattle.mcv_blocks.specs.Blocks.{AreLeavesAt, IsAcknowledgedAt, IsBlockAt, IsEraOf}
-use Rattle.mcv_blocks.specs.Places.{HasEra, IsRouteClass}
+use Rattle.mcv_route.specs.Eras.{HasEra, IsEraOf}
+use Rattle.mcv_blocks.specs.Blocks.{AreLeavesAt, IsAcknowledgedAt, IsBlockAt}
+use Rattle.mcv_blocks.specs.Places.{IsRouteClass}
 use Rattle.mcv_blocks.specs.Sets.{SetsValue}
 use Rattle.mcv_blocks.specs.Spots.{IsBlockFor, IsBlockWith, IsSpotOf, spot}
 use Rattle.mcv_blocks.specs.declared.classes.RouteClass.{RouteClass}

@@ -17,8 +17,8 @@ use Rattle.mcv_judge.specs.Reason.{BlockValue, LegValue}
 use Rattle.mcv_symbolic.specs.Justified.{IsNeverAcknowledged, IsReadableAt}
 use Rattle.mcv_blocks.specs.Blocks.{AreBlocksOf, AreLeavesAt, IsAcknowledgedAt, IsBlockAt, IsBlockOf, IsPlaceOf, pool_for, positions_of}
 use Rattle.mcv_blocks.specs.Coverage.{OneListOfBlocks}
-use Rattle.mcv_blocks.proofs.BreakTables.{one_era}
-use Rattle.mcv_blocks.proofs.RisingLists.{not_both, rising_same}
+use Rattle.mcv_route.proofs.BreakTables.{one_era}
+use Rattle.mcv_route.proofs.RisingLists.{not_both, rising_same}
 use Rattle.mcv_blocks.proofs.Searches.{from_map, into_map}
 
 -- ---- leaves

@@ -1,8 +1,8 @@
 -- The blocks of a configuration: what a certificate is judged against, said by the sets of positions (own).
-use Rattle.std.specs.Prelude.{◌≡◌, ◌≢◌, ◌↔◌, ℕ, zero, suc, false, List, Option, Some, None, map, slice_get}
+use Rattle.std.specs.Prelude.{◌≡◌, ◌↔◌, ℕ, false, List, Option, Some, map, slice_get}
 use Rattle.std.specs.List.{All, AllPairs, Contains}
 use Rattle.std.specs.declared.cmp.Ordering.TheVariants.{Less}
-use Rattle.mcv_route.specs.Eras.{IsBreakTable, breaks_of}
+use Rattle.mcv_route.specs.Eras.{IsEraOf}
 use Rattle.mcv_route.specs.Outcomes.{Choice}
 use Rattle.mcv_route.specs.Places.{pool_at_position}
 use Rattle.mcv_route.specs.Routes.{RouteEntry, RoutesValue}
@@ -39,11 +39,6 @@ pub record IsBlockAt (t : Tree) (rest : List ℕ) (since : Option ℕ) (b : Bloc
   pub readable : AreLeavesAt t (IsReadableAt t rest since) b.readable
   pub acknowledged : AreLeavesAt t (IsAcknowledgedAt t rest since) b.acknowledged
   pub never : (b.can_be_acknowledged ≡ false) ↔ IsNeverAcknowledged t rest since
-
--- the break that opened the era of this number: none opened era 0, and the later ones were opened by the breaks in rising order
-abbrev pub IsEraOf : RoutesValue → ℕ → Option ℕ → Type 0
-IsEraOf r zero since = since ≡ None
-IsEraOf r (suc k) since = (table : List ℕ) × IsBreakTable (breaks_of r) table × (slice_get table k ≡ since) × (since ≢ None)
 
 -- the routes have a route of this number, it has a class of this word, and an era of this number; and then its tree, the class's member and the break that opened the era
 pub record IsPlaceOf (r : RoutesValue) (route : ℕ) (class : List ℕ) (era : ℕ) (t : Tree) (member : List ℕ) (since : Option ℕ) : Type 0 where

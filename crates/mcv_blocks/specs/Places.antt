@@ -1,5 +1,5 @@
--- The parts of a block's place: the classes of the routes, and their eras (own).
-use Rattle.std.specs.Prelude.{◌≡◌, ℕ, List, Option, Some, slice_get}
+-- The classes of all routes (own).
+use Rattle.std.specs.Prelude.{◌≡◌, ℕ, List, Some, slice_get}
 use Rattle.std.specs.List.{All, AllPairs, Contains}
 use Rattle.std.specs.declared.cmp.Ordering.{Ordering}
 use Rattle.std.specs.declared.cmp.Ordering.TheVariants.{Less}
@@ -8,7 +8,6 @@ use Rattle.mcv_cert.specs.Pair.{list_cmp}
 use Rattle.mcv_classes.specs.Class.{ClassValue, IsListed}
 use Rattle.mcv_classes.specs.Words.{class_words}
 use Rattle.mcv_route.specs.Routes.{RouteEntry, RoutesValue}
-use Rattle.mcv_blocks.specs.Blocks.{IsEraOf}
 use Rattle.mcv_blocks.specs.declared.classes.RouteClass.{RouteClass}
 
 -- the routes have a route of this number, and this is one of its classes, with a member
@@ -30,7 +29,3 @@ pub record AreRouteClasses (r : RoutesValue) (cs : List RouteClass) : Type 0 whe
   pub rising : AllPairs (λ c d. class_cmp c d ≡ Less) cs
   pub only : All (IsRouteClass r) cs
   pub all : (c : RouteClass) → IsRouteClass r c → Contains cs c
-
--- the routes have an era of this number
-abbrev pub HasEra : RoutesValue → ℕ → Type 0
-HasEra r era = (since : Option ℕ) × IsEraOf r era since

@@ -7,8 +7,9 @@ use Rattle.std.specs.Ordering.{nat_cmp, ordering_then}
 use Rattle.mcv_cert.specs.Pair.{list_cmp}
 use Rattle.mcv_judge.specs.Reason.{BlockValue}
 use Rattle.mcv_route.specs.Routes.{RoutesValue}
+use Rattle.mcv_route.specs.Eras.{HasEra}
 use Rattle.mcv_blocks.specs.Blocks.{IsBlockAt, IsBlockOf}
-use Rattle.mcv_blocks.specs.Places.{HasEra, IsRouteClass}
+use Rattle.mcv_blocks.specs.Places.{IsRouteClass}
 use Rattle.mcv_blocks.specs.Sets.{SetsValue}
 use Rattle.mcv_blocks.specs.declared.classes.RouteClass.{RouteClass}
 

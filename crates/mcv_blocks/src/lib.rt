@@ -2,18 +2,16 @@
 //!
 //! A block is what a route has for the rests of a class in an era: the legs from which a get or gets can be answered,
 //! those that every delete that has a reply has sent, and whether a delete can be acknowledged (specs/Blocks.antt).
-//! `route_classes` and `era_count` name the places at which there is one, and `Sets` gives what a block has, so
+//! `route_classes` and `era_count` of mcv_route name the places at which there is one, and `Sets` gives what a block has, so
 //! blocks can be made and dropped one at a time. What certificates have to do with coverage are laws
 //! (specs/Coverage.antt).
 #![tactic(auto)]
 
 mod classes;
-mod era;
 mod laws;
 mod legs;
 mod sets;
 
 pub use classes::{RouteClass, route_classes};
-pub use era::{era_count, opened};
 pub use laws::{covered_has_reasons, justified_is_covered, one_list_of_blocks};
 pub use sets::Sets;

@@ -7,7 +7,7 @@ use Rattle.mcv_cert.specs.Pair.{index_cmp, list_cmp}
 use Rattle.mcv_judge.specs.Faults.{AreLegsRising}
 use Rattle.mcv_judge.specs.Reason.{BlockValue, HasReason, HasReasons, LegValue}
 use Rattle.mcv_pairs.specs.Gaps.{IsFirstGapIn}
-use Rattle.mcv_blocks.proofs.RisingLists.{above_first, first_or_behind}
+use Rattle.mcv_route.proofs.RisingLists.{above_first, first_or_behind}
 use Rattle.mcv_certify.proofs.Lists.{parted, rises_from}
 use Rattle.mcv_certify.proofs.Places.{in_one_block, lesser_index, not_before, place_in}
 

@@ -10,8 +10,9 @@ use Rattle.mcv_judge.specs.declared.fault.PairFault.{PairFault}
 use Rattle.mcv_judge.specs.declared.fault.PairFault.TheVariants.{OtherServer}
 use Rattle.mcv_judge.proofs.Answered.{answered_faultless}
 use Rattle.mcv_route.specs.Routes.{IsSoundRoutes, RoutesValue}
+use Rattle.mcv_route.specs.Eras.{HasEra}
 use Rattle.mcv_blocks.specs.Blocks.{IsJustifiedBy}
-use Rattle.mcv_blocks.specs.Places.{AreRouteClasses, HasEra}
+use Rattle.mcv_blocks.specs.Places.{AreRouteClasses}
 use Rattle.mcv_blocks.specs.Spots.{spots_of}
 use Rattle.mcv_blocks.specs.declared.classes.RouteClass.{RouteClass}
 use Rattle.mcv_blocks.proofs.Along.{blocks_of_spots, in_order, spots_are}

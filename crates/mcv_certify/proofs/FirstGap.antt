@@ -8,12 +8,13 @@ use Rattle.mcv_cert.specs.Pair.{Place, index_cmp}
 use Rattle.mcv_judge.specs.Faults.{block_cmp}
 use Rattle.mcv_judge.specs.Reason.{BlockValue, HasReason, HasReasons, LegValue}
 use Rattle.mcv_route.specs.Routes.{RoutesValue}
+use Rattle.mcv_route.specs.Eras.{HasEra}
 use Rattle.mcv_blocks.specs.Blocks.{IsBlockOf}
-use Rattle.mcv_blocks.specs.Places.{AreRouteClasses, HasEra}
+use Rattle.mcv_blocks.specs.Places.{AreRouteClasses}
 use Rattle.mcv_blocks.specs.Spots.{AreSpotsOf, IsBlockFor, Spot, spot, spot_cmp, spots_of}
 use Rattle.mcv_blocks.specs.declared.classes.RouteClass.{RouteClass}
 use Rattle.mcv_blocks.proofs.Along.{class-there, in-spots, same-cmp, spots_are, spots_behind}
-use Rattle.mcv_blocks.proofs.RisingLists.{first_or_behind}
+use Rattle.mcv_route.proofs.RisingLists.{first_or_behind}
 use Rattle.mcv_blocks.proofs.Unique.{one_block}
 use Rattle.mcv_certify.specs.Gap.{IsFirstGap, IsGap, place_of_gap}
 use Rattle.mcv_certify.specs.Made.{TellsGapIn}

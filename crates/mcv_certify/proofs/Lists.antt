@@ -5,7 +5,7 @@ use Rattle.std.specs.Prelude.{slice_get, Some}
 use Rattle.std.proofs.lemmas.List.{append_assoc}
 use Rattle.mcv_cert.specs.Pair.{PairValue}
 use Rattle.mcv_judge.specs.Answers.{AreInTurn}
-use Rattle.mcv_blocks.proofs.RisingLists.{at_first, behind_first, first_or_behind, none_there, rises_behind}
+use Rattle.mcv_route.proofs.RisingLists.{at_first, behind_first, first_or_behind, none_there, rises_behind}
 
 pub zip_both : {A B : Type 0} (R : A → B → Type 0) (xs us : List A) (ys vs : List B) → AllZip R xs ys → AllZip R us vs → AllZip R (xs ++ us) (ys ++ vs)
 zip_both R [] us [] vs h g = g

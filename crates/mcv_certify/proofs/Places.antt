@@ -10,7 +10,7 @@ use Rattle.mcv_judge.specs.Reason.{BlockValue, LegValue}
 use Rattle.mcv_judge.proofs.First.{nat_less}
 use Rattle.mcv_judge.proofs.Order
 use Rattle.mcv_judge.proofs.Order.{places_total}
-use Rattle.mcv_blocks.proofs.RisingLists.{not_both}
+use Rattle.mcv_route.proofs.RisingLists.{not_both}
 
 abbrev pub place_in : BlockValue → LegValue → Place
 place_in b leaf = place_owed (owe b leaf)

@@ -10,8 +10,8 @@ use Rattle.mcv_route.specs.Routes.{IsSoundRoutes, RouteEntry, RoutesValue}
 use Rattle.mcv_route.specs.Tree.{Tree}
 use Rattle.mcv_symbolic.specs.Covered.{sizes_of}
 use Rattle.mcv_pairs.specs.Gaps.{IsSized}
-use Rattle.mcv_blocks.specs.Blocks.{AreLeavesAt, IsAcknowledgedAt, IsEraOf, pool_for}
-use Rattle.mcv_blocks.specs.Places.{HasEra}
+use Rattle.mcv_blocks.specs.Blocks.{AreLeavesAt, IsAcknowledgedAt, pool_for}
+use Rattle.mcv_route.specs.Eras.{HasEra, IsEraOf}
 use Rattle.mcv_blocks.specs.Sets.{SetsValue}
 use Rattle.mcv_blocks.specs.Spots.{IsSpotOf, spot}
 use Rattle.mcv_blocks.specs.declared.classes.RouteClass.{RouteClass}

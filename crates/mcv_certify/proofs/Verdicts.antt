@@ -2,8 +2,9 @@
 use Rattle.std.proofs.Common.{◌≡◌, ◌↔◌, ◌<◌, ℕ, List, length, refl}
 use Rattle.std.specs.List.{All}
 use Rattle.mcv_route.specs.Routes.{IsSoundRoutes, RoutesValue}
+use Rattle.mcv_route.specs.Eras.{HasEra}
 use Rattle.mcv_symbolic.specs.Covered.{AreCovered, sizes_of}
-use Rattle.mcv_blocks.specs.Places.{AreRouteClasses, HasEra}
+use Rattle.mcv_blocks.specs.Places.{AreRouteClasses}
 use Rattle.mcv_blocks.specs.Spots.{spots_of}
 use Rattle.mcv_blocks.specs.declared.classes.RouteClass.{RouteClass}
 use Rattle.mcv_certify.specs.Gap.{IfLost, IsRightFault, place_of_gap}

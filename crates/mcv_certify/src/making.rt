@@ -1,12 +1,13 @@
 //! Makes certificates, block by block.
 
 ghost use Rattle.std.specs.Prelude.{◌≡◌, ◌<◌, ℕ, [], ◌∷◌, All, IfErr, IfOk, OnOk, length};
+ghost use Rattle.mcv_route.specs.Eras.{HasEra};
 ghost use Rattle.mcv_blocks.specs.Blocks.{IsJustifiedBy};
-ghost use Rattle.mcv_blocks.specs.Places.{HasEra, IsRouteClass};
+ghost use Rattle.mcv_blocks.specs.Places.{IsRouteClass};
 ghost use Rattle.mcv_blocks.specs.Spots.{IsSpotOf, eras_from, spot};
 ghost use Rattle.mcv_judge.specs.InMemory.{pairs_of};
 ghost use Rattle.mcv_route.specs.Routes.{IsSoundRoutes};
-ghost use Rattle.mcv_symbolic.specs.Covered.{AreCovered, sizes_of};
+ghost use Rattle.mcv_symbolic.specs.Covered.{AreCovered};
 ghost use Rattle.mcv_certify.specs.Gap.{IfLost, IsRightFault};
 ghost use Rattle.mcv_certify.specs.Made.{AddsFor, TellsGapAt, TellsGapIn};
 ghost use Rattle.mcv_certify.specs.Picked.{IsPickedOf};
@@ -14,9 +15,9 @@ ghost use Rattle.mcv_certify.specs.declared.gap.CertifyFault.TheVariants.{Memory
 
 use crate::block::push_sets;
 use crate::gap::CertifyFault;
-use mcv_blocks::{RouteClass, Sets, era_count, opened, route_classes};
+use mcv_blocks::{RouteClass, Sets, route_classes};
 use mcv_cert::{Certificate, Pair};
-use mcv_route::Routes;
+use mcv_route::{Routes, era_count, opened};
 use std::alloc::Global;
 
 /// Adds the pairs of the block of a class in an era, or tells the first gap in it.
@@ -62,16 +63,6 @@ fn push_class(
     Ok(())
 }
 
-/// Each symbol has an index: its number of servers says so.
-fn read_sizes(routes: &Routes)
-    ensures { All (λ n. 0 < n) (sizes_of routes.now) }
-{
-    let symbols = routes.symbols().as_slice();
-    for symbol in symbols {
-        let _servers = symbol.n();
-    }
-}
-
 /// The certificate of the routes, if they are covered. Else the first place where a delete can be lost.
 ///
 /// Of the reasons that hold for a leaf the certificate names the first in the order never, twin, same and all, with
@@ -86,7 +77,7 @@ pub fn certify(alloc: Global, routes: &Routes) -> Result<Certificate, CertifyFau
 {
     // Both say of the routes what it takes that those with a gap aren't covered: they are sound, and each symbol has an index.
     let _servers = routes.servers();
-    read_sizes(routes);
+    let _symbols = routes.symbols();
     let eras = era_count(routes);
     let classes = route_classes(alloc, routes)?;
     let mut pairs = Vec::new(alloc);

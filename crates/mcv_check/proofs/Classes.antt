@@ -5,8 +5,9 @@ use Rattle.mcv_cert.specs.Pair.{PairValue}
 use Rattle.mcv_judge.specs.Faults.{IsFaultless, IsFirstFault}
 use Rattle.mcv_judge.specs.declared.fault.PairFault.{PairFault}
 use Rattle.mcv_route.specs.Routes.{RoutesValue}
+use Rattle.mcv_route.specs.Eras.{HasEra}
 use Rattle.mcv_blocks.specs.Blocks.{IsFirstFaultOf, IsJustifiedBy}
-use Rattle.mcv_blocks.specs.Places.{AreRouteClasses, HasEra, IsRouteClass}
+use Rattle.mcv_blocks.specs.Places.{AreRouteClasses, IsRouteClass}
 use Rattle.mcv_blocks.specs.Spots.{AreSpotsOf, eras_from, spots_of}
 use Rattle.mcv_blocks.specs.declared.classes.RouteClass.{RouteClass}
 use Rattle.mcv_blocks.proofs.Along.{blocks_of_spots, spots_are, spots_behind}

@@ -1,16 +1,23 @@
 -- How far a certificate has been judged, from block to block. Only private contracts cite this.
-use Rattle.std.specs.Prelude.{ℕ, List, ◌∷◌, ◌++◌, ⊤}
+use Rattle.std.specs.Prelude.{◌≡◌, ℕ, List, ◌∷◌, ◌++◌, ⊤, Some, option_map, slice_get}
 use Rattle.std.specs.List.{AllZip}
 use Rattle.mcv_cert.specs.Pair.{PairValue}
 use Rattle.mcv_judge.specs.Faults.{AreInOrder, HaveSameFaults, IsFirstFault, IsInOrder}
 use Rattle.mcv_judge.specs.Reason.{BlockValue}
 use Rattle.mcv_judge.specs.declared.fault.PairFault.{PairFault}
-use Rattle.mcv_route.specs.Routes.{RoutesValue}
+use Rattle.mcv_route.specs.Eras.{HasEra, IsEraOf}
+use Rattle.mcv_route.specs.Routes.{RouteEntry, RoutesValue}
 use Rattle.mcv_blocks.specs.Sets.{SetsValue}
 use Rattle.mcv_blocks.specs.Spots.{AreSpotsOf, IsBlockFor, IsBlockWith, Spot}
 use Rattle.mcv_blocks.specs.declared.classes.RouteClass.{RouteClass}
 use Rattle.mcv_check.specs.declared.fault.CheckFault.{CheckFault}
 use Rattle.mcv_check.specs.declared.fault.CheckFault.TheVariants.{Memory, Pair}
+
+-- the sets are those of a class of the routes in an era: of the tree of its route, its member and the break that opened the era
+pub record AreSetsOf (r : RoutesValue) (c : RouteClass) (era : ℕ) (s : SetsValue) : Type 0 where
+  pub tree : Some s.tree ≡ option_map (λ (e : RouteEntry). e.tree) (slice_get r.entries c.route)
+  pub member : Some s.rest ≡ c.class.member
+  pub opened : HasEra r era → IsEraOf r era s.since
 
 -- the block of the sets is in order
 abbrev pub IsInOrderWith : SetsValue → RouteClass → ℕ → Type 0

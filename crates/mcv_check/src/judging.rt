@@ -1,22 +1,24 @@
 //! The pairs of a certificate against the blocks of routes, one block at a time.
 
-ghost use Rattle.std.specs.Prelude.{◌<◌, ◌∷◌, ℕ, [], IfErr, IfOk, MatchResult};
+ghost use Rattle.std.specs.Prelude.{◌≡◌, ◌<◌, ◌∷◌, ℕ, [], Some, IfErr, IfOk, MatchResult};
+ghost use Rattle.mcv_route.specs.Eras.{HasEra};
 ghost use Rattle.mcv_blocks.specs.Blocks.{IsJustifiedBy};
-ghost use Rattle.mcv_blocks.specs.Places.{HasEra, IsRouteClass};
+ghost use Rattle.mcv_blocks.specs.Places.{IsRouteClass};
 ghost use Rattle.mcv_blocks.specs.Spots.{IsSpotOf, eras_from, spot};
 ghost use Rattle.mcv_cert.specs.Pair.{AreRising};
 ghost use Rattle.mcv_check.specs.Fault.{IsTold};
-ghost use Rattle.mcv_check.specs.Judged.{Leaves, Stops};
+ghost use Rattle.mcv_check.specs.Judged.{AreSetsOf, Leaves, Stops};
 ghost use Rattle.mcv_judge.specs.InMemory.{pairs_of};
 ghost use Rattle.mcv_route.specs.Routes.{IsSoundRoutes};
 
 use crate::block::judge_sets;
 use crate::fault::CheckFault;
-use mcv_blocks::{RouteClass, Sets, era_count, opened, route_classes};
+use mcv_base::Rest;
+use mcv_blocks::{RouteClass, Sets, route_classes};
 use mcv_cert::Pair;
 use mcv_judge::judge_end;
-use mcv_route::Routes;
-use std::alloc::Global;
+use mcv_route::{Routes, era_count, opened};
+use std::alloc::{AllocError, Global};
 
 /// Judges the pairs against all blocks of the routes.
 pub fn judge_routes(alloc: Global, routes: &Routes, pairs: &[Pair]) -> Result<(), CheckFault>
@@ -72,12 +74,27 @@ fn judge_in_era<'p>(
     ensures left { IfOk result (λ rest. Leaves routes.now (pairs_of pairs.now) (spot class.now era ∷ []) (pairs_of rest.now)) }
     ensures fault { IfErr result (Stops routes.now (pairs_of pairs.now) (spot class.now era ∷ [])) }
 {
-    let Some(route) = routes.route(class.route) else {
-        unreachable!()
-    };
     let Some(member) = class.class.member() else {
         unreachable!()
     };
-    let sets = Sets::new(alloc, route, &member, opened(routes, era))?;
+    let sets = sets_of(alloc, routes, class, &member, era)?;
     judge_sets(alloc, &sets, class, era, pairs)
+}
+
+/// What the class's route has at the class's member in an era.
+fn sets_of<'a>(
+    alloc: Global,
+    routes: &'a Routes,
+    class: &RouteClass,
+    member: &'a Rest,
+    era: usize,
+) -> Result<Sets<'a>, AllocError>
+    requires spot { IsSpotOf routes.now (spot class.now era) }
+    requires member { Some member.now ≡ class.now.class.member }
+    ensures { IfOk result (AreSetsOf routes.now class.now era) }
+{
+    let Some(route) = routes.route(class.route) else {
+        unreachable!()
+    };
+    Sets::new(alloc, route, member, opened(routes, era))
 }

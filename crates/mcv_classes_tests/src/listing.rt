@@ -67,3 +67,35 @@ fn routes_have_classes(rt: HostRuntime) -> Result<(), Fail> {
     assert_eq!(rt; text.as_str(), "[] [33]|");
     Ok(())
 }
+
+/// A configuration with a policy for each key byte that JSON text can have as a name of its own: 33 to 126.
+fn one_byte_policies(alloc: Global) -> Result<String, AllocError> {
+    let mut text = String::from_str(
+        alloc,
+        "{\"route\":{\"type\":\"PrefixSelectorRoute\",\"policies\":{\"!\":\"NullRoute\"",
+    )?;
+    for byte in 34..127u8 {
+        text.push_str(",\"")?;
+        if byte == b'"' || byte == b'\\' {
+            text.push('\\')?;
+        }
+        text.push(char::from(byte))?;
+        text.push_str("\":\"NullRoute\"")?;
+    }
+    text.push_str("}}}")?;
+    Ok(text)
+}
+
+#[test]
+fn the_empty_word_takes_the_least_byte_without_a_policy(rt: HostRuntime) -> Result<(), Fail> {
+    let alloc = rt.alloc();
+    let text = one_byte_policies(alloc)?;
+    let routes = routes(&rt, alloc, text.as_str())?;
+    let classes = classes_at(alloc, &routes, 0)?;
+    assert_eq!(rt; classes.len(), 95);
+    let first = classes.first().ok_or("no class")?;
+    assert!(rt; first.word().is_empty());
+    let member = first.member().ok_or("no member")?;
+    assert_eq!(rt; member.as_bytes(), [128].as_slice());
+    Ok(())
+}

@@ -1,6 +1,6 @@
 -- Pools that come behind others leave them as they were, and what names the others stays sound.
-use Rattle.std.proofs.Common.{◌≡◌, ℕ, zero, suc, ◌+◌, ◌<◌, ◌≤◌, List, [], ◌∷◌, ◌++◌, length, get_or, bytes_eq, refl, sym, subst, ◌∙◌, arith, length-append}
-use Rattle.std.specs.List.{AllByRecursion, IsDistinct}
+use Rattle.std.proofs.Common.{◌≡◌, ℕ, zero, suc, ◌+◌, ◌<◌, ◌≤◌, List, [], ◌∷◌, ◌++◌, length, get_or, refl, sym, subst, ◌∙◌, arith, length-append}
+use Rattle.std.specs.List.{AllByRecursion}
 use Rattle.serde_json.specs.Data.{Data, Members, no_members, member}
 use Rattle.mcv_names.specs.Fault.{Read}
 use Rattle.mcv_names.specs.Lists.{each, each_member}
@@ -9,7 +9,7 @@ use Rattle.mcv_config.specs.Plan.{Named, Nameds, no_named, named, pool, server, 
 use Rattle.mcv_config.specs.Pools.{Table}
 use Rattle.mcv_config.specs.Walk.{SoFar, with_pool}
 use Rattle.mcv_names.proofs.Holds.{Holds, holds_bind}
-use Rattle.mcv_config.proofs.SoundPools.{Grown, IsPool, pool_keeps}
+use Rattle.mcv_config.proofs.SoundPools.{Grown, IsPool, IsTable, pool_keeps}
 
 -- the later pools begin with the former ones
 pub record Later (ps qs : List (List ℕ)) : Type 0 where
@@ -54,11 +54,11 @@ mutual
 
 -- ---- what is so far
 
--- every name has its pool, every pool its servers, and no server stands twice
+-- every name has its pool, every pool its servers, and the table of servers is one
 pub record IsSoFar (w : SoFar) : Type 0 where
   pub fits : length w.pools.names ≤ length w.pools.servers
   pub pools : AllByRecursion (IsPool w.table) w.pools.servers
-  pub once : IsDistinct bytes_eq w.table
+  pub is_table : IsTable w.table
 
 -- P of what was read under the pools that it leaves, which begin with the former ones
 pub record Grows {A : Type 0} (P : List (List ℕ) → A → Type 0) (ps : List (List ℕ)) (x : A × SoFar) : Type 0 where
@@ -82,7 +82,7 @@ pub pool_behind : (w : SoFar) (x : List ℕ × Table) → IsSoFar w → Grown Is
 pool_behind w x s h = record {
   fits = omega (arith, s.fits, length-append w.pools.servers (x.0 ∷ []));
   pools = pools_more x.1 w.pools.servers x.0 (pools_keep w.table x.1 w.pools.servers h.grows s.pools) h.holds;
-  once = h.once;
+  is_table = h.is_table;
 }
 
 -- ---- each in turn

@@ -16,14 +16,15 @@ use Rattle.mcv_config.specs.Pools.{Pools, Table, pools_read}
 use Rattle.mcv_config.specs.Walk.{SoFar}
 use Rattle.mcv_config.proofs.Later.{IsSoFar}
 use Rattle.mcv_config.proofs.SoundEntries.{AreEntries, routing_sound, sound_aliases, sound_routes}
-use Rattle.mcv_config.proofs.SoundPools.{ArePools, pools_sound, pools_are_sound}
+use Rattle.mcv_config.proofs.SoundPools.{ArePools, IsText, all_of, pools_sound, pools_are_sound}
 
 first_sound : (ps : Pools × Table) → ArePools ps → IsSoFar (at_first ps)
-first_sound ps h = record { fits = h.named; pools = h.pools; once = h.once }
+first_sound ps h = record { fits = h.named; pools = h.pools; is_table = h.is_table }
 
 plan_with_sound : (ps : List (List ℕ)) (t : List EntryPlan × SoFar) → AreEntries ps t → IsSound (plan_with t)
 plan_with_sound ps t h = record {
-  once = one_to_one bytes_eq bytes_decides t.1.table h.grows.sound.once;
+  texts = all_of IsText t.1.table h.grows.sound.is_table.texts;
+  once = one_to_one bytes_eq bytes_decides t.1.table h.grows.sound.is_table.apart;
   apart = one_to_one bytes_eq bytes_decides (all_aliases t.0) h.apart;
   pools = pools_are_sound t.1.table t.1.pools.servers h.grows.sound.pools;
   some = h.some;

@@ -5,6 +5,7 @@ use Rattle.std.specs.Cmp.Lexicographic.{bytes_decides}
 use Rattle.std.proofs.lemmas.List.Quantifiers.{position-Some}
 use Rattle.serde_json.specs.Data.{Data, Items, Members, no_members, member}
 use Rattle.serde_json.specs.Find.{get, as_str, as_array, as_object}
+use Rattle.mcv_base.specs.Server.{is_server}
 use Rattle.mcv_pools.specs.Table.{is_in, number_in, numbered, with_entry}
 use Rattle.mcv_pools.proofs.Tables.{kept, new, grown, numbered_last}
 use Rattle.mcv_names.specs.declared.handle.Object.TheVariants as objects
@@ -47,65 +48,82 @@ distinct_more (y ∷ xs) x h e = (
   distinct_more xs x h.1 (or_second (bytes_eq x y) (list_any (bytes_eq x) xs) e),
 )
 
+-- ---- tables of servers
+
+abbrev pub IsText : List ℕ → Type 0
+IsText text = is_server text ≡ true
+
+-- no text twice, and each a server's
+pub record IsTable (table : Table) : Type 0 where
+  pub apart : IsDistinct bytes_eq table
+  pub texts : AllByRecursion IsText table
+
+texts_more : (table : Table) (text : List ℕ) → AllByRecursion IsText table → IsText text → AllByRecursion IsText (table ++ text ∷ [])
+texts_more [] text h valid = (valid, tt)
+texts_more (t ∷ table) text h valid = (h.0, texts_more table text h.1 valid)
+
 -- ---- tables that grow
 
--- P of what was read in the table that it leaves, which has no text twice and is no shorter
+-- P of what was read in the table that it leaves, which is no shorter
 pub record Grown {A : Type 0} (P : Table → A → Type 0) (table : Table) (x : A × Table) : Type 0 where
   pub holds : P x.1 x.0
   pub grows : length table ≤ length x.1
-  pub once : IsDistinct bytes_eq x.1
+  pub is_table : IsTable x.1
 
 abbrev pub IsKnown : Table → ℕ → Type 0
 IsKnown table s = s < length table
 
-entered_grown : (table : Table) (text : List ℕ) → IsDistinct bytes_eq table → Grown IsKnown table (entered table text)
-entered_grown table text once = by (number_in bytes_eq table text) refl
+entered_grown : (table : Table) (text : List ℕ) → IsTable table → IsText text → Grown IsKnown table (entered table text)
+entered_grown table text is valid = by (number_in bytes_eq table text) refl
   where
     by : (o : Option ℕ) → number_in bytes_eq table text ≡ o → Grown IsKnown table (entered table text)
     by None e =
         let longer : with_entry bytes_eq table text ≡ table ++ text ∷ [] = grown bytes_eq bytes_decides table text e in
         let last : number_in bytes_eq (table ++ text ∷ []) text ≡ Some (length table) = numbered_last bytes_eq bytes_decides table text e in
         let more : length (table ++ text ∷ []) ≡ length table + 1 = length-append table (text ∷ []) in
-        let apart : IsDistinct bytes_eq (table ++ text ∷ []) = distinct_more table text once (new bytes_eq bytes_decides table text e) in
-        rw (longer, last) (record { holds = omega arith; grows = omega arith; once = apart })
+        let apart : IsDistinct bytes_eq (table ++ text ∷ []) = distinct_more table text is.apart (new bytes_eq bytes_decides table text e) in
+        rw (longer, last) (record { holds = omega arith; grows = omega arith; is_table = record { apart = apart; texts = texts_more table text is.texts valid } })
     by (Some i) e =
         let same : table ≡ with_entry bytes_eq table text = kept bytes_eq bytes_decides table text i e in
         let within : i < length table = (position-Some (bytes_eq text) table i [] e).0 in
-        rw (← same, e) (record { holds = within; grows = omega arith; once = once })
+        rw (← same, e) (record { holds = within; grows = omega arith; is_table = is })
 
-server_grown : (list : List ℕ) (table : Table) (path : List ℕ) (d : Data) → IsDistinct bytes_eq table → Holds (Grown IsKnown table) (server_read list table path d)
+text_valid : (path text : List ℕ) → Holds IsText (server_text path text)
+text_valid path text = holds_if IsText (is_server text) _ _ (λ valid. valid) (λ _. tt)
+
+server_grown : (list : List ℕ) (table : Table) (path : List ℕ) (d : Data) → IsTable table → Holds (Grown IsKnown table) (server_read list table path d)
 unfolding server_read
-server_grown list table path d once =
+server_grown list table path d is =
     holds_then (Grown IsKnown table) (text_read (as_str d) path) _
-    (λ text. holds_then (Grown IsKnown table) (server_text path text) _
-    (λ server. holds_if (Grown IsKnown table) (is_full table server) _ _ (λ _. tt) (λ _. entered_grown table server once)))
+    (λ text. holds_bind IsText (Grown IsKnown table) (server_text path text) _ (text_valid path text)
+    (λ server valid. holds_if (Grown IsKnown table) (is_full table server) _ _ (λ _. tt) (λ _. entered_grown table server is valid)))
 
 module _ {A : Type 0} (P : Table → A → Type 0) (keeps : (t u : Table) (x : A) → length t ≤ length u → P t x → P u x) where
   abbrev Each : Table → List A → Type 0
   Each table xs = AllByRecursion (P table) xs
 
-  end_grown : (table : Table) → IsDistinct bytes_eq table → Grown Each table ([], table)
-  end_grown table once = record { holds = tt; grows = omega arith; once = once }
+  end_grown : (table : Table) → IsTable table → Grown Each table ([], table)
+  end_grown table is = record { holds = tt; grows = omega arith; is_table = is }
 
   more_grown : (table : Table) (x : A × Table) (xs : List A × Table) → Grown P table x → Grown Each x.1 xs → Grown Each table (x.0 ∷ xs.0, xs.1)
-  more_grown table x xs h k = record { holds = (keeps x.1 xs.1 x.0 k.grows h.holds, k.holds); grows = omega (arith, h.grows, k.grows); once = k.once }
+  more_grown table x xs h k = record { holds = (keeps x.1 xs.1 x.0 k.grows h.holds, k.holds); grows = omega (arith, h.grows, k.grows); is_table = k.is_table }
 
-  pub each_grown : (reader : Table → List ℕ → Data → Read (A × Table)) → ((t : Table) (p : List ℕ) (d : Data) → IsDistinct bytes_eq t → Holds (Grown P t) (reader t p d))
-      → (table : Table) (path : List ℕ) (i : ℕ) (ds : List Data) → IsDistinct bytes_eq table → Holds (Grown Each table) (each reader table path i ds)
+  pub each_grown : (reader : Table → List ℕ → Data → Read (A × Table)) → ((t : Table) (p : List ℕ) (d : Data) → IsTable t → Holds (Grown P t) (reader t p d))
+      → (table : Table) (path : List ℕ) (i : ℕ) (ds : List Data) → IsTable table → Holds (Grown Each table) (each reader table path i ds)
   unfolding each
-  each_grown reader one table path i [] once = end_grown table once
-  each_grown reader one table path i (d ∷ ds) once =
-      holds_bind (Grown P table) (Grown Each table) (reader table (item_step path i) d) _ (one table (item_step path i) d once)
-      (λ x h. holds_bind (Grown Each x.1) (Grown Each table) (each reader x.1 path (i + 1) ds) _ (each_grown reader one x.1 path (i + 1) ds h.once) (λ xs k. more_grown table x xs h k))
+  each_grown reader one table path i [] is = end_grown table is
+  each_grown reader one table path i (d ∷ ds) is =
+      holds_bind (Grown P table) (Grown Each table) (reader table (item_step path i) d) _ (one table (item_step path i) d is)
+      (λ x h. holds_bind (Grown Each x.1) (Grown Each table) (each reader x.1 path (i + 1) ds) _ (each_grown reader one x.1 path (i + 1) ds h.is_table) (λ xs k. more_grown table x xs h k))
 
-  pub each_member_grown : (reader : Table → List ℕ → List ℕ → Data → Read (A × Table)) → ((t : Table) (p name : List ℕ) (d : Data) → IsDistinct bytes_eq t → Holds (Grown P t) (reader t p name d))
-      → (table : Table) (path : List ℕ) (ms : Members) → IsDistinct bytes_eq table
+  pub each_member_grown : (reader : Table → List ℕ → List ℕ → Data → Read (A × Table)) → ((t : Table) (p name : List ℕ) (d : Data) → IsTable t → Holds (Grown P t) (reader t p name d))
+      → (table : Table) (path : List ℕ) (ms : Members) → IsTable table
       → Holds (λ (xs : List A × Table). Grown Each table xs × (length xs.0 ≡ length (member_names ms))) (each_member reader table path ms)
   unfolding each_member
-  each_member_grown reader one table path no_members once = (end_grown table once, refl)
-  each_member_grown reader one table path (member name d ms) once =
-      holds_bind (Grown P table) (λ (xs : List A × Table). Grown Each table xs × (length xs.0 ≡ length (member_names (member name d ms)))) (reader table (key_step path name) name d) _ (one table (key_step path name) name d once)
-      (λ x h. holds_bind (λ (xs : List A × Table). Grown Each x.1 xs × (length xs.0 ≡ length (member_names ms))) (λ (xs : List A × Table). Grown Each table xs × (length xs.0 ≡ length (member_names (member name d ms)))) (each_member reader x.1 path ms) _ (each_member_grown reader one x.1 path ms h.once)
+  each_member_grown reader one table path no_members is = (end_grown table is, refl)
+  each_member_grown reader one table path (member name d ms) is =
+      holds_bind (Grown P table) (λ (xs : List A × Table). Grown Each table xs × (length xs.0 ≡ length (member_names (member name d ms)))) (reader table (key_step path name) name d) _ (one table (key_step path name) name d is)
+      (λ x h. holds_bind (λ (xs : List A × Table). Grown Each x.1 xs × (length xs.0 ≡ length (member_names ms))) (λ (xs : List A × Table). Grown Each table xs × (length xs.0 ≡ length (member_names (member name d ms)))) (each_member reader x.1 path ms) _ (each_member_grown reader one x.1 path ms h.is_table)
       (λ xs k. (more_grown table x xs h k.0, ap suc k.1)))
 
 -- ---- pools
@@ -124,36 +142,36 @@ pub pool_keeps : (t u : Table) (pool : List ℕ) → length t ≤ length u → I
 pool_keeps t u pool l h = (h.0, all_keeps t u pool l h.1)
 
 -- a list that is not empty gives servers
-servers_some : (list : List ℕ) (table : Table) (path : List ℕ) (d : Data) (ds : List Data) → IsDistinct bytes_eq table → Holds (Grown IsPool table) (each (server_read list) table path 0 (d ∷ ds))
+servers_some : (list : List ℕ) (table : Table) (path : List ℕ) (d : Data) (ds : List Data) → IsTable table → Holds (Grown IsPool table) (each (server_read list) table path 0 (d ∷ ds))
 unfolding each
-servers_some list table path d ds once =
-    holds_bind (Grown IsKnown table) (Grown IsPool table) (server_read list table (item_step path 0) d) _ (server_grown list table (item_step path 0) d once)
-    (λ x h. holds_bind (Grown (Each IsKnown known_keeps) x.1) (Grown IsPool table) (each (server_read list) x.1 path 1 ds) _ (each_grown IsKnown known_keeps (server_read list) (server_grown list) x.1 path 1 ds h.once)
-    (λ xs k. record { holds = (omega arith, (known_keeps x.1 xs.1 x.0 k.grows h.holds, k.holds)); grows = omega (arith, h.grows, k.grows); once = k.once }))
+servers_some list table path d ds is =
+    holds_bind (Grown IsKnown table) (Grown IsPool table) (server_read list table (item_step path 0) d) _ (server_grown list table (item_step path 0) d is)
+    (λ x h. holds_bind (Grown (Each IsKnown known_keeps) x.1) (Grown IsPool table) (each (server_read list) x.1 path 1 ds) _ (each_grown IsKnown known_keeps (server_read list) (server_grown list) x.1 path 1 ds h.is_table)
+    (λ xs k. record { holds = (omega arith, (known_keeps x.1 xs.1 x.0 k.grows h.holds, k.holds)); grows = omega (arith, h.grows, k.grows); is_table = k.is_table }))
 
-listed_grown : (table : Table) (path : List ℕ) (ds : List Data) → IsDistinct bytes_eq table → Holds (Grown IsPool table) (listed_servers table path ds)
+listed_grown : (table : Table) (path : List ℕ) (ds : List Data) → IsTable table → Holds (Grown IsPool table) (listed_servers table path ds)
 unfolding listed_servers
-listed_grown table path [] once = tt
-listed_grown table path (d ∷ ds) once = holds_if (Grown IsPool table) (nat_lt pool_limit (length (d ∷ ds))) _ _ (λ _. tt) (λ _. servers_some path table path d ds once)
+listed_grown table path [] is = tt
+listed_grown table path (d ∷ ds) is = holds_if (Grown IsPool table) (nat_lt pool_limit (length (d ∷ ds))) _ _ (λ _. tt) (λ _. servers_some path table path d ds is)
 
-of_list_grown : (table : Table) (path : List ℕ) (o : Option Items) → IsDistinct bytes_eq table → Holds (Grown IsPool table) (servers_of_list table path o)
-of_list_grown table path None once = tt
-of_list_grown table path (Some ds) once = listed_grown table path (items_list ds) once
+of_list_grown : (table : Table) (path : List ℕ) (o : Option Items) → IsTable table → Holds (Grown IsPool table) (servers_of_list table path o)
+of_list_grown table path None is = tt
+of_list_grown table path (Some ds) is = listed_grown table path (items_list ds) is
 
-servers_grown : (table : Table) (path : List ℕ) (d : Data) → IsDistinct bytes_eq table → Holds (Grown IsPool table) (servers_read table path d)
+servers_grown : (table : Table) (path : List ℕ) (d : Data) → IsTable table → Holds (Grown IsPool table) (servers_read table path d)
 unfolding servers_read
-servers_grown table path d once =
-    holds_then (Grown IsPool table) (required (get (codes "servers") d) path) _ (λ s. of_list_grown table (key_step path (codes "servers")) (as_array s) once)
+servers_grown table path d is =
+    holds_then (Grown IsPool table) (required (get (codes "servers") d) path) _ (λ s. of_list_grown table (key_step path (codes "servers")) (as_array s) is)
 
-of_members_grown : (table : Table) (path : List ℕ) (d : Data) (o : Option Members) → IsDistinct bytes_eq table → Holds (Grown IsPool table) (pool_of_members table path d o)
-of_members_grown table path d None once = tt
-of_members_grown table path d (Some ms) once =
+of_members_grown : (table : Table) (path : List ℕ) (d : Data) (o : Option Members) → IsTable table → Holds (Grown IsPool table) (pool_of_members table path d o)
+of_members_grown table path d None is = tt
+of_members_grown table path d (Some ms) is =
     holds_also (Grown IsPool table) (keys_read (key_fault objects.Pool) path ms) _
-    (holds_also (Grown IsPool table) (name_read (key_step path (codes "name")) (get (codes "name") d)) (servers_read table path d) (servers_grown table path d once))
+    (holds_also (Grown IsPool table) (name_read (key_step path (codes "name")) (get (codes "name") d)) (servers_read table path d) (servers_grown table path d is))
 
-pub pool_grown : (table : Table) (path name : List ℕ) (d : Data) → IsDistinct bytes_eq table → Holds (Grown IsPool table) (pool_read table path name d)
+pub pool_grown : (table : Table) (path name : List ℕ) (d : Data) → IsTable table → Holds (Grown IsPool table) (pool_read table path name d)
 unfolding pool_read
-pool_grown table path name d once = of_members_grown table path d (as_object d) once
+pool_grown table path name d is = of_members_grown table path d (as_object d) is
 
 -- ---- all pools
 
@@ -175,22 +193,25 @@ fold-length (n ∷ names) table =
 pub record ArePools (x : Pools × Table) : Type 0 where
   pub named : length x.0.names ≤ length x.0.servers
   pub pools : AllByRecursion (IsPool x.1) x.0.servers
-  pub once : IsDistinct bytes_eq x.1
+  pub is_table : IsTable x.1
 
 pub nothing_twice : IsDistinct bytes_eq []
 unfolding IsDistinct
 nothing_twice = tt
 
+no_servers : IsTable []
+no_servers = record { apart = nothing_twice; texts = tt }
+
 of_object_sound : (path : List ℕ) (o : Option Members) → Holds ArePools (pools_of_members path o)
 of_object_sound path None = tt
 of_object_sound path (Some ms) =
     holds_bind (λ (xs : List (List ℕ) × Table). Grown (Each IsPool pool_keeps) [] xs × (length xs.0 ≡ length (member_names ms))) ArePools (each_member pool_read [] path ms) _
-    (each_member_grown IsPool pool_keeps pool_read pool_grown [] path ms nothing_twice)
+    (each_member_grown IsPool pool_keeps pool_read pool_grown [] path ms no_servers)
     (λ xs h. let count : length (numbered bytes_eq (member_names ms)) ≤ 0 + length (member_names ms) = fold-length (member_names ms) [] in
-    record { named = omega (arith, h.1); pools = h.0.holds; once = h.0.once })
+    record { named = omega (arith, h.1); pools = h.0.holds; is_table = h.0.is_table })
 
 pub pools_sound : (path : List ℕ) (o : Option Data) → Holds ArePools (pools_read path o)
-pools_sound path None = record { named = omega arith; pools = tt; once = nothing_twice }
+pools_sound path None = record { named = omega arith; pools = tt; is_table = no_servers }
 pools_sound path (Some d) = of_object_sound path (as_object d)
 
 -- ---- in the words of the plan

@@ -97,7 +97,7 @@ added w x s h = record {
 object_added : (w : SoFar) (path : List ℕ) (d : Data) → IsSoFar w → Holds (Grows IsNumber w.pools.servers) (pool_object w path d)
 unfolding pool_object
 object_added w path d s =
-    holds_bind (Grown IsPool w.table) (Grows IsNumber w.pools.servers) (pool_read w.table path [] d) _ (pool_grown w.table path [] d s.once) (λ x h. added w x s h)
+    holds_bind (Grown IsPool w.table) (Grows IsNumber w.pools.servers) (pool_read w.table path [] d) _ (pool_grown w.table path [] d s.is_table) (λ x h. added w x s h)
 
 value_sound : (w : SoFar) (path : List ℕ) (d : Data) (o : Option (List ℕ)) → IsSoFar w → Holds (Grows IsNumber w.pools.servers) (pool_value w path d o)
 value_sound w path d (Some name) s =
@@ -120,7 +120,7 @@ some_range i a zero h = absurd (omega arith)
 some_range i a (suc n) h = λ e. cc
 
 room_taken : (n : ℕ) (w : SoFar) → IsSoFar w → IsSoFar (taken n w)
-room_taken n w s = record { fits = s.fits; pools = s.pools; once = s.once }
+room_taken n w s = record { fits = s.fits; pools = s.pools; is_table = s.is_table }
 
 servers_sound : (depth : ℕ) (w : SoFar) (path : List ℕ) (i : ℕ) → IsSoFar w → i < length w.pools.servers → Holds (Grows AreSome w.pools.servers) (servers depth w path i)
 unfolding servers

@@ -1,6 +1,7 @@
 -- What a configuration names: servers, pools and routes by their numbers, without where they lie in memory.
-use Rattle.std.specs.Prelude.{◌≢◌, ℕ, ◌<◌, ◌≤◌, List, [], ◌∷◌, ◌++◌, Option, Some, None, map, length, slice_index_or, option_map}
+use Rattle.std.specs.Prelude.{◌≡◌, ◌≢◌, true, ℕ, ◌<◌, ◌≤◌, List, [], ◌∷◌, ◌++◌, Option, Some, None, map, length, slice_index_or, option_map}
 use Rattle.std.specs.List.{All, flat_map}
+use Rattle.mcv_base.specs.Server.{is_server}
 use Rattle.mcv_base.specs.declared.operation.Op.{Op}
 use Rattle.mcv_pools.specs.declared.symbol.HashFunc.{HashFunc}
 use Rattle.mcv_pools.specs.Table.{IsOneToOne}
@@ -167,6 +168,8 @@ abbrev pub all_aliases : List EntryPlan → List (List ℕ)
 all_aliases entries = flat_map (λ e. e.aliases) entries
 
 pub record IsSound (plan : Plan) : Type 0 where
+  -- each server's text is a host, a colon and a port
+  pub texts : All (λ text. is_server text ≡ true) plan.servers
   -- no server and no alias stands twice
   pub once : IsOneToOne plan.servers
   pub apart : IsOneToOne (all_aliases plan.entries)

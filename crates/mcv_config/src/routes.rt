@@ -6,7 +6,7 @@ ghost use Rattle.mcv_names.specs.Fault.{Gives};
 ghost use Rattle.mcv_names.specs.Lists.{each, each_member};
 ghost use Rattle.mcv_names.specs.Path.{path_of};
 ghost use Rattle.mcv_config.specs.Plan.{named_of, prefix_of, shadow_of};
-ghost use Rattle.mcv_config.specs.Routes.{children_field, migrate_fields, object_route, pool_fields, route, warm_up_fields};
+ghost use Rattle.mcv_config.specs.Routes.{children_field, fields, migrate_fields, object_route, pool_fields, route, warm_up_fields};
 ghost use Rattle.mcv_config.specs.Selectors.{default_read, policies_read, policy_read, selector_fields};
 ghost use Rattle.mcv_config.specs.Shadows.{shadow_read};
 ghost use Rattle.mcv_config.specs.View.{so_far_of};
@@ -52,7 +52,7 @@ pub(crate) fn read_route(
 }
 
 /// The handle that an object names, with this many levels left for those below it.
-#[tactic(auto, using(mcv_names::proofs::Faults::faults), unfolding(crate::specs::Routes::object_route, crate::specs::Routes::fields))]
+#[tactic(auto, using(mcv_names::proofs::Faults::faults), unfolding(crate::specs::Routes::object_route))]
 #[cycle(route)]
 fn read_object(
     alloc: Global,
@@ -66,6 +66,22 @@ fn read_object(
 {
     let handle = read_type(alloc, trail, value)?;
     check_keys(alloc, trail, Object::Handle(handle), members)?;
+    read_handle(alloc, depth, so_far, trail, handle, value)
+}
+
+/// What the object names as this handle, its type and its keys apart.
+#[tactic(auto, using(mcv_names::proofs::Faults::faults), unfolding(crate::specs::Routes::fields))]
+#[cycle(route)]
+fn read_handle(
+    alloc: Global,
+    depth: usize,
+    so_far: &mut Progress,
+    trail: &Trail<'_>,
+    handle: Handle,
+    value: &Value,
+) -> Result<NamedRoute, ConfigFault>
+    ensures { Gives (λ r. (named_of r, so_far_of so_far.new)) result (fields depth (route depth) (so_far_of so_far.old) (path_of trail.now) (view value.now) handle) }
+{
     match handle {
         Handle::Pool => read_pool_route(alloc, depth, so_far, trail, value),
         Handle::Null => Ok(NamedRoute::Null),

@@ -1,7 +1,7 @@
 //! What a configuration holds once it is read, and its limits.
 
 use mcv_base::{Op, ServerId};
-use mcv_config::{NamedPolicy, NamedRoute, NamedShadow, Pool, read_config};
+use mcv_config::{ConfigParts, NamedPolicy, NamedRoute, NamedShadow, Pool, read_config};
 use mcv_pools::HashFunc;
 use std::alloc::Global;
 use std::process::Abort;
@@ -14,172 +14,119 @@ fn answer(alloc: Global, text: &str) -> Result<String, Fail> {
     }
 }
 
-fn with_prefix(alloc: Global, bytes: usize) -> Result<String, Fail> {
-    let mut text = String::from_str(
-        alloc,
-        "{\"route\":{\"type\":\"PrefixSelectorRoute\",\"policies\":{\"",
-    )?;
-    for _ in 0..bytes {
-        text.push('a')?;
+/// A text with a part a number of times between two others.
+fn repeated(alloc: Global, around: (&str, &str), part: &str, times: usize) -> Result<String, Fail> {
+    let mut text = String::from_str(alloc, around.0)?;
+    for _ in 0..times {
+        text.push_str(part)?;
     }
-    text.push_str("\":\"NullRoute\"}}}")?;
+    text.push_str(around.1)?;
     Ok(text)
 }
 
-#[test]
-fn a_prefix_has_at_most_200_bytes(rt: HostRuntime) -> Result<(), Fail> {
-    let alloc = rt.alloc();
-    assert_eq!(rt;
-        answer(alloc, with_prefix(alloc, 200)?.as_str())?.as_str(),
-        "read"
-    );
-    match read_config(alloc, with_prefix(alloc, 201)?.as_bytes()) {
-        Ok(_) => Err(Fail::from("a fault")),
-        Err(fault) => {
-            assert_eq!(rt; fault.number(), 7);
-            Ok(())
-        }
-    }
+fn is_same(rt: &impl Abort, found: &str, want: &str) {
+    assert_eq!(rt; found, want);
 }
 
-fn with_salt(alloc: Global, bytes: usize) -> Result<String, Fail> {
-    let mut text = String::from_str(
-        alloc,
-        "{\"route\":{\"type\":\"PoolRoute\",\"pool\":{\"servers\":[\"a:1\"]},\"hash\":{\"salt\":\"",
-    )?;
-    for _ in 0..bytes {
-        text.push('a')?;
-    }
-    text.push_str("\"}}}")?;
-    Ok(text)
-}
-
-#[test]
-fn a_salt_has_at_most_200_bytes(rt: HostRuntime) -> Result<(), Fail> {
-    let alloc = rt.alloc();
-    assert_eq!(rt;
-        answer(alloc, with_salt(alloc, 200)?.as_str())?.as_str(),
-        "read"
-    );
-    assert_eq!(rt;
-        answer(alloc, with_salt(alloc, 201)?.as_str())?.as_str(),
-        "configuration 7 at /route/hash/salt"
-    );
+/// What becomes of a text with the part so many times.
+fn check(
+    rt: &impl Abort,
+    alloc: Global,
+    around: (&str, &str),
+    part: &str,
+    times: usize,
+    want: &str,
+) -> Result<(), Fail> {
+    let text = repeated(alloc, around, part, times)?;
+    let found = answer(alloc, text.as_str())?;
+    is_same(rt, found.as_str(), want);
     Ok(())
 }
 
-fn nested(alloc: Global, times: usize, inner: &str) -> Result<String, Fail> {
-    let mut text = String::from_str(
-        alloc,
-        "{\"pools\":{\"A\":{\"servers\":[\"a:11211\"]}},\"route\":\"",
-    )?;
-    for _ in 0..times {
-        text.push_str("AllSyncRoute|")?;
-    }
-    text.push_str(inner)?;
-    text.push_str("\"}")?;
-    Ok(text)
+/// The part may come so many times, and once more has the fault.
+fn check_limit(
+    rt: &impl Abort,
+    alloc: Global,
+    around: (&str, &str),
+    part: &str,
+    most: usize,
+    fault: &str,
+) -> Result<(), Fail> {
+    check(rt, alloc, around, part, most, "read")?;
+    check(rt, alloc, around, part, most.saturating_add(1), fault)
+}
+
+const PREFIX: (&str, &str) = (
+    "{\"route\":{\"type\":\"PrefixSelectorRoute\",\"policies\":{\"",
+    "\":\"NullRoute\"}}}",
+);
+
+const SALT: (&str, &str) = (
+    "{\"route\":{\"type\":\"PoolRoute\",\"pool\":{\"servers\":[\"a:1\"]},\"hash\":{\"salt\":\"",
+    "\"}}}",
+);
+
+const POOL_BELOW: (&str, &str) = (
+    "{\"pools\":{\"A\":{\"servers\":[\"a:11211\"]}},\"route\":\"",
+    "PoolRoute|A\"}",
+);
+
+const SERVERS_BELOW: (&str, &str) = (
+    "{\"pools\":{\"A\":{\"servers\":[\"a:11211\"]}},\"route\":\"",
+    "Pool|A\"}",
+);
+
+/// A handle with a child, and the further children.
+const CHILDREN: (&str, &str) = (
+    "{\"route\":{\"type\":\"AllSyncRoute\",\"children\":[\"NullRoute\"",
+    "]}}",
+);
+
+/// The same, and a route of one handle behind it.
+const CHILDREN_AND_ROUTE: (&str, &str) = (
+    "{\"routes\":[{\"aliases\":[\"/a/b/\"],\"route\":{\"type\":\"AllSyncRoute\",\"children\":[\"NullRoute\"",
+    "]}},{\"aliases\":[\"/a/c/\"],\"route\":\"NullRoute\"}]}",
+);
+
+/// A pool with a server, and the further servers.
+const SERVERS: (&str, &str) = (
+    "{\"route\":\"NullRoute\",\"pools\":{\"A\":{\"servers\":[\"a:1\"",
+    "]}}}",
+);
+
+#[test]
+fn prefixes_and_salts_have_at_most_200_bytes(rt: HostRuntime) -> Result<(), Fail> {
+    let alloc = rt.alloc();
+    let place = ("configuration 7 at /route/policies/", "");
+    let fault = repeated(alloc, place, "a", 201)?;
+    check_limit(&rt, alloc, PREFIX, "a", 200, fault.as_str())?;
+    let fault = "configuration 7 at /route/hash/salt";
+    check_limit(&rt, alloc, SALT, "a", 200, fault)
 }
 
 #[test]
 fn handles_stand_on_at_most_32_levels(rt: HostRuntime) -> Result<(), Fail> {
     let alloc = rt.alloc();
-    assert_eq!(rt;
-        answer(alloc, nested(alloc, 31, "PoolRoute|A")?.as_str())?.as_str(),
-        "read"
-    );
-    assert_eq!(rt;
-        answer(alloc, nested(alloc, 32, "PoolRoute|A")?.as_str())?.as_str(),
-        "configuration 7 at /route"
-    );
-    assert_eq!(rt;
-        answer(alloc, nested(alloc, 31, "Pool|A")?.as_str())?.as_str(),
-        "read"
-    );
-    assert_eq!(rt;
-        answer(alloc, nested(alloc, 32, "Pool|A")?.as_str())?.as_str(),
-        "configuration 7 at /route"
-    );
-    let mut brackets = String::new(alloc);
-    for _ in 0..200 {
-        brackets.push('[')?;
-    }
-    assert_eq!(rt;
-        answer(alloc, brackets.as_str())?.as_str(),
-        "configuration 1 at ."
-    );
-    Ok(())
-}
-
-/// A route with this many children that are pools of one server.
-fn broad(alloc: Global, children: usize) -> Result<String, Fail> {
-    let mut text = String::from_str(
-        alloc,
-        "{\"route\":{\"type\":\"AllSyncRoute\",\"children\":[\"NullRoute\"",
-    )?;
-    for _ in 1..children {
-        text.push_str(",\"NullRoute\"")?;
-    }
-    text.push_str("]}}")?;
-    Ok(text)
-}
-
-/// A route with this many children, and one more behind it.
-fn two_broad(alloc: Global, children: usize) -> Result<String, Fail> {
-    let mut text = String::from_str(
-        alloc,
-        "{\"routes\":[{\"aliases\":[\"/a/b/\"],\"route\":{\"type\":\"AllSyncRoute\",\"children\":[\"NullRoute\"",
-    )?;
-    for _ in 1..children {
-        text.push_str(",\"NullRoute\"")?;
-    }
-    text.push_str("]}},{\"aliases\":[\"/a/c/\"],\"route\":\"NullRoute\"}]}")?;
-    Ok(text)
+    let (part, fault) = ("AllSyncRoute|", "configuration 7 at /route");
+    check_limit(&rt, alloc, POOL_BELOW, part, 31, fault)?;
+    check_limit(&rt, alloc, SERVERS_BELOW, part, 31, fault)?;
+    check(&rt, alloc, ("", ""), "[", 200, "configuration 1 at .")
 }
 
 #[test]
 fn there_are_at_most_4096_handles(rt: HostRuntime) -> Result<(), Fail> {
     let alloc = rt.alloc();
-    assert_eq!(rt;
-        answer(alloc, broad(alloc, 4_095)?.as_str())?.as_str(),
-        "read"
-    );
-    assert_eq!(rt;
-        answer(alloc, broad(alloc, 4_096)?.as_str())?.as_str(),
-        "configuration 7 at /route/children/4095"
-    );
-    assert_eq!(rt;
-        answer(alloc, two_broad(alloc, 4_095)?.as_str())?.as_str(),
-        "configuration 7 at /routes/1/route"
-    );
-    Ok(())
-}
-
-/// A pool with this many servers.
-fn with_servers(alloc: Global, servers: usize) -> Result<String, Fail> {
-    let mut text = String::from_str(
-        alloc,
-        "{\"route\":\"NullRoute\",\"pools\":{\"A\":{\"servers\":[\"a:1\"",
-    )?;
-    for _ in 1..servers {
-        text.push_str(",\"a:1\"")?;
-    }
-    text.push_str("]}}}")?;
-    Ok(text)
+    let part = ",\"NullRoute\"";
+    let fault = "configuration 7 at /route/children/4095";
+    check_limit(&rt, alloc, CHILDREN, part, 4_094, fault)?;
+    let fault = "configuration 7 at /routes/1/route";
+    check_limit(&rt, alloc, CHILDREN_AND_ROUTE, part, 4_093, fault)
 }
 
 #[test]
 fn a_pool_has_at_most_4096_servers(rt: HostRuntime) -> Result<(), Fail> {
-    let alloc = rt.alloc();
-    assert_eq!(rt;
-        answer(alloc, with_servers(alloc, 4_096)?.as_str())?.as_str(),
-        "read"
-    );
-    assert_eq!(rt;
-        answer(alloc, with_servers(alloc, 4_097)?.as_str())?.as_str(),
-        "configuration 7 at /pools/A/servers"
-    );
-    Ok(())
+    let fault = "configuration 7 at /pools/A/servers";
+    check_limit(&rt, rt.alloc(), SERVERS, ",\"a:1\"", 4_095, fault)
 }
 
 const ROUTED: &str = "{
@@ -193,7 +140,10 @@ const ROUTED: &str = "{
 #[test]
 fn routes_have_their_aliases(rt: HostRuntime) -> Result<(), Fail> {
     let config = read_config(rt.alloc(), ROUTED.as_bytes())?;
-    let parts = config.parts();
+    check_aliases(&rt, config.parts())
+}
+
+fn check_aliases(rt: &impl Abort, parts: &ConfigParts) -> Result<(), Fail> {
     assert_eq!(rt; parts.pools.len(), 3);
     assert_eq!(rt; parts.servers.len(), 2);
     let [first, second] = parts.entries.as_slice() else {
@@ -229,29 +179,34 @@ const WHOLE: &str = "{
 #[test]
 fn servers_are_numbered_by_first_appearance(rt: HostRuntime) -> Result<(), Fail> {
     let config = read_config(rt.alloc(), WHOLE.as_bytes())?;
-    let parts = config.parts();
+    check_servers(&rt, config.parts())
+}
+
+fn check_servers(rt: &impl Abort, parts: &ConfigParts) -> Result<(), Fail> {
     assert_eq!(rt; parts.servers.len(), 3);
     assert_eq!(rt; parts.servers.find("c:1"), Some(ServerId(0)));
     assert_eq!(rt; parts.servers.find("b:1"), Some(ServerId(1)));
     assert_eq!(rt; parts.servers.find("a:1"), Some(ServerId(2)));
-    let pools = parts.pools.as_slice();
-    assert_eq!(rt; pools.len(), 2);
-    assert_eq!(rt;
-        pools[0].servers.as_slice(),
-        [ServerId(0), ServerId(1)].as_slice()
-    );
-    assert_eq!(rt;
-        pools[1].servers.as_slice(),
-        [ServerId(1), ServerId(2)].as_slice()
-    );
-    let entries = parts.entries.as_slice();
-    assert_eq!(rt; entries.len(), 1);
-    assert_eq!(rt; entries[0].aliases.len(), 1);
-    assert_eq!(rt;
-        entries[0].aliases.as_slice()[0].as_bytes(),
-        b"/././".as_slice()
-    );
+    let [first, second] = parts.pools.as_slice() else {
+        return Err(Fail::from("two pools"));
+    };
+    let (a, b, c) = (ServerId(2), ServerId(1), ServerId(0));
+    assert_eq!(rt; first.servers.as_slice(), [c, b].as_slice());
+    assert_eq!(rt; second.servers.as_slice(), [b, a].as_slice());
+    let [entry] = parts.entries.as_slice() else {
+        return Err(Fail::from("one route"));
+    };
+    let [alias] = entry.aliases.as_slice() else {
+        return Err(Fail::from("one alias"));
+    };
+    assert_eq!(rt; alias.as_bytes(), b"/././".as_slice());
     Ok(())
+}
+
+/// The first route.
+fn route_of(parts: &ConfigParts) -> Result<&NamedRoute, Fail> {
+    let entry = parts.entries.as_slice().first().ok_or("an entry")?;
+    Ok(&entry.route)
 }
 
 fn is_pool(route: &NamedRoute, number: usize) -> bool {
@@ -294,12 +249,15 @@ fn check_policies(
 #[test]
 fn policies_stand_in_byte_order(rt: HostRuntime) -> Result<(), Fail> {
     let config = read_config(rt.alloc(), WHOLE.as_bytes())?;
-    let entry = config.parts().entries.as_slice().first().ok_or("an entry")?;
-    match &entry.route {
+    check_selector(&rt, config.parts())
+}
+
+fn check_selector(rt: &impl Abort, parts: &ConfigParts) -> Result<(), Fail> {
+    match route_of(parts)? {
         NamedRoute::OperationSelector {
             policies,
             default_policy,
-        } => check_policies(&rt, policies.as_slice(), default_policy.as_deref()),
+        } => check_policies(rt, policies.as_slice(), default_policy.as_deref()),
         _ => Err(Fail::from("a selector")),
     }
 }
@@ -327,11 +285,13 @@ fn check_shadow(rt: &impl Abort, shadows: &[NamedShadow]) -> Result<(), Fail> {
 #[test]
 fn a_pool_has_a_hash_and_shadows(rt: HostRuntime) -> Result<(), Fail> {
     let config = read_config(rt.alloc(), SHADOWED.as_bytes())?;
-    let parts = config.parts();
+    check_pool(&rt, config.parts())
+}
+
+fn check_pool(rt: &impl Abort, parts: &ConfigParts) -> Result<(), Fail> {
     assert_eq!(rt; parts.pools.len(), 2);
     assert_eq!(rt; parts.servers.find("c:1"), Some(ServerId(2)));
-    let entry = parts.entries.as_slice().first().ok_or("an entry")?;
-    match &entry.route {
+    match route_of(parts)? {
         NamedRoute::Pool {
             pool,
             func,
@@ -341,7 +301,7 @@ fn a_pool_has_a_hash_and_shadows(rt: HostRuntime) -> Result<(), Fail> {
             assert_eq!(rt; *pool, 1);
             assert_eq!(rt; *func, HashFunc::Crc32);
             assert_eq!(rt; salt.as_slice(), b"x".as_slice());
-            check_shadow(&rt, shadows.as_slice())
+            check_shadow(rt, shadows.as_slice())
         }
         _ => Err(Fail::from("a pool")),
     }
@@ -360,8 +320,11 @@ const IN_PHASES: &str = "{
 #[test]
 fn a_migration_takes_an_hour(rt: HostRuntime) -> Result<(), Fail> {
     let config = read_config(rt.alloc(), IN_PHASES.as_bytes())?;
-    let entry = config.parts().entries.as_slice().first().ok_or("an entry")?;
-    match &entry.route {
+    check_phases(&rt, config.parts())
+}
+
+fn check_phases(rt: &impl Abort, parts: &ConfigParts) -> Result<(), Fail> {
+    match route_of(parts)? {
         NamedRoute::Migrate {
             from,
             to,
@@ -390,8 +353,11 @@ const BY_PREFIX: &str = "{
 #[test]
 fn prefixes_stand_in_byte_order(rt: HostRuntime) -> Result<(), Fail> {
     let config = read_config(rt.alloc(), BY_PREFIX.as_bytes())?;
-    let entry = config.parts().entries.as_slice().first().ok_or("an entry")?;
-    match &entry.route {
+    check_prefixes(&rt, config.parts())
+}
+
+fn check_prefixes(rt: &impl Abort, parts: &ConfigParts) -> Result<(), Fail> {
+    match route_of(parts)? {
         NamedRoute::PrefixSelector { policies, wildcard } => {
             let [first, second] = policies.as_slice() else {
                 return Err(Fail::from("two policies"));

@@ -73,7 +73,7 @@ states_keep_cores r w n s t i at opens shuts =
       ];
     }
 
-core_dropped : (r : RoutesValue) (w : Rows) (n : ℕ) → IsCore r w → IsCore r (with_leg_row w n None)
+pub core_dropped : (r : RoutesValue) (w : Rows) (n : ℕ) → IsCore r w → IsCore r (with_leg_row w n None)
 core_dropped r w n i =
     record {
       calls_below = i.calls_below;

@@ -3,7 +3,8 @@ use Rattle.std.specs.Prelude.{◌≡◌, ℕ, List, [], ◌∷◌, Option, Some,
 use Rattle.mcv_base.specs.declared.operation.Op.TheVariants.{Delete}
 use Rattle.mcv_base.specs.declared.operation.Mark.TheVariants.{Plain}
 use Rattle.mcv_route.specs.Routes.{RoutesValue}
-use Rattle.mcv_symbolic.specs.Covered.{AreCovered, IsEra}
+use Rattle.mcv_route.specs.Eras.{IsEra}
+use Rattle.mcv_symbolic.specs.Covered.{AreCovered}
 use Rattle.mcv_world.specs.World.{World}
 use Rattle.mcv_world.specs.Moves.{Move, run}
 use Rattle.mcv_world.specs.Possible.{IsAllowed, ArePossible, IsOpening}

@@ -6,8 +6,7 @@ use Rattle.mcv_base.specs.Operation.{is_reading}
 use Rattle.mcv_base.specs.declared.operation.Op.{Op}
 use Rattle.mcv_base.specs.declared.operation.Op.TheVariants.{Delete, Get, Gets}
 use Rattle.mcv_base.specs.declared.reply.Outcome.TheVariants.{Good}
-use Rattle.mcv_blocks.specs.Blocks.{IsEraOf}
-use Rattle.mcv_blocks.specs.Places.{HasEra}
+use Rattle.mcv_route.specs.Eras.{HasEra, IsEraOf}
 use Rattle.mcv_classes.specs.Class.{IsMember}
 use Rattle.mcv_classes.specs.Words.{class_words}
 use Rattle.mcv_certify.specs.Gap.{IsGap, place_of_gap}
@@ -19,7 +18,7 @@ use Rattle.mcv_route.specs.Situation.{asked}
 use Rattle.mcv_route.specs.Tree.{Pool, Tree}
 use Rattle.mcv_rules.specs.Plans.{plan}
 use Rattle.mcv_rules.specs.declared.plan.PlannedLeg.{PlannedLeg}
-use Rattle.mcv_symbolic.specs.Covered.{IsRest}
+use Rattle.mcv_base.specs.Key.{IsRest}
 use Rattle.mcv_symbolic.specs.Justified.{IsReadableAt}
 use Rattle.mcv_symbolic.specs.Sets.{AreLegsAt, CanHitAt, IsAcknowledged}
 use Rattle.mcv_witness.specs.Finding.{FindingValue}

@@ -7,8 +7,8 @@ use Rattle.mcv_cert.specs.Pair.{Place}
 use Rattle.mcv_classes.specs.Class.{IsMember}
 use Rattle.mcv_classes.specs.Words.{class_words}
 use Rattle.mcv_judge.specs.Reason.{BlockValue, LegValue}
-use Rattle.mcv_blocks.specs.Blocks.{IsBlockAt, IsEraOf}
-use Rattle.mcv_blocks.specs.Places.{HasEra}
+use Rattle.mcv_blocks.specs.Blocks.{IsBlockAt}
+use Rattle.mcv_route.specs.Eras.{HasEra, IsEraOf}
 use Rattle.mcv_blocks.proofs.Unique.{block_has, has_property}
 use Rattle.mcv_certify.specs.Gap.{IsGap, place_of_gap}
 use Rattle.mcv_certify.specs.declared.gap.Gap.{Gap}

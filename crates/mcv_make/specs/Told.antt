@@ -4,7 +4,7 @@ use Rattle.std.specs.List.{Contains}
 use Rattle.mcv_base.specs.Operation.{is_reading}
 use Rattle.mcv_base.specs.declared.operation.Op.TheVariants.{Delete, Get, Gets}
 use Rattle.mcv_base.specs.declared.reply.Outcome.TheVariants.{Good}
-use Rattle.mcv_blocks.specs.Blocks.{IsEraOf}
+use Rattle.mcv_route.specs.Eras.{IsEraOf}
 use Rattle.mcv_classes.specs.Class.{IsMember}
 use Rattle.mcv_classes.specs.Words.{class_words}
 use Rattle.mcv_route.specs.Aliases.{first_alias}
@@ -15,7 +15,7 @@ use Rattle.mcv_route.specs.Situation.{asked}
 use Rattle.mcv_route.specs.Tree.{Pool}
 use Rattle.mcv_rules.specs.Plans.{plan}
 use Rattle.mcv_rules.specs.declared.plan.PlannedLeg.{PlannedLeg}
-use Rattle.mcv_symbolic.specs.Covered.{IsRest}
+use Rattle.mcv_base.specs.Key.{IsRest}
 use Rattle.mcv_symbolic.specs.Sets.{AreLegsAt, CanHitAt, IsAcknowledged}
 use Rattle.mcv_witness.specs.Finding.{FindingValue}
 use Rattle.mcv_make.specs.Free.{free_indexes}

@@ -1,11 +1,10 @@
 //! The finding of a gap.
 
-ghost use Rattle.std.specs.Prelude.{◌≡◌, ◌++◌, ◌<◌, All, Some, IfOk};
+ghost use Rattle.std.specs.Prelude.{◌≡◌, ◌++◌, ◌<◌, Some, IfOk};
 ghost use Rattle.mcv_classes.specs.Class.{IsMember};
 ghost use Rattle.mcv_classes.specs.Words.{class_words};
 ghost use Rattle.mcv_certify.specs.Gap.{IsGap, place_of_gap};
 ghost use Rattle.mcv_route.specs.View.{view};
-ghost use Rattle.mcv_symbolic.specs.Covered.{IsRest, sizes_of};
 ghost use Rattle.mcv_witness.specs.Breaks.{BreaksCoverage};
 ghost use Rattle.mcv_witness.specs.Finding.{finding_of};
 ghost use Rattle.mcv_make.specs.Place.{HasMember, StandsAtGap};
@@ -13,10 +12,9 @@ ghost use Rattle.mcv_make.specs.Told.{IsTold, IsToldWith};
 
 use crate::scene::{Reading, Scene};
 use mcv_base::{Prefix, Rest};
-use mcv_blocks::opened;
 use mcv_certify::Gap;
 use mcv_classes::ClassTable;
-use mcv_route::{Route, Routes};
+use mcv_route::{Route, Routes, opened};
 use mcv_witness::Finding;
 use std::alloc::{AllocError, Global};
 
@@ -40,30 +38,6 @@ fn key_of(alloc: Global, prefix: &Prefix, rest: &Rest) -> Result<Vec<u8>, AllocE
     key.extend_from_slice(prefix.as_bytes())?;
     key.extend_from_slice(rest.as_bytes())?;
     Ok(key)
-}
-
-/// Each symbol has an index: its number of servers says so.
-fn read_sizes(routes: &Routes)
-    ensures { All (λ n. 0 < n) (sizes_of routes.now) }
-{
-    let symbols = routes.symbols().as_slice();
-    for symbol in symbols {
-        let _servers = symbol.n();
-    }
-}
-
-/// What the type of bytes says of them; nothing here computes.
-fn bytes_fit(bytes: &[u8])
-    ensures { All (λ b. b < 256) bytes.now }
-{
-    let _ = bytes;
-}
-
-/// What the type of a rest says of it; nothing here computes.
-fn rest_fits(rest: &Rest)
-    ensures { IsRest rest.now }
-{
-    bytes_fit(rest.as_bytes());
 }
 
 /// The bytes of a word, in memory of their own.
@@ -92,7 +66,7 @@ fn find_behind(
     };
     let symbols = routes.symbols().as_slice();
     let rest = member_of(alloc, route, gap.class.as_slice())?;
-    rest_fits(&rest);
+    let _ = rest.as_bytes();
     let scene = Scene {
         route,
         rest: &rest,
@@ -127,7 +101,7 @@ pub fn find(alloc: Global, routes: &Routes, gap: &Gap) -> Result<Finding, AllocE
 {
     // Both say of the routes what the proof wants: they are sound and within the limits, and each symbol has an index.
     let _servers = routes.servers();
-    read_sizes(routes);
+    let _symbols = routes.symbols();
     let Some(prefix) = routes.first_alias(gap.route) else {
         unreachable!()
     };

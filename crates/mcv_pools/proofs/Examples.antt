@@ -1,8 +1,8 @@
 -- The definitions at small tables, symbols and parts.
-use Rattle.std.proofs.Common.{◌≡◌, [], ◌∷◌, false, Some, None, refl, codes}
+use Rattle.std.proofs.Common.{◌≡◌, ◌<◌, zero, suc, [], ◌∷◌, false, Some, None, refl, codes, arith, lit<}
 use Rattle.std.specs.Str.{bytes_eq}
 use Rattle.mcv_pools.specs.declared.symbol.HashFunc.TheVariants.{Ch3, Crc32}
-use Rattle.mcv_pools.specs.Choice.{chosen_each}
+use Rattle.mcv_pools.specs.Choice.{HasIndexEach, chosen_each}
 use Rattle.mcv_pools.specs.Hash.{fnv, fnv_index, listed_index}
 use Rattle.mcv_pools.specs.Symbol.{SymbolValue, same_symbol}
 use Rattle.mcv_pools.specs.Table.{number_in, numbered}
@@ -66,3 +66,11 @@ other_number = refl
 
 one_symbol : numbered same_symbol (two ∷ salted ∷ two ∷ []) ≡ two ∷ salted ∷ []
 one_symbol = refl
+
+-- 0 is below 2, and 3 isn't
+zero_of_two : HasIndexEach (two ∷ []) (0 ∷ [])
+zero_of_two zero lt = lit< tt
+zero_of_two (suc s) lt = absurd (let h : ⊥ = omega (arith, lt) in h)
+
+not_three_of_two : HasIndexEach (two ∷ []) (3 ∷ []) → ⊥
+not_three_of_two each = let lt : 3 < 2 = each 0 (lit< tt) in omega (arith, lt)

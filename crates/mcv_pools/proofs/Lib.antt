@@ -1,3 +1,4 @@
 pub mod Tables
 pub mod Sameness
+pub mod Choices
 mod Examples

@@ -1,7 +1,7 @@
 //! Choices: the index that each symbol of a table gets at one key.
 
 ghost use Rattle.std.specs.Prelude.{◌≡◌, IfOk, slice_index};
-ghost use Rattle.mcv_pools.specs.Choice.{chosen_each};
+ghost use Rattle.mcv_pools.specs.Choice.{HasIndexEach, chosen_each};
 
 use crate::hash::KeyHash;
 use crate::symbols::Symbols;
@@ -41,14 +41,15 @@ impl Choice {
     }
 }
 
-/// The choice that a hash makes at a hashed part.
+/// The choice that a hash makes at a hashed part: for each symbol an index below its number of servers.
 pub fn choose<H: KeyHash>(
     alloc: Global,
     hash: &H,
     symbols: &Symbols,
     part: &[u8],
 ) -> Result<Choice, AllocError>
-    ensures { IfOk result (λ choice. choice ≡ chosen_each (H.chosen hash.now) symbols.now part.now) }
+    ensures value { IfOk result (λ choice. choice ≡ chosen_each (H.chosen hash.now) symbols.now part.now) }
+    ensures within { IfOk result (λ choice. HasIndexEach symbols.now choice) }
 {
     let mut indexes = Vec::with_capacity(alloc, symbols.len())?;
     for symbol in symbols.as_slice() {

@@ -1,6 +1,6 @@
 //! The table of symbols: each with its number, in the order in which they first came.
 
-ghost use Rattle.std.specs.Prelude.{◌≡◌, [], length, IfOk, OnOk, OnErr, IsOk, true, Some, slice_get, option_copied};
+ghost use Rattle.std.specs.Prelude.{◌≡◌, ◌<◌, [], length, All, IfOk, OnOk, OnErr, IsOk, true, Some, slice_get, option_copied};
 ghost use Rattle.mcv_pools.specs.Symbol.{same_symbol};
 ghost use Rattle.mcv_pools.specs.Table.{IsOneToOne, is_in, number_in, with_entry};
 
@@ -9,19 +9,21 @@ use indexmap::IndexSet;
 use std::alloc::{AllocError, Global};
 use std::marker::Model;
 
-/// Symbols, none twice. Clauses see the list of them, in the order of their numbers.
+/// Symbols, none twice, each over at least one server. Clauses see the list of them, in the order of their numbers.
 #[derive(Debug, Drop)]
 pub struct Symbols {
     symbols: IndexSet<Symbol>,
 }
 
 impl Model for Symbols {
-    ghost use Rattle.std.specs.Prelude.{List};
+    ghost use Rattle.std.specs.Prelude.{List, ◌<◌, All};
     ghost use Rattle.mcv_pools.specs.Symbol.{SymbolValue};
 
     ghost Value = { List SymbolValue };
 
     ghost view = { λ s. s.symbols.keys };
+
+    ghost invariant = { λ s. All (λ symbol. 0 < symbol.n) s.symbols.keys };
 }
 
 impl Symbols {
@@ -43,6 +45,7 @@ impl Symbols {
         ensures known { is_in same_symbol self.old symbol ≡ true → IsOk result }
         ensures unchanged { OnErr result (self.new ≡ self.old) }
     {
+        let _servers = symbol.n();
         let (number, _) = self.symbols.insert_full(symbol)?;
         Ok(number)
     }
@@ -71,7 +74,8 @@ impl Symbols {
 
     /// The symbols, in the order of their numbers.
     pub fn as_slice(&self) -> &[Symbol]
-        ensures { result.now ≡ self.now }
+        ensures value { result.now ≡ self.now }
+        ensures some { All (λ symbol. 0 < symbol.n) self.now }
     {
         self.symbols.as_slice()
     }

@@ -5,3 +5,5 @@
 mod items;
 #[cfg(test)]
 mod replies;
+#[cfg(test)]
+mod threads;

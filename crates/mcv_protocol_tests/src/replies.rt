@@ -213,9 +213,8 @@ fn a_hit_is_whole_in_its_parts(rt: HostRuntime) -> Result<(), Fail> {
     let mut reader = reader_for(rt.alloc(), "gets").ok_or("no reader")?;
     let fed = reader.feed(b"VALUE a 3 1 7\r\nx\r\nEND\r\n")?;
     let parts = Parts::new(rt.alloc(), fed.ok_or("no reply")?)?;
-    assert!(rt; is_the_hit(&parts.outcome));
-    assert!(rt; is_the_hit(&parts.taken));
-    assert!(rt; is_the_hit(&parts.history));
+    let (outcome, taken, history) = parts.into_parts();
+    assert!(rt; is_the_hit(&outcome) && is_the_hit(&taken) && is_the_hit(&history));
     Ok(())
 }
 

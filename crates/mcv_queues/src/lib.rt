@@ -24,3 +24,4 @@ pub use fault::QueueFault;
 pub use leg::{Leg, State};
 pub use marks::{Mark, Marks};
 pub use queues::Queues;
+pub use roots::Group;

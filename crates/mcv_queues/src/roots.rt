@@ -9,7 +9,7 @@ use std::alloc::{AllocError, Global};
 /// Legs of which the first one is asked for: those that wait for a server, those in the spool for a server, and those of
 /// all servers that are held, refused or in replay.
 #[derive(Clone, Copy)]
-pub(crate) enum Group {
+pub enum Group {
     WaitingFor(usize),
     SpooledFor(usize),
     HeldLegs,

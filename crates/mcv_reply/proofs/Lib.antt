@@ -12,4 +12,5 @@ pub mod Open
 pub mod Stages
 pub mod Steps
 pub mod Probing
+pub mod RepliesMayAnswer
 mod Examples

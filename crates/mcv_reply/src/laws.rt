@@ -1,16 +1,32 @@
-//! Laws of the definitions: a list of bytes is at most one reply, and no reply begins another.
+//! Laws of the definitions: a list of bytes is at most one reply, no reply begins another, and a
+//! reply is one that may answer its leg.
 
-ghost use Rattle.std.specs.Prelude.{◌≡◌, ◌++◌, ℕ, List, [], true};
+ghost use Rattle.std.specs.Prelude.{◌≡◌, ◌++◌, ℕ, List, [], true, Ok, Err, Some};
 ghost use Rattle.mcv_base.specs.Key.{is_key_word};
-ghost use Rattle.mcv_base.specs.Reply.{ReplyValue};
+ghost use Rattle.mcv_base.specs.Reply.{ReplyValue, may_answer, reply_value};
+ghost use Rattle.mcv_reply.specs.Reader.{Closed, Feeds, Reading, Stands};
+ghost use Rattle.mcv_reply.specs.Probe.{FeedsProbe};
 ghost use Rattle.mcv_reply.specs.Reply.{Spells, SpellsVersion};
 
-use mcv_base::Op;
+use crate::fault::ReplyFault;
+use mcv_base::{Op, Reply};
 
 /// A list of bytes is at most one reply to a leg, and a reply to a leg begins with no other.
 pub fn one_reply()
     ensures one { (op : Op) (key bytes : List ℕ) (reply other : ReplyValue) → is_key_word key ≡ true → Spells op key bytes reply → Spells op key bytes other → reply ≡ other }
     ensures no_front { (op : Op) (key bytes more : List ℕ) (reply other : ReplyValue) → is_key_word key ≡ true → Spells op key bytes reply → Spells op key (bytes ++ more) other → more ≡ [] }
+{}
+
+/// A reply to a leg is one that may answer the leg's operation, and so is what a reader gives.
+pub fn replies_may_answer()
+    ensures spelled { (op : Op) (key bytes : List ℕ) (reply : ReplyValue) → Spells op key bytes reply → may_answer op reply ≡ true }
+    ensures fed { (old new : Reading) (piece : List ℕ) (reply : Reply) → Feeds old piece (Ok (Some reply)) new → may_answer old.op (reply_value reply) ≡ true }
+{}
+
+/// A fault closes a reader, where memory is refused too: the bytes fed are lost, and no reply comes of them.
+pub fn faults_close_readers()
+    ensures reply { (old new : Reading) (piece : List ℕ) (fault : ReplyFault) → Feeds old piece (Err fault) new → new.state ≡ Closed }
+    ensures probe { (old new : Stands) (piece : List ℕ) (fault : ReplyFault) → FeedsProbe old piece (Err fault) new → new ≡ Closed }
 {}
 
 /// A list of bytes is at most one answer to a probe, and an answer begins with no other.

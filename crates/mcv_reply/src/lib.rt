@@ -15,6 +15,6 @@ mod reader;
 mod word;
 
 pub use fault::ReplyFault;
-pub use laws::{one_reply, one_version};
+pub use laws::{faults_close_readers, one_reply, one_version, replies_may_answer};
 pub use probe::ProbeReader;
 pub use reader::ReplyReader;

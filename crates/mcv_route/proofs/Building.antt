@@ -244,21 +244,21 @@ pub built-MissFailover : (pools : List (List ℕ)) (route : NamedRoute) (v : Vec
 built-MissFailover pools route v children t u w is same b =
     built-as pools t u _ _ _ _ (ap named_of is ∙ named_of-MissFailover v ∙ ap (λ xs. plan.miss_failover (children_of xs)) (sym same)) (view-MissFailover w) (built-miss_failover pools t u (map named_of children) (map view w.items) b)
 
-pub built-WarmUp : (pools : List (List ℕ)) (route : NamedRoute) (cold warm : Box NamedRoute Global) (exptime : ℕ) (n m : NamedRoute) (t u v : List SymbolValue) (a b : Box Route Global) (r s : Route)
-    → route ≡ config.WarmUp cold warm exptime → n ≡ cold.value → m ≡ warm.value → a.value ≡ r → b.value ≡ s
-    → IsBuilt pools t (named_of n ∷ []) u (view r ∷ []) → IsBuilt pools u (named_of m ∷ []) v (view s ∷ [])
+pub built-WarmUp : (pools : List (List ℕ)) (route : NamedRoute) (cold warm : Box NamedRoute Global) (exptime : ℕ) (t u v : List SymbolValue) (a b : Box Route Global)
+    → route ≡ config.WarmUp cold warm exptime
+    → IsBuilt pools t (named_of cold.value ∷ []) u (view a.value ∷ []) → IsBuilt pools u (named_of warm.value ∷ []) v (view b.value ∷ [])
     → IsBuilt pools t (named_of route ∷ []) v (view (WarmUp a b exptime) ∷ [])
-built-WarmUp pools route cold warm exptime n m t u v a b r s is n-is m-is a-is b-is x y =
-    built-as pools t v _ _ _ _ (ap named_of is ∙ named_of-WarmUp cold warm exptime ∙ (λ i. plan.warm_up (named_of (sym n-is i)) (named_of (sym m-is i)) exptime))
-    (view-WarmUp a b exptime ∙ (λ i. warm_up (view (a-is i)) (view (b-is i)) exptime)) (built-warm_up exptime pools t u v (named_of n) (named_of m) (view r) (view s) x y)
+built-WarmUp pools route cold warm exptime t u v a b is x y =
+    built-as pools t v _ _ _ _ (ap named_of is ∙ named_of-WarmUp cold warm exptime) (view-WarmUp a b exptime)
+    (built-warm_up exptime pools t u v (named_of cold.value) (named_of warm.value) (view a.value) (view b.value) x y)
 
-pub built-Migrate : (pools : List (List ℕ)) (route : NamedRoute) (from to : Box NamedRoute Global) (start interval : ℕ) (n m : NamedRoute) (t u v : List SymbolValue) (a b : Box Route Global) (r s : Route)
-    → route ≡ config.Migrate from to start interval → n ≡ from.value → m ≡ to.value → a.value ≡ r → b.value ≡ s
-    → IsBuilt pools t (named_of n ∷ []) u (view r ∷ []) → IsBuilt pools u (named_of m ∷ []) v (view s ∷ [])
+pub built-Migrate : (pools : List (List ℕ)) (route : NamedRoute) (from to : Box NamedRoute Global) (start interval : ℕ) (t u v : List SymbolValue) (a b : Box Route Global)
+    → route ≡ config.Migrate from to start interval
+    → IsBuilt pools t (named_of from.value ∷ []) u (view a.value ∷ []) → IsBuilt pools u (named_of to.value ∷ []) v (view b.value ∷ [])
     → IsBuilt pools t (named_of route ∷ []) v (view (Migrate a b start interval) ∷ [])
-built-Migrate pools route from to start interval n m t u v a b r s is n-is m-is a-is b-is x y =
-    built-as pools t v _ _ _ _ (ap named_of is ∙ named_of-Migrate from to start interval ∙ (λ i. plan.migrate (named_of (sym n-is i)) (named_of (sym m-is i)) start interval))
-    (view-Migrate a b start interval ∙ (λ i. migrate (view (a-is i)) (view (b-is i)) start interval)) (built-migrate start interval pools t u v (named_of n) (named_of m) (view r) (view s) x y)
+built-Migrate pools route from to start interval t u v a b is x y =
+    built-as pools t v _ _ _ _ (ap named_of is ∙ named_of-Migrate from to start interval) (view-Migrate a b start interval)
+    (built-migrate start interval pools t u v (named_of from.value) (named_of to.value) (view a.value) (view b.value) x y)
 
 -- ---- shadows and policies
 

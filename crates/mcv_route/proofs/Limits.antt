@@ -1,11 +1,11 @@
 -- The routes of a plan that keeps to its limits keep to theirs.
-use Rattle.std.proofs.Common.{◌≡◌, ℕ, zero, suc, ◌+◌, ◌<◌, ◌≤◌, ◌⊎◌, inl, inr, List, [], ◌∷◌, ◌++◌, length, map, true, false, refl, ap, ap₂, sym, subst, ◌∙◌, arith, fold}
+use Rattle.std.proofs.Common.{◌≡◌, ℕ, zero, suc, ◌+◌, ◌<◌, ◌≤◌, ◌⊎◌, inl, inr, List, [], ◌∷◌, length, map, refl, ap, ap₂, sym, subst, ◌∙◌, arith}
 use Rattle.std.specs.List.{All, flat_map, sum_by}
-use Rattle.std.specs.Prelude.{slice_index_or, if◌then◌else◌}
+use Rattle.std.specs.Prelude.{slice_index_or}
 use Rattle.std.proofs.lemmas.Bool.{cases_lt}
 use Rattle.std.proofs.lemmas.List.{get_or_past}
 use Rattle.std.proofs.lemmas.List.Sums.{sum_by-cons}
-use Rattle.std.proofs.lemmas.List.Elements.{All-nil, All-cons, All-head, All-tail, All-append, All-push, All-map}
+use Rattle.std.proofs.lemmas.List.Elements.{All-nil, All-cons, All-head, All-tail, All-append, All-map}
 use Rattle.mcv_config.specs.Aliases.{alias_limit}
 use Rattle.mcv_config.specs.Config.{node_limit}
 use Rattle.mcv_config.specs.Entries.{depth_limit}
@@ -14,12 +14,12 @@ use Rattle.mcv_config.specs.Limits as named
 use Rattle.mcv_config.specs.Plan.{EntryPlan, IsSound, Named, Nameds, Plan, no_named}
 use Rattle.mcv_config.specs.Plan as plan
 use Rattle.mcv_config.specs.Pools.{pool_limit}
-use Rattle.mcv_pools.specs.Symbol.{SymbolValue, same_symbol}
-use Rattle.mcv_pools.specs.Table.{is_in, with_entry}
+use Rattle.mcv_pools.specs.Symbol.{SymbolValue}
 use Rattle.mcv_pools.specs.declared.symbol.HashFunc.TheVariants.{Ch3}
 use Rattle.mcv_route.specs.Built.{pool_at, server_at, symbol_of, symbols_in, symbols_below, tree_named, trees_named, routes_named, symbols_named}
 use Rattle.mcv_route.specs.Limits.{handles_in, handles_below, IsWithin, AreWithin, AreWithinLimits}
 use Rattle.mcv_route.specs.Routes.{RouteEntry}
+use Rattle.mcv_route.proofs.SymbolsHaveServers.{all_numbered}
 
 pool_small : (pools : List (List ℕ)) → All (λ p. length p ≤ pool_limit) pools → (i : ℕ) → length (pool_at pools i) ≤ pool_limit
 pool_small pools small i = by (cases_lt i (length pools))
@@ -90,16 +90,6 @@ module _ (table : List SymbolValue) (pools : List (List ℕ)) where
 abbrev IsShort : SymbolValue → Type 0
 IsShort s = length s.salt ≤ salt_limit
 
-numbered_short : (t xs : List SymbolValue) → All IsShort t → All IsShort xs → All IsShort (fold (with_entry same_symbol) t xs)
-numbered_short t [] h k = h
-numbered_short t (x ∷ xs) h k =
-    let own : All IsShort (with_entry same_symbol t x) =
-    elim (is_in same_symbol t x) as (λ b. All IsShort (if b then t else t ++ x ∷ [])) [
-      | true ↦ h
-      | false ↦ All-push IsShort t x h (All-head IsShort x xs k)
-    ] in
-    numbered_short (with_entry same_symbol t x) xs own (All-tail IsShort x xs k)
-
 module _ (pools : List (List ℕ)) where
   mutual
     symbols_short : (n : ℕ) (t : Named) → named.IsWithin n t → All IsShort (symbols_in pools t)
@@ -138,6 +128,6 @@ within-built p sound h =
       levels = All-map (λ e. IsWithin depth_limit e.tree) built p.entries (λ k d inside. tree_within table p.pools h.pools depth_limit (slice_index_or p.entries k d).route (h.levels k d inside));
       handles = subst (λ (n : ℕ). n ≤ node_limit) (sym (entries_handles table p.pools p.entries)) h.handles;
       servers = h.servers;
-      salts = numbered_short [] (flat_map (λ e. symbols_in p.pools e.route) p.entries) (All-nil IsShort) (entries_short p.pools p.entries h.levels);
+      salts = all_numbered IsShort [] (flat_map (λ e. symbols_in p.pools e.route) p.entries) (All-nil IsShort) (entries_short p.pools p.entries h.levels);
       aliases = All-map (λ e. All (λ a. length a ≤ alias_limit) e.aliases) built p.entries (λ k d inside j e within. ((sound.aliases k d inside).each j e within).1);
     }

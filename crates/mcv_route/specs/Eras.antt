@@ -1,5 +1,5 @@
 -- Eras: what handles send changes at certain moments only, their breaks. An era lasts from one to the next (own).
-use Rattle.std.specs.Prelude.{◌≡◌, ◌≤◌, ◌<◌, ℕ, ◌+◌, ◌*◌, List, [], ◌∷◌, ◌++◌, Option, Some, None, nat_le, nat_eq, max, filter, length}
+use Rattle.std.specs.Prelude.{◌≡◌, ◌≢◌, ◌≤◌, ◌<◌, ℕ, zero, suc, ◌+◌, ◌*◌, List, [], ◌∷◌, ◌++◌, Option, Some, None, ⊤, nat_le, nat_eq, max, filter, length, slice_get}
 use Rattle.std.specs.Option.{option_map_or}
 use Rattle.std.specs.List.{All, Contains, flat_map}
 use Rattle.std.specs.List.Sorted.{IsStrictlyIncreasing}
@@ -58,6 +58,20 @@ since_at bs moment = greatest (passed bs moment)
 abbrev pub era_at : List ℕ → ℕ → ℕ
 era_at bs moment = length (numbered nat_eq (passed bs moment))
 
+-- the break at which some era of the routes began, and none for the first era
+abbrev pub IsEra : RoutesValue → Option ℕ → Type 0
+IsEra r None = ⊤
+IsEra r (Some b) = Contains (breaks_of r) b
+
+-- the break that opened the era of this number: none opened era 0, and the later ones were opened by the breaks in rising order
+abbrev pub IsEraOf : RoutesValue → ℕ → Option ℕ → Type 0
+IsEraOf r zero since = since ≡ None
+IsEraOf r (suc k) since = (table : List ℕ) × IsBreakTable (breaks_of r) table × (slice_get table k ≡ since) × (since ≢ None)
+
+-- the routes have an era of this number
+abbrev pub HasEra : RoutesValue → ℕ → Type 0
+HasEra r era = (since : Option ℕ) × IsEraOf r era since
+
 -- s is the last of the breaks that are at the moment or before it, or none of them is
 abbrev pub IsSince : List ℕ → ℕ → Option ℕ → Type 0
 IsSince bs moment None = All (λ b. moment < b) bs
@@ -74,3 +88,7 @@ ErasAreOpenedByBreaks = (bs : List ℕ) (m n : ℕ) → since_at bs m ≡ since_
 -- each break has passed by the one that opened the era where it has passed by the moment: an era tells all that rules ask of a moment
 abbrev pub ErasTellWhatHasPassed : Type 0
 ErasTellWhatHasPassed = (bs : List ℕ) (moment b : ℕ) → Contains bs b → has_passed (since_at bs moment) b ≡ nat_le b moment
+
+-- at every moment the last break before it is what opened the era of the moment's number, and begins one of the routes' eras
+abbrev pub MomentsHaveEras : Type 0
+MomentsHaveEras = (r : RoutesValue) (moment : ℕ) → IsEraOf r (era_at (breaks_of r) moment) (since_at (breaks_of r) moment) × IsEra r (since_at (breaks_of r) moment)

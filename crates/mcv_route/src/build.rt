@@ -137,8 +137,8 @@ pub fn build_route(
             warm,
             exptime,
         } => {
-            let cold = Box::new(alloc, build_route(alloc, cold, lists, symbols)?)?;
-            let warm = Box::new(alloc, build_route(alloc, warm, lists, symbols)?)?;
+            let cold = build_boxed(alloc, cold, lists, symbols)?;
+            let warm = build_boxed(alloc, warm, lists, symbols)?;
             let exptime = *exptime;
             Ok(Route::WarmUp {
                 cold,
@@ -152,8 +152,8 @@ pub fn build_route(
             start,
             interval,
         } => {
-            let from = Box::new(alloc, build_route(alloc, from, lists, symbols)?)?;
-            let to = Box::new(alloc, build_route(alloc, to, lists, symbols)?)?;
+            let from = build_boxed(alloc, from, lists, symbols)?;
+            let to = build_boxed(alloc, to, lists, symbols)?;
             let (start, interval) = (*start, *interval);
             Ok(Route::Migrate {
                 from,
@@ -179,6 +179,22 @@ pub fn build_route(
             })
         }
     }
+}
+
+/// The route that a handle in a box names, in a box of its own.
+#[cycle(build)]
+fn build_boxed(
+    alloc: Global,
+    route: &Box<NamedRoute>,
+    lists: &[Arc<Vec<ServerId>>],
+    symbols: &mut Symbols,
+) -> Result<Box<Route>, AllocError>
+    requires filled { All (λ servers. 0 < length servers) (map list_view lists.now) }
+    requires sound { IsSoundRoute (map list_view lists.now) (named_of route.now.value) }
+    ensures { IfOk result (λ r. IsBuilt (map list_view lists.now) symbols.old (named_of route.now.value ∷ []) symbols.new (view r.value ∷ [])) }
+{
+    let route = build_route(alloc, route, lists, symbols)?;
+    Ok(Box::new(alloc, route)?)
 }
 
 /// The routes that the children of a handle name.

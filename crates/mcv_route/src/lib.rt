@@ -11,7 +11,7 @@ mod moments;
 mod routes;
 mod tree;
 
-pub use eras::eras_are_opened_by_breaks;
+pub use eras::{era_count, eras_are_opened_by_breaks, opened};
 pub use launch::{Answered, Launch};
 pub use routes::Routes;
 pub use tree::{Leaf, OperationPolicy, PrefixPolicy, Route, Shadow};

@@ -1,7 +1,8 @@
 //! All routes of a configuration, with the tables of servers and symbols that their leaves name.
 
-ghost use Rattle.std.specs.Prelude.{◌≡◌, ◌<◌, [], ◌∷◌, Some, None, IfOk, length, map, option_map, position, slice_get};
+ghost use Rattle.std.specs.Prelude.{◌≡◌, ◌<◌, [], ◌∷◌, Some, None, IfOk, length, map, option_map, position, slice_get, true};
 ghost use Rattle.std.specs.List.{All, flat_map};
+ghost use Rattle.mcv_base.specs.Server.{is_server};
 ghost use Rattle.mcv_config.specs.Plan.{IsSoundRoute, named_of};
 ghost use Rattle.mcv_route.specs.Aliases.{first_alias, AreSelected};
 ghost use Rattle.mcv_route.specs.Built.{routes_named};
@@ -80,18 +81,20 @@ impl Routes {
         })
     }
 
-    /// The table of servers.
+    /// The table of servers: each text is a host, a colon and a port.
     pub fn servers(&self) -> &Servers
         ensures value { result.now ≡ self.now.servers }
+        ensures texts { All (λ text. is_server text ≡ true) self.now.servers }
         ensures sound { IsSoundRoutes self.now }
         ensures limits { AreWithinLimits self.now }
     {
         &self.servers
     }
 
-    /// The table of symbols.
+    /// The table of symbols: each is over one server or more.
     pub fn symbols(&self) -> &Symbols
         ensures value { result.now ≡ self.now.symbols }
+        ensures some { All (λ s. 0 < s.n) self.now.symbols }
         ensures sound { IsSoundRoutes self.now }
         ensures limits { AreWithinLimits self.now }
     {

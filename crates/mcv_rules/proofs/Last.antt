@@ -1,9 +1,13 @@
 -- Which arrival prevails.
-use Rattle.std.proofs.Common.{◌≡◌, ◌⊎◌, ◌&&◌, ◌||◌, ◌<◌, ◌≤◌, cond, inl, inr, ⊎_elim, ℕ, Bool, true, false, List, [], ◌∷◌, refl, sym, ◌∙◌, subst, arith, nat_lt, nat_le, nat_eq}
+use Rattle.std.proofs.Common.{◌≡◌, ◌⊎◌, ◌&&◌, ◌||◌, ◌<◌, ◌≤◌, cond, inl, inr, ⊎_elim, ℕ, zero, suc, ◌+◌, Bool, true, false, List, [], ◌∷◌, Some, refl, sym, ap, ◌∙◌, subst, arith, nat_lt, nat_le, nat_eq}
 use Rattle.std.specs.Prelude.{fold}
 use Rattle.mcv_route.specs.Verdict.{Has}
-use Rattle.mcv_route.specs.Reply.{Arrival, weight, last_worse}
-use Rattle.mcv_rules.specs.Laws.{Prevails, TheLastOfTheWorst}
+use Rattle.mcv_route.specs.Outcomes.{History}
+use Rattle.mcv_route.specs.Places.{child_at}
+use Rattle.mcv_route.specs.Reply.{Arrival, arrivals, weight, last_worse}
+use Rattle.mcv_route.specs.Situation.{Situation}
+use Rattle.mcv_route.specs.Tree.{Tree, Trees, none, child}
+use Rattle.mcv_rules.specs.Laws.{AllSyncReplies, Prevails, TheLastOfTheWorst, arrival_of}
 
 abbrev IsOver : (w v i j : ℕ) → Type 0
 IsOver w v i j = (v < w) ⊎ ((v ≡ w) × (j ≤ i))
@@ -54,3 +58,33 @@ fold_over a (c ∷ more) b (inr (inr h)) = fold_over (last_worse a c) more b (in
 
 pub the_last_of_the_worst : TheLastOfTheWorst
 the_last_of_the_worst d a more = (fold_among a more, fold_over a more)
+
+-- ---- an AllSyncRoute
+
+arrived : (n : ℕ) (ts : Trees) (s : Situation) (es : History) (a : Arrival) → Has (arrivals n ts s es) (λ b. b ≡ a)
+    → (k : ℕ) × (t : Tree) × (child_at ts k ≡ Some t) × ((m : ℕ) → m ≡ n + k → arrival_of t m s es ≡ a)
+arrived n none s es a h = absurd h
+arrived n (child t ts) s es a (inl e) = (0, t, refl, λ m is. let same : m ≡ n = omega (arith, is) in ap (λ i. arrival_of t i s es) same ∙ e)
+arrived n (child t ts) s es a (inr h) = let r = arrived (suc n) ts s es a h in (suc r.0, r.1, r.2, λ m is. r.3 m (omega (arith, is)))
+
+arrives : (n : ℕ) (ts : Trees) (s : Situation) (es : History) (k m : ℕ) (t : Tree) → child_at ts k ≡ Some t → m ≡ n + k → Has (arrivals n ts s es) (λ b. b ≡ arrival_of t m s es)
+arrives n none s es k m t e is = let h : ⊥ = cc in absurd h
+arrives n (child u ts) s es zero m t e is =
+    let tree : u ≡ t = cc in
+    let same : n ≡ m = omega (arith, is) in
+    inl (ap (λ v. arrival_of v n s es) tree ∙ ap (λ i. arrival_of t i s es) same)
+arrives n (child u ts) s es (suc k) m t e is = inr (arrives (suc n) ts s es k m t e (omega (arith, is)))
+
+pub all_sync_replies : AllSyncReplies
+all_sync_replies none s es some = absurd (some refl)
+all_sync_replies (child t ts) s es some =
+    let first = arrival_of t 0 s es in
+    let more = arrivals 1 ts s es in
+    let r = arrived 0 (child t ts) s es (fold last_worse first more) (fold_among first more) in
+    let is : arrival_of r.1 r.0 s es ≡ fold last_worse first more = r.3 r.0 (omega arith) in (
+      r.0,
+      r.1,
+      r.2,
+      ap (λ a. a.answer) (sym is),
+      λ j u at. subst (λ a. Prevails a (arrival_of u j s es)) (sym is) (fold_over first more (arrival_of u j s es) (arrives 0 (child t ts) s es j j u at (omega arith))),
+    )

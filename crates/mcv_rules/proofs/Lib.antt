@@ -15,6 +15,7 @@ pub mod Last
 pub mod Times
 pub mod Own
 pub mod Plans
+pub mod Places
 pub mod Serving
 pub mod Searching
 pub mod Besides
@@ -24,6 +25,7 @@ pub mod Turns
 pub mod True
 pub mod Told
 pub mod Rows
+pub mod Operations
 pub mod Stops
 pub mod Longest
 pub mod Leaves

@@ -12,7 +12,7 @@ use Rattle.mcv_route.specs.declared.launch.Launch.{Launch}
 use Rattle.mcv_route.specs.Outcomes.{Outcomes, Choice, History, outcomes}
 use Rattle.mcv_route.specs.Tree.{Tree, Trees, failover, miss_failover, warm_up}
 use Rattle.mcv_route.specs.Situation.{Situation, under, adding}
-use Rattle.mcv_route.specs.Children.{together}
+use Rattle.mcv_route.specs.Children.{joined, together}
 use Rattle.mcv_route.specs.View.{trees_of}
 use Rattle.mcv_route.specs.Replies.{Answer, refused, or_after_error, or_after_miss, replies, replies_each, outcome_of as outcome_of_all}
 use Rattle.mcv_route.specs.Launched.{launched, launched_each, once, in_turn}
@@ -20,6 +20,7 @@ use Rattle.mcv_route.specs.Reply.{reply, came, arrival, arrivals, answers_of, ne
 use Rattle.mcv_rules.specs.Laws.{IsOneOf}
 use Rattle.mcv_rules.specs.Plan as planned
 use Rattle.mcv_rules.specs.Plans.{plan, plan_each}
+use Rattle.mcv_rules.specs.Sound.{positions}
 use Rattle.mcv_rules.specs.Times.{time, IsStable}
 use Rattle.mcv_rules.specs.History.{history_of}
 use Rattle.mcv_rules.specs.Arrivals.{seen, own_arrived, arrived_at_once, goes_on, goes_on_after, next_arrived}
@@ -33,8 +34,9 @@ use Rattle.mcv_rules.proofs.Times as times
 use Rattle.mcv_rules.proofs.Times.{came_time, no_cons}
 use Rattle.mcv_rules.proofs.Verdicts.{reply_is_planned, replies_are_alike}
 use Rattle.mcv_rules.proofs.Own.{apart, stable}
+use Rattle.mcv_rules.proofs.Places.{kind-InTurn, kind-OnHit, places-InTurn, places-OnHit}
 use Rattle.mcv_rules.proofs.Plans.{sent-InTurn, sent-OnHit, arrived-InTurn, arrived-OnHit}
-use Rattle.mcv_rules.proofs.Serving.{at_once, replies-each, reply-together}
+use Rattle.mcv_rules.proofs.Serving.{at_once, kinds-each, places-each, positions-together, replies-each, reply-together}
 
 -- ---- the words of the handles, by what the search goes on after
 
@@ -232,12 +234,20 @@ search_answers w xs (p ∷ ps) t (u ∷ ts) s h a =
     let when : time (λ k. fold (or_after w) (replies u here (outcomes k)) (replies_each 1 (trees_of ts) s (outcomes k))) es ≡ came t s es = time_same _ _ (λ k. sym (h.answers (outcomes k))) es ∙ sym (came_time t s es) in
     whole.is ∙ ap₂ (λ r n. seen s.op xs (arrival r n)) (sym (h.answer es)) when
 
+joined_positions : (w : After) (t u : planned.Plan) → positions (join w t u) ≡ positions t ++ positions u
+joined_positions after.Error t u = refl
+joined_positions after.Miss t u = refl
+
 pub serves-search : (w : After) (v : Vec Plan Global) (t : Tree) (ts : List Tree) (s : Situation) → Searches w t (trees_of ts) s → ServeEach 0 v.items ts s → Serves (InTurn w v) t s
 serves-search w v t ts s h a = record {
   sends = λ c o. rw (sent-InTurn c o w v) (legs-searched w 0 v.items ts s c o a ∙ sym (h.legs c o));
   replies = λ c o.
       rw (sent-InTurn c o w v, replies-each 0 v.items ts s c o a)
       (reply-together o (next_reply w) (join w) (joined_reply w o) (planned.Reply Error) (plan_each 0 (trees_of ts) s) ∙ ap (λ u. planned.reply u o) (sym h.plans) ∙ sym (reply_is_planned t s o));
+  kind = rw (kind-InTurn w v, kinds-each 0 v.items ts s a) refl;
+  places =
+      places-InTurn w v ∙ ap joined (places-each 0 v.items ts s a)
+      ∙ sym (positions-together (join w) (joined_positions w) (plan_each 0 (trees_of ts) s)) ∙ ap positions (sym h.plans);
   answers = λ xs. rw (arrived-InTurn (own_arrived xs) w v) (search_answers w xs v.items t ts s h a);
 }
 
@@ -277,6 +287,10 @@ serves-warm_up v p q a cold warm exptime s is h f g i = record {
   replies = λ c o.
       rw (sent-InTurn c o after.Miss v, is, sent-OnHit c o q a, f.replies c o, g.replies c o, h)
       (miss_outcome (replies cold (under 0 s) o) (replies warm (under 1 s) o));
+  kind = rw (kind-InTurn after.Miss v, is, f.kind, kind-OnHit q a, g.kind, i.kind) refl;
+  places =
+      rw (places-InTurn after.Miss v, is, f.places, places-OnHit q a, g.places, i.places, h)
+      (ap (λ ps. positions (plan cold (under 0 s)) ++ ps) (append-nil (positions (plan warm (under 1 s)) ++ positions (plan cold (under 2 (adding s))))));
   answers = λ xs.
       let es = history_of xs in
       let cold_tells = tells-child s.op xs p cold (under 0 s) refl f in

@@ -1,5 +1,5 @@
 -- A plan serves a route: legs, replies at once, a handle that does what another does, and all at once.
-use Rattle.std.proofs.Common.{◌≡◌, ◌<◌, take, ◌+◌, ◌&&◌, ◌||◌, cond, ℕ, suc, Bool, true, false, nat_lt, nat_le, List, [], ◌∷◌, ◌++◌, length, map, get_or, Vec, Global, Option, Some, None, option_map, refl, sym, ap, ap₂, ◌∙◌, arith, add-one}
+use Rattle.std.proofs.Common.{◌≡◌, ◌<◌, take, ◌+◌, ◌&&◌, ◌||◌, cond, ℕ, suc, Bool, true, false, nat_lt, nat_le, List, [], ◌∷◌, ◌++◌, length, map, get_or, Vec, Global, Option, Some, None, option_map, refl, sym, ap, ap₂, ◌∙◌, arith, add-one, append-nil, append_assoc}
 use Rattle.std.proofs.Math.Seq.{take-suc}
 use Rattle.std.proofs.lemmas.List.{length-take-le, length-map, map-append}
 use Rattle.std.specs.declared.alloc.AllocError.{AllocError}
@@ -15,6 +15,7 @@ use Rattle.mcv_route.specs.declared.launch.Answered.{Answered}
 use Rattle.mcv_route.specs.Outcomes.{Outcomes, Choice, History, outcomes}
 use Rattle.mcv_route.specs.Tree.{Pool, Tree, Trees, pool, null, error, all_sync, none, child}
 use Rattle.mcv_route.specs.Situation.{Situation, under}
+use Rattle.mcv_route.specs.Children as children
 use Rattle.mcv_route.specs.Children.{together}
 use Rattle.mcv_route.specs.Replies as replies
 use Rattle.mcv_route.specs.declared.tree.Route.{Route}
@@ -24,7 +25,9 @@ use Rattle.mcv_route.specs.Launched.{launched, launched_each}
 use Rattle.mcv_route.specs.Reply as definition
 use Rattle.mcv_route.specs.Reply.{reply, came, arrival, arrivals, last_worse, is_waiting}
 use Rattle.mcv_rules.specs.Plan as planned
-use Rattle.mcv_rules.specs.Plans.{plan_each}
+use Rattle.mcv_rules.specs.Places.{are_plain, is_plain, kind_of, places_of}
+use Rattle.mcv_rules.specs.Plans.{plan, plan_each}
+use Rattle.mcv_rules.specs.Sound.{positions}
 use Rattle.mcv_rules.specs.Times.{came_each}
 use Rattle.mcv_rules.specs.Status.{default_reply}
 use Rattle.mcv_rules.specs.History.{history_of}
@@ -36,6 +39,7 @@ use Rattle.mcv_rules.specs.declared.plan.Plan.{Plan, Send, Reply, All}
 use Rattle.mcv_rules.proofs.Times as times
 use Rattle.mcv_rules.proofs.Verdicts.{reply_is_planned}
 use Rattle.mcv_rules.proofs.Own.{own_seen}
+use Rattle.mcv_rules.proofs.Places.{kind-All, kind-Reply, kind-Send, places-All, places-Reply, places-Send}
 use Rattle.mcv_rules.proofs.Plans.{sent-Send, sent-Reply, sent-All, arrived-Send, arrived-Reply, arrived-All}
 
 -- what is laid out serves the whole, where it serves the part
@@ -53,6 +57,8 @@ pub serves-pool : (l : PlannedLeg) (q : Pool) (s : Situation) → l.position ≡
 serves-pool l q s at symbol servers op mark = record {
   sends = λ c o. rw (sent-Send c o l, at, symbol, servers, op, mark) refl;
   replies = λ c o. rw (sent-Send c o l, at) (own_reply s.position (o s.position));
+  kind = kind-Send l;
+  places = rw (places-Send l, at) refl;
   answers = λ xs. rw (arrived-Send (own_arrived xs) l, at) (own_seen q s xs);
 }
 
@@ -79,6 +85,8 @@ pub serves-null : (f : FixedReply) (s : Situation) → f ≡ default_reply s.op 
 serves-null f s e = record {
   sends = λ c o. rw (sent-Reply c o f) refl;
   replies = λ c o. rw (sent-Reply c o f, e, default_is_soft s.op) refl;
+  kind = kind-Reply f;
+  places = places-Reply f;
   answers = λ xs. rw (arrived-Reply (own_arrived xs) f, e, at_once null s (λ o. refl) (history_of xs), default_is_soft s.op) refl;
 }
 
@@ -86,6 +94,8 @@ pub serves-error : (s : Situation) → Serves (Reply ErrorRoute) error s
 serves-error s = record {
   sends = λ c o. rw (sent-Reply c o ErrorRoute) refl;
   replies = λ c o. rw (sent-Reply c o ErrorRoute) refl;
+  kind = kind-Reply ErrorRoute;
+  places = places-Reply ErrorRoute;
   answers = λ xs. rw (arrived-Reply (own_arrived xs) ErrorRoute, at_once error s (λ o. refl) (history_of xs)) refl;
 }
 
@@ -96,6 +106,7 @@ pub record Does (t : Tree) (s : Situation) (u : Tree) (v : Situation) : Type 0 w
   pub sends : (c : Choice) (o : Outcomes) → launched t s c o ≡ launched u v c o
   pub replies : (o : Outcomes) → replies.replies t s o ≡ replies.replies u v o
   pub reply : (es : History) → definition.reply t s es ≡ definition.reply u v es
+  pub places : positions (plan t s) ≡ positions (plan u v)
 
 pub came-does : (t u : Tree) (s v : Situation) → ((o : Outcomes) → replies.replies t s o ≡ replies.replies u v o) → (es : History) → came t s es ≡ came u v es
 came-does t u s v h [] = refl
@@ -112,6 +123,8 @@ pub serves-does : (p : Plan) (t u : Tree) (s v : Situation) → Does t s u v →
 serves-does p t u s v d f = record {
   sends = λ c o. f.sends c o ∙ sym (d.sends c o);
   replies = λ c o. f.replies c o ∙ ap outcome_of_all (sym (d.replies o));
+  kind = f.kind;
+  places = f.places ∙ sym d.places;
   answers = λ xs. f.answers xs ∙ seen-does t u s v d.op d.replies d.reply xs;
 }
 
@@ -191,11 +204,37 @@ all-seen (t ∷ ts) s xs =
     let more = arrivals 1 (trees_of ts) s es in
     rw (times.time_of_all_sync t (trees_of ts) s es, came-seen s.op xs 1 (trees_of ts) s es, fold-seen s.op xs first more) refl
 
+-- ---- positions, and shadows
+
+pub kinds-each : (k : ℕ) (ps : List Plan) (ts : List Tree) (s : Situation) → ServeEach k ps ts s → are_plain (map kind_of ps) ≡ true
+kinds-each k [] ts s a = refl
+kinds-each k (p ∷ ps) [] s a = absurd a
+kinds-each k (p ∷ ps) (t ∷ ts) s a = rw a.0.kind (kinds-each (suc k) ps ts s a.1)
+
+pub places-each : (k : ℕ) (ps : List Plan) (ts : List Tree) (s : Situation) → ServeEach k ps ts s → map places_of ps ≡ map positions (plan_each k (trees_of ts) s)
+places-each k [] [] s a = refl
+places-each k [] (t ∷ ts) s a = absurd a
+places-each k (p ∷ ps) [] s a = absurd a
+places-each k (p ∷ ps) (t ∷ ts) s a = ap₂ ◌∷◌ a.0.places (places-each (suc k) ps ts s a.1)
+
+-- the positions of plans joined two by two
+module _ (join : planned.Plan → planned.Plan → planned.Plan) (h : (t u : planned.Plan) → positions (join t u) ≡ positions t ++ positions u) where
+  pub positions-fold : (t : planned.Plan) (us : List planned.Plan) → positions (fold join t us) ≡ positions t ++ children.joined (map positions us)
+  positions-fold t [] = sym (append-nil (positions t))
+  positions-fold t (u ∷ us) =
+      positions-fold (join t u) us ∙ ap (λ ps. ps ++ children.joined (map positions us)) (h t u) ∙ append_assoc (positions t) (positions u) (children.joined (map positions us))
+
+  pub positions-together : (us : List planned.Plan) → positions (together join (planned.Reply Error) us) ≡ children.joined (map positions us)
+  positions-together [] = refl
+  positions-together (u ∷ us) = positions-fold u us
+
 pub serves-all : (v : Vec Plan Global) (ts : List Tree) (s : Situation) → ServeEach 0 v.items ts s → Serves (All v) (all_sync (trees_of ts)) s
 serves-all v ts s a = record {
   sends = λ c o. rw (sent-All c o v, legs-each 0 v.items ts s c o a) refl;
   replies = λ c o.
       rw (sent-All c o v, replies-each 0 v.items ts s c o a)
       (reply-together o planned.both planned.Both (λ t u. refl) (planned.Reply Error) (plan_each 0 (trees_of ts) s) ∙ sym (reply_is_planned (all_sync (trees_of ts)) s o));
+  kind = rw (kind-All v, kinds-each 0 v.items ts s a) refl;
+  places = places-All v ∙ ap children.joined (places-each 0 v.items ts s a) ∙ sym (positions-together planned.Both (λ t u. refl) (plan_each 0 (trees_of ts) s));
   answers = λ xs. rw (arrived-All (own_arrived xs) v, arrived-each 0 v.items ts s xs a) (all-seen ts s xs);
 }

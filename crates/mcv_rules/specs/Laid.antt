@@ -1,5 +1,5 @@
 -- The plan of a call in memory, and that it does what the route's handles say.
-use Rattle.std.specs.Prelude.{◌≡◌, ℕ, suc, ⊤, Bool, false, List, [], ◌∷◌, ◌++◌, Option, Some, None, map, option_map, slice_index, nat_le, if◌then◌else◌}
+use Rattle.std.specs.Prelude.{◌≡◌, ℕ, suc, ⊤, Bool, true, false, List, [], ◌∷◌, ◌++◌, Option, Some, None, map, option_map, slice_index, nat_le, if◌then◌else◌}
 use Rattle.mcv_base.specs.declared.operation.Op.{Op}
 use Rattle.mcv_base.specs.declared.reply.Outcome.{Outcome}
 use Rattle.mcv_base.specs.declared.reply.Outcome.TheVariants.{Error}
@@ -23,6 +23,9 @@ use Rattle.mcv_route.specs.Reply.{reply, came, arrival}
 use Rattle.mcv_rules.specs.Arrivals.{seen, own_arrived, arrived_at_once, all_arrived, goes_on_after, next_arrived}
 use Rattle.mcv_rules.specs.History.{history_of}
 use Rattle.mcv_rules.specs.Plan.{both}
+use Rattle.mcv_rules.specs.Plans.{plan}
+use Rattle.mcv_rules.specs.Sound.{positions}
+use Rattle.mcv_rules.specs.Places.{is_plain, kind_of, places_of}
 use Rattle.mcv_rules.specs.declared.arrival.After.{After}
 use Rattle.mcv_rules.specs.declared.arrival.Arrival.{Arrival}
 use Rattle.mcv_rules.specs.declared.asked.Asked.{Asked}
@@ -127,10 +130,14 @@ arrived own = fold-Plan Arrival (arrived_step own)
 
 -- ---- that it serves a tree
 
--- the plan sends and answers as the route does in the situation
+-- the plan sends and answers as the route does in the situation, by legs at the same positions
 pub record Serves (p : Plan) (t : Tree) (s : Situation) : Type 0 where
   pub sends : (c : Choice) (o : Outcomes) → (sent c o p).legs ≡ launched t s c o
   pub replies : (c : Choice) (o : Outcomes) → (sent c o p).reply ≡ outcome_of_all (replies_of t s o)
+  -- a shadow is nowhere but beside what it shadows
+  pub kind : is_plain (kind_of p) ≡ true
+  -- its legs have the positions of the normal form's, in order
+  pub places : places_of p ≡ positions (plan t s)
   pub answers : (xs : List Answered) → arrived (own_arrived xs) p ≡ seen s.op xs (arrival (reply t s (history_of xs)) (came t s (history_of xs)))
 
 -- each plan serves the child with its number, the first of which is k

@@ -1,14 +1,15 @@
 -- The laws of routes, and that a route's plan says the same.
-use Rattle.std.specs.Prelude.{◌≡◌, ◌⊎◌, ◌↔◌, ◌<◌, ◌≤◌, ℕ, List, [], ◌∷◌, Option, Some, None}
+use Rattle.std.specs.Prelude.{◌≡◌, ◌≢◌, ◌⊎◌, ◌↔◌, ◌<◌, ◌≤◌, ℕ, List, [], ◌∷◌, Option, Some, None}
 use Rattle.mcv_base.specs.declared.operation.Op.{Op}
 use Rattle.mcv_base.specs.declared.operation.Op.TheVariants.{Delete}
 use Rattle.mcv_base.specs.declared.reply.Outcome.{Outcome}
 use Rattle.mcv_base.specs.declared.reply.Outcome.TheVariants.{Soft, Error}
 use Rattle.mcv_route.specs.declared.launch.Launch.{Launch}
 use Rattle.mcv_route.specs.Outcomes.{Outcomes, Choice, History, outcomes}
-use Rattle.mcv_route.specs.Tree.{Tree}
+use Rattle.mcv_route.specs.Places.{child_at}
+use Rattle.mcv_route.specs.Tree.{Tree, Trees, all_sync, none}
 use Rattle.mcv_route.specs.WellFormed.{IsWellFormed}
-use Rattle.mcv_route.specs.Situation.{Situation, asked}
+use Rattle.mcv_route.specs.Situation.{Situation, asked, under}
 use Rattle.mcv_route.specs.Children.{together}
 use Rattle.mcv_route.specs.Replies.{Answer, Source, leg, fixed, refusal, outcome_of, replies}
 use Rattle.mcv_route.specs.Launched.{launched}
@@ -84,3 +85,13 @@ Prevails a b = (one.weight b.answer < one.weight a.answer) ⊎ ((one.weight b.an
 abbrev pub TheLastOfTheWorst : Type 0
 TheLastOfTheWorst = (d a : one.Arrival) (more : List one.Arrival) →
     Has (a ∷ more) (λ b. b ≡ together one.last_worse d (a ∷ more)) × ((b : one.Arrival) → Has (a ∷ more) (λ x. x ≡ b) → Prevails (together one.last_worse d (a ∷ more)) b)
+
+-- what the child with number k has replied, and when it did first
+abbrev pub arrival_of : Tree → ℕ → Situation → History → one.Arrival
+arrival_of t k s es = one.arrival (one.reply t (under k s) es) (one.came t (under k s) es)
+
+-- an AllSyncRoute replies as the one of its children that prevails over all
+abbrev pub AllSyncReplies : Type 0
+AllSyncReplies = (ts : Trees) (s : Situation) (es : History) → ts ≢ none →
+    (k : ℕ) × (t : Tree) × (child_at ts k ≡ Some t) × (one.reply (all_sync ts) s es ≡ one.reply t (under k s) es)
+    × ((j : ℕ) (u : Tree) → child_at ts j ≡ Some u → Prevails (arrival_of t k s es) (arrival_of u j s es))

@@ -7,5 +7,6 @@ pub mod Called
 pub mod History
 pub mod Status
 pub mod Arrivals
+pub mod Places
 pub mod Laid
 pub mod Rows

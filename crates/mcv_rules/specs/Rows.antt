@@ -5,6 +5,7 @@ use Rattle.std.specs.List.{AllPairs}
 use Rattle.std.specs.Ordering.{nat_cmp}
 use Rattle.std.specs.declared.cmp.Ordering.TheVariants.{Less}
 use Rattle.mcv_base.specs.declared.operation.Op.{Op}
+use Rattle.mcv_base.specs.declared.operation.Op.TheVariants.{Add}
 use Rattle.mcv_base.specs.declared.operation.Mark.TheVariants.{Shadow}
 use Rattle.mcv_base.specs.declared.reply.Outcome.{Outcome}
 use Rattle.mcv_base.specs.declared.reply.Outcome.TheVariants.{Good, Error}
@@ -60,6 +61,14 @@ LegsAreOfPools = (t : Tree) (op : Op) (rest : List ℕ) (since : Option ℕ) (c 
 -- all that is sent below a shadow is marked so
 abbrev pub ShadowsAreMarked : Type 0
 ShadowsAreMarked = (t : Tree) (s : Situation) (c : Choice) (o : Outcomes) (l : Launch) → s.mark ≡ Shadow → Sends t s c o l → l.mark ≡ Shadow
+
+-- a leg has the operation that is asked, but for the add of a warm-up, which get and gets alone send
+abbrev pub LegsHaveTheOperation : Type 0
+LegsHaveTheOperation = (t : Tree) (s : Situation) (c : Choice) (o : Outcomes) (l : Launch) → Sends t s c o l → (l.op ≡ s.op) ⊎ ((is_reading s.op ≡ true) × (l.op ≡ Add))
+
+-- so what reads nothing sends its own operation alone, and a delete sends deletes
+abbrev pub OwnOperation : Type 0
+OwnOperation = (t : Tree) (s : Situation) (c : Choice) (o : Outcomes) (l : Launch) → is_reading s.op ≡ false → Sends t s c o l → l.op ≡ s.op
 
 -- ---- one row for each handle
 

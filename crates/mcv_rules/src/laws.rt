@@ -1,7 +1,7 @@
 //! The laws of routes: what holds of the definitions alone, and so of all code that meets them.
 
-ghost use Rattle.mcv_rules.specs.Laws.{AnswersAreTrue, DeletesSearchOnErrors, HitIsPlanned, LaunchedIsPlanned, OneReplyStays, PlansAreSound, ReachableIsClosed, RepliesAreAlike, ReplyIsOneOf, ReplyIsPlanned, ReplyStays, SentStays, TheLastOfTheWorst};
-ghost use Rattle.mcv_rules.specs.Rows.{AllAsyncRow, AllInitialRow, AllSyncRow, ErrorRow, FailoverReplies, FailoverRow, FirstPolicyCounts, LegsAreOfPools, LegsAreSentOnce, LegsStandInOrder, LongestPrefixCounts, MigrateAfter, MigrateBefore, MigrateDeletes, MigrateFirst, MigrateSecond, MissFailoverReads, MissFailoverReplies, MissFailoverWrites, NullRow, OperationSelectorRow, PoolRow, PrefixSelectorRow, ShadowsAreMarked, WarmUpReads, WarmUpWrites};
+ghost use Rattle.mcv_rules.specs.Laws.{AllSyncReplies, AnswersAreTrue, DeletesSearchOnErrors, HitIsPlanned, LaunchedIsPlanned, OneReplyStays, PlansAreSound, ReachableIsClosed, RepliesAreAlike, ReplyIsOneOf, ReplyIsPlanned, ReplyStays, SentStays, TheLastOfTheWorst};
+ghost use Rattle.mcv_rules.specs.Rows.{AllAsyncRow, AllInitialRow, AllSyncRow, ErrorRow, FailoverReplies, FailoverRow, FirstPolicyCounts, LegsAreOfPools, LegsAreSentOnce, LegsHaveTheOperation, LegsStandInOrder, LongestPrefixCounts, MigrateAfter, MigrateBefore, MigrateDeletes, MigrateFirst, MigrateSecond, MissFailoverReads, MissFailoverReplies, MissFailoverWrites, NullRow, OperationSelectorRow, OwnOperation, PoolRow, PrefixSelectorRow, ShadowsAreMarked, WarmUpReads, WarmUpWrites};
 ghost use Rattle.mcv_rules.specs.Times.{RepliesAreStable, TimeAfterError, TimeAfterMiss, TimeOfAllSync};
 
 /// The plan of a route sends the legs and gives the replies that its handles say.
@@ -36,11 +36,13 @@ pub fn reachable_is_closed()
     ensures { ReachableIsClosed }
 {}
 
-/// The reply that came last is one of the replies, and stays.
+/// The one reply is one of the replies, and stays. An AllSyncRoute gives the worst of its children's, and among
+/// equals the one that came last.
 pub fn the_last_reply_is_one()
     ensures one { ReplyIsOneOf }
     ensures stays { OneReplyStays }
     ensures last { TheLastOfTheWorst }
+    ensures all_sync { AllSyncReplies }
 {}
 
 /// When a handle has its answer, by its children.
@@ -52,11 +54,14 @@ pub fn answers_come_with_children()
 {}
 
 /// No leg is sent twice, and each is that of a PoolRoute at its position, to its server at the index that the choice
-/// gives its symbol; what is sent below a shadow is marked so.
+/// gives its symbol; what is sent below a shadow is marked so. A leg has the operation that is asked, but for the
+/// add of a warm-up.
 pub fn legs_are_of_pools()
     ensures once { LegsAreSentOnce }
     ensures pools { LegsAreOfPools }
     ensures shadows { ShadowsAreMarked }
+    ensures operation { LegsHaveTheOperation }
+    ensures own { OwnOperation }
 {}
 
 /// The legs stand in the order of their positions, each before all later ones.

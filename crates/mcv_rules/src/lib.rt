@@ -17,6 +17,7 @@ mod outcomes;
 mod plan;
 mod status;
 
+pub use arrival::After;
 pub use asked::{Asked, Way};
 pub use eval::Eval;
 pub use laws::{
@@ -25,7 +26,7 @@ pub use laws::{
     plans_are_sound, policies_are_selected, reachable_is_closed, searches_reply_where_they_stop,
     the_last_reply_is_one,
 };
-pub use layout::{policy_number, prefix_number};
+pub use layout::{laid_out, policy_number, prefix_number};
 pub use outcomes::Outcomes;
-pub use plan::PlannedLeg;
+pub use plan::{Plan, PlannedLeg};
 pub use status::{Source, Status, default_reply};

@@ -7,7 +7,7 @@ use mcv_spool::{Disk, DiskFailed};
 use std::alloc::{AllocError, Global};
 
 /// What a call of the disk was.
-#[derive(Clone, Copy, Debug, PartialEq, Eq)]
+#[derive(Clone, Copy, PartialEq, Eq)]
 pub(crate) enum Call {
     Len,
     Read(usize),
@@ -17,7 +17,7 @@ pub(crate) enum Call {
 }
 
 /// What becomes of the call of a number.
-#[derive(Clone, Copy, Debug, PartialEq, Eq)]
+#[derive(Clone, Copy, PartialEq, Eq)]
 pub(crate) enum Trouble {
     None,
     /// It fails, and a write is cut short.
@@ -27,7 +27,7 @@ pub(crate) enum Trouble {
 }
 
 /// Which of the files that a crash may leave is taken.
-#[derive(Clone, Copy, Debug, PartialEq, Eq)]
+#[derive(Clone, Copy, PartialEq, Eq)]
 pub(crate) enum Left {
     /// What was synced.
     Synced,
@@ -45,6 +45,8 @@ pub(crate) struct TestDisk {
     unsynced: Vec<(usize, usize)>,
     pub(crate) calls: Vec<Call>,
     pub(crate) trouble: Trouble,
+    /// How often it was renewed.
+    pub(crate) renewals: usize,
 }
 
 /// A test disk that is lent to a spool.
@@ -54,7 +56,7 @@ pub(crate) struct Lent<'a> {
 }
 
 /// What a call has to do: all, a part and then fail, or nothing.
-#[derive(Clone, Copy, Debug, PartialEq, Eq)]
+#[derive(Clone, Copy, PartialEq, Eq)]
 enum Turn {
     All,
     Part,
@@ -71,6 +73,7 @@ impl TestDisk {
             unsynced: Vec::new(alloc),
             calls: Vec::new(alloc),
             trouble: Trouble::None,
+            renewals: 0,
         }
     }
 
@@ -217,8 +220,9 @@ impl Disk for Lent<'_> {
         answer(self.disk.settle())
     }
 
-    /// It has nothing to mend, and is no call of the disk.
+    /// It has nothing to mend, and is counted apart from the calls.
     fn renew(&mut self) -> Result<(), DiskFailed> {
+        self.disk.renewals = self.disk.renewals.saturating_add(1);
         Ok(())
     }
 }

@@ -1,6 +1,7 @@
 -- What holds of plans by their structure, said by the sets.
-use Rattle.std.proofs.Common.{◌≡◌, ◌⊎◌, inl, inr, ℕ, ◌<◌, List, [], Option, Some, refl, sym, ap, ◌∙◌, subst}
+use Rattle.std.proofs.Common.{◌≡◌, ◌≢◌, ◌⊎◌, inl, inr, ℕ, ◌<◌, ◌≤◌, List, [], length, arith, Option, Some, refl, sym, ap, ◌∙◌, subst}
 use Rattle.std.specs.Prelude.{slice_index}
+use Rattle.std.proofs.lemmas.Bool.{cases_lt}
 use Rattle.std.proofs.lemmas.Option.{same_Some}
 use Rattle.mcv_base.specs.declared.operation.Mark.TheVariants.{Plain}
 use Rattle.mcv_base.specs.declared.operation.Op.TheVariants.{Get, Gets, Delete}
@@ -18,6 +19,7 @@ use Rattle.mcv_symbolic.specs.Laws.{CoveredIsJustified}
 use Rattle.mcv_symbolic.specs.Structure.{if_all, Acknowledged, Hits}
 use Rattle.mcv_symbolic.proofs.Covered.{error_or_not}
 use Rattle.mcv_symbolic.proofs.Exactness.{acknowledged_is_exact, done_is_exact, hits_are_exact}
+use Rattle.mcv_symbolic.proofs.Marks
 use Rattle.mcv_symbolic.proofs.OnPlans as plans
 use Rattle.mcv_symbolic.proofs.Placed.{leaf_of, acknowledged_stands, hits_stand}
 use Rattle.mcv_symbolic.proofs.Planned.{covered_by_plans}
@@ -106,11 +108,50 @@ module _ (sizes : List ℕ) (t : Tree) (rest : List ℕ) (since : Option ℕ) wh
   justified-plans (inl never) = inl (never-plans never)
   justified-plans (inr all) = inr (λ l i read lt. let k = leg-readable l read in answered-plans l i (all l.position (leaf_of l) i k.0 k.1 lt))
 
+-- ---- one choice, and each symbol by itself
+
+module _ (sizes : List ℕ) (t : Tree) (rest : List ℕ) (since : Option ℕ) (leaf : Pool) (i : ℕ) where
+  abbrev Misses : ℕ → ℕ → Type 0
+  Misses s j = (m : Pool) → IsAcknowledgedPool t rest since m → m.symbol ≡ s → slice_index m.servers j ≢ slice_index leaf.servers i
+
+  -- an index that serves for this symbol
+  abbrev Serves : ℕ → ℕ → Type 0
+  Serves s j = (j < slice_index sizes s) × (s ≡ leaf.symbol → j ≡ i) × Misses s j
+
+  by-each : sets.IsEverMissed sizes t rest since leaf i → sets.IsMissedByEach sizes t rest since leaf i
+  by-each h s low = (h.0 s, h.1 s low, (λ e. ap h.0 e ∙ h.2), λ m is own same. h.3 m is (ap (λ k. slice_index m.servers (h.0 k)) own ∙ same))
+
+  module _ (each : sets.IsMissedByEach sizes t rest since leaf i) where
+    abbrev index : (s : ℕ) → (s < length sizes) ⊎ (length sizes ≤ s) → ℕ
+    index s (inl low) = (each s low).0
+    index s (inr high) = 0
+
+    serves : (s : ℕ) (at : (s < length sizes) ⊎ (length sizes ≤ s)) → s < length sizes → Serves s (index s at)
+    serves s (inl low) h = let e = each s low in (e.1, e.2, e.3)
+    serves s (inr high) h = absurd (omega (arith, high, h))
+
+    abbrev chosen : Choice
+    chosen s = index s (cases_lt s (length sizes))
+
+    one-choice : leaf.symbol < length sizes → ((m : Pool) → IsAcknowledgedPool t rest since m → m.symbol < length sizes) → sets.IsEverMissed sizes t rest since leaf i
+    one-choice size known = (
+      chosen,
+      (λ s low. (serves s (cases_lt s (length sizes)) low).0),
+      (serves leaf.symbol (cases_lt leaf.symbol (length sizes)) size).1 refl,
+      λ m is. (serves m.symbol (cases_lt m.symbol (length sizes)) (known m is)).2 m is refl,
+    )
+
 pub symbols_are_independent : SymbolsAreIndependent
 symbols_are_independent sizes t rest since leaf i w size lt =
-    let law = Symbols.symbols_are_independent sizes (delete sizes t rest since) (leg_of leaf) i (Sound.plan_sound sizes t Delete rest since w).0 size lt in (
-      λ always. answered-sets sizes t rest since (leg_of leaf) i (law.0 (always-plans sizes t rest since (leg_of leaf) i always)),
-      λ answered. always-sets sizes t rest since (leg_of leaf) i (law.1 (answered-plans sizes t rest since (leg_of leaf) i answered)),
+    let sized = (Sound.plan_sound sizes t Delete rest since w).0 in
+    let law = Symbols.symbols_are_independent sizes (delete sizes t rest since) (leg_of leaf) i sized size lt in
+    let known : (m : Pool) → IsAcknowledgedPool t rest since m → m.symbol < length sizes =
+    λ m is. let l = pool-leg sizes t rest since m is in subst (λ p. p.symbol < length sizes) l.2 (Marks.acknowledged_sized sizes (delete sizes t rest since) l.0 sized l.1) in (
+      (
+        λ always. answered-sets sizes t rest since (leg_of leaf) i (law.0 (always-plans sizes t rest since (leg_of leaf) i always)),
+        λ answered. always-sets sizes t rest since (leg_of leaf) i (law.1 (answered-plans sizes t rest since (leg_of leaf) i answered)),
+      ),
+      (by-each sizes t rest since leaf i, λ each. one-choice sizes t rest since leaf i each size known),
     )
 
 pub covered_is_justified : CoveredIsJustified

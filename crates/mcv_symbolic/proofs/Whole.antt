@@ -6,7 +6,7 @@ use Rattle.std.proofs.lemmas.List.{length-map}
 use Rattle.std.proofs.lemmas.List.Elements.{All-cons, All-head, All-tail, All-nil, All-contains}
 use Rattle.std.proofs.lemmas.Bool.{and_from, and_parts, eqb-true, false≢true}
 use Rattle.std.proofs.lemmas.Option.{none-some, slice_get_cases}
-use Rattle.mcv_base.specs.Key.{begins_with, is_key_byte, is_key_word}
+use Rattle.mcv_base.specs.Key.{IsRest, begins_with, is_key_byte, is_key_word}
 use Rattle.mcv_pools.specs.Symbol.{SymbolValue}
 use Rattle.mcv_route.specs.Routes.{IsSoundTree, AreSoundTrees, IsSoundRoutes, RouteEntry, RoutesValue}
 use Rattle.mcv_route.specs.Tree.{Tree, Trees, pool, null, error, all_sync, all_initial, all_async, failover, miss_failover, warm_up, migrate, prefix_selector, operation_selector, none, child}
@@ -15,7 +15,7 @@ use Rattle.mcv_classes.specs.Class.{IsClassWord, IsMember}
 use Rattle.mcv_classes.specs.Words.{class_words}
 use Rattle.mcv_classes.proofs.Existence.{rests_have_classes}
 use Rattle.mcv_classes.proofs.Members.{members_are_inside}
-use Rattle.mcv_symbolic.specs.Covered.{CoveredByMembers, IsRest, sizes_of}
+use Rattle.mcv_symbolic.specs.Covered.{CoveredByMembers, sizes_of}
 use Rattle.mcv_symbolic.proofs.Alike.{alike_are_covered}
 use Rattle.mcv_symbolic.proofs.Stated.{covered_is_justified}
 

@@ -1,5 +1,5 @@
 -- When a route is covered at a rest in an era, said by the sets alone (own).
-use Rattle.std.specs.Prelude.{◌≡◌, ◌⊎◌, ◌↔◌, ◌<◌, ℕ, List, Option, Some, length, slice_index}
+use Rattle.std.specs.Prelude.{◌≡◌, ◌≢◌, ◌⊎◌, ◌↔◌, ◌<◌, ℕ, List, Option, Some, length, slice_index}
 use Rattle.mcv_base.specs.declared.operation.Op.TheVariants.{Get, Gets}
 use Rattle.mcv_route.specs.Outcomes.{Choice, IsChoice}
 use Rattle.mcv_route.specs.Places.{pool_at_position}
@@ -31,10 +31,21 @@ abbrev pub IsAlwaysAnswered : List ℕ → Tree → List ℕ → Option ℕ → 
 IsAlwaysAnswered sizes t rest since leaf i =
     (c : Choice) → IsChoice sizes c → c leaf.symbol ≡ i → (m : Pool) × IsAcknowledgedPool t rest since m × (slice_index m.servers (c m.symbol) ≡ slice_index leaf.servers i)
 
--- each symbol by itself has a free index just where one choice has them all
+-- under some choice that gives the pool this index, no acknowledged pool has the pool's server at its own index
+abbrev pub IsEverMissed : List ℕ → Tree → List ℕ → Option ℕ → Pool → ℕ → Type 0
+IsEverMissed sizes t rest since leaf i =
+    (c : Choice) × IsChoice sizes c × (c leaf.symbol ≡ i) × ((m : Pool) → IsAcknowledgedPool t rest since m → slice_index m.servers (c m.symbol) ≢ slice_index leaf.servers i)
+
+-- each symbol by itself has an index (this one, if it is the pool's own) at which no acknowledged pool of the symbol has the pool's server
+abbrev pub IsMissedByEach : List ℕ → Tree → List ℕ → Option ℕ → Pool → ℕ → Type 0
+IsMissedByEach sizes t rest since leaf i =
+    (s : ℕ) → s < length sizes
+    → (j : ℕ) × (j < slice_index sizes s) × (s ≡ leaf.symbol → j ≡ i) × ((m : Pool) → IsAcknowledgedPool t rest since m → m.symbol ≡ s → slice_index m.servers j ≢ slice_index leaf.servers i)
+
+-- one choice answers, or misses, as each symbol does by itself
 abbrev pub SymbolsAreIndependent : Type 0
 SymbolsAreIndependent = (sizes : List ℕ) (t : Tree) (rest : List ℕ) (since : Option ℕ) (leaf : Pool) (i : ℕ) → IsWellFormed sizes t → leaf.symbol < length sizes → i < slice_index sizes leaf.symbol →
-    IsAlwaysAnswered sizes t rest since leaf i ↔ IsAnswered sizes t rest since leaf i
+    (IsAlwaysAnswered sizes t rest since leaf i ↔ IsAnswered sizes t rest since leaf i) × (IsEverMissed sizes t rest since leaf i ↔ IsMissedByEach sizes t rest since leaf i)
 
 -- no delete can be acknowledged, or every pool that can be read is answered for at every index
 abbrev pub IsJustified : List ℕ → Tree → List ℕ → Option ℕ → Type 0

@@ -19,8 +19,9 @@ pub fn sets_are_exact()
     ensures least { AcknowledgedIsLeast }
 {}
 
-/// Under some choice no acknowledged leg has the server of a leaf at an index just where each symbol by itself has
-/// an index at which none of its acknowledged legs has it; the leaf's own symbol, at that index.
+/// Under some choice no acknowledged leg has the server of a leaf at an index exactly when each symbol by itself has
+/// an index at which none of its acknowledged legs has it; the leaf's own symbol, at that index. And under every
+/// choice one has it exactly when some symbol by itself has it at each of its indexes.
 pub fn symbols_are_independent()
     ensures { SymbolsAreIndependent }
 {}

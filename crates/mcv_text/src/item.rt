@@ -1,7 +1,7 @@
 //! What a reader makes of a stream: requests, refusals, and the faults of the reader itself.
 
 ghost use Rattle.std.specs.Prelude.{◌≡◌};
-ghost use Rattle.mcv_text.specs.Refusals.{fault_number, refusal_line, refusal_number};
+ghost use Rattle.mcv_text.specs.Refusals.{fault_number, refusal_line, refusal_number, refusal_text};
 
 use mcv_base::Request;
 use thiserror::Error;
@@ -45,6 +45,18 @@ impl Refusal {
             Refusal::BadLine => "CLIENT_ERROR bad command line",
             Refusal::BadDataChunk => "CLIENT_ERROR bad data chunk",
             Refusal::ValueTooLarge => "SERVER_ERROR value too large",
+        }
+    }
+
+    /// The text that answers it: its line and CR LF.
+    pub fn text(self) -> &'static str
+        ensures { result.now ≡ refusal_text self }
+    {
+        match self {
+            Refusal::UnknownCommand => "ERROR\r\n",
+            Refusal::BadLine => "CLIENT_ERROR bad command line\r\n",
+            Refusal::BadDataChunk => "CLIENT_ERROR bad data chunk\r\n",
+            Refusal::ValueTooLarge => "SERVER_ERROR value too large\r\n",
         }
     }
 }

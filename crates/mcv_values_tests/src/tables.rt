@@ -3,82 +3,114 @@ use mcv_pools::{Fnv, HashFunc, KeyHash, Servers, Symbol, Symbols, TableHash, cho
 use std::alloc::Global;
 use std::test::Fail;
 
-fn symbol(alloc: Global, salt: &str, n: usize) -> Result<Symbol, Fail> {
-    let salt = Vec::from_slice(alloc, salt.as_bytes())?;
-    Ok(Symbol::new(HashFunc::Ch3, salt, n).ok_or("no server")?)
+fn symbol(alloc: Global, salt: &str, n: usize) -> Option<Symbol> {
+    let salt = Vec::from_slice(alloc, salt.as_bytes()).ok()?;
+    Symbol::new(HashFunc::Ch3, salt, n)
 }
 
-/// The index that FNV-1a gives a part, with this salt.
-fn fnv_index(alloc: Global, part: &str, salt: &str, n: usize) -> Result<usize, Fail> {
-    Ok(Fnv.index(&symbol(alloc, salt, n)?, part.as_bytes()))
+/// The servers of a list, in its order.
+fn servers_of(alloc: Global, list: &str) -> Option<Servers> {
+    let mut servers = Servers::new(alloc);
+    for text in list.split(' ') {
+        servers.insert(text).ok()?;
+    }
+    Some(servers)
 }
 
 #[test]
 fn servers_are_numbered_by_first_appearance(rt: HostRuntime) -> Result<(), Fail> {
-    let mut servers = Servers::new(rt.alloc());
-    for text in "b:1 a:1 b:1 c:1 a:1".split(' ') {
-        servers.insert(text)?;
-    }
+    let servers = servers_of(rt.alloc(), "b:1 a:1 b:1 c:1 a:1").ok_or("no servers")?;
     assert_eq!(rt; servers.len(), 3);
-    assert!(rt; servers.find("a:1") == Some(ServerId(1)));
-    assert!(rt; servers.find("c:2").is_none());
-    assert!(rt; servers.text(ServerId(2)) == Some("c:1"));
-    assert!(rt; servers.text(ServerId(3)).is_none());
+    for (id, text) in [(0, "b:1"), (1, "a:1"), (2, "c:1")] {
+        assert!(rt; servers.find(text) == Some(ServerId(id)), "{text}");
+        assert!(rt; servers.text(ServerId(id)) == Some(text), "{text}");
+    }
+    assert!(rt; servers.find("c:2").is_none() && servers.text(ServerId(3)).is_none());
     Ok(())
+}
+
+/// Symbols with these salts and two servers each.
+fn symbols_of(alloc: Global, salts: &str) -> Option<Symbols> {
+    let mut symbols = Symbols::new(alloc);
+    for salt in salts.split(' ') {
+        let symbol = symbol(alloc, salt, 2)?;
+        symbols.insert(symbol).ok()?;
+    }
+    Some(symbols)
+}
+
+/// Whether the symbol with this salt and so many servers is found there.
+fn is_found(alloc: Global, symbols: &Symbols, salt: &str, n: usize, at: Option<usize>) -> bool {
+    match symbol(alloc, salt, n) {
+        Some(symbol) => symbols.find(&symbol) == at,
+        None => false,
+    }
+}
+
+/// Whether a symbol is of the salt `y` and two servers.
+fn is_of_y(symbol: &Symbol) -> bool {
+    symbol.salt() == b"y".as_slice() && symbol.n() == 2 && symbol.func() == HashFunc::Ch3
 }
 
 #[test]
 fn symbols_that_agree_are_one(rt: HostRuntime) -> Result<(), Fail> {
-    let mut symbols = Symbols::new(rt.alloc());
-    for salt in "x y x".split(' ') {
-        symbols.insert(symbol(rt.alloc(), salt, 2)?)?;
-    }
+    let symbols = symbols_of(rt.alloc(), "x y x").ok_or("no symbols")?;
     assert_eq!(rt; symbols.len(), 2);
-    assert!(rt; symbols.find(&symbol(rt.alloc(), "y", 2)?) == Some(1));
-    assert!(rt; symbols.find(&symbol(rt.alloc(), "y", 3)?).is_none());
-    assert!(rt; symbols.get(2).is_none());
-    let second = symbols.get(1).ok_or("no symbol")?;
-    assert!(rt; second.salt() == b"y".as_slice() && second.n() == 2);
-    assert!(rt; second.func() == HashFunc::Ch3);
+    for (salt, n, at) in [("x", 2, Some(0)), ("y", 2, Some(1)), ("y", 3, None)] {
+        assert!(rt; is_found(rt.alloc(), &symbols, salt, n, at), "{salt} {n}");
+    }
+    assert!(rt; symbols.get(1).is_some_and(is_of_y) && symbols.get(2).is_none());
     Ok(())
 }
 
-#[test]
-fn fnv_has_its_reference_vectors(rt: HostRuntime) -> Result<(), Fail> {
-    assert_eq!(rt;
-        fnv_index(rt.alloc(), "", "", usize::MAX)?,
-        0xcbf2_9ce4_8422_2325
-    );
-    assert_eq!(rt;
-        fnv_index(rt.alloc(), "a", "", usize::MAX)?,
-        0xaf63_dc4c_8601_ec8c
-    );
-    assert_eq!(rt;
-        fnv_index(rt.alloc(), "foo", "bar", usize::MAX)?,
-        0x8594_4171_f739_67e8
-    );
-    Ok(())
+/// The index that FNV-1a gives a part, with this salt and as many servers as there can be.
+fn fnv_index(alloc: Global, part: &str, salt: &str) -> Option<usize> {
+    let symbol = symbol(alloc, salt, usize::MAX)?;
+    Some(Fnv.index(&symbol, part.as_bytes()))
 }
 
 #[test]
-fn a_choice_has_an_index_for_each_symbol(rt: HostRuntime) -> Result<(), Fail> {
-    let mut symbols = Symbols::new(rt.alloc());
-    symbols.insert(symbol(rt.alloc(), "", 2)?)?;
-    symbols.insert(symbol(rt.alloc(), "", 1)?)?;
-    let of_a = choose(rt.alloc(), &Fnv, &symbols, b"a")?;
-    assert!(rt; of_a.index(0) == 0 && of_a.index(1) == 0);
-    let of_b = choose(rt.alloc(), &Fnv, &symbols, b"b")?;
-    assert!(rt; of_b.index(0) == 1 && of_b.index(1) == 0 && of_b.index(2) == 0);
-    Ok(())
+fn fnv_has_its_reference_vectors(rt: HostRuntime) {
+    for (part, salt, index) in [
+        ("", "", 0xcbf2_9ce4_8422_2325),
+        ("a", "", 0xaf63_dc4c_8601_ec8c),
+        ("foo", "bar", 0x8594_4171_f739_67e8),
+    ] {
+        assert!(rt;
+            fnv_index(rt.alloc(), part, salt) == Some(index),
+            "{part}{salt}"
+        );
+    }
+}
+
+/// The indexes of a part for a symbol of two servers and one of one, and behind them.
+fn choice_of(alloc: Global, part: &[u8]) -> Option<(usize, usize, usize)> {
+    let mut symbols = Symbols::new(alloc);
+    for n in [2, 1] {
+        let symbol = symbol(alloc, "", n)?;
+        symbols.insert(symbol).ok()?;
+    }
+    let choice = choose(alloc, &Fnv, &symbols, part).ok()?;
+    Some((choice.index(0), choice.index(1), choice.index(2)))
+}
+
+#[test]
+fn a_choice_has_an_index_for_each_symbol(rt: HostRuntime) {
+    assert!(rt; choice_of(rt.alloc(), b"a") == Some((0, 0, 0)));
+    assert!(rt; choice_of(rt.alloc(), b"b") == Some((1, 0, 0)));
+}
+
+/// A hash that has 5 for the part `a`.
+fn list_of_a(alloc: Global) -> Option<TableHash> {
+    let mut rows = Vec::new(alloc);
+    rows.push((Vec::from_slice(alloc, b"a").ok()?, 5)).ok()?;
+    Some(TableHash::new(rows))
 }
 
 #[test]
 fn a_list_answers_for_the_parts_that_it_has(rt: HostRuntime) -> Result<(), Fail> {
-    let mut rows = Vec::new(rt.alloc());
-    rows.push((Vec::from_slice(rt.alloc(), b"a")?, 5))?;
-    let hash = TableHash::new(rows);
-    let two = symbol(rt.alloc(), "", 2)?;
-    assert_eq!(rt; hash.index(&two, b"a"), 1);
-    assert_eq!(rt; hash.index(&two, b"c"), 0);
+    let hash = list_of_a(rt.alloc()).ok_or("no list")?;
+    let two = symbol(rt.alloc(), "", 2).ok_or("no symbol")?;
+    assert!(rt; hash.index(&two, b"a") == 1 && hash.index(&two, b"c") == 0);
     Ok(())
 }

@@ -1,6 +1,6 @@
 use mcv_base::{
-    FixedReply, KeyFault, Op, Outcome, Part, Parts, Position, Prefix, Reply, Rest, hashed_part,
-    split_key,
+    CallId, FixedReply, KeyFault, LegId, Mark, Op, Outcome, Part, Parts, Position, Prefix, Reply,
+    Rest, ServerId, ServerText, hashed_part, split_key,
 };
 use std::alloc::{AllocError, Global};
 use std::sync::Arc;
@@ -42,15 +42,18 @@ fn keys_are_cut_behind_the_third_slash(rt: HostRuntime) {
 
 #[test]
 fn words_that_are_no_keys_have_their_fault(rt: HostRuntime) {
-    let long = [b'k'; 251];
-    let longest = [b'k'; 250];
-    assert!(rt; fault(&longest).is_none());
-    assert!(rt; fault(&long) == Some(KeyFault::TooLong));
-    assert!(rt; fault(b"") == Some(KeyFault::Empty));
-    assert!(rt; fault(b"a b") == Some(KeyFault::BadByte));
-    assert!(rt; fault(b"a\x7f") == Some(KeyFault::BadByte));
-    assert!(rt; fault(b"a\x80").is_none());
-    assert!(rt; fault(b"/a/b/") == Some(KeyFault::NoRest));
+    let cases: [(&[u8], Option<KeyFault>); 7] = [
+        (&[b'k'; 250], None),
+        (&[b'k'; 251], Some(KeyFault::TooLong)),
+        (b"", Some(KeyFault::Empty)),
+        (b"a b", Some(KeyFault::BadByte)),
+        (b"a\x7f", Some(KeyFault::BadByte)),
+        (b"a\x80", None),
+        (b"/a/b/", Some(KeyFault::NoRest)),
+    ];
+    for (word, wanted) in cases {
+        assert!(rt; fault(word) == wanted);
+    }
     assert!(rt; KeyFault::Empty.number() == 1 && KeyFault::TooLong.number() == 2);
     assert!(rt; KeyFault::BadByte.number() == 3 && KeyFault::NoRest.number() == 4);
 }
@@ -95,17 +98,32 @@ fn operations_have_one_name_each(rt: HostRuntime) {
     assert!(rt; !Op::Get.is(Op::Gets));
 }
 
+/// The position that is reached from the root by these steps.
+fn reached(alloc: Global, steps: &[usize]) -> Option<Position> {
+    let mut position = Position::root(alloc);
+    for step in steps {
+        position = position.child(alloc, *step).ok()?;
+    }
+    Some(position)
+}
+
+/// Whether a position has this text and is the one with these indexes, and its copy too.
+fn is_spelled(alloc: Global, position: &Position, indexes: &[usize], text: &[u8]) -> Option<bool> {
+    let mut spelled = Vec::new(alloc);
+    position.push_text(&mut spelled).ok()?;
+    let made = Position::at(alloc, indexes).ok()?;
+    let copy = position.copy(alloc).ok()?;
+    Some(spelled.as_slice() == text && position.is(&made) && copy.is(&made))
+}
+
 #[test]
 fn positions_have_their_text(rt: HostRuntime) -> Result<(), Fail> {
-    let alloc = rt.alloc();
-    let root = Position::root(alloc);
-    let place = root.child(alloc, 0)?.child(alloc, 12)?;
-    let mut text = Vec::new(alloc);
-    root.push_text(&mut text)?;
-    place.push_text(&mut text)?;
-    assert!(rt; text.as_slice() == b"-0.12".as_slice());
-    assert!(rt; place.is(&Position::at(alloc, &[0, 12])?));
-    assert!(rt; place.copy(alloc)?.is(&place) && !place.is(&root));
+    let cases: [(&[usize], &[u8]); 3] = [(&[], b"-"), (&[3], b"3"), (&[0, 12], b"0.12")];
+    for (indexes, text) in cases {
+        let position = reached(rt.alloc(), indexes).ok_or("no position")?;
+        assert!(rt; is_spelled(rt.alloc(), &position, indexes, text) == Some(true));
+        assert!(rt; is_spelled(rt.alloc(), &position, &[0], b"0") == Some(false));
+    }
     Ok(())
 }
 
@@ -117,34 +135,68 @@ fn hit(alloc: Global) -> Result<Reply, AllocError> {
     })
 }
 
+/// What a reply amounts to; it is let go here.
+fn amounts(reply: Reply) -> Outcome {
+    reply.outcome()
+}
+
 #[test]
 fn replies_amount_to_outcomes(rt: HostRuntime) -> Result<(), Fail> {
-    let alloc = rt.alloc();
-    let line = Reply::Fault(Vec::from_slice(alloc, b"ERROR")?);
-    assert!(rt; line.outcome() == Outcome::Error);
-    assert!(rt; hit(alloc)?.outcome() == Outcome::Good);
-    assert!(rt; Reply::NotFound.outcome() == Outcome::Soft);
-    assert!(rt; FixedReply::Deleted.outcome() == Outcome::Good);
-    assert!(rt; FixedReply::Miss.outcome() == Outcome::Soft);
-    assert!(rt; FixedReply::Lost.outcome() == Outcome::Error);
+    let line = Vec::from_slice(rt.alloc(), b"ERROR")?;
+    assert!(rt; amounts(Reply::Fault(line)) == Outcome::Error);
+    assert!(rt; amounts(hit(rt.alloc())?) == Outcome::Good);
+    assert!(rt; amounts(Reply::NotFound) == Outcome::Soft);
+    for (fixed, outcome) in [
+        (FixedReply::Deleted, Outcome::Good),
+        (FixedReply::Miss, Outcome::Soft),
+        (FixedReply::Lost, Outcome::Error),
+    ] {
+        assert!(rt; fixed.outcome() == outcome && Parts::fixed(fixed).outcome() == outcome);
+    }
     Ok(())
+}
+
+/// Whether a part is a hit with flags 7.
+fn is_the_hit(part: &Part) -> bool {
+    match part {
+        Part::Owned(reply) => matches!(&**reply, Reply::Hit { flags: 7, .. }),
+        Part::Fixed(_) => false,
+    }
+}
+
+/// Whether a hit is in each of its parts, and answers a gets alone.
+fn is_in_each_part(parts: Parts) -> bool {
+    let answers = parts.may_answer(Op::Gets) && !parts.may_answer(Op::Get);
+    let (outcome, taken, history) = parts.into_parts();
+    answers && is_the_hit(&outcome) && is_the_hit(&taken) && is_the_hit(&history)
 }
 
 #[test]
 fn one_reply_has_three_equal_parts(rt: HostRuntime) -> Result<(), Fail> {
-    let alloc = rt.alloc();
-    let Parts {
-        outcome,
-        taken,
-        history,
-    } = Parts::new(alloc, hit(alloc)?)?;
-    for part in [outcome, taken, history] {
-        match part {
-            Part::Owned(reply) => assert!(rt; matches!(&*reply, Reply::Hit { flags: 7, .. })),
-            Part::Fixed(_) => assert!(rt; false, "a value was lost"),
-        }
-    }
-    let small = Parts::new(alloc, Reply::Deleted)?;
-    assert!(rt; matches!(small.taken, Part::Fixed(FixedReply::Deleted)));
+    let parts = Parts::new(rt.alloc(), hit(rt.alloc())?)?;
+    assert!(rt; is_in_each_part(parts));
+    let (_, taken, _) = Parts::new(rt.alloc(), Reply::Deleted)?.into_parts();
+    assert!(rt; matches!(taken, Part::Fixed(FixedReply::Deleted)));
+    Ok(())
+}
+
+#[test]
+fn operations_get_replies_of_their_own(rt: HostRuntime) {
+    assert!(rt; Reply::NotFound.may_answer(Op::Delete) && !Reply::NotFound.may_answer(Op::Set));
+    assert!(rt; FixedReply::Exists.may_answer(Op::Cas) && !FixedReply::Exists.may_answer(Op::Add));
+    assert!(rt; Part::Fixed(FixedReply::Lost).may_answer(Op::Touch));
+    assert!(rt; Op::Delete.is_delete() && !Op::Touch.is_delete() && Op::Cas.is_storing());
+    assert!(rt; Mark::Async.is_counting() && !Mark::Shadow.is_counting());
+    assert!(rt; CallId(7).is(CallId(7)) && !LegId(7).is(LegId(8)) && ServerId(1).is(ServerId(1)));
+}
+
+#[test]
+fn copies_are_equal(rt: HostRuntime) -> Result<(), Fail> {
+    let rest = Rest::of(b"a").ok_or("a rest")?;
+    let other = Rest::of(b"ab").ok_or("a rest")?;
+    assert!(rt; rest.copied() == rest && rest != other);
+    let server = ServerText::of(b"a:1").ok_or("a server")?;
+    let second = ServerText::of(b"a:2").ok_or("a server")?;
+    assert!(rt; server.copied() == server && server != second);
     Ok(())
 }

@@ -13,10 +13,9 @@ use Rattle.mcv_base.proofs.Prefixes.{no_rest, one_reading}
 use Rattle.mcv_base.specs.declared.key.KeyFault.{KeyFault}
 use Rattle.mcv_base.specs.declared.request.ServerId.{ServerId}
 use Rattle.mcv_base.specs.declared.key.KeyFault.TheVariants.{Empty, TooLong, BadByte, NoRest}
-use Rattle.mcv_base.specs.Key.{IsCut, IsKeyFault, is_key_byte, is_key_word}
+use Rattle.mcv_base.specs.Key.{IsCut, IsKeyFault, IsRest, is_key_byte, is_key_word}
 use Rattle.mcv_base.specs.Operation.{is_reading}
-use Rattle.mcv_blocks.specs.Blocks.{IsEraOf}
-use Rattle.mcv_blocks.specs.Places.{HasEra}
+use Rattle.mcv_route.specs.Eras.{HasEra, IsEraOf}
 use Rattle.mcv_classes.proofs.Order.{before-through}
 use Rattle.mcv_classes.specs.Class.{IsBefore, IsClassWord}
 use Rattle.mcv_classes.specs.Words.{class_words}
@@ -26,7 +25,7 @@ use Rattle.mcv_route.specs.Outcomes.{History, IsChoice}
 use Rattle.mcv_route.specs.Places.{leaf_in, pool_at_position, route_of_prefix}
 use Rattle.mcv_route.specs.Routes.{RouteEntry, RoutesValue}
 use Rattle.mcv_route.specs.Tree.{Pool, Tree}
-use Rattle.mcv_symbolic.specs.Covered.{IsRest, sizes_of}
+use Rattle.mcv_symbolic.specs.Covered.{sizes_of}
 use Rattle.mcv_witness.specs.Breaks.{AreRising, BreaksCoverage, IsLeafOf, IsMissed, IsRead, StandsAt, chosen}
 use Rattle.mcv_witness.specs.Confirm.{IsNowhere, are_rising, has_indexes, hit_seen, missed_seen, rising_from}
 use Rattle.mcv_witness.specs.Finding.{FindingValue}

@@ -4,7 +4,7 @@ use Rattle.std.specs.List.{Contains}
 use Rattle.std.specs.Prelude.{IsTrue}
 use Rattle.std.proofs.lemmas.Bool.{and_from, and_parts, eq-eqb, eqb-true, false≢true, ltb-false, ltb-true}
 use Rattle.mcv_base.specs.Key.{begins_with}
-use Rattle.mcv_blocks.proofs.RisingLists.{behind_first, first_or_behind, none_there}
+use Rattle.mcv_route.proofs.RisingLists.{behind_first, first_or_behind, none_there}
 use Rattle.mcv_classes.proofs.Order.{begins-same, shorter-begins}
 use Rattle.mcv_classes.specs.Class.{IsClassWord}
 use Rattle.mcv_classes.specs.Words.{class_words, prefixes_below, prefixes_in}

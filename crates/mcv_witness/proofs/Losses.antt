@@ -9,7 +9,7 @@ use Rattle.mcv_base.specs.Operation.{is_reading}
 use Rattle.mcv_base.specs.declared.operation.Op.{Op}
 use Rattle.mcv_base.specs.declared.operation.Op.TheVariants.{Get, Gets, Set, Add, Replace, Append, Prepend, Cas, Delete, Touch}
 use Rattle.mcv_base.specs.declared.reply.Outcome.{Outcome}
-use Rattle.mcv_blocks.proofs.BreakTables.{era_there}
+use Rattle.mcv_route.proofs.BreakTables.{era_there}
 use Rattle.mcv_route.specs.Launched.{launched}
 use Rattle.mcv_route.specs.Outcomes.{Outcomes, Choice, History, is_same, outcomes}
 use Rattle.mcv_route.specs.Places.{pool_at_position}

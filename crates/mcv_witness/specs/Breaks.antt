@@ -2,9 +2,9 @@
 use Rattle.std.specs.Prelude.{◌≡◌, ℕ, true, List, Option, Some, map, option_map, slice_get, slice_index}
 use Rattle.std.specs.List.{AllPairs}
 use Rattle.mcv_base.specs.declared.operation.Op.TheVariants.{Delete}
-use Rattle.mcv_base.specs.Key.{IsCut, is_key_word}
+use Rattle.mcv_base.specs.Key.{IsCut, IsRest, is_key_word}
 use Rattle.mcv_base.specs.Operation.{is_reading}
-use Rattle.mcv_blocks.specs.Blocks.{IsEraOf}
+use Rattle.mcv_route.specs.Eras.{IsEraOf}
 use Rattle.mcv_classes.specs.Class.{IsBefore, IsClassWord}
 use Rattle.mcv_classes.specs.Words.{class_words}
 use Rattle.mcv_route.specs.Outcomes.{Choice, History, IsChoice, outcomes}
@@ -13,7 +13,7 @@ use Rattle.mcv_route.specs.Routes.{RoutesValue}
 use Rattle.mcv_route.specs.Situation.{asked}
 use Rattle.mcv_route.specs.Tree.{Pool, Tree}
 use Rattle.mcv_route.specs.Verdict.{IsDone, IsHit, IsReachable, IsSent}
-use Rattle.mcv_symbolic.specs.Covered.{AreCovered, IsRest, sizes_of}
+use Rattle.mcv_symbolic.specs.Covered.{AreCovered, sizes_of}
 use Rattle.mcv_witness.specs.Finding.{FindingValue}
 
 -- the finding's route has this tree, its key has this rest, of the route and the class named, and this break opened its era

@@ -1,14 +1,12 @@
 //! Whether a finding shows what it says. It takes no memory, and uses nothing of what finds findings.
 
 ghost use Rattle.std.specs.Prelude.{◌≡◌, ◌↔◌, ◌<◌, Some, IsTrue, MatchOption, map, option_map, slice_get, slice_index, true};
-ghost use Rattle.std.specs.List.{All};
 ghost use Rattle.std.specs.Cmp.Lexicographic.{slice_cmp};
 ghost use Rattle.std.specs.Ordering.{is_lt, nat_cmp};
 ghost use Rattle.mcv_base.specs.Key.{IsCut, is_key_word};
 ghost use Rattle.mcv_route.specs.Situation.{asked};
 ghost use Rattle.mcv_route.specs.Tree.{Tree};
 ghost use Rattle.mcv_route.specs.View.{view};
-ghost use Rattle.mcv_symbolic.specs.Covered.{IsRest};
 ghost use Rattle.mcv_witness.specs.Breaks.{BreaksCoverage, IsLeafOf, IsMissed, IsRead, StandsAt};
 ghost use Rattle.mcv_witness.specs.Confirm.{IsNowhere, are_rising, has_indexes, hit_seen, missed_seen};
 ghost use Rattle.mcv_witness.specs.Finding.{finding_of, outcomes_of};
@@ -20,9 +18,8 @@ use crate::known::Known;
 use crate::seen::Seen;
 use crate::walk::{Sought, walk};
 use mcv_base::{Mark, Moment, Op, Outcome, Position, Prefix, Rest, ServerId, split_key};
-use mcv_blocks::{era_count, opened};
 use mcv_pools::{Choice, Symbol};
-use mcv_route::{Route, Routes};
+use mcv_route::{Route, Routes, era_count, opened};
 use mcv_rules::Asked;
 use std::cmp::Ordering;
 
@@ -86,23 +83,9 @@ fn place_by<'a>(
     if !is_class_word(route, &rest, finding.class.as_slice()) {
         return None;
     }
-    rest_fits(&rest);
+    let _ = rest.as_bytes();
     let since = opened(routes, finding.era);
     Some(Place { route, rest, since })
-}
-
-/// What the type of bytes says of them; nothing here computes.
-fn bytes_fit(bytes: &[u8])
-    ensures { All (λ b. b < 256) bytes.now }
-{
-    let _ = bytes;
-}
-
-/// What the type of a rest says of it; nothing here computes.
-fn rest_fits(rest: &Rest)
-    ensures { IsRest rest.now }
-{
-    bytes_fit(rest.as_bytes());
 }
 
 /// Whether each symbol has an index below its number of servers.

@@ -5,11 +5,11 @@ use Rattle.mcv_base.specs.Reply.{ReplyValue}
 use Rattle.mcv_pools.specs.Choice.{chosen_each}
 use Rattle.mcv_pools.specs.Symbol.{SymbolValue}
 use Rattle.mcv_route.specs.declared.launch.Launch.{Launch}
-use Rattle.mcv_route.specs.Eras.{breaks_of, since_at}
+use Rattle.mcv_route.specs.Eras.{IsEra, breaks_of, since_at}
 use Rattle.mcv_route.specs.Outcomes.{IsChoice, outcomes}
 use Rattle.mcv_route.specs.Routes.{RoutesValue}
 use Rattle.mcv_route.specs.Verdict.{Has, IsLegal, IsReachable}
-use Rattle.mcv_symbolic.specs.Covered.{AreCovered, IsEra}
+use Rattle.mcv_symbolic.specs.Covered.{AreCovered}
 use Rattle.mcv_world.specs.World.{Gone, Call, Leg, World, tree_of, situation_of, choice_of, history_of, launched_by, reply_of, is_counted_delete}
 use Rattle.mcv_world.specs.Moves.{Move, is_move, after, run}
 use Rattle.mcv_world.specs.Possible.{CanBegin, IsPossible, ArePossible, IsOpening}

@@ -1,11 +1,10 @@
 -- What changes the calls and legs of a proxy, one move at a time (own).
-use Rattle.std.specs.Prelude.{ℕ, suc, ◌+◌, Bool, true, false, not, ◌&&◌, ◌||◌, List, [], ◌∷◌, Option, Some, None, cond, if◌then◌else◌, is_none, is_some, length, filter}
+use Rattle.std.specs.Prelude.{ℕ, suc, ◌+◌, Bool, true, false, not, ◌&&◌, List, [], ◌∷◌, Option, Some, None, cond, if◌then◌else◌, is_none, is_some, length, filter}
 use Rattle.std.specs.List.{list_any}
 use Rattle.mcv_base.specs.declared.operation.Op.{Op}
-use Rattle.mcv_base.specs.declared.operation.Op.TheVariants.{Get, Gets, Set, Add, Replace, Append, Prepend, Cas, Delete, Touch}
 use Rattle.mcv_base.specs.declared.reply.FixedReply.TheVariants.{Lost}
-use Rattle.mcv_base.specs.Operation.{is_delete, is_reading, is_same_op}
-use Rattle.mcv_base.specs.Reply.{ReplyValue, hit, miss, stored, not_stored, exists, not_found, deleted, touched, fault, outcome_of, fixed_value, is_error}
+use Rattle.mcv_base.specs.Operation.{is_delete}
+use Rattle.mcv_base.specs.Reply.{ReplyValue, not_found, outcome_of, fixed_value, is_error, may_answer}
 use Rattle.mcv_route.specs.declared.launch.Launch.{Launch}
 use Rattle.mcv_route.specs.Outcomes.{is_same, outcomes}
 use Rattle.mcv_route.specs.Routes.{RoutesValue}
@@ -29,34 +28,9 @@ pub data Move : Type 0 where
 
 -- ---- replies
 
-abbrev pub is_storing : Op → Bool
-is_storing Get = false
-is_storing Gets = false
-is_storing Set = true
-is_storing Add = true
-is_storing Replace = true
-is_storing Append = true
-is_storing Prepend = true
-is_storing Cas = true
-is_storing Delete = false
-is_storing Touch = false
-
--- a server may reply so to a leg of this operation (memcached, protocol.txt)
-abbrev pub is_reply_to : Op → ReplyValue → Bool
-is_reply_to op (hit flags None body) = is_same_op op Get
-is_reply_to op (hit flags (Some cas) body) = is_same_op op Gets
-is_reply_to op miss = is_reading op
-is_reply_to op stored = is_storing op
-is_reply_to op not_stored = is_storing op
-is_reply_to op exists = is_same_op op Cas
-is_reply_to op not_found = is_same_op op Cas || (is_same_op op Delete || is_same_op op Touch)
-is_reply_to op deleted = is_same_op op Delete
-is_reply_to op touched = is_same_op op Touch
-is_reply_to op (fault line) = true
-
--- any other reply counts as the loss of the leg (own)
+-- a reply that no server gives to this operation counts as the loss of the leg (own)
 abbrev pub counted_as : Op → ReplyValue → ReplyValue
-counted_as op x = if is_reply_to op x then x else fixed_value Lost
+counted_as op x = if may_answer op x then x else fixed_value Lost
 
 abbrev pub is_error_reply : ReplyValue → Bool
 is_error_reply x = is_error (outcome_of x)

@@ -2,7 +2,9 @@
 use Rattle.std.specs.Prelude.{◌≡◌, ◌<◌, ℕ, true, List, [], ◌∷◌, Some, None, ⊤, slice_get, slice_index}
 use Rattle.mcv_route.specs.Outcomes.{IsChoice}
 use Rattle.mcv_route.specs.Routes.{RouteEntry, RoutesValue}
-use Rattle.mcv_symbolic.specs.Covered.{IsEra, IsRest, sizes_of}
+use Rattle.mcv_base.specs.Key.{IsRest}
+use Rattle.mcv_route.specs.Eras.{IsEra}
+use Rattle.mcv_symbolic.specs.Covered.{sizes_of}
 use Rattle.mcv_world.specs.World.{Spooled, Leg, World}
 use Rattle.mcv_world.specs.Moves.{Move, Began, Answered, WasSpooled, WasRefused, WasPerformed, EraBegan, Taken, is_move, after}
 

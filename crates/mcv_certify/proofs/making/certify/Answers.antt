@@ -1,10 +1,12 @@
-use Rattle.std.proofs.Common.{◌≡◌, [], List, Some, sym, subst}
+use Rattle.std.proofs.Common.{◌≡◌, ◌<◌, ℕ, [], List, Some, sym, subst}
 use Rattle.std.specs.List.{All}
 use Rattle.std.specs.Prelude.{slice_get}
 use Rattle.std.proofs.lemmas.List.{take_all}
+use Rattle.std.proofs.lemmas.List.Elements.{All-map}
 use Rattle.std.proofs.lemmas.Option.{slice_get-get_or}
 use Rattle.std.proofs.lemmas.Result.{err_from_is_err_and}
 use Rattle.mcv_cert.specs.declared.pair.Pair.{Pair}
+use Rattle.mcv_pools.specs.Symbol.{SymbolValue}
 use Rattle.mcv_judge.specs.InMemory.{pairs_of}
 use Rattle.mcv_blocks.specs.Blocks.{IsJustifiedBy}
 use Rattle.mcv_blocks.specs.Places.{AreRouteClasses, IsRouteClass}
@@ -52,7 +54,7 @@ returns-in_err-push_class c =
       picked = tt;
       lost = right r cs n sound are c.era_count-eras.ensures _ told;
       known = known r cs n sound are c.era_count-eras.ensures _ told;
-      covered = λ covered. only_memory r cs n sound are c.era_count-eras.ensures c.read_sizes.ensures covered _ told;
+      covered = λ covered. only_memory r cs n sound are c.era_count-eras.ensures (All-map (λ (n : ℕ). 0 < n) (λ (s : SymbolValue). s.n) r.symbols c.symbols-symbols.ensures.some) covered _ told;
     })
 
 pub of-requires : goal.of-requires

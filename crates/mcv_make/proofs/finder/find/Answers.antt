@@ -1,7 +1,9 @@
-use Rattle.std.proofs.Common.{◌∙◌, Ok, Err, Result, sym, ap}
+use Rattle.std.proofs.Common.{◌<◌, ℕ, ◌∙◌, Ok, Err, Result, sym, ap}
 use Rattle.std.specs.Prelude.{IfOk}
+use Rattle.std.proofs.lemmas.List.Elements.{All-map}
 use Rattle.std.proofs.lemmas.Option.{none-some}
 use Rattle.std.specs.declared.alloc.AllocError.{AllocError}
+use Rattle.mcv_pools.specs.Symbol.{SymbolValue}
 use Rattle.mcv_route.specs.Aliases.{first_alias}
 use Rattle.mcv_route.proofs.Selected.{has-alias}
 use Rattle.mcv_witness.specs.Breaks.{BreaksCoverage}
@@ -30,7 +32,7 @@ returns-clause-breaks c =
     let g = c.args.gap.now in
     let prefix = c.in-Some.prefix.now in
     both c.find_behind.result (λ f. StandsAtGap g (finding_of f)) (λ f. IsToldWith r prefix (finding_of f)) (λ f. BreaksCoverage r (finding_of f))
-    (λ f stands told. breaks-at r c.servers-servers.ensures.sound c.servers-servers.ensures.limits c.read_sizes.ensures g (finding_of f) prefix c.requires.gap stands c.first_alias.ensures.selected (sym c.in-Some.ensures.value) told)
+    (λ f stands told. breaks-at r c.servers-servers.ensures.sound c.servers-servers.ensures.limits (All-map (λ (n : ℕ). 0 < n) (λ (s : SymbolValue). s.n) r.symbols c.symbols-symbols.ensures.some) g (finding_of f) prefix c.requires.gap stands c.first_alias.ensures.selected (sym c.in-Some.ensures.value) told)
     c.find_behind.ensures.stands c.find_behind.ensures.told
 
 pub returns-clause-told : goal.returns-clause-told

@@ -25,13 +25,13 @@ returns-clause-told c =
     let since = option_map (λ (m : Moment). m.0) c.opened.result in
     let pool = pool_view c.in-Some-leaf_at.leaf.now in
     let member = subst (λ w. IsMember (class_words t) w (Some rest)) c.as_slice.ensures.value c.in_ok-rest.ensures in
-    let symbols : c.as_slice-symbols.result.now ≡ r.symbols = c.as_slice-symbols.ensures ∙ c.symbols.ensures.value in
+    let symbols : c.as_slice-symbols.result.now ≡ r.symbols = c.as_slice-symbols.ensures.value ∙ c.symbols.ensures.value in
     let chosen = c.in_ok-choice.ensures in
     let f = finding_at g c.in_ok-key_of.field-0.items c.in_ok-choice.field-0 c.in_ok-op.field-0.op (outcomes_of c.in_ok-op.field-0.legs.items) (outcomes_of c.in_ok-deletes.field-0.items) in
     let is : IsToldWith r c.args.prefix.now f =
     told r g c.requires.gap t c.in-Some.ensures rest member since c.opened.ensures.some pool c.in-Some-leaf_at.ensures c.args.prefix.now
     c.in_ok-key_of.field-0.items c.in_ok-choice.field-0 c.in_ok-op.field-0.op (outcomes_of c.in_ok-op.field-0.legs.items) (outcomes_of c.in_ok-deletes.field-0.items) chosen.0
-    c.rest_fits.ensures c.in_ok-key_of.ensures chosen.1 (chosen.2 ∙ ap (free_indexes chosen.0 g.server.0 pool.symbol g.at 0) symbols)
+    c.as_bytes.ensures.rest c.in_ok-key_of.ensures chosen.1 (chosen.2 ∙ ap (free_indexes chosen.0 g.server.0 pool.symbol g.at 0) symbols)
     c.in_ok-op.ensures.reading c.in_ok-op.ensures.first c.in_ok-op.ensures.led c.in_ok-deletes.ensures in
     let class : g.class.items ≡ c.in_ok-copied.field-0.items = sym (c.in_ok-copied.ensures ∙ c.as_slice-2.ensures.value) in
     let leaf : g.leaf ≡ c.in_ok-copy.field-0 = sym c.in_ok-copy.ensures in

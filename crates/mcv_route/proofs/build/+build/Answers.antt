@@ -59,6 +59,9 @@ pub build_last-build_route-requires : goal.build_last-build_route-requires
 build_last-build_route-requires t c =
     (search (rules, asked.the_lemmas), (c.requires.filled, rw c.deref.ensures (sound-last (map list_view c.args.lists.now) c.args.last.now c.in-Some.route c.in-Some.is c.requires.sound)))
 
+pub build_boxed-build_route-requires : goal.build_boxed-build_route-requires
+build_boxed-build_route-requires t c = (search (rules, asked.the_lemmas), (c.requires.filled, rw c.deref.ensures c.requires.sound))
+
 pub build_last-returns-in-None : goal.build_last-returns-in-None
 build_last-returns-in-None t c = built-no_last (map list_view c.args.lists.now) c.args.symbols.now c.args.symbols.now c.args.last.now None c.in-None.is refl refl
 
@@ -103,22 +106,24 @@ pub build_route-build_children-requires-in-MissFailover : goal.build_route-build
 build_route-build_children-requires-in-MissFailover t c =
     (search (rules, asked.the_lemmas), (c.requires.filled, rw c.deref-in-MissFailover.ensures.value (sound-MissFailover (map list_view c.args.lists.now) c.args.route.now c.in-MissFailover.children c.in-MissFailover.is c.requires.sound)))
 
-pub build_route-build_route-requires : goal.build_route-build_route-requires
-build_route-build_route-requires t c = (
+pub build_route-build_boxed-requires : goal.build_route-build_boxed-requires
+build_route-build_boxed-requires t c =
+    (search (rules, asked.the_lemmas), (c.requires.filled, (sound-WarmUp (map list_view c.args.lists.now) c.args.route.now c.in-WarmUp.cold c.in-WarmUp.warm c.in-WarmUp.exptime c.in-WarmUp.is c.requires.sound).0))
+
+pub build_route-build_boxed-requires-in-WarmUp : goal.build_route-build_boxed-requires-in-WarmUp
+build_route-build_boxed-requires-in-WarmUp t c =
+    (search (rules, asked.the_lemmas), (c.requires.filled, (sound-WarmUp (map list_view c.args.lists.now) c.args.route.now c.in-WarmUp.cold c.in-WarmUp.warm c.in-WarmUp.exptime c.in-WarmUp.is c.requires.sound).1))
+
+pub build_route-build_boxed-requires-in-Migrate : goal.build_route-build_boxed-requires-in-Migrate
+build_route-build_boxed-requires-in-Migrate t c = (
   search (rules, asked.the_lemmas),
-  (c.requires.filled, rw c.deref-in-WarmUp.ensures (sound-WarmUp (map list_view c.args.lists.now) c.args.route.now c.in-WarmUp.cold c.in-WarmUp.warm c.in-WarmUp.exptime c.in-WarmUp.is c.requires.sound).0),
+  (c.requires.filled, (sound-Migrate (map list_view c.args.lists.now) c.args.route.now c.in-Migrate.from c.in-Migrate.to c.in-Migrate.start c.in-Migrate.interval c.in-Migrate.is c.requires.sound).0),
 )
 
-pub build_route-build_route-requires-in-Migrate : goal.build_route-build_route-requires-in-Migrate
-build_route-build_route-requires-in-Migrate t c = (
+pub build_route-build_boxed-requires-in-Migrate-2 : goal.build_route-build_boxed-requires-in-Migrate-2
+build_route-build_boxed-requires-in-Migrate-2 t c = (
   search (rules, asked.the_lemmas),
-  (c.requires.filled, rw c.deref-in-Migrate.ensures (sound-Migrate (map list_view c.args.lists.now) c.args.route.now c.in-Migrate.from c.in-Migrate.to c.in-Migrate.start c.in-Migrate.interval c.in-Migrate.is c.requires.sound).0),
-)
-
-pub build_route-build_route-requires-in-Migrate-2 : goal.build_route-build_route-requires-in-Migrate-2
-build_route-build_route-requires-in-Migrate-2 t c = (
-  search (rules, asked.the_lemmas),
-  (c.requires.filled, rw c.deref-in-Migrate-2.ensures (sound-Migrate (map list_view c.args.lists.now) c.args.route.now c.in-Migrate.from c.in-Migrate.to c.in-Migrate.start c.in-Migrate.interval c.in-Migrate.is c.requires.sound).1),
+  (c.requires.filled, (sound-Migrate (map list_view c.args.lists.now) c.args.route.now c.in-Migrate.from c.in-Migrate.to c.in-Migrate.start c.in-Migrate.interval c.in-Migrate.is c.requires.sound).1),
 )
 
 pub build_route-build_prefixes-requires : goal.build_route-build_prefixes-requires
@@ -191,15 +196,13 @@ build_route-returns-in_ok-build_children-in-MissFailover t c =
 
 pub build_route-returns-in_ok-warm-in-WarmUp : goal.build_route-returns-in_ok-warm-in-WarmUp
 build_route-returns-in_ok-warm-in-WarmUp t c =
-    built-WarmUp (map list_view c.args.lists.now) c.args.route.now c.in-WarmUp.cold c.in-WarmUp.warm c.in-WarmUp.exptime c.deref-in-WarmUp.result.now c.deref-in-WarmUp-2.result.now
-    c.args.symbols.now c.build_route.new.symbols c.build_route-in-WarmUp.new.symbols c.in_ok-cold-in-WarmUp.cold c.in_ok-warm-in-WarmUp.warm c.in_ok-build_route-in-WarmUp.field-0 c.in_ok-build_route-in-WarmUp-2.field-0
-    c.in-WarmUp.is c.deref-in-WarmUp.ensures c.deref-in-WarmUp-2.ensures c.in_ok-cold-in-WarmUp.ensures.ok c.in_ok-warm-in-WarmUp.ensures.ok c.in_ok-build_route-in-WarmUp.ensures c.in_ok-build_route-in-WarmUp-2.ensures
+    built-WarmUp (map list_view c.args.lists.now) c.args.route.now c.in-WarmUp.cold c.in-WarmUp.warm c.in-WarmUp.exptime c.args.symbols.now c.build_boxed.new.symbols c.build_boxed-in-WarmUp.new.symbols
+    c.in_ok-cold-in-WarmUp.cold c.in_ok-warm-in-WarmUp.warm c.in-WarmUp.is c.in_ok-cold-in-WarmUp.ensures c.in_ok-warm-in-WarmUp.ensures
 
 pub build_route-returns-in_ok-to-in-Migrate : goal.build_route-returns-in_ok-to-in-Migrate
 build_route-returns-in_ok-to-in-Migrate t c =
-    built-Migrate (map list_view c.args.lists.now) c.args.route.now c.in-Migrate.from c.in-Migrate.to c.in-Migrate.start c.in-Migrate.interval c.deref-in-Migrate.result.now c.deref-in-Migrate-2.result.now
-    c.args.symbols.now c.build_route-in-Migrate.new.symbols c.build_route-in-Migrate-2.new.symbols c.in_ok-from-in-Migrate.from c.in_ok-to-in-Migrate.to c.in_ok-build_route-in-Migrate.field-0 c.in_ok-build_route-in-Migrate-2.field-0
-    c.in-Migrate.is c.deref-in-Migrate.ensures c.deref-in-Migrate-2.ensures c.in_ok-from-in-Migrate.ensures.ok c.in_ok-to-in-Migrate.ensures.ok c.in_ok-build_route-in-Migrate.ensures c.in_ok-build_route-in-Migrate-2.ensures
+    built-Migrate (map list_view c.args.lists.now) c.args.route.now c.in-Migrate.from c.in-Migrate.to c.in-Migrate.start c.in-Migrate.interval c.args.symbols.now c.build_boxed-in-Migrate.new.symbols c.build_boxed-in-Migrate-2.new.symbols
+    c.in_ok-from-in-Migrate.from c.in_ok-to-in-Migrate.to c.in-Migrate.is c.in_ok-from-in-Migrate.ensures c.in_ok-to-in-Migrate.ensures
 
 pub build_route-returns-in_ok-wildcard-in-PrefixSelector : goal.build_route-returns-in_ok-wildcard-in-PrefixSelector
 build_route-returns-in_ok-wildcard-in-PrefixSelector t c =

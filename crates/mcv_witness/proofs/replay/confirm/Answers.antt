@@ -14,7 +14,7 @@ returns-then-not-is_choice c =
     let routes = c.args.routes.now in
     let f = finding_of c.args.finding.now in
     let place = c.in-Some.place in
-    let tests : has_indexes f.choice 0 routes.symbols ≡ false = sym (c.is_choice.ensures ∙ ap (λ x. has_indexes f.choice 0 x) (c.as_slice.ensures ∙ c.symbols.ensures.value)) ∙ c.if-not-is_choice.true in
+    let tests : has_indexes f.choice 0 routes.symbols ≡ false = sym (c.is_choice.ensures ∙ ap (λ x. has_indexes f.choice 0 x) (c.as_slice.ensures.value ∙ c.symbols.ensures.value)) ∙ c.if-not-is_choice.true in
     no_choice routes f (view place.route.now) place.rest (option_map (λ m. m.0) place.since) c.in-Some.ensures (λ h. false≢true (sym tests ∙ choice_indexes f.choice routes.symbols h))
 
 pub returns-then-not-has_leaf : goal.returns-then-not-has_leaf
@@ -34,6 +34,6 @@ returns c =
     let f = finding_of c.args.finding.now in
     let place = c.in-Some.place in
     let stands = c.in-Some.ensures in
-    let tests = sym (c.is_choice.ensures ∙ ap (λ x. has_indexes f.choice 0 x) (c.as_slice.ensures ∙ c.symbols.ensures.value)) ∙ c.if-not-is_choice.false in
+    let tests = sym (c.is_choice.ensures ∙ ap (λ x. has_indexes f.choice 0 x) (c.as_slice.ensures.value ∙ c.symbols.ensures.value)) ∙ c.if-not-is_choice.false in
     all_but_missed routes f (view place.route.now) place.rest (option_map (λ m. m.0) place.since) stands (indexes_choice f.choice routes.symbols tests)
     ((c.has_leaf.ensures (view place.route.now) stands.route).0 c.if-not-has_leaf.false) (c.is_read.ensures.0 c.if-not-is_read.false) c.is_missed.result c.is_missed.ensures

@@ -39,7 +39,7 @@ returns c =
     let f = finding_of c.args.finding.now in
     let t = view c.in_ok-route.route.now in
     let low = c.if-finding-era_count.false in
-    found_at c.args.routes.now f c.args.prefix.now c.args.rest t (option_map (λ m. m.0) c.opened-since.result) c.in_ok-number.number c.requires.word c.requires.cut c.rest_fits.ensures
+    found_at c.args.routes.now f c.args.prefix.now c.args.rest t (option_map (λ m. m.0) c.opened-since.result) c.in_ok-number.number c.requires.word c.requires.cut c.as_bytes.ensures.rest
     c.in_ok-number.ensures c.if-number-finding.false c.in_ok-route.ensures
     ((subst (λ (w : List ℕ). IsTrue c.is_class_word.result ↔ IsClassWord (class_words t) c.args.rest w) c.as_slice.ensures.value c.is_class_word.ensures).0 c.if-not-is_class_word.false)
     (c.opened-since.ensures.some ((c.era_count.ensures c.args.finding.now.era).0 low))

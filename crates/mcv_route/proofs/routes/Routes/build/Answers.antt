@@ -1,5 +1,6 @@
-use Rattle.std.proofs.Common.{map, ap, sym, subst, ◌∙◌}
-use Rattle.std.specs.List.{flat_map}
+use Rattle.std.proofs.Common.{◌≡◌, ◌<◌, true, map, ap, sym, subst, ◌∙◌}
+use Rattle.std.specs.List.{All, flat_map}
+use Rattle.mcv_base.specs.Server.{is_server}
 use Rattle.mcv_config.specs.Plan.{IsSound}
 use Rattle.mcv_route.specs.Aliases.{AreSelected}
 use Rattle.mcv_route.specs.Built.{routes_named}
@@ -11,6 +12,7 @@ use Rattle.mcv_route.specs.Walk.{list_view}
 use Rattle.mcv_route.proofs.Limits.{within-built}
 use Rattle.mcv_route.proofs.Selected.{selected-built}
 use Rattle.mcv_route.proofs.Soundness.{sound-built}
+use Rattle.mcv_route.proofs.SymbolsHaveServers.{symbols_have_servers}
 use Rattle.mcv_route.proofs.Whole.{sound-entries, routes-are}
 use Rattle.mcv_route.proofs.routes.Routes.build.Goals as goal
 
@@ -27,6 +29,8 @@ invariant_of-result c =
     let P : _ → Type 0 = λ bs. IsBreakTable bs (numbers_of c.in_ok-break_table.break_table.items) in
     record {
       trees = subst IsSoundRoutes (sym is) (sound-built c.args.config c.into_parts-servers.ensures.sound);
+      texts = subst (λ r. All (λ text. is_server text ≡ true) r.servers) (sym is) c.into_parts-servers.ensures.sound.texts;
+      sizes = subst (λ r. All (λ s. 0 < s.n) r.symbols) (sym is) (symbols_have_servers c.args.config c.into_parts-servers.ensures.sound);
       limits = subst AreWithinLimits (sym is) (within-built c.args.config c.into_parts-servers.ensures.sound c.into_parts-servers.ensures.limits);
       selected = subst (λ r. AreSelected r.entries) (sym is) (selected-built c.args.config c.into_parts-servers.ensures.sound);
       table = subst P (c.in_ok-moments.ensures ∙ ap (λ es. flat_map (λ e. breaks e.tree) (map entry_view es)) c.as_slice-2.ensures.value) c.in_ok-break_table.ensures;

@@ -1,0 +1,35 @@
+use Rattle.std.proofs.Common.{◌≡◌, ◌∙◌, ◌+◌, ◌-◌, ◌≤◌, refl, sym, ap, subst, true, false, arith, rules}
+use Rattle.mcv_queues.specs.Legs.{is_flight, is_in_flight}
+use Rattle.mcv_queues.specs.Queues.{legs}
+use Rattle.mcv_queues.specs.declared.leg.State.TheVariants as states
+use Rattle.mcv_events.specs.Rows.{is_unanswered}
+use Rattle.mcv_core.specs.CoreView.{HasDone, at_row, held, refused, replayed_in, step_to, stores}
+use Rattle.mcv_core.specs.Facts.{counts_in}
+use Rattle.mcv_core.specs.Rows.{awaiting_state, state_of}
+use Rattle.mcv_core.specs.View.{core_view}
+use Rattle.mcv_core.specs.declared.step.Change.TheVariants as changes
+use Rattle.mcv_core.specs.declared.step.Place.TheVariants as places
+use Rattle.mcv_core.proofs.Landings.{IsStated, stated}
+use Rattle.mcv_core.proofs.LegViews
+use Rattle.mcv_core.proofs.dispatcher.Dispatcher.hold.Goals as goal
+
+pub held-requires : goal.held-requires
+held-requires c =
+    let l = stated (legs c.args.self.now.queues c.args.leg.0) states.Sent c.requires.sent in
+    ap is_in_flight l.at ∙ ap is_flight l.is
+
+pub invariant_of-self : goal.invariant_of-self
+invariant_of-self c =
+    let d = c.args.self.now in
+    let l = stated (legs d.queues c.args.leg.0) states.Sent c.requires.sent in
+    record {
+      sound = LegViews.sound_held d c.args.leg.0 l.leg l.at (ap counts_in (sym l.at) ∙ c.requires.counted) l.is c.held.new.self c.held.ensures.legs c.held.ensures.room c.held.ensures.servers;
+      table = d.table;
+    }
+
+pub returns : goal.returns
+returns c =
+    let d = c.args.self.now in
+    let l = stated (legs d.queues c.args.leg.0) states.Sent c.requires.sent in
+    subst (λ o. HasDone (at_row (held (core_view d) c.args.leg.0) o) (LegViews.view_with d c.held.new.self) (step_to places.Held changes.Nothing)) (sym (LegViews.there d c.args.leg.0 l.leg l.at))
+    (refl, LegViews.held_view d c.args.leg.0 l.leg l.at c.held.new.self c.held.ensures.legs (ap is_flight l.is) c.held.ensures.flights)

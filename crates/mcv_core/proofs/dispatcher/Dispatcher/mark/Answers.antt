@@ -1,0 +1,10 @@
+use Rattle.std.proofs.Common.{◌∙◌, refl}
+use Rattle.mcv_queues.specs.Marks.{checked_mark}
+use Rattle.mcv_core.proofs.Landings.{marked_view}
+use Rattle.mcv_core.proofs.dispatcher.Dispatcher.mark.Goals as goal
+
+pub invariant_of-self : goal.invariant_of-self
+invariant_of-self c = record { sound = c.args.self.now.sound; table = c.mark.ensures.servers ∙ c.args.self.now.table }
+
+pub returns : goal.returns
+returns c = marked_view c.args.self.now c.mark.new.self c.args.server.0 c.args.server.0 checked_mark c.mark.ensures.marks refl

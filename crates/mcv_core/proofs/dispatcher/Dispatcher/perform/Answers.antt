@@ -1,0 +1,44 @@
+use Rattle.std.proofs.Common.{◌≡◌, ◌∙◌, ◌+◌, ◌-◌, ◌≤◌, refl, sym, ap, subst, true, false, arith, rules}
+use Rattle.mcv_queues.specs.Legs.{is_flight, is_in_flight}
+use Rattle.mcv_queues.specs.Queues.{legs}
+use Rattle.mcv_queues.specs.declared.leg.State.TheVariants as states
+use Rattle.mcv_events.specs.Rows.{is_unanswered}
+use Rattle.mcv_core.specs.CoreView.{HasDone, at_row, held, refused, replayed_in, step_to, stores}
+use Rattle.mcv_core.specs.Facts.{counts_in}
+use Rattle.mcv_core.specs.Rows.{awaiting_state, state_of}
+use Rattle.mcv_core.specs.View.{core_view}
+use Rattle.mcv_core.specs.declared.step.Change.TheVariants as changes
+use Rattle.mcv_core.specs.declared.step.Place.TheVariants as places
+use Rattle.mcv_core.proofs.Landings.{IsStated, stated}
+use Rattle.mcv_core.proofs.LegViews
+use Rattle.mcv_core.proofs.dispatcher.Dispatcher.perform.Goals as goal
+
+pub gone-requires : goal.gone-requires
+gone-requires c =
+    let l = stated (legs c.args.self.now.queues c.args.leg.0) states.InReplay c.requires in
+    record { there = ap is_in_flight l.at ∙ ap is_flight l.is }
+
+pub performed-self-requires : goal.performed-self-requires
+performed-self-requires c =
+    let d = c.args.self.now in
+    let l = stated (legs d.queues c.args.leg.0) states.InReplay c.requires in
+    LegViews.some_spooled d c.args.leg.0 l.leg l.at l.is
+
+pub invariant_of-self : goal.invariant_of-self
+invariant_of-self c =
+    let d = c.args.self.now in
+    let l = stated (legs d.queues c.args.leg.0) states.InReplay c.requires in
+    let some = LegViews.some_spooled d c.args.leg.0 l.leg l.at l.is in
+    let less : c.performed-self.result.spooled + 1 ≡ d.counts.spooled = let e : c.performed-self.result.spooled ≡ d.counts.spooled - 1 = ap (λ v. v.spooled) c.performed-self.ensures in omega (arith, e, some) in
+    record {
+      sound = subst (λ v. LegViews.IsSoundBy d c.gone.new.self v) (sym c.performed-self.ensures)
+          (LegViews.sound_gone d c.args.leg.0 l.leg l.at l.is c.gone.new.self c.gone.ensures.legs c.gone.ensures.room c.gone.ensures.servers (d.counts.spooled - 1) (omega (arith, some)));
+      table = d.table;
+    }
+
+pub returns : goal.returns
+returns c =
+    let d = c.args.self.now in
+    let l = stated (legs d.queues c.args.leg.0) states.InReplay c.requires in
+    subst (λ o. HasDone (at_row (replayed_in (core_view d) c.args.leg.0 false) o) (LegViews.view_with d c.gone.new.self) (step_to places.Performed changes.Performed)) (sym (LegViews.there d c.args.leg.0 l.leg l.at))
+    (refl, LegViews.gone_view d c.args.leg.0 l.leg l.at c.gone.new.self c.gone.ensures.legs (ap is_flight l.is) c.gone.ensures.flights)

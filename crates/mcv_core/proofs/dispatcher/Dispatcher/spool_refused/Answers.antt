@@ -1,0 +1,23 @@
+use Rattle.std.proofs.Common.{◌≡◌, ◌∙◌, refl, sym, ap, rules}
+use Rattle.mcv_queues.specs.Queues.{legs}
+use Rattle.mcv_queues.specs.declared.leg.State.TheVariants as states
+use Rattle.mcv_core.specs.View.{core_view}
+use Rattle.mcv_core.proofs.Does
+use Rattle.mcv_core.proofs.Landings
+use Rattle.mcv_core.proofs.dispatcher.Dispatcher.spool_refused.Goals as goal
+
+pub returns-in-Held-clause-effect : goal.returns-in-Held-clause-effect
+returns-in-Held-clause-effect c =
+    let d = c.args.self.now in
+    let l = Landings.seen (legs d.queues c.args.leg.0) c.in-Some.facts (sym c.facts.ensures ∙ c.in-Some.is) in
+    Landings.refusing_effect d c.args.leg.0 l.leg l.at (ap (λ f. f.state) l.is ∙ c.in-Held.is) (core_view c.refuse.new.self) c.refuse.result c.refuse.ensures
+
+pub returns-in-Held-clause-does : goal.returns-in-Held-clause-does
+returns-in-Held-clause-does c =
+    Does.refusing_does (core_view c.args.self.now) (core_view c.refuse.new.self) c.args.leg.0 c.refuse.result c.args.self.now.sound.core (returns-in-Held-clause-effect c)
+
+pub returns-in-Refused-clause-effect : goal.returns-in-Refused-clause-effect
+returns-in-Refused-clause-effect c =
+    let d = c.args.self.now in
+    let l = Landings.seen (legs d.queues c.args.leg.0) c.in-Some.facts (sym c.facts.ensures ∙ c.in-Some.is) in
+    Landings.refusing_again d c.args.leg.0 l.leg l.at (ap (λ f. f.state) l.is ∙ c.in-Refused.is)

@@ -1,0 +1,46 @@
+use Rattle.std.proofs.Common.{◌≡◌, ◌∙◌, ◌+◌, ◌-◌, ◌≤◌, refl, sym, ap, subst, true, false, arith, rules}
+use Rattle.mcv_queues.specs.Legs.{is_flight, is_in_flight}
+use Rattle.mcv_queues.specs.Queues.{legs}
+use Rattle.mcv_queues.specs.declared.leg.State.TheVariants as states
+use Rattle.mcv_events.specs.Rows.{is_unanswered}
+use Rattle.mcv_core.specs.CoreView.{HasDone, at_row, held, refused, replayed_in, step_to, stores}
+use Rattle.mcv_core.specs.Facts.{counts_in}
+use Rattle.mcv_core.specs.Rows.{awaiting_state, state_of}
+use Rattle.mcv_core.specs.View.{core_view}
+use Rattle.mcv_core.specs.declared.step.Change.TheVariants as changes
+use Rattle.mcv_core.specs.declared.step.Place.TheVariants as places
+use Rattle.mcv_events.specs.QueuedLegs.{count_in}
+use Rattle.mcv_core.specs.Sound.{spooled_in}
+use Rattle.mcv_core.proofs.Landings
+use Rattle.mcv_core.proofs.Landings.{stated}
+use Rattle.mcv_core.proofs.LegViews
+use Rattle.mcv_core.proofs.dispatcher.Dispatcher.store_refused.Goals as goal
+
+pub spooled-requires : goal.spooled-requires
+spooled-requires c =
+    let l = stated (legs c.args.self.now.queues c.args.leg.0) states.Refused c.requires in
+    ap is_in_flight l.at ∙ ap is_flight l.is
+
+pub stored-self-requires : goal.stored-self-requires
+stored-self-requires c =
+    let d = c.args.self.now in
+    let l = stated (legs d.queues c.args.leg.0) states.Refused c.requires in
+    record { queued = LegViews.some_queued d c.args.leg.0 l.leg l.at (ap (λ t. count_in (state_of t)) l.is); fits = LegViews.spool_fits d c.args.leg.0 l.leg l.at (ap (λ t. spooled_in (state_of t)) l.is) }
+
+pub invariant_of-self : goal.invariant_of-self
+invariant_of-self c =
+    let d = c.args.self.now in
+    let l = stated (legs d.queues c.args.leg.0) states.Refused c.requires in
+    let some = LegViews.some_queued d c.args.leg.0 l.leg l.at (ap (λ t. count_in (state_of t)) l.is) in
+    record {
+      sound = subst (λ v. LegViews.IsSoundBy d c.spooled.new.self v) (sym c.stored-self.ensures)
+          (LegViews.sound_stored d c.args.leg.0 l.leg l.at l.is c.spooled.new.self c.spooled.ensures.legs c.spooled.ensures.room c.spooled.ensures.servers (d.counts.queued - 1) (omega (arith, some)));
+      table = d.table;
+    }
+
+pub returns : goal.returns
+returns c =
+    let d = c.args.self.now in
+    let l = stated (legs d.queues c.args.leg.0) states.Refused c.requires in
+    subst (λ o. HasDone (at_row (stores (core_view d) c.args.leg.0) o) (LegViews.view_with d c.spooled.new.self) (step_to places.Spooled changes.Spooled)) (sym (LegViews.there d c.args.leg.0 l.leg l.at))
+    (refl, Landings.stored_view d c.args.leg.0 l.leg l.at l.is c.spooled.new.self c.spooled.ensures.legs c.spooled.ensures.flights)

@@ -1,0 +1,22 @@
+use Rattle.std.proofs.Common.{◌≡◌, [], sym, ap, subst, rules}
+use Rattle.std.specs.Arc.{arc_value}
+use Rattle.mcv_symbolic.specs.Covered.{AreCovered}
+use Rattle.mcv_core.specs.Opening.{opened_view}
+use Rattle.mcv_core.specs.Steps.{AreAnswered}
+use Rattle.mcv_core.specs.View.{core_view}
+use Rattle.mcv_core.proofs.Keeping
+use Rattle.mcv_core.proofs.run.run_all.Goals as goal
+
+pub returns-clause-kept : goal.returns-clause-kept
+returns-clause-kept g c =
+    let h = g.H.KeyHash.chosen in
+    let r = arc_value c.args.accepted in
+    let events = c.args.events.items in
+    let w = core_view c.run.new.self.dispatcher in
+    let same : c.deref.result.now ≡ r = search rules in
+    let covered : AreCovered r = subst AreCovered same c.deletes_are_covered.ensures in
+    let answered : AreAnswered (h c.in_ok-core.core.hash) (core_view c.in_ok-core.core.dispatcher) events c.in_ok-answers.answers.items w = c.in_ok-answers.ensures.answered in
+    let from : AreAnswered (h c.args.hash) (opened_view r []) events c.in_ok-answers.answers.items w =
+    subst (λ v. AreAnswered (h c.args.hash) v events c.in_ok-answers.answers.items w) c.in_ok-core.ensures.view
+    (subst (λ k. AreAnswered (h k) (core_view c.in_ok-core.core.dispatcher) events c.in_ok-answers.answers.items w) c.in_ok-core.ensures.hash answered) in
+    Keeping.deletes_are_kept (h c.args.hash) r [] events c.in_ok-answers.answers.items w covered from

@@ -1,0 +1,55 @@
+-- A core is opened with the records that the spool held (own).
+use Rattle.std.specs.Prelude.{◌≡◌, ℕ, List, [], ◌∷◌, Option, Some, None, length, option_map, slice_get}
+use Rattle.std.specs.Str.{bytes_eq}
+use Rattle.mcv_base.specs.declared.operation.Mark.TheVariants.{Plain}
+use Rattle.mcv_base.specs.declared.operation.Op.TheVariants.{Delete}
+use Rattle.mcv_base.specs.declared.request.ServerId.{ServerId}
+use Rattle.mcv_pools.specs.Table.{number_in}
+use Rattle.mcv_queues.specs.declared.leg.Leg.{Leg}
+use Rattle.mcv_queues.specs.declared.leg.State.{State}
+use Rattle.mcv_queues.specs.declared.leg.State.TheVariants.{InSpool}
+use Rattle.mcv_queues.specs.Marks.{no_mark}
+use Rattle.mcv_route.specs.Eras.{breaks_of, since_at}
+use Rattle.mcv_route.specs.Routes.{RoutesValue}
+use Rattle.mcv_spool.specs.declared.record.SpoolRecord.{SpoolRecord}
+use Rattle.mcv_events.specs.Rows as rows
+use Rattle.mcv_events.specs.Runs.{OpenedRecord, opened, spooled_row}
+use Rattle.mcv_core.specs.CoreView.{CoreView}
+use Rattle.mcv_core.specs.declared.errand.Errand.{Errand}
+use Rattle.mcv_core.specs.Errands.{launch_of, rest_of}
+use Rattle.mcv_core.specs.Noting.{AreAddressed}
+use Rattle.mcv_core.specs.Rows.{rows_by}
+
+abbrev pub with_server : Option ℕ → List ℕ → List OpenedRecord → List OpenedRecord
+with_server None rest all = all
+with_server (Some server) rest all = (server, rest) ∷ all
+
+-- the records whose servers are in the table
+abbrev pub known_records : List (List ℕ) → List (ℕ × SpoolRecord) → List OpenedRecord
+known_records servers [] = []
+known_records servers (x ∷ records) = with_server (number_in bytes_eq servers x.1.server) x.1.rest (known_records servers records)
+
+-- nothing in flight, no mark, at moment 0 of chapter 0
+abbrev pub opened_view : RoutesValue → List (ℕ × SpoolRecord) → CoreView
+opened_view r records = record {
+  routes = r;
+  rows = opened (since_at (breaks_of r) 0) (known_records r.servers records);
+  flights = λ s. None;
+  marks = λ s. no_mark;
+  moment = 0;
+  chapter = 0;
+  entries = length (known_records r.servers records);
+}
+
+-- a delete at the root, of no call
+pub record IsOpenedErrand (server : ServerId) (rest : List ℕ) (e : Errand) : Type 0 where
+  pub call : e.call ≡ None
+  pub entry : e.entry ≡ 0
+  pub launch : launch_of e ≡ record { position = []; server = server; op = Delete; mark = Plain }
+  pub rest_is : rest_of e ≡ rest
+
+-- the legs are those of these records, numbered from 0 in their order
+pub record AreOpened (records : List OpenedRecord) (legs : ℕ → Option (Leg Errand)) (count : ℕ) : Type 0 where
+  pub rows_are : (f : State → rows.State) → f InSpool ≡ rows.InSpool → (n : ℕ) → rows_by f legs n ≡ option_map spooled_row (slice_get records n)
+  pub addressed : AreAddressed legs
+  pub counted : count ≡ length records

@@ -1,0 +1,68 @@
+-- What is read of a core's legs (own).
+use Rattle.std.specs.Prelude.{◌&&◌, ◌⊎◌, ℕ, Bool, true, false, List, Option, Some, None, IsSome, option_and_then, option_map}
+use Rattle.std.specs.Arc.{arc_value}
+use Rattle.mcv_base.specs.declared.operation.Mark.{Mark}
+use Rattle.mcv_base.specs.declared.operation.Op.{Op}
+use Rattle.mcv_base.specs.declared.request.Request.{Request}
+use Rattle.mcv_base.specs.declared.request.ServerId.{ServerId}
+use Rattle.mcv_queues.specs.declared.leg.Leg.{Leg}
+use Rattle.mcv_queues.specs.Numbers.{IsLeast}
+use Rattle.mcv_queues.specs.Queues.{legs}
+use Rattle.mcv_events.specs.Rows as rows
+use Rattle.mcv_events.specs.Rows.{LegRow, Rows, awaits}
+use Rattle.mcv_core.specs.declared.dispatcher.Dispatcher.{Dispatcher}
+use Rattle.mcv_core.specs.declared.errand.Errand.{Errand}
+use Rattle.mcv_core.specs.declared.readers.LegView.{LegView}
+use Rattle.mcv_core.specs.declared.step.Place.{Place}
+use Rattle.mcv_core.specs.declared.step.Place.TheVariants as places
+
+-- where a leg is that is queued or spooled
+abbrev pub place_of : rows.State → Place
+place_of rows.Waiting = places.Waiting
+place_of rows.Sent = places.Sent
+place_of rows.Held = places.Held
+place_of rows.InSpool = places.Spooled
+
+-- ---- which leg the spool is to take
+
+abbrev pub is_held_in : rows.State → Bool
+is_held_in rows.Waiting = false
+is_held_in rows.Sent = false
+is_held_in rows.Held = true
+is_held_in rows.InSpool = false
+
+abbrev pub is_held : Option LegRow → Bool
+is_held None = false
+is_held (Some s) = is_held_in s.state
+
+-- it is held, and its call runs and has no outcome of it
+abbrev pub is_held_unheard : Rows → Option LegRow → Bool
+is_held_unheard w None = false
+is_held_unheard w (Some s) = is_held_in s.state && awaits w.calls s s.call
+
+-- the first held leg of which its call has no outcome; where there is none, the first held leg
+abbrev pub IsFirstHeld : Rows → Option ℕ → Type 0
+IsFirstHeld w b = (IsSome b × IsLeast (λ n. is_held_unheard w (w.legs n)) b) ⊎ (IsLeast (λ n. is_held_unheard w (w.legs n)) None × IsLeast (λ n. is_held (w.legs n)) b)
+
+-- ---- what a leg does
+
+-- its call, server, operation, mark and rest
+pub record LegSeen : Type 0 where
+  pub call : Option ℕ
+  pub server : ServerId
+  pub op : Op
+  pub mark : Mark
+  pub rest : List ℕ
+
+abbrev pub seen : LegView → LegSeen
+seen v = record { call = option_map (λ k. k.0) v.call; server = v.server; op = v.op; mark = v.mark; rest = v.rest.now }
+
+abbrev pub seen_row : LegRow → LegSeen
+seen_row s = record { call = s.call; server = s.launch.server; op = s.launch.op; mark = s.launch.mark; rest = s.rest }
+
+-- what the client asked whose call launched the leg
+abbrev pub request_in : Errand → Option Request
+request_in e = option_map arc_value (arc_value e.laid).request
+
+abbrev pub request_of : Dispatcher → ℕ → Option Request
+request_of d n = option_and_then (λ (l : Leg Errand). request_in l.content) (legs d.queues n)

@@ -1,0 +1,172 @@
+//! Legs in flight are answered and lost.
+
+ghost use Rattle.std.specs.Prelude.{◌≡◌, ◌&&◌, not, cond, true, false, Some, IfOk, IfErr, option_map};
+ghost use Rattle.mcv_base.specs.Operation.{is_delete};
+ghost use Rattle.mcv_base.specs.Reply.{fixed_value, part_value};
+ghost use Rattle.mcv_queues.specs.Legs.{is_flight, is_in_flight};
+ghost use Rattle.mcv_queues.specs.Queues.{legs};
+ghost use Rattle.mcv_core.specs.CoreView.{Does, HasDone, HasEffect, answer_at, at_row, change_move, finished, held, landing_at, loss_at, replayed_in, sent_in};
+ghost use Rattle.mcv_core.specs.Facts.{counts_in, facts_of as facts_seen, state_in};
+ghost use Rattle.mcv_core.specs.View.{core_view};
+ghost use Rattle.mcv_base.specs.declared.reply.FixedReply.TheVariants.{Lost as LostReply};
+ghost use Rattle.mcv_core.specs.declared.step.Place.TheVariants as places;
+
+use crate::counted::Counted;
+use crate::dispatcher::Dispatcher;
+use crate::facts::LegFacts;
+use crate::fault::CoreFault;
+use crate::settle::Settling;
+use crate::step::{Change, Place, Step};
+use mcv_base::{LegId, Op, Parts};
+use mcv_queues::State;
+
+impl Dispatcher {
+    /// A leg in flight was answered.
+    pub fn answered(&mut self, leg: LegId, parts: Parts) -> Result<Step, CoreFault>
+        ensures effect { HasEffect (answer_at (core_view self.old) leg.0 parts) (core_view self.old) (core_view self.new) result }
+        ensures does { IfOk result (λ step. Does (core_view self.old) (core_view self.new) (change_move leg.0 parts step.change)) }
+    {
+        match self.flying(leg) {
+            Ok(facts) => {
+                let counted = Counted::of(facts.op, parts);
+                self.marks.answered(facts.server);
+                Ok(self.land(leg, facts, counted))
+            }
+            Err(fault) => Err(fault),
+        }
+    }
+
+    /// A leg in flight was lost.
+    pub fn lost(&mut self, leg: LegId) -> Result<Step, CoreFault>
+        ensures effect { HasEffect (loss_at (core_view self.old) leg.0) (core_view self.old) (core_view self.new) result }
+        ensures does { IfOk result (λ step. Does (core_view self.old) (core_view self.new) (change_move leg.0 (fixed_value LostReply) step.change)) }
+    {
+        match self.flying(leg) {
+            Ok(facts) => {
+                let counted = Counted::lost();
+                self.marks.lost(facts.server);
+                Ok(self.land(leg, facts, counted))
+            }
+            Err(fault) => Err(fault),
+        }
+    }
+
+    /// What the core looks at of a leg in flight.
+    fn flying(&self, leg: LegId) -> Result<LegFacts, CoreFault>
+        ensures at { IfOk result (λ facts. option_map facts_seen (legs self.now.queues leg.0) ≡ Some facts) }
+        ensures flies { IfOk result (λ facts. is_flight facts.state ≡ true) }
+        ensures refused { IfErr result (λ fault. (fault ≡ CoreFault.NoSuchLeg) × (is_in_flight (legs self.now.queues leg.0) ≡ false)) }
+    {
+        match self.facts(leg) {
+            Some(facts) if is_flight(facts.state) => Ok(facts),
+            _ => Err(CoreFault::NoSuchLeg),
+        }
+    }
+
+    /// A leg in flight has this reply.
+    fn land(&mut self, leg: LegId, facts: LegFacts, counted: Counted) -> Step
+        requires at { option_map facts_seen (legs self.old.queues leg.0) ≡ Some facts }
+        requires flies { is_flight facts.state ≡ true }
+        requires one { part_value counted.taken ≡ part_value counted.outcome }
+        ensures { HasDone (landing_at (core_view self.old) leg.0 (part_value counted.outcome)) (core_view self.new) result }
+    {
+        let replayed = matches!(facts.state, State::InReplay);
+        if !replayed {
+            return self.land_sent(leg, facts, counted);
+        }
+        if counted.is_error() {
+            self.wait_again(leg)
+        } else {
+            self.perform(leg)
+        }
+    }
+
+    /// A leg that was sent has this reply.
+    fn land_sent(&mut self, leg: LegId, facts: LegFacts, counted: Counted) -> Step
+        requires at { option_map facts_seen (legs self.old.queues leg.0) ≡ Some facts }
+        requires sent { facts.state ≡ State.Sent }
+        requires one { part_value counted.taken ≡ part_value counted.outcome }
+        ensures { HasDone (at_row (sent_in (core_view self.old) leg.0 (part_value counted.outcome)) ((core_view self.old).rows.legs leg.0)) (core_view self.new) result }
+    {
+        if facts.counted_delete && counted.is_error() {
+            self.hold(leg)
+        } else {
+            self.finish(leg, facts, counted)
+        }
+    }
+
+    /// A leg that was sent is done with, and its call records this reply.
+    fn finish(&mut self, leg: LegId, facts: LegFacts, counted: Counted) -> Step
+        requires at { option_map facts_seen (legs self.old.queues leg.0) ≡ Some facts }
+        requires sent { facts.state ≡ State.Sent }
+        requires one { part_value counted.taken ≡ part_value counted.outcome }
+        ensures { HasDone (at_row (finished (core_view self.old) leg.0 (part_value counted.outcome)) ((core_view self.old).rows.legs leg.0)) (core_view self.new) result }
+    {
+        let place = Place::after(facts.op, counted.is_error());
+        self.settle(leg, Settling::Gone, counted.outcome, counted.taken);
+        Step {
+            place,
+            change: Change::Answered,
+        }
+    }
+
+    /// A counted delete leg that its server didn't perform is held.
+    fn hold(&mut self, leg: LegId) -> Step
+        requires sent { state_in (legs self.old.queues leg.0) ≡ Some State.Sent }
+        requires counted { counts_in (legs self.old.queues leg.0) ≡ true }
+        ensures { HasDone (at_row (held (core_view self.old) leg.0) ((core_view self.old).rows.legs leg.0)) (core_view self.new) result }
+    {
+        self.queues.held(leg);
+        Step {
+            place: Place::Held,
+            change: Change::Nothing,
+        }
+    }
+
+    /// A leg in replay waits in the spool again.
+    fn wait_again(&mut self, leg: LegId) -> Step
+        requires { state_in (legs self.old.queues leg.0) ≡ Some State.InReplay }
+        ensures { HasDone (at_row (replayed_in (core_view self.old) leg.0 true) ((core_view self.old).rows.legs leg.0)) (core_view self.new) result }
+    {
+        self.queues.replay_failed(leg);
+        Step {
+            place: Place::Spooled,
+            change: Change::Nothing,
+        }
+    }
+
+    /// A leg in replay was performed.
+    fn perform(&mut self, leg: LegId) -> Step
+        requires { state_in (legs self.old.queues leg.0) ≡ Some State.InReplay }
+        ensures { HasDone (at_row (replayed_in (core_view self.old) leg.0 false) ((core_view self.old).rows.legs leg.0)) (core_view self.new) result }
+    {
+        let _ = self.queues.gone(leg);
+        self.counts = self.counts.performed();
+        Step {
+            place: Place::Performed,
+            change: Change::Performed,
+        }
+    }
+}
+
+impl Place {
+    /// Where a leg is that had a reply and isn't held: a delete is performed by any answer but an error.
+    fn after(op: Op, failed: bool) -> Place
+        ensures { result ≡ cond (is_delete op && not failed) places.Performed places.Gone }
+    {
+        if op.is_delete() && !failed {
+            Place::Performed
+        } else {
+            Place::Gone
+        }
+    }
+}
+
+fn is_flight(state: State) -> bool
+    ensures { result ≡ is_flight state }
+{
+    match state {
+        State::Sent | State::InReplay => true,
+        State::Waiting | State::Held | State::Refused | State::InSpool => false,
+    }
+}

@@ -1,0 +1,115 @@
+//! The core: the dispatcher with the hash that picks the servers of a key.
+
+ghost use Rattle.std.specs.Arc.{arc_value};
+ghost use Rattle.std.specs.Prelude.{◌≡◌, Some, None, IfOk, IfErr, IfSome, OnErr};
+ghost use Rattle.mcv_pools.specs.Choice.{HasIndexEach};
+ghost use Rattle.mcv_core.specs.Asking.{HasBegunFor, HasNoKey, IsAsked, IsKeyOf, IsRefusedFor};
+ghost use Rattle.mcv_core.specs.Opening.{opened_view};
+ghost use Rattle.mcv_core.specs.View.{core_view};
+ghost use Rattle.mcv_core.specs.declared.fault.CoreFault.TheVariants.{Memory as OutOfMemory};
+
+use crate::begin::Asked;
+use crate::dispatcher::Dispatcher;
+use crate::fault::CoreFault;
+use mcv_base::{CallId, Op, Prefix, Request, Rest, hashed_part, split_key};
+use mcv_check::Accepted;
+use mcv_pools::{KeyHash, choose};
+use mcv_spool::SpoolRecord;
+use std::alloc::Global;
+use std::sync::Arc;
+
+/// The core of the proxy.
+#[derive(Drop)]
+pub struct Core<H> {
+    pub(crate) dispatcher: Dispatcher,
+    pub(crate) hash: H,
+}
+
+impl<H: KeyHash + Drop> Core<H> {
+    /// A core over these routes, opened with the records that the spool held: their legs have the numbers from 0 in their
+    /// order. Records of servers that the routes don't have are left to the file. The one error is `Memory`.
+    pub fn new(
+        alloc: Global,
+        accepted: Arc<Accepted>,
+        hash: H,
+        records: &[(u64, SpoolRecord)],
+    ) -> Result<Core<H>, CoreFault>
+        ensures view { IfOk result (λ core. core_view core.dispatcher ≡ opened_view (arc_value accepted) records.now) }
+        ensures hash { IfOk result (λ core. core.hash ≡ hash) }
+        ensures err { IfErr result (λ fault. fault ≡ OutOfMemory) }
+    {
+        let dispatcher = Dispatcher::open(alloc, accepted, records)?;
+        Ok(Core { dispatcher, hash })
+    }
+
+    /// All events but `begin`.
+    pub fn events(&mut self) -> &mut Dispatcher {
+        &mut self.dispatcher
+    }
+
+    /// What the readers look at.
+    pub fn state(&self) -> &Dispatcher
+        ensures { result.now ≡ self.now.dispatcher }
+    {
+        &self.dispatcher
+    }
+
+    /// Begins a call for one key of a request, counted from 0: its route is that of the key's prefix, its servers are those
+    /// that the hash picks, and its era is the core's. `BadKey`, `UnknownPrefix`, `LegsFull` and `ChapterFull` are looked
+    /// for in this order; `Memory` may come before them. A refused call changes nothing that contracts see.
+    pub fn begin(
+        &mut self,
+        alloc: Global,
+        request: Arc<Request>,
+        key: usize,
+    ) -> Result<CallId, CoreFault>
+        ensures begun { IfOk result (λ call. HasBegunFor (core_view self.old.dispatcher) (H.chosen self.old.hash) (arc_value request) key (core_view self.new.dispatcher)) }
+        ensures call { IfOk result (λ call. call.0 ≡ (core_view self.old.dispatcher).rows.next_call) }
+        ensures refused { IfErr result (IsRefusedFor (core_view self.old.dispatcher) (H.chosen self.old.hash) (arc_value request) key) }
+        ensures err { OnErr result (core_view self.new.dispatcher ≡ core_view self.old.dispatcher) }
+        ensures hash { self.new.hash ≡ self.old.hash }
+    {
+        match self.asked(alloc, request, key) {
+            Ok(asked) => self.dispatcher.begin(alloc, asked),
+            Err(fault) => Err(fault),
+        }
+    }
+
+    /// What a call for this key asks for.
+    fn asked(&self, alloc: Global, request: Arc<Request>, key: usize) -> Result<Asked, CoreFault>
+        ensures asked { IfOk result (λ asked. IsAsked (core_view self.now.dispatcher).routes (H.chosen self.now.hash) (arc_value request) key asked.op asked.route asked.rest asked.choice) }
+        ensures within { IfOk result (λ asked. HasIndexEach (core_view self.now.dispatcher).routes.symbols asked.choice) }
+        ensures refused { IfErr result (IsRefusedFor (core_view self.now.dispatcher) (H.chosen self.now.hash) (arc_value request) key) }
+    {
+        let Some((op, prefix, rest)) = key_of(&request, key) else {
+            return Err(CoreFault::BadKey);
+        };
+        let routes = self.dispatcher.accepted.routes();
+        let Some(route) = routes.route_of(&prefix) else {
+            return Err(CoreFault::UnknownPrefix);
+        };
+        let choice = choose(alloc, &self.hash, routes.symbols(), hashed_part(&rest))?;
+        Ok(Asked {
+            request,
+            op,
+            route,
+            rest,
+            choice,
+        })
+    }
+}
+
+/// The operation of a request, and the prefix and the rest of one of its keys.
+fn key_of(request: &Request, key: usize) -> Option<(Op, Prefix, Rest)>
+    ensures some { IfSome result (λ k. IsKeyOf request.now key k.0 k.1 k.2) }
+    ensures none { result ≡ None → HasNoKey request.now key }
+{
+    let Request::Ask(ask) = request else {
+        return None;
+    };
+    let word = ask.keys.get(key)?;
+    match split_key(word.as_slice()) {
+        Ok((prefix, rest)) => Some((ask.op, prefix, rest)),
+        Err(_) => None,
+    }
+}

@@ -1,0 +1,94 @@
+//! What is read of the legs.
+
+ghost use Rattle.std.specs.Prelude.{◌≡◌, option_and_then, option_copied, option_map};
+ghost use Rattle.mcv_queues.specs.Numbers.{leg_number};
+ghost use Rattle.mcv_core.specs.Errands.{launch_of, rest_of};
+ghost use Rattle.mcv_core.specs.Readers.{IsFirstHeld, place_of, request_in, request_of, seen, seen_row};
+ghost use Rattle.mcv_core.specs.Rows.{state_of};
+ghost use Rattle.mcv_core.specs.View.{core_view};
+
+use crate::dispatcher::Dispatcher;
+use crate::errand::Errand;
+use crate::step::Place;
+use mcv_base::{CallId, LegId, Mark, Op, Request, Rest, ServerId};
+use mcv_queues::State;
+
+/// What its server is sent of a leg.
+#[derive(Clone, Copy)]
+pub struct LegView<'a> {
+    /// The call that launched it; None where the spool held it at the start.
+    pub call: Option<CallId>,
+    pub server: ServerId,
+    pub op: Op,
+    pub mark: Mark,
+    pub rest: &'a Rest,
+    /// What the client asked; None where the spool held the leg at the start.
+    pub request: Option<&'a Request>,
+}
+
+impl Place {
+    /// Where a leg in this state is.
+    fn of(state: State) -> Place
+        ensures { result ≡ place_of (state_of state) }
+    {
+        match state {
+            State::Waiting => Place::Waiting,
+            State::Sent => Place::Sent,
+            State::Held | State::Refused => Place::Held,
+            State::InSpool | State::InReplay => Place::Spooled,
+        }
+    }
+}
+
+impl Errand {
+    /// What its server is sent of it.
+    fn view(&self) -> LegView<'_>
+        ensures call { option_map (λ k. k.0) result.call ≡ self.now.call }
+        ensures server { result.server ≡ (launch_of self.now).server }
+        ensures op { result.op ≡ (launch_of self.now).op }
+        ensures mark { result.mark ≡ (launch_of self.now).mark }
+        ensures rest { result.rest.now ≡ rest_of self.now }
+        ensures request { option_copied result.request ≡ request_in self.now }
+    {
+        LegView {
+            call: self.call.map(CallId),
+            server: self.server(),
+            op: self.op(),
+            mark: self.mark(),
+            rest: &self.laid.rest,
+            request: self.laid.request.as_deref(),
+        }
+    }
+}
+
+impl Dispatcher {
+    /// Where a leg is; None where it is neither queued nor spooled.
+    pub fn place(&self, leg: LegId) -> Option<Place>
+        ensures { result ≡ option_map (λ s. place_of s.state) ((core_view self.now).rows.legs leg.0) }
+    {
+        let row = self.queues.get(leg)?;
+        Some(Place::of(row.state))
+    }
+
+    /// The leg that the spool is to take next: of those that are held without an outcome the one with the least number,
+    /// and where there is none, of those that are held.
+    pub fn held(&self) -> Option<LegId>
+        ensures { IsFirstHeld (core_view self.now).rows (option_map leg_number result) }
+    {
+        match self.queues.first_held() {
+            Some(leg) => Some(leg),
+            None => None,
+        }
+    }
+
+    /// What its server is sent of a leg; None where it is neither queued nor spooled.
+    pub fn leg(&self, leg: LegId) -> Option<LegView<'_>>
+        ensures row { option_map seen result ≡ option_map seen_row ((core_view self.now).rows.legs leg.0) }
+        ensures request { option_and_then (λ v. option_copied v.request) result ≡ request_of self.now leg.0 }
+    {
+        match self.queues.get(leg) {
+            Some(row) => Some(row.content.view()),
+            None => None,
+        }
+    }
+}

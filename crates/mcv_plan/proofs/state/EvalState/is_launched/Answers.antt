@@ -1,0 +1,9 @@
+use Rattle.std.proofs.Common.{◌∙◌, ap, sym}
+use Rattle.mcv_plan.specs.Known.{own_in}
+use Rattle.mcv_plan.specs.State.{holds}
+use Rattle.mcv_plan.specs.View.{view}
+use Rattle.mcv_plan.proofs.Local.{sends_plan}
+use Rattle.mcv_plan.proofs.state.EvalState.is_launched.Goals as goal
+
+pub returns : goal.returns
+returns c = c.launches.ensures ∙ ap (holds c.args.entry) (sym (sends_plan (own_in c.args.outcomes.now) (view c.args.self.now.course)))

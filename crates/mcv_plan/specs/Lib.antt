@@ -1,0 +1,11 @@
+pub mod Reached
+pub mod State
+pub mod View
+pub mod Past
+pub mod Known
+pub mod Parts
+pub mod Entries
+pub mod Built
+pub mod Evaluation
+pub mod Counts
+pub mod Laws
