@@ -44,22 +44,22 @@ use Rattle.mcv_core.proofs.States
 
 settles_by : (l : Leg Errand) (to : Settling) → (is_gone to ≡ false → is_counted_delete (leg_of (row_by state_of l)) ≡ true) → Settles l (settled_to to (Some l))
 settles_by l kinds.Gone h = inl refl
-settles_by l kinds.InSpool h = inr (record { state = states.InSpool; is = refl; shut = refl; shut_too = refl; counted = h refl })
-settles_by l kinds.Refused h = inr (record { state = states.Refused; is = refl; shut = refl; shut_too = refl; counted = h refl })
+settles_by l (kinds.InSpool seq) h = inr (record { state = states.InSpool; seq = Some seq; is = refl; shut = refl; shut_too = refl; counted = h refl })
+settles_by l kinds.Refused h = inr (record { state = states.Refused; seq = l.«record»; is = refl; shut = refl; shut_too = refl; counted = h refl })
 
 row_is_to : (l : Leg Errand) (to : Settling) → option_map (row_by state_of) (settled_to to (Some l)) ≡ row_to to (row_by state_of l)
 row_is_to l kinds.Gone = refl
-row_is_to l kinds.InSpool = refl
+row_is_to l (kinds.InSpool seq) = refl
 row_is_to l kinds.Refused = refl
 
 counts_to : (l : Leg Errand) (to : Settling) → count_of (option_map (row_by state_of) (settled_to to (Some l))) + is_settling to ≡ 1
 counts_to l kinds.Gone = refl
-counts_to l kinds.InSpool = refl
+counts_to l (kinds.InSpool seq) = refl
 counts_to l kinds.Refused = refl
 
 stores_to : (l : Leg Errand) (to : Settling) → spooled_one (option_map (row_by state_of) (settled_to to (Some l))) ≡ is_storing_leg to
 stores_to l kinds.Gone = refl
-stores_to l kinds.InSpool = refl
+stores_to l (kinds.InSpool seq) = refl
 stores_to l kinds.Refused = refl
 
 unspooled : (t : rows.State) → count_in t ≡ 1 → spooled_in t ≡ 0
@@ -92,7 +92,7 @@ removed calls calls2 calls3 k c ended two three = three ∙ by_cases ended
 flies_to : (d : Dispatcher) (n : ℕ) (l : Leg Errand) (at : legs d.queues n ≡ Some l) (to : Settling) → is_flight l.state ≡ is_gone to → (flights2 : ℕ → Option ℕ)
     → ((m : ℕ) → flights2 m ≡ cond (is_in_flight_to m (legs d.queues n)) None (in_flight d.queues m)) → flights2 ≡ flights_to to (in_flight d.queues) (launch_of l.content).server.0
 flies_to d n l at kinds.Gone flies flights2 e = views.flights_landed d n l at flies flights2 e
-flies_to d n l at kinds.InSpool flies flights2 e = views.flights_stay d n l at flies flights2 e
+flies_to d n l at (kinds.InSpool seq) flies flights2 e = views.flights_stay d n l at flies flights2 e
 flies_to d n l at kinds.Refused flies flights2 e = views.flights_stay d n l at flies flights2 e
 
 module _ (d : Dispatcher) (n : ℕ) (to : Settling) (can : CanSettle d n to) where

@@ -35,7 +35,7 @@ returns-in-Ok-clause-effect c =
     let server : c.in-Ok.facts.server.0 ≡ (launch_of l.leg.content).server.0 = ap (λ f. f.server.0) (sym l.is) ∙ ap (λ v. v.0) (LegViews.server_is d n l.leg l.at) in
     Landings.answered_effect d n l.leg l.at (ap (λ f. is_flight f.state) l.is ∙ c.in-Ok.ensures.flies) c.args.parts (part_value c.of-counted.result.outcome)
     (c.of-counted.ensures.outcome ∙ ap (λ f. counted_as f.op c.args.parts) (sym l.is)) (record (core_view d) { marks = marks c.answered.new.self }) (core_view c.land.new.self) c.land.result
-    (Landings.marked_view d c.answered.new.self c.in-Ok.facts.server.0 (launch_of l.leg.content).server.0 answered_mark c.answered.ensures.marks server) c.land.ensures
+    (Landings.marked_view d c.answered.new.self c.in-Ok.facts.server.0 (launch_of l.leg.content).server.0 answered_mark c.answered.ensures.marks server) c.land.ensures.done
 
 pub returns-in-Ok-clause-does : goal.returns-in-Ok-clause-does
 returns-in-Ok-clause-does c = Does.answer_does (core_view c.args.self.now) (core_view c.land.new.self) c.args.leg.0 c.args.parts c.land.result c.args.self.now.sound.core (returns-in-Ok-clause-effect c)

@@ -15,13 +15,14 @@ use Rattle.mcv_core.specs.Errands.{launch_of}
 use Rattle.mcv_core.specs.Facts.{counts_in, is_counting_delete}
 use Rattle.mcv_core.specs.Rows.{awaiting_state, row_by, state_of}
 use Rattle.mcv_core.specs.Settling.{settled_row}
-use Rattle.mcv_core.specs.View.{core_view}
+use Rattle.mcv_core.specs.View.{core_view, records_after, records_of}
 use Rattle.mcv_core.specs.declared.settle.Settling.TheVariants as kinds
 use Rattle.mcv_core.specs.declared.step.Change.TheVariants as changes
 use Rattle.mcv_core.specs.declared.step.Place.TheVariants as places
 use Rattle.mcv_core.proofs.Does
 use Rattle.mcv_core.proofs.Landings
 use Rattle.mcv_core.proofs.LegViews
+use Rattle.mcv_core.proofs.SpoolNumbers
 use Rattle.mcv_core.proofs.dispatcher.Dispatcher.finish.Goals as goal
 
 pub settle-requires : goal.settle-requires
@@ -34,8 +35,8 @@ settle-requires c =
       one = c.requires.one;
     }
 
-pub returns : goal.returns
-returns c =
+pub returns-clause-done : goal.returns-clause-done
+returns-clause-done c =
     let d = c.args.self.now in
     let n = c.args.leg.0 in
     let l = Landings.seen (legs d.queues n) c.args.facts c.requires.at in
@@ -44,4 +45,9 @@ returns c =
     c.after-place.ensures ∙ ap (λ b. cond (is_delete c.args.facts.op && not b) places.Performed places.Gone) c.is_error.ensures
     ∙ ap (λ o. cond (is_delete o && not (is_error_reply y)) places.Performed places.Gone) (sym (ap (λ f. f.op) l.is)) in
     subst (λ o. HasDone (at_row (finished (core_view d) n y) o) (core_view c.settle.new.self) (step_to c.after-place.result changes.Answered)) (sym (LegViews.there d n l.leg l.at))
-    (ap (λ p. step_to p changes.Answered) place, c.settle.ensures ∙ ap (settled_row (core_view d) n kinds.Gone y) (LegViews.there d n l.leg l.at))
+    (ap (λ p. step_to p changes.Answered) place, c.settle.ensures.view ∙ ap (settled_row (core_view d) n kinds.Gone y) (LegViews.there d n l.leg l.at))
+
+pub returns-clause-records : goal.returns-clause-records
+returns-clause-records c =
+    let was = records_of c.args.self.now in
+    c.settle.ensures.records ∙ sym (ap (λ p. records_after p c.args.leg.0 was) c.after-place.ensures ∙ SpoolNumbers.records_gone (is_delete c.args.facts.op && not c.is_error.result) c.args.leg.0 was)

@@ -34,7 +34,7 @@ returns-in-Ok-clause-effect c =
     let l = Landings.seen (legs d.queues n) c.in-Ok.facts c.in-Ok.ensures.at in
     let server : c.in-Ok.facts.server.0 ≡ (launch_of l.leg.content).server.0 = ap (λ f. f.server.0) (sym l.is) ∙ ap (λ v. v.0) (LegViews.server_is d n l.leg l.at) in
     Landings.loss_effect d n l.leg l.at (ap (λ f. is_flight f.state) l.is ∙ c.in-Ok.ensures.flies) (part_value c.lost-counted.result.outcome) c.lost-counted.ensures.outcome (record (core_view d) { marks = marks c.lost.new.self })
-    (core_view c.land.new.self) c.land.result (Landings.marked_view d c.lost.new.self c.in-Ok.facts.server.0 (launch_of l.leg.content).server.0 lost_mark c.lost.ensures.marks server) c.land.ensures
+    (core_view c.land.new.self) c.land.result (Landings.marked_view d c.lost.new.self c.in-Ok.facts.server.0 (launch_of l.leg.content).server.0 lost_mark c.lost.ensures.marks server) c.land.ensures.done
 
 pub returns-in-Ok-clause-does : goal.returns-in-Ok-clause-does
 returns-in-Ok-clause-does c = Does.loss_does (core_view c.args.self.now) (core_view c.land.new.self) c.args.leg.0 c.land.result c.args.self.now.sound.core (returns-in-Ok-clause-effect c)

@@ -17,6 +17,7 @@ use Rattle.mcv_core.specs.declared.step.Change.TheVariants as changes
 use Rattle.mcv_core.specs.declared.step.Place.TheVariants as places
 use Rattle.mcv_core.proofs.Landings
 use Rattle.mcv_core.proofs.LegViews
+use Rattle.mcv_core.proofs.SpoolNumbers
 use Rattle.mcv_core.proofs.dispatcher.Dispatcher.refuse.Goals as goal
 
 pub settle-requires : goal.settle-requires
@@ -29,8 +30,11 @@ settle-requires c =
       one = c.lost-reply.ensures.taken ∙ sym c.lost-reply.ensures.outcome;
     }
 
-pub returns : goal.returns
-returns c =
+pub returns-clause-done : goal.returns-clause-done
+returns-clause-done c =
     let d = c.args.self.now in
     let l = Landings.stated (legs d.queues c.args.leg.0) states.Held c.requires in
-    Landings.refused_done d c.args.leg.0 l.leg l.at l.is (part_value c.lost-reply.result.outcome) c.lost-reply.ensures.outcome (core_view c.settle.new.self) c.settle.ensures
+    Landings.refused_done d c.args.leg.0 l.leg l.at l.is (part_value c.lost-reply.result.outcome) c.lost-reply.ensures.outcome (core_view c.settle.new.self) c.settle.ensures.view
+
+pub returns-clause-records : goal.returns-clause-records
+returns-clause-records c = c.settle.ensures.records

@@ -10,7 +10,7 @@ pub returns-in-Held-clause-effect : goal.returns-in-Held-clause-effect
 returns-in-Held-clause-effect c =
     let d = c.args.self.now in
     let l = Landings.seen (legs d.queues c.args.leg.0) c.in-Some.facts (sym c.facts.ensures ∙ c.in-Some.is) in
-    Landings.refusing_effect d c.args.leg.0 l.leg l.at (ap (λ f. f.state) l.is ∙ c.in-Held.is) (core_view c.refuse.new.self) c.refuse.result c.refuse.ensures
+    Landings.refusing_effect d c.args.leg.0 l.leg l.at (ap (λ f. f.state) l.is ∙ c.in-Held.is) (core_view c.refuse.new.self) c.refuse.result c.refuse.ensures.done
 
 pub returns-in-Held-clause-does : goal.returns-in-Held-clause-does
 returns-in-Held-clause-does c =

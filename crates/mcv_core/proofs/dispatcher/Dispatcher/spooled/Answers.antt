@@ -19,7 +19,7 @@ returns-in-Held-clause-effect c =
     let l = Landings.seen (legs d.queues n) c.in-Some.facts (sym c.facts.ensures ∙ c.in-Some.is) in
     let state : l.leg.state ≡ states.Held = ap (λ f. f.state) l.is ∙ c.in-Held.is in
     let its : is_one ((core_view d).rows.legs n) (is_record (core_view d) n c.args.stored.«record».server c.args.stored.«record».rest) ≡ true = search rules in
-    Landings.storing_effect d n l.leg l.at (ap state_of state) c.args.stored.«record».server c.args.stored.«record».rest its (core_view c.store_held.new.self) c.store_held.result c.store_held.ensures
+    Landings.storing_effect d n l.leg l.at (ap state_of state) c.args.stored.«record».server c.args.stored.«record».rest its (core_view c.store_held.new.self) c.store_held.result c.store_held.ensures.done
 
 pub returns-in-Held-clause-does : goal.returns-in-Held-clause-does
 returns-in-Held-clause-does c =
@@ -32,7 +32,7 @@ returns-in-Refused-clause-effect c =
     let l = Landings.seen (legs d.queues n) c.in-Some.facts (sym c.facts.ensures ∙ c.in-Some.is) in
     let state : l.leg.state ≡ states.Refused = ap (λ f. f.state) l.is ∙ c.in-Refused.is in
     let its : is_one ((core_view d).rows.legs n) (is_record (core_view d) n c.args.stored.«record».server c.args.stored.«record».rest) ≡ true = search rules in
-    Landings.storing_effect d n l.leg l.at (ap state_of state) c.args.stored.«record».server c.args.stored.«record».rest its (core_view c.store_refused.new.self) c.store_refused.result c.store_refused.ensures
+    Landings.storing_effect d n l.leg l.at (ap state_of state) c.args.stored.«record».server c.args.stored.«record».rest its (core_view c.store_refused.new.self) c.store_refused.result c.store_refused.ensures.done
 
 pub returns-in-Refused-clause-does : goal.returns-in-Refused-clause-does
 returns-in-Refused-clause-does c =

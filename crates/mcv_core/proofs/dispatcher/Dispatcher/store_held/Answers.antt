@@ -17,6 +17,7 @@ use Rattle.mcv_core.specs.declared.step.Change.TheVariants as changes
 use Rattle.mcv_core.specs.declared.step.Place.TheVariants as places
 use Rattle.mcv_core.proofs.Landings
 use Rattle.mcv_core.proofs.LegViews
+use Rattle.mcv_core.proofs.SpoolNumbers
 use Rattle.mcv_core.proofs.dispatcher.Dispatcher.store_held.Goals as goal
 
 pub settle-requires : goal.settle-requires
@@ -24,17 +25,20 @@ settle-requires c =
     let d = c.args.self.now in
     let l = Landings.stated (legs d.queues c.args.leg.0) states.Held c.requires in
     record {
-      can = Landings.can_settle d c.args.leg.0 l.leg l.at kinds.InSpool (ap (λ t. is_unanswered (awaiting_state t)) l.is) (ap is_flight l.is) (ap (λ t. count_in (state_of t)) l.is)
+      can = Landings.can_settle d c.args.leg.0 l.leg l.at (kinds.InSpool c.args.seq) (ap (λ t. is_unanswered (awaiting_state t)) l.is) (ap is_flight l.is) (ap (λ t. count_in (state_of t)) l.is)
           (λ e. Landings.counted_held d c.args.leg.0 l.leg l.at (ap (λ t. is_unanswered (state_of t)) l.is));
       one = c.not_found-reply.ensures.taken ∙ sym c.not_found-reply.ensures.outcome;
     }
 
-pub returns : goal.returns
-returns c =
+pub returns-clause-done : goal.returns-clause-done
+returns-clause-done c =
     let d = c.args.self.now in
     let l = Landings.stated (legs d.queues c.args.leg.0) states.Held c.requires in
     subst (λ o. HasDone (at_row (stores (core_view d) c.args.leg.0) o) (core_view c.settle.new.self) (step_to places.Spooled changes.Spooled)) (sym (LegViews.there d c.args.leg.0 l.leg l.at)) (
       refl,
-      c.settle.ensures ∙ ap (settled_row (core_view d) c.args.leg.0 kinds.InSpool (part_value c.not_found-reply.result.outcome)) (LegViews.there d c.args.leg.0 l.leg l.at)
-          ∙ ap (λ x. settled_row (core_view d) c.args.leg.0 kinds.InSpool x (Some (row_by state_of l.leg))) c.not_found-reply.ensures.outcome,
+      c.settle.ensures.view ∙ ap (settled_row (core_view d) c.args.leg.0 (kinds.InSpool c.args.seq) (part_value c.not_found-reply.result.outcome)) (LegViews.there d c.args.leg.0 l.leg l.at)
+          ∙ ap (λ x. settled_row (core_view d) c.args.leg.0 (kinds.InSpool c.args.seq) x (Some (row_by state_of l.leg))) c.not_found-reply.ensures.outcome,
     )
+
+pub returns-clause-records : goal.returns-clause-records
+returns-clause-records c = c.settle.ensures.records
