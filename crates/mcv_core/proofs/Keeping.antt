@@ -1,24 +1,23 @@
 -- Deletes are kept after every list of events.
-use Rattle.std.proofs.Common.{◌≡◌, ℕ, List, [], ◌∷◌, ◌++◌, Option, Some, None, Result, Ok, Err, refl, sym, ap, ◌∙◌, subst}
-use Rattle.std.specs.Prelude.{IfOk, OnErr, OnOk, slice_get}
+use Rattle.std.proofs.Common.{◌≡◌, ℕ, List, [], ◌∷◌, ◌++◌, Option, Some, None, refl, sym, ap, ◌∙◌, subst}
+use Rattle.std.specs.Prelude.{slice_get}
 use Rattle.mcv_pools.specs.Symbol.{SymbolValue}
-use Rattle.mcv_route.specs.Eras.{IsEra, breaks_of, since_at}
+use Rattle.mcv_route.specs.Eras.{breaks_of, since_at}
 use Rattle.mcv_route.specs.Routes.{RoutesValue}
 use Rattle.mcv_spool.specs.declared.record.SpoolRecord.{SpoolRecord}
 use Rattle.mcv_symbolic.specs.Covered.{AreCovered}
 use Rattle.mcv_world.specs.Kept.{Kept}
 use Rattle.mcv_world.specs.Laws.{IsWorld}
 use Rattle.mcv_world.specs.Live.{live_of}
-use Rattle.mcv_world.specs.Moves.{Move, after, run}
+use Rattle.mcv_world.specs.Moves.{Move, after}
 use Rattle.mcv_world.specs.World.{World}
 use Rattle.mcv_world.proofs.Choices.{moments_have_eras}
 use Rattle.mcv_world.proofs.DeletesAreKept.{covered_worlds_are_kept}
 use Rattle.mcv_events.specs.Rows.{Rows, world_of}
-use Rattle.mcv_events.specs.Events.{Moves}
 use Rattle.mcv_events.specs.Runs.{Runs, done, moved, no_move, opened}
-use Rattle.mcv_events.proofs.CoresKeepDeletes.{cores_keep_deletes, opened_is_core, runs_are_moves}
+use Rattle.mcv_events.proofs.CoresKeepDeletes.{cores_keep_deletes, opened_is_core}
 use Rattle.mcv_core.proofs.Acknowledged.{answered_calls_are_kept}
-use Rattle.mcv_core.specs.CoreView.{CoreView, Does, Moved, Unmoved}
+use Rattle.mcv_core.specs.CoreView.{CoreView, Does, Moved}
 use Rattle.mcv_core.specs.Opening.{known_records, opened_view}
 use Rattle.mcv_core.specs.Steps.{AreAnswered, DeletesAreKept, EventsKeepDeletes, IsAnswered, KeepsDeletes, OpenedCoresKeepDeletes, Step, Steps, with_move}
 use Rattle.mcv_core.specs.Steps.{refused, began, sent, replayed, answered, lost, spooled, spool_refused, marked, unmarked, clocked, turned, taken, awaited, none, more}

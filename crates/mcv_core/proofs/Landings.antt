@@ -1,5 +1,5 @@
 -- Legs in flight that are answered or lost, and held legs that the spool stores or refuses.
-use Rattle.std.proofs.Common.{◌≡◌, ◌&&◌, not, cond, inl, inr, ℕ, Bool, true, false, nat_eq, length, List, Option, Some, None, Result, Ok, Err, option_map, refl, sym, ap, ◌∙◌, subst, true≢false}
+use Rattle.std.proofs.Common.{◌≡◌, cond, ℕ, Bool, true, false, length, List, Option, Some, None, Ok, Err, option_map, refl, sym, ap, ◌∙◌, subst, true≢false}
 use Rattle.std.specs.Arc.{arc_value}
 use Rattle.std.proofs.Math.Path.{fun_ext}
 use Rattle.mcv_base.specs.declared.reply.FixedReply.TheVariants.{Lost}
@@ -35,7 +35,7 @@ use Rattle.mcv_core.specs.Calls.{calls_at}
 use Rattle.mcv_core.specs.CoreView.{CoreView, Effect, HasDone, HasEffect, answer_at, answer_in, at_row, does, flies, is_record, landing_at, landing_in, loss_at, loss_in, refused, refuses, refusing_at, refusing_in, replayed_in, sent_in, spooling_at, spooling_in, step_to, stores, with_mark}
 use Rattle.mcv_core.specs.Errands.{launch_of}
 use Rattle.mcv_core.specs.Facts.{counts_in, facts_of, state_in}
-use Rattle.mcv_core.specs.Rows.{awaiting_state, call_of, call_row, call_rows, row_by, rows_by, state_of}
+use Rattle.mcv_core.specs.Rows.{awaiting_state, call_of, call_row, call_rows, row_by, state_of}
 use Rattle.mcv_core.specs.Settling.{is_gone, settled_row}
 use Rattle.mcv_core.specs.View.{CanSettle, core_view, has_settled}
 use Rattle.mcv_core.proofs.LegViews.{flies_by_state, row_stays, stored_rows, there, view_with}

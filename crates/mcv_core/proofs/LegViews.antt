@@ -7,8 +7,7 @@ use Rattle.mcv_queues.specs.declared.leg.Leg.{Leg}
 use Rattle.mcv_queues.specs.declared.leg.State.{State}
 use Rattle.mcv_queues.specs.declared.leg.State.TheVariants as states
 use Rattle.mcv_queues.specs.declared.queues.Queues.{Queues}
-use Rattle.mcv_queues.specs.Legs.{in_state as put_state, is_flight, is_in_flight, is_in_flight_to, stored_as, with_state, with_stored}
-use Rattle.mcv_queues.specs.Marks.{marks}
+use Rattle.mcv_queues.specs.Legs.{in_state as put_state, is_flight, is_in_flight_to, stored_as, with_state, with_stored}
 use Rattle.mcv_queues.specs.Numbers.{names}
 use Rattle.mcv_queues.specs.Queues.{in_flight, legs, room, servers}
 use Rattle.mcv_world.specs.World.{is_counted_delete, put}

@@ -1,5 +1,5 @@
 -- After a leg has left its state, and its call has recorded a reply of it.
-use Rattle.std.proofs.Common.{◌≡◌, cond, inl, inr, ℕ, suc, ◌+◌, ◌<◌, ◌≤◌, ◌^◌, Bool, true, false, nat_eq, Option, Some, None, option_map, refl, sym, ap, ◌∙◌, subst, arith, true≢false}
+use Rattle.std.proofs.Common.{◌≡◌, cond, inl, inr, ℕ, ◌+◌, ◌<◌, ◌≤◌, ◌^◌, Bool, true, false, Option, Some, None, option_map, refl, sym, ap, ◌∙◌, subst, arith}
 use Rattle.std.specs.Arc.{arc_value}
 use Rattle.std.specs.Prelude.{option_and_then, unwrap_or}
 use Rattle.std.proofs.Math.Path.{fun_ext}
@@ -27,13 +27,11 @@ use Rattle.mcv_core.specs.declared.errand.Errand.{Errand}
 use Rattle.mcv_core.specs.declared.settle.Settling.{Settling}
 use Rattle.mcv_core.specs.declared.settle.Settling.TheVariants as kinds
 use Rattle.mcv_core.specs.Calls.{CanNoteAt, IsRecordedAt, calls_at}
-use Rattle.mcv_core.specs.CoreView.{CoreView}
 use Rattle.mcv_core.specs.Errands.{launch_of}
 use Rattle.mcv_core.specs.Noting.{HasRecorded}
-use Rattle.mcv_core.specs.Rows.{awaiting_state, call_of, call_row, row_by, rows_of, state_of}
+use Rattle.mcv_core.specs.Rows.{call_of, call_row, row_by, rows_of, state_of}
 use Rattle.mcv_core.specs.Settling.{HasCounted, flights_to, freed_by, is_gone, is_settling, is_storing_leg, row_to, settled_row, settled_to}
 use Rattle.mcv_core.specs.Sound.{spooled_in, spooled_one, IsSound}
-use Rattle.mcv_core.specs.Tracked.{launch_at}
 use Rattle.mcv_core.specs.View.{CanSettle, core_view, has_settled, since_of}
 use Rattle.mcv_core.proofs.LegViews as views
 use Rattle.mcv_core.proofs.Settlements

@@ -1,8 +1,8 @@
 -- A leg is done with, spooled or refused, and its call records a reply of it.
-use Rattle.std.proofs.Common.{◌≡◌, ◌⊎◌, cond, inl, inr, ℕ, suc, ◌+◌, ◌-◌, ◌<◌, ◌≤◌, ◌^◌, Bool, true, false, nat_eq, is_none, length, List, Option, Some, None, option_map, refl, sym, ap, ◌∙◌, subst, arith, true≢false}
-use Rattle.std.specs.Prelude.{filter, is_some, not, slice_get}
+use Rattle.std.proofs.Common.{◌≡◌, ◌⊎◌, cond, inl, inr, ℕ, ◌+◌, ◌<◌, ◌≤◌, Bool, true, false, nat_eq, is_none, length, List, Option, Some, None, option_map, refl, sym, ap, ◌∙◌, subst, arith, true≢false}
+use Rattle.std.specs.Prelude.{filter, is_some, slice_get}
 use Rattle.std.proofs.Math.Path.{fun_ext}
-use Rattle.std.proofs.lemmas.Bool.{cases_Bool, cases_eq, cases_lt}
+use Rattle.std.proofs.lemmas.Bool.{cases_eq, cases_lt}
 use Rattle.mcv_base.specs.Reply.{ReplyValue, outcome_of}
 use Rattle.mcv_core.specs.Tracked.{launch_at}
 use Rattle.mcv_queues.specs.declared.leg.Leg.{Leg}
@@ -16,7 +16,7 @@ use Rattle.mcv_world.specs.World.{history_of, is_counted_delete, put}
 use Rattle.mcv_world.specs.Live.{has_ended}
 use Rattle.mcv_world.specs.Moves.{has_no_outcome, is_one, with_reply}
 use Rattle.mcv_world.proofs.Numbers.{same_some, no_some, put_same, put_other, put_cases}
-use Rattle.mcv_events.specs.Entries.{is_due, is_launched}
+use Rattle.mcv_events.specs.Entries.{is_due}
 use Rattle.mcv_events.specs.Rows as rows
 use Rattle.mcv_events.specs.Rows.{CallRow, LegRow, Rows, IsCore, CanRecord, awaits, is_unanswered, leg_of, queued_rows, recorded_row, recorded_rows, with_leg_row}
 use Rattle.mcv_events.specs.QueuedLegs.{count_in, count_of, queued_legs}
@@ -32,7 +32,7 @@ use Rattle.mcv_core.specs.declared.call.Recording.{Recording}
 use Rattle.mcv_core.specs.declared.errand.Errand.{Errand}
 use Rattle.mcv_core.specs.Errands.{launch_of}
 use Rattle.mcv_core.specs.Noting.{AreAddressed, HasRecorded}
-use Rattle.mcv_core.specs.Rows.{all_rows, awaiting_rows, awaiting_state, call_of, call_row, call_rows, entries_of, row_by, rows_by, rows_of, state_of, IsRunning}
+use Rattle.mcv_core.specs.Rows.{all_rows, awaiting_state, call_of, call_row, call_rows, entries_of, row_by, rows_by, rows_of, state_of, IsRunning}
 use Rattle.mcv_core.specs.Sound.{one, spooled_in, spooled_one, IsSound}
 use Rattle.mcv_core.proofs.Launches.{get_below}
 use Rattle.mcv_core.proofs.Places.{put_rows}

@@ -1,14 +1,12 @@
 -- A leg's state changes, and its call records nothing.
-use Rattle.std.proofs.Common.{◌≡◌, cond, inl, inr, ℕ, zero, suc, ◌+◌, ◌<◌, ◌≤◌, Bool, true, false, nat_eq, Option, Some, None, option_map, refl, sym, ap, ◌∙◌, subst, arith, true≢false}
-use Rattle.std.specs.Prelude.{slice_get}
-use Rattle.std.proofs.Math.Path.{fun_ext}
-use Rattle.std.proofs.lemmas.Bool.{cases_eq, cases_lt}
+use Rattle.std.proofs.Common.{◌≡◌, inl, inr, ℕ, zero, suc, ◌+◌, ◌<◌, ◌≤◌, true, false, Option, Some, None, option_map, sym, ap, ◌∙◌, subst, arith}
+use Rattle.std.proofs.lemmas.Bool.{cases_lt}
 use Rattle.mcv_queues.specs.declared.leg.Leg.{Leg}
 use Rattle.mcv_queues.specs.declared.leg.State.{State}
 use Rattle.mcv_queues.specs.Legs.{in_state as put_state, stored_as, with_state, with_stored}
 use Rattle.mcv_route.specs.Routes.{RoutesValue}
 use Rattle.mcv_world.specs.World.{is_counted_delete, put}
-use Rattle.mcv_world.proofs.Numbers.{same_some, no_some, put_same, put_other, put_cases}
+use Rattle.mcv_world.proofs.Numbers.{same_some, no_some, put_cases}
 use Rattle.mcv_events.specs.Rows as rows
 use Rattle.mcv_events.specs.Rows.{LegRow, Rows, IsCore, awaits, is_unanswered, leg_of, with_leg_row}
 use Rattle.mcv_events.specs.Events.{in_state}
@@ -20,7 +18,7 @@ use Rattle.mcv_events.proofs.Sums.{sum_put}
 use Rattle.mcv_core.specs.declared.call.Call.{Call}
 use Rattle.mcv_core.specs.declared.errand.Errand.{Errand}
 use Rattle.mcv_core.specs.Errands.{launch_of}
-use Rattle.mcv_core.specs.Rows.{all_rows, awaiting_rows, awaiting_state, call_rows, row_by, rows_by, rows_of, state_of}
+use Rattle.mcv_core.specs.Rows.{all_rows, awaiting_state, call_rows, row_by, rows_by, rows_of, state_of}
 use Rattle.mcv_core.specs.Sound.{spooled_in, spooled_one, IsSound}
 use Rattle.mcv_core.proofs.Places.{put_rows}
 

@@ -4,7 +4,7 @@ use Rattle.mcv_base.specs.Reply.{ReplyValue}
 use Rattle.mcv_queues.specs.declared.leg.Leg.{Leg}
 use Rattle.mcv_queues.specs.declared.leg.State.TheVariants as states
 use Rattle.mcv_queues.specs.Legs.{in_state as put_state, stored_as}
-use Rattle.mcv_world.specs.World.{is_counted_delete, put}
+use Rattle.mcv_world.specs.World.{put}
 use Rattle.mcv_events.specs.Rows as rows
 use Rattle.mcv_events.specs.Rows.{LegRow, leg_of, with_leg_row}
 use Rattle.mcv_events.specs.Events.{in_state, recorded_rows_for}

@@ -33,7 +33,6 @@ use Rattle.mcv_core.specs.declared.run.Answer.{Answer}
 use Rattle.mcv_core.specs.declared.run.Answer.TheVariants as answer
 use Rattle.mcv_core.specs.declared.run.Event.{Event}
 use Rattle.mcv_core.specs.declared.run.Event.TheVariants as event
-use Rattle.mcv_core.specs.declared.step.Change.{Change}
 use Rattle.mcv_core.specs.declared.step.Step.{Step as Done}
 use Rattle.mcv_core.specs.declared.turn.Era.{Era}
 

@@ -1,4 +1,4 @@
-use Rattle.std.proofs.Common.{◌≡◌, ◌≤◌, ◌∙◌, length, ap, sym, refl, rules, arith}
+use Rattle.std.proofs.Common.{◌≡◌, ◌∙◌, ap, refl, arith}
 use Rattle.mcv_core.specs.Tracked.{fresh}
 use Rattle.mcv_queues.specs.Queues.{legs, room, servers as known}
 use Rattle.mcv_world.specs.World.{tree_of, situation_of, choice_of}

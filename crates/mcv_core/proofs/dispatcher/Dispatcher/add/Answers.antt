@@ -1,12 +1,12 @@
-use Rattle.std.proofs.Common.{◌≡◌, ◌∙◌, ◌+◌, ◌-◌, ◌*◌, ◌<◌, ◌≤◌, ◌^◌, suc, length, refl, sym, ap, subst, arith, Some}
+use Rattle.std.proofs.Common.{◌≡◌, ◌∙◌, ◌+◌, ◌-◌, ◌*◌, suc, length, refl, sym, ap, subst, arith, Some}
 use Rattle.std.specs.Arc.{arc_value}
 use Rattle.std.proofs.Math.Path.{fun_ext}
-use Rattle.mcv_queues.specs.Queues.{in_flight, legs, room, servers}
+use Rattle.mcv_queues.specs.Queues.{legs, room, servers}
 use Rattle.mcv_world.specs.World.{put}
-use Rattle.mcv_core.specs.Beginning.{began_by, has_begun}
+use Rattle.mcv_core.specs.Beginning.{began_by}
 use Rattle.mcv_core.specs.Calls.{calls_at}
 use Rattle.mcv_core.specs.CoreView.{Moved}
-use Rattle.mcv_core.specs.Rows.{entries_of, rows_of, state_of}
+use Rattle.mcv_core.specs.Rows.{rows_of, state_of}
 use Rattle.mcv_core.specs.Sound.{IsSound}
 use Rattle.mcv_core.specs.Tracked.{fresh}
 use Rattle.mcv_core.specs.View.{core_view, since_of}

@@ -1,4 +1,4 @@
-use Rattle.std.proofs.Common.{◌≡◌, ◌∙◌, ◌<◌, ◌^◌, length, option_map, ap, subst, rules, refl, arith}
+use Rattle.std.proofs.Common.{◌≡◌, ◌∙◌, ◌<◌, ◌^◌, length, option_map, ap, subst, rules, refl}
 use Rattle.std.specs.Arc.{arc_value}
 use Rattle.mcv_queues.specs.Marks.{marks}
 use Rattle.mcv_queues.specs.Queues.{in_flight, legs, room, servers}
@@ -6,7 +6,6 @@ use Rattle.mcv_route.specs.Eras.{breaks_of, since_at}
 use Rattle.mcv_route.specs.Routes.{RoutesValue}
 use Rattle.mcv_core.specs.Calls.{calls_at}
 use Rattle.mcv_core.specs.Opening.{AreOpened, known_numbers, known_records}
-use Rattle.mcv_core.specs.View.{core_view}
 use Rattle.mcv_core.proofs.Opened
 use Rattle.mcv_core.proofs.dispatcher.Dispatcher.open.Goals as goal
 

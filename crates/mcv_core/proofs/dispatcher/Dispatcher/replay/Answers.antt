@@ -1,8 +1,7 @@
-use Rattle.std.proofs.Common.{◌≡◌, ◌∙◌, sym, ap, rules, None, Some}
+use Rattle.std.proofs.Common.{◌∙◌, sym, ap, None, Some}
 use Rattle.mcv_queues.specs.Queues.{legs}
 use Rattle.mcv_queues.specs.declared.leg.State.TheVariants as states
 use Rattle.mcv_core.specs.Facts.{records_in}
-use Rattle.mcv_core.specs.View.{core_view}
 use Rattle.mcv_core.proofs.LegViews
 use Rattle.mcv_core.proofs.Sendings
 use Rattle.mcv_core.proofs.SpoolNumbers

@@ -1,6 +1,5 @@
-use Rattle.std.proofs.Common.{◌≡◌, ◌∙◌, refl, sym, ap, rules}
+use Rattle.std.proofs.Common.{◌∙◌, sym, ap}
 use Rattle.mcv_queues.specs.Queues.{legs}
-use Rattle.mcv_queues.specs.declared.leg.State.TheVariants as states
 use Rattle.mcv_core.specs.View.{core_view}
 use Rattle.mcv_core.proofs.Does
 use Rattle.mcv_core.proofs.Landings

@@ -1,11 +1,10 @@
-use Rattle.std.proofs.Common.{◌≡◌, ◌∙◌, ◌+◌, ◌-◌, ◌≤◌, refl, sym, ap, subst, true, false, arith, rules}
+use Rattle.std.proofs.Common.{◌∙◌, ◌-◌, refl, sym, ap, subst, arith}
 use Rattle.mcv_queues.specs.Legs.{is_flight, is_in_flight}
 use Rattle.mcv_queues.specs.Queues.{legs}
 use Rattle.mcv_queues.specs.declared.leg.State.TheVariants as states
-use Rattle.mcv_events.specs.Rows.{is_unanswered}
-use Rattle.mcv_core.specs.CoreView.{HasDone, at_row, held, refused, replayed_in, step_to, stores}
-use Rattle.mcv_core.specs.Facts.{counts_in, records_in}
-use Rattle.mcv_core.specs.Rows.{awaiting_state, state_of}
+use Rattle.mcv_core.specs.CoreView.{HasDone, at_row, step_to, stores}
+use Rattle.mcv_core.specs.Facts.{records_in}
+use Rattle.mcv_core.specs.Rows.{state_of}
 use Rattle.mcv_core.specs.View.{core_view}
 use Rattle.mcv_core.specs.declared.step.Change.TheVariants as changes
 use Rattle.mcv_core.specs.declared.step.Place.TheVariants as places

@@ -1,5 +1,4 @@
-use Rattle.std.proofs.Common.{◌≡◌, sym, subst}
-use Rattle.mcv_base.specs.declared.reply.FixedReply.TheVariants.{Lost}
+use Rattle.std.proofs.Common.{sym, subst}
 use Rattle.mcv_core.specs.CoreView.{answer_at, loss_at, refusing_at, spooling_at}
 use Rattle.mcv_core.specs.Steps.{IsAnswered}
 use Rattle.mcv_core.specs.View.{core_view}
