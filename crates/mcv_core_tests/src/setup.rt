@@ -122,6 +122,17 @@ pub(crate) fn stored_after(
     }
 }
 
+/// The record, stored by a spool of its own, its first one.
+pub(crate) fn stored_record(alloc: Global, delete: SpoolRecord) -> Option<Stored> {
+    let disk = MemoryDisk {
+        bytes: Vec::new(alloc),
+    };
+    let Ok(mut spool) = Spool::open(alloc, disk) else {
+        return None;
+    };
+    spool.append(delete).ok()
+}
+
 /// A file in memory. It says nothing of the model, so it isn't proved to keep it.
 #[derive(Drop)]
 struct MemoryDisk {
