@@ -90,7 +90,14 @@ impl Say {
         Ok(match self {
             Say::Hit(cas) => {
                 let body = Arc::new(alloc, bytes)?;
-                Parts::new(alloc, Reply::Hit { flags: 1, cas, body })?
+                Parts::new(
+                    alloc,
+                    Reply::Hit {
+                        flags: 1,
+                        cas,
+                        body,
+                    },
+                )?
             }
             Say::Fault => Parts::new(alloc, Reply::Fault(bytes))?,
             Say::Short(reply) => Parts::fixed(reply),

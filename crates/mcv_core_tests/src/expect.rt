@@ -27,9 +27,14 @@ fn is_same(one: &Part, other: &Part) -> bool {
     match (one, other) {
         (Part::Fixed(one), Part::Fixed(other)) => one == other,
         (Part::Owned(one), Part::Owned(other)) => match (&**one, &**other) {
-            (Reply::Hit { cas, body, .. }, Reply::Hit { cas: k, body: b, .. }) => {
-                cas == k && body.as_slice() == b.as_slice()
-            }
+            (
+                Reply::Hit { cas, body, .. },
+                Reply::Hit {
+                    cas: k,
+                    body: b,
+                    ..
+                },
+            ) => { cas == k && body.as_slice() == b.as_slice() }
             (Reply::Fault(one), Reply::Fault(other)) => one.as_slice() == other.as_slice(),
             _ => false,
         },
@@ -85,10 +90,10 @@ impl Model<'_> {
             .enumerate()
             .all(|(number, call)| self.has_ended(number, call));
         ended
-            && self
-                .legs
-                .iter()
-                .all(|leg| matches!(leg.spot, Spot::Spooled | Spot::Performed | Spot::Gone))
+            && self.legs.iter().all(|leg| matches!(
+                leg.spot,
+                Spot::Spooled | Spot::Performed | Spot::Gone
+            ))
     }
 
     fn of_begin(&self, key: usize) -> Expected {
@@ -170,9 +175,7 @@ impl Model<'_> {
             Deed::Begin(_, key) => self.of_begin(key),
             Deed::Next(server) => self.of_sending(server, Spot::Waiting),
             Deed::Replay(server) => self.of_sending(server, Spot::Spooled),
-            Deed::Answered(leg, say) => {
-                self.of_landing(leg, self.is_failure(alloc, leg, say)?)
-            }
+            Deed::Answered(leg, say) => { self.of_landing(leg, self.is_failure(alloc, leg, say)?) }
             Deed::Lost(leg) => self.of_landing(leg, true),
             Deed::Spooled(leg, own) => self.of_spool(leg, own, Place::Spooled),
             Deed::SpoolRefused(leg) => self.of_spool(leg, true, Place::Held),

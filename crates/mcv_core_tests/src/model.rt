@@ -95,14 +95,7 @@ impl<'a> Model<'a> {
         let Some(route) = self.ground.route(key) else {
             return Err(Amiss::Setup);
         };
-        Ok(Eval::new(
-            alloc,
-            route,
-            call.op,
-            &key.rest,
-            call.since,
-            &key.choice,
-        )?)
+        Ok(Eval::new(alloc, route, call.op, &key.rest, call.since, &key.choice)?)
     }
 
     /// Whether a call has its reply, and which.
@@ -114,9 +107,8 @@ impl<'a> Model<'a> {
 
     /// The leg of a call at the launch's position is there.
     fn has_leg(&self, call: usize, launch: &Launch) -> bool {
-        self.legs
-            .iter()
-            .any(|leg| leg.call == Some(call) && leg.launch.position.is(&launch.position))
+        self.legs.iter().any(|leg| leg.call == Some(call)
+            && leg.launch.position.is(&launch.position))
     }
 
     /// Numbers the legs that the call has launched by now and that have no number, in the order of their positions.
@@ -272,9 +264,7 @@ impl<'a> Model<'a> {
 
     /// The number of the leg that is in flight to a server.
     pub(crate) fn flight(&self, server: ServerId) -> Option<usize> {
-        self.legs
-            .iter()
-            .position(|leg| leg.launch.server.is(server) && leg.spot.is_in_flight())
+        self.legs.iter().position(|leg| leg.launch.server.is(server) && leg.spot.is_in_flight())
     }
 
     /// The least number of a leg to the server at this spot.

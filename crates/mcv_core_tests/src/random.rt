@@ -282,9 +282,7 @@ fn run_lists(
     for number in 0..LISTS {
         let seed = first.wrapping_add(number);
         if let Err(amiss) = run_list(alloc, ground, seed, seen) {
-            return Err(Fail::new(
-                format!(in alloc; "{amiss:?} in list {seed} of {line}")?,
-            ));
+            return Err(Fail::new(format!(in alloc; "{amiss:?} in list {seed} of {line}")?));
         }
     }
     Ok(())
@@ -307,7 +305,10 @@ fn random_events_keep_deletes(rt: HostRuntime) -> Result<(), Fail> {
     }
     assert_eq!(rt; uncovered, UNCOVERED);
     assert!(rt; seen.lists >= 10_000);
-    assert!(rt; seen.performed >= 10_000 && seen.spooled >= 5_000, "{seen:?}");
+    assert!(rt;
+        seen.performed >= 10_000 && seen.spooled >= 5_000,
+        "{seen:?}"
+    );
     assert!(rt; seen.taken >= 10_000 && seen.turned >= 1_000, "{seen:?}");
     assert!(rt; seen.kept >= 10_000, "{seen:?}");
     Ok(())
