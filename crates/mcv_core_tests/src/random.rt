@@ -27,6 +27,7 @@ const ROUTES: &str = "\
 {\"type\":\"OperationSelectorRoute\",\"operation_policies\":{\"delete\":{\"type\":\"AllSyncRoute\",\"children\":[\"PoolRoute|A\",\"PoolRoute|B\"]}},\"default_policy\":{\"type\":\"WarmUpRoute\",\"cold\":\"PoolRoute|A\",\"warm\":\"PoolRoute|B\"}}
 {\"type\":\"OperationSelectorRoute\",\"operation_policies\":{\"delete\":{\"type\":\"AllSyncRoute\",\"children\":[\"PoolRoute|A\",\"PoolRoute|B\",\"PoolRoute|C\"]}},\"default_policy\":{\"type\":\"WarmUpRoute\",\"cold\":\"PoolRoute|A\",\"warm\":{\"type\":\"WarmUpRoute\",\"cold\":\"PoolRoute|B\",\"warm\":\"PoolRoute|C\"}}}
 {\"type\":\"OperationSelectorRoute\",\"operation_policies\":{\"delete\":{\"type\":\"AllSyncRoute\",\"children\":[\"PoolRoute|D\",\"PoolRoute|E\"]}},\"default_policy\":{\"type\":\"WarmUpRoute\",\"cold\":\"PoolRoute|D\",\"warm\":\"PoolRoute|E\"}}
+{\"type\":\"OperationSelectorRoute\",\"operation_policies\":{\"delete\":{\"type\":\"AllSyncRoute\",\"children\":[\"PoolRoute|D\",\"PoolRoute|E\"]}},\"default_policy\":{\"type\":\"FailoverRoute\",\"children\":[\"PoolRoute|D\",\"PoolRoute|E\"]}}
 {\"type\":\"MigrateRoute\",\"from\":\"PoolRoute|A\",\"to\":\"PoolRoute|B\",\"start_time\":1000,\"interval\":100}
 {\"type\":\"MigrateRoute\",\"from\":\"PoolRoute|D\",\"to\":\"PoolRoute|E\",\"start_time\":1000,\"interval\":100}
 {\"type\":\"OperationSelectorRoute\",\"operation_policies\":{\"delete\":{\"type\":\"AllSyncRoute\",\"children\":[\"PoolRoute|A\",\"PoolRoute|B\"]}},\"default_policy\":{\"type\":\"MigrateRoute\",\"from\":\"PoolRoute|A\",\"to\":\"PoolRoute|B\",\"start_time\":1000,\"interval\":100}}
@@ -73,7 +74,7 @@ const ROUTES: &str = "\
 const UNCOVERED: usize = 5;
 
 /// How many lists of events each covered configuration has.
-const LISTS: u64 = 3;
+const LISTS: u64 = 228;
 
 /// The most events of a list.
 const EVENTS: usize = 60;
@@ -304,9 +305,12 @@ fn random_events_keep_deletes(rt: HostRuntime) -> Result<(), Fail> {
         }
     }
     assert_eq!(rt; uncovered, UNCOVERED);
-    assert!(rt; seen.lists == 132, "{seen:?}");
-    assert!(rt; seen.performed >= 1 && seen.spooled >= 1, "{seen:?}");
-    assert!(rt; seen.taken >= 1 && seen.turned >= 1, "{seen:?}");
-    assert!(rt; seen.kept >= 1, "{seen:?}");
+    assert!(rt; seen.lists == 10_260, "{seen:?}");
+    assert!(rt;
+        seen.performed >= 2_000 && seen.spooled >= 1_000,
+        "{seen:?}"
+    );
+    assert!(rt; seen.taken >= 2_000 && seen.turned >= 2_000, "{seen:?}");
+    assert!(rt; seen.kept >= 2_000, "{seen:?}");
     Ok(())
 }
