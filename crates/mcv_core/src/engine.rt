@@ -66,6 +66,7 @@ impl<H: KeyHash + Drop> Core<H> {
     ) -> Result<CallId, CoreFault>
         ensures begun { IfOk result (λ call. HasBegunFor (core_view self.old.dispatcher) (H.chosen self.old.hash) (arc_value request) key (core_view self.new.dispatcher)) }
         ensures call { IfOk result (λ call. call.0 ≡ (core_view self.old.dispatcher).rows.next_call) }
+        ensures records { records_of self.new.dispatcher ≡ records_of self.old.dispatcher }
         ensures refused { IfErr result (IsRefusedFor (core_view self.old.dispatcher) (H.chosen self.old.hash) (arc_value request) key) }
         ensures err { OnErr result (core_view self.new.dispatcher ≡ core_view self.old.dispatcher) }
         ensures hash { self.new.hash ≡ self.old.hash }
