@@ -35,24 +35,23 @@ use Rattle.std.specs.Prelude.{option_map}
 
 -- ---- one event at a time
 
-keeps_at : (r : RoutesValue) (w : CoreView) (world : World) → w.routes ≡ r → IsWorld r world → live_of r world ≡ world_of w.rows → Kept r world → KeepsDeletes w
+keeps_at : (r : RoutesValue) (w : CoreView) (world : World) → w.routes ≡ r → IsWorld r world → live_of r world ≡ world_of w.rows → Kept r world → KeepsDeletes w world
 keeps_at r w world e i l k = record {
-  world = world;
   is = subst (λ r. IsWorld r world) (sym e) i;
   live = subst (λ r. live_of r world ≡ world_of w.rows) (sym e) l;
   kept = subst (λ r. Kept r world) (sym e) k;
 }
 
-moved_keeps : (v w : CoreView) (m : Move) → AreCovered v.routes → KeepsDeletes v → Moved v w m → KeepsDeletes w
-moved_keeps v w m covered k h =
+moved_keeps : (v w : CoreView) (m : Move) (world : World) → AreCovered v.routes → KeepsDeletes v world → Moved v w m → KeepsDeletes w (after v.routes world m)
+moved_keeps v w m world covered k h =
     let r = v.routes in
-    let possible : IsPossible r k.world m = record { allowed = h.allowed; move = moves_are_live r k.world m k.is ∙ ap (λ u. is_move r u m) k.live ∙ h.moves.is } in
-    let is = moves_keep_worlds r k.world m k.is possible in
-    keeps_at r w (after r k.world m) h.routes is (forgets_safely r k.world m k.is ∙ ap (λ u. live_of r (after r u m)) k.live ∙ sym h.moves.moves) (covered_worlds_are_kept r (after r k.world m) covered is)
+    let possible : IsPossible r world m = record { allowed = h.allowed; move = moves_are_live r world m k.is ∙ ap (λ u. is_move r u m) k.live ∙ h.moves.is } in
+    let is = moves_keep_worlds r world m k.is possible in
+    keeps_at r w (after r world m) h.routes is (forgets_safely r world m k.is ∙ ap (λ u. live_of r (after r u m)) k.live ∙ sym h.moves.moves) (covered_worlds_are_kept r (after r world m) covered is)
 
 pub events_keep_deletes : EventsKeepDeletes
-events_keep_deletes v w None covered k h = keeps_at v.routes w k.world h.routes k.is (k.live ∙ sym h.world) k.kept
-events_keep_deletes v w (Some m) covered k h = moved_keeps v w m covered k h
+events_keep_deletes v w None world covered k h = keeps_at v.routes w world h.routes k.is (k.live ∙ sym h.world) k.kept
+events_keep_deletes v w (Some m) world covered k h = moved_keeps v w m world covered k h
 
 spooled_is : (o : Option OpenedRecord) (s : LegRow) → option_map spooled_row o ≡ Some s → s.state ≡ InSpool
 spooled_is None s e = no_some e
@@ -66,7 +65,7 @@ opened_cores_keep_deletes r records covered =
     let era = moments_have_eras r 0 in
     let opening = spooled_rows_open r w (opened_is_core r since known) (λ k. refl) (λ n s e. spooled_is (slice_get known n) s e) era in
     let is = opening_is_world r (world_of w) opening.0 in
-    record { world = world_of w; is = is; live = opening.1; kept = covered_worlds_are_kept r (world_of w) covered is }
+    record { is = is; live = opening.1; kept = covered_worlds_are_kept r (world_of w) covered is }
 
 -- ---- lists of events
 
