@@ -126,11 +126,10 @@ module _ (chosen : SymbolValue → List ℕ → ℕ) where
 
   pub deletes_are_kept : (r : RoutesValue) (records : List (ℕ × SpoolRecord)) (events : List Event) (answers : List Answer) (w : CoreView) → AreCovered r → AreAnswered chosen (opened_view r records) events answers w
       → DeletesAreKept chosen (opened_view r records) events answers w
-  unfolding opened_cores_keep_deletes
   deletes_are_kept r records events answers w covered h =
       let q = cores_keep_deletes r (since_at (breaks_of r) 0) (known_records r.servers records) h.moves w.rows covered (moments_have_eras r 0) (steps_run (opened_view r records) w events answers h.moves h.steps).runs in
       let o = opened_cores_keep_deletes r records covered in
-      record { moves = h.moves; steps = h.steps; kept = q.0; acknowledged = answered_calls_are_kept r chosen (opened_view r records) w o.world events answers h.moves covered o.is o.live refl h.steps; live = q.1 }
+      record { moves = h.moves; steps = h.steps; kept = q.0; acknowledged = answered_calls_are_kept r chosen (opened_view r records) w (world_of (opened_view r records).rows) events answers h.moves covered o.is o.live refl h.steps; live = q.1 }
 
   -- one event more
   pub answer_more : (start v w : CoreView) (events : List Event) (answers : List Answer) (e : Event) (a : Answer) → AreAnswered chosen start events answers v → IsAnswered chosen v e a w → AreAnswered chosen start (events ++ e ∷ []) (answers ++ a ∷ []) w
