@@ -1,0 +1,4 @@
+pub mod Desk
+pub mod Exchange
+pub mod Session
+pub mod State
