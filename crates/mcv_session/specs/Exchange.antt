@@ -1,7 +1,7 @@
 -- What a session writes for one item, and whether it ends with it (memcached, protocol.txt; that refusals 2 and 3 end it is own).
 -- `get a b` answered by a hit of a, value x, and a miss of b: VALUE a 0 1 CR LF x CR LF END CR LF.
 -- `delete a noreply`: the desk is asked, and nothing is written.
-use Rattle.std.specs.Prelude.{ℕ, List, [], Bool, true, false, if◌then◌else◌, Result, Ok, Err}
+use Rattle.std.specs.Prelude.{◌≡◌, ℕ, List, [], Bool, true, false, if◌then◌else◌, Result, Ok, Err}
 use Rattle.std.specs.List.{flat_map}
 use Rattle.mcv_base.specs.Reply.{ReplyValue}
 use Rattle.mcv_text.specs.declared.item.Refusal.{Refusal}
@@ -48,3 +48,7 @@ ends (refused UnknownCommand) = false
 ends (refused BadLine) = true
 ends (refused BadDataChunk) = true
 ends (refused ValueTooLarge) = false
+
+-- what a client asks servers; whether it wants no reply
+abbrev pub IsAsking : RequestValue → Bool → Type 0
+IsAsking request noreply = (ask : AskValue) × (request ≡ asking ask) × (noreply ≡ ask.noreply)

@@ -31,6 +31,17 @@ module _ {D : Type 0} (asks : D → RequestValue → Result (List ReplyValue) De
   Chain old [] new = new ≡ old
   Chain old (exchange ∷ log) new = (mid : D) × Goes exchange old mid × Chain mid log new
 
+  -- the item was answered, and the text that was written before it grew by the answer
+  pub record Exchanged (old new : D) (item : ItemValue) (written now : List ℕ) : Type 0 where
+    pub exchange : Exchange
+    pub is : item_of exchange ≡ item
+    pub goes : Goes exchange old new
+    pub writes : now ≡ written ++ text_of exchange
+
+  -- memory ran out: nothing is written, and either the desk wasn't asked or its answer is lost
+  abbrev pub Lost : D → D → ItemValue → Type 0
+  Lost old new item = (new ≡ old) ⊎ ((exchange : Exchange) × (item_of exchange ≡ item) × Goes exchange old new)
+
   -- of these items each was answered that the session took, and this is the text of the answers
   pub record Answers (old new : D) (items : List ItemValue) (text : List ℕ) (flow : Flow) : Type 0 where
     pub log : List Exchange

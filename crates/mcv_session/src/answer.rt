@@ -1,13 +1,13 @@
 //! The answers to single items.
 
-ghost use Rattle.std.specs.Prelude.{◌≡◌, ◌++◌, ◌⊎◌, [], map, true, false, IfOk, IfErr, OnOk, OnErr, if◌then◌else◌};
+ghost use Rattle.std.specs.Prelude.{◌≡◌, ◌++◌, map, OnOk, OnErr};
 ghost use Rattle.std.specs.Arc.{arc_value};
 ghost use Rattle.mcv_base.specs.Reply.{part_value};
 ghost use Rattle.mcv_text.specs.Answer.{reply_text};
 ghost use Rattle.mcv_text.specs.Request.{AskValue, asked, asking, item_value, request_value};
 ghost use Rattle.mcv_session.specs.Desk.{answer_value};
-ghost use Rattle.mcv_session.specs.Exchange.{Exchange, answer_text, ends, item_of, text_of};
-ghost use Rattle.mcv_session.specs.Session.{Goes};
+ghost use Rattle.mcv_session.specs.Exchange.{IsAsking, answer_text, ends};
+ghost use Rattle.mcv_session.specs.Session.{Exchanged, Lost};
 
 use crate::desk::{Desk, DeskFault};
 use mcv_base::{Part, Request};
@@ -64,9 +64,10 @@ fn ask_desk<D: Desk>(
     request: &Arc<Request>,
     noreply: bool,
 ) -> Result<(), AllocError>
-    requires { (ask : AskValue) × (request_value (arc_value request.now) ≡ asking ask) × (noreply ≡ ask.noreply) }
-    ensures ok { OnOk result ((x : Exchange) × (item_of x ≡ asked (request_value (arc_value request.now))) × Goes D.asks x desk.old desk.new × (text.new.items ≡ text.old.items ++ text_of x)) }
-    ensures err { OnErr result ((x : Exchange) × (item_of x ≡ asked (request_value (arc_value request.now))) × Goes D.asks x desk.old desk.new × (text.new.items ≡ text.old.items)) }
+    requires { IsAsking (request_value (arc_value request.now)) noreply }
+    ensures ok { OnOk result (Exchanged D.asks desk.old desk.new (asked (request_value (arc_value request.now))) text.old.items text.new.items) }
+    ensures text { OnErr result (text.new.items ≡ text.old.items) }
+    ensures lost { OnErr result (Lost D.asks desk.old desk.new (asked (request_value (arc_value request.now)))) }
 {
     let answer = desk.ask(request);
     if noreply {
@@ -82,8 +83,9 @@ fn answer_request<D: Desk>(
     desk: &mut D,
     request: Request,
 ) -> Result<(), AllocError>
-    ensures ok { OnOk result ((x : Exchange) × (item_of x ≡ asked (request_value request)) × Goes D.asks x desk.old desk.new × (text.new.items ≡ text.old.items ++ text_of x)) }
-    ensures err { OnErr result ((text.new.items ≡ text.old.items) × ((desk.new ≡ desk.old) ⊎ ((x : Exchange) × (item_of x ≡ asked (request_value request)) × Goes D.asks x desk.old desk.new))) }
+    ensures ok { OnOk result (Exchanged D.asks desk.old desk.new (asked (request_value request)) text.old.items text.new.items) }
+    ensures text { OnErr result (text.new.items ≡ text.old.items) }
+    ensures lost { OnErr result (Lost D.asks desk.old desk.new (asked (request_value request))) }
 {
     let request = Arc::new(alloc, request)?;
     match &*request {
@@ -99,8 +101,9 @@ pub(crate) fn answer_item<D: Desk>(
     desk: &mut D,
     item: Item,
 ) -> Result<(), AllocError>
-    ensures ok { OnOk result ((x : Exchange) × (item_of x ≡ item_value item) × Goes D.asks x desk.old desk.new × (text.new.items ≡ text.old.items ++ text_of x)) }
-    ensures err { OnErr result ((text.new.items ≡ text.old.items) × ((desk.new ≡ desk.old) ⊎ ((x : Exchange) × (item_of x ≡ item_value item) × Goes D.asks x desk.old desk.new))) }
+    ensures ok { OnOk result (Exchanged D.asks desk.old desk.new (item_value item) text.old.items text.new.items) }
+    ensures text { OnErr result (text.new.items ≡ text.old.items) }
+    ensures lost { OnErr result (Lost D.asks desk.old desk.new (item_value item)) }
 {
     match item {
         Item::Asked(request) => answer_request(alloc, text, desk, request),
