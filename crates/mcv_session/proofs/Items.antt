@@ -1,5 +1,5 @@
 -- Items in a row: those that a session takes, and their answers.
-use Rattle.std.proofs.Common.{◌≡◌, ◌∙◌, ℕ, ◌+◌, ◌≤◌, List, [], ◌∷◌, ◌++◌, length, map, Bool, true, false, ◌||◌, refl, sym, ap, subst, append-nil, append_assoc, Result, Ok, Err, if◌then◌else◌, arith, ◌⊎◌, inl, inr}
+use Rattle.std.proofs.Common.{◌≡◌, ◌∙◌, ℕ, ◌+◌, ◌≤◌, List, [], ◌∷◌, ◌++◌, length, map, Bool, true, false, ◌||◌, refl, sym, ap, subst, append-nil, append_assoc, Result, Ok, Err, if◌then◌else◌, arith, ◌⊎◌, inl, inr, OnErr}
 use Rattle.std.specs.List.{flat_map, list_any}
 use Rattle.std.proofs.lemmas.List.{map-append}
 use Rattle.mcv_base.specs.Reply.{ReplyValue}
@@ -9,6 +9,10 @@ use Rattle.mcv_session.specs.declared.session.Flow.{Flow}
 use Rattle.mcv_session.specs.declared.session.Flow.TheVariants.{GoesOn, Ends}
 use Rattle.mcv_session.specs.Exchange.{Exchange, item_of, text_of, texts_of, ends}
 use Rattle.mcv_session.specs.Session.{Answers, Chain, CutShort, Exchanged, Goes, Lost, taken, flow_after}
+
+pub on_err_always : {T E P : Type 0} (r : Result T E) → P → OnErr r P
+on_err_always (Ok x) p = tt
+on_err_always (Err e) p = p
 
 texts_push : (log : List Exchange) (x : Exchange) → texts_of (log ++ x ∷ []) ≡ texts_of log ++ text_of x
 texts_push [] x = append-nil (text_of x)
