@@ -20,9 +20,9 @@ either_open true x y p q = p
 either_open false x y p q = q
 
 followed_open : (from : Stands) (piece : List ℕ) → from ≢ Failed → followed from piece ≢ Failed
-followed_open (Held bytes) piece open = λ e. cc
-followed_open (Skips n) piece open = either_open (nat_lt (length piece) n) (Skips (n - length piece)) (Held (drop n piece)) (λ e. cc) (λ e. cc)
-followed_open Failed piece open = open
+followed_open (Held bytes) piece live = λ e. cc
+followed_open (Skips n) piece live = either_open (nat_lt (length piece) n) (Skips (n - length piece)) (Held (drop n piece)) (λ e. cc) (λ e. cc)
+followed_open Failed piece live = live
 
 or_true : (b : Bool) → (b || true) ≡ true
 or_true true = refl
@@ -54,8 +54,8 @@ not_both b p q = cc
 -- a reader that hasn't failed goes on where no item ends the session
 pub still_open : ((from : Stands) (items : List ItemValue) → Reads from items Failed → (from ≡ Failed) ⊎ EndsRefused items) → (from to : Stands) (piece : List ℕ) (items : List ItemValue)
     → from ≢ Failed → Reads (followed from piece) items to → GoesOn ≡ flow_after items → to ≢ Failed
-still_open law from to piece items open reads flow = λ failed. elim (law (followed from piece) items (subst (Reads (followed from piece) items) failed reads)) [
-  | inl e ↦ followed_open from piece open e
+still_open law from to piece items live reads flow = λ failed. elim (law (followed from piece) items (subst (Reads (followed from piece) items) failed reads)) [
+  | inl e ↦ followed_open from piece live e
   | inr e ↦ not_both (list_any ends items) (refused_ends items e) (goes_on items flow)
 ]
 

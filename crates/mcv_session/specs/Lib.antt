@@ -2,3 +2,4 @@ pub mod Desk
 pub mod Exchange
 pub mod Session
 pub mod State
+pub mod Served

@@ -10,8 +10,10 @@
 mod answer;
 mod desk;
 mod laws;
+mod serve;
 mod session;
 
 pub use desk::{Desk, DeskFault};
 pub use laws::{any_cut, nothing_read};
+pub use serve::{ServeFault, serve_session};
 pub use session::{Flow, Session, SessionFault};

@@ -61,9 +61,9 @@ fn read_piece<D: Desk>(
     piece: &[u8],
 ) -> Result<Flow, AllocError>
     requires fresh { text.old.items ≡ [] }
-    requires open { reader.old ≢ Failed }
+    requires live { reader.old ≢ Failed }
     ensures ok { IfOk result (λ flow. Serves D.asks desk.old desk.new reader.old piece.now text.new.items flow reader.new) }
-    ensures open { IfOk result (λ flow. flow ≡ Flow.GoesOn → reader.new ≢ Failed) }
+    ensures live { IfOk result (λ flow. flow ≡ Flow.GoesOn → reader.new ≢ Failed) }
     ensures err { OnErr result (Breaks D.asks desk.old desk.new reader.old piece.now text.new.items) }
 {
     match reader.feed(piece) {
@@ -101,7 +101,7 @@ impl Session {
     pub fn new(alloc: Global) -> Session
         ensures reader { result.reader ≡ Held [] }
         ensures text { result.text ≡ [] }
-        ensures open { result.has_ended ≡ false }
+        ensures live { result.has_ended ≡ false }
     {
         let reader = RequestReader::new(alloc);
         let text = Vec::new(alloc);

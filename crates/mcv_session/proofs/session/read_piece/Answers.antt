@@ -4,9 +4,9 @@ use Rattle.mcv_text.specs.Request.{item_value}
 use Rattle.mcv_session.proofs.Pieces.{breaks_unread, still_open}
 use Rattle.mcv_session.proofs.session.read_piece.Goals as goal
 
-pub returns-in-Ok-clause-open : goal.returns-in-Ok-clause-open
-returns-in-Ok-clause-open g c =
-    IfOk-weaker c.answer_items.result (λ flow a goes. still_open c.failing_is_refused.ensures c.args.reader.now _ c.args.piece.now _ c.requires.open c.in-Ok.ensures.items (sym goes ∙ a.flow_is)) c.answer_items.ensures.ok
+pub returns-in-Ok-clause-live : goal.returns-in-Ok-clause-live
+returns-in-Ok-clause-live g c =
+    IfOk-weaker c.answer_items.result _ _ (λ flow a goes. still_open c.failing_is_refused.ensures c.args.reader.now _ c.args.piece.now _ c.requires.live c.in-Ok.ensures.items (sym goes ∙ a.flow_is)) c.answer_items.ensures.ok
 
 pub returns-in-Err-clause-err : goal.returns-in-Err-clause-err
 returns-in-Err-clause-err g c = breaks_unread g.D.Desk.asks _ _ _ _ c.requires.fresh
