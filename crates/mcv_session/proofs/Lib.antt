@@ -1,3 +1,4 @@
 pub mod Exchanges
 pub mod Items
 pub mod Pieces
+pub mod Serving

@@ -6,6 +6,7 @@ ghost use Rattle.mcv_session.specs.Served.{IsServed, IsStopped, Stops};
 ghost use Rattle.mcv_session.specs.Session.{Serves};
 
 use crate::desk::Desk;
+use crate::laws::nothing_read;
 use crate::session::{Flow, Session};
 use mcv_text::any_pieces;
 use std::alloc::{AllocError, Global};
@@ -94,12 +95,14 @@ pub fn serve_session<R: Read, W: Write, D: Desk>(
     ensures err { IfErr result (λ fault. IsStopped D.asks fault desk.old desk.new (R.remaining reader.old) (R.remaining reader.new) (W.contents writer.old) (W.contents writer.new)) }
 {
     any_pieces();
-    let Ok(mut room) = piece_room(alloc) else {
+    nothing_read::<D>();
+    let Ok(mut bytes) = piece_room(alloc) else {
         return Err(ServeFault::Memory);
     };
+    let room = bytes.as_mut_slice();
     let mut session = Session::new(alloc);
     for _turn in 0..TURNS {
-        let Some(count) = next_piece(reader, &mut room)? else {
+        let Some(count) = next_piece(reader, room)? else {
             return Ok(());
         };
         match serve_piece(&mut session, writer, desk, &room[..count])? {
