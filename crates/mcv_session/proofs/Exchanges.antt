@@ -1,6 +1,6 @@
 -- Single items, and what was answered to them.
-use Rattle.std.proofs.Common.{◌≡◌, ◌∙◌, ℕ, List, [], ◌∷◌, ◌++◌, Bool, true, false, refl, sym, ap, subst, append-nil, Result, Ok, Err, if◌then◌else◌}
-use Rattle.std.proofs.Common.{◌⊎◌, inl, inr}
+use Rattle.std.proofs.Common.{◌≡◌, ◌∙◌, ℕ, List, [], ◌++◌, Bool, true, false, refl, sym, ap, subst, append-nil, Result, if◌then◌else◌}
+use Rattle.std.proofs.Common.{inl, inr}
 use Rattle.mcv_base.specs.Reply.{ReplyValue}
 use Rattle.mcv_text.specs.declared.item.Refusal.{Refusal}
 use Rattle.mcv_text.specs.Request.{AskValue, RequestValue, asking, version, quit, ItemValue, asked, refused}
@@ -8,7 +8,7 @@ use Rattle.mcv_text.specs.Answer.{reply_text}
 use Rattle.mcv_text.specs.Refusals.{refusal_text}
 use Rattle.mcv_session.specs.declared.desk.DeskFault.{DeskFault}
 use Rattle.mcv_session.specs.Desk.{HasOneEach}
-use Rattle.mcv_session.specs.Exchange.{Exchange, put, shown, left, declined, answer_text, item_of, text_of, IsAsking}
+use Rattle.mcv_session.specs.Exchange.{put, shown, left, declined, answer_text, IsAsking}
 use Rattle.mcv_session.specs.Session.{Exchanged, Goes, Lost}
 
 module _ {D : Type 0} (asks : D → RequestValue → Result (List ReplyValue) DeskFault → D → Type 0) where

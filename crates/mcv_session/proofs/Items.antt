@@ -1,11 +1,10 @@
 -- Items in a row: those that a session takes, and their answers.
-use Rattle.std.proofs.Common.{◌≡◌, ◌∙◌, ℕ, ◌+◌, ◌≤◌, List, [], ◌∷◌, ◌++◌, length, map, Bool, true, false, ◌||◌, refl, sym, ap, subst, append-nil, append_assoc, Result, Ok, Err, if◌then◌else◌, arith, ◌⊎◌, inl, inr, OnErr}
-use Rattle.std.specs.List.{flat_map, list_any}
+use Rattle.std.proofs.Common.{◌≡◌, ◌∙◌, ℕ, List, [], ◌∷◌, ◌++◌, map, Bool, true, false, ◌||◌, refl, sym, ap, subst, append-nil, append_assoc, Result, Ok, Err, if◌then◌else◌, arith, inl, inr, OnErr}
+use Rattle.std.specs.List.{list_any}
 use Rattle.std.proofs.lemmas.List.{map-append}
 use Rattle.mcv_base.specs.Reply.{ReplyValue}
 use Rattle.mcv_text.specs.Request.{RequestValue, ItemValue}
 use Rattle.mcv_session.specs.declared.desk.DeskFault.{DeskFault}
-use Rattle.mcv_session.specs.declared.session.Flow.{Flow}
 use Rattle.mcv_session.specs.declared.session.Flow.TheVariants.{GoesOn, Ends}
 use Rattle.mcv_session.specs.Exchange.{Exchange, item_of, text_of, texts_of, ends}
 use Rattle.mcv_session.specs.Session.{Answers, Chain, CutShort, Exchanged, Goes, Lost, taken, flow_after}

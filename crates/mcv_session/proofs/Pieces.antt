@@ -1,18 +1,17 @@
 -- Pieces in a row, and readers that have failed.
-use Rattle.std.proofs.Common.{◌≡◌, ◌≢◌, ◌∙◌, ℕ, ◌-◌, ◌≤◌, List, [], ◌∷◌, ◌++◌, length, map, Bool, true, false, ◌||◌, refl, sym, ap, subst, append-nil, append_assoc, Result, if◌then◌else◌, arith, nat_lt, drop, ◌⊎◌, inl, inr}
-use Rattle.std.specs.List.{flat_map, list_any, All}
+use Rattle.std.proofs.Common.{◌≡◌, ◌≢◌, ◌∙◌, ℕ, ◌-◌, List, [], ◌∷◌, ◌++◌, length, map, Bool, true, false, ◌||◌, refl, sym, ap, subst, Result, if◌then◌else◌, arith, nat_lt, drop, ◌⊎◌, inl, inr}
+use Rattle.std.specs.List.{list_any}
 use Rattle.std.proofs.lemmas.List.{map-append}
 use Rattle.std.proofs.lemmas.List.Folds.{list_any-append}
 use Rattle.std.proofs.lemmas.Grind.{flat_map-append}
 use Rattle.mcv_base.specs.Reply.{ReplyValue}
-use Rattle.mcv_text.specs.declared.item.Refusal.TheVariants.{BadLine, BadDataChunk}
-use Rattle.mcv_text.specs.Request.{RequestValue, ItemValue, refused}
-use Rattle.mcv_text.specs.Stream.{Stands, Held, Skips, Failed, EndsRefused, IsEnding, Reads, followed, in_line, IsLine}
+use Rattle.mcv_text.specs.Request.{RequestValue, ItemValue}
+use Rattle.mcv_text.specs.Stream.{Stands, Held, Skips, Failed, EndsRefused, IsEnding, Reads, followed}
 use Rattle.mcv_session.specs.declared.desk.DeskFault.{DeskFault}
 use Rattle.mcv_session.specs.declared.session.Flow.{Flow}
 use Rattle.mcv_session.specs.declared.session.Flow.TheVariants.{GoesOn, Ends}
-use Rattle.mcv_session.specs.Exchange.{Exchange, item_of, text_of, texts_of, ends}
-use Rattle.mcv_session.specs.Session.{Answers, Breaks, Chain, CutShort, Serves, taken, flow_after}
+use Rattle.mcv_session.specs.Exchange.{item_of, text_of, texts_of, ends}
+use Rattle.mcv_session.specs.Session.{Answers, Breaks, Serves, taken, flow_after}
 use Rattle.mcv_session.proofs.Items.{chain_join, taken_on}
 
 either_open : (b : Bool) (x y : Stands) → x ≢ Failed → y ≢ Failed → (if b then x else y) ≢ Failed

@@ -1,17 +1,17 @@
 -- A session over a reader and a writer, piece after piece.
-use Rattle.std.proofs.Common.{◌≡◌, ℕ, List, [], ◌++◌, refl, sym, subst, append-nil, Option, Result, ◌⊎◌, inl, inr}
+use Rattle.std.proofs.Common.{◌≡◌, ℕ, List, [], ◌++◌, refl, sym, subst, append-nil, Option, Result}
 use Rattle.std.proofs.KnownBytes.{Consumes-nil, Consumes-trans, Appends-nil, Appends-trans}
-use Rattle.std.specs.Io.KnownBytes.{Appends, Consumes, IsAtEnd}
+use Rattle.std.specs.Io.KnownBytes.{Appends, Consumes}
 use Rattle.mcv_base.specs.Reply.{ReplyValue}
 use Rattle.mcv_text.specs.Request.{RequestValue, ItemValue}
 use Rattle.mcv_text.specs.Stream.{Stands, Held, Reads, followed}
 use Rattle.mcv_session.specs.declared.desk.DeskFault.{DeskFault}
 use Rattle.mcv_session.specs.declared.session.Flow.{Flow}
-use Rattle.mcv_session.specs.declared.session.Flow.TheVariants.{GoesOn, Ends}
+use Rattle.mcv_session.specs.declared.session.Flow.TheVariants.{GoesOn}
 use Rattle.mcv_session.specs.declared.serve.ServeFault.{ServeFault}
 use Rattle.mcv_session.specs.declared.serve.ServeFault.TheVariants as faults
 use Rattle.mcv_session.specs.Session.{Serves}
-use Rattle.mcv_session.specs.Served.{IsServed, IsStopped, Served, Stops}
+use Rattle.mcv_session.specs.Served.{IsStopped, Served, Stops}
 use Rattle.mcv_session.proofs.Pieces.{serves_join, breaks_unread}
 
 module _ {D : Type 0} (asks : D → RequestValue → Result (List ReplyValue) DeskFault → D → Type 0) where

@@ -10,7 +10,7 @@ use Rattle.mcv_text.specs.Request.{AskValue, RequestValue, asking, version, quit
 use Rattle.mcv_text.specs.Answer.{reply_text}
 use Rattle.mcv_text.specs.Refusals.{refusal_text}
 use Rattle.mcv_session.specs.declared.desk.DeskFault.{DeskFault}
-use Rattle.mcv_session.specs.Desk.{HasOneEach, fault_text}
+use Rattle.mcv_session.specs.Desk.{fault_text}
 
 -- one item that a session took, with what the desk answered where it was asked
 pub data Exchange : Type 0 where

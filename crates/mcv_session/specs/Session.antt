@@ -1,5 +1,5 @@
 -- What a session did with a stream of bytes: what it asked its desk, and what it wrote.
-use Rattle.std.specs.Prelude.{◌≡◌, ◌⊎◌, ◌++◌, ◌≤◌, ℕ, List, [], ◌∷◌, length, map, Bool, true, false, if◌then◌else◌, Result}
+use Rattle.std.specs.Prelude.{◌≡◌, ◌⊎◌, ◌++◌, ◌≤◌, ℕ, List, [], ◌∷◌, length, map, if◌then◌else◌, Result}
 use Rattle.std.specs.List.{list_any}
 use Rattle.mcv_base.specs.Reply.{ReplyValue}
 use Rattle.mcv_text.specs.Request.{RequestValue, asking, ItemValue}

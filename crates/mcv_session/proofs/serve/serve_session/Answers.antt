@@ -1,8 +1,4 @@
-use Rattle.std.proofs.Common.{◌≡◌, ◌∙◌, length, ap, sym, subst, take, rules, inl, refl}
-use Rattle.std.specs.Prelude.{MatchOption}
-use Rattle.std.specs.Io.KnownBytes.{Consumes, IsAtEnd}
-use Rattle.mcv_session.specs.Served.{Served}
-use Rattle.mcv_session.specs.declared.session.Flow.TheVariants.{GoesOn, Ends}
+use Rattle.std.proofs.Common.{◌∙◌, inl}
 use Rattle.mcv_session.proofs.Serving.{served_more, served_on, stopped_unread}
 use Rattle.mcv_session.proofs.serve.serve_session.Goals as goal
 

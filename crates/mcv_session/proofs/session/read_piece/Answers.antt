@@ -1,6 +1,5 @@
-use Rattle.std.proofs.Common.{◌∙◌, sym, map}
+use Rattle.std.proofs.Common.{◌∙◌, sym}
 use Rattle.std.proofs.lemmas.Result.{IfOk-weaker}
-use Rattle.mcv_text.specs.Request.{item_value}
 use Rattle.mcv_session.proofs.Pieces.{breaks_unread, still_open}
 use Rattle.mcv_session.proofs.session.read_piece.Goals as goal
 
