@@ -134,13 +134,7 @@ impl Session {
         }
         self.has_ended = true;
         self.text.clear();
-        match read_piece(
-            self.alloc,
-            &mut self.reader,
-            &mut self.text,
-            desk,
-            piece,
-        ) {
+        match read_piece(self.alloc, &mut self.reader, &mut self.text, desk, piece) {
             Ok(Flow::GoesOn) => {
                 self.has_ended = false;
                 Ok(Flow::GoesOn)

@@ -20,6 +20,6 @@ loop-turn-preserved g c =
       live = c.in_ok-serve_piece.ensures.live c.in-GoesOn.is;
       size = c.next_piece.auto.room ∙ c.loop-turn.invariant.size;
       so_far = served_on g.D.Desk.asks _ _ _ _ _ _ _ _
-        (served_more g.D.Desk.asks c.any_pieces.ensures _ _ _ _ _ _ _ _ _ _ _ _ _ _ c.loop-turn.invariant.so_far read.1 c.in_ok-serve_piece.ensures.ok c.in_ok-serve_piece.ensures.text)
-        c.in-GoesOn.is;
+          (served_more g.D.Desk.asks c.any_pieces.ensures _ _ _ _ _ _ _ _ _ _ _ _ _ _ c.loop-turn.invariant.so_far read.1 c.in_ok-serve_piece.ensures.ok c.in_ok-serve_piece.ensures.text)
+          c.in-GoesOn.is;
     }
