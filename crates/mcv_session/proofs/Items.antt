@@ -7,7 +7,8 @@ use Rattle.mcv_text.specs.Request.{RequestValue, ItemValue}
 use Rattle.mcv_session.specs.declared.desk.DeskFault.{DeskFault}
 use Rattle.mcv_session.specs.declared.session.Flow.TheVariants.{GoesOn, Ends}
 use Rattle.mcv_session.specs.Exchange.{Exchange, item_of, text_of, texts_of, ends}
-use Rattle.mcv_session.specs.Session.{Answers, Chain, CutShort, Exchanged, Goes, Lost, taken, flow_after}
+use Rattle.mcv_session.specs.Session.{Answers, Chain, CutShort, Goes, taken, flow_after}
+use Rattle.mcv_session.specs.Step.{Exchanged, Lost}
 
 pub on_err_always : {T E P : Type 0} (r : Result T E) → P → OnErr r P
 on_err_always (Ok x) p = tt

@@ -14,16 +14,16 @@ use Rattle.mcv_session.specs.Desk.{fault_text}
 
 -- one item that a session took, with what the desk answered where it was asked
 pub data Exchange : Type 0 where
-  put : AskValue → Result (List ReplyValue) DeskFault → Exchange
-  shown : Exchange  -- version
-  left : Exchange  -- quit
-  declined : Refusal → Exchange
+  by_desk : AskValue → Result (List ReplyValue) DeskFault → Exchange
+  by_version : Exchange  -- version
+  by_quit : Exchange  -- quit
+  by_refusal : Refusal → Exchange
 
 abbrev pub item_of : Exchange → ItemValue
-item_of (put ask answer) = asked (asking ask)
-item_of shown = asked version
-item_of left = asked quit
-item_of (declined refusal) = refused refusal
+item_of (by_desk ask answer) = asked (asking ask)
+item_of by_version = asked version
+item_of by_quit = asked quit
+item_of (by_refusal refusal) = refused refusal
 
 -- a fault of the desk is the whole answer
 abbrev pub answer_text : AskValue → Result (List ReplyValue) DeskFault → List ℕ
@@ -31,10 +31,10 @@ answer_text ask (Ok replies) = reply_text (asking ask) replies
 answer_text ask (Err fault) = fault_text fault
 
 abbrev pub text_of : Exchange → List ℕ
-text_of (put ask answer) = if ask.noreply then [] else answer_text ask answer
-text_of shown = reply_text version []
-text_of left = reply_text quit []
-text_of (declined refusal) = refusal_text refusal
+text_of (by_desk ask answer) = if ask.noreply then [] else answer_text ask answer
+text_of by_version = reply_text version []
+text_of by_quit = reply_text quit []
+text_of (by_refusal refusal) = refusal_text refusal
 
 abbrev pub texts_of : List Exchange → List ℕ
 texts_of log = flat_map text_of log
@@ -48,7 +48,3 @@ ends (refused UnknownCommand) = false
 ends (refused BadLine) = true
 ends (refused BadDataChunk) = true
 ends (refused ValueTooLarge) = false
-
--- what a client asks servers; whether it wants no reply
-abbrev pub IsAsking : RequestValue → Bool → Type 0
-IsAsking request noreply = (ask : AskValue) × (request ≡ asking ask) × (noreply ≡ ask.noreply)

@@ -3,3 +3,4 @@ pub mod Exchange
 pub mod Session
 pub mod State
 pub mod Served
+pub mod Step

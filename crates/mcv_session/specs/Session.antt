@@ -8,7 +8,7 @@ use Rattle.mcv_session.specs.declared.desk.DeskFault.{DeskFault}
 use Rattle.mcv_session.specs.declared.session.Flow.{Flow}
 use Rattle.mcv_session.specs.declared.session.Flow.TheVariants.{GoesOn, Ends}
 use Rattle.mcv_session.specs.Desk.{HasOneEach}
-use Rattle.mcv_session.specs.Exchange.{Exchange, put, shown, left, declined, item_of, text_of, texts_of, ends}
+use Rattle.mcv_session.specs.Exchange.{Exchange, by_desk, by_version, by_quit, by_refusal, item_of, texts_of, ends}
 
 -- the items up to the first that ends the session, and with it: of `version`, `quit`, `version` the first two
 abbrev pub taken : List ItemValue → List ItemValue
@@ -21,26 +21,15 @@ flow_after items = if list_any ends items then Ends else GoesOn
 module _ {D : Type 0} (asks : D → RequestValue → Result (List ReplyValue) DeskFault → D → Type 0) where
   -- one exchange changes the desk by its own relation where it is asked, and else not
   abbrev pub Goes : Exchange → D → D → Type 0
-  Goes (put ask answer) old new = asks old (asking ask) answer new × HasOneEach (asking ask) answer
-  Goes shown old new = new ≡ old
-  Goes left old new = new ≡ old
-  Goes (declined refusal) old new = new ≡ old
+  Goes (by_desk ask answer) old new = asks old (asking ask) answer new × HasOneEach (asking ask) answer
+  Goes by_version old new = new ≡ old
+  Goes by_quit old new = new ≡ old
+  Goes (by_refusal refusal) old new = new ≡ old
 
   -- one after the other, from the first desk to the last
   abbrev pub Chain : D → List Exchange → D → Type 0
   Chain old [] new = new ≡ old
   Chain old (exchange ∷ log) new = (mid : D) × Goes exchange old mid × Chain mid log new
-
-  -- the item was answered, and the text that was written before it grew by the answer
-  pub record Exchanged (old new : D) (item : ItemValue) (written now : List ℕ) : Type 0 where
-    pub exchange : Exchange
-    pub is : item_of exchange ≡ item
-    pub goes : Goes exchange old new
-    pub writes : now ≡ written ++ text_of exchange
-
-  -- memory ran out: nothing is written, and either the desk wasn't asked or its answer is lost
-  abbrev pub Lost : D → D → ItemValue → Type 0
-  Lost old new item = (new ≡ old) ⊎ ((exchange : Exchange) × (item_of exchange ≡ item) × Goes exchange old new)
 
   -- of these items each was answered that the session took, and this is the text of the answers
   pub record Answers (old new : D) (items : List ItemValue) (text : List ℕ) (flow : Flow) : Type 0 where

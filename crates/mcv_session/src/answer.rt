@@ -6,8 +6,8 @@ ghost use Rattle.mcv_base.specs.Reply.{part_value};
 ghost use Rattle.mcv_text.specs.Answer.{reply_text};
 ghost use Rattle.mcv_text.specs.Request.{AskValue, asked, asking, item_value, request_value};
 ghost use Rattle.mcv_session.specs.Desk.{answer_value};
-ghost use Rattle.mcv_session.specs.Exchange.{IsAsking, answer_text, ends};
-ghost use Rattle.mcv_session.specs.Session.{Exchanged, Lost};
+ghost use Rattle.mcv_session.specs.Exchange.{answer_text, ends};
+ghost use Rattle.mcv_session.specs.Step.{Exchanged, IsAsking, Lost};
 
 use crate::desk::{Desk, DeskFault};
 use mcv_base::{Part, Request};
