@@ -1,3 +1,4 @@
+mod Examples
 pub mod Exchanges
 pub mod Items
 pub mod Pieces

@@ -39,7 +39,8 @@ module _ {D : Type 0} (asks : D → RequestValue → Result (List ReplyValue) De
     pub writes : text ≡ texts_of log
     pub flow_is : flow ≡ flow_after items
 
-  -- memory ran out: this is the text of what was answered before; one more request may have been asked, whose answer isn't written
+  -- memory ran out: this is the text of what was answered before; one more request may have been asked, whose answer isn't written;
+  -- of `delete a`, `delete b` at the second answer: two requests, and the text of the first answer
   pub record CutShort (old new : D) (items : List ItemValue) (text : List ℕ) : Type 0 where
     pub log : List Exchange
     pub lost : List Exchange
@@ -49,7 +50,8 @@ module _ {D : Type 0} (asks : D → RequestValue → Result (List ReplyValue) De
     pub chain : Chain old (log ++ lost) new
     pub writes : text ≡ texts_of log
 
-  -- a session whose reader stood for this took these bytes, answered the items that end in them, and its reader stands for the rest
+  -- a session whose reader stood for this took these bytes, answered the items that end in them, and its reader stands for the rest;
+  -- `get a` CR LF `quit` LF to a desk that answers a miss: one request, `END` CR LF, Ends
   pub record Serves (old new : D) (from : Stands) (bytes text : List ℕ) (flow : Flow) (rest : Stands) : Type 0 where
     pub items : List ItemValue
     pub reads : Reads (followed from bytes) items rest
