@@ -5,6 +5,7 @@ use mcv_session::{Flow, Session, SessionFault};
 use std::alloc::{AllocError, Global};
 use std::process::Abort;
 use std::test::Fail;
+use std::thread;
 
 fn push_meant(bytes: &mut Vec<u8>, byte: u8) -> Result<(), AllocError> {
     match byte {
@@ -211,5 +212,18 @@ fn the_text_is_that_of_the_last_piece(rt: HostRuntime) -> Result<(), Fail> {
     assert!(rt; session.text() == b"NOT_FOUND\r\n".as_slice());
     assert_eq!(rt; session.read(&mut desk, b"ete c"), Ok(Flow::GoesOn));
     assert_eq!(rt; session.text().len(), 0);
+    Ok(())
+}
+
+#[test]
+fn a_session_is_moved(rt: HostRuntime) -> Result<(), Fail> {
+    let alloc = rt.alloc();
+    let mut desk = Script::new(alloc, "d");
+    let mut session = Session::new(alloc);
+    let child = thread::spawn(
+        &rt,
+        move || session.read(&mut desk, b"delete a\r\n") == Ok(Flow::GoesOn),
+    )?;
+    assert!(rt; child.join(&rt));
     Ok(())
 }
