@@ -1,5 +1,5 @@
 -- The definitions at small sessions.
-use Rattle.std.proofs.Common.{◌≡◌, ◌≢◌, ℕ, ◌+◌, List, [], ◌∷◌, true, false, None, Some, refl, codes, arith, Result, Ok, Err}
+use Rattle.std.proofs.Common.{◌≡◌, ◌≢◌, ℕ, ◌+◌, List, [], ◌∷◌, true, false, None, refl, codes, arith, Result, Ok, Err}
 use Rattle.std.specs.Prelude.{pos}
 use Rattle.std.proofs.lemmas.List.Elements.{All-from_recursion}
 use Rattle.mcv_base.specs.declared.operation.Op.TheVariants as ops
@@ -11,7 +11,7 @@ use Rattle.mcv_text.specs.Stream.{Held, IsLine, by_line, in_line}
 use Rattle.mcv_session.specs.declared.desk.DeskFault.{DeskFault}
 use Rattle.mcv_session.specs.declared.desk.DeskFault.TheVariants as faults
 use Rattle.mcv_session.specs.declared.session.Flow.TheVariants.{GoesOn, Ends}
-use Rattle.mcv_session.specs.Exchange.{by_desk, by_version, by_quit, by_refusal, text_of, ends}
+use Rattle.mcv_session.specs.Exchange.{by_desk, by_version, by_quit, by_refusal, text_of}
 use Rattle.mcv_session.specs.Session.{Chain, Serves, taken, flow_after}
 
 abbrev get_a : AskValue

@@ -1,14 +1,13 @@
 -- Single items, and what was answered to them.
 use Rattle.std.proofs.Common.{◌≡◌, ◌∙◌, ℕ, List, [], ◌++◌, Bool, true, false, refl, sym, ap, subst, append-nil, Result, if◌then◌else◌}
-use Rattle.std.proofs.Common.{inl, inr}
+use Rattle.std.proofs.Common.{inr}
 use Rattle.mcv_base.specs.Reply.{ReplyValue}
 use Rattle.mcv_text.specs.declared.item.Refusal.{Refusal}
-use Rattle.mcv_text.specs.Request.{AskValue, RequestValue, asking, version, quit, ItemValue, asked, refused}
-use Rattle.mcv_text.specs.Answer.{reply_text}
+use Rattle.mcv_text.specs.Request.{AskValue, RequestValue, asking, asked, refused}
 use Rattle.mcv_text.specs.Refusals.{refusal_text}
 use Rattle.mcv_session.specs.declared.desk.DeskFault.{DeskFault}
 use Rattle.mcv_session.specs.Desk.{HasOneEach}
-use Rattle.mcv_session.specs.Exchange.{by_desk, by_version, by_quit, by_refusal, answer_text}
+use Rattle.mcv_session.specs.Exchange.{by_desk, by_refusal, answer_text}
 use Rattle.mcv_session.specs.Session.{Goes}
 use Rattle.mcv_session.specs.Step.{Exchanged, IsAsking, Lost}
 
@@ -40,14 +39,5 @@ module _ {D : Type 0} (asks : D → RequestValue → Result (List ReplyValue) De
   pub lost_put : (old new : D) (request : RequestValue) (noreply : Bool) (answer : Result (List ReplyValue) DeskFault) → IsAsking request noreply → asks old request answer new → HasOneEach request answer → Lost asks old new (asked request)
   lost_put old new request noreply answer (ask, is, same) a one = inr (by_desk ask answer, ap asked (sym is), goes_put old new request ask answer is a one)
 
-  pub exchanged_version : (desk : D) (request : RequestValue) (written now : List ℕ) → request ≡ version → now ≡ written ++ reply_text request [] → Exchanged asks desk desk (asked request) written now
-  exchanged_version desk request written now is text = record { exchange = by_version; is = ap asked (sym is); goes = refl; writes = text ∙ ap (λ r. written ++ reply_text r []) is }
-
-  pub exchanged_quit : (desk : D) (request : RequestValue) (written now : List ℕ) → request ≡ quit → now ≡ written ++ reply_text request [] → Exchanged asks desk desk (asked request) written now
-  exchanged_quit desk request written now is text = record { exchange = by_quit; is = ap asked (sym is); goes = refl; writes = text ∙ ap (λ r. written ++ reply_text r []) is }
-
   pub exchanged_refusal : (desk : D) (refusal : Refusal) (written now : List ℕ) → now ≡ written ++ refusal_text refusal → Exchanged asks desk desk (refused refusal) written now
   exchanged_refusal desk refusal written now text = record { exchange = by_refusal refusal; is = refl; goes = refl; writes = text }
-
-  pub lost_none : (desk : D) (item : ItemValue) → Lost asks desk desk item
-  lost_none desk item = inl refl

@@ -49,9 +49,6 @@ module _ {D : Type 0} (asks : D → RequestValue → Result (List ReplyValue) De
     pub takes : map item_of log ++ taken rest ≡ taken all
     pub any : list_any ends all ≡ list_any ends rest
 
-  pub sofar_start : (desk : D) (all : List ItemValue) (text : List ℕ) → text ≡ [] → SoFar desk desk all all text
-  sofar_start desk all text none = record { log = []; chain = refl; writes = none; takes = refl; any = refl }
-
   grown : (s : List Exchange) (x : Exchange) (text now : List ℕ) → text ≡ texts_of s → now ≡ text ++ text_of x → now ≡ texts_of (s ++ x ∷ [])
   grown s x text now a b = b ∙ ap (λ t. t ++ text_of x) a ∙ sym (texts_push s x)
 
@@ -76,15 +73,6 @@ module _ {D : Type 0} (asks : D → RequestValue → Result (List ReplyValue) De
     chain = chain_push old mid new s.log x.exchange s.chain x.goes;
     writes = grown s.log x.exchange text now s.writes x.writes;
     flow_is = sym (flow_is all true (s.any ∙ any_last item rest e));
-  }
-
-  pub sofar_done : (old new : D) (all rest : List ItemValue) (text : List ℕ) → SoFar old new all rest text → rest ≡ [] → Answers asks old new all text GoesOn
-  sofar_done old new all rest text s none = record {
-    log = s.log;
-    takes = sym (append-nil (map item_of s.log)) ∙ ap (λ r. map item_of s.log ++ taken r) (sym none) ∙ s.takes;
-    chain = s.chain;
-    writes = s.writes;
-    flow_is = sym (flow_is all false (s.any ∙ ap (list_any ends) none));
   }
 
   pub sofar_cut : (old mid new : D) (all rest : List ItemValue) (item : ItemValue) (text now : List ℕ) → SoFar old mid all (item ∷ rest) text → now ≡ text → Lost asks mid new item → CutShort asks old new all now

@@ -1,5 +1,5 @@
 -- A session over a reader and a writer, piece after piece.
-use Rattle.std.proofs.Common.{◌≡◌, ℕ, List, [], ◌++◌, refl, sym, subst, append-nil, Option, Result}
+use Rattle.std.proofs.Common.{◌≡◌, ℕ, List, [], ◌++◌, refl, subst, Option, Result}
 use Rattle.std.proofs.KnownBytes.{Consumes-nil, Consumes-trans, Appends-nil, Appends-trans}
 use Rattle.std.specs.Io.KnownBytes.{Appends, Consumes}
 use Rattle.mcv_base.specs.Reply.{ReplyValue}
@@ -32,26 +32,9 @@ module _ {D : Type 0} (asks : D → RequestValue → Result (List ReplyValue) De
   pub served_on : (old new : D) (flow : Flow) (rest : Stands) (unread left before after : Option (List ℕ)) → Served asks old new flow rest unread left before after → flow ≡ GoesOn → Served asks old new GoesOn rest unread left before after
   served_on old new flow rest unread left before after x is = subst (λ f. Served asks old new f rest unread left before after) is x
 
-  -- no byte more was read
-  pub served_same : (old new : D) (rest : Stands) (flow : Flow) (unread later left before after : Option (List ℕ)) → Served asks old new flow rest unread later before after → Consumes later left []
-      → Served asks old new flow rest unread left before after
-  served_same old new rest flow unread later left before after x c = record {
-    bytes = x.bytes;
-    text = x.text;
-    serves = x.serves;
-    reads = subst (Consumes unread left) (append-nil x.bytes) (Consumes-trans unread later left x.bytes [] x.reads c);
-    writes = x.writes;
-  }
-
   pub stopped : (fault : ServeFault) (old mid new : D) (rest : Stands) (unread later left before between after : Option (List ℕ)) (piece : List ℕ) → Served asks old mid GoesOn rest unread later before between
       → Consumes later left piece → Stops asks fault mid new rest piece between after → IsStopped asks fault old new unread left before after
   stopped fault old mid new rest unread later left before between after piece x c s = record { mid = mid; rest = rest; between = between; later = later; earlier = x; piece = piece; reads = c; stops = s }
-
-  -- the reader failed, or was read too often
-  pub stopped_reading : (fault : ServeFault) (old new : D) (rest : Stands) (unread later left before after : Option (List ℕ)) → fault ≡ faults.Read → Served asks old new GoesOn rest unread later before after
-      → Consumes later left [] → IsStopped asks fault old new unread left before after
-  stopped_reading fault old new rest unread later left before after is x c =
-      stopped fault old new new rest unread later left before after after [] x c (subst (λ f. Stops asks f new new rest [] after after) (sym is) (refl, refl, Appends-nil after))
 
   -- memory ran out before the first read
   pub stopped_unread : (desk : D) (unread before : Option (List ℕ)) → Serves asks desk desk (Held []) [] [] GoesOn (Held []) → IsStopped asks faults.Memory desk desk unread unread before before

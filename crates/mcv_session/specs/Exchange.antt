@@ -1,12 +1,12 @@
 -- What a session writes for one item, and whether it ends with it (memcached, protocol.txt; that refusals 2 and 3 end it is own).
 -- `get a b` answered by a hit of a, value x, and a miss of b: VALUE a 0 1 CR LF x CR LF END CR LF.
 -- `delete a noreply`: the desk is asked, and nothing is written.
-use Rattle.std.specs.Prelude.{◌≡◌, ℕ, List, [], Bool, true, false, if◌then◌else◌, Result, Ok, Err}
+use Rattle.std.specs.Prelude.{ℕ, List, [], Bool, true, false, if◌then◌else◌, Result, Ok, Err}
 use Rattle.std.specs.List.{flat_map}
 use Rattle.mcv_base.specs.Reply.{ReplyValue}
 use Rattle.mcv_text.specs.declared.item.Refusal.{Refusal}
 use Rattle.mcv_text.specs.declared.item.Refusal.TheVariants.{UnknownCommand, BadLine, BadDataChunk, ValueTooLarge}
-use Rattle.mcv_text.specs.Request.{AskValue, RequestValue, asking, version, quit, ItemValue, asked, refused}
+use Rattle.mcv_text.specs.Request.{AskValue, asking, version, quit, ItemValue, asked, refused}
 use Rattle.mcv_text.specs.Answer.{reply_text}
 use Rattle.mcv_text.specs.Refusals.{refusal_text}
 use Rattle.mcv_session.specs.declared.desk.DeskFault.{DeskFault}

@@ -1,9 +1,9 @@
 //! A client's session: a reader of its requests, and the text of their answers.
 
-ghost use Rattle.std.specs.Prelude.{◌≡◌, ◌≢◌, ◌++◌, ◌⊎◌, ◌↔◌, [], List, map, true, false, Bool, IfOk, IfErr, OnOk, OnErr};
+ghost use Rattle.std.specs.Prelude.{◌≡◌, ◌≢◌, ◌↔◌, [], map, true, false, IfOk, OnErr};
 ghost use Rattle.std.specs.Result.{IsErrOf};
-ghost use Rattle.mcv_text.specs.Request.{ItemValue, item_value};
-ghost use Rattle.mcv_text.specs.Stream.{Failed, Held, Reads, Stands, followed};
+ghost use Rattle.mcv_text.specs.Request.{item_value};
+ghost use Rattle.mcv_text.specs.Stream.{Failed, Held, followed};
 ghost use Rattle.mcv_session.specs.Session.{Answers, Breaks, CutShort, Serves};
 
 use crate::answer::{answer_item, ends};
