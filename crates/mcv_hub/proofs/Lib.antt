@@ -1,0 +1,4 @@
+pub mod Histories
+pub mod CheckedReceipts
+pub mod CallsThatCanBeTaken
+pub mod NobodyIsForgotten
