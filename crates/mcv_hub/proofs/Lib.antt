@@ -1,4 +1,1 @@
-pub mod Histories
 pub mod CheckedReceipts
-pub mod CallsThatCanBeTaken
-pub mod NobodyIsForgotten

@@ -1,27 +1,30 @@
 -- What contracts see of the hub's state, and what holds of it whenever the lock is free (own).
-use Rattle.std.specs.Prelude.{◌≡◌, ◌+◌, ◌<◌, ◌≤◌, ◌^◌, [], ◌∷◌, ◌++◌, ℕ, List, Some, count_by}
-use Rattle.mcv_base.specs.Reply.{part_value}
-use Rattle.mcv_base.specs.declared.reply.Parts.{Parts}
+use Rattle.std.specs.Prelude.{◌≡◌, ◌+◌, ◌<◌, ◌≤◌, ◌^◌, [], ◌∷◌, ◌++◌, ℕ, List, count_by}
+use Rattle.std.specs.Arc.{arc_value}
+use Rattle.std.specs.declared.alloc.Global.{Global}
+use Rattle.std.specs.declared.sync.Arc.{Arc}
+use Rattle.mcv_base.specs.Reply.{ReplyValue, part_value}
+use Rattle.mcv_base.specs.declared.request.CallId.{CallId}
+use Rattle.mcv_base.specs.declared.reply.Part.{Part}
+use Rattle.mcv_base.specs.declared.request.LegId.{LegId}
 use Rattle.mcv_base.specs.declared.request.Request.{Request}
-use Rattle.mcv_route.specs.Routes.{RoutesValue}
+use Rattle.mcv_pools.specs.Hash.{fnv_index}
+use Rattle.mcv_symbolic.specs.Covered.{AreCovered}
 use Rattle.mcv_world.specs.World.{World}
-use Rattle.mcv_world.specs.Kept.{Kept}
-use Rattle.mcv_world.specs.Laws.{IsWorld}
+use Rattle.mcv_world.specs.Laws.{HasReply, IsWorld}
 use Rattle.mcv_world.specs.Live.{live_of}
-use Rattle.mcv_core_standin.specs.Asked.{began_move}
-use Rattle.mcv_core_standin.specs.Core.{core_view}
-use Rattle.mcv_core_standin.specs.Events.{IsBegun, IsReplyIn}
-use Rattle.mcv_core_standin.specs.View.{CoreView, Moved}
-use Rattle.mcv_core_standin.specs.declared.answer.Begun.{Begun}
-use Rattle.mcv_core_standin.specs.declared.answer.Taken.{Taken}
-use Rattle.mcv_core_standin.specs.declared.events.Core.{Core}
-use Rattle.mcv_hub.specs.History.{IsHistory, is_began, is_taken}
+use Rattle.mcv_events.specs.Rows.{world_of}
+use Rattle.mcv_core.specs.Asking.{HasBegunFor}
+use Rattle.mcv_core.specs.CoreView.{CoreView}
+use Rattle.mcv_core.specs.View.{core_view, records_of}
+use Rattle.mcv_core.specs.declared.step.Change.{Change}
+use Rattle.mcv_core.specs.declared.dispatcher.Dispatcher.{Dispatcher}
+use Rattle.mcv_hub.specs.History.{IsHistory, is_began, is_taken, leg_entry, with_entry}
 use Rattle.mcv_hub.specs.declared.entry.Entry.{Entry}
 use Rattle.mcv_hub.specs.declared.entry.Entry.TheVariants as entries
-use Rattle.mcv_hub.specs.declared.seat.Started.{Started}
 
 pub record HubView : Type 0 where
-  pub core : Core
+  pub core : Dispatcher
   -- of this chapter
   pub history : List Entry
   pub chapter : ℕ
@@ -32,18 +35,21 @@ pub record HubView : Type 0 where
   pub begun_before : ℕ
   pub taken_before : ℕ
 
--- the history is legal and leads to the core, and the books count its entries
-pub record IsHub (v : CoreView) (history : List Entry) (begun taken begun_before taken_before : ℕ) : Type 0 where
-  pub legal : IsHistory v.routes v.world history
+-- the routes are covered, the history is legal and leads to the core, and the books count its entries
+pub record IsHub (v : CoreView) (history : List Entry) (chapter begun taken begun_before taken_before : ℕ) : Type 0 where
+  pub covered : AreCovered v.routes
+  pub legal : IsHistory v.routes (world_of v.rows) history
+  pub chapter_is : chapter ≡ v.chapter
   pub begun_is : begun ≡ begun_before + count_by is_began history
   pub taken_is : taken ≡ taken_before + count_by is_taken history
   pub begun_small : begun_before < 2 ^ 63
   pub taken_small : taken_before < 2 ^ 63
 
 -- the entries that the core may still write have their places, and all of them can be counted
-pub record HasRoom (len capacity unwritten : ℕ) : Type 0 where
-  pub within : len + unwritten ≤ capacity
-  pub small : len + unwritten ≤ 2 ^ 62
+pub record HasRoom (len capacity places owed : ℕ) : Type 0 where
+  pub within : len + owed ≤ places
+  pub kept : places ≤ capacity
+  pub small : places ≤ 2 ^ 62
 
 -- ---- what an event leaves
 
@@ -65,33 +71,23 @@ pub record IsSame (old new : HubView) : Type 0 where
   pub history : new.history ≡ old.history
   pub books : IsSameBooks old new
 
+-- the entry of an event on a leg that had this reply was written
+pub record IsWritten (old new : HubView) (leg : LegId) (x : ReplyValue) (change : Change) : Type 0 where
+  pub reply : Part
+  pub is : part_value reply ≡ x
+  pub entry : new.history ≡ with_entry old.history (leg_entry leg reply change)
+
 -- ---- calls
 
--- the request's call was begun, and its entry written
-pub record BeginsOne (old new : HubView) (request : Request) (key : ℕ) (s : Started) : Type 0 where
-  pub begun : Begun
-  pub call : s.call ≡ begun.call
-  pub launched : s.launched ≡ begun.launched
-  pub room : ℕ
-  pub moved : Moved (core_view old.core) (core_view new.core) room (began_move begun.asked)
-  pub is : IsBegun (core_view old.core) (core_view new.core) request key begun
-  pub entry : new.history ≡ old.history ++ entries.Began begun.asked ∷ []
+-- the call for the key was begun, and its entry written
+pub record BeginsOne (old new : HubView) (request : Arc Request Global) (key : ℕ) (call : CallId) : Type 0 where
+  pub begun : HasBegunFor (core_view old.core) fnv_index (arc_value request) key (core_view new.core)
+  pub number : call.0 ≡ (core_view old.core).rows.next_call
+  pub shared : Arc Request Global
+  pub same : arc_value shared ≡ arc_value request
+  pub entry : new.history ≡ old.history ++ entries.Began shared key ∷ []
 
 -- in each world of which the core's is what is left, and so in the replay of the history, this is the reply of the call
-abbrev pub Replies : HubView → ℕ → Taken → Type 0
-Replies v call t =
-    (w : World) → IsWorld (core_view v.core).routes w → live_of (core_view v.core).routes w ≡ (core_view v.core).world → IsReplyIn (core_view v.core).routes w call t
-
--- the three parts are one reply
-pub record IsOneReply (parts : Parts) : Type 0 where
-  pub taken : part_value parts.taken ≡ part_value parts.outcome
-  pub history : part_value parts.history ≡ part_value parts.outcome
-
--- ---- deletes
-
--- it is what is left of a world in which deletes are kept
-pub record IsKept (r : RoutesValue) (live : World) : Type 0 where
-  pub world : World
-  pub is : IsWorld r world
-  pub left : live_of r world ≡ live
-  pub kept : Kept r world
+abbrev pub Replies : HubView → ℕ → ReplyValue → Type 0
+Replies v k x =
+    (w : World) → IsWorld (core_view v.core).routes w → live_of (core_view v.core).routes w ≡ world_of (core_view v.core).rows → HasReply (core_view v.core).routes (w.calls k) x

@@ -5,18 +5,18 @@ ghost use Rattle.mcv_hub.specs.History.{entries_in, era_entry, is_began, is_take
 
 use crate::entry::Entry;
 use mcv_base::{LegId, Part};
-use mcv_core_standin::{Era, LegMove};
+use mcv_core::{Change, Era};
 
-/// The entry of an event on a leg, which recorded this reply of it.
-pub(crate) fn leg_entry(leg: LegId, reply: Part, kind: LegMove) -> Option<Entry>
-    ensures { result ≡ leg_entry leg reply kind }
+/// The entry of an event on a leg, where its reply was this.
+pub(crate) fn leg_entry(leg: LegId, reply: Part, change: Change) -> Option<Entry>
+    ensures { result ≡ leg_entry leg reply change }
 {
-    match kind {
-        LegMove::Nothing => None,
-        LegMove::Answered => Some(Entry::Answered { leg, reply }),
-        LegMove::Spooled => Some(Entry::Spooled(leg)),
-        LegMove::Refused => Some(Entry::Refused(leg)),
-        LegMove::Performed => Some(Entry::Performed(leg)),
+    match change {
+        Change::Nothing => None,
+        Change::Answered => Some(Entry::Answered { leg, reply }),
+        Change::Spooled => Some(Entry::Spooled(leg)),
+        Change::Refused => Some(Entry::Refused(leg)),
+        Change::Performed => Some(Entry::Performed(leg)),
     }
 }
 

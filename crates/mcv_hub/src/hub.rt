@@ -1,17 +1,28 @@
 //! The lock, and the bells on which threads wait.
 
-ghost use Rattle.std.specs.Prelude.{◌≡◌, ◌+◌};
+ghost use Rattle.std.specs.Prelude.{◌≡◌, ◌+◌, IfErr};
+ghost use Rattle.mcv_core.specs.declared.fault.CoreFault.TheVariants.{Memory as OutOfMemory};
 
 use crate::guard::Guard;
 use crate::pass::{Pass, Passes};
-use crate::rings::Bell;
 use crate::state::HubState;
-use mcv_base::{LegId, ServerId};
-use mcv_core_standin::{Change, Launched};
-use mcv_route::Routes;
+use mcv_base::{CallId, ServerId};
+use mcv_check::Accepted;
+use mcv_core::CoreFault;
+use mcv_spool::SpoolRecord;
 use std::alloc::{AllocError, Global};
 use std::sync::ledger::{Blank, Ledger};
-use std::sync::{Condvar, Mutex, Wait};
+use std::sync::{Arc, Condvar, Mutex, Wait};
+
+/// What a thread waits for: a leg for a server's worker, the reply to a call for a session, a record for the spool's
+/// worker, a leg in the spool for the replayer.
+#[derive(Clone, Copy, Debug, PartialEq, Eq)]
+pub enum Bell {
+    Server(ServerId),
+    Call(CallId),
+    Spool,
+    Replayer,
+}
 
 /// The state that threads share: one lock, and beside it a bell for each server's worker, bells for calls that sessions
 /// await, one for the spool's worker and one for the replayer.
@@ -34,23 +45,28 @@ fn bells(alloc: Global, count: usize) -> Result<Vec<Condvar>, AllocError> {
 }
 
 impl<B: Ledger, T: Ledger> Hub<B, T> {
-    /// A hub of these routes in its first chapter, with bells for this many servers and this many sessions, and what
-    /// makes its passes and `seats` seats. An error is that memory ran out.
+    /// A hub over these routes with the records that the spool held, in its first chapter, with bells for their servers
+    /// and for this many sessions, and what makes its passes and `seats` seats. The one error is Memory.
     pub fn new(
         alloc: Global,
-        routes: Routes,
-        servers: usize,
+        accepted: Arc<Accepted>,
+        records: &[(u64, SpoolRecord)],
         sessions: usize,
         seats: u64,
         begun: Blank,
         taken: Blank,
-    ) -> Result<(Hub<B, T>, Passes<B, T>), AllocError>
+    ) -> Result<(Hub<B, T>, Passes<B, T>), CoreFault>
         requires begun { (begun.name ≡ B.name) × (begun.parts ≡ B.parts) × (begun.parts ≡ seats + 1) }
         requires taken { (taken.name ≡ T.name) × (taken.parts ≡ T.parts) × (taken.parts ≡ seats + 1) }
+        ensures err { IfErr result (λ fault. fault ≡ OutOfMemory) }
     {
-        let servers = bells(alloc, servers)?;
-        let calls = bells(alloc, sessions)?;
-        let (state, begun, taken) = HubState::new(alloc, routes, begun, taken);
+        let Ok(servers) = bells(alloc, accepted.routes().servers().len()) else {
+            return Err(CoreFault::Memory);
+        };
+        let Ok(calls) = bells(alloc, sessions) else {
+            return Err(CoreFault::Memory);
+        };
+        let (state, begun, taken) = HubState::new(alloc, accepted, records, begun, taken)?;
         let hub = Hub {
             state: Mutex::new(state),
             servers,
@@ -97,34 +113,6 @@ impl<B: Ledger, T: Ledger> Hub<B, T> {
     pub fn ring(&self, bell: Bell) {
         if let Some(bell) = self.bell(bell) {
             bell.notify_all();
-        }
-    }
-
-    /// Wakes whom an event on a leg lets go on. The guard is that of the event, just after it.
-    pub fn ring_changed(&self, guard: &Guard<'_, B, T>, change: &Change) {
-        let rings = guard.rings(change);
-        if let Some(server) = rings.server {
-            self.ring(Bell::Server(server));
-        }
-        if let Some(call) = rings.call {
-            self.ring(Bell::Call(call));
-        }
-        if rings.spool {
-            self.ring(Bell::Spool);
-        }
-        if rings.replayer {
-            self.ring(Bell::Replayer);
-        }
-        self.ring_launched(guard, change.launched);
-    }
-
-    /// Wakes the workers of the servers of legs that were launched. The guard is that of the event, just after it.
-    pub fn ring_launched(&self, guard: &Guard<'_, B, T>, launched: Launched) {
-        let first = launched.first.0;
-        for number in first..first.saturating_add(launched.count) {
-            if let Some(leg) = guard.leg_state(LegId(number)) {
-                self.ring(Bell::Server(ServerId(leg.server)));
-            }
         }
     }
 }
