@@ -105,7 +105,7 @@ impl<'a, B: Ledger, T: Ledger> Guard<'a, B, T> {
         ensures err { OnErr result (IsSame self.old self.new) }
         ensures unshared { OnErr result ((seat.new.begun.amount ≡ seat.old.begun.amount) × (seat.new.taken.amount ≡ seat.old.taken.amount)) }
     {
-        self.state.begin(alloc, seat, T>, request, key)
+        self.state.begin(alloc, seat, request, key)
     }
 
     /// Takes the reply to a running call, once, and counts it in the seat's share; None where the call has none, or it
@@ -128,7 +128,7 @@ impl<'a, B: Ledger, T: Ledger> Guard<'a, B, T> {
         ensures unshared { IfOk result (λ o. IfNone o ((seat.new.begun.amount ≡ seat.old.begun.amount) × (seat.new.taken.amount ≡ seat.old.taken.amount))) }
         ensures unshared_err { OnErr result ((seat.new.begun.amount ≡ seat.old.begun.amount) × (seat.new.taken.amount ≡ seat.old.taken.amount)) }
     {
-        self.state.take_reply(seat, T>, call)
+        self.state.take_reply(seat, call)
     }
 
     /// Sends the first leg that waits for a server: the one with the least number. An error is Busy, where a leg of the
