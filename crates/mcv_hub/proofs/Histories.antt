@@ -1,0 +1,180 @@
+-- Histories that are one entry longer, and what holds of each.
+use Rattle.std.proofs.Common.{◌≡◌, ◌∙◌, ℕ, ◌+◌, ◌<◌, ◌≤◌, ◌^◌, Bool, true, false, List, [], ◌∷◌, ◌++◌, Option, Some, None, count_by, cond, refl, ap, sym, subst, arith}
+use Rattle.std.specs.Prelude.{option_and_then, option_map}
+use Rattle.std.specs.Arc.{arc_value}
+use Rattle.std.specs.declared.alloc.Global.{Global}
+use Rattle.std.specs.declared.sync.Arc.{Arc}
+use Rattle.std.proofs.lemmas.List.Sums.{sum_by-append}
+use Rattle.mcv_base.specs.Reply.{ReplyValue, part_value}
+use Rattle.mcv_base.specs.declared.reply.Part.{Part}
+use Rattle.mcv_base.specs.declared.request.LegId.{LegId}
+use Rattle.mcv_base.specs.declared.request.Request.{Request}
+use Rattle.mcv_pools.specs.Hash.{fnv_index}
+use Rattle.mcv_route.specs.Routes.{RoutesValue}
+use Rattle.mcv_symbolic.specs.Covered.{AreCovered}
+use Rattle.mcv_world.specs.World.{Call, World, reply_of}
+use Rattle.mcv_world.specs.Moves.{Move, Began, Taken, EraBegan, is_move, after, run}
+use Rattle.mcv_world.specs.Live.{has_ended, running, live_of}
+use Rattle.mcv_world.specs.Possible.{IsPossible, ArePossible}
+use Rattle.mcv_world.specs.Laws.{HasReply, IsWorld}
+use Rattle.mcv_world.proofs.MovesKeepWorlds.{opening_is_world, run_world}
+use Rattle.mcv_world.proofs.ForgetsSafely.{forgets_safely, moves_are_live}
+use Rattle.mcv_world.proofs.DeletesAreKept.{covered_worlds_are_kept}
+use Rattle.mcv_events.specs.Rows.{Rows, world_of}
+use Rattle.mcv_core.specs.Asking.{HasBegunFor}
+use Rattle.mcv_core.specs.CoreView.{CoreView, Moved, Unmoved, Does, IsQuiet, change_move}
+use Rattle.mcv_core.specs.Steps.{KeepsDeletes}
+use Rattle.mcv_core.specs.Turning.{era_move}
+use Rattle.mcv_core.specs.declared.turn.Era.{Era}
+use Rattle.mcv_core.specs.declared.step.Change.{Change}
+use Rattle.mcv_core.specs.declared.step.Change.TheVariants.{Nothing, Answered, Spooled, Refused, Performed}
+use Rattle.mcv_hub.specs.declared.entry.Entry.{Entry}
+use Rattle.mcv_hub.specs.declared.entry.Entry.TheVariants as entries
+use Rattle.mcv_hub.specs.History.{AreMovesOf, Begins, IsMoveOf, IsHistory, none, more, is_began, is_taken, with_entry, entries_in, leg_entry, era_entry}
+use Rattle.mcv_hub.specs.Owed.{written_by}
+use Rattle.mcv_hub.specs.State.{IsHub, HasRoom}
+
+run-push : (r : RoutesValue) (w : World) (ms : List Move) (m : Move) → run r w (ms ++ m ∷ []) ≡ after r (run r w ms) m
+run-push r w [] m = refl
+run-push r w (x ∷ ms) m = run-push r (after r w x) ms m
+
+possible-push : (r : RoutesValue) (w : World) (ms : List Move) (m : Move) → ArePossible r w ms → IsPossible r (run r w ms) m → ArePossible r w (ms ++ m ∷ [])
+possible-push r w [] m legal may = (may, tt)
+possible-push r w (x ∷ ms) m legal may = (legal.0, possible-push r (after r w x) ms m legal.1 may)
+
+-- the replay of a legal history is a world
+pub history_is_world : (r : RoutesValue) (live : World) (es : List Entry) (h : IsHistory r live es) → IsWorld r (run r h.opening h.moves)
+history_is_world r live es h = run_world r h.opening h.moves (opening_is_world r h.opening h.opens) h.legal
+
+one_more : (v w : CoreView) (es : List Entry) (e : Entry) (m : Move) → IsHistory v.routes (world_of v.rows) es → Moved v w m → IsMoveOf v.routes e m → IsHistory v.routes (world_of w.rows) (es ++ e ∷ [])
+one_more v w es e m h moved is =
+    let r = v.routes in
+    let u = run r h.opening h.moves in
+    let world = history_is_world r (world_of v.rows) es h in
+    let may : IsPossible r u m = record { allowed = moved.allowed; move = moves_are_live r u m world ∙ ap (λ z. is_move r z m) h.replays ∙ moved.moves.is } in
+    record {
+      opening = h.opening;
+      moves = h.moves ++ m ∷ [];
+      are = more es h.moves e m h.are is;
+      opens = h.opens;
+      legal = possible-push r h.opening h.moves m h.legal may;
+      replays = ap (live_of r) (run-push r h.opening h.moves m) ∙ forgets_safely r u m world ∙ ap (λ z. live_of r (after r z m)) h.replays ∙ sym moved.moves.moves;
+    }
+
+history_moves : (v w : CoreView) (es : List Entry) (e : Entry) (m : Move) → IsHistory v.routes (world_of v.rows) es → Moved v w m → IsMoveOf v.routes e m → IsHistory w.routes (world_of w.rows) (es ++ e ∷ [])
+history_moves v w es e m h moved is = subst (λ r. IsHistory r (world_of w.rows) (es ++ e ∷ [])) (sym moved.routes) (one_more v w es e m h moved is)
+
+history_stays : (v w : CoreView) (es : List Entry) → IsHistory v.routes (world_of v.rows) es → Unmoved v w → IsHistory w.routes (world_of w.rows) es
+history_stays v w es h u = subst (λ r. IsHistory r (world_of w.rows) es) (sym u.routes) (subst (λ z. IsHistory v.routes z es) (sym u.world) h)
+
+count-push : (f : Entry → Bool) (es : List Entry) (e : Entry) (b b' before : ℕ) → b ≡ before + count_by f es → b' ≡ b + count_by f (e ∷ []) → b' ≡ before + count_by f (es ++ e ∷ [])
+count-push f es e b b' before p q = omega (arith, p, q, sum_by-append (λ x. cond (f x) 1 0) es (e ∷ []))
+
+-- ---- what holds of the hub after an event
+
+module _ (v w : CoreView) (es : List Entry) (c b t bb tb : ℕ) (h : IsHub v es c b t bb tb) where
+  covered_still : w.routes ≡ v.routes → AreCovered w.routes
+  covered_still e = subst AreCovered (sym e) h.covered
+
+  -- that is a move, whose entry was written
+  pub hub_moves : (e : Entry) (m : Move) (b' t' : ℕ) → Moved v w m → IsMoveOf v.routes e m → w.chapter ≡ v.chapter → b' ≡ b + count_by is_began (e ∷ []) → t' ≡ t + count_by is_taken (e ∷ []) → IsHub w (es ++ e ∷ []) c b' t' bb tb
+  hub_moves e m b' t' moved is same p q =
+      record {
+        covered = covered_still moved.routes;
+        legal = history_moves v w es e m h.legal moved is;
+        chapter_is = h.chapter_is ∙ sym same;
+        begun_is = count-push is_began es e b b' bb h.begun_is p;
+        taken_is = count-push is_taken es e t t' tb h.taken_is q;
+        begun_small = h.begun_small;
+        taken_small = h.taken_small;
+      }
+
+  -- that is none
+  pub hub_stays : Unmoved v w → w.chapter ≡ v.chapter → IsHub w es c b t bb tb
+  hub_stays u same =
+      record {
+        covered = covered_still u.routes;
+        legal = history_stays v w es h.legal u;
+        chapter_is = h.chapter_is ∙ sym same;
+        begun_is = h.begun_is;
+        taken_is = h.taken_is;
+        begun_small = h.begun_small;
+        taken_small = h.taken_small;
+      }
+
+  -- on a leg
+  pub hub_after_leg : (leg : LegId) (p : Part) (x : ReplyValue) (change : Change) → part_value p ≡ x → Does v w (change_move leg.0 x change) → w.chapter ≡ v.chapter → IsHub w (with_entry es (leg_entry leg p change)) c b t bb tb
+  hub_after_leg leg p x Nothing is d same = hub_stays d same
+  hub_after_leg leg p x Answered is d same = hub_moves _ _ b t d (ap _ (sym is)) same (omega arith) (omega arith)
+  hub_after_leg leg p x Spooled is d same = hub_moves _ _ b t d refl same (omega arith) (omega arith)
+  hub_after_leg leg p x Refused is d same = hub_moves _ _ b t d refl same (omega arith) (omega arith)
+  hub_after_leg leg p x Performed is d same = hub_moves _ _ b t d refl same (omega arith) (omega arith)
+
+  -- that is an era or none
+  pub hub_after_clock : (o : Option Era) → Does v w (era_move o) → w.chapter ≡ v.chapter → IsHub w (with_entry es (era_entry o)) c b t bb tb
+  hub_after_clock None d same = hub_stays d same
+  hub_after_clock (Some e) d same = hub_moves _ _ b t d refl same (omega arith) (omega arith)
+
+  -- that began a call
+  pub hub_after_begin : (request shared : Arc Request Global) (key b' : ℕ) → arc_value shared ≡ arc_value request → HasBegunFor v fnv_index (arc_value request) key w → b' ≡ b + 1 → IsHub w (es ++ entries.Began shared key ∷ []) c b' t bb tb
+  hub_after_begin request shared key b' same g p =
+      let asked = g.asked in
+      hub_moves (entries.Began shared key) (Began g.op g.route g.rest g.choice) b' t g.moves
+        (subst (λ q. Begins_of q) (sym same) (record { op = g.op; route = g.route; rest = g.rest; choice = g.choice; asked = asked; is = refl }))
+        (ap (λ z. z.chapter) g.view.view) (omega (arith, p)) (omega arith)
+    where
+      Begins_of : Request → Type 0
+      Begins_of q = Begins v.routes q key (Began g.op g.route g.rest g.choice)
+
+-- that opened a chapter
+pub hub_after_turn : (v w : CoreView) (c b t bb tb : ℕ) → AreCovered v.routes → w.routes ≡ v.routes → IsQuiet w → c ≡ w.chapter → bb ≡ b → tb ≡ t → bb < 2 ^ 63 → tb < 2 ^ 63 → IsHub w [] c b t bb tb
+hub_after_turn v w c b t bb tb covered same q chapter e f small few =
+    record {
+      covered = subst AreCovered (sym same) covered;
+      legal = record { opening = world_of w.rows; moves = []; are = none; opens = q.0; legal = tt; replays = q.1 };
+      chapter_is = chapter;
+      begun_is = omega (arith, e);
+      taken_is = omega (arith, f);
+      begun_small = small;
+      taken_small = few;
+    }
+
+-- ---- the room after an event
+
+pub written_is : (leg : LegId) (p : Part) (change : Change) → entries_in (leg_entry leg p change) ≡ written_by change
+written_is leg p Nothing = refl
+written_is leg p Answered = refl
+written_is leg p Spooled = refl
+written_is leg p Refused = refl
+written_is leg p Performed = refl
+
+-- as many entries were written as fewer may still be written
+pub room_stays : (len len' capacity capacity' places owed owed' written : ℕ) → HasRoom len capacity places owed → owed' + written ≤ owed → len' ≡ len + written → capacity' ≡ capacity → HasRoom len' capacity' places owed'
+room_stays len len' capacity capacity' places owed owed' written h spent longer same =
+    record { within = omega (arith, h.within, spent, longer); kept = omega (arith, h.kept, same); small = h.small }
+
+-- ---- what a legal history says
+
+-- a call that is left is the world's
+running_is : (r : RoutesValue) (o : Option Call) (call : Call) → running r o ≡ Some call → o ≡ Some call
+running_is r None call e = e
+running_is r (Some c) call e = by_cases (has_ended r c) e
+  where
+    by_cases : (b : Bool) → cond b None (Some c) ≡ Some call → Some c ≡ Some call
+    by_cases true f = absurd (cc)
+    by_cases false f = f
+
+reply_at : (r : RoutesValue) (o p : Option Call) (x : ReplyValue) → running r o ≡ p → option_and_then (reply_of r) p ≡ Some x → HasReply r o x
+reply_at r o None x e f = absurd (cc)
+reply_at r o (Some call) x e f = record { call = call; is = running_is r o call e; reply = f }
+
+-- the reply in what is left of a world is the reply in the world
+pub reply_of_world : (r : RoutesValue) (live w : World) (k : ℕ) (x : ReplyValue) → live_of r w ≡ live → option_and_then (reply_of r) (live.calls k) ≡ Some x → HasReply r (w.calls k) x
+reply_of_world r live w k x left f = reply_at r (w.calls k) (live.calls k) x (ap (λ u. u.calls k) left) f
+
+-- deletes are kept in the replay of a legal history
+pub history_keeps_deletes : (v : CoreView) (es : List Entry) → AreCovered v.routes → IsHistory v.routes (world_of v.rows) es → KeepsDeletes v
+history_keeps_deletes v es covered h =
+    let r = v.routes in
+    let is = history_is_world r (world_of v.rows) es h in
+    record { world = run r h.opening h.moves; is = is; live = h.replays; kept = covered_worlds_are_kept r (run r h.opening h.moves) covered is }
