@@ -13,13 +13,13 @@ use Rattle.mcv_hub.specs.declared.receipts.ReceiptFault.TheVariants.{Stranger, T
 use Rattle.mcv_hub.specs.Receipts.{is_older, IsGood, AreGood, AreApart, HasStranger, HasTwice, AreRefused}
 
 -- a receipt before the index, of this chapter, names the entry
-record IsNamed (chapter : ℕ) (receipts : List Receipt) (index entry : ℕ) : Type 0 where
-  number : ℕ
-  before : number < index
-  receipt : Receipt
-  there : slice_get receipts number ≡ Some receipt
-  chapter_is : receipt.chapter ≡ chapter
-  entry_is : receipt.entry ≡ entry
+pub record IsNamed (chapter : ℕ) (receipts : List Receipt) (index entry : ℕ) : Type 0 where
+  pub number : ℕ
+  pub before : number < index
+  pub receipt : Receipt
+  pub there : slice_get receipts number ≡ Some receipt
+  pub chapter_is : receipt.chapter ≡ chapter
+  pub entry_is : receipt.entry ≡ entry
 
 pub record Checked (chapter : ℕ) (history : List Entry) (receipts : List Receipt) (index older : ℕ) (seen : List Bool) : Type 0 where
   pub len : length seen ≡ length history

@@ -13,7 +13,7 @@ use Rattle.mcv_pools.specs.Hash.{fnv_index}
 use Rattle.mcv_route.specs.Routes.{RoutesValue}
 use Rattle.mcv_symbolic.specs.Covered.{AreCovered}
 use Rattle.mcv_world.specs.World.{Call, World, reply_of}
-use Rattle.mcv_world.specs.Moves.{Move, Began, Taken, EraBegan, is_move, after, run}
+use Rattle.mcv_world.specs.Moves.{Move, Began, Answered as answered_move, is_move, after, run}
 use Rattle.mcv_world.specs.Live.{has_ended, running, live_of}
 use Rattle.mcv_world.specs.Possible.{IsPossible, ArePossible}
 use Rattle.mcv_world.specs.Laws.{HasReply, IsWorld}
@@ -31,7 +31,7 @@ use Rattle.mcv_core.specs.declared.step.Change.TheVariants.{Nothing, Answered, S
 use Rattle.mcv_hub.specs.declared.entry.Entry.{Entry}
 use Rattle.mcv_hub.specs.declared.entry.Entry.TheVariants as entries
 use Rattle.mcv_hub.specs.History.{AreMovesOf, Begins, IsMoveOf, IsHistory, none, more, is_began, is_taken, with_entry, entries_in, leg_entry, era_entry}
-use Rattle.mcv_hub.specs.Owed.{written_by}
+use Rattle.mcv_hub.specs.Owed.{owed, written_by}
 use Rattle.mcv_hub.specs.State.{IsHub, HasRoom}
 
 run-push : (r : RoutesValue) (w : World) (ms : List Move) (m : Move) → run r w (ms ++ m ∷ []) ≡ after r (run r w ms) m
@@ -105,7 +105,7 @@ module _ (v w : CoreView) (es : List Entry) (c b t bb tb : ℕ) (h : IsHub v es 
   -- on a leg
   pub hub_after_leg : (leg : LegId) (p : Part) (x : ReplyValue) (change : Change) → part_value p ≡ x → Does v w (change_move leg.0 x change) → w.chapter ≡ v.chapter → IsHub w (with_entry es (leg_entry leg p change)) c b t bb tb
   hub_after_leg leg p x Nothing is d same = hub_stays d same
-  hub_after_leg leg p x Answered is d same = hub_moves _ _ b t d (ap _ (sym is)) same (omega arith) (omega arith)
+  hub_after_leg leg p x Answered is d same = hub_moves _ _ b t d (ap (λ y. answered_move leg.0 y) (sym is)) same (omega arith) (omega arith)
   hub_after_leg leg p x Spooled is d same = hub_moves _ _ b t d refl same (omega arith) (omega arith)
   hub_after_leg leg p x Refused is d same = hub_moves _ _ b t d refl same (omega arith) (omega arith)
   hub_after_leg leg p x Performed is d same = hub_moves _ _ b t d refl same (omega arith) (omega arith)
@@ -139,7 +139,14 @@ hub_after_turn v w c b t bb tb covered same q chapter e f small few =
       taken_small = few;
     }
 
+-- that changed nothing
+pub hub_same : (v w : CoreView) (es : List Entry) (c b t bb tb : ℕ) → w ≡ v → IsHub v es c b t bb tb → IsHub w es c b t bb tb
+hub_same v w es c b t bb tb same h = subst (λ z. IsHub z es c b t bb tb) (sym same) h
+
 -- ---- the room after an event
+
+pub room_same : (v w : CoreView) (len capacity places : ℕ) → w ≡ v → HasRoom len capacity places (owed v) → HasRoom len capacity places (owed w)
+room_same v w len capacity places same h = subst (λ z. HasRoom len capacity places (owed z)) (sym same) h
 
 pub written_is : (leg : LegId) (p : Part) (change : Change) → entries_in (leg_entry leg p change) ≡ written_by change
 written_is leg p Nothing = refl

@@ -4,8 +4,6 @@ use Rattle.std.specs.Arc.{arc_value}
 use Rattle.mcv_base.specs.Reply.{part_value}
 use Rattle.mcv_base.specs.declared.operation.Op.{Op}
 use Rattle.mcv_base.specs.declared.reply.Part.{Part}
-use Rattle.mcv_base.specs.declared.reply.Part.TheVariants.{Fixed}
-use Rattle.mcv_base.specs.declared.reply.FixedReply.TheVariants.{Lost, NotFound}
 use Rattle.mcv_base.specs.declared.request.LegId.{LegId}
 use Rattle.mcv_base.specs.declared.request.Request.{Request}
 use Rattle.mcv_pools.specs.Hash.{fnv_index}
@@ -83,14 +81,6 @@ with_entry history (Some e) = history ++ e ∷ []
 abbrev pub entries_in : Option Entry → ℕ
 entries_in None = 0
 entries_in (Some e) = 1
-
--- the line of a lost leg
-abbrev pub lost_part : Part
-lost_part = Fixed Lost
-
--- and that of a leg that the spool took
-abbrev pub not_found_part : Part
-not_found_part = Fixed NotFound
 
 -- an event on a leg that had this reply writes the entry of its move
 abbrev pub leg_entry : LegId → Part → Change → Option Entry

@@ -1,5 +1,5 @@
 -- What contracts see of the hub's state, and what holds of it whenever the lock is free (own).
-use Rattle.std.specs.Prelude.{◌≡◌, ◌+◌, ◌<◌, ◌≤◌, ◌^◌, [], ◌∷◌, ◌++◌, ℕ, List, count_by}
+use Rattle.std.specs.Prelude.{◌≡◌, ◌+◌, ◌<◌, ◌≤◌, ◌^◌, [], ◌∷◌, ◌++◌, ℕ, List, Result, IfOk, OnErr, count_by}
 use Rattle.std.specs.Arc.{arc_value}
 use Rattle.std.specs.declared.alloc.Global.{Global}
 use Rattle.std.specs.declared.sync.Arc.{Arc}
@@ -15,9 +15,11 @@ use Rattle.mcv_world.specs.Laws.{HasReply, IsWorld}
 use Rattle.mcv_world.specs.Live.{live_of}
 use Rattle.mcv_events.specs.Rows.{world_of}
 use Rattle.mcv_core.specs.Asking.{HasBegunFor}
-use Rattle.mcv_core.specs.CoreView.{CoreView}
+use Rattle.mcv_core.specs.CoreView.{CoreView, Does, Effect, HasEffect, change_move}
 use Rattle.mcv_core.specs.View.{core_view, records_of}
+use Rattle.mcv_core.specs.declared.fault.CoreFault.{CoreFault}
 use Rattle.mcv_core.specs.declared.step.Change.{Change}
+use Rattle.mcv_core.specs.declared.step.Step.{Step}
 use Rattle.mcv_core.specs.declared.dispatcher.Dispatcher.{Dispatcher}
 use Rattle.mcv_hub.specs.History.{IsHistory, is_began, is_taken, leg_entry, with_entry}
 use Rattle.mcv_hub.specs.declared.entry.Entry.{Entry}
@@ -76,6 +78,14 @@ pub record IsWritten (old new : HubView) (leg : LegId) (x : ReplyValue) (change 
   pub reply : Part
   pub is : part_value reply ≡ x
   pub entry : new.history ≡ with_entry old.history (leg_entry leg reply change)
+
+-- what an event on a leg does: it answers and changes what the core's does, and writes the entry of its move, or none
+pub record IsLegEvent (e : Effect) (x : ReplyValue) (leg : LegId) (old new : HubView) (result : Result Step CoreFault) : Type 0 where
+  pub effect : HasEffect e (core_view old.core) (core_view new.core) result
+  pub does : IfOk result (λ step. Does (core_view old.core) (core_view new.core) (change_move leg.0 x step.change))
+  pub entry : IfOk result (λ step. IsWritten old new leg x step.change)
+  pub books : IsSameBooks old new
+  pub refused : OnErr result (IsSame old new)
 
 -- ---- calls
 

@@ -13,17 +13,17 @@ ghost use Rattle.mcv_world.specs.World.{put};
 ghost use Rattle.mcv_events.specs.Rows as rows;
 ghost use Rattle.mcv_events.specs.Rows.{world_of};
 ghost use Rattle.mcv_core.specs.Asking.{IsRefusedFor};
-ghost use Rattle.mcv_core.specs.CoreView.{Does, HasEffect, IsQuiet, Moved, Unmoved, answer_at, change_move, in_row_state, is_spooled, is_waiting, loss_at, refusing_at, spooling_at, with_mark};
+ghost use Rattle.mcv_core.specs.CoreView.{Does, IsQuiet, Moved, Unmoved, answer_at, in_row_state, is_spooled, is_waiting, loss_at, refusing_at, spooling_at, with_mark};
 ghost use Rattle.mcv_core.specs.Opening.{opened_view};
 ghost use Rattle.mcv_core.specs.Steps.{KeepsDeletes};
 ghost use Rattle.mcv_core.specs.Turning.{CanTurn, era_move, in_era, spooled_legs};
 ghost use Rattle.mcv_core.specs.View.{core_view, records_after, records_of};
 ghost use Rattle.mcv_core.specs.declared.fault.CoreFault.TheVariants.{Memory as OutOfMemory};
-ghost use Rattle.mcv_hub.specs.History.{era_entry, leg_entry, lost_part, not_found_part, with_entry};
+ghost use Rattle.mcv_hub.specs.History.{era_entry, with_entry};
 ghost use Rattle.mcv_hub.specs.Owed.{break_count};
 ghost use Rattle.mcv_hub.specs.Receipts.{AreApart, AreGood, AreRefused, is_older};
 
-ghost use Rattle.mcv_hub.specs.State.{BeginsOne, IsSame, IsSameBooks, IsSameChapter, IsWritten, Replies};
+ghost use Rattle.mcv_hub.specs.State.{BeginsOne, IsLegEvent, IsSame, IsSameBooks, IsSameChapter, Replies};
 ghost use Rattle.mcv_hub.specs.declared.entry.Entry.TheVariants.{Taken as taken_entry};
 
 use crate::pass::Pass;
@@ -169,26 +169,18 @@ impl<'a, B: Ledger, T: Ledger> Guard<'a, B, T> {
 
     /// A leg in flight was answered. It takes no memory. An error is NoSuchLeg, where the leg isn't in flight.
     pub fn answered(&mut self, leg: LegId, reply: LegReply) -> Result<Step, CoreFault>
-        ensures effect { HasEffect (answer_at (core_view self.old.core) leg.0 reply) (core_view self.old.core) (core_view self.new.core) result }
-        ensures does { IfOk result (λ step. Does (core_view self.old.core) (core_view self.new.core) (change_move leg.0 reply step.change)) }
-        ensures history { IfOk result (λ step. IsWritten self.old self.new leg reply step.change) }
-        ensures books { IsSameBooks self.old self.new }
+        ensures event { IsLegEvent (answer_at (core_view self.old.core) leg.0 reply) reply leg self.old self.new result }
         ensures records { IfOk result (λ step. records_of self.new.core ≡ records_after step.place leg.0 (records_of self.old.core)) }
         ensures kept { OnErr result (records_of self.new.core ≡ records_of self.old.core) }
-        ensures err { OnErr result (IsSame self.old self.new) }
     {
         self.state.answered(leg, reply)
     }
 
     /// A leg in flight was lost. It takes no memory. An error is NoSuchLeg, where the leg isn't in flight.
     pub fn lost(&mut self, leg: LegId) -> Result<Step, CoreFault>
-        ensures effect { HasEffect (loss_at (core_view self.old.core) leg.0) (core_view self.old.core) (core_view self.new.core) result }
-        ensures does { IfOk result (λ step. Does (core_view self.old.core) (core_view self.new.core) (change_move leg.0 (fixed_value lost_reply) step.change)) }
-        ensures history { IfOk result (λ step. self.new.history ≡ with_entry self.old.history (leg_entry leg lost_part step.change)) }
-        ensures books { IsSameBooks self.old self.new }
+        ensures event { IsLegEvent (loss_at (core_view self.old.core) leg.0) (fixed_value lost_reply) leg self.old self.new result }
         ensures records { IfOk result (λ step. records_of self.new.core ≡ records_after step.place leg.0 (records_of self.old.core)) }
         ensures kept { OnErr result (records_of self.new.core ≡ records_of self.old.core) }
-        ensures err { OnErr result (IsSame self.old self.new) }
     {
         self.state.lost(leg)
     }
@@ -196,13 +188,9 @@ impl<'a, B: Ledger, T: Ledger> Guard<'a, B, T> {
     /// A held leg is stored in the spool, where the record is its server's text and its rest. The leg keeps the record's
     /// number. It takes no memory. An error is NoSuchLeg, where the leg isn't held, or the record is another one.
     pub fn spooled(&mut self, leg: LegId, stored: Stored) -> Result<Step, CoreFault>
-        ensures effect { HasEffect (spooling_at (core_view self.old.core) leg.0 stored.«record».server stored.«record».rest) (core_view self.old.core) (core_view self.new.core) result }
-        ensures does { IfOk result (λ step. Does (core_view self.old.core) (core_view self.new.core) (change_move leg.0 not_found step.change)) }
-        ensures history { IfOk result (λ step. self.new.history ≡ with_entry self.old.history (leg_entry leg not_found_part step.change)) }
-        ensures books { IsSameBooks self.old self.new }
+        ensures event { IsLegEvent (spooling_at (core_view self.old.core) leg.0 stored.«record».server stored.«record».rest) not_found leg self.old self.new result }
         ensures records { IfOk result (λ step. records_of self.new.core ≡ put (records_of self.old.core) leg.0 (Some stored.seq)) }
         ensures kept { OnErr result (records_of self.new.core ≡ records_of self.old.core) }
-        ensures err { OnErr result (IsSame self.old self.new) }
     {
         self.state.spooled(leg, stored)
     }
@@ -210,12 +198,8 @@ impl<'a, B: Ledger, T: Ledger> Guard<'a, B, T> {
     /// The spool refused a held leg: its call records an error, unless it has an outcome. It takes no memory. An error is
     /// NoSuchLeg, where the leg isn't held.
     pub fn spool_refused(&mut self, leg: LegId) -> Result<Step, CoreFault>
-        ensures effect { HasEffect (refusing_at (core_view self.old.core) leg.0) (core_view self.old.core) (core_view self.new.core) result }
-        ensures does { IfOk result (λ step. Does (core_view self.old.core) (core_view self.new.core) (change_move leg.0 (fixed_value lost_reply) step.change)) }
-        ensures history { IfOk result (λ step. self.new.history ≡ with_entry self.old.history (leg_entry leg lost_part step.change)) }
-        ensures books { IsSameBooks self.old self.new }
+        ensures event { IsLegEvent (refusing_at (core_view self.old.core) leg.0) (fixed_value lost_reply) leg self.old self.new result }
         ensures records { records_of self.new.core ≡ records_of self.old.core }
-        ensures err { OnErr result (IsSame self.old self.new) }
     {
         self.state.spool_refused(leg)
     }
