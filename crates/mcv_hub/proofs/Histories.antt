@@ -1,5 +1,5 @@
 -- Histories that are one entry longer, and what holds of each.
-use Rattle.std.proofs.Common.{◌≡◌, ◌∙◌, ℕ, ◌+◌, ◌<◌, ◌≤◌, ◌^◌, Bool, true, false, List, [], ◌∷◌, ◌++◌, Option, Some, None, count_by, cond, refl, ap, sym, subst, arith}
+use Rattle.std.proofs.Common.{◌≡◌, ◌∙◌, ℕ, ◌+◌, ◌<◌, ◌≤◌, ◌^◌, Bool, true, false, List, [], ◌∷◌, ◌++◌, Option, Some, None, Result, Ok, Err, count_by, cond, refl, ap, sym, subst, arith}
 use Rattle.std.specs.Prelude.{option_and_then, option_map}
 use Rattle.std.specs.Arc.{arc_value}
 use Rattle.std.specs.declared.alloc.Global.{Global}
@@ -7,13 +7,14 @@ use Rattle.std.specs.declared.sync.Arc.{Arc}
 use Rattle.std.proofs.lemmas.List.Sums.{sum_by-append}
 use Rattle.mcv_base.specs.Reply.{ReplyValue, part_value}
 use Rattle.mcv_base.specs.declared.reply.Part.{Part}
+use Rattle.mcv_base.specs.declared.request.CallId.{CallId}
 use Rattle.mcv_base.specs.declared.request.LegId.{LegId}
 use Rattle.mcv_base.specs.declared.request.Request.{Request}
 use Rattle.mcv_pools.specs.Hash.{fnv_index}
 use Rattle.mcv_route.specs.Routes.{RoutesValue}
 use Rattle.mcv_symbolic.specs.Covered.{AreCovered}
 use Rattle.mcv_world.specs.World.{Call, World, reply_of}
-use Rattle.mcv_world.specs.Moves.{Move, Began, Answered as answered_move, is_move, after, run}
+use Rattle.mcv_world.specs.Moves.{Move, Began, Answered as answered_move, Taken as taken_move, is_move, after, run}
 use Rattle.mcv_world.specs.Live.{has_ended, running, live_of}
 use Rattle.mcv_world.specs.Possible.{IsPossible, ArePossible}
 use Rattle.mcv_world.specs.Laws.{HasReply, IsWorld}
@@ -22,17 +23,20 @@ use Rattle.mcv_world.proofs.ForgetsSafely.{forgets_safely, moves_are_live}
 use Rattle.mcv_world.proofs.DeletesAreKept.{covered_worlds_are_kept}
 use Rattle.mcv_events.specs.Rows.{Rows, world_of}
 use Rattle.mcv_core.specs.Asking.{HasBegunFor}
-use Rattle.mcv_core.specs.CoreView.{CoreView, Moved, Unmoved, Does, IsQuiet, change_move}
+use Rattle.mcv_core.specs.CoreView.{CoreView, Effect, HasEffect, Moved, Unmoved, Does, IsQuiet, change_move}
 use Rattle.mcv_core.specs.Steps.{KeepsDeletes}
 use Rattle.mcv_core.specs.Turning.{era_move}
+use Rattle.mcv_core.specs.View.{core_view}
+use Rattle.mcv_core.specs.declared.fault.CoreFault.{CoreFault}
+use Rattle.mcv_core.specs.declared.step.Step.{Step}
 use Rattle.mcv_core.specs.declared.turn.Era.{Era}
 use Rattle.mcv_core.specs.declared.step.Change.{Change}
 use Rattle.mcv_core.specs.declared.step.Change.TheVariants.{Nothing, Answered, Spooled, Refused, Performed}
 use Rattle.mcv_hub.specs.declared.entry.Entry.{Entry}
 use Rattle.mcv_hub.specs.declared.entry.Entry.TheVariants as entries
 use Rattle.mcv_hub.specs.History.{AreMovesOf, Begins, IsMoveOf, IsHistory, none, more, is_began, is_taken, with_entry, entries_in, leg_entry, era_entry}
-use Rattle.mcv_hub.specs.Owed.{owed, written_by}
-use Rattle.mcv_hub.specs.State.{IsHub, HasRoom}
+use Rattle.mcv_hub.specs.Owed.{break_count, owed, written_by}
+use Rattle.mcv_hub.specs.State.{HasRoom, HubView, IsHub, IsLegEvent, IsSame, IsSameBooks, IsWritten}
 
 run-push : (r : RoutesValue) (w : World) (ms : List Move) (m : Move) → run r w (ms ++ m ∷ []) ≡ after r (run r w ms) m
 run-push r w [] m = refl
@@ -185,3 +189,74 @@ history_keeps_deletes v es covered h =
     let r = v.routes in
     let is = history_is_world r (world_of v.rows) es h in
     record { world = run r h.opening h.moves; is = is; live = h.replays; kept = covered_worlds_are_kept r (run r h.opening h.moves) covered is }
+
+-- ---- what events leave of the state's invariant
+
+abbrev pub Holds : (v : CoreView) (es : List Entry) (c b t bb tb len capacity places breaks : ℕ) → Type 0
+Holds v es c b t bb tb len capacity places breaks = IsHub v es c b t bb tb × (HasRoom len capacity places (owed v) × (breaks ≡ break_count v.routes))
+
+does_routes : (v w : CoreView) (m : Option Move) → Does v w m → w.routes ≡ v.routes
+does_routes v w None d = d.routes
+does_routes v w (Some m) d = d.routes
+
+module _ (v w : CoreView) (es : List Entry) (c b t bb tb len capacity places breaks : ℕ) (h : Holds v es c b t bb tb len capacity places breaks) where
+  -- nothing
+  pub same_holds : w ≡ v → Holds w es c b t bb tb len capacity places breaks
+  same_holds same = subst (λ z. Holds z es c b t bb tb len capacity places breaks) (sym same) h
+
+  -- an event on a leg
+  pub leg_holds : (leg : LegId) (p : Part) (x : ReplyValue) (change : Change) (e : Option Entry) (es' : List Entry) (len' capacity' : ℕ) → part_value p ≡ x → Does v w (change_move leg.0 x change) → w.chapter ≡ v.chapter
+      → owed w + written_by change ≤ owed v → e ≡ leg_entry leg p change → es' ≡ with_entry es e → len' ≡ len + entries_in e → capacity' ≡ capacity → Holds w es' c b t bb tb len' capacity' places breaks
+  leg_holds leg p x change e es' len' capacity' is d same spent entry items longer kept = (
+      subst (λ z. IsHub w z c b t bb tb) (sym (items ∙ ap (with_entry es) entry)) (hub_after_leg v w es c b t bb tb h.0 leg p x change is d same),
+      room_stays len len' capacity capacity' places (owed v) (owed w) (written_by change) h.1.0 spent (longer ∙ ap (λ z. len + entries_in z) entry ∙ ap (λ z. len + z) (written_is leg p change)) kept,
+      h.1.1 ∙ ap break_count (sym (does_routes v w (change_move leg.0 x change) d)),
+    )
+
+  -- the clock
+  pub clock_holds : (o : Option Era) (e : Option Entry) (es' : List Entry) (len' capacity' : ℕ) → Does v w (era_move o) → w.chapter ≡ v.chapter
+      → owed w + entries_in (era_entry o) ≤ owed v → e ≡ era_entry o → es' ≡ with_entry es e → len' ≡ len + entries_in e → capacity' ≡ capacity → Holds w es' c b t bb tb len' capacity' places breaks
+  clock_holds o e es' len' capacity' d same spent entry items longer kept = (
+      subst (λ z. IsHub w z c b t bb tb) (sym (items ∙ ap (with_entry es) entry)) (hub_after_clock v w es c b t bb tb h.0 o d same),
+      room_stays len len' capacity capacity' places (owed v) (owed w) (entries_in (era_entry o)) h.1.0 spent (longer ∙ ap (λ z. len + entries_in z) entry) kept,
+      h.1.1 ∙ ap break_count (sym (does_routes v w (era_move o) d)),
+    )
+
+  -- a reply that was taken
+  pub take_holds : (call : CallId) (es' : List Entry) (t' len' capacity' : ℕ) → Moved v w (taken_move call.0) → w.chapter ≡ v.chapter
+      → owed w + 1 ≤ owed v → es' ≡ es ++ entries.Taken call ∷ [] → t' ≡ t + 1 → len' ≡ len + 1 → capacity' ≡ capacity → Holds w es' c b t' bb tb len' capacity' places breaks
+  take_holds call es' t' len' capacity' d same spent items more_taken longer kept = (
+      subst (λ z. IsHub w z c b t' bb tb) (sym items) (hub_moves v w es c b t bb tb h.0 (entries.Taken call) (taken_move call.0) b t' d refl same (omega arith) (omega (arith, more_taken))),
+      room_stays len len' capacity capacity' places (owed v) (owed w) 1 h.1.0 spent longer kept,
+      h.1.1 ∙ ap break_count (sym d.routes),
+    )
+
+  -- a call that began
+  pub begin_holds : (request shared : Arc Request Global) (key : ℕ) (es' : List Entry) (b' len' capacity' places' : ℕ) → arc_value shared ≡ arc_value request → HasBegunFor v fnv_index (arc_value request) key w
+      → owed w + 1 + v.entries ≤ owed v + w.entries → es' ≡ es ++ entries.Began shared key ∷ [] → b' ≡ b + 1 → len' ≡ len + 1 → places' ≤ capacity' → places' ≤ 2 ^ 62 → places' + v.entries ≡ places + w.entries
+      → Holds w es' c b' t bb tb len' capacity' places' breaks
+  begin_holds request shared key es' b' len' capacity' places' same g spent items more_begun longer kept small grown = (
+      subst (λ z. IsHub w z c b' t bb tb) (sym items) (hub_after_begin v w es c b t bb tb h.0 request shared key b' same g more_begun),
+      let within = h.1.0.within in
+      record { within = omega (arith, within, spent, longer, grown); kept = kept; small = small },
+      h.1.1 ∙ ap break_count (sym g.moves.routes),
+    )
+
+  -- a chapter that began
+  pub turn_holds : (c' places' : ℕ) → w.routes ≡ v.routes → IsQuiet w → c' ≡ w.chapter → b < 2 ^ 63 → t < 2 ^ 63 → owed w ≤ places' → places' ≤ places → Holds w [] c' b t b t 0 capacity places' breaks
+  turn_holds c' places' same q chapter small few owes lesser = (
+      hub_after_turn v w c' b t b t h.0.covered same q chapter refl refl small few,
+      let kept = h.1.0.kept in
+      let least = h.1.0.small in
+      record { within = owes; kept = omega (arith, kept, lesser); small = omega (arith, least, lesser) },
+      h.1.1 ∙ ap break_count (sym same),
+    )
+
+-- ---- events on legs
+
+pub leg_event_ok : (e : Effect) (x : ReplyValue) (leg : LegId) (old new : HubView) (step : Step) → HasEffect e (core_view old.core) (core_view new.core) (Ok step) → Does (core_view old.core) (core_view new.core) (change_move leg.0 x step.change)
+    → IsWritten old new leg x step.change → IsSameBooks old new → IsLegEvent e x leg old new (Ok step)
+leg_event_ok e x leg old new step effect does written books = record { effect = effect; does = does; entry = written; books = books; refused = tt }
+
+pub leg_event_err : (e : Effect) (x : ReplyValue) (leg : LegId) (old new : HubView) (fault : CoreFault) → HasEffect e (core_view old.core) (core_view new.core) (Err fault) → IsSame old new → IsLegEvent e x leg old new (Err fault)
+leg_event_err e x leg old new fault effect same = record { effect = effect; does = tt; entry = tt; books = same.books; refused = same }
