@@ -193,7 +193,7 @@ history_keeps_deletes v es covered h =
 -- ---- what events leave of the state's invariant
 
 abbrev pub Holds : (v : CoreView) (es : List Entry) (c b t bb tb len capacity places breaks : ℕ) → Type 0
-Holds v es c b t bb tb len capacity places breaks = IsHub v es c b t bb tb × (HasRoom len capacity places (owed v) × (breaks ≡ break_count v.routes))
+Holds v es c b t bb tb len capacity places breaks = IsHub v es c b t bb tb × HasRoom len capacity places (owed v) × (breaks ≡ break_count v.routes)
 
 does_routes : (v w : CoreView) (m : Option Move) → Does v w m → w.routes ≡ v.routes
 does_routes v w None d = d.routes
@@ -209,8 +209,8 @@ module _ (v w : CoreView) (es : List Entry) (c b t bb tb len capacity places bre
       → owed w + written_by change ≤ owed v → e ≡ leg_entry leg p change → es' ≡ with_entry es e → len' ≡ len + entries_in e → capacity' ≡ capacity → Holds w es' c b t bb tb len' capacity' places breaks
   leg_holds leg p x change e es' len' capacity' is d same spent entry items longer kept = (
       subst (λ z. IsHub w z c b t bb tb) (sym (items ∙ ap (with_entry es) entry)) (hub_after_leg v w es c b t bb tb h.0 leg p x change is d same),
-      room_stays len len' capacity capacity' places (owed v) (owed w) (written_by change) h.1.0 spent (longer ∙ ap (λ z. len + entries_in z) entry ∙ ap (λ z. len + z) (written_is leg p change)) kept,
-      h.1.1 ∙ ap break_count (sym (does_routes v w (change_move leg.0 x change) d)),
+      room_stays len len' capacity capacity' places (owed v) (owed w) (written_by change) h.1 spent (longer ∙ ap (λ z. len + entries_in z) entry ∙ ap (λ z. len + z) (written_is leg p change)) kept,
+      h.2 ∙ ap break_count (sym (does_routes v w (change_move leg.0 x change) d)),
     )
 
   -- the clock
@@ -218,8 +218,8 @@ module _ (v w : CoreView) (es : List Entry) (c b t bb tb len capacity places bre
       → owed w + entries_in (era_entry o) ≤ owed v → e ≡ era_entry o → es' ≡ with_entry es e → len' ≡ len + entries_in e → capacity' ≡ capacity → Holds w es' c b t bb tb len' capacity' places breaks
   clock_holds o e es' len' capacity' d same spent entry items longer kept = (
       subst (λ z. IsHub w z c b t bb tb) (sym (items ∙ ap (with_entry es) entry)) (hub_after_clock v w es c b t bb tb h.0 o d same),
-      room_stays len len' capacity capacity' places (owed v) (owed w) (entries_in (era_entry o)) h.1.0 spent (longer ∙ ap (λ z. len + entries_in z) entry) kept,
-      h.1.1 ∙ ap break_count (sym (does_routes v w (era_move o) d)),
+      room_stays len len' capacity capacity' places (owed v) (owed w) (entries_in (era_entry o)) h.1 spent (longer ∙ ap (λ z. len + entries_in z) entry) kept,
+      h.2 ∙ ap break_count (sym (does_routes v w (era_move o) d)),
     )
 
   -- a reply that was taken
@@ -227,8 +227,8 @@ module _ (v w : CoreView) (es : List Entry) (c b t bb tb len capacity places bre
       → owed w + 1 ≤ owed v → es' ≡ es ++ entries.Taken call ∷ [] → t' ≡ t + 1 → len' ≡ len + 1 → capacity' ≡ capacity → Holds w es' c b t' bb tb len' capacity' places breaks
   take_holds call es' t' len' capacity' d same spent items more_taken longer kept = (
       subst (λ z. IsHub w z c b t' bb tb) (sym items) (hub_moves v w es c b t bb tb h.0 (entries.Taken call) (taken_move call.0) b t' d refl same (omega arith) (omega (arith, more_taken))),
-      room_stays len len' capacity capacity' places (owed v) (owed w) 1 h.1.0 spent longer kept,
-      h.1.1 ∙ ap break_count (sym d.routes),
+      room_stays len len' capacity capacity' places (owed v) (owed w) 1 h.1 spent longer kept,
+      h.2 ∙ ap break_count (sym d.routes),
     )
 
   -- a call that began
@@ -237,19 +237,19 @@ module _ (v w : CoreView) (es : List Entry) (c b t bb tb len capacity places bre
       → Holds w es' c b' t bb tb len' capacity' places' breaks
   begin_holds request shared key es' b' len' capacity' places' same g spent items more_begun longer kept small grown = (
       subst (λ z. IsHub w z c b' t bb tb) (sym items) (hub_after_begin v w es c b t bb tb h.0 request shared key b' same g more_begun),
-      let within = h.1.0.within in
+      let within = h.1.within in
       record { within = omega (arith, within, spent, longer, grown); kept = kept; small = small },
-      h.1.1 ∙ ap break_count (sym g.moves.routes),
+      h.2 ∙ ap break_count (sym g.moves.routes),
     )
 
   -- a chapter that began
-  pub turn_holds : (c' places' : ℕ) → w.routes ≡ v.routes → IsQuiet w → c' ≡ w.chapter → b < 2 ^ 63 → t < 2 ^ 63 → owed w ≤ places' → places' ≤ places → Holds w [] c' b t b t 0 capacity places' breaks
+  pub turn_holds : (c' places' : ℕ) → w.routes ≡ v.routes → IsQuiet w → c' ≡ w.chapter → b < 2 ^ 63 → t < 2 ^ 63 → 0 + owed w ≤ places' → places' ≤ places → Holds w [] c' b t b t 0 capacity places' breaks
   turn_holds c' places' same q chapter small few owes lesser = (
       hub_after_turn v w c' b t b t h.0.covered same q chapter refl refl small few,
-      let kept = h.1.0.kept in
-      let least = h.1.0.small in
+      let kept = h.1.kept in
+      let least = h.1.small in
       record { within = owes; kept = omega (arith, kept, lesser); small = omega (arith, least, lesser) },
-      h.1.1 ∙ ap break_count (sym same),
+      h.2 ∙ ap break_count (sym same),
     )
 
 -- ---- events on legs
