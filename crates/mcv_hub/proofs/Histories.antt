@@ -1,6 +1,6 @@
 -- Histories that are one entry longer, and what holds of each.
-use Rattle.std.proofs.Common.{◌≡◌, ◌∙◌, ℕ, ◌+◌, ◌<◌, ◌≤◌, ◌^◌, Bool, true, false, List, [], ◌∷◌, ◌++◌, Option, Some, None, Result, Ok, Err, count_by, cond, refl, ap, sym, subst, arith}
-use Rattle.std.specs.Prelude.{option_and_then, option_map}
+use Rattle.std.proofs.Common.{◌≡◌, ◌∙◌, ◌⊎◌, inl, inr, ℕ, ◌+◌, ◌<◌, ◌≤◌, ◌^◌, Bool, true, false, List, [], ◌∷◌, ◌++◌, Option, Some, None, Result, Ok, Err, count_by, cond, refl, ap, sym, subst, arith}
+use Rattle.std.specs.Prelude.{option_and_then, option_map, slice_get}
 use Rattle.std.specs.Arc.{arc_value}
 use Rattle.std.specs.declared.alloc.Global.{Global}
 use Rattle.std.specs.declared.sync.Arc.{Arc}
@@ -13,6 +13,10 @@ use Rattle.mcv_base.specs.declared.request.Request.{Request}
 use Rattle.mcv_pools.specs.Hash.{fnv_index}
 use Rattle.mcv_route.specs.Routes.{RoutesValue}
 use Rattle.mcv_symbolic.specs.Covered.{AreCovered}
+use Rattle.mcv_world.proofs.Choices.{moments_have_eras}
+use Rattle.mcv_world.proofs.Numbers.{no_some, same_some}
+use Rattle.mcv_route.specs.Eras.{breaks_of, since_at}
+use Rattle.mcv_spool.specs.declared.record.SpoolRecord.{SpoolRecord}
 use Rattle.mcv_world.specs.World.{Call, World, reply_of}
 use Rattle.mcv_world.specs.Moves.{Move, Began, Answered as answered_move, Taken as taken_move, is_move, after, run}
 use Rattle.mcv_world.specs.Live.{has_ended, running, live_of}
@@ -21,7 +25,10 @@ use Rattle.mcv_world.specs.Laws.{HasReply, IsWorld}
 use Rattle.mcv_world.proofs.MovesKeepWorlds.{opening_is_world, run_world}
 use Rattle.mcv_world.proofs.ForgetsSafely.{forgets_safely, moves_are_live}
 use Rattle.mcv_world.proofs.DeletesAreKept.{covered_worlds_are_kept}
-use Rattle.mcv_events.specs.Rows.{Rows, world_of}
+use Rattle.mcv_events.specs.Rows.{InSpool, LegRow, Rows, world_of}
+use Rattle.mcv_events.specs.Runs.{OpenedRecord, opened, spooled_row}
+use Rattle.mcv_events.proofs.CoresKeepDeletes.{opened_is_core, spooled_rows_open}
+use Rattle.mcv_core.specs.Opening.{known_records, opened_view}
 use Rattle.mcv_core.specs.Asking.{HasBegunFor}
 use Rattle.mcv_core.specs.CoreView.{CoreView, Effect, HasEffect, Moved, Unmoved, Does, IsQuiet, change_move}
 use Rattle.mcv_core.specs.Steps.{KeepsDeletes}
@@ -243,14 +250,44 @@ module _ (v w : CoreView) (es : List Entry) (c b t bb tb len capacity places bre
     )
 
   -- a chapter that began
-  pub turn_holds : (c' places' : ℕ) → w.routes ≡ v.routes → IsQuiet w → c' ≡ w.chapter → b < 2 ^ 63 → t < 2 ^ 63 → 0 + owed w ≤ places' → places' ≤ places → Holds w [] c' b t b t 0 capacity places' breaks
-  turn_holds c' places' same q chapter small few owes lesser = (
-      hub_after_turn v w c' b t b t h.0.covered same q chapter refl refl small few,
+  pub turn_holds : (es' : List Entry) (c' places' bb' tb' len' capacity' : ℕ) → w.routes ≡ v.routes → IsQuiet w → c' ≡ w.chapter → bb' ≡ b → tb' ≡ t → bb' < 2 ^ 63 → tb' < 2 ^ 63 → owed w ≤ owed v → places' ≤ places
+      → (places' ≡ places) ⊎ (owed w ≤ places') → es' ≡ [] → len' ≡ 0 → capacity' ≡ capacity → Holds w es' c' b t bb' tb' len' capacity' places' breaks
+  turn_holds es' c' places' bb' tb' len' capacity' same q chapter begun taken small few less lesser either none zero kept_same = (
+      subst (λ z. IsHub w z c' b t bb' tb') (sym none) (hub_after_turn v w c' b t bb' tb' h.0.covered same q chapter begun taken small few),
+      let within = h.1.within in
       let kept = h.1.kept in
       let least = h.1.small in
-      record { within = owes; kept = omega (arith, kept, lesser); small = omega (arith, least, lesser) },
+      record {
+        within = elim either [ inl e ↦ omega (arith, within, less, zero, e) | inr e ↦ omega (arith, zero, e) ];
+        kept = omega (arith, kept, lesser, kept_same);
+        small = omega (arith, least, lesser);
+      },
       h.2 ∙ ap break_count (sym same),
     )
+
+spooled_is : (o : Option OpenedRecord) (s : LegRow) → option_map spooled_row o ≡ Some s → s.state ≡ InSpool
+spooled_is None s e = no_some e
+spooled_is (Some x) s e = ap (λ (z : LegRow). z.state) (sym (same_some e))
+
+opened_history : (r : RoutesValue) (records : List (ℕ × SpoolRecord)) → IsHistory r (world_of (opened_view r records).rows) []
+opened_history r records =
+    let known = known_records r.servers records in
+    let since = since_at (breaks_of r) 0 in
+    let w = opened since known in
+    let o = spooled_rows_open r w (opened_is_core r since known) (λ k. refl) (λ n s e. spooled_is (slice_get known n) s e) (moments_have_eras r 0) in
+    record { opening = world_of w; moves = []; are = none; opens = o.0; legal = tt; replays = o.1 }
+
+-- a core that was opened
+pub opened_holds : (w : CoreView) (r : RoutesValue) (records : List (ℕ × SpoolRecord)) (es : List Entry) (b t len capacity places breaks : ℕ) → w ≡ opened_view r records → AreCovered r → es ≡ [] → b ≡ 0 → t ≡ 0 → len ≡ 0
+    → owed w ≤ places → places ≤ capacity → places ≤ 2 ^ 62 → breaks ≡ break_count r → Holds w es 0 b t 0 0 len capacity places breaks
+opened_holds w r records es b t len capacity places breaks same covered no begun taken zero owes kept small count = (
+    subst (λ z. IsHub z es 0 b t 0 0) (sym same) (subst (λ z. IsHub (opened_view r records) z 0 b t 0 0) (sym no) hub),
+    record { within = omega (arith, zero, owes); kept = kept; small = small },
+    count ∙ ap (λ z. break_count z.routes) (sym same),
+  )
+  where
+    hub : IsHub (opened_view r records) [] 0 b t 0 0
+    hub = record { covered = covered; legal = opened_history r records; chapter_is = refl; begun_is = omega (arith, begun); taken_is = omega (arith, taken); begun_small = omega arith; taken_small = omega arith }
 
 -- ---- events on legs
 

@@ -1,5 +1,5 @@
 -- When receipts are good (own).
-use Rattle.std.specs.Prelude.{◌≡◌, ◌<◌, ℕ, Bool, false, List, Some, ⊤, nat_lt, slice_get}
+use Rattle.std.specs.Prelude.{◌≡◌, ◌<◌, ℕ, Bool, false, List, Some, ⊤, count_by, nat_lt, slice_get}
 use Rattle.mcv_hub.specs.declared.entry.Entry.{Entry}
 use Rattle.mcv_hub.specs.declared.entry.Entry.TheVariants.{Taken}
 use Rattle.mcv_hub.specs.declared.receipts.Receipt.{Receipt}
@@ -23,6 +23,12 @@ AreGood chapter history receipts = (i : ℕ) (r : Receipt) → slice_get receipt
 abbrev pub AreApart : ℕ → List Receipt → Type 0
 AreApart chapter receipts =
     (i j : ℕ) (r s : Receipt) → slice_get receipts i ≡ Some r → slice_get receipts j ≡ Some s → is_older chapter r ≡ false → is_older chapter s ≡ false → r.entry ≡ s.entry → i ≡ j
+
+-- the receipts pass, and so many of them are of earlier chapters
+pub record ArePassed (chapter : ℕ) (history : List Entry) (receipts : List Receipt) (older : ℕ) : Type 0 where
+  pub good : AreGood chapter history receipts
+  pub apart : AreApart chapter receipts
+  pub older_is : older ≡ count_by (is_older chapter) receipts
 
 -- one of them isn't good
 pub record HasStranger (chapter : ℕ) (history : List Entry) (receipts : List Receipt) : Type 0 where

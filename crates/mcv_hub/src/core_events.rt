@@ -10,6 +10,7 @@ ghost use Rattle.std.specs.Prelude.{◌≡◌, ◌≤◌, ◌+◌, ◌⊎◌, No
 ghost use Rattle.mcv_base.specs.Reply.{fixed_value, not_found, part_value};
 ghost use Rattle.mcv_base.specs.declared.reply.FixedReply.TheVariants.{Lost as LostReply};
 ghost use Rattle.mcv_pools.specs.Hash.{fnv_index};
+ghost use Rattle.mcv_symbolic.specs.Covered.{AreCovered};
 ghost use Rattle.mcv_queues.specs.Marks.{checked_mark, no_mark};
 ghost use Rattle.mcv_queues.specs.Numbers.{IsLeast};
 ghost use Rattle.mcv_route.specs.Eras.{breaks_of, since_at};
@@ -47,9 +48,10 @@ pub(crate) fn open(
     Core::new(alloc, accepted, Fnv, records)
 }
 
-/// How many breaks the routes have.
+/// How many breaks the routes have, which are covered.
 pub(crate) fn count_breaks(accepted: &Accepted) -> usize
-    ensures { result ≡ break_count accepted.now }
+    ensures count { result ≡ break_count accepted.now }
+    ensures covered { AreCovered accepted.now }
 {
     accepted.routes().breaks().len()
 }

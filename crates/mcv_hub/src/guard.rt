@@ -21,7 +21,7 @@ ghost use Rattle.mcv_core.specs.View.{core_view, records_after, records_of};
 ghost use Rattle.mcv_core.specs.declared.fault.CoreFault.TheVariants.{Memory as OutOfMemory};
 ghost use Rattle.mcv_hub.specs.History.{era_entry, with_entry};
 ghost use Rattle.mcv_hub.specs.Owed.{break_count};
-ghost use Rattle.mcv_hub.specs.Receipts.{AreApart, AreGood, AreRefused, is_older};
+ghost use Rattle.mcv_hub.specs.Receipts.{ArePassed, AreRefused};
 
 ghost use Rattle.mcv_hub.specs.State.{BeginsOne, IsLegEvent, IsSame, IsSameBooks, IsSameChapter, Replies};
 ghost use Rattle.mcv_hub.specs.declared.entry.Entry.TheVariants.{Taken as taken_entry};
@@ -262,11 +262,9 @@ impl<'a, B: Ledger, T: Ledger> Guard<'a, B, T> {
     ) -> Result<Report, ReceiptFault>
         ensures begun { IfOk result (λ p. p.begun ≡ self.old.begun) }
         ensures taken { IfOk result (λ p. p.taken ≡ self.old.taken) }
-        ensures older { IfOk result (λ p. p.older ≡ count_by (is_older self.old.chapter) receipts.now) }
         ensures all_begun { begun.old.parts ≡ B.parts → self.old.begun ≡ begun.old.amount }
         ensures all_taken { taken.old.parts ≡ T.parts → self.old.taken ≡ taken.old.amount }
-        ensures good { OnOk result (AreGood self.old.chapter self.old.history receipts.now) }
-        ensures apart { OnOk result (AreApart self.old.chapter receipts.now) }
+        ensures passed { IfOk result (λ p. ArePassed self.old.chapter self.old.history receipts.now p.older) }
         ensures err { IfErr result (AreRefused self.old.chapter self.old.history receipts.now) }
         ensures shares { (begun.new.amount ≡ begun.old.amount) × (taken.new.amount ≡ taken.old.amount) × (begun.new.parts ≡ begun.old.parts) × (taken.new.parts ≡ taken.old.parts) }
         ensures same { IsSame self.old self.new }

@@ -1,7 +1,7 @@
 //! Receipts of replies that were taken, and whether they are good.
 
-ghost use Rattle.std.specs.Prelude.{◌≡◌, ◌≢◌, ℕ, true, false, Some, length, count_by, IfErr, IfOk, OnOk, slice_get, slice_set};
-ghost use Rattle.mcv_hub.specs.Receipts.{AreApart, AreGood, AreRefused, IsGood, is_older};
+ghost use Rattle.std.specs.Prelude.{◌≡◌, ◌≢◌, ℕ, true, false, Some, length, IfErr, IfOk, slice_get, slice_set};
+ghost use Rattle.mcv_hub.specs.Receipts.{ArePassed, AreRefused, IsGood, is_older};
 
 use crate::entry::Entry;
 use mcv_base::CallId;
@@ -96,9 +96,7 @@ pub(crate) fn count_older(
     chapter: u64,
     receipts: &[Receipt],
 ) -> Result<u64, ReceiptFault>
-    ensures older { IfOk result (λ older. older ≡ count_by (is_older chapter) receipts.now) }
-    ensures good { OnOk result (AreGood chapter history.now receipts.now) }
-    ensures apart { OnOk result (AreApart chapter receipts.now) }
+    ensures passed { IfOk result (ArePassed chapter history.now receipts.now) }
     ensures err { IfErr result (AreRefused chapter history.now receipts.now) }
 {
     let Ok(mut seen) = no_marks(alloc, history.len()) else {

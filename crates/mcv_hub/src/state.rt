@@ -21,7 +21,7 @@ ghost use Rattle.mcv_core.specs.View.{core_view, records_after, records_of};
 ghost use Rattle.mcv_core.specs.declared.fault.CoreFault.TheVariants.{Memory as OutOfMemory};
 ghost use Rattle.mcv_hub.specs.History.{era_entry, with_entry};
 ghost use Rattle.mcv_hub.specs.Owed.{break_count};
-ghost use Rattle.mcv_hub.specs.Receipts.{AreApart, AreGood, AreRefused, is_older};
+ghost use Rattle.mcv_hub.specs.Receipts.{ArePassed, AreRefused};
 
 use crate::core_events;
 use crate::core_events::{count_breaks, open};
@@ -103,12 +103,15 @@ fn make_room(history: &mut Vec<Entry>, places: usize, left: usize) -> Result<(),
     }
 }
 
-/// The lesser of the two.
-fn least(one: usize, other: usize) -> usize
-    ensures lesser { (result ≤ one) × (result ≤ other) }
-    ensures one { (result ≡ one) ⊎ (result ≡ other) }
+/// The places of a chapter that begins with so many entries to be written, and breaks to come: no more than there were.
+fn turned_places(places: usize, entries: usize, breaks: usize) -> usize
+    ensures lesser { result ≤ places }
+    ensures either { (result ≡ places) ⊎ (result ≡ entries + breaks) }
 {
-    if one < other { one } else { other }
+    match places_for(entries, breaks) {
+        Some(other) if other < places => other,
+        _ => places,
+    }
 }
 
 /// The sum, where it is at most `MOST_PLACES`.
@@ -388,10 +391,7 @@ impl<B: Ledger, T: Ledger> HubState<B, T> {
         }
         core_events::turn(&mut self.core)?;
         self.history.clear();
-        self.places = least(
-            self.places,
-            self.core.state().entries().saturating_add(self.breaks),
-        );
+        self.places = turned_places(self.places, self.core.state().entries(), self.breaks);
         self.chapter = chapter;
         self.begun_before = begun;
         self.taken_before = taken;
@@ -421,11 +421,9 @@ impl<B: Ledger, T: Ledger> HubState<B, T> {
     ) -> Result<Report, ReceiptFault>
         ensures begun { IfOk result (λ p. p.begun ≡ self.old.begun) }
         ensures taken { IfOk result (λ p. p.taken ≡ self.old.taken) }
-        ensures older { IfOk result (λ p. p.older ≡ count_by (is_older self.old.chapter) receipts.now) }
         ensures all_begun { begun.old.parts ≡ B.parts → self.old.begun ≡ begun.old.amount }
         ensures all_taken { taken.old.parts ≡ T.parts → self.old.taken ≡ taken.old.amount }
-        ensures good { OnOk result (AreGood self.old.chapter self.old.history receipts.now) }
-        ensures apart { OnOk result (AreApart self.old.chapter receipts.now) }
+        ensures passed { IfOk result (λ p. ArePassed self.old.chapter self.old.history receipts.now p.older) }
         ensures err { IfErr result (AreRefused self.old.chapter self.old.history receipts.now) }
         ensures shares { (begun.new.amount ≡ begun.old.amount) × (taken.new.amount ≡ taken.old.amount) × (begun.new.parts ≡ begun.old.parts) × (taken.new.parts ≡ taken.old.parts) }
         ensures same { IsSame self.old self.new }

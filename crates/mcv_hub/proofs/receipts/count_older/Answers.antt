@@ -1,6 +1,6 @@
 use Rattle.std.proofs.Common.{◌∙◌, sym}
 use Rattle.std.proofs.lemmas.Result.{err_from_is_err_and}
-use Rattle.mcv_hub.proofs.CheckedReceipts.{all_apart, all_good, good_checked, older_checked, refused_at}
+use Rattle.mcv_hub.proofs.CheckedReceipts.{all_apart, all_good, all_older, good_checked, older_checked, refused_at}
 use Rattle.mcv_hub.proofs.receipts.count_older.Goals.{then-branch, else-branch}
 use Rattle.mcv_hub.proofs.receipts.count_older.Goals as goal
 
@@ -22,8 +22,10 @@ loop-index-preserved c = elim c.if-branch.branch [
       (c.in_ok-check_receipt.ensures.marks w.if-branch.false).1 c.check_receipt.ensures.len)
 ]
 
-pub returns-clause-good : goal.returns-clause-good
-returns-clause-good c = all_good c.args.chapter c.args.history.now c.args.receipts.now c.loop-index.index c.loop-index.older c.loop-index.seen.items c.loop-index.invariant c.loop-index-test.false
-
-pub returns-clause-apart : goal.returns-clause-apart
-returns-clause-apart c = all_apart c.args.chapter c.args.history.now c.args.receipts.now c.loop-index.index c.loop-index.older c.loop-index.seen.items c.loop-index.invariant c.loop-index-test.false
+pub returns-clause-passed : goal.returns-clause-passed
+returns-clause-passed c =
+    record {
+      good = all_good c.args.chapter c.args.history.now c.args.receipts.now c.loop-index.index c.loop-index.older c.loop-index.seen.items c.loop-index.invariant c.loop-index-test.false;
+      apart = all_apart c.args.chapter c.args.history.now c.args.receipts.now c.loop-index.index c.loop-index.older c.loop-index.seen.items c.loop-index.invariant c.loop-index-test.false;
+      older_is = all_older c.args.chapter c.args.history.now c.args.receipts.now c.loop-index.index c.loop-index.older c.loop-index.seen.items c.loop-index.invariant c.loop-index-test.false;
+    }
