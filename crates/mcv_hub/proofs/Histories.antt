@@ -252,8 +252,8 @@ module _ (v w : CoreView) (es : List Entry) (c b t bb tb len capacity places bre
   -- a chapter that began
   pub turn_holds : (es' : List Entry) (c' places' bb' tb' len' capacity' : ℕ) → w.routes ≡ v.routes → IsQuiet w → c' ≡ w.chapter → bb' ≡ b → tb' ≡ t → bb' < 2 ^ 63 → tb' < 2 ^ 63 → owed w ≤ owed v → places' ≤ places
       → (places' ≡ places) ⊎ (owed w ≤ places') → es' ≡ [] → len' ≡ 0 → capacity' ≡ capacity → Holds w es' c' b t bb' tb' len' capacity' places' breaks
-  turn_holds es' c' places' bb' tb' len' capacity' same q chapter begun taken small few less lesser either none zero kept_same = (
-      subst (λ z. IsHub w z c' b t bb' tb') (sym none) (hub_after_turn v w c' b t bb' tb' h.0.covered same q chapter begun taken small few),
+  turn_holds es' c' places' bb' tb' len' capacity' same q chapter begun taken small few less lesser either empty zero kept_same = (
+      subst (λ z. IsHub w z c' b t bb' tb') (sym empty) (hub_after_turn v w c' b t bb' tb' h.0.covered same q chapter begun taken small few),
       let within = h.1.within in
       let kept = h.1.kept in
       let least = h.1.small in
@@ -280,8 +280,8 @@ opened_history r records =
 -- a core that was opened
 pub opened_holds : (w : CoreView) (r : RoutesValue) (records : List (ℕ × SpoolRecord)) (es : List Entry) (b t len capacity places breaks : ℕ) → w ≡ opened_view r records → AreCovered r → es ≡ [] → b ≡ 0 → t ≡ 0 → len ≡ 0
     → owed w ≤ places → places ≤ capacity → places ≤ 2 ^ 62 → breaks ≡ break_count r → Holds w es 0 b t 0 0 len capacity places breaks
-opened_holds w r records es b t len capacity places breaks same covered no begun taken zero owes kept small count = (
-    subst (λ z. IsHub z es 0 b t 0 0) (sym same) (subst (λ z. IsHub (opened_view r records) z 0 b t 0 0) (sym no) hub),
+opened_holds w r records es b t len capacity places breaks same covered empty begun taken zero owes kept small count = (
+    subst (λ z. IsHub z es 0 b t 0 0) (sym same) (subst (λ z. IsHub (opened_view r records) z 0 b t 0 0) (sym empty) hub),
     record { within = omega (arith, zero, owes); kept = kept; small = small },
     count ∙ ap (λ z. break_count z.routes) (sym same),
   )
