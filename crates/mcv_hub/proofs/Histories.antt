@@ -131,8 +131,8 @@ module _ (v w : CoreView) (es : List Entry) (c b t bb tb : ℕ) (h : IsHub v es 
   hub_after_begin request shared key b' same g p =
       let asked = g.asked in
       hub_moves (entries.Began shared key) (Began g.op g.route g.rest g.choice) b' t g.moves
-        (subst (λ q. Begins_of q) (sym same) (record { op = g.op; route = g.route; rest = g.rest; choice = g.choice; asked = asked; is = refl }))
-        (ap (λ z. z.chapter) g.view.view) (omega (arith, p)) (omega arith)
+      (subst (λ q. Begins_of q) (sym same) (record { op = g.op; route = g.route; rest = g.rest; choice = g.choice; asked = asked; is = refl }))
+      (ap (λ z. z.chapter) g.view.view) (omega (arith, p)) (omega arith)
     where
       Begins_of : Request → Type 0
       Begins_of q = Begins v.routes q key (Began g.op g.route g.rest g.choice)
@@ -215,55 +215,55 @@ module _ (v w : CoreView) (es : List Entry) (c b t bb tb len capacity places bre
   pub leg_holds : (leg : LegId) (p : Part) (x : ReplyValue) (change : Change) (e : Option Entry) (es' : List Entry) (len' capacity' : ℕ) → part_value p ≡ x → Does v w (change_move leg.0 x change) → w.chapter ≡ v.chapter
       → owed w + written_by change ≤ owed v → e ≡ leg_entry leg p change → es' ≡ with_entry es e → len' ≡ len + entries_in e → capacity' ≡ capacity → Holds w es' c b t bb tb len' capacity' places breaks
   leg_holds leg p x change e es' len' capacity' is d same spent entry items longer kept = (
-      subst (λ z. IsHub w z c b t bb tb) (sym (items ∙ ap (with_entry es) entry)) (hub_after_leg v w es c b t bb tb h.0 leg p x change is d same),
-      room_stays len len' capacity capacity' places (owed v) (owed w) (written_by change) h.1 spent (longer ∙ ap (λ z. len + entries_in z) entry ∙ ap (λ z. len + z) (written_is leg p change)) kept,
-      h.2 ∙ ap break_count (sym (does_routes v w (change_move leg.0 x change) d)),
-    )
+    subst (λ z. IsHub w z c b t bb tb) (sym (items ∙ ap (with_entry es) entry)) (hub_after_leg v w es c b t bb tb h.0 leg p x change is d same),
+    room_stays len len' capacity capacity' places (owed v) (owed w) (written_by change) h.1 spent (longer ∙ ap (λ z. len + entries_in z) entry ∙ ap (λ z. len + z) (written_is leg p change)) kept,
+    h.2 ∙ ap break_count (sym (does_routes v w (change_move leg.0 x change) d)),
+  )
 
   -- the clock
   pub clock_holds : (o : Option Era) (e : Option Entry) (es' : List Entry) (len' capacity' : ℕ) → Does v w (era_move o) → w.chapter ≡ v.chapter
       → owed w + entries_in (era_entry o) ≤ owed v → e ≡ era_entry o → es' ≡ with_entry es e → len' ≡ len + entries_in e → capacity' ≡ capacity → Holds w es' c b t bb tb len' capacity' places breaks
   clock_holds o e es' len' capacity' d same spent entry items longer kept = (
-      subst (λ z. IsHub w z c b t bb tb) (sym (items ∙ ap (with_entry es) entry)) (hub_after_clock v w es c b t bb tb h.0 o d same),
-      room_stays len len' capacity capacity' places (owed v) (owed w) (entries_in (era_entry o)) h.1 spent (longer ∙ ap (λ z. len + entries_in z) entry) kept,
-      h.2 ∙ ap break_count (sym (does_routes v w (era_move o) d)),
-    )
+    subst (λ z. IsHub w z c b t bb tb) (sym (items ∙ ap (with_entry es) entry)) (hub_after_clock v w es c b t bb tb h.0 o d same),
+    room_stays len len' capacity capacity' places (owed v) (owed w) (entries_in (era_entry o)) h.1 spent (longer ∙ ap (λ z. len + entries_in z) entry) kept,
+    h.2 ∙ ap break_count (sym (does_routes v w (era_move o) d)),
+  )
 
   -- a reply that was taken
   pub take_holds : (call : CallId) (es' : List Entry) (t' len' capacity' : ℕ) → Moved v w (taken_move call.0) → w.chapter ≡ v.chapter
       → owed w + 1 ≤ owed v → es' ≡ es ++ entries.Taken call ∷ [] → t' ≡ t + 1 → len' ≡ len + 1 → capacity' ≡ capacity → Holds w es' c b t' bb tb len' capacity' places breaks
   take_holds call es' t' len' capacity' d same spent items more_taken longer kept = (
-      subst (λ z. IsHub w z c b t' bb tb) (sym items) (hub_moves v w es c b t bb tb h.0 (entries.Taken call) (taken_move call.0) b t' d refl same (omega arith) (omega (arith, more_taken))),
-      room_stays len len' capacity capacity' places (owed v) (owed w) 1 h.1 spent longer kept,
-      h.2 ∙ ap break_count (sym d.routes),
-    )
+    subst (λ z. IsHub w z c b t' bb tb) (sym items) (hub_moves v w es c b t bb tb h.0 (entries.Taken call) (taken_move call.0) b t' d refl same (omega arith) (omega (arith, more_taken))),
+    room_stays len len' capacity capacity' places (owed v) (owed w) 1 h.1 spent longer kept,
+    h.2 ∙ ap break_count (sym d.routes),
+  )
 
   -- a call that began
   pub begin_holds : (request shared : Arc Request Global) (key : ℕ) (es' : List Entry) (b' len' capacity' places' : ℕ) → arc_value shared ≡ arc_value request → HasBegunFor v fnv_index (arc_value request) key w
       → owed w + 1 + v.entries ≤ owed v + w.entries → es' ≡ es ++ entries.Began shared key ∷ [] → b' ≡ b + 1 → len' ≡ len + 1 → places' ≤ capacity' → places' ≤ 2 ^ 62 → places' + v.entries ≡ places + w.entries
       → Holds w es' c b' t bb tb len' capacity' places' breaks
   begin_holds request shared key es' b' len' capacity' places' same g spent items more_begun longer kept small grown = (
-      subst (λ z. IsHub w z c b' t bb tb) (sym items) (hub_after_begin v w es c b t bb tb h.0 request shared key b' same g more_begun),
-      let within = h.1.within in
-      record { within = omega (arith, within, spent, longer, grown); kept = kept; small = small },
-      h.2 ∙ ap break_count (sym g.moves.routes),
-    )
+    subst (λ z. IsHub w z c b' t bb tb) (sym items) (hub_after_begin v w es c b t bb tb h.0 request shared key b' same g more_begun),
+    let within = h.1.within in
+        record { within = omega (arith, within, spent, longer, grown); kept = kept; small = small },
+    h.2 ∙ ap break_count (sym g.moves.routes),
+  )
 
   -- a chapter that began
   pub turn_holds : (es' : List Entry) (c' places' bb' tb' len' capacity' : ℕ) → w.routes ≡ v.routes → IsQuiet w → c' ≡ w.chapter → bb' ≡ b → tb' ≡ t → bb' < 2 ^ 63 → tb' < 2 ^ 63 → owed w ≤ owed v → places' ≤ places
       → (places' ≡ places) ⊎ (owed w ≤ places') → es' ≡ [] → len' ≡ 0 → capacity' ≡ capacity → Holds w es' c' b t bb' tb' len' capacity' places' breaks
   turn_holds es' c' places' bb' tb' len' capacity' same q chapter begun taken small few less lesser either empty zero kept_same = (
-      subst (λ z. IsHub w z c' b t bb' tb') (sym empty) (hub_after_turn v w c' b t bb' tb' h.0.covered same q chapter begun taken small few),
-      let within = h.1.within in
-      let kept = h.1.kept in
-      let least = h.1.small in
-      record {
-        within = elim either [ inl e ↦ omega (arith, within, less, zero, e) | inr e ↦ omega (arith, zero, e) ];
-        kept = omega (arith, kept, lesser, kept_same);
-        small = omega (arith, least, lesser);
-      },
-      h.2 ∙ ap break_count (sym same),
-    )
+    subst (λ z. IsHub w z c' b t bb' tb') (sym empty) (hub_after_turn v w c' b t bb' tb' h.0.covered same q chapter begun taken small few),
+    let within = h.1.within in
+        let kept = h.1.kept in
+        let least = h.1.small in
+        record {
+          within = elim either [ inl e ↦ omega (arith, within, less, zero, e) | inr e ↦ omega (arith, zero, e) ];
+          kept = omega (arith, kept, lesser, kept_same);
+          small = omega (arith, least, lesser);
+        },
+    h.2 ∙ ap break_count (sym same),
+  )
 
 spooled_is : (o : Option OpenedRecord) (s : LegRow) → option_map spooled_row o ≡ Some s → s.state ≡ InSpool
 spooled_is None s e = no_some e
@@ -281,10 +281,10 @@ opened_history r records =
 pub opened_holds : (w : CoreView) (r : RoutesValue) (records : List (ℕ × SpoolRecord)) (es : List Entry) (b t len capacity places breaks : ℕ) → w ≡ opened_view r records → AreCovered r → es ≡ [] → b ≡ 0 → t ≡ 0 → len ≡ 0
     → owed w ≤ places → places ≤ capacity → places ≤ 2 ^ 62 → breaks ≡ break_count r → Holds w es 0 b t 0 0 len capacity places breaks
 opened_holds w r records es b t len capacity places breaks same covered empty begun taken zero owes kept small count = (
-    subst (λ z. IsHub z es 0 b t 0 0) (sym same) (subst (λ z. IsHub (opened_view r records) z 0 b t 0 0) (sym empty) hub),
-    record { within = omega (arith, zero, owes); kept = kept; small = small },
-    count ∙ ap (λ z. break_count z.routes) (sym same),
-  )
+  subst (λ z. IsHub z es 0 b t 0 0) (sym same) (subst (λ z. IsHub (opened_view r records) z 0 b t 0 0) (sym empty) hub),
+  record { within = omega (arith, zero, owes); kept = kept; small = small },
+  count ∙ ap (λ z. break_count z.routes) (sym same),
+)
   where
     hub : IsHub (opened_view r records) [] 0 b t 0 0
     hub = record { covered = covered; legal = opened_history r records; chapter_is = refl; begun_is = omega (arith, begun); taken_is = omega (arith, taken); begun_small = omega arith; taken_small = omega arith }

@@ -1,9 +1,8 @@
 //! The core's events as the hub uses them: each is the core's own event, with what it says there, and says beside that
 //! how many entries may still be written.
 //!
-//! **Not proved here**: the core doesn't say yet what it is after `Core::events`, nor how many entries its calls and legs
-//! may still write (`owed`). So the contracts of this file are open, and what stands on them isn't claimed until they
-//! are the core's own.
+//! **Not proved here**: what a core is after `Core::events` (`events`), how many entries its calls, legs and eras may
+//! still write (each clause `owed`), and what follows of these. What stands on them isn't claimed until the core says it.
 
 ghost use Rattle.std.specs.Arc.{arc_value};
 ghost use Rattle.std.specs.Prelude.{◌≡◌, ◌≤◌, ◌+◌, ◌⊎◌, None, Some, false, IfOk, IfErr, IfSome, IfNone, OnOk, OnErr, IsSome, option_and_then};
@@ -24,16 +23,26 @@ ghost use Rattle.mcv_core.specs.Opening.{opened_view};
 ghost use Rattle.mcv_core.specs.Turning.{CanTurn, era_move, in_era, spooled_legs};
 ghost use Rattle.mcv_core.specs.View.{core_view, records_after, records_of};
 ghost use Rattle.mcv_core.specs.declared.fault.CoreFault.TheVariants.{Memory as OutOfMemory};
+ghost use Rattle.std.specs.Borrow.{sem};
+ghost use Rattle.mcv_hub.specs.Events.{LendsEvents};
 ghost use Rattle.mcv_hub.specs.History.{entries_in, era_entry};
 ghost use Rattle.mcv_hub.specs.Owed.{break_count, owed, written_by};
 
 use mcv_base::{CallId, LegId, Moment, Part, Parts, Request, ServerId};
 use mcv_check::Accepted;
-use mcv_core::{Core, CoreFault, Era, Step};
+use mcv_core::{Core, CoreFault, Dispatcher, Era, Step};
 use mcv_pools::Fnv;
 use mcv_spool::{SpoolRecord, Stored};
 use std::alloc::Global;
 use std::sync::Arc;
+
+/// All events of the core but `begin`.
+fn events(core: &mut Core<Fnv>) -> &mut Dispatcher
+    ensures* lends { sem 𝓛 (LendsEvents core.entry result) }
+    ensures value { result.now ≡ core.old.dispatcher }
+{
+    core.events()
+}
 
 /// A core with these records in the spool.
 pub(crate) fn open(
@@ -87,7 +96,7 @@ pub(crate) fn next(core: &mut Core<Fnv>, server: ServerId) -> Result<LegId, Core
     ensures records { records_of core.new.dispatcher ≡ records_of core.old.dispatcher }
     ensures owed { OnOk result (owed (core_view core.new.dispatcher) ≤ owed (core_view core.old.dispatcher)) }
 {
-    core.events().next(server)
+    events(core).next(server)
 }
 
 /// A spooled leg is sent.
@@ -103,7 +112,7 @@ pub(crate) fn replay(core: &mut Core<Fnv>, server: ServerId) -> Result<LegId, Co
     ensures records { records_of core.new.dispatcher ≡ records_of core.old.dispatcher }
     ensures owed { OnOk result (owed (core_view core.new.dispatcher) ≤ owed (core_view core.old.dispatcher)) }
 {
-    core.events().replay(server)
+    events(core).replay(server)
 }
 
 /// A leg in flight was answered.
@@ -116,7 +125,7 @@ pub(crate) fn answered(core: &mut Core<Fnv>, leg: LegId, parts: Parts) -> Result
     ensures err { OnErr result (core_view core.new.dispatcher ≡ core_view core.old.dispatcher) }
     ensures owed { IfOk result (λ step. owed (core_view core.new.dispatcher) + written_by step.change ≤ owed (core_view core.old.dispatcher)) }
 {
-    core.events().answered(leg, parts)
+    events(core).answered(leg, parts)
 }
 
 /// A leg in flight was lost.
@@ -129,7 +138,7 @@ pub(crate) fn lost(core: &mut Core<Fnv>, leg: LegId) -> Result<Step, CoreFault>
     ensures err { OnErr result (core_view core.new.dispatcher ≡ core_view core.old.dispatcher) }
     ensures owed { IfOk result (λ step. owed (core_view core.new.dispatcher) + written_by step.change ≤ owed (core_view core.old.dispatcher)) }
 {
-    core.events().lost(leg)
+    events(core).lost(leg)
 }
 
 /// A held leg is stored in the spool.
@@ -142,7 +151,7 @@ pub(crate) fn spooled(core: &mut Core<Fnv>, leg: LegId, stored: Stored) -> Resul
     ensures err { OnErr result (core_view core.new.dispatcher ≡ core_view core.old.dispatcher) }
     ensures owed { IfOk result (λ step. owed (core_view core.new.dispatcher) + written_by step.change ≤ owed (core_view core.old.dispatcher)) }
 {
-    core.events().spooled(leg, stored)
+    events(core).spooled(leg, stored)
 }
 
 /// The spool refused a held leg.
@@ -154,7 +163,7 @@ pub(crate) fn spool_refused(core: &mut Core<Fnv>, leg: LegId) -> Result<Step, Co
     ensures err { OnErr result (core_view core.new.dispatcher ≡ core_view core.old.dispatcher) }
     ensures owed { IfOk result (λ step. owed (core_view core.new.dispatcher) + written_by step.change ≤ owed (core_view core.old.dispatcher)) }
 {
-    core.events().spool_refused(leg)
+    events(core).spool_refused(leg)
 }
 
 /// Marks the server where three or more failures came in a row.
@@ -162,7 +171,7 @@ pub(crate) fn mark(core: &mut Core<Fnv>, server: ServerId)
     ensures view { core_view core.new.dispatcher ≡ with_mark (core_view core.old.dispatcher) server.0 checked_mark }
     ensures owed { owed (core_view core.new.dispatcher) ≤ owed (core_view core.old.dispatcher) }
 {
-    core.events().mark(server)
+    events(core).mark(server)
 }
 
 /// Takes the server's mark away.
@@ -170,7 +179,7 @@ pub(crate) fn unmark(core: &mut Core<Fnv>, server: ServerId)
     ensures view { core_view core.new.dispatcher ≡ with_mark (core_view core.old.dispatcher) server.0 (λ m. no_mark) }
     ensures owed { owed (core_view core.new.dispatcher) ≤ owed (core_view core.old.dispatcher) }
 {
-    core.events().unmark(server)
+    events(core).unmark(server)
 }
 
 /// Later calls have the era of this moment.
@@ -181,7 +190,7 @@ pub(crate) fn clock(core: &mut Core<Fnv>, moment: Moment) -> Result<Option<Era>,
     ensures err { OnErr result (core_view core.new.dispatcher ≡ core_view core.old.dispatcher) }
     ensures owed { IfOk result (λ era. owed (core_view core.new.dispatcher) + entries_in (era_entry era) ≤ owed (core_view core.old.dispatcher)) }
 {
-    core.events().clock(moment)
+    events(core).clock(moment)
 }
 
 /// A new chapter begins.
@@ -194,7 +203,7 @@ pub(crate) fn turn(core: &mut Core<Fnv>) -> Result<(), CoreFault>
     ensures owed { OnOk result (owed (core_view core.new.dispatcher) ≤ owed (core_view core.old.dispatcher)) }
     ensures opens { OnOk result (owed (core_view core.new.dispatcher) ≤ (core_view core.new.dispatcher).entries + break_count (core_view core.new.dispatcher).routes) }
 {
-    core.events().turn()
+    events(core).turn()
 }
 
 /// Takes the reply to a call, once.
@@ -206,5 +215,5 @@ pub(crate) fn take(core: &mut Core<Fnv>, call: CallId) -> Result<Option<Part>, C
     ensures chapter { (core_view core.new.dispatcher).chapter ≡ (core_view core.old.dispatcher).chapter }
     ensures owed { IfOk result (λ o. IfSome o (λ part. owed (core_view core.new.dispatcher) + 1 ≤ owed (core_view core.old.dispatcher))) }
 {
-    core.events().take(call)
+    events(core).take(call)
 }

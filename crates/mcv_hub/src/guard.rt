@@ -22,7 +22,6 @@ ghost use Rattle.mcv_core.specs.declared.fault.CoreFault.TheVariants.{Memory as 
 ghost use Rattle.mcv_hub.specs.History.{era_entry, with_entry};
 ghost use Rattle.mcv_hub.specs.Owed.{break_count};
 ghost use Rattle.mcv_hub.specs.Receipts.{ArePassed, AreRefused};
-
 ghost use Rattle.mcv_hub.specs.State.{BeginsOne, IsLegEvent, IsSame, IsSameBooks, IsSameChapter, Replies};
 ghost use Rattle.mcv_hub.specs.declared.entry.Entry.TheVariants.{Taken as taken_entry};
 

@@ -83,12 +83,7 @@ impl<B: Ledger, T: Ledger> Hub<B, T> {
     }
 
     /// Lets go of the lock until the bell is rung, or for no reason; where there is no such server the lock is kept.
-    pub fn wait<'a, R: Wait>(
-        &self,
-        rt: &R,
-        guard: Guard<'a, B, T>,
-        bell: Bell,
-    ) -> Guard<'a, B, T> {
+    pub fn wait<'a, R: Wait>(&self, rt: &R, guard: Guard<'a, B, T>, bell: Bell) -> Guard<'a, B, T> {
         guard.wait_at(rt, self.bell(bell))
     }
 

@@ -8,8 +8,8 @@ pub returns-in_err-check_receipt-clause-err : goal.returns-in_err-check_receipt-
 returns-in_err-check_receipt-clause-err c =
     let p = err_from_is_err_and c.from_residual.result c.from_residual.ensures.1 in
     rw (p.1, p.2)
-        (refused_at c.args.chapter c.args.history.now c.args.receipts.now c.loop-index.index c.loop-index.older c.loop-index.seen.items _ c.in_err-check_receipt.field-0.0 c.loop-index.invariant c.loop-index-test.true
-        c.in_err-check_receipt.ensures.stranger c.in_err-check_receipt.ensures.twice)
+    (refused_at c.args.chapter c.args.history.now c.args.receipts.now c.loop-index.index c.loop-index.older c.loop-index.seen.items _ c.in_err-check_receipt.field-0.0 c.loop-index.invariant c.loop-index-test.true
+    c.in_err-check_receipt.ensures.stranger c.in_err-check_receipt.ensures.twice)
 
 pub loop-index-preserved : goal.loop-index-preserved
 loop-index-preserved c = elim c.if-branch.branch [
