@@ -1,5 +1,5 @@
 -- What the `warm` of a WarmUpRoute replied: the value that its add stores (mcrouter wiki, List of Route Handles, WarmUpRoute; own).
-use Rattle.std.specs.Prelude.{◌==◌, ℕ, suc, List, [], ◌∷◌, ◌++◌, Option, Some, None, fold, is_none, map, option_and_then, option_map, take, if◌then◌else◌}
+use Rattle.std.specs.Prelude.{ℕ, suc, List, [], ◌∷◌, ◌++◌, Option, Some, None, fold, is_none, map, nat_eq, option_and_then, option_map, take, if◌then◌else◌}
 use Rattle.std.specs.List.{filter_map}
 use Rattle.mcv_base.specs.declared.operation.Op.{Op}
 use Rattle.mcv_base.specs.declared.reply.FixedReply.TheVariants.{ErrorRoute}
@@ -22,7 +22,7 @@ use Rattle.mcv_asks.specs.WarmUps.{Warming}
 abbrev pub behind : List ℕ → List ℕ → Option (List ℕ)
 behind [] q = Some q
 behind (i ∷ p) [] = None
-behind (i ∷ p) (j ∷ q) = if i == j then behind p q else None
+behind (i ∷ p) (j ∷ q) = if nat_eq i j then behind p q else None
 
 abbrev pub below_one : List ℕ → Recorded → Option Recorded
 below_one p h = option_map (λ q. record { position = q; reply = h.reply }) (behind p h.position)

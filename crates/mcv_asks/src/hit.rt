@@ -39,7 +39,7 @@ pub fn warm_reply(
     position: &[usize],
     warm_up: WarmUp,
 ) -> Result<Option<Part>, AllocError>
-    ensures { IfOk result (λ r. option_map part_value r ≡ warm_reply (situation_of call) (replies_of call) position.now (warming warm_up)) }
+    ensures { IfOk result (λ r. option_map part_value r ≡ warm_reply (situation_of call.entry) (replies_of call.entry) position.now (warming warm_up.entry)) }
 {
     let place = warm_place(alloc, position, warm_up.depth)?;
     let own = below(alloc, call.heard, &place)?;
@@ -50,10 +50,8 @@ pub fn warm_reply(
 fn warm_place(alloc: Global, position: &[usize], depth: usize) -> Result<Vec<usize>, AllocError>
     ensures { IfOk result (λ p. p.items ≡ take depth position.now ++ 1 ∷ []) }
 {
-    let mut place = Vec::new(alloc);
-    for step in position.iter().take(depth) {
-        place.push(*step)?;
-    }
+    let end = depth.min(position.len());
+    let mut place = Vec::from_slice(alloc, &position[..end])?;
     place.push(1)?;
     Ok(place)
 }
@@ -101,7 +99,7 @@ fn replied(
     call: Call,
     answered: &[Answered],
 ) -> Result<Option<Part>, AllocError>
-    ensures { IfOk result (λ r. option_map part_value r ≡ replied (view route.now) (situation_of call) (map answered_of answered.now)) }
+    ensures { IfOk result (λ r. option_map part_value r ≡ replied (view route.now) (situation_of call.entry) (map answered_of answered.now)) }
 {
     let eval = Eval::new(alloc, route, call.op, call.rest, call.since, call.choice)?;
     let outcomes = Outcomes::of(alloc, answered)?;

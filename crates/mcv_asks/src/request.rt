@@ -37,7 +37,7 @@ pub fn leg_request(
 ) -> Result<LegRequest, AllocError>
     ensures op { IfOk result (λ r. r.op ≡ launch.now.op) }
     ensures rest { IfOk result (λ r. arc_value r.rest ≡ arc_value rest.now) }
-    ensures fields { IfOk result (λ r. fields_in r ≡ fields_of (view route.now) (situation_of call) (option_copied request) (replies_of call) launch.now.position) }
+    ensures fields { IfOk result (λ r. fields_in r ≡ fields_of (view route.now) (situation_of call.entry) (option_copied request.entry) (replies_of call.entry) launch.now.position) }
 {
     let position = launch.position.steps();
     let fields = fields_at(alloc, call, request, position, warm_up_of(route, position))?;
@@ -76,7 +76,7 @@ fn fields_at(
     position: &[usize],
     warm_up: Option<WarmUp>,
 ) -> Result<Fields, AllocError>
-    ensures { IfOk result (λ f. fields_seen f ≡ fields_at (option_copied request) (situation_of call) (replies_of call) position.now (option_map warming warm_up)) }
+    ensures { IfOk result (λ f. fields_seen f ≡ fields_at (option_copied request.entry) (situation_of call.entry) (replies_of call.entry) position.now (option_map warming warm_up.entry)) }
 {
     match warm_up {
         None => client_fields(alloc, request),
@@ -89,7 +89,7 @@ fn fields_at(
 
 /// The fields of what the client asked, if there is a client.
 fn client_fields(alloc: Global, request: Option<&Request>) -> Result<Fields, AllocError>
-    ensures { IfOk result (λ f. fields_seen f ≡ client_fields (option_copied request)) }
+    ensures { IfOk result (λ f. fields_seen f ≡ client_fields (option_copied request.entry)) }
 {
     match request {
         Some(Request::Ask(ask)) => Ok(Fields {
