@@ -1,7 +1,6 @@
 -- What is heard of a call's legs, and what a route replies by that.
-use Rattle.std.proofs.Common.{◌≡◌, ◌<◌, ◌+◌, cond, ℕ, zero, suc, Bool, true, false, List, [], ◌∷◌, ◌++◌, map, Option, Some, None, option_map, add-one, drop, drop-cons, get_or, length, refl, sym, ap, ap₂, ◌∙◌, arith}
+use Rattle.std.proofs.Common.{◌≡◌, cond, ℕ, zero, suc, Bool, true, false, List, [], ◌∷◌, map, Option, Some, None, option_map, refl, sym, ap, ◌∙◌}
 use Rattle.std.specs.Prelude.{fold, option_and_then, slice_get}
-use Rattle.std.specs.List.{cons_option}
 use Rattle.mcv_base.specs.declared.operation.Op.{Op}
 use Rattle.mcv_base.specs.Reply.{ReplyValue, fixed_value, part_value}
 use Rattle.mcv_route.specs.declared.launch.Answered.{Answered}
@@ -15,9 +14,8 @@ use Rattle.mcv_rules.specs.Status.{source_of, status_of}
 use Rattle.mcv_rules.specs.declared.status.Source.TheVariants as sources
 use Rattle.mcv_rules.specs.declared.status.Status.{Status}
 use Rattle.mcv_rules.specs.declared.status.Status.TheVariants.{Replied, Waits}
-use Rattle.mcv_world.specs.World.{Recorded, reply_at}
-use Rattle.mcv_asks.specs.declared.hit.Heard.{Heard}
-use Rattle.mcv_asks.specs.Hits.{answered_of, below, below_one, heard_of, known, known_next, replied, reply_from}
+use Rattle.mcv_world.specs.World.{reply_at}
+use Rattle.mcv_asks.specs.Hits.{answered_of, known_next, replied, reply_from}
 
 -- ---- the outcomes, and the first reply at a position
 
@@ -55,32 +53,3 @@ pub status_said : (t : Tree) (s : Situation) (xs : List Answered) (status : Stat
 status_said t s xs status e =
     ap (reply_in xs) e ∙ answer_said s.op xs (reply t s (history_of xs))
     ∙ ap (λ h. option_and_then (λ a. reply_from s.op (map answered_of xs) a.source) (reply t s h)) (sym (known_from [] xs))
-
--- ---- those below a handle, one more
-
-append_one : (rs : List Recorded) (r : Recorded) (more : List Recorded) → (rs ++ r ∷ []) ++ more ≡ rs ++ r ∷ more
-append_one [] r more = refl
-append_one (x ∷ rs) r more = ap (λ v. x ∷ v) (append_one rs r more)
-
-map_one : (xs : List Answered) (a : Answered) → map answered_of (xs ++ a ∷ []) ≡ map answered_of xs ++ answered_of a ∷ []
-map_one [] a = refl
-map_one (x ∷ xs) a = ap (λ v. answered_of x ∷ v) (map_one xs a)
-
-module _ (place : List ℕ) (hs : List Heard) (i : ℕ) (h : Heard) (found : List Answered) (all : List Recorded) (low : i < length hs) (is : h ≡ get_or hs i h) (inv : map answered_of found ++ below place (map heard_of (drop i hs)) ≡ all) where
-  next : drop i hs ≡ h ∷ drop (i + 1) hs
-  next = rw (add-one i) (rw (← is) at (drop-cons hs i h low))
-
-  -- one that lies below
-  pub kept : (a : Answered) → Some (answered_of a) ≡ below_one place (heard_of h) → map answered_of (found ++ a ∷ []) ++ below place (map heard_of (drop (i + 1) hs)) ≡ all
-  kept a e =
-      let more = below place (map heard_of (drop (i + 1) hs)) in
-      let step : answered_of a ∷ more ≡ below place (map heard_of (h ∷ drop (i + 1) hs)) = ap (λ o. cons_option o more) e in
-      ap (λ v. v ++ more) (map_one found a) ∙ append_one (map answered_of found) (answered_of a) more
-      ∙ ap (λ v. map answered_of found ++ v) (step ∙ ap (λ ds. below place (map heard_of ds)) (sym next)) ∙ inv
-
-  -- one that doesn't
-  pub left_out : None ≡ below_one place (heard_of h) → map answered_of found ++ below place (map heard_of (drop (i + 1) hs)) ≡ all
-  left_out e =
-      let more = below place (map heard_of (drop (i + 1) hs)) in
-      let step : more ≡ below place (map heard_of (h ∷ drop (i + 1) hs)) = ap (λ o. cons_option o more) e in
-      ap (λ v. map answered_of found ++ v) (step ∙ ap (λ ds. below place (map heard_of ds)) (sym next)) ∙ inv

@@ -2,7 +2,10 @@
 
 ghost use Rattle.std.specs.Prelude.{◌≡◌, ◌++◌, ◌∷◌, [], IfOk, map, option_map, slice_get, take};
 ghost use Rattle.mcv_base.specs.Reply.{part_value};
+ghost use Rattle.mcv_route.specs.Reply.{reply};
 ghost use Rattle.mcv_route.specs.View.{view};
+ghost use Rattle.mcv_rules.specs.History.{history_of};
+ghost use Rattle.mcv_rules.specs.Status.{status_of};
 ghost use Rattle.mcv_asks.specs.Hits.{answered_of, behind, below, heard_of, replied, replies_of, situation_of, warm_reply};
 ghost use Rattle.mcv_asks.specs.WarmUps.{warming};
 
@@ -101,13 +104,25 @@ fn replied(
 ) -> Result<Option<Part>, AllocError>
     ensures { IfOk result (λ r. option_map part_value r ≡ replied (view route.now) (situation_of call.entry) (map answered_of answered.now)) }
 {
-    let eval = Eval::new(alloc, route, call.op, call.rest, call.since, call.choice)?;
-    let outcomes = Outcomes::of(alloc, answered)?;
-    match eval.status(&outcomes) {
+    match status(alloc, route, call, answered)? {
         Status::Waits => Ok(None),
         Status::Replied(Source::Fixed(reply)) => Ok(Some(Part::Fixed(reply))),
         Status::Replied(Source::Outcome(place)) => reply_of(answered, place),
     }
+}
+
+/// Whether a route has replied then, and by which of the replies.
+fn status(
+    alloc: Global,
+    route: &Route,
+    call: Call,
+    answered: &[Answered],
+) -> Result<Status, AllocError>
+    ensures { IfOk result (λ s. s ≡ status_of call.entry.op answered.now (reply (view route.now) (situation_of call.entry) (history_of answered.now))) }
+{
+    let eval = Eval::new(alloc, route, call.op, call.rest, call.since, call.choice)?;
+    let outcomes = Outcomes::of(alloc, answered)?;
+    Ok(eval.status(&outcomes))
 }
 
 /// The reply at a place of the list.
