@@ -9,5 +9,5 @@ mod request;
 mod warm_up;
 
 pub use hit::{Call, Heard, warm_reply};
-pub use request::{leg_request, spooled_request};
+pub use request::{client_request, leg_request};
 pub use warm_up::{WarmUp, warm_up_of};

@@ -44,13 +44,19 @@ pub fn leg_request(
     with_fields(launch.op, rest, fields)
 }
 
-/// What a leg asks whose record the spool held at the start: its operation alone, for this rest.
-pub fn spooled_request(alloc: Global, op: Op, rest: &Arc<Rest>) -> Result<LegRequest, AllocError>
+/// What a leg asks its server that no call waits for any more, or whose record the spool held at the start: what the
+/// client asked, if there is a client.
+pub fn client_request(
+    alloc: Global,
+    request: Option<&Request>,
+    op: Op,
+    rest: &Arc<Rest>,
+) -> Result<LegRequest, AllocError>
     ensures op { IfOk result (λ r. r.op ≡ op) }
     ensures rest { IfOk result (λ r. arc_value r.rest ≡ arc_value rest.now) }
-    ensures fields { IfOk result (λ r. fields_in r ≡ no_fields) }
+    ensures fields { IfOk result (λ r. fields_in r ≡ client_fields (option_copied request.entry)) }
 {
-    with_fields(op, rest, no_fields(alloc)?)
+    with_fields(op, rest, client_fields(alloc, request)?)
 }
 
 fn with_fields(op: Op, rest: &Arc<Rest>, fields: Fields) -> Result<LegRequest, AllocError>
