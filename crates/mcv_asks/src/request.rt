@@ -125,7 +125,11 @@ fn owned_fields(alloc: Global, exptime: u32, reply: &Reply) -> Result<Fields, Al
     ensures { IfOk result (λ f. fields_seen f ≡ hit_fields exptime (Some (reply_value reply.now))) }
 {
     match reply {
-        Reply::Hit { flags, cas: _, body } => Ok(Fields {
+        Reply::Hit {
+            flags,
+            cas: _,
+            body,
+        } => Ok(Fields {
             flags: *flags,
             exptime: i64::from(exptime),
             body: Arc::try_clone(body)?,

@@ -56,7 +56,10 @@ fn adding(handle: &Route, depth: usize, step: usize) -> Option<WarmUp<'_>>
                 None
             }
         }
-        Route::Pool { leaf: _, shadows: _ } => None,
+        Route::Pool {
+            leaf: _,
+            shadows: _,
+        } => None,
         Route::Null => None,
         Route::Error => None,
         Route::AllSync(_) => None,
@@ -64,8 +67,19 @@ fn adding(handle: &Route, depth: usize, step: usize) -> Option<WarmUp<'_>>
         Route::AllAsync(_) => None,
         Route::Failover(_) => None,
         Route::MissFailover(_) => None,
-        Route::Migrate { from: _, to: _, start: _, interval: _ } => None,
-        Route::PrefixSelector { policies: _, wildcard: _ } => None,
-        Route::OperationSelector { policies: _, default_policy: _ } => None,
+        Route::Migrate {
+            from: _,
+            to: _,
+            start: _,
+            interval: _,
+        } => None,
+        Route::PrefixSelector {
+            policies: _,
+            wildcard: _,
+        } => None,
+        Route::OperationSelector {
+            policies: _,
+            default_policy: _,
+        } => None,
     }
 }

@@ -2,7 +2,9 @@
 //! Handles, WarmUpRoute).
 
 use mcv_asks::{Call, Heard, client_request, leg_request};
-use mcv_base::{Ask, FixedReply, LegRequest, Mark, Op, Part, Position, Reply, Request, Rest, ServerId};
+use mcv_base::{
+    Ask, FixedReply, LegRequest, Mark, Op, Part, Position, Reply, Request, Rest, ServerId,
+};
 use mcv_pools::Choice;
 use mcv_route::{Answered, Launch, Leaf, Route};
 use std::alloc::{AllocError, Global};
