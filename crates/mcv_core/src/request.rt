@@ -52,7 +52,12 @@ impl Errand {
     fn client_request(&self, alloc: Global) -> Result<LegRequest, AllocError>
         ensures { IfOk result (λ r. asked_by r ≡ record { op = (launch_of self.now).op; rest = rest_of self.now; fields = client_fields (request_in self.now) }) }
     {
-        client_request(alloc, self.laid.request.as_deref(), self.op(), &self.laid.rest)
+        client_request(
+            alloc,
+            self.laid.request.as_deref(),
+            self.op(),
+            &self.laid.rest,
+        )
     }
 }
 
