@@ -1,5 +1,5 @@
 -- Each call that was begun and answered is one of the world to which the moves lead, with that reply, and deletes among them are kept.
-use Rattle.std.proofs.Common.{◌≡◌, ◌⊎◌, cond, inl, inr, ℕ, zero, suc, ◌+◌, ◌<◌, Bool, true, false, List, [], ◌∷◌, ◌++◌, length, Option, Some, None, option_map, refl, sym, ap, ◌∙◌, subst, arith, length-append}
+use Rattle.std.proofs.Common.{◌≡◌, ◌⊎◌, cond, inl, inr, ℕ, zero, suc, Bool, true, false, List, [], ◌∷◌, ◌++◌, length, Option, Some, None, refl, sym, ap, ◌∙◌, subst, arith, length-append}
 use Rattle.std.proofs.lemmas.Bool.{cases_eq}
 use Rattle.std.specs.Prelude.{option_and_then, slice_get}
 use Rattle.std.specs.Arc.{arc_value}
@@ -20,9 +20,9 @@ use Rattle.mcv_world.proofs.MovesKeepWorlds.{moves_keep_worlds}
 use Rattle.mcv_world.proofs.Numbers.{no_some, put_other, put_same, same_some}
 use Rattle.mcv_world.proofs.WhatIsThereStays.{replies_stay}
 use Rattle.mcv_events.specs.Rows.{world_of}
-use Rattle.mcv_core.specs.Acknowledged.{AnsweredCallsAreKept, Happened, IsKeptCall, WasAnswered, WasBegun, beginning_of, taking_of}
+use Rattle.mcv_core.specs.Acknowledged.{AnsweredCallsAreKept, WasAnswered, WasBegun, beginning_of, taking_of}
 use Rattle.mcv_core.specs.Asking.{HasBegunFor, IsAsked}
-use Rattle.mcv_core.specs.CoreView.{CoreView, Does, Moved, Unmoved}
+use Rattle.mcv_core.specs.CoreView.{CoreView, Does, Moved}
 use Rattle.mcv_core.specs.Steps.{Step, Steps, refused, began, sent, replayed, answered, lost, spooled, spool_refused, marked, unmarked, clocked, turned, taken, awaited, none, more, with_move}
 use Rattle.mcv_core.specs.declared.run.Answer.{Answer}
 use Rattle.mcv_core.specs.declared.run.Answer.TheVariants as answer

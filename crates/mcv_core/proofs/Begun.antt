@@ -1,5 +1,5 @@
 -- A call begins.
-use Rattle.std.proofs.Common.{◌≡◌, ◌⊎◌, ◌&&◌, not, cond, inl, inr, ℕ, zero, suc, ◌+◌, ◌*◌, ◌-◌, ◌<◌, ◌≤◌, ◌^◌, Bool, true, false, nat_eq, List, [], ◌∷◌, length, Vec, Option, Some, None, option_map, refl, sym, ap, ◌∙◌, subst, arith, true≢false, vec_capacity}
+use Rattle.std.proofs.Common.{◌≡◌, ◌⊎◌, not, cond, inl, inr, ℕ, zero, suc, ◌+◌, ◌*◌, ◌-◌, ◌<◌, ◌≤◌, Bool, true, false, List, [], ◌∷◌, length, Vec, Option, Some, None, option_map, refl, sym, ap, ◌∙◌, subst, arith, true≢false}
 use Rattle.std.specs.Arc.{arc_value}
 use Rattle.std.specs.declared.alloc.Global.{Global}
 use Rattle.std.specs.Prelude.{filter, is_some, option_and_then, slice_get}
@@ -21,12 +21,11 @@ use Rattle.mcv_rules.proofs.Leaves.{legs_are_of_pools}
 use Rattle.mcv_route.specs.Launched.{launched}
 use Rattle.mcv_route.specs.Situation.{asked}
 use Rattle.mcv_route.specs.Tree.{error}
-use Rattle.std.proofs.lemmas.Bool.{cases_Bool, cases_eq, cases_lt}
 use Rattle.mcv_queues.specs.declared.leg.Leg.{Leg}
 use Rattle.mcv_queues.specs.declared.leg.State.{State}
 use Rattle.mcv_queues.specs.declared.leg.State.TheVariants.{Waiting}
 use Rattle.mcv_queues.specs.declared.queues.Queues.{Queues}
-use Rattle.mcv_queues.specs.Queues.{in_flight, legs, room, servers}
+use Rattle.mcv_queues.specs.Queues.{legs, room, servers}
 use Rattle.mcv_route.specs.declared.launch.Launch.{Launch}
 use Rattle.mcv_route.specs.Outcomes.{Choice, IsChoice, outcomes}
 use Rattle.mcv_route.specs.Routes.{IsSoundRoutes, IsSoundTree, RouteEntry, RoutesValue}
@@ -58,14 +57,14 @@ use Rattle.mcv_core.specs.Calls.{calls_at, room as call_room}
 use Rattle.mcv_core.specs.CoreView.{CoreView, Moved}
 use Rattle.mcv_core.specs.Errands.{errand_view, launch_of}
 use Rattle.mcv_core.specs.Launching.{errand_at, numbers_of, places_of, with_legs, with_numbers, CanLaunch, IsLaunched}
-use Rattle.mcv_core.specs.Rows.{all_rows, awaiting_rows, awaiting_state, call_of, call_row, call_rows, entries_of, errand_for, has_outcome, past_of, recorded_all, row_by, rows_by, rows_of, state_of, IsRunning}
+use Rattle.mcv_core.specs.Rows.{all_rows, awaiting_state, call_of, call_row, call_rows, entries_of, errand_for, has_outcome, past_of, recorded_all, row_by, rows_by, rows_of, state_of, IsRunning}
 use Rattle.mcv_core.specs.Sound.{one, spooled_one, IsSound}
 use Rattle.mcv_core.specs.Tracked.{GoesToServers, HasOpened, IsTracked, fresh, is_sent, launch_at, places_from}
 use Rattle.mcv_core.specs.View.{core_view, since_of}
 use Rattle.mcv_core.proofs.Launches.{get_below, launched_addressed}
-use Rattle.mcv_core.proofs.Passing.{count, count_alike, count_at_most, count_both}
+use Rattle.mcv_core.proofs.Passing.{count, count_at_most, count_both}
 use Rattle.mcv_core.proofs.Places.{AreReady, due_at, due_numbers, due_rows, places_apart, places_count}
-use Rattle.mcv_core.proofs.Recordings.{entry_at, filter_has, none_of, ready_of}
+use Rattle.mcv_core.proofs.Recordings.{entry_at, filter_has, ready_of}
 use Rattle.mcv_core.proofs.Settlements.{call_put}
 use Rattle.mcv_core.proofs.SpooledLegs.{spooled_stays}
 use Rattle.mcv_core.proofs.Tracking.{at_launch}

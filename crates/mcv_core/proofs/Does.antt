@@ -1,20 +1,17 @@
 -- Each event on a leg is the move that it names.
-use Rattle.std.proofs.Common.{◌≡◌, ◌&&◌, cond, ℕ, Bool, true, false, List, Option, Some, None, Result, Ok, Err, refl, sym, ap, ◌∙◌, subst, true≢false}
-use Rattle.std.specs.Prelude.{⊤, is_none}
+use Rattle.std.proofs.Common.{◌≡◌, ◌&&◌, cond, ℕ, Bool, true, false, List, Option, Some, None, Ok, refl, sym, ap, subst, true≢false}
+use Rattle.std.specs.Prelude.{⊤}
 use Rattle.mcv_base.specs.declared.reply.FixedReply.TheVariants.{Lost}
 use Rattle.mcv_base.specs.Reply.{ReplyValue, fixed_value, not_found}
 use Rattle.mcv_queues.specs.declared.marks.Mark.{Mark}
 use Rattle.mcv_queues.specs.Marks.{answered_mark, lost_mark}
 use Rattle.mcv_world.specs.World.{is_counted_delete}
 use Rattle.mcv_world.specs.Moves.{counted_as, has_no_outcome, is_error_reply, is_one}
-use Rattle.mcv_world.proofs.Numbers.{no_some}
 use Rattle.mcv_events.specs.Rows as rows
 use Rattle.mcv_events.specs.Rows.{CallRow, IsCore, LegRow, awaits, leg_of, place_of, with_leg_row}
-use Rattle.mcv_events.specs.Events.{in_state}
 use Rattle.mcv_events.proofs.EventsAreMoves.{answered_moves, performed_moves, refused_moves, spooled_moves, states_are_no_moves, states_keep_cores}
-use Rattle.mcv_core.specs.declared.fault.CoreFault.{CoreFault}
 use Rattle.mcv_core.specs.declared.step.Step.{Step}
-use Rattle.mcv_core.specs.CoreView.{CoreView, Does, Effect, HasEffect, answer_at, answer_in, at_row, change_move, does, finished, flies, held, is_record, landed, loss_at, loss_in, refused, refuses, refusing_at, refusing_in, replayed_in, sent_in, spooling_at, spooling_in, with_mark}
+use Rattle.mcv_core.specs.CoreView.{CoreView, Does, Effect, HasEffect, answer_at, answer_in, at_row, change_move, does, finished, flies, held, is_record, loss_at, loss_in, refuses, refusing_at, refusing_in, replayed_in, sent_in, spooling_at, spooling_in, with_mark}
 
 -- the effect is the move that it names, where the reply was this
 abbrev IsMove : CoreView → ℕ → ReplyValue → Effect → Type 0

@@ -1,9 +1,9 @@
 -- A part is handed out.
-use Rattle.std.proofs.Common.{◌≡◌, ℕ, zero, suc, ◌<◌, List, [], ◌∷◌, length, map, set, Option, Some, None, option_map, refl, sym, ap, ◌∙◌, subst, arith, true, false, true≢false}
-use Rattle.std.specs.Prelude.{IfNone, IfSome, is_some, option_and_then, slice_get}
+use Rattle.std.proofs.Common.{◌≡◌, ℕ, zero, suc, ◌<◌, List, [], ◌∷◌, length, map, set, Option, Some, None, option_map, refl, sym, ap, ◌∙◌, arith, true, false, true≢false}
+use Rattle.std.specs.Prelude.{IfNone, IfSome, is_some, slice_get}
 use Rattle.mcv_base.specs.declared.reply.Part.{Part}
 use Rattle.mcv_base.specs.Reply.{ReplyValue, part_value}
-use Rattle.mcv_world.proofs.Numbers.{no_some, same_some}
+use Rattle.mcv_world.proofs.Numbers.{same_some}
 use Rattle.mcv_core.specs.declared.call.Recorded.{Recorded}
 use Rattle.mcv_core.specs.Rows.{taken_at}
 use Rattle.mcv_core.specs.Taking.{kept_of}

@@ -1,24 +1,23 @@
 -- Deletes are kept after every list of events.
-use Rattle.std.proofs.Common.{◌≡◌, ℕ, List, [], ◌∷◌, ◌++◌, Option, Some, None, Result, Ok, Err, refl, sym, ap, ◌∙◌, subst}
-use Rattle.std.specs.Prelude.{IfOk, OnErr, OnOk, slice_get}
+use Rattle.std.proofs.Common.{◌≡◌, ℕ, List, [], ◌∷◌, ◌++◌, Option, Some, None, refl, sym, ap, ◌∙◌, subst}
+use Rattle.std.specs.Prelude.{slice_get}
 use Rattle.mcv_pools.specs.Symbol.{SymbolValue}
-use Rattle.mcv_route.specs.Eras.{IsEra, breaks_of, since_at}
+use Rattle.mcv_route.specs.Eras.{breaks_of, since_at}
 use Rattle.mcv_route.specs.Routes.{RoutesValue}
 use Rattle.mcv_spool.specs.declared.record.SpoolRecord.{SpoolRecord}
 use Rattle.mcv_symbolic.specs.Covered.{AreCovered}
 use Rattle.mcv_world.specs.Kept.{Kept}
 use Rattle.mcv_world.specs.Laws.{IsWorld}
 use Rattle.mcv_world.specs.Live.{live_of}
-use Rattle.mcv_world.specs.Moves.{Move, after, run}
+use Rattle.mcv_world.specs.Moves.{Move, after}
 use Rattle.mcv_world.specs.World.{World}
 use Rattle.mcv_world.proofs.Choices.{moments_have_eras}
 use Rattle.mcv_world.proofs.DeletesAreKept.{covered_worlds_are_kept}
 use Rattle.mcv_events.specs.Rows.{Rows, world_of}
-use Rattle.mcv_events.specs.Events.{Moves}
 use Rattle.mcv_events.specs.Runs.{Runs, done, moved, no_move, opened}
-use Rattle.mcv_events.proofs.CoresKeepDeletes.{cores_keep_deletes, opened_is_core, runs_are_moves}
+use Rattle.mcv_events.proofs.CoresKeepDeletes.{cores_keep_deletes, opened_is_core}
 use Rattle.mcv_core.proofs.Acknowledged.{answered_calls_are_kept}
-use Rattle.mcv_core.specs.CoreView.{CoreView, Does, Moved, Unmoved}
+use Rattle.mcv_core.specs.CoreView.{CoreView, Does, Moved}
 use Rattle.mcv_core.specs.Opening.{known_records, opened_view}
 use Rattle.mcv_core.specs.Steps.{AreAnswered, DeletesAreKept, EventsKeepDeletes, IsAnswered, KeepsDeletes, OpenedCoresKeepDeletes, Step, Steps, with_move}
 use Rattle.mcv_core.specs.Steps.{refused, began, sent, replayed, answered, lost, spooled, spool_refused, marked, unmarked, clocked, turned, taken, awaited, none, more}
@@ -36,24 +35,23 @@ use Rattle.std.specs.Prelude.{option_map}
 
 -- ---- one event at a time
 
-keeps_at : (r : RoutesValue) (w : CoreView) (world : World) → w.routes ≡ r → IsWorld r world → live_of r world ≡ world_of w.rows → Kept r world → KeepsDeletes w
+keeps_at : (r : RoutesValue) (w : CoreView) (world : World) → w.routes ≡ r → IsWorld r world → live_of r world ≡ world_of w.rows → Kept r world → KeepsDeletes w world
 keeps_at r w world e i l k = record {
-  world = world;
   is = subst (λ r. IsWorld r world) (sym e) i;
   live = subst (λ r. live_of r world ≡ world_of w.rows) (sym e) l;
   kept = subst (λ r. Kept r world) (sym e) k;
 }
 
-moved_keeps : (v w : CoreView) (m : Move) → AreCovered v.routes → KeepsDeletes v → Moved v w m → KeepsDeletes w
-moved_keeps v w m covered k h =
+moved_keeps : (v w : CoreView) (m : Move) (world : World) → AreCovered v.routes → KeepsDeletes v world → Moved v w m → KeepsDeletes w (after v.routes world m)
+moved_keeps v w m world covered k h =
     let r = v.routes in
-    let possible : IsPossible r k.world m = record { allowed = h.allowed; move = moves_are_live r k.world m k.is ∙ ap (λ u. is_move r u m) k.live ∙ h.moves.is } in
-    let is = moves_keep_worlds r k.world m k.is possible in
-    keeps_at r w (after r k.world m) h.routes is (forgets_safely r k.world m k.is ∙ ap (λ u. live_of r (after r u m)) k.live ∙ sym h.moves.moves) (covered_worlds_are_kept r (after r k.world m) covered is)
+    let possible : IsPossible r world m = record { allowed = h.allowed; move = moves_are_live r world m k.is ∙ ap (λ u. is_move r u m) k.live ∙ h.moves.is } in
+    let is = moves_keep_worlds r world m k.is possible in
+    keeps_at r w (after r world m) h.routes is (forgets_safely r world m k.is ∙ ap (λ u. live_of r (after r u m)) k.live ∙ sym h.moves.moves) (covered_worlds_are_kept r (after r world m) covered is)
 
 pub events_keep_deletes : EventsKeepDeletes
-events_keep_deletes v w None covered k h = keeps_at v.routes w k.world h.routes k.is (k.live ∙ sym h.world) k.kept
-events_keep_deletes v w (Some m) covered k h = moved_keeps v w m covered k h
+events_keep_deletes v w None world covered k h = keeps_at v.routes w world h.routes k.is (k.live ∙ sym h.world) k.kept
+events_keep_deletes v w (Some m) world covered k h = moved_keeps v w m world covered k h
 
 spooled_is : (o : Option OpenedRecord) (s : LegRow) → option_map spooled_row o ≡ Some s → s.state ≡ InSpool
 spooled_is None s e = no_some e
@@ -67,7 +65,7 @@ opened_cores_keep_deletes r records covered =
     let era = moments_have_eras r 0 in
     let opening = spooled_rows_open r w (opened_is_core r since known) (λ k. refl) (λ n s e. spooled_is (slice_get known n) s e) era in
     let is = opening_is_world r (world_of w) opening.0 in
-    record { world = world_of w; is = is; live = opening.1; kept = covered_worlds_are_kept r (world_of w) covered is }
+    record { is = is; live = opening.1; kept = covered_worlds_are_kept r (world_of w) covered is }
 
 -- ---- lists of events
 
@@ -128,11 +126,10 @@ module _ (chosen : SymbolValue → List ℕ → ℕ) where
 
   pub deletes_are_kept : (r : RoutesValue) (records : List (ℕ × SpoolRecord)) (events : List Event) (answers : List Answer) (w : CoreView) → AreCovered r → AreAnswered chosen (opened_view r records) events answers w
       → DeletesAreKept chosen (opened_view r records) events answers w
-  unfolding opened_cores_keep_deletes
   deletes_are_kept r records events answers w covered h =
       let q = cores_keep_deletes r (since_at (breaks_of r) 0) (known_records r.servers records) h.moves w.rows covered (moments_have_eras r 0) (steps_run (opened_view r records) w events answers h.moves h.steps).runs in
       let o = opened_cores_keep_deletes r records covered in
-      record { moves = h.moves; steps = h.steps; kept = q.0; acknowledged = answered_calls_are_kept r chosen (opened_view r records) w o.world events answers h.moves covered o.is o.live refl h.steps; live = q.1 }
+      record { moves = h.moves; steps = h.steps; kept = q.0; acknowledged = answered_calls_are_kept r chosen (opened_view r records) w (world_of (opened_view r records).rows) events answers h.moves covered o.is o.live refl h.steps; live = q.1 }
 
   -- one event more
   pub answer_more : (start v w : CoreView) (events : List Event) (answers : List Answer) (e : Event) (a : Answer) → AreAnswered chosen start events answers v → IsAnswered chosen v e a w → AreAnswered chosen start (events ++ e ∷ []) (answers ++ a ∷ []) w

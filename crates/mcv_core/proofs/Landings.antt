@@ -1,5 +1,5 @@
 -- Legs in flight that are answered or lost, and held legs that the spool stores or refuses.
-use Rattle.std.proofs.Common.{◌≡◌, ◌&&◌, not, cond, inl, inr, ℕ, Bool, true, false, nat_eq, length, List, Option, Some, None, Result, Ok, Err, option_map, refl, sym, ap, ◌∙◌, subst, true≢false}
+use Rattle.std.proofs.Common.{◌≡◌, cond, ℕ, Bool, true, false, length, List, Option, Some, None, Ok, Err, option_map, refl, sym, ap, ◌∙◌, subst, true≢false}
 use Rattle.std.specs.Arc.{arc_value}
 use Rattle.std.proofs.Math.Path.{fun_ext}
 use Rattle.mcv_base.specs.declared.reply.FixedReply.TheVariants.{Lost}
@@ -9,7 +9,7 @@ use Rattle.mcv_queues.specs.declared.leg.State.{State}
 use Rattle.mcv_queues.specs.declared.leg.State.TheVariants as states
 use Rattle.mcv_queues.specs.declared.marks.Mark.{Mark}
 use Rattle.mcv_queues.specs.declared.marks.Marks.{Marks}
-use Rattle.mcv_queues.specs.Legs.{is_flight, is_in_flight, with_state}
+use Rattle.mcv_queues.specs.Legs.{is_flight, is_in_flight, with_stored}
 use Rattle.mcv_queues.specs.Marks.{answered_mark, lost_mark, marks, put_mark, servers as marked_servers}
 use Rattle.mcv_queues.specs.declared.queues.Queues.{Queues}
 use Rattle.mcv_queues.specs.Queues.{in_flight, legs}
@@ -35,10 +35,10 @@ use Rattle.mcv_core.specs.Calls.{calls_at}
 use Rattle.mcv_core.specs.CoreView.{CoreView, Effect, HasDone, HasEffect, answer_at, answer_in, at_row, does, flies, is_record, landing_at, landing_in, loss_at, loss_in, refused, refuses, refusing_at, refusing_in, replayed_in, sent_in, spooling_at, spooling_in, step_to, stores, with_mark}
 use Rattle.mcv_core.specs.Errands.{launch_of}
 use Rattle.mcv_core.specs.Facts.{counts_in, facts_of, state_in}
-use Rattle.mcv_core.specs.Rows.{awaiting_state, call_of, call_row, call_rows, row_by, rows_by, state_of}
+use Rattle.mcv_core.specs.Rows.{awaiting_state, call_of, call_row, call_rows, row_by, state_of}
 use Rattle.mcv_core.specs.Settling.{is_gone, settled_row}
 use Rattle.mcv_core.specs.View.{CanSettle, core_view, has_settled}
-use Rattle.mcv_core.proofs.LegViews.{flies_by_state, row_stays, state_rows, there, view_with}
+use Rattle.mcv_core.proofs.LegViews.{flies_by_state, row_stays, stored_rows, there, view_with}
 
 -- ---- the leg of these facts
 
@@ -199,12 +199,12 @@ module _ (d : Dispatcher) (n : ℕ) (l : Leg Errand) (at : legs d.queues n ≡ S
   awaits_refused is = same_awaits l.content.call ∙ d.sound.refused n (row_by awaiting_state l) (ap (option_map (row_by awaiting_state)) at) (ap awaiting_state is)
 
   -- a leg that the spool had refused is stored: its call has its outcome, or has ended
-  pub stored_view : l.state ≡ states.Refused → (q : Queues Errand) → legs q ≡ with_state (legs d.queues) n states.InSpool → ((m : ℕ) → in_flight q m ≡ in_flight d.queues m)
+  pub stored_view : l.state ≡ states.Refused → (seq : ℕ) (q : Queues Errand) → legs q ≡ with_stored (legs d.queues) n seq → ((m : ℕ) → in_flight q m ≡ in_flight d.queues m)
       → view_with d q ≡ record (core_view d) { rows = spooled_rows (arc_value d.accepted) (core_view d).rows n (row_by state_of l) }
-  stored_view is q legs_are flights_are =
+  stored_view is seq q legs_are flights_are =
       let w1 : Rows = with_leg_row (core_view d).rows n (Some (in_state (row_by state_of l) rows.InSpool)) in
       let rows_are : (view_with d q).rows ≡ recorded_rows_for (arc_value d.accepted) w1 (row_by state_of l) not_found l.content.call =
-      state_rows d n l at states.InSpool q legs_are ∙ sym (none_recorded w1 l.content.call (awaits_refused is)) in
+      stored_rows d n l at seq q legs_are ∙ sym (none_recorded w1 l.content.call (awaits_refused is)) in
       λ j. record (core_view d) { rows = rows_are j; flights = fun_ext flights_are j }
     where
       by_call : (w1 : Rows) (k : ℕ) (o : Option CallRow) → is_one o (λ c. has_no_outcome (leg_of (row_by state_of l)) c.call) ≡ false → recorded_rows_if (arc_value d.accepted) w1 (row_by state_of l) not_found k o ≡ w1

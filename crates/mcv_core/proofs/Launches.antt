@@ -1,5 +1,5 @@
 -- One entry more is launched.
-use Rattle.std.proofs.Common.{◌≡◌, cond, inl, inr, ℕ, zero, suc, ◌+◌, ◌<◌, ◌≤◌, ◌^◌, Bool, true, false, nat_eq, nat_lt, List, [], ◌∷◌, length, drop, get_or, set, Option, Some, None, option_map, refl, sym, ap, ◌∙◌, subst, arith, true≢false}
+use Rattle.std.proofs.Common.{◌≡◌, inl, inr, ℕ, zero, suc, ◌+◌, ◌<◌, ◌≤◌, ◌^◌, true, nat_lt, List, [], ◌∷◌, length, drop, set, Option, Some, None, option_map, refl, sym, ap, ◌∙◌, subst, arith, true≢false}
 use Rattle.std.specs.Prelude.{option_and_then, slice_get}
 use Rattle.std.proofs.Math.Path.{fun_ext}
 use Rattle.std.proofs.lemmas.Bool.{cases_eq, ltb-true}
@@ -98,14 +98,14 @@ module _ (next number i : ℕ) (fresh : List ℕ) (was entries : List Entry) (ol
 
     pub one_more : (x : Entry) (errand : Errand) (server : ServerId) (entries2 : List Entry) (legs2 : ℕ → Option (Leg Errand)) (room2 : ℕ)
         → before.errand ≡ Some errand → x.leg ≡ Some number → x.place ≡ before.place → entries2 ≡ set entries e x → server ≡ (launch_of errand).server
-        → legs2 ≡ put legs number (Some (record { server = server; state = Waiting; content = errand })) → room ≤ room2 + 1
+        → legs2 ≡ put legs number (Some (record { server = server; state = Waiting; «record» = None; content = errand })) → room ≤ room2 + 1
         → HasCome next (suc number) (suc i) fresh was entries2 old legs2 had room2
     one_more x errand server entries2 legs2 room2 errand_is leg_is place_is set_is server_is legs_is room_is =
         let split = split_at fresh i e here in
         let had_it : errand_at was e ≡ Some errand = ap (option_and_then (λ x. x.errand)) (sym same ∙ at) ∙ errand_is in
         let row : put legs number (option_map waiting_leg (errand_at was e)) ≡ legs2 =
         ap (λ o. put legs number (option_map waiting_leg o)) had_it
-        ∙ ap (λ s. put legs number (Some (record { server = s; state = Waiting; content = errand }))) (sym server_is) ∙ sym legs_is in
+        ∙ ap (λ s. put legs number (Some (record { server = s; state = Waiting; «record» = None; content = errand }))) (sym server_is) ∙ sym legs_is in
         let numbers_are : numbers_of entries2 ≡ put (numbers_of entries) e (Some number) =
         fun_ext (λ j. ap (λ xs. numbers_of xs j) set_is ∙ field_set (λ x. x.leg) entries e x there j ∙ ap (λ v. put (numbers_of entries) e v j) leg_is) in
         let places_are : (j : ℕ) → places_of entries2 j ≡ places_of entries j =

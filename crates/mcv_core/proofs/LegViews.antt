@@ -7,8 +7,7 @@ use Rattle.mcv_queues.specs.declared.leg.Leg.{Leg}
 use Rattle.mcv_queues.specs.declared.leg.State.{State}
 use Rattle.mcv_queues.specs.declared.leg.State.TheVariants as states
 use Rattle.mcv_queues.specs.declared.queues.Queues.{Queues}
-use Rattle.mcv_queues.specs.Legs.{in_state as put_state, is_flight, is_in_flight, is_in_flight_to, with_state}
-use Rattle.mcv_queues.specs.Marks.{marks}
+use Rattle.mcv_queues.specs.Legs.{in_state as put_state, is_flight, is_in_flight_to, stored_as, with_state, with_stored}
 use Rattle.mcv_queues.specs.Numbers.{names}
 use Rattle.mcv_queues.specs.Queues.{in_flight, legs, room, servers}
 use Rattle.mcv_world.specs.World.{is_counted_delete, put}
@@ -83,6 +82,9 @@ module _ (d : Dispatcher) (n : ℕ) (l : Leg Errand) (at : legs d.queues n ≡ S
   pub state_rows : (t : State) (q : Queues Errand) → legs q ≡ with_state (legs d.queues) n t → (view_with d q).rows ≡ with_leg_row (core_view d).rows n (Some (row_by state_of (put_state t l)))
   state_rows t q is = States.rows_put state_of (calls_at d.calls) (legs d.queues) (legs q) (since_of d) d.next_call d.next_leg n (Some (put_state t l)) (is ∙ States.state_put (legs d.queues) n l t at)
 
+  pub stored_rows : (seq : ℕ) (q : Queues Errand) → legs q ≡ with_stored (legs d.queues) n seq → (view_with d q).rows ≡ with_leg_row (core_view d).rows n (Some (row_by state_of (stored_as seq l)))
+  stored_rows seq q is = States.rows_put state_of (calls_at d.calls) (legs d.queues) (legs q) (since_of d) d.next_call d.next_leg n (Some (stored_as seq l)) (is ∙ States.stored_put (legs d.queues) n seq l at)
+
   pub gone_rows : (q : Queues Errand) → legs q ≡ put (legs d.queues) n None → (view_with d q).rows ≡ with_leg_row (core_view d).rows n None
   gone_rows q is = States.rows_put state_of (calls_at d.calls) (legs d.queues) (legs q) (since_of d) d.next_call d.next_leg n None is
 
@@ -123,7 +125,7 @@ module _ (d : Dispatcher) (n : ℕ) (l : Leg Errand) (at : legs d.queues n ≡ S
       → spooled_in (state_of from) ≡ spooled_in (state_of t) → Alters t
   alters from t from_is can can_await never count stored q is room_is known =
       States.changed (arc_value d.accepted) (calls_at d.calls) (legs d.queues) (since_of d) d.moment.0 d.next_call d.next_leg d.counts.reserved d.counts.queued d.counts.spooled d.counts.running (room d.queues)
-      (servers d.queues) d.sound n l at t can can_await (λ e. absurd (never e)) (legs q) is d.counts.queued d.counts.spooled (room q) (servers q)
+      (servers d.queues) d.sound n l at t l.«record» can can_await (λ e. absurd (never e)) (legs q) (is ∙ States.state_put (legs d.queues) n l t at) d.counts.queued d.counts.spooled (room q) (servers q)
       (ap (λ v. d.counts.queued + v) (ap (λ v. count_in (state_of v)) from_is ∙ count)) d.sound.limit
       (ap (λ v. d.counts.spooled + v) (ap (λ v. spooled_in (state_of v)) from_is ∙ stored)) (omega (arith, room_is)) known
 
@@ -152,16 +154,16 @@ module _ (d : Dispatcher) (n : ℕ) (l : Leg Errand) (at : legs d.queues n ≡ S
       alters states.InSpool states.InReplay spooled (record { opens = λ e. absurd (true≢false (sym e)); shuts = λ e. counted }) (record { opens = λ e. absurd (true≢false (sym e)); shuts = λ e. counted }) (λ e. cc) refl refl
 
   -- a leg that the spool had refused is stored
-  pub sound_stored : l.state ≡ states.Refused → (q : Queues Errand) → legs q ≡ with_state (legs d.queues) n states.InSpool → room q ≡ room d.queues → servers q ≡ servers d.queues
+  pub sound_stored : l.state ≡ states.Refused → (seq : ℕ) (q : Queues Errand) → legs q ≡ with_stored (legs d.queues) n seq → room q ≡ room d.queues → servers q ≡ servers d.queues
       → (queued : ℕ) → queued + 1 ≡ d.counts.queued → IsSoundWith d q queued (d.counts.spooled + 1)
-  sound_stored refused q is room_is known queued less =
+  sound_stored refused seq q is room_is known queued less =
       let counted = counted_of (ap (λ v. is_unanswered (state_of v)) refused) in
       let was : count_in (state_of l.state) ≡ 1 = ap (λ v. count_in (state_of v)) refused in
       let unstored : spooled_in (state_of l.state) ≡ 0 = ap (λ v. spooled_in (state_of v)) refused in
       let limit = d.sound.limit in
       States.changed (arc_value d.accepted) (calls_at d.calls) (legs d.queues) (since_of d) d.moment.0 d.next_call d.next_leg d.counts.reserved d.counts.queued d.counts.spooled d.counts.running (room d.queues)
-      (servers d.queues) d.sound n l at states.InSpool (record { opens = λ e. absurd (true≢false (sym e)); shuts = λ e. counted }) (record { opens = λ e. absurd (true≢false (sym e)); shuts = λ e. counted })
-      (λ e. absurd (cc)) (legs q) is queued (d.counts.spooled + 1) (room q) (servers q) (omega (arith, was, less)) (omega (arith, limit, less)) (omega (arith, unstored)) (omega (arith, room_is)) known
+      (servers d.queues) d.sound n l at states.InSpool (Some seq) (record { opens = λ e. absurd (true≢false (sym e)); shuts = λ e. counted }) (record { opens = λ e. absurd (true≢false (sym e)); shuts = λ e. counted })
+      (λ e. absurd (cc)) (legs q) (is ∙ States.stored_put (legs d.queues) n seq l at) queued (d.counts.spooled + 1) (room q) (servers q) (omega (arith, was, less)) (omega (arith, limit, less)) (omega (arith, unstored)) (omega (arith, room_is)) known
 
   -- a leg in replay is performed
   pub sound_gone : l.state ≡ states.InReplay → (q : Queues Errand) → legs q ≡ put (legs d.queues) n None → room d.queues ≤ room q → servers q ≡ servers d.queues

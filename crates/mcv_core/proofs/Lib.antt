@@ -5,6 +5,7 @@ pub mod Tracking
 pub mod Recordings
 pub mod SpooledLegs
 pub mod States
+pub mod SpoolNumbers
 pub mod Settlements
 pub mod LegViews
 pub mod Settled

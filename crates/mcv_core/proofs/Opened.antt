@@ -19,7 +19,7 @@ use Rattle.mcv_queues.specs.declared.leg.Leg.{Leg}
 use Rattle.mcv_queues.specs.declared.leg.State.{State}
 use Rattle.mcv_queues.specs.declared.leg.State.TheVariants.{InSpool}
 use Rattle.mcv_queues.specs.declared.marks.Mark.{Mark}
-use Rattle.mcv_queues.specs.Legs.{in_state, with_state}
+use Rattle.mcv_queues.specs.Legs.{stored_as, with_stored}
 use Rattle.mcv_queues.specs.Marks.{no_mark}
 use Rattle.mcv_route.specs.Eras.{breaks_of, since_at}
 use Rattle.mcv_route.specs.Routes.{RoutesValue}
@@ -36,7 +36,8 @@ use Rattle.mcv_core.specs.declared.call.Call.{Call}
 use Rattle.mcv_core.specs.declared.errand.Errand.{Errand}
 use Rattle.mcv_core.specs.CoreView.{CoreView}
 use Rattle.mcv_core.specs.Errands.{launch_of}
-use Rattle.mcv_core.specs.Opening.{AreOpened, IsOpenedErrand, known_records, opened_view, with_server}
+use Rattle.mcv_core.specs.Facts.{record_in, records_in}
+use Rattle.mcv_core.specs.Opening.{AreOpened, IsOpenedErrand, known_numbers, known_records, opened_view, with_number, with_server}
 use Rattle.mcv_core.specs.Rows.{all_rows, awaiting_state, call_rows, row_by, rows_by, rows_of, state_of}
 use Rattle.mcv_core.specs.Sound.{spooled_one, IsSound}
 
@@ -85,6 +86,23 @@ module _ (servers : List (List ℕ)) where
       by_number None e = e
       by_number (Some s) e = ap (λ l. (s, x.1.rest) ∷ l) e
 
+  numbers_append : (xs ys : List (ℕ × SpoolRecord)) → known_numbers servers (xs ++ ys) ≡ known_numbers servers xs ++ known_numbers servers ys
+  numbers_append [] ys = refl
+  numbers_append (x ∷ xs) ys = by_number (number_in bytes_eq servers x.1.server) (numbers_append xs ys)
+    where
+      by_number : (o : Option ℕ) → known_numbers servers (xs ++ ys) ≡ known_numbers servers xs ++ known_numbers servers ys
+          → with_number o x.0 (known_numbers servers (xs ++ ys)) ≡ with_number o x.0 (known_numbers servers xs) ++ known_numbers servers ys
+      by_number None e = e
+      by_number (Some s) e = ap (λ l. x.0 ∷ l) e
+
+  pub numbers_more : (records : List (ℕ × SpoolRecord)) (i : ℕ) (x : ℕ × SpoolRecord) → i < length records → x ≡ get_or records i x
+      → known_numbers servers (take (i + 1) records) ≡ known_numbers servers (take i records) ++ with_number (number_in bytes_eq servers x.1.server) x.0 []
+  numbers_more records i x below is =
+      ap (known_numbers servers) (take_more records i x below ∙ ap (λ y. take i records ++ y ∷ []) (sym is)) ∙ numbers_append (take i records) (x ∷ [])
+
+  pub numbers_all : (records : List (ℕ × SpoolRecord)) (i : ℕ) → (i < length records → ⊥) → known_numbers servers (take i records) ≡ known_numbers servers records
+  numbers_all records i past = ap (known_numbers servers) (take_past records i past)
+
   pub known_more : (records : List (ℕ × SpoolRecord)) (i : ℕ) (x : ℕ × SpoolRecord) → i < length records → x ≡ get_or records i x
       → known_records servers (take (i + 1) records) ≡ known_records servers (take i records) ++ with_server (number_in bytes_eq servers x.1.server) x.1.rest []
   known_more records i x below is =
@@ -95,11 +113,11 @@ module _ (servers : List (List ℕ)) where
 
 -- ---- a leg is added
 
-pub put_spooled : (old : ℕ → Option (Leg Errand)) (n : ℕ) (l : Leg Errand) → with_state (put old n (Some l)) n InSpool ≡ put old n (Some (in_state InSpool l))
-put_spooled old n l =
-    ap (λ o. put (put old n (Some l)) n (option_map (in_state InSpool) o)) (put_same old n (Some l)) ∙ fun_ext (λ m. by_number (nat_eq n m) m)
+pub put_spooled : (old : ℕ → Option (Leg Errand)) (n seq : ℕ) (l : Leg Errand) → with_stored (put old n (Some l)) n seq ≡ put old n (Some (stored_as seq l))
+put_spooled old n seq l =
+    ap (λ o. put (put old n (Some l)) n (option_map (stored_as seq) o)) (put_same old n (Some l)) ∙ fun_ext (λ m. by_number (nat_eq n m) m)
   where
-    by_number : (b : Bool) (m : ℕ) → cond b (Some (in_state InSpool l)) (cond b (Some l) (old m)) ≡ cond b (Some (in_state InSpool l)) (old m)
+    by_number : (b : Bool) (m : ℕ) → cond b (Some (stored_as seq l)) (cond b (Some l) (old m)) ≡ cond b (Some (stored_as seq l)) (old m)
     by_number true m = refl
     by_number false m = refl
 
@@ -117,20 +135,22 @@ none_row : (o : Option (Leg Errand)) → option_map (row_by state_of) o ≡ None
 none_row None e = refl
 none_row (Some l) e = no_some (sym e)
 
-pub none_opened : (legs : ℕ → Option (Leg Errand)) → ((n : ℕ) → legs n ≡ None) → AreOpened [] legs 0
+pub none_opened : (legs : ℕ → Option (Leg Errand)) → ((n : ℕ) → legs n ≡ None) → AreOpened [] [] legs 0
 none_opened legs none = record {
   rows_are = λ f spools n. ap (option_map (row_by f)) (none n);
   addressed = λ n l at. no_some (sym (none n) ∙ at);
   counted = refl;
+  numbered = λ n. ap record_in (none n);
+  all_numbered = refl;
 }
 
-module _ (before : List OpenedRecord) (old : ℕ → Option (Leg Errand)) (count : ℕ) (are : AreOpened before old count) where
+module _ (before : List OpenedRecord) (numbers : List ℕ) (old : ℕ → Option (Leg Errand)) (count : ℕ) (are : AreOpened before numbers old count) where
   pub free : old count ≡ None
   free = none_row (old count) (are.rows_are state_of refl count ∙ ap (option_map spooled_row) (slice_get_past before count (let a = are.counted in omega (arith, a))))
 
-  module _ (server : ServerId) (rest : List ℕ) (e : Errand) (is : IsOpenedErrand server rest e) where
+  module _ (seq : ℕ) (server : ServerId) (rest : List ℕ) (e : Errand) (is : IsOpenedErrand server rest e) where
     abbrev added : Leg Errand
-    added = record { server = server; state = InSpool; content = e }
+    added = record { server = server; state = InSpool; «record» = Some seq; content = e }
 
     row_is : (f : State → rows.State) → f InSpool ≡ rows.InSpool → row_by f added ≡ spooled_row (server.0, rest)
     row_is f spools = λ j. record { call = is.call j; entry = is.entry j; launch = is.launch j; rest = is.rest_is j; state = spools j }
@@ -147,7 +167,15 @@ module _ (before : List OpenedRecord) (old : ℕ → Option (Leg Errand)) (count
           ∙ ap (option_map spooled_row) (sym (others_at before (server.0, rest) n (λ q. ne (are.counted ∙ q))))
     ]
 
-    pub one_more : (new : ℕ → Option (Leg Errand)) → new ≡ put old count (Some added) → (next : ℕ) → next ≡ count + 1 → AreOpened (before ++ (server.0, rest) ∷ []) new next
+    number_at : (n : ℕ) → records_in (put old count (Some added)) n ≡ slice_get (numbers ++ seq ∷ []) n
+    number_at n = elim (cases_eq count n) [
+      | inl q ↦
+          let last : slice_get (numbers ++ seq ∷ []) count ≡ Some seq = ap (slice_get (numbers ++ seq ∷ [])) (sym are.all_numbered) ∙ last_at numbers seq in
+          subst (λ m. records_in (put old count (Some added)) m ≡ slice_get (numbers ++ seq ∷ []) m) q (ap record_in (put_same old count (Some added)) ∙ sym last)
+      | inr ne ↦ ap record_in (put_other old count n (Some added) ne) ∙ are.numbered n ∙ sym (others_at numbers seq n (λ q. ne (sym are.all_numbered ∙ q)))
+    ]
+
+    pub one_more : (new : ℕ → Option (Leg Errand)) → new ≡ put old count (Some added) → (next : ℕ) → next ≡ count + 1 → AreOpened (before ++ (server.0, rest) ∷ []) (numbers ++ seq ∷ []) new next
     one_more new new_is next next_is = record {
       rows_are = λ f spools n. ap (λ g. rows_by f g n) new_is ∙ at_each f spools n;
       addressed = λ n l at. elim (put_cases old count n (Some added) l (sym (ap (λ g. g n) new_is) ∙ at)) [
@@ -155,14 +183,16 @@ module _ (before : List OpenedRecord) (old : ℕ → Option (Leg Errand)) (count
         | inr q ↦ are.addressed n l q.1
       ];
       counted = let a = are.counted in let b = length-append before ((server.0, rest) ∷ []) in omega (arith, a, b, next_is);
+      numbered = λ n. ap (λ g. records_in g n) new_is ∙ number_at n;
+      all_numbered = let a = are.all_numbered in let b = length-append numbers (seq ∷ []) in omega (arith, a, b, next_is);
     }
 
 -- where the record's server has this number
-pub stored : (before : List OpenedRecord) (old : ℕ → Option (Leg Errand)) (count : ℕ) → AreOpened before old count → (server : ServerId) (rest : List ℕ) (e : Errand) → IsOpenedErrand server rest e
-    → (o : Option ℕ) → Some server.0 ≡ o → (new : ℕ → Option (Leg Errand)) → new ≡ put old count (Some (record { server = server; state = InSpool; content = e })) → (next : ℕ) → next ≡ count + 1
-    → AreOpened (before ++ with_server o rest []) new next
-stored before old count are server rest e is o o_is new new_is next next_is =
-    subst (λ v. AreOpened (before ++ with_server v rest []) new next) o_is (one_more before old count are server rest e is new new_is next next_is)
+pub stored : (before : List OpenedRecord) (numbers : List ℕ) (old : ℕ → Option (Leg Errand)) (count : ℕ) → AreOpened before numbers old count → (seq : ℕ) (server : ServerId) (rest : List ℕ) (e : Errand) → IsOpenedErrand server rest e
+    → (o : Option ℕ) → Some server.0 ≡ o → (new : ℕ → Option (Leg Errand)) → new ≡ put old count (Some (record { server = server; state = InSpool; «record» = Some seq; content = e })) → (next : ℕ) → next ≡ count + 1
+    → AreOpened (before ++ with_server o rest []) (numbers ++ with_number o seq []) new next
+stored before numbers old count are seq server rest e is o o_is new new_is next next_is =
+    subst (λ v. AreOpened (before ++ with_server v rest []) (numbers ++ with_number v seq []) new next) o_is (one_more before numbers old count are seq server rest e is new new_is next next_is)
 
 -- ---- sums
 
@@ -187,7 +217,7 @@ spooled_state (Some x) s e = ap (λ (v : LegRow). count_in v.state) (sym (same_s
 
 -- ---- what holds then
 
-module _ (r : RoutesValue) (records : List OpenedRecord) (calls : ℕ → Option Call) (no_calls : calls ≡ (λ k. None)) (legs : ℕ → Option (Leg Errand)) (count : ℕ) (are : AreOpened records legs count)
+module _ (r : RoutesValue) (records : List OpenedRecord) (numbers : List ℕ) (calls : ℕ → Option Call) (no_calls : calls ≡ (λ k. None)) (legs : ℕ → Option (Leg Errand)) (count : ℕ) (are : AreOpened records numbers legs count)
     (since : Option ℕ) (since_is : since ≡ since_at (breaks_of r) 0) where
   rows_are : (f : State → rows.State) → f InSpool ≡ rows.InSpool → all_rows f calls legs since 0 count ≡ opened (since_at (breaks_of r) 0) records
   rows_are f spools =
@@ -222,11 +252,11 @@ module _ (r : RoutesValue) (records : List OpenedRecord) (calls : ℕ → Option
     era = since_is;
   }
 
-pub view : (r : RoutesValue) (records : List (ℕ × SpoolRecord)) (calls : ℕ → Option Call) → calls ≡ (λ k. None) → (legs : ℕ → Option (Leg Errand)) (count : ℕ) → AreOpened (known_records r.servers records) legs count
+pub view : (r : RoutesValue) (records : List (ℕ × SpoolRecord)) (calls : ℕ → Option Call) → calls ≡ (λ k. None) → (legs : ℕ → Option (Leg Errand)) (count : ℕ) → AreOpened (known_records r.servers records) (known_numbers r.servers records) legs count
     → (since : Option ℕ) → since ≡ since_at (breaks_of r) 0 → (flights : ℕ → Option ℕ) → ((s : ℕ) → flights s ≡ None) → (marks : ℕ → Mark) → ((s : ℕ) → marks s ≡ no_mark) → (v : CoreView)
     → v ≡ record { routes = r; rows = rows_of calls legs since 0 count; flights = flights; marks = marks; moment = 0; chapter = 0; entries = count } → v ≡ opened_view r records
 view r records calls no_calls legs count are since since_is flights none marks unmarked v is =
-    let same = rows_are r (known_records r.servers records) calls no_calls legs count are since since_is state_of refl in
+    let same = rows_are r (known_records r.servers records) (known_numbers r.servers records) calls no_calls legs count are since since_is state_of refl in
     let nowhere : flights ≡ (λ s. None) = fun_ext none in
     let no_marks : marks ≡ (λ s. no_mark) = fun_ext unmarked in
     let counted = are.counted in

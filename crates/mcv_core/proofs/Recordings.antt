@@ -2,18 +2,15 @@
 use Rattle.std.proofs.Common.{◌≡◌, ◌&&◌, not, cond, inl, inr, ℕ, zero, suc, ◌+◌, ◌-◌, ◌<◌, ◌≤◌, ◌^◌, Bool, true, false, nat_eq, nat_lt, List, [], ◌∷◌, ◌++◌, length, fold, Vec, Option, Some, None, option_map, refl, sym, ap, ◌∙◌, subst, arith, true≢false, length-append, vec_capacity}
 use Rattle.std.specs.declared.alloc.Global.{Global}
 use Rattle.std.specs.Prelude.{filter, is_some, slice_get, option_and_then}
-use Rattle.std.specs.List.{list_any}
 use Rattle.std.proofs.Math.Path.{fun_ext}
-use Rattle.std.proofs.lemmas.Bool.{cases_Bool, cases_eq, cases_lt, and_parts, lt-ltb}
+use Rattle.std.proofs.lemmas.Bool.{cases_Bool, cases_eq, lt-ltb}
 use Rattle.mcv_base.specs.declared.reply.Part.{Part}
 use Rattle.mcv_base.specs.Reply.{ReplyValue, outcome_of, part_value}
-use Rattle.mcv_plan.specs.declared.state.EvalState.{EvalState}
 use Rattle.mcv_core.specs.Tracked.{CanAdvance, IsTracked, Past, count as entry_count, fresh, history_by, is_sent, launch_at, places_from}
 use Rattle.mcv_queues.specs.declared.leg.Leg.{Leg}
 use Rattle.mcv_queues.specs.declared.leg.State.{State}
 use Rattle.mcv_queues.specs.declared.leg.State.TheVariants.{Waiting}
 use Rattle.mcv_route.specs.declared.launch.Launch.{Launch}
-use Rattle.mcv_route.specs.Launched.{launched}
 use Rattle.mcv_route.specs.Outcomes.{is_same, outcomes}
 use Rattle.mcv_route.specs.Routes.{RoutesValue}
 use Rattle.mcv_route.specs.Verdict.{Has}

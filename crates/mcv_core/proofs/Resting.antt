@@ -1,5 +1,5 @@
 -- The clock, and when no call runs and no leg is queued.
-use Rattle.std.proofs.Common.{◌≡◌, ◌⊎◌, ◌&&◌, cond, inl, inr, ℕ, zero, suc, ◌+◌, ◌<◌, ◌≤◌, Bool, true, false, nat_eq, Option, Some, None, option_map, refl, sym, ap, ◌∙◌, subst, arith, true≢false}
+use Rattle.std.proofs.Common.{◌≡◌, ◌&&◌, inl, inr, ℕ, zero, suc, ◌<◌, Bool, true, false, nat_eq, Option, Some, None, option_map, refl, sym, ap, ◌∙◌, subst, arith, true≢false}
 use Rattle.std.specs.Arc.{arc_value}
 use Rattle.std.specs.Prelude.{IfSome}
 use Rattle.std.proofs.lemmas.Bool.{cases_Bool, cases_lt}
@@ -11,12 +11,12 @@ use Rattle.mcv_queues.specs.declared.roots.Group.TheVariants.{LegsInReplay}
 use Rattle.mcv_queues.specs.Groups.{group_at, group_of, is_group, is_in}
 use Rattle.mcv_queues.specs.Legs.{is_flight, is_in_flight_to}
 use Rattle.mcv_queues.specs.Numbers.{IsLeast, names}
-use Rattle.mcv_queues.specs.Queues.{in_flight, legs, room, servers}
+use Rattle.mcv_queues.specs.Queues.{in_flight, legs}
 use Rattle.mcv_route.specs.Eras.{IsEra, breaks_of, since_at}
 use Rattle.mcv_route.specs.Routes.{RoutesValue}
 use Rattle.mcv_world.specs.Moves.{EraBegan}
 use Rattle.mcv_world.proofs.Choices.{moments_have_eras}
-use Rattle.mcv_world.proofs.Numbers.{same_some, no_some}
+use Rattle.mcv_world.proofs.Numbers.{no_some}
 use Rattle.mcv_events.specs.Rows as rows
 use Rattle.mcv_events.specs.Rows.{CallRow, IsCore, LegRow, Rows, world_of}
 use Rattle.mcv_events.specs.QueuedLegs.{count_in, count_of}
@@ -28,11 +28,11 @@ use Rattle.mcv_core.specs.declared.dispatcher.Dispatcher.{Dispatcher}
 use Rattle.mcv_core.specs.declared.errand.Errand.{Errand}
 use Rattle.mcv_core.specs.declared.turn.Era.{Era}
 use Rattle.mcv_core.specs.Calls.{calls_at}
-use Rattle.mcv_core.specs.CoreView.{CoreView, Does, IsQuiet, Unmoved}
-use Rattle.mcv_core.specs.Rows.{awaiting_rows, call_rows, row_by, rows_by, rows_of, state_of}
+use Rattle.mcv_core.specs.CoreView.{Does, IsQuiet}
+use Rattle.mcv_core.specs.Rows.{awaiting_rows, call_rows, row_by, rows_of, state_of}
 use Rattle.mcv_core.specs.Sound.{one, IsSound}
 use Rattle.mcv_core.specs.Turning.{IsAtRest, era_move, in_era}
-use Rattle.mcv_core.specs.View.{core_view, since_of}
+use Rattle.mcv_core.specs.View.{core_view}
 
 -- ---- the clock
 

@@ -1,5 +1,5 @@
 -- Legs that are sent, for the first time or from the spool.
-use Rattle.std.proofs.Common.{◌≡◌, ◌&&◌, cond, inl, inr, ℕ, Bool, true, false, nat_eq, Option, Some, None, option_map, refl, sym, ap, ◌∙◌, subst, true≢false}
+use Rattle.std.proofs.Common.{◌≡◌, ◌&&◌, cond, ℕ, Bool, true, false, nat_eq, Option, Some, None, option_map, refl, sym, ap, ◌∙◌, subst, true≢false}
 use Rattle.std.proofs.Common.{Result, Ok, Err}
 use Rattle.std.specs.Prelude.{IfErr, IfOk}
 use Rattle.std.specs.Arc.{arc_value}
@@ -13,10 +13,9 @@ use Rattle.mcv_queues.specs.declared.leg.Leg.{Leg}
 use Rattle.mcv_queues.specs.declared.leg.State.{State}
 use Rattle.mcv_queues.specs.declared.leg.State.TheVariants as states
 use Rattle.mcv_queues.specs.declared.queues.Queues.{Queues}
-use Rattle.mcv_queues.specs.declared.roots.Group.{Group}
 use Rattle.mcv_queues.specs.declared.roots.Group.TheVariants.{SpooledFor, WaitingFor}
 use Rattle.mcv_queues.specs.Groups.{group_at, group_of, is_group, is_in}
-use Rattle.mcv_queues.specs.Legs.{in_state as put_state, is_flight, is_in_flight_to, with_state}
+use Rattle.mcv_queues.specs.Legs.{is_flight, is_in_flight_to, with_state}
 use Rattle.mcv_queues.specs.Numbers.{IsLeast, names}
 use Rattle.mcv_queues.specs.Queues.{in_flight, legs, room, servers}
 use Rattle.mcv_world.specs.World.{put}
@@ -26,7 +25,7 @@ use Rattle.mcv_events.specs.Events.{in_state}
 use Rattle.mcv_events.proofs.EventsAreMoves.{states_are_no_moves}
 use Rattle.mcv_core.specs.declared.dispatcher.Dispatcher.{Dispatcher}
 use Rattle.mcv_core.specs.declared.errand.Errand.{Errand}
-use Rattle.mcv_core.specs.CoreView.{CoreView, Unmoved, in_row_state, is_spooled, is_waiting}
+use Rattle.mcv_core.specs.CoreView.{Unmoved, in_row_state, is_spooled, is_waiting}
 use Rattle.mcv_core.specs.Errands.{launch_of}
 use Rattle.mcv_core.specs.Rows.{row_by, state_of}
 use Rattle.mcv_core.specs.View.{core_view}

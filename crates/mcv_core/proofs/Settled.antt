@@ -1,5 +1,5 @@
 -- After a leg has left its state, and its call has recorded a reply of it.
-use Rattle.std.proofs.Common.{◌≡◌, cond, inl, inr, ℕ, suc, ◌+◌, ◌<◌, ◌≤◌, ◌^◌, Bool, true, false, nat_eq, Option, Some, None, option_map, refl, sym, ap, ◌∙◌, subst, arith, true≢false}
+use Rattle.std.proofs.Common.{◌≡◌, cond, inl, inr, ℕ, ◌+◌, ◌<◌, ◌≤◌, ◌^◌, Bool, true, false, Option, Some, None, option_map, refl, sym, ap, ◌∙◌, subst, arith}
 use Rattle.std.specs.Arc.{arc_value}
 use Rattle.std.specs.Prelude.{option_and_then, unwrap_or}
 use Rattle.std.proofs.Math.Path.{fun_ext}
@@ -27,13 +27,11 @@ use Rattle.mcv_core.specs.declared.errand.Errand.{Errand}
 use Rattle.mcv_core.specs.declared.settle.Settling.{Settling}
 use Rattle.mcv_core.specs.declared.settle.Settling.TheVariants as kinds
 use Rattle.mcv_core.specs.Calls.{CanNoteAt, IsRecordedAt, calls_at}
-use Rattle.mcv_core.specs.CoreView.{CoreView}
 use Rattle.mcv_core.specs.Errands.{launch_of}
 use Rattle.mcv_core.specs.Noting.{HasRecorded}
-use Rattle.mcv_core.specs.Rows.{awaiting_state, call_of, call_row, row_by, rows_of, state_of}
+use Rattle.mcv_core.specs.Rows.{call_of, call_row, row_by, rows_of, state_of}
 use Rattle.mcv_core.specs.Settling.{HasCounted, flights_to, freed_by, is_gone, is_settling, is_storing_leg, row_to, settled_row, settled_to}
 use Rattle.mcv_core.specs.Sound.{spooled_in, spooled_one, IsSound}
-use Rattle.mcv_core.specs.Tracked.{launch_at}
 use Rattle.mcv_core.specs.View.{CanSettle, core_view, has_settled, since_of}
 use Rattle.mcv_core.proofs.LegViews as views
 use Rattle.mcv_core.proofs.Settlements
@@ -44,22 +42,22 @@ use Rattle.mcv_core.proofs.States
 
 settles_by : (l : Leg Errand) (to : Settling) → (is_gone to ≡ false → is_counted_delete (leg_of (row_by state_of l)) ≡ true) → Settles l (settled_to to (Some l))
 settles_by l kinds.Gone h = inl refl
-settles_by l kinds.InSpool h = inr (record { state = states.InSpool; is = refl; shut = refl; shut_too = refl; counted = h refl })
-settles_by l kinds.Refused h = inr (record { state = states.Refused; is = refl; shut = refl; shut_too = refl; counted = h refl })
+settles_by l (kinds.InSpool seq) h = inr (record { state = states.InSpool; seq = Some seq; is = refl; shut = refl; shut_too = refl; counted = h refl })
+settles_by l kinds.Refused h = inr (record { state = states.Refused; seq = l.«record»; is = refl; shut = refl; shut_too = refl; counted = h refl })
 
 row_is_to : (l : Leg Errand) (to : Settling) → option_map (row_by state_of) (settled_to to (Some l)) ≡ row_to to (row_by state_of l)
 row_is_to l kinds.Gone = refl
-row_is_to l kinds.InSpool = refl
+row_is_to l (kinds.InSpool seq) = refl
 row_is_to l kinds.Refused = refl
 
 counts_to : (l : Leg Errand) (to : Settling) → count_of (option_map (row_by state_of) (settled_to to (Some l))) + is_settling to ≡ 1
 counts_to l kinds.Gone = refl
-counts_to l kinds.InSpool = refl
+counts_to l (kinds.InSpool seq) = refl
 counts_to l kinds.Refused = refl
 
 stores_to : (l : Leg Errand) (to : Settling) → spooled_one (option_map (row_by state_of) (settled_to to (Some l))) ≡ is_storing_leg to
 stores_to l kinds.Gone = refl
-stores_to l kinds.InSpool = refl
+stores_to l (kinds.InSpool seq) = refl
 stores_to l kinds.Refused = refl
 
 unspooled : (t : rows.State) → count_in t ≡ 1 → spooled_in t ≡ 0
@@ -92,7 +90,7 @@ removed calls calls2 calls3 k c ended two three = three ∙ by_cases ended
 flies_to : (d : Dispatcher) (n : ℕ) (l : Leg Errand) (at : legs d.queues n ≡ Some l) (to : Settling) → is_flight l.state ≡ is_gone to → (flights2 : ℕ → Option ℕ)
     → ((m : ℕ) → flights2 m ≡ cond (is_in_flight_to m (legs d.queues n)) None (in_flight d.queues m)) → flights2 ≡ flights_to to (in_flight d.queues) (launch_of l.content).server.0
 flies_to d n l at kinds.Gone flies flights2 e = views.flights_landed d n l at flies flights2 e
-flies_to d n l at kinds.InSpool flies flights2 e = views.flights_stay d n l at flies flights2 e
+flies_to d n l at (kinds.InSpool seq) flies flights2 e = views.flights_stay d n l at flies flights2 e
 flies_to d n l at kinds.Refused flies flights2 e = views.flights_stay d n l at flies flights2 e
 
 module _ (d : Dispatcher) (n : ℕ) (to : Settling) (can : CanSettle d n to) where

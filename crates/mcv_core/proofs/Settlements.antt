@@ -1,14 +1,13 @@
 -- A leg is done with, spooled or refused, and its call records a reply of it.
-use Rattle.std.proofs.Common.{◌≡◌, ◌⊎◌, cond, inl, inr, ℕ, suc, ◌+◌, ◌-◌, ◌<◌, ◌≤◌, ◌^◌, Bool, true, false, nat_eq, is_none, length, List, Option, Some, None, option_map, refl, sym, ap, ◌∙◌, subst, arith, true≢false}
-use Rattle.std.specs.Prelude.{filter, is_some, not, slice_get}
+use Rattle.std.proofs.Common.{◌≡◌, ◌⊎◌, cond, inl, inr, ℕ, ◌+◌, ◌<◌, ◌≤◌, Bool, true, false, nat_eq, is_none, length, List, Option, Some, None, option_map, refl, sym, ap, ◌∙◌, subst, arith, true≢false}
+use Rattle.std.specs.Prelude.{filter, is_some, slice_get}
 use Rattle.std.proofs.Math.Path.{fun_ext}
-use Rattle.std.proofs.lemmas.Bool.{cases_Bool, cases_eq, cases_lt}
+use Rattle.std.proofs.lemmas.Bool.{cases_eq, cases_lt}
 use Rattle.mcv_base.specs.Reply.{ReplyValue, outcome_of}
 use Rattle.mcv_core.specs.Tracked.{launch_at}
 use Rattle.mcv_queues.specs.declared.leg.Leg.{Leg}
 use Rattle.mcv_queues.specs.declared.leg.State.{State}
 use Rattle.mcv_queues.specs.declared.leg.State.TheVariants as states
-use Rattle.mcv_queues.specs.Legs.{in_state as put_state}
 use Rattle.mcv_route.specs.declared.launch.Launch.{Launch}
 use Rattle.mcv_route.specs.Outcomes.{is_same, outcomes}
 use Rattle.mcv_route.specs.Routes.{RoutesValue}
@@ -17,7 +16,7 @@ use Rattle.mcv_world.specs.World.{history_of, is_counted_delete, put}
 use Rattle.mcv_world.specs.Live.{has_ended}
 use Rattle.mcv_world.specs.Moves.{has_no_outcome, is_one, with_reply}
 use Rattle.mcv_world.proofs.Numbers.{same_some, no_some, put_same, put_other, put_cases}
-use Rattle.mcv_events.specs.Entries.{is_due, is_launched}
+use Rattle.mcv_events.specs.Entries.{is_due}
 use Rattle.mcv_events.specs.Rows as rows
 use Rattle.mcv_events.specs.Rows.{CallRow, LegRow, Rows, IsCore, CanRecord, awaits, is_unanswered, leg_of, queued_rows, recorded_row, recorded_rows, with_leg_row}
 use Rattle.mcv_events.specs.QueuedLegs.{count_in, count_of, queued_legs}
@@ -33,18 +32,19 @@ use Rattle.mcv_core.specs.declared.call.Recording.{Recording}
 use Rattle.mcv_core.specs.declared.errand.Errand.{Errand}
 use Rattle.mcv_core.specs.Errands.{launch_of}
 use Rattle.mcv_core.specs.Noting.{AreAddressed, HasRecorded}
-use Rattle.mcv_core.specs.Rows.{all_rows, awaiting_rows, awaiting_state, call_of, call_row, call_rows, entries_of, row_by, rows_by, rows_of, state_of, IsRunning}
+use Rattle.mcv_core.specs.Rows.{all_rows, awaiting_state, call_of, call_row, call_rows, entries_of, row_by, rows_by, rows_of, state_of, IsRunning}
 use Rattle.mcv_core.specs.Sound.{one, spooled_in, spooled_one, IsSound}
 use Rattle.mcv_core.proofs.Launches.{get_below}
 use Rattle.mcv_core.proofs.Places.{put_rows}
 use Rattle.mcv_core.proofs.Tracking.{at_launch, there_at}
 use Rattle.mcv_core.proofs.SpooledLegs.{spooled_stays}
-use Rattle.mcv_core.proofs.States.{rows_put}
+use Rattle.mcv_core.proofs.States.{rows_put, stays_as}
 
 -- what a leg becomes: nothing, or itself in a state in which it isn't unanswered, where it is a counted delete's
 pub record Stays (l : Leg Errand) (o : Option (Leg Errand)) : Type 0 where
   pub state : State
-  pub is : o ≡ Some (put_state state l)
+  pub seq : Option ℕ
+  pub is : o ≡ Some (stays_as state seq l)
   pub shut : is_unanswered (state_of state) ≡ false
   pub shut_too : is_unanswered (awaiting_state state) ≡ false
   pub counted : is_counted_delete (leg_of (row_by state_of l)) ≡ true
@@ -120,7 +120,7 @@ module _ (r : RoutesValue) (calls : ℕ → Option Call) (legs : ℕ → Option 
       elim settles [
         | inl gone ↦ no_some (sym (ap (option_map (row_by f)) gone) ∙ e)
         | inr stays ↦
-            let same : row_by f (put_state stays.state l) ≡ s = same_some (sym (ap (option_map (row_by f)) stays.is) ∙ e) in
+            let same : row_by f (stays_as stays.state stays.seq l) ≡ s = same_some (sym (ap (option_map (row_by f)) stays.is) ∙ e) in
             true≢false (sym t ∙ ap (λ v. is_unanswered v.state) (sym same) ∙ view.shuts stays.state stays.shut stays.shut_too)
       ]
 
@@ -239,9 +239,9 @@ module _ (r : RoutesValue) (calls : ℕ → Option Call) (legs : ℕ → Option 
                     elim settles [
                       | inl gone ↦ no_some (sym (ap (option_map (row_by awaiting_state)) gone) ∙ q.1)
                       | inr stays ↦
-                          let same : row_by awaiting_state (put_state stays.state l) ≡ s = same_some (sym (ap (option_map (row_by awaiting_state)) stays.is) ∙ q.1) in
+                          let same : row_by awaiting_state (stays_as stays.state stays.seq l) ≡ s = same_some (sym (ap (option_map (row_by awaiting_state)) stays.is) ∙ q.1) in
                           subst (λ (v : LegRow). awaits (call_rows calls2) v v.call ≡ false) same
-                          (ap (awaits (call_rows calls2) (row_by awaiting_state (put_state stays.state l))) own ∙ at_call (row_by awaiting_state (put_state stays.state l)) own_recorded)
+                          (ap (awaits (call_rows calls2) (row_by awaiting_state (stays_as stays.state stays.seq l))) own ∙ at_call (row_by awaiting_state (stays_as stays.state stays.seq l)) own_recorded)
                     ]
                 | inr q ↦ less_awaited s s.call (i.refused m s q.1 held)
               ]
@@ -265,7 +265,7 @@ module _ (r : RoutesValue) (calls : ℕ → Option Call) (legs : ℕ → Option 
           | inl q ↦
               elim settles [
                 | inl gone ↦ no_some (sym gone ∙ q.1)
-                | inr stays ↦ let same : put_state stays.state l ≡ z = same_some (sym stays.is ∙ q.1) in subst (λ (v : Leg Errand). v.server ≡ (launch_of v.content).server) same (i.addressed n l at)
+                | inr stays ↦ let same : stays_as stays.state stays.seq l ≡ z = same_some (sym stays.is ∙ q.1) in subst (λ (v : Leg Errand). v.server ≡ (launch_of v.content).server) same (i.addressed n l at)
               ]
           | inr q ↦ i.addressed m z q.1
         ]

@@ -1,5 +1,5 @@
 -- How many legs are in the spool.
-use Rattle.std.proofs.Common.{◌≡◌, cond, ℕ, suc, ◌+◌, ◌<◌, Bool, true, false, List, [], ◌∷◌, length, Option, Some, ap, arith}
+use Rattle.std.proofs.Common.{◌≡◌, cond, ℕ, suc, ◌+◌, Bool, true, false, List, [], ◌∷◌, length, Option, Some, ap, arith}
 use Rattle.std.specs.Prelude.{filter}
 use Rattle.mcv_route.specs.declared.launch.Launch.{Launch}
 use Rattle.mcv_world.specs.World.{put}

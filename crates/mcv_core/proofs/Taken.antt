@@ -1,14 +1,14 @@
 -- A call's reply is taken.
-use Rattle.std.proofs.Common.{◌≡◌, ◌&&◌, ◌||◌, not, cond, inl, inr, ℕ, zero, suc, ◌+◌, ◌-◌, ◌<◌, ◌≤◌, Bool, true, false, nat_eq, List, [], ◌∷◌, fold, length, map, Option, Some, None, option_map, refl, sym, ap, ◌∙◌, subst, arith, true≢false}
+use Rattle.std.proofs.Common.{◌≡◌, ◌&&◌, ◌||◌, not, cond, inl, inr, ℕ, suc, ◌+◌, ◌-◌, ◌<◌, ◌≤◌, Bool, true, false, nat_eq, List, [], ◌∷◌, fold, length, map, Option, Some, None, option_map, refl, sym, ap, ◌∙◌, subst, arith, true≢false}
 use Rattle.std.specs.Arc.{arc_value}
-use Rattle.std.specs.Prelude.{filter, is_none, is_some, option_and_then, slice_get}
+use Rattle.std.specs.Prelude.{filter, is_some, option_and_then}
 use Rattle.std.proofs.Math.Logic.{∥∥₁_elim}
 use Rattle.std.proofs.Math.Path.{fun_ext}
 use Rattle.std.proofs.Props.{props}
 use Rattle.std.proofs.lemmas.Bool.{cases_Bool, cases_eq, cases_lt}
 use Rattle.mcv_base.specs.declared.operation.Op.{Op}
 use Rattle.mcv_base.specs.declared.reply.Part.{Part}
-use Rattle.mcv_base.specs.Reply.{ReplyValue, fixed_value, outcome_of, part_value}
+use Rattle.mcv_base.specs.Reply.{fixed_value, outcome_of, part_value}
 use Rattle.mcv_plan.specs.declared.answer.Answer.{Answer}
 use Rattle.mcv_plan.specs.declared.answer.Source.{Source}
 use Rattle.mcv_plan.specs.declared.answer.Source.TheVariants.{Entry, Fixed}
@@ -55,9 +55,9 @@ use Rattle.mcv_core.specs.Calls.{calls_at}
 use Rattle.mcv_core.specs.CoreView.{Moved}
 use Rattle.mcv_core.specs.Launching.{places_of}
 use Rattle.mcv_core.specs.Noting.{has_ended_by}
-use Rattle.mcv_core.specs.Rows.{all_rows, awaiting_rows, awaiting_state, call_of, call_row, call_rows, entries_of, has_outcome, past_next, past_of, recorded_all, recorded_next, rows_by, rows_of, state_of, taken_at, IsRunning}
+use Rattle.mcv_core.specs.Rows.{all_rows, awaiting_state, call_of, call_row, call_rows, entries_of, has_outcome, past_next, past_of, recorded_next, rows_by, rows_of, state_of, taken_at, IsRunning}
 use Rattle.mcv_core.specs.Sound.{one, IsSound}
-use Rattle.mcv_core.specs.Taking.{AreKept, HasTaken, IsTakenAt, kept_of, source_reply}
+use Rattle.mcv_core.specs.Taking.{HasTaken, IsTakenAt, kept_of, source_reply}
 use Rattle.mcv_core.specs.Tracked.{IsTracked, Past, history_by, launch_at}
 use Rattle.mcv_core.specs.View.{core_view, since_of}
 use Rattle.mcv_core.proofs.Passing.{all_by_count, count, count_both}

@@ -21,16 +21,16 @@ use Rattle.mcv_core.specs.declared.run.Event.TheVariants as event
 abbrev pub Beginning : Type 0
 Beginning = (Request × ℕ) × ℕ
 
-abbrev pub number_told : Answer → Option ℕ
-number_told (answer.Call call) = Some call.0
-number_told (answer.Leg leg) = None
-number_told (answer.Place place) = None
-number_told (answer.Reply reply) = None
-number_told answer.Done = None
-number_told (answer.Refused fault) = None
+abbrev pub begun_call : Answer → Option ℕ
+begun_call (answer.Call call) = Some call.0
+begun_call (answer.Leg leg) = None
+begun_call (answer.Place place) = None
+begun_call (answer.Reply reply) = None
+begun_call answer.Done = None
+begun_call (answer.Refused fault) = None
 
 abbrev pub beginning_of : Event → Answer → Option Beginning
-beginning_of (event.Begin request key) a = option_map (λ k. ((arc_value request, key), k)) (number_told a)
+beginning_of (event.Begin request key) a = option_map (λ k. ((arc_value request, key), k)) (begun_call a)
 beginning_of (event.Next server) a = None
 beginning_of (event.Answered leg reply) a = None
 beginning_of (event.Lost leg) a = None
@@ -43,13 +43,13 @@ beginning_of (event.Clock moment) a = None
 beginning_of event.Turn a = None
 beginning_of (event.Take call) a = None
 
-abbrev pub reply_told : Answer → Option Part
-reply_told (answer.Call call) = None
-reply_told (answer.Leg leg) = None
-reply_told (answer.Place place) = None
-reply_told (answer.Reply reply) = reply
-reply_told answer.Done = None
-reply_told (answer.Refused fault) = None
+abbrev pub taken_reply : Answer → Option Part
+taken_reply (answer.Call call) = None
+taken_reply (answer.Leg leg) = None
+taken_reply (answer.Place place) = None
+taken_reply (answer.Reply reply) = reply
+taken_reply answer.Done = None
+taken_reply (answer.Refused fault) = None
 
 -- the number of a call, and its reply, taken by this event
 abbrev pub taking_of : Event → Answer → Option (ℕ × ReplyValue)
@@ -64,7 +64,7 @@ taking_of (event.Mark server) a = None
 taking_of (event.Unmark server) a = None
 taking_of (event.Clock moment) a = None
 taking_of event.Turn a = None
-taking_of (event.Take call) a = option_map (λ part. (call.0, part_value part)) (reply_told a)
+taking_of (event.Take call) a = option_map (λ part. (call.0, part_value part)) (taken_reply a)
 
 -- one of the events, with its answer, passes
 pub record Happened (events : List Event) (answers : List Answer) (P : Event → Answer → Type 0) : Type 0 where

@@ -1,5 +1,5 @@
 -- What the core looks at of a leg (own).
-use Rattle.std.specs.Prelude.{◌&&◌, Bool, false, Option, Some, None, option_map}
+use Rattle.std.specs.Prelude.{◌&&◌, ℕ, Bool, false, Option, Some, None, option_and_then, option_map}
 use Rattle.mcv_base.specs.declared.operation.Mark.{Mark}
 use Rattle.mcv_base.specs.declared.operation.Op.{Op}
 use Rattle.mcv_base.specs.Operation.{is_counting, is_delete}
@@ -25,6 +25,14 @@ facts_of l = record {
 -- the state of the leg that is there
 abbrev pub state_in : Option (Leg Errand) → Option State
 state_in o = option_map (λ l. l.state) o
+
+-- the number of the leg's record in the spool; None until it is stored there
+abbrev pub record_in : Option (Leg Errand) → Option ℕ
+record_in o = option_and_then (λ l. l.«record») o
+
+-- the same of each leg
+abbrev pub records_in : (ℕ → Option (Leg Errand)) → ℕ → Option ℕ
+records_in legs n = record_in (legs n)
 
 -- it is a counted delete
 abbrev pub counts_in : Option (Leg Errand) → Bool

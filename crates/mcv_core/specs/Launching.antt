@@ -20,7 +20,7 @@ abbrev pub places_of : List Entry → ℕ → Option ℕ
 places_of entries e = option_and_then (λ x. x.place) (slice_get entries e)
 
 abbrev pub waiting_leg : Errand → Leg Errand
-waiting_leg e = record { server = (launch_of e).server; state = Waiting; content = e }
+waiting_leg e = record { server = (launch_of e).server; state = Waiting; «record» = None; content = e }
 
 -- the legs of these entries wait under the numbers from n on
 abbrev pub with_legs : ℕ → List ℕ → List Entry → (ℕ → Option (Leg Errand)) → ℕ → Option (Leg Errand)

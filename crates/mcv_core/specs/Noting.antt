@@ -1,7 +1,7 @@
 -- A call that records a reply (own).
-use Rattle.std.specs.Prelude.{◌≡◌, ◌<◌, ◌≤◌, ◌+◌, ◌-◌, ◌^◌, ◌&&◌, not, nat_eq, ℕ, Bool, List, [], ◌∷◌, ◌++◌, Some, None, Option, length, filter, vec_capacity}
+use Rattle.std.specs.Prelude.{◌≡◌, ◌<◌, ◌≤◌, ◌+◌, ◌-◌, ◌^◌, ◌&&◌, not, nat_eq, ℕ, Bool, [], ◌∷◌, ◌++◌, Some, None, Option, length, filter, vec_capacity}
 use Rattle.mcv_base.specs.declared.reply.Part.{Part}
-use Rattle.mcv_base.specs.Reply.{ReplyValue, part_value}
+use Rattle.mcv_base.specs.Reply.{ReplyValue}
 use Rattle.mcv_core.specs.Tracked.{launch_at}
 use Rattle.mcv_queues.specs.declared.leg.Leg.{Leg}
 use Rattle.mcv_queues.specs.declared.leg.State.{State}

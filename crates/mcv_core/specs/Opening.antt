@@ -17,6 +17,7 @@ use Rattle.mcv_events.specs.Runs.{OpenedRecord, opened, spooled_row}
 use Rattle.mcv_core.specs.CoreView.{CoreView}
 use Rattle.mcv_core.specs.declared.errand.Errand.{Errand}
 use Rattle.mcv_core.specs.Errands.{launch_of, rest_of}
+use Rattle.mcv_core.specs.Facts.{records_in}
 use Rattle.mcv_core.specs.Noting.{AreAddressed}
 use Rattle.mcv_core.specs.Rows.{rows_by}
 
@@ -28,6 +29,15 @@ with_server (Some server) rest all = (server, rest) ∷ all
 abbrev pub known_records : List (List ℕ) → List (ℕ × SpoolRecord) → List OpenedRecord
 known_records servers [] = []
 known_records servers (x ∷ records) = with_server (number_in bytes_eq servers x.1.server) x.1.rest (known_records servers records)
+
+abbrev pub with_number : Option ℕ → ℕ → List ℕ → List ℕ
+with_number None seq all = all
+with_number (Some server) seq all = seq ∷ all
+
+-- their numbers
+abbrev pub known_numbers : List (List ℕ) → List (ℕ × SpoolRecord) → List ℕ
+known_numbers servers [] = []
+known_numbers servers (x ∷ records) = with_number (number_in bytes_eq servers x.1.server) x.0 (known_numbers servers records)
 
 -- nothing in flight, no mark, at moment 0 of chapter 0
 abbrev pub opened_view : RoutesValue → List (ℕ × SpoolRecord) → CoreView
@@ -48,8 +58,10 @@ pub record IsOpenedErrand (server : ServerId) (rest : List ℕ) (e : Errand) : T
   pub launch : launch_of e ≡ record { position = []; server = server; op = Delete; mark = Plain }
   pub rest_is : rest_of e ≡ rest
 
--- the legs are those of these records, numbered from 0 in their order
-pub record AreOpened (records : List OpenedRecord) (legs : ℕ → Option (Leg Errand)) (count : ℕ) : Type 0 where
+-- the legs are those of these records, numbered from 0 in their order, and have the numbers of these records
+pub record AreOpened (records : List OpenedRecord) (numbers : List ℕ) (legs : ℕ → Option (Leg Errand)) (count : ℕ) : Type 0 where
   pub rows_are : (f : State → rows.State) → f InSpool ≡ rows.InSpool → (n : ℕ) → rows_by f legs n ≡ option_map spooled_row (slice_get records n)
   pub addressed : AreAddressed legs
   pub counted : count ≡ length records
+  pub numbered : (n : ℕ) → records_in legs n ≡ slice_get numbers n
+  pub all_numbered : length numbers ≡ count

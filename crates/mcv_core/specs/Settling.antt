@@ -3,8 +3,8 @@ use Rattle.std.specs.Prelude.{◌≡◌, ◌+◌, ℕ, Bool, true, false, Option
 use Rattle.mcv_base.specs.Reply.{ReplyValue}
 use Rattle.mcv_queues.specs.declared.leg.Leg.{Leg}
 use Rattle.mcv_queues.specs.declared.leg.State.TheVariants as states
-use Rattle.mcv_queues.specs.Legs.{in_state as put_state}
-use Rattle.mcv_world.specs.World.{is_counted_delete, put}
+use Rattle.mcv_queues.specs.Legs.{in_state as put_state, stored_as}
+use Rattle.mcv_world.specs.World.{put}
 use Rattle.mcv_events.specs.Rows as rows
 use Rattle.mcv_events.specs.Rows.{LegRow, leg_of, with_leg_row}
 use Rattle.mcv_events.specs.Events.{in_state, recorded_rows_for}
@@ -17,17 +17,17 @@ use Rattle.mcv_core.specs.CoreView.{CoreView}
 
 abbrev pub is_gone : Settling → Bool
 is_gone to.Gone = true
-is_gone to.InSpool = false
+is_gone (to.InSpool seq) = false
 is_gone to.Refused = false
 
 abbrev pub is_settling : Settling → ℕ
 is_settling to.Gone = 1
-is_settling to.InSpool = 1
+is_settling (to.InSpool seq) = 1
 is_settling to.Refused = 0
 
 abbrev pub is_storing_leg : Settling → ℕ
 is_storing_leg to.Gone = 0
-is_storing_leg to.InSpool = 1
+is_storing_leg (to.InSpool seq) = 1
 is_storing_leg to.Refused = 0
 
 abbrev pub freed_by : Recording → ℕ
@@ -42,18 +42,24 @@ pub record HasCounted (old : Counts) (to : Settling) (step : Recording) (new : C
 
 abbrev pub settled_to : Settling → Option (Leg Errand) → Option (Leg Errand)
 settled_to to.Gone o = None
-settled_to to.InSpool o = option_map (put_state states.InSpool) o
+settled_to (to.InSpool seq) o = option_map (stored_as seq) o
 settled_to to.Refused o = option_map (put_state states.Refused) o
+
+-- the numbers of the legs' records in the spool then
+abbrev pub records_to : Settling → ℕ → (ℕ → Option ℕ) → ℕ → Option ℕ
+records_to to.Gone n records = put records n None
+records_to (to.InSpool seq) n records = put records n (Some seq)
+records_to to.Refused n records = records
 
 abbrev pub row_to : Settling → LegRow → Option LegRow
 row_to to.Gone s = None
-row_to to.InSpool s = Some (in_state s rows.InSpool)
+row_to (to.InSpool seq) s = Some (in_state s rows.InSpool)
 row_to to.Refused s = Some (in_state s rows.Held)
 
 -- what is in flight to each server then
 abbrev pub flights_to : Settling → (ℕ → Option ℕ) → ℕ → ℕ → Option ℕ
 flights_to to.Gone flights server = put flights server None
-flights_to to.InSpool flights server = flights
+flights_to (to.InSpool seq) flights server = flights
 flights_to to.Refused flights server = flights
 
 abbrev pub settled_row : CoreView → ℕ → Settling → ReplyValue → Option LegRow → CoreView

@@ -19,7 +19,7 @@ use Rattle.mcv_spool.specs.declared.record.Stored.{Stored}
 use Rattle.mcv_world.specs.Kept.{Kept}
 use Rattle.mcv_world.specs.Laws.{IsWorld}
 use Rattle.mcv_world.specs.Live.{live_of}
-use Rattle.mcv_world.specs.Moves.{Move, Began, Taken, is_move, run}
+use Rattle.mcv_world.specs.Moves.{Move, Began, Taken, after, is_move, run}
 use Rattle.mcv_world.specs.World.{World, reply_of}
 use Rattle.mcv_events.specs.Rows.{world_of}
 use Rattle.mcv_symbolic.specs.Covered.{AreCovered}
@@ -33,7 +33,6 @@ use Rattle.mcv_core.specs.declared.run.Answer.{Answer}
 use Rattle.mcv_core.specs.declared.run.Answer.TheVariants as answer
 use Rattle.mcv_core.specs.declared.run.Event.{Event}
 use Rattle.mcv_core.specs.declared.run.Event.TheVariants as event
-use Rattle.mcv_core.specs.declared.step.Change.{Change}
 use Rattle.mcv_core.specs.declared.step.Step.{Step as Done}
 use Rattle.mcv_core.specs.declared.turn.Era.{Era}
 
@@ -87,16 +86,20 @@ pub record DeletesAreKept (chosen : SymbolValue → List ℕ → ℕ) (start : C
   pub acknowledged : AnsweredCallsAreKept start.routes chosen events answers (run start.routes (world_of start.rows) moves)
   pub live : live_of start.routes (run start.routes (world_of start.rows) moves) ≡ world_of w.rows
 
--- the core keeps what is left of a world in which deletes are kept
-pub record KeepsDeletes (v : CoreView) : Type 0 where
-  pub world : World
+-- deletes are kept in this world, and the core keeps what is left of it
+pub record KeepsDeletes (v : CoreView) (world : World) : Type 0 where
   pub is : IsWorld v.routes world
   pub live : live_of v.routes world ≡ world_of v.rows
   pub kept : Kept v.routes world
 
--- one event at a time
+-- a world after what may be a move
+abbrev pub after_event : RoutesValue → World → Option Move → World
+after_event r world None = world
+after_event r world (Some m) = after r world m
+
+-- one event at a time: the world before it and its move give the world after it, so a call stays in it that the core has forgotten
 abbrev pub EventsKeepDeletes : Type 0
-EventsKeepDeletes = (v w : CoreView) (m : Option Move) → AreCovered v.routes → KeepsDeletes v → Does v w m → KeepsDeletes w
+EventsKeepDeletes = (v w : CoreView) (m : Option Move) (world : World) → AreCovered v.routes → KeepsDeletes v world → Does v w m → KeepsDeletes w (after_event v.routes world m)
 
 abbrev pub OpenedCoresKeepDeletes : Type 0
-OpenedCoresKeepDeletes = (r : RoutesValue) (records : List (ℕ × SpoolRecord)) → AreCovered r → KeepsDeletes (opened_view r records)
+OpenedCoresKeepDeletes = (r : RoutesValue) (records : List (ℕ × SpoolRecord)) → AreCovered r → KeepsDeletes (opened_view r records) (world_of (opened_view r records).rows)

@@ -1,5 +1,5 @@
 -- A call's reply is taken (own).
-use Rattle.std.specs.Prelude.{◌≡◌, ◌||◌, ℕ, Bool, List, Option, Some, None, Vec, cond, is_some, map, option_and_then, option_map, vec_capacity}
+use Rattle.std.specs.Prelude.{◌≡◌, ◌||◌, ℕ, Option, Some, None, Vec, cond, is_some, map, option_and_then, option_map, vec_capacity}
 use Rattle.std.specs.declared.alloc.Global.{Global}
 use Rattle.mcv_base.specs.declared.reply.Part.{Part}
 use Rattle.mcv_base.specs.Reply.{ReplyValue, fixed_value, part_value}

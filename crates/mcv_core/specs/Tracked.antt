@@ -7,7 +7,6 @@ use Rattle.mcv_route.specs.Outcomes.{Choice, History, Outcomes, is_same, outcome
 use Rattle.mcv_route.specs.Situation.{Situation}
 use Rattle.mcv_route.specs.Tree.{Tree}
 use Rattle.mcv_route.specs.Verdict.{Has}
-use Rattle.mcv_plan.specs.declared.answer.Answer.{Answer}
 use Rattle.mcv_plan.specs.declared.state.EvalState.{EvalState}
 use Rattle.mcv_plan.specs.Evaluation.{IsAfter, leg_at, legs_count, shape}
 use Rattle.mcv_plan.specs.Laws.{Evaluates, IsLaidOut, history_at}

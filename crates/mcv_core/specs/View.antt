@@ -1,5 +1,5 @@
 -- What contracts see of the dispatcher (own).
-use Rattle.std.specs.Prelude.{◌≡◌, ℕ, true, false, Option, Some, option_map}
+use Rattle.std.specs.Prelude.{◌≡◌, ℕ, true, false, Option, Some, None, option_map}
 use Rattle.std.specs.Arc.{arc_value}
 use Rattle.mcv_base.specs.Reply.{ReplyValue}
 use Rattle.mcv_queues.specs.Queues.{in_flight, legs}
@@ -7,17 +7,20 @@ use Rattle.mcv_queues.specs.Marks.{marks}
 use Rattle.mcv_queues.specs.Legs.{is_flight}
 use Rattle.mcv_queues.specs.declared.leg.Leg.{Leg}
 use Rattle.mcv_world.specs.Moves.{has_no_outcome}
-use Rattle.mcv_world.specs.World.{is_counted_delete}
+use Rattle.mcv_world.specs.World.{is_counted_delete, put}
 use Rattle.mcv_events.specs.QueuedLegs.{count_in}
 use Rattle.mcv_events.specs.Rows.{leg_of}
 use Rattle.mcv_core.specs.Calls.{calls_at}
 use Rattle.mcv_core.specs.CoreView.{CoreView}
+use Rattle.mcv_core.specs.Facts.{records_in}
 use Rattle.mcv_core.specs.Rows.{call_of, row_by, rows_of, state_of}
 use Rattle.mcv_core.specs.Settling.{is_gone, settled_view}
 use Rattle.mcv_core.specs.declared.call.Call.{Call}
 use Rattle.mcv_core.specs.declared.errand.Errand.{Errand}
 use Rattle.mcv_core.specs.declared.dispatcher.Dispatcher.{Dispatcher}
 use Rattle.mcv_core.specs.declared.settle.Settling.{Settling}
+use Rattle.mcv_core.specs.declared.step.Place.{Place}
+use Rattle.mcv_core.specs.declared.step.Place.TheVariants as places
 
 abbrev pub since_of : Dispatcher → Option ℕ
 since_of d = option_map (λ m. m.0) d.since
@@ -32,6 +35,19 @@ core_view d = record {
   chapter = d.chapter;
   entries = d.entries;
 }
+
+-- of each leg the number of its record in the spool; None until it is stored there
+abbrev pub records_of : Dispatcher → ℕ → Option ℕ
+records_of d = records_in (legs d.queues)
+
+-- the same after an event that leads its leg to this place: a leg that is there keeps its record, and no other one changes
+abbrev pub records_after : Place → ℕ → (ℕ → Option ℕ) → ℕ → Option ℕ
+records_after places.Waiting n records = records
+records_after places.Sent n records = records
+records_after places.Held n records = records
+records_after places.Spooled n records = records
+records_after places.Performed n records = put records n None
+records_after places.Gone n records = put records n None
 
 -- the leg is there, and its call runs and has no outcome for it; it is in flight exactly where it is to be done with
 pub record CanSettle (d : Dispatcher) (n : ℕ) (to : Settling) : Type 0 where

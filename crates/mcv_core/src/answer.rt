@@ -1,13 +1,13 @@
 //! Legs in flight are answered and lost.
 
-ghost use Rattle.std.specs.Prelude.{◌≡◌, ◌&&◌, not, cond, true, false, Some, IfOk, IfErr, option_map};
+ghost use Rattle.std.specs.Prelude.{◌≡◌, ◌&&◌, not, cond, true, false, Some, IfOk, IfErr, OnErr, option_map};
 ghost use Rattle.mcv_base.specs.Operation.{is_delete};
 ghost use Rattle.mcv_base.specs.Reply.{fixed_value, part_value};
 ghost use Rattle.mcv_queues.specs.Legs.{is_flight, is_in_flight};
 ghost use Rattle.mcv_queues.specs.Queues.{legs};
 ghost use Rattle.mcv_core.specs.CoreView.{Does, HasDone, HasEffect, answer_at, at_row, change_move, finished, held, landing_at, loss_at, replayed_in, sent_in};
 ghost use Rattle.mcv_core.specs.Facts.{counts_in, facts_of as facts_seen, state_in};
-ghost use Rattle.mcv_core.specs.View.{core_view};
+ghost use Rattle.mcv_core.specs.View.{core_view, records_after, records_of};
 ghost use Rattle.mcv_base.specs.declared.reply.FixedReply.TheVariants.{Lost as LostReply};
 ghost use Rattle.mcv_core.specs.declared.step.Place.TheVariants as places;
 
@@ -25,6 +25,8 @@ impl Dispatcher {
     pub fn answered(&mut self, leg: LegId, parts: Parts) -> Result<Step, CoreFault>
         ensures effect { HasEffect (answer_at (core_view self.old) leg.0 parts) (core_view self.old) (core_view self.new) result }
         ensures does { IfOk result (λ step. Does (core_view self.old) (core_view self.new) (change_move leg.0 parts step.change)) }
+        ensures records { IfOk result (λ step. records_of self.new ≡ records_after step.place leg.0 (records_of self.old)) }
+        ensures kept { OnErr result (records_of self.new ≡ records_of self.old) }
     {
         match self.flying(leg) {
             Ok(facts) => {
@@ -40,6 +42,8 @@ impl Dispatcher {
     pub fn lost(&mut self, leg: LegId) -> Result<Step, CoreFault>
         ensures effect { HasEffect (loss_at (core_view self.old) leg.0) (core_view self.old) (core_view self.new) result }
         ensures does { IfOk result (λ step. Does (core_view self.old) (core_view self.new) (change_move leg.0 (fixed_value LostReply) step.change)) }
+        ensures records { IfOk result (λ step. records_of self.new ≡ records_after step.place leg.0 (records_of self.old)) }
+        ensures kept { OnErr result (records_of self.new ≡ records_of self.old) }
     {
         match self.flying(leg) {
             Ok(facts) => {
@@ -68,7 +72,8 @@ impl Dispatcher {
         requires at { option_map facts_seen (legs self.old.queues leg.0) ≡ Some facts }
         requires flies { is_flight facts.state ≡ true }
         requires one { part_value counted.taken ≡ part_value counted.outcome }
-        ensures { HasDone (landing_at (core_view self.old) leg.0 (part_value counted.outcome)) (core_view self.new) result }
+        ensures done { HasDone (landing_at (core_view self.old) leg.0 (part_value counted.outcome)) (core_view self.new) result }
+        ensures records { records_of self.new ≡ records_after result.place leg.0 (records_of self.old) }
     {
         let replayed = matches!(facts.state, State::InReplay);
         if !replayed {
@@ -86,7 +91,8 @@ impl Dispatcher {
         requires at { option_map facts_seen (legs self.old.queues leg.0) ≡ Some facts }
         requires sent { facts.state ≡ State.Sent }
         requires one { part_value counted.taken ≡ part_value counted.outcome }
-        ensures { HasDone (at_row (sent_in (core_view self.old) leg.0 (part_value counted.outcome)) ((core_view self.old).rows.legs leg.0)) (core_view self.new) result }
+        ensures done { HasDone (at_row (sent_in (core_view self.old) leg.0 (part_value counted.outcome)) ((core_view self.old).rows.legs leg.0)) (core_view self.new) result }
+        ensures records { records_of self.new ≡ records_after result.place leg.0 (records_of self.old) }
     {
         if facts.counted_delete && counted.is_error() {
             self.hold(leg)
@@ -100,7 +106,8 @@ impl Dispatcher {
         requires at { option_map facts_seen (legs self.old.queues leg.0) ≡ Some facts }
         requires sent { facts.state ≡ State.Sent }
         requires one { part_value counted.taken ≡ part_value counted.outcome }
-        ensures { HasDone (at_row (finished (core_view self.old) leg.0 (part_value counted.outcome)) ((core_view self.old).rows.legs leg.0)) (core_view self.new) result }
+        ensures done { HasDone (at_row (finished (core_view self.old) leg.0 (part_value counted.outcome)) ((core_view self.old).rows.legs leg.0)) (core_view self.new) result }
+        ensures records { records_of self.new ≡ records_after result.place leg.0 (records_of self.old) }
     {
         let place = Place::after(facts.op, counted.is_error());
         self.settle(leg, Settling::Gone, counted.outcome, counted.taken);
@@ -114,7 +121,8 @@ impl Dispatcher {
     fn hold(&mut self, leg: LegId) -> Step
         requires sent { state_in (legs self.old.queues leg.0) ≡ Some State.Sent }
         requires counted { counts_in (legs self.old.queues leg.0) ≡ true }
-        ensures { HasDone (at_row (held (core_view self.old) leg.0) ((core_view self.old).rows.legs leg.0)) (core_view self.new) result }
+        ensures done { HasDone (at_row (held (core_view self.old) leg.0) ((core_view self.old).rows.legs leg.0)) (core_view self.new) result }
+        ensures records { records_of self.new ≡ records_after result.place leg.0 (records_of self.old) }
     {
         self.queues.held(leg);
         Step {
@@ -126,7 +134,8 @@ impl Dispatcher {
     /// A leg in replay waits in the spool again.
     fn wait_again(&mut self, leg: LegId) -> Step
         requires { state_in (legs self.old.queues leg.0) ≡ Some State.InReplay }
-        ensures { HasDone (at_row (replayed_in (core_view self.old) leg.0 true) ((core_view self.old).rows.legs leg.0)) (core_view self.new) result }
+        ensures done { HasDone (at_row (replayed_in (core_view self.old) leg.0 true) ((core_view self.old).rows.legs leg.0)) (core_view self.new) result }
+        ensures records { records_of self.new ≡ records_after result.place leg.0 (records_of self.old) }
     {
         self.queues.replay_failed(leg);
         Step {
@@ -138,7 +147,8 @@ impl Dispatcher {
     /// A leg in replay was performed.
     fn perform(&mut self, leg: LegId) -> Step
         requires { state_in (legs self.old.queues leg.0) ≡ Some State.InReplay }
-        ensures { HasDone (at_row (replayed_in (core_view self.old) leg.0 false) ((core_view self.old).rows.legs leg.0)) (core_view self.new) result }
+        ensures done { HasDone (at_row (replayed_in (core_view self.old) leg.0 false) ((core_view self.old).rows.legs leg.0)) (core_view self.new) result }
+        ensures records { records_of self.new ≡ records_after result.place leg.0 (records_of self.old) }
     {
         let _ = self.queues.gone(leg);
         self.counts = self.counts.performed();

@@ -11,7 +11,7 @@ ghost use Rattle.mcv_world.specs.Moves.{Began};
 ghost use Rattle.mcv_core.specs.Beginning.{AreReadied, CanAdd, CanStart, HasBegun, HasLegRoom, HasRoom, IsFull, IsNewCall, began_by, has_begun};
 ghost use Rattle.mcv_core.specs.Calls.{room as call_room};
 ghost use Rattle.mcv_core.specs.CoreView.{Moved};
-ghost use Rattle.mcv_core.specs.View.{core_view};
+ghost use Rattle.mcv_core.specs.View.{core_view, records_of};
 ghost use Rattle.mcv_core.specs.declared.fault.CoreFault.TheVariants.{Memory as OutOfMemory};
 
 use crate::call::Call;
@@ -166,6 +166,7 @@ impl Dispatcher {
         requires choice { IsChoice (sizes_of (core_view self.old).routes) (slice_index asked.choice) }
         ensures moves { IfOk result (λ call. Moved (core_view self.old) (core_view self.new) (Began asked.op asked.route asked.rest asked.choice)) }
         ensures call { IfOk result (λ call. call.0 ≡ (core_view self.old).rows.next_call) }
+        ensures records { records_of self.new ≡ records_of self.old }
         ensures view { OnOk result (HasBegun (core_view self.old) (core_view self.new) asked.op asked.route asked.rest asked.choice) }
         ensures refused { IfErr result (IsFull (core_view self.old) asked) }
         ensures err { OnErr result (core_view self.new ≡ core_view self.old) }
@@ -198,6 +199,7 @@ impl Dispatcher {
         requires can { CanStart self.old asked state launches.items }
         ensures moves { IfOk result (λ call. Moved (core_view self.old) (core_view self.new) (Began asked.op asked.route asked.rest asked.choice)) }
         ensures call { IfOk result (λ call. call.0 ≡ (core_view self.old).rows.next_call) }
+        ensures records { records_of self.new ≡ records_of self.old }
         ensures view { OnOk result (HasBegun (core_view self.old) (core_view self.new) asked.op asked.route asked.rest asked.choice) }
         ensures memory { IfErr result (λ fault. fault ≡ OutOfMemory) }
         ensures err { OnErr result (core_view self.new ≡ core_view self.old) }
@@ -235,6 +237,7 @@ impl Dispatcher {
     fn make_room(&mut self, count: usize) -> Result<(), CoreFault>
         requires { self.old.counts.reserved + count < 2 ^ 64 }
         ensures view { core_view self.new ≡ core_view self.old }
+        ensures records { records_of self.new ≡ records_of self.old }
         ensures counts { self.new.counts ≡ self.old.counts }
         ensures accepted { self.new.accepted ≡ self.old.accepted }
         ensures since { self.new.since ≡ self.old.since }
@@ -254,6 +257,7 @@ impl Dispatcher {
     fn add(&mut self, mut call: Call) -> CallId
         requires { CanAdd self.old call }
         ensures number { result.0 ≡ (core_view self.old).rows.next_call }
+        ensures records { records_of self.new ≡ records_of self.old }
         ensures view { core_view self.new ≡ has_begun (core_view self.old) call }
         ensures moves { Moved (core_view self.old) (core_view self.new) (began_by call) }
     {

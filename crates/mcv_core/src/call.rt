@@ -8,6 +8,7 @@ ghost use Rattle.mcv_route.specs.declared.launch.Launch.{Launch as Leg};
 ghost use Rattle.mcv_route.specs.Outcomes.{Choice as Chosen};
 ghost use Rattle.mcv_route.specs.Situation.{Situation};
 ghost use Rattle.mcv_route.specs.Tree.{Tree};
+ghost use Rattle.mcv_core.specs.Facts.{records_in};
 ghost use Rattle.mcv_core.specs.Launching.{CanLaunch, IsLaunched};
 ghost use Rattle.mcv_core.specs.Noting.{CanNote, HasRecorded, IsNoted, has_ended_by};
 ghost use Rattle.mcv_core.specs.Rows.{call_row, entries_of, IsRunning};
@@ -134,6 +135,7 @@ impl Call {
         requires can { CanNote self.old entry (legs queues.old) (room queues.old) (known queues.old) next }
         ensures recorded { (r : RoutesValue) (w : Rows) (k : ℕ) → IsCore r w → CanRecord r w k (call_row self.old) entry (launch_at (entries_of self.old) entry) → IsRunning r k self.old → w.next_leg ≡ next
             → part_value taken ≡ part_value outcome → HasRecorded r w k self.old self.new entry (part_value outcome) (legs queues.old) (legs queues.new) result }
+        ensures records { records_in (legs queues.new) ≡ records_in (legs queues.old) }
         ensures flights { (s : ℕ) → in_flight queues.new s ≡ in_flight queues.old s }
         ensures servers { known queues.new ≡ known queues.old }
         ensures room { room queues.old ≤ room queues.new + result.launched }

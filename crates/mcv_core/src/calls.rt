@@ -5,6 +5,7 @@ ghost use Rattle.mcv_queues.specs.Queues.{legs, room as leg_room, in_flight, ser
 ghost use Rattle.mcv_world.specs.World.{put};
 ghost use Rattle.mcv_core.specs.declared.call.Call.{Call as Running};
 ghost use Rattle.mcv_core.specs.Calls.{CanNoteAt, IsRecordedAt, calls_at, room};
+ghost use Rattle.mcv_core.specs.Facts.{records_in};
 
 use crate::call::{Call, Recording};
 use crate::errand::Errand;
@@ -79,6 +80,7 @@ impl Calls {
     ) -> Recording
         requires can { CanNoteAt (calls_at self.old) number entry (legs queues.old) (leg_room queues.old) (known queues.old) next }
         ensures recorded { (c : Running) → calls_at self.old number ≡ Some c → IsRecordedAt (calls_at self.old) (calls_at self.new) number c entry outcome taken next (legs queues.old) (legs queues.new) result }
+        ensures records { records_in (legs queues.new) ≡ records_in (legs queues.old) }
         ensures flights { (s : ℕ) → in_flight queues.new s ≡ in_flight queues.old s }
         ensures servers { known queues.new ≡ known queues.old }
         ensures room { leg_room queues.old ≤ leg_room queues.new + result.launched }

@@ -46,7 +46,7 @@ impl Settling {
         ensures { result ≡ is_settling self }
     {
         match self {
-            Settling::Gone | Settling::InSpool => 1,
+            Settling::Gone | Settling::InSpool(_) => 1,
             Settling::Refused => 0,
         }
     }
@@ -56,7 +56,7 @@ impl Settling {
         ensures { result ≡ is_storing_leg self }
     {
         match self {
-            Settling::InSpool => 1,
+            Settling::InSpool(_) => 1,
             Settling::Gone | Settling::Refused => 0,
         }
     }

@@ -1,11 +1,11 @@
 //! The core: the dispatcher with the hash that picks the servers of a key.
 
 ghost use Rattle.std.specs.Arc.{arc_value};
-ghost use Rattle.std.specs.Prelude.{◌≡◌, Some, None, IfOk, IfErr, IfSome, OnErr};
+ghost use Rattle.std.specs.Prelude.{◌≡◌, ℕ, Some, None, IfOk, IfErr, IfSome, OnErr, slice_get};
 ghost use Rattle.mcv_pools.specs.Choice.{HasIndexEach};
 ghost use Rattle.mcv_core.specs.Asking.{HasBegunFor, HasNoKey, IsAsked, IsKeyOf, IsRefusedFor};
-ghost use Rattle.mcv_core.specs.Opening.{opened_view};
-ghost use Rattle.mcv_core.specs.View.{core_view};
+ghost use Rattle.mcv_core.specs.Opening.{known_numbers, opened_view};
+ghost use Rattle.mcv_core.specs.View.{core_view, records_of};
 ghost use Rattle.mcv_core.specs.declared.fault.CoreFault.TheVariants.{Memory as OutOfMemory};
 
 use crate::begin::Asked;
@@ -35,6 +35,7 @@ impl<H: KeyHash + Drop> Core<H> {
         records: &[(u64, SpoolRecord)],
     ) -> Result<Core<H>, CoreFault>
         ensures view { IfOk result (λ core. core_view core.dispatcher ≡ opened_view (arc_value accepted) records.now) }
+        ensures records { IfOk result (λ core. (n : ℕ) → records_of core.dispatcher n ≡ slice_get (known_numbers (arc_value accepted).servers records.now) n) }
         ensures hash { IfOk result (λ core. core.hash ≡ hash) }
         ensures err { IfErr result (λ fault. fault ≡ OutOfMemory) }
     {
@@ -65,6 +66,7 @@ impl<H: KeyHash + Drop> Core<H> {
     ) -> Result<CallId, CoreFault>
         ensures begun { IfOk result (λ call. HasBegunFor (core_view self.old.dispatcher) (H.chosen self.old.hash) (arc_value request) key (core_view self.new.dispatcher)) }
         ensures call { IfOk result (λ call. call.0 ≡ (core_view self.old.dispatcher).rows.next_call) }
+        ensures records { records_of self.new.dispatcher ≡ records_of self.old.dispatcher }
         ensures refused { IfErr result (IsRefusedFor (core_view self.old.dispatcher) (H.chosen self.old.hash) (arc_value request) key) }
         ensures err { OnErr result (core_view self.new.dispatcher ≡ core_view self.old.dispatcher) }
         ensures hash { self.new.hash ≡ self.old.hash }

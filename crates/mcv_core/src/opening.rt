@@ -1,15 +1,15 @@
 //! A core is opened with the records that the spool held.
 
 ghost use Rattle.std.specs.Arc.{arc_value};
-ghost use Rattle.std.specs.Prelude.{◌≡◌, ◌<◌, ◌≤◌, ◌+◌, ◌^◌, ◌++◌, ℕ, List, [], Some, None, IfOk, IfErr, OnOk, length, option_map};
+ghost use Rattle.std.specs.Prelude.{◌≡◌, ◌<◌, ◌≤◌, ◌+◌, ◌^◌, ◌++◌, ℕ, List, [], Some, None, IfOk, IfErr, OnOk, length, option_map, slice_get};
 ghost use Rattle.std.specs.Str.{bytes_eq};
 ghost use Rattle.mcv_events.specs.Runs.{OpenedRecord};
 ghost use Rattle.mcv_pools.specs.Table.{number_in};
 ghost use Rattle.mcv_queues.specs.declared.leg.State.TheVariants.{InSpool};
 ghost use Rattle.mcv_queues.specs.Queues.{in_flight, legs, room as leg_room, servers as known};
 ghost use Rattle.mcv_world.specs.World.{put};
-ghost use Rattle.mcv_core.specs.Opening.{AreOpened, IsOpenedErrand, known_records, opened_view, with_server};
-ghost use Rattle.mcv_core.specs.View.{core_view};
+ghost use Rattle.mcv_core.specs.Opening.{AreOpened, IsOpenedErrand, known_numbers, known_records, opened_view, with_number, with_server};
+ghost use Rattle.mcv_core.specs.View.{core_view, records_of};
 ghost use Rattle.mcv_core.specs.declared.fault.CoreFault.TheVariants.{Memory as OutOfMemory};
 
 use crate::calls::Calls;
@@ -70,13 +70,13 @@ fn server_of(servers: &Servers, delete: &SpoolRecord) -> Option<ServerId>
 }
 
 impl Opened {
-    /// Puts a leg into the spool.
-    fn add(&mut self, server: ServerId, errand: Errand)
+    /// Puts a leg into the spool, as the record of this number.
+    fn add(&mut self, seq: u64, server: ServerId, errand: Errand)
         requires room { 0 < leg_room self.old.queues }
         requires free { legs self.old.queues self.old.count ≡ None }
         requires known { server.0 < known self.old.queues }
         requires small { self.old.count + 1 < 2 ^ 64 }
-        ensures legs { legs self.new.queues ≡ put (legs self.old.queues) self.old.count (Some (record { server = server; state = InSpool; content = errand })) }
+        ensures legs { legs self.new.queues ≡ put (legs self.old.queues) self.old.count (Some (record { server = server; state = InSpool; «record» = Some seq; content = errand })) }
         ensures count { self.new.count ≡ self.old.count + 1 }
         ensures flights { (s : ℕ) → in_flight self.new.queues s ≡ in_flight self.old.queues s }
         ensures servers { known self.new.queues ≡ known self.old.queues }
@@ -84,22 +84,23 @@ impl Opened {
     {
         let leg = LegId(self.count as u64);
         self.queues.push(leg, server, errand);
-        self.queues.spooled(leg);
+        self.queues.spooled(leg, seq);
         self.count += 1;
     }
 
-    /// Puts the leg of a record into the spool, if its server is in the table.
+    /// Puts the leg of the record of this number into the spool, if its server is in the table.
     fn store(
         &mut self,
         alloc: Global,
         servers: &Servers,
+        seq: u64,
         delete: &SpoolRecord,
     ) -> Result<(), AllocError>
         requires room { 0 < leg_room self.old.queues }
         requires free { legs self.old.queues self.old.count ≡ None }
         requires known { known self.old.queues ≡ length servers.now }
         requires small { self.old.count + 1 < 2 ^ 64 }
-        ensures opened { (before : List OpenedRecord) → AreOpened before (legs self.old.queues) self.old.count → OnOk result (AreOpened (before ++ with_server (number_in bytes_eq servers.now delete.now.server) delete.now.rest []) (legs self.new.queues) self.new.count) }
+        ensures opened { (before : List OpenedRecord) (numbers : List ℕ) → AreOpened before numbers (legs self.old.queues) self.old.count → OnOk result (AreOpened (before ++ with_server (number_in bytes_eq servers.now delete.now.server) delete.now.rest []) (numbers ++ with_number (number_in bytes_eq servers.now delete.now.server) seq []) (legs self.new.queues) self.new.count) }
         ensures count { self.new.count ≤ self.old.count + 1 }
         ensures flights { (s : ℕ) → in_flight self.new.queues s ≡ in_flight self.old.queues s }
         ensures servers { known self.new.queues ≡ known self.old.queues }
@@ -109,7 +110,7 @@ impl Opened {
             return Ok(());
         };
         let errand = errand_of(alloc, server, delete.rest.copied())?;
-        self.add(server, errand);
+        self.add(seq, server, errand);
         Ok(())
     }
 }
@@ -120,7 +121,7 @@ fn opened_legs(
     accepted: &Accepted,
     records: &[(u64, SpoolRecord)],
 ) -> Result<Opened, AllocError>
-    ensures opened { IfOk result (λ o. AreOpened (known_records accepted.now.servers records.now) (legs o.queues) o.count) }
+    ensures opened { IfOk result (λ o. AreOpened (known_records accepted.now.servers records.now) (known_numbers accepted.now.servers records.now) (legs o.queues) o.count) }
     ensures flights { IfOk result (λ o. (s : ℕ) → in_flight o.queues s ≡ None) }
     ensures servers { IfOk result (λ o. known o.queues ≡ length accepted.now.servers) }
 {
@@ -129,7 +130,7 @@ fn opened_legs(
     queues.reserve(records.len())?;
     let mut opened = Opened { queues, count: 0 };
     for record in records {
-        opened.store(alloc, servers, &record.1)?;
+        opened.store(alloc, servers, record.0, &record.1)?;
     }
     Ok(opened)
 }
@@ -143,6 +144,7 @@ impl Dispatcher {
         records: &[(u64, SpoolRecord)],
     ) -> Result<Dispatcher, CoreFault>
         ensures view { IfOk result (λ d. core_view d ≡ opened_view (arc_value accepted) records.now) }
+        ensures records { IfOk result (λ d. (n : ℕ) → records_of d n ≡ slice_get (known_numbers (arc_value accepted).servers records.now) n) }
         ensures err { IfErr result (λ fault. fault ≡ OutOfMemory) }
     {
         let opened = opened_legs(alloc, &accepted, records)?;

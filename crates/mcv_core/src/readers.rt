@@ -5,7 +5,7 @@ ghost use Rattle.mcv_queues.specs.Numbers.{leg_number};
 ghost use Rattle.mcv_core.specs.Errands.{launch_of, rest_of};
 ghost use Rattle.mcv_core.specs.Readers.{IsFirstHeld, place_of, request_in, request_of, seen, seen_row};
 ghost use Rattle.mcv_core.specs.Rows.{state_of};
-ghost use Rattle.mcv_core.specs.View.{core_view};
+ghost use Rattle.mcv_core.specs.View.{core_view, records_of};
 
 use crate::dispatcher::Dispatcher;
 use crate::errand::Errand;
@@ -22,6 +22,8 @@ pub struct LegView<'a> {
     pub op: Op,
     pub mark: Mark,
     pub rest: &'a Rest,
+    /// The number of its record in the spool; None until it is stored there.
+    pub record: Option<u64>,
     /// What the client asked; None where the spool held the leg at the start.
     pub request: Option<&'a Request>,
 }
@@ -41,13 +43,14 @@ impl Place {
 }
 
 impl Errand {
-    /// What its server is sent of it.
-    fn view(&self) -> LegView<'_>
+    /// What its server is sent of it, of which the record in the spool has this number.
+    fn view(&self, seq: Option<u64>) -> LegView<'_>
         ensures call { option_map (λ k. k.0) result.call ≡ self.now.call }
         ensures server { result.server ≡ (launch_of self.now).server }
         ensures op { result.op ≡ (launch_of self.now).op }
         ensures mark { result.mark ≡ (launch_of self.now).mark }
         ensures rest { result.rest.now ≡ rest_of self.now }
+        ensures record_number { result.«record» ≡ seq }
         ensures request { option_copied result.request ≡ request_in self.now }
     {
         LegView {
@@ -56,6 +59,7 @@ impl Errand {
             op: self.op(),
             mark: self.mark(),
             rest: &self.laid.rest,
+            record: seq,
             request: self.laid.request.as_deref(),
         }
     }
@@ -68,6 +72,14 @@ impl Dispatcher {
     {
         let row = self.queues.get(leg)?;
         Some(Place::of(row.state))
+    }
+
+    /// The number of a leg's record in the spool; None where the leg isn't stored there, or isn't there.
+    pub fn record(&self, leg: LegId) -> Option<u64>
+        ensures { result ≡ records_of self.now leg.0 }
+    {
+        let row = self.queues.get(leg)?;
+        row.record
     }
 
     /// The leg that the spool is to take next: of those that are held without an outcome the one with the least number,
@@ -84,10 +96,11 @@ impl Dispatcher {
     /// What its server is sent of a leg; None where it is neither queued nor spooled.
     pub fn leg(&self, leg: LegId) -> Option<LegView<'_>>
         ensures row { option_map seen result ≡ option_map seen_row ((core_view self.now).rows.legs leg.0) }
+        ensures record_number { option_and_then (λ v. v.«record») result ≡ records_of self.now leg.0 }
         ensures request { option_and_then (λ v. option_copied v.request) result ≡ request_of self.now leg.0 }
     {
         match self.queues.get(leg) {
-            Some(row) => Some(row.content.view()),
+            Some(row) => Some(row.content.view(row.record)),
             None => None,
         }
     }

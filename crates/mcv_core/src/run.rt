@@ -161,6 +161,9 @@ fn deletes_are_covered(accepted: &Accepted)
 /// delete that has a reply other than an error keeps, for every server that could answer a get or gets of its rest, a
 /// counted leg of its own that the server performed, that is queued, or that is spooled (`Kept` of
 /// mcv_world/specs/Kept.antt, in the world to which the events' moves lead). The one error is `Memory`.
+///
+/// Its premises: a server that says DELETED or NOT_FOUND to a delete leg has performed it; the process goes on; the hash is
+/// a function of symbol and hashed part; a call that was refused with `Memory` isn't answered as done.
 pub fn run_all<H: KeyHash + Drop>(
     alloc: Global,
     accepted: Arc<Accepted>,

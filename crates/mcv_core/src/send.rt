@@ -6,7 +6,7 @@ ghost use Rattle.mcv_queues.specs.Numbers.{IsLeast};
 ghost use Rattle.mcv_world.specs.World.{put};
 ghost use Rattle.mcv_core.specs.CoreView.{Does, in_row_state, is_spooled, is_waiting};
 ghost use Rattle.mcv_core.specs.Fault.{queue_fault};
-ghost use Rattle.mcv_core.specs.View.{core_view};
+ghost use Rattle.mcv_core.specs.View.{core_view, records_of};
 
 use crate::dispatcher::Dispatcher;
 use crate::fault::CoreFault;
@@ -36,6 +36,7 @@ impl Dispatcher {
         ensures nothing { IfErr result (λ fault. fault ≡ CoreFault.NothingWaiting → ((core_view self.old).flights server.0 ≡ None) × IsLeast (λ n. is_waiting server.0 ((core_view self.old).rows.legs n)) None) }
         ensures only { IfErr result (λ fault. (fault ≡ CoreFault.Busy) ⊎ (fault ≡ CoreFault.NothingWaiting)) }
         ensures err { OnErr result (core_view self.new ≡ core_view self.old) }
+        ensures records { records_of self.new ≡ records_of self.old }
     {
         match self.queues.next(server) {
             Ok(leg) => Ok(leg),
@@ -53,6 +54,7 @@ impl Dispatcher {
         ensures nothing { IfErr result (λ fault. fault ≡ CoreFault.NothingWaiting → ((core_view self.old).flights server.0 ≡ None) × IsLeast (λ n. is_spooled server.0 ((core_view self.old).rows.legs n)) None) }
         ensures only { IfErr result (λ fault. (fault ≡ CoreFault.Busy) ⊎ (fault ≡ CoreFault.NothingWaiting)) }
         ensures err { OnErr result (core_view self.new ≡ core_view self.old) }
+        ensures records { records_of self.new ≡ records_of self.old }
     {
         match self.queues.replay(server) {
             Ok(leg) => Ok(leg),

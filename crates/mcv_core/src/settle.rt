@@ -5,9 +5,9 @@ ghost use Rattle.mcv_base.specs.Reply.{part_value};
 ghost use Rattle.mcv_queues.specs.Legs.{is_in_flight, is_in_flight_to};
 ghost use Rattle.mcv_queues.specs.Queues.{in_flight, legs, room, servers as known};
 ghost use Rattle.mcv_world.specs.World.{put};
-ghost use Rattle.mcv_core.specs.Settling.{is_gone, settled_to};
+ghost use Rattle.mcv_core.specs.Settling.{is_gone, records_to, settled_to};
 ghost use Rattle.mcv_core.specs.Facts.{facts_of as facts_seen};
-ghost use Rattle.mcv_core.specs.View.{CanSettle, core_view, has_settled};
+ghost use Rattle.mcv_core.specs.View.{CanSettle, core_view, has_settled, records_of};
 
 use crate::dispatcher::Dispatcher;
 use crate::errand::Errand;
@@ -20,8 +20,8 @@ use mcv_queues::Queues;
 pub enum Settling {
     /// It was answered, and is done with.
     Gone,
-    /// It was held, and is stored in the spool.
-    InSpool,
+    /// It was held, and is stored in the spool, where its record has this number.
+    InSpool(u64),
     /// It is held, and the spool refused it.
     Refused,
 }
@@ -45,7 +45,7 @@ fn leave(queues: &mut Queues<Errand>, leg: LegId, to: Settling)
         Settling::Gone => {
             let _ = queues.gone(leg);
         }
-        Settling::InSpool => queues.spooled(leg),
+        Settling::InSpool(seq) => queues.spooled(leg, seq),
         Settling::Refused => queues.refused(leg),
     }
 }
@@ -77,7 +77,8 @@ impl Dispatcher {
     pub(crate) fn settle(&mut self, leg: LegId, to: Settling, outcome: Part, taken: Part)
         requires can { CanSettle self.old leg.0 to }
         requires one { part_value taken ≡ part_value outcome }
-        ensures { core_view self.new ≡ has_settled self.old leg.0 to (part_value outcome) }
+        ensures view { core_view self.new ≡ has_settled self.old leg.0 to (part_value outcome) }
+        ensures records { records_of self.new ≡ records_to to leg.0 (records_of self.old) }
     {
         let owner = self.owner_of(leg);
         leave(&mut self.queues, leg, to);

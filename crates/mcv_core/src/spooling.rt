@@ -1,12 +1,13 @@
 //! The spool stores and refuses held legs.
 
-ghost use Rattle.std.specs.Prelude.{◌≡◌, Some, IfOk};
+ghost use Rattle.std.specs.Prelude.{◌≡◌, Some, IfOk, OnErr};
 ghost use Rattle.mcv_base.specs.Reply.{fixed_value, not_found};
 ghost use Rattle.mcv_queues.specs.Queues.{legs};
 ghost use Rattle.mcv_world.specs.Moves.{is_one};
+ghost use Rattle.mcv_world.specs.World.{put};
 ghost use Rattle.mcv_core.specs.CoreView.{Does, HasDone, HasEffect, at_row, change_move, is_record, refused, refusing_at, spooling_at, stores};
 ghost use Rattle.mcv_core.specs.Facts.{state_in};
-ghost use Rattle.mcv_core.specs.View.{core_view};
+ghost use Rattle.mcv_core.specs.View.{core_view, records_of};
 ghost use Rattle.mcv_base.specs.declared.reply.FixedReply.TheVariants.{Lost as LostReply};
 
 use crate::counted::Counted;
@@ -19,10 +20,12 @@ use mcv_queues::State;
 use mcv_spool::{SpoolRecord, Stored};
 
 impl Dispatcher {
-    /// A held leg is stored in the spool, where the record is its server's text and its rest.
+    /// A held leg is stored in the spool, where the record is its server's text and its rest. The leg keeps the record's number.
     pub fn spooled(&mut self, leg: LegId, stored: Stored) -> Result<Step, CoreFault>
         ensures effect { HasEffect (spooling_at (core_view self.old) leg.0 stored.«record».server stored.«record».rest) (core_view self.old) (core_view self.new) result }
         ensures does { IfOk result (λ step. Does (core_view self.old) (core_view self.new) (change_move leg.0 not_found step.change)) }
+        ensures records { IfOk result (λ step. records_of self.new ≡ put (records_of self.old) leg.0 (Some stored.seq)) }
+        ensures kept { OnErr result (records_of self.new ≡ records_of self.old) }
     {
         if !self.is_record_of(leg, stored.record()) {
             return Err(CoreFault::NoSuchLeg);
@@ -31,8 +34,8 @@ impl Dispatcher {
             return Err(CoreFault::NoSuchLeg);
         };
         match facts.state {
-            State::Held => Ok(self.store_held(leg)),
-            State::Refused => Ok(self.store_refused(leg)),
+            State::Held => Ok(self.store_held(leg, stored.seq())),
+            State::Refused => Ok(self.store_refused(leg, stored.seq())),
             State::Waiting | State::Sent | State::InSpool | State::InReplay => {
                 Err(CoreFault::NoSuchLeg)
             }
@@ -43,6 +46,7 @@ impl Dispatcher {
     pub fn spool_refused(&mut self, leg: LegId) -> Result<Step, CoreFault>
         ensures effect { HasEffect (refusing_at (core_view self.old) leg.0) (core_view self.old) (core_view self.new) result }
         ensures does { IfOk result (λ step. Does (core_view self.old) (core_view self.new) (change_move leg.0 (fixed_value LostReply) step.change)) }
+        ensures records { records_of self.new ≡ records_of self.old }
     {
         let Some(facts) = self.facts(leg) else {
             return Err(CoreFault::NoSuchLeg);
@@ -73,25 +77,27 @@ impl Dispatcher {
             && row.content.laid.rest.as_bytes() == delete.rest.as_bytes()
     }
 
-    /// A held leg without an outcome is stored.
-    fn store_held(&mut self, leg: LegId) -> Step
+    /// A held leg without an outcome is stored, as the record of this number.
+    fn store_held(&mut self, leg: LegId, seq: u64) -> Step
         requires { state_in (legs self.old.queues leg.0) ≡ Some State.Held }
-        ensures { HasDone (at_row (stores (core_view self.old) leg.0) ((core_view self.old).rows.legs leg.0)) (core_view self.new) result }
+        ensures done { HasDone (at_row (stores (core_view self.old) leg.0) ((core_view self.old).rows.legs leg.0)) (core_view self.new) result }
+        ensures records { records_of self.new ≡ put (records_of self.old) leg.0 (Some seq) }
     {
         let reply = Counted::not_found();
-        self.settle(leg, Settling::InSpool, reply.outcome, reply.taken);
+        self.settle(leg, Settling::InSpool(seq), reply.outcome, reply.taken);
         Step {
             place: Place::Spooled,
             change: Change::Spooled,
         }
     }
 
-    /// A leg that the spool had refused, so that it has an outcome, is stored.
-    fn store_refused(&mut self, leg: LegId) -> Step
+    /// A leg that the spool had refused, so that it has an outcome, is stored, as the record of this number.
+    fn store_refused(&mut self, leg: LegId, seq: u64) -> Step
         requires { state_in (legs self.old.queues leg.0) ≡ Some State.Refused }
-        ensures { HasDone (at_row (stores (core_view self.old) leg.0) ((core_view self.old).rows.legs leg.0)) (core_view self.new) result }
+        ensures done { HasDone (at_row (stores (core_view self.old) leg.0) ((core_view self.old).rows.legs leg.0)) (core_view self.new) result }
+        ensures records { records_of self.new ≡ put (records_of self.old) leg.0 (Some seq) }
     {
-        self.queues.spooled(leg);
+        self.queues.spooled(leg, seq);
         self.counts = self.counts.stored();
         Step {
             place: Place::Spooled,
@@ -102,7 +108,8 @@ impl Dispatcher {
     /// The spool refused a held leg without an outcome.
     fn refuse(&mut self, leg: LegId) -> Step
         requires { state_in (legs self.old.queues leg.0) ≡ Some State.Held }
-        ensures { HasDone (at_row (refused (core_view self.old)) ((core_view self.old).rows.legs leg.0)) (core_view self.new) result }
+        ensures done { HasDone (at_row (refused (core_view self.old)) ((core_view self.old).rows.legs leg.0)) (core_view self.new) result }
+        ensures records { records_of self.new ≡ records_of self.old }
     {
         let reply = Counted::lost();
         self.settle(leg, Settling::Refused, reply.outcome, reply.taken);

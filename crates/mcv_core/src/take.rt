@@ -10,7 +10,7 @@ ghost use Rattle.mcv_core.specs.CoreView.{Moved};
 ghost use Rattle.mcv_core.specs.Launching.{places_of};
 ghost use Rattle.mcv_core.specs.Rows.{taken_at};
 ghost use Rattle.mcv_core.specs.Taking.{AreKept, HasTaken, IsTakenAt, source_reply};
-ghost use Rattle.mcv_core.specs.View.{core_view};
+ghost use Rattle.mcv_core.specs.View.{core_view, records_of};
 ghost use Rattle.mcv_core.specs.declared.call.Call.{Call as Running};
 
 use crate::call::{Call, Recorded};
@@ -161,6 +161,7 @@ impl Counts {
 impl Dispatcher {
     /// Takes the reply to a call, once; None while the call has none.
     pub fn take(&mut self, call: CallId) -> Result<Option<Part>, CoreFault>
+        ensures records { records_of self.new ≡ records_of self.old }
         ensures moves { IfOk result (λ o. IfSome o (λ part. Moved (core_view self.old) (core_view self.new) (WasTaken call.0))) }
         ensures reply { IfOk result (λ o. IfSome o (λ part. option_and_then (reply_of (core_view self.old).routes) ((world_of (core_view self.old).rows).calls call.0) ≡ Some (part_value part))) }
         ensures none { IfOk result (λ o. IfNone o ((core_view self.new ≡ core_view self.old) × (is_move (core_view self.old).routes (world_of (core_view self.old).rows) (WasTaken call.0) ≡ false))) }

@@ -1,7 +1,7 @@
 //! Gets, and how much a core holds.
 
 use crate::setup::{A, ONE, begin, core_of, leads_to, request};
-use mcv_base::{LegId, Op, Part, Parts, Reply, Request};
+use mcv_base::{FixedReply, LegId, Op, Part, Parts, Reply, Request};
 use mcv_core::{Core, CoreFault, Place};
 use mcv_pools::Fnv;
 use std::alloc::Global;
@@ -63,19 +63,6 @@ fn a_leg_has_what_its_call_asks(rt: HostRuntime) -> Result<(), Fail> {
     Ok(())
 }
 
-/// Gets search one server 64 times over, while it fails: a call reserves 64 legs, and 194 entries.
-fn searching(alloc: Global) -> Result<String, Fail> {
-    let mut text = String::from_str(
-        alloc,
-        "{\"pools\":{\"A\":{\"servers\":[\"a:11211\"]}},\"route\":{\"type\":\"OperationSelectorRoute\",\"operation_policies\":{\"delete\":\"PoolRoute|A\"},\"default_policy\":{\"type\":\"FailoverRoute\",\"children\":[",
-    )?;
-    for _ in 0..63 {
-        text.push_str("\"PoolRoute|A\",")?;
-    }
-    text.push_str("\"PoolRoute|A\"]}}}")?;
-    Ok(text)
-}
-
 /// Begins so many calls.
 fn begin_many(
     alloc: Global,
@@ -94,11 +81,53 @@ fn begin_many(
 #[test]
 fn a_core_holds_65536_legs(rt: HostRuntime) -> Result<(), Fail> {
     let alloc = rt.alloc();
-    let text = searching(alloc)?;
-    let mut core = core_of(alloc, text.as_str())?;
-    let get = request(alloc, Op::Get)?;
-    begin_many(alloc, &mut core, &get, 1_024)?;
-    let one_more = core.begin(alloc, get, 0);
+    let mut core = core_of(alloc, ONE)?;
+    let delete = request(alloc, Op::Delete)?;
+    begin_many(alloc, &mut core, &delete, 65_536)?;
+    let one_more = core.begin(alloc, delete, 0);
     assert!(rt; matches!(one_more, Err(CoreFault::LegsFull)));
+    Ok(())
+}
+
+/// Whether a get begins, has a miss and is taken.
+fn is_missed(alloc: Global, core: &mut Core<Fnv>, request: Arc<Request>) -> bool {
+    let Ok(call) = core.begin(alloc, request, 0) else {
+        return false;
+    };
+    let events = core.events();
+    let Ok(leg) = events.next(A) else {
+        return false;
+    };
+    leads_to(
+        events.answered(leg, Parts::fixed(FixedReply::Miss)),
+        Place::Gone,
+    ) && matches!(events.take(call), Ok(Some(Part::Fixed(FixedReply::Miss))))
+}
+
+fn miss_many(
+    alloc: Global,
+    core: &mut Core<Fnv>,
+    request: &Arc<Request>,
+    count: u64,
+) -> Result<(), Fail> {
+    for _ in 0..count {
+        if !is_missed(alloc, core, Arc::try_clone(request)?) {
+            return Err(Fail::from("a get has no miss"));
+        }
+    }
+    Ok(())
+}
+
+#[test]
+fn a_chapter_holds_200000_gets(rt: HostRuntime) -> Result<(), Fail> {
+    let alloc = rt.alloc();
+    let mut core = core_of(alloc, ONE)?;
+    let get = request(alloc, Op::Get)?;
+    miss_many(alloc, &mut core, &get, 200_000)?;
+    assert!(rt; core.state().entries() == 1_000_000);
+    let one_more = core.begin(alloc, Arc::try_clone(&get)?, 0);
+    assert!(rt; matches!(one_more, Err(CoreFault::ChapterFull)));
+    assert!(rt; core.events().turn().is_ok());
+    assert!(rt; is_missed(alloc, &mut core, get));
     Ok(())
 }

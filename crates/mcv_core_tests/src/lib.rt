@@ -2,7 +2,23 @@
 #![tactic(auto)]
 
 #[cfg(test)]
+mod amiss;
+#[cfg(test)]
+mod draw;
+#[cfg(test)]
+mod expect;
+#[cfg(test)]
 mod gets;
+#[cfg(test)]
+mod ground;
+#[cfg(test)]
+mod kept;
+#[cfg(test)]
+mod model;
+#[cfg(test)]
+mod random;
+#[cfg(test)]
+mod readable;
 #[cfg(test)]
 mod rows;
 #[cfg(test)]

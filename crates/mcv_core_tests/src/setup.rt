@@ -93,18 +93,44 @@ pub(crate) fn record(server: &[u8], rest: &[u8]) -> Result<SpoolRecord, Fail> {
     }
 }
 
-/// A record that a spool has stored.
+/// A record that a spool has stored, its first one.
 pub(crate) fn stored(alloc: Global, server: &[u8], rest: &[u8]) -> Result<Stored, Fail> {
+    stored_after(alloc, 0, server, rest)
+}
+
+/// A record that a spool has stored after so many others.
+pub(crate) fn stored_after(
+    alloc: Global,
+    others: usize,
+    server: &[u8],
+    rest: &[u8],
+) -> Result<Stored, Fail> {
     let disk = MemoryDisk {
         bytes: Vec::new(alloc),
     };
     let Ok(mut spool) = Spool::open(alloc, disk) else {
         return Err(Fail::from("the spool is refused"));
     };
+    for _ in 0..others {
+        if spool.append(record(server, rest)?).is_err() {
+            return Err(Fail::from("the record is refused"));
+        }
+    }
     match spool.append(record(server, rest)?) {
         Ok(stored) => Ok(stored),
         Err(_) => Err(Fail::from("the record is refused")),
     }
+}
+
+/// The record, stored by a spool of its own, its first one.
+pub(crate) fn stored_record(alloc: Global, delete: SpoolRecord) -> Option<Stored> {
+    let disk = MemoryDisk {
+        bytes: Vec::new(alloc),
+    };
+    let Ok(mut spool) = Spool::open(alloc, disk) else {
+        return None;
+    };
+    spool.append(delete).ok()
 }
 
 /// A file in memory. It says nothing of the model, so it isn't proved to keep it.

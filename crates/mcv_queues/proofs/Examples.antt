@@ -12,7 +12,7 @@ use Rattle.mcv_queues.specs.Marks.{no_mark, put_mark, answered_mark, lost_mark, 
 use Rattle.mcv_queues.proofs.Places.{put_there, some_eq, none_some, apart_bool}
 
 abbrev leg : ℕ → State → Leg ℕ
-leg server state = record { server = record { 0 = server }; state = state; content = 0 }
+leg server state = record { server = record { 0 = server }; state = state; «record» = None; content = 0 }
 
 abbrev one : ℕ → Option (Leg ℕ)
 one = put (λ n. None) 9 (Some (leg 2 Waiting))

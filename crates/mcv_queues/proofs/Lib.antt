@@ -8,5 +8,5 @@ pub mod RootsAreSet
 pub mod GroupsAreHeaps
 pub mod InFlight
 pub mod QueuesStaySound
-pub mod ContentIsUnseen
+pub mod UnseenChanges
 mod Examples

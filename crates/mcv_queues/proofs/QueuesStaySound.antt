@@ -104,7 +104,7 @@ pub if_some : {P : ℕ → Type 0} (o : Option ℕ) → ((n : ℕ) → o ≡ Som
 if_some None h = tt
 if_some (Some n) h = h n refl
 
-pub waiting_in_no_flight : {T : Type 0} (t : ℕ) (s : ServerId) (content : T) → is_in_flight_to t (Some (record { server = s; state = Waiting; content = content })) ≡ false
+pub waiting_in_no_flight : {T : Type 0} (t : ℕ) (s : ServerId) (content : T) → is_in_flight_to t (Some (record { server = s; state = Waiting; «record» = None; content = content })) ≡ false
 waiting_in_no_flight t s content = and_right (nat_eq s.0 t) false refl
 
 -- ---- no legs

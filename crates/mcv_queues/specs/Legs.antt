@@ -37,14 +37,30 @@ server_of None = 0
 server_of (Some l) = l.server.0
 
 abbrev pub in_state : {T : Type 0} → State → Leg T → Leg T
-in_state state l = record { server = l.server; state = state; content = l.content }
+in_state state l = record { server = l.server; state = state; «record» = l.«record»; content = l.content }
 
 -- the legs, the one at this number in this state, if it is there
 abbrev pub with_state : {T : Type 0} → (ℕ → Option (Leg T)) → ℕ → State → ℕ → Option (Leg T)
 with_state legs n state = put legs n (option_map (in_state state) (legs n))
 
+-- the leg with this number of its record in the spool
+abbrev pub recorded_as : {T : Type 0} → ℕ → Leg T → Leg T
+recorded_as number l = record { server = l.server; state = l.state; «record» = Some number; content = l.content }
+
+-- the leg in the spool, where its record has this number
+abbrev pub stored_as : {T : Type 0} → ℕ → Leg T → Leg T
+stored_as number l = recorded_as number (in_state InSpool l)
+
+-- the legs, the one at n stored as the record of this number, if it is there
+abbrev pub with_stored : {T : Type 0} → (ℕ → Option (Leg T)) → ℕ → ℕ → ℕ → Option (Leg T)
+with_stored legs n number = put legs n (option_map (stored_as number) (legs n))
+
+-- the legs, the one at n with this number of its record, if it is there
+abbrev pub with_record : {T : Type 0} → (ℕ → Option (Leg T)) → ℕ → ℕ → ℕ → Option (Leg T)
+with_record legs n number = put legs n (option_map (recorded_as number) (legs n))
+
 abbrev pub containing : {T : Type 0} → T → Leg T → Leg T
-containing content l = record { server = l.server; state = l.state; content = content }
+containing content l = record { server = l.server; state = l.state; «record» = l.«record»; content = content }
 
 -- the legs, the one at this number with this content, if it is there
 abbrev pub with_content : {T : Type 0} → (ℕ → Option (Leg T)) → ℕ → T → ℕ → Option (Leg T)

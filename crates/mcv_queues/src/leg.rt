@@ -34,10 +34,12 @@ impl State {
     }
 }
 
-/// A leg: its server, its state, and what its caller keeps of it.
+/// A leg: its server, its state, its record, and what its caller keeps of it.
 #[derive(Drop)]
 pub struct Leg<T> {
     pub server: ServerId,
     pub state: State,
+    /// The number of its record in the spool; None until it is stored there.
+    pub record: Option<u64>,
     pub content: T,
 }

@@ -2,7 +2,7 @@
 
 ghost use Rattle.std.specs.Prelude.{◌≡◌, ◌<◌, ◌≤◌, ◌+◌, ℕ, None, Some, OnOk, IsSome, option_map, option_copied};
 ghost use Rattle.mcv_queues.specs.Numbers.{put};
-ghost use Rattle.mcv_queues.specs.Legs.{is_in_flight, with_state, with_content, server_of};
+ghost use Rattle.mcv_queues.specs.Legs.{is_in_flight, with_state, with_record, with_content, server_of};
 ghost use Rattle.mcv_queues.specs.Rows.{at, links, legs, room, content_of};
 
 use crate::leg::{Leg, State};
@@ -126,6 +126,18 @@ impl<T: Drop> Rows<T> {
             row.leg.state = state;
         }
     }
+
+    /// Changes the number of the record of the leg at a number.
+    pub fn set_record(&mut self, number: u64, seq: u64)
+        ensures legs { legs self.new ≡ with_record (legs self.old) number seq }
+        ensures links { links self.new ≡ links self.old }
+        ensures room { room self.new ≡ room self.old }
+    {
+        if let Some(row) = self.rows.get_mut(&number) {
+            row.leg.record = Some(seq);
+        }
+    }
+
     /// Changes the content of the leg at a number.
     pub fn set_content(&mut self, number: u64, content: T)
         ensures legs { legs self.new ≡ with_content (legs self.old) number content }

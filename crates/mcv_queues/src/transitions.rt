@@ -5,7 +5,7 @@
 
 ghost use Rattle.std.specs.Prelude.{◌≡◌, ◌<◌, ◌≤◌, ◌+◌, ℕ, true, false, None, Some, OnOk, OnErr, IfOk, IfErr, IsSome, IfSome, option_map, option_copied, nat_eq, cond};
 ghost use Rattle.mcv_queues.specs.Numbers.{put, IsLeast, leg_number};
-ghost use Rattle.mcv_queues.specs.Legs.{is_in_flight, is_in_flight_to, is_flight, rests_at, with_state, with_content, leg_content};
+ghost use Rattle.mcv_queues.specs.Legs.{is_in_flight, is_in_flight_to, is_flight, rests_at, with_state, with_stored, with_content, leg_content};
 ghost use Rattle.mcv_queues.specs.Groups.{IsFirstHeld, is_in};
 ghost use Rattle.mcv_queues.specs.declared.roots.Group.TheVariants.{WaitingFor, SpooledFor, HeldLegs, RefusedLegs, LegsInReplay};
 ghost use Rattle.mcv_queues.specs.Queues.{legs, room, in_flight, servers};
@@ -70,7 +70,7 @@ impl<T: Drop> Queues<T> {
         requires room { 0 < room self.old }
         requires new { legs self.old leg.0 ≡ None }
         requires server { server.0 < servers self.old }
-        ensures legs { legs self.new ≡ put (legs self.old) leg.0 (Some (record { server = server; state = State.Waiting; content = content })) }
+        ensures legs { legs self.new ≡ put (legs self.old) leg.0 (Some (record { server = server; state = State.Waiting; «record» = None; content = content })) }
         ensures flights { (s : ℕ) → in_flight self.new s ≡ in_flight self.old s }
         ensures servers { servers self.new ≡ servers self.old }
         ensures room { room self.old ≤ room self.new + 1 }
@@ -80,6 +80,7 @@ impl<T: Drop> Queues<T> {
             Leg {
                 server,
                 state: State::Waiting,
+                record: None,
                 content,
             },
         );
@@ -232,15 +233,16 @@ impl<T: Drop> Queues<T> {
         self.settle(leg.0, State::Refused);
     }
 
-    /// A leg is stored in the spool: one that is held, or a new one that was found there.
-    pub fn spooled(&mut self, leg: LegId)
+    /// A leg is stored in the spool, as the record of this number: one that is held, or a new one that was found there.
+    pub fn spooled(&mut self, leg: LegId, seq: u64)
         requires { is_in_flight (legs self.old leg.0) ≡ false }
-        ensures legs { legs self.new ≡ with_state (legs self.old) leg.0 State.InSpool }
+        ensures legs { legs self.new ≡ with_stored (legs self.old) leg.0 seq }
         ensures flights { (s : ℕ) → in_flight self.new s ≡ in_flight self.old s }
         ensures servers { servers self.new ≡ servers self.old }
         ensures room { room self.new ≡ room self.old }
     {
         self.settle(leg.0, State::InSpool);
+        self.rows.set_record(leg.0, seq);
     }
 
     /// The number of the first held leg.

@@ -35,9 +35,10 @@ fn refuse(queues: &mut Queues<u64>, number: u64) {
     }
 }
 
-fn store(queues: &mut Queues<u64>, number: u64) {
+/// Stores a leg as the record of this number.
+fn store(queues: &mut Queues<u64>, number: u64, seq: u64) {
     if !queues.is_in_flight(LegId(number)) {
-        queues.spooled(LegId(number));
+        queues.spooled(LegId(number), seq);
     }
 }
 
@@ -58,6 +59,10 @@ fn perform(queues: &mut Queues<u64>, number: u64) -> Option<u64> {
 
 fn state(queues: &Queues<u64>, number: u64) -> Option<State> {
     Some(queues.get(LegId(number))?.state)
+}
+
+fn record(queues: &Queues<u64>, number: u64) -> Option<u64> {
+    queues.get(LegId(number))?.record
 }
 
 #[test]
@@ -94,7 +99,7 @@ fn held_legs_come_before_refused_ones(rt: HostRuntime) -> Result<(), Fail> {
     assert!(rt; queues.first_held() == Some(LegId(1)));
     refuse(&mut queues, 1);
     assert!(rt; queues.first_held() == Some(LegId(2)));
-    store(&mut queues, 2);
+    store(&mut queues, 2, 0);
     assert!(rt; queues.first_held() == Some(LegId(1)));
     assert!(rt; state(&queues, 1) == Some(State::Refused));
     assert!(rt; queues.next(FIRST) == Ok(LegId(4)));
@@ -105,8 +110,11 @@ fn held_legs_come_before_refused_ones(rt: HostRuntime) -> Result<(), Fail> {
 fn replay_takes_the_least_number_and_keeps_what_fails(rt: HostRuntime) -> Result<(), Fail> {
     let mut queues = Queues::new(rt.alloc(), 2)?;
     add(&mut queues, FIRST, &[6, 2, 9])?;
-    store(&mut queues, 9);
-    store(&mut queues, 6);
+    assert!(rt; record(&queues, 6).is_none());
+    store(&mut queues, 9, 30);
+    store(&mut queues, 6, 31);
+    assert!(rt; record(&queues, 9) == Some(30));
+    assert!(rt; record(&queues, 2).is_none());
     assert!(rt; queues.in_replay().is_none());
     assert!(rt; queues.replay(FIRST) == Ok(LegId(6)));
     assert!(rt; queues.in_replay() == Some(LegId(6)));
@@ -115,7 +123,10 @@ fn replay_takes_the_least_number_and_keeps_what_fails(rt: HostRuntime) -> Result
     fail_replay(&mut queues, 6);
     assert!(rt; queues.in_replay().is_none());
     assert!(rt; state(&queues, 6) == Some(State::InSpool));
-    store(&mut queues, 2);
+    assert!(rt; record(&queues, 6) == Some(31));
+    store(&mut queues, 2, 32);
+    queues.set_content(LegId(2), 2);
+    assert!(rt; record(&queues, 2) == Some(32));
     assert!(rt; queues.replay(FIRST) == Ok(LegId(2)));
     assert!(rt; perform(&mut queues, 2) == Some(2));
     assert!(rt; queues.replay(FIRST) == Ok(LegId(6)));

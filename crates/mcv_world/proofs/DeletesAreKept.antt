@@ -21,7 +21,7 @@ use Rattle.mcv_symbolic.specs.Covered.{AreCovered, sizes_of}
 use Rattle.mcv_world.specs.World.{Place, Queued, Performed, Spooled, Gone, Call, World, tree_of, choice_of, history_of, reply_of, is_counted_delete}
 use Rattle.mcv_world.specs.Moves.{after, run}
 use Rattle.mcv_world.specs.Kept.{KeepsLeg}
-use Rattle.mcv_world.specs.Laws.{IsWorld, LosesNothing, NothingLaunchedIsLost, CoveredIsKept, CoveredWorldsAreKept, MovesKeepDeletes}
+use Rattle.mcv_world.specs.Laws.{IsWorld, LosesNothing, NothingLaunchedIsLost, ReadableIsLaunched, CoveredIsKept, CoveredWorldsAreKept, MovesKeepDeletes}
 use Rattle.mcv_world.proofs.CallsLegs.{among_has, has_among, deletes_send_deletes}
 use Rattle.mcv_world.proofs.Replies.{reply_answer}
 use Rattle.mcv_world.proofs.MovesKeepWorlds.{opening_is_world, moves_keep_worlds, run_world}
@@ -74,6 +74,9 @@ module _ (r : RoutesValue) (w : World) (covered : AreCovered r) (i : IsWorld r w
         counts = counts;
         place = not_gone h.leg.place (i.counted h.number h.leg h.there counted);
       }
+
+pub readable_is_launched : ReadableIsLaunched
+readable_is_launched r w k call reply covered i there delete e fine x readable = sent_to r w covered i k call there delete reply e fine x readable
 
 pub covered_worlds_are_kept : CoveredWorldsAreKept
 covered_worlds_are_kept r w covered i k call reply there delete e fine x readable = keeps_leg r w covered i k call there delete reply e fine x readable

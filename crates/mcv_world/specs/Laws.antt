@@ -1,14 +1,16 @@
 -- What holds of every world that moves can lead to, and what follows for deletes (own).
 use Rattle.std.specs.Prelude.{◌≡◌, ◌≢◌, ◌<◌, ℕ, true, List, Option, Some, is_some, map, slice_index}
 use Rattle.std.specs.List.{All}
-use Rattle.mcv_base.specs.Reply.{ReplyValue}
+use Rattle.mcv_base.specs.declared.operation.Op.TheVariants.{Delete}
+use Rattle.mcv_base.specs.declared.reply.Outcome.TheVariants.{Error}
+use Rattle.mcv_base.specs.Reply.{ReplyValue, outcome_of}
 use Rattle.mcv_pools.specs.Choice.{chosen_each}
 use Rattle.mcv_pools.specs.Symbol.{SymbolValue}
 use Rattle.mcv_route.specs.declared.launch.Launch.{Launch}
 use Rattle.mcv_route.specs.Eras.{IsEra, breaks_of, since_at}
 use Rattle.mcv_route.specs.Outcomes.{IsChoice, outcomes}
 use Rattle.mcv_route.specs.Routes.{RoutesValue}
-use Rattle.mcv_route.specs.Verdict.{Has, IsLegal, IsReachable}
+use Rattle.mcv_route.specs.Verdict.{Has, IsLegal, IsReachable, IsReadable, IsSent}
 use Rattle.mcv_symbolic.specs.Covered.{AreCovered}
 use Rattle.mcv_world.specs.World.{Gone, Call, Leg, World, tree_of, situation_of, choice_of, history_of, launched_by, reply_of, is_counted_delete}
 use Rattle.mcv_world.specs.Moves.{Move, is_move, after, run}
@@ -67,6 +69,13 @@ pub record LosesNothing (r : RoutesValue) (w : World) : Type 0 where
 
 abbrev pub NothingLaunchedIsLost : Type 0
 NothingLaunchedIsLost = (r : RoutesValue) (w : World) (ms : List Move) → IsOpening r w → ArePossible r w ms → LosesNothing r (run r w ms)
+
+-- ---- coverage puts readable servers among the launched
+
+-- where the routes are covered and a delete has a reply that isn't an error, a leg of it that lies under no shadow was launched to each server that could answer
+abbrev pub ReadableIsLaunched : Type 0
+ReadableIsLaunched = (r : RoutesValue) (w : World) (k : ℕ) (call : Call) (reply : ReplyValue) → AreCovered r → IsWorld r w → w.calls k ≡ Some call → call.op ≡ Delete → reply_of r call ≡ Some reply → outcome_of reply ≢ Error
+    → (x : ℕ) → IsReadable (tree_of r call.route) call.rest call.since (choice_of call) x → IsSent (tree_of r call.route) call.rest call.since (choice_of call) (outcomes (history_of call.recorded)) x
 
 -- ---- deletes are kept
 

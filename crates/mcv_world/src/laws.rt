@@ -1,6 +1,6 @@
 //! The laws of worlds: what holds of the definitions alone, and so of all code that meets them.
 
-ghost use Rattle.mcv_world.specs.Laws.{ChosenIsChoice, CoveredIsKept, CoveredWorldsAreKept, ForgetsSafely, LegsStay, MomentsHaveEras, MovesAreLive, MovesKeepDeletes, MovesKeepWorlds, MovesOfEveryWorld, NothingLaunchedIsLost, OpeningIsWorld, RepliesStay};
+ghost use Rattle.mcv_world.specs.Laws.{ChosenIsChoice, CoveredIsKept, CoveredWorldsAreKept, ForgetsSafely, LegsStay, MomentsHaveEras, MovesAreLive, MovesKeepDeletes, MovesKeepWorlds, MovesOfEveryWorld, NothingLaunchedIsLost, OpeningIsWorld, ReadableIsLaunched, RepliesStay};
 
 /// What holds of an opening world (`IsWorld`) still holds after each possible move.
 pub fn moves_keep_worlds()
@@ -12,6 +12,12 @@ pub fn moves_keep_worlds()
 /// and no counted delete leg is Gone.
 pub fn nothing_launched_is_lost()
     ensures { NothingLaunchedIsLost }
+{}
+
+/// Where the routes are covered and a delete has a reply that is no error, a leg of it that lies under no shadow was
+/// launched to each server that could answer a get or gets of its rest.
+pub fn readable_servers_are_launched()
+    ensures { ReadableIsLaunched }
 {}
 
 /// Where the routes are covered, each delete whose reply is no error keeps its legs after every list of possible moves.

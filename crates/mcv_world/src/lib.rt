@@ -6,5 +6,6 @@ mod laws;
 
 pub use laws::{
     covered_worlds_are_kept, deletes_are_kept, forgets_safely, hashes_make_choices,
-    moves_keep_worlds, nothing_launched_is_lost, what_is_there_stays,
+    moves_keep_worlds, nothing_launched_is_lost, readable_servers_are_launched,
+    what_is_there_stays,
 };

@@ -1,7 +1,9 @@
-use Rattle.std.proofs.Common.{◌∙◌, length, sym, ap, subst, take, arith}
+use Rattle.std.proofs.Common.{◌∙◌, ◌<◌, ◌+◌, ◌++◌, [], length, sym, ap, subst, take, arith}
+use Rattle.std.specs.Str.{bytes_eq}
+use Rattle.mcv_pools.specs.Table.{number_in}
 use Rattle.mcv_queues.specs.Queues.{legs}
 use Rattle.mcv_route.specs.Routes.{RoutesValue}
-use Rattle.mcv_core.specs.Opening.{AreOpened, known_records}
+use Rattle.mcv_core.specs.Opening.{AreOpened, known_numbers, known_records, with_server}
 use Rattle.mcv_core.proofs.Opened
 use Rattle.mcv_core.proofs.opening.opened_legs.Goals as goal
 
@@ -19,7 +21,7 @@ pub store-requires-clause-room : goal.store-requires-clause-room
 store-requires-clause-room c = let a = c.loop-record.invariant.room in let b = c.loop-record-test.true in omega (arith, a, b)
 
 pub store-requires-clause-free : goal.store-requires-clause-free
-store-requires-clause-free c = Opened.free _ _ _ c.loop-record.invariant.opened
+store-requires-clause-free c = Opened.free _ _ _ _ c.loop-record.invariant.opened
 
 pub store-requires-clause-known : goal.store-requires-clause-known
 store-requires-clause-known c = c.loop-record.invariant.servers
@@ -30,10 +32,14 @@ loop-record-preserved c =
     let servers = c.servers-servers.result.now in
     let records = c.args.records.now in
     let before = known_records servers (take i records) in
+    let numbers = known_numbers servers (take i records) in
     let more = Opened.known_more servers records i c.record-item.result c.loop-record-test.true c.record-item.is in
+    let more_numbers = Opened.numbers_more servers records i c.record-item.result c.loop-record-test.true c.record-item.is in
     record {
       table = c.loop-record.invariant.table;
-      opened = subst (λ k. AreOpened k (legs c.store.new.self.queues) c.store.new.self.count) (sym more) (c.in_ok-store.ensures.opened before c.loop-record.invariant.opened);
+      opened = subst (λ k. AreOpened k (known_numbers servers (take (i + 1) records)) (legs c.store.new.self.queues) c.store.new.self.count) (sym more)
+          (subst (λ m. AreOpened (before ++ with_server (number_in bytes_eq servers c.record-item.result.1.server) c.record-item.result.1.rest []) m (legs c.store.new.self.queues) c.store.new.self.count) (sym more_numbers)
+          (c.in_ok-store.ensures.opened before numbers c.loop-record.invariant.opened));
       flights = λ s. c.store.ensures.flights s ∙ c.loop-record.invariant.flights s;
       servers = c.store.ensures.servers ∙ c.loop-record.invariant.servers;
       room = let a = c.loop-record.invariant.room in let b = c.store.ensures.room in omega (arith, a, b);
@@ -43,8 +49,12 @@ loop-record-preserved c =
 pub returns-clause-opened : goal.returns-clause-opened
 returns-clause-opened c =
     let records = c.args.records.now in
-    let all = Opened.known_all c.servers-servers.result.now records c.loop-record.record-index (λ low. let past = c.loop-record-test.false in omega (arith, low, past)) in
-    subst (λ k. AreOpened k (legs c.loop-record.opened.queues) c.loop-record.opened.count) (all ∙ ap (λ servers. known_records servers records) c.loop-record.invariant.table) c.loop-record.invariant.opened
+    let past : c.loop-record.record-index < length records → ⊥ = λ low. let past = c.loop-record-test.false in omega (arith, low, past) in
+    let all = Opened.known_all c.servers-servers.result.now records c.loop-record.record-index past in
+    let all_numbers = Opened.numbers_all c.servers-servers.result.now records c.loop-record.record-index past in
+    subst (λ k. AreOpened k (known_numbers c.args.accepted.now.servers records) (legs c.loop-record.opened.queues) c.loop-record.opened.count) (all ∙ ap (λ servers. known_records servers records) c.loop-record.invariant.table)
+    (subst (λ m. AreOpened (known_records c.servers-servers.result.now (take c.loop-record.record-index records)) m (legs c.loop-record.opened.queues) c.loop-record.opened.count)
+    (all_numbers ∙ ap (λ servers. known_numbers servers records) c.loop-record.invariant.table) c.loop-record.invariant.opened)
 
 pub returns-clause-flights : goal.returns-clause-flights
 returns-clause-flights c = c.loop-record.invariant.flights

@@ -1,4 +1,4 @@
-use Rattle.std.proofs.Common.{◌≡◌, List, [], Result, Ok, Err, Vec, length, subst, ◌∙◌}
+use Rattle.std.proofs.Common.{◌≡◌, [], Result, Ok, Err, Vec, length, subst}
 use Rattle.std.specs.Prelude.{IfOk, option_map, slice_index}
 use Rattle.std.specs.declared.alloc.Global.{Global}
 use Rattle.mcv_base.specs.declared.operation.Mark.TheVariants.{Plain}

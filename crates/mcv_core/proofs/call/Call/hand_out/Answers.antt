@@ -1,4 +1,4 @@
-use Rattle.std.proofs.Common.{◌≡◌, ◌<◌, ◌≤◌, ◌∙◌, length, refl, sym, ap, rules, arith, Some, None, option_map, true, false, true≢false}
+use Rattle.std.proofs.Common.{◌≡◌, ◌∙◌, length, refl, sym, ap, rules, Some, option_map, true, false, true≢false}
 use Rattle.std.specs.Prelude.{is_some, option_and_then, slice_get}
 use Rattle.std.proofs.lemmas.Option.{slice_get_read}
 use Rattle.mcv_base.specs.Reply.{part_value}

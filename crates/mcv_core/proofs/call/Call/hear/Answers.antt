@@ -1,9 +1,11 @@
-use Rattle.std.proofs.Common.{◌≡◌, ◌≤◌, ◌∙◌, length, ap, sym, refl, rules, arith}
+use Rattle.std.proofs.Common.{◌≡◌, ◌∙◌, ap, refl, arith}
 use Rattle.mcv_core.specs.Tracked.{fresh}
 use Rattle.mcv_queues.specs.Queues.{legs, room, servers as known}
 use Rattle.mcv_world.specs.World.{tree_of, situation_of, choice_of}
 use Rattle.mcv_core.specs.Rows.{call_of, entries_of, past_of}
+use Rattle.mcv_core.specs.Facts.{records_in}
 use Rattle.mcv_core.proofs.Recordings
+use Rattle.mcv_core.proofs.SpoolNumbers
 use Rattle.mcv_core.proofs.call.Call.hear.Goals as goal
 
 pub note-requires : goal.note-requires
@@ -44,3 +46,7 @@ returns-clause-recorded c r w k core can running next_is same =
     Recordings.has_recorded r w k call c.args.entry core can running c.args.outcome c.args.taken c.note.new.self c.note.ensures.noted fresh1
     c.launch-launched.new.self (legs c.args.queues.now) (legs c.launch-launched.new.queues) c.args.next next_is c.launch-launched.ensures.same c.launch-launched.ensures.launched tracked1 c.note.ensures.count same
     _ c.launch-launched.ensures.count refl c.has_ended.ensures
+
+pub returns-clause-records : goal.returns-clause-records
+returns-clause-records c =
+    ap records_in c.launch-launched.ensures.launched.legs_are ∙ SpoolNumbers.records_launched c.args.next (fresh c.note.new.self.state) c.note.new.self.entries.items (legs c.args.queues.now) c.requires.can.free

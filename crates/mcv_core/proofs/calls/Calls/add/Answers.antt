@@ -1,4 +1,4 @@
-use Rattle.std.proofs.Common.{◌≡◌, Result, Ok, Err, sym, true≢false}
+use Rattle.std.proofs.Common.{Result, Ok, Err, sym, true≢false}
 use Rattle.std.specs.Prelude.{IsOk, OnOk}
 use Rattle.std.proofs.Math.Path.{fun_ext}
 use Rattle.mcv_core.proofs.calls.Calls.add.Goals as goal

@@ -1,4 +1,4 @@
-use Rattle.std.proofs.Common.{◌≡◌, ◌∙◌, ap, sym, subst, rules}
+use Rattle.std.proofs.Common.{◌∙◌, ap, sym, subst, rules}
 use Rattle.std.specs.Option.{option_copied_mut}
 use Rattle.std.proofs.Math.Path.{fun_ext}
 use Rattle.mcv_world.proofs.Numbers.{same_some}

@@ -1,16 +1,18 @@
-use Rattle.std.proofs.Common.{◌≡◌, ◌∙◌, ◌+◌, ◌-◌, ◌*◌, ◌<◌, ◌≤◌, ◌^◌, suc, length, refl, sym, ap, subst, arith, Some}
+use Rattle.std.proofs.Common.{◌≡◌, ◌∙◌, ◌+◌, ◌-◌, ◌*◌, suc, length, refl, sym, ap, subst, arith, Some}
 use Rattle.std.specs.Arc.{arc_value}
 use Rattle.std.proofs.Math.Path.{fun_ext}
-use Rattle.mcv_queues.specs.Queues.{in_flight, legs, room, servers}
+use Rattle.mcv_queues.specs.Queues.{legs, room, servers}
 use Rattle.mcv_world.specs.World.{put}
-use Rattle.mcv_core.specs.Beginning.{began_by, has_begun}
+use Rattle.mcv_core.specs.Beginning.{began_by}
 use Rattle.mcv_core.specs.Calls.{calls_at}
+use Rattle.mcv_core.specs.Facts.{records_in}
 use Rattle.mcv_core.specs.CoreView.{Moved}
-use Rattle.mcv_core.specs.Rows.{entries_of, rows_of, state_of}
+use Rattle.mcv_core.specs.Rows.{rows_of, state_of}
 use Rattle.mcv_core.specs.Sound.{IsSound}
 use Rattle.mcv_core.specs.Tracked.{fresh}
 use Rattle.mcv_core.specs.View.{core_view, since_of}
 use Rattle.mcv_core.proofs.Begun
+use Rattle.mcv_core.proofs.SpoolNumbers
 use Rattle.mcv_core.proofs.dispatcher.Dispatcher.add.Goals as goal
 
 pub launch-launched-requires-clause-can : goal.launch-launched-requires-clause-can
@@ -71,3 +73,9 @@ returns-clause-view c =
 
 pub returns-clause-moves : goal.returns-clause-moves
 returns-clause-moves c = subst (λ v. Moved (core_view c.args.self.now) v (began_by c.args.call)) (sym (returns-clause-view c)) (Begun.moved c.args.self.now c.args.call c.requires)
+
+pub returns-clause-records : goal.returns-clause-records
+returns-clause-records c =
+    let d = c.args.self.now in
+    ap records_in c.launch-launched.ensures.launched.legs_are
+    ∙ SpoolNumbers.records_launched d.next_leg (fresh c.args.call.state) c.args.call.entries.items (legs d.queues) (Begun.can_launch d c.args.call c.requires).free

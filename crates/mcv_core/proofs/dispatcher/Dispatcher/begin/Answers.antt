@@ -3,7 +3,6 @@ use Rattle.std.specs.Arc.{arc_value}
 use Rattle.std.specs.Prelude.{slice_get}
 use Rattle.mcv_route.specs.View.{view}
 use Rattle.mcv_core.specs.Beginning.{HasLegRoom, HasRoom}
-use Rattle.mcv_core.specs.View.{core_view}
 use Rattle.mcv_core.proofs.Begun
 use Rattle.mcv_core.proofs.dispatcher.Dispatcher.begin.Goals as goal
 

@@ -1,4 +1,4 @@
-use Rattle.std.proofs.Common.{◌≡◌, ◌∙◌, ap, rules, option_map}
+use Rattle.std.proofs.Common.{◌≡◌, rules, option_map}
 use Rattle.std.specs.Arc.{arc_value}
 use Rattle.mcv_route.specs.Eras.{breaks_of, since_at}
 use Rattle.mcv_core.proofs.Resting

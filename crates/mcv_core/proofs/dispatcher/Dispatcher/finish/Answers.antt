@@ -1,27 +1,22 @@
-use Rattle.std.proofs.Common.{◌≡◌, ◌∙◌, ◌+◌, ◌-◌, ◌≤◌, ◌&&◌, not, cond, refl, sym, ap, subst, true, false, arith, rules, true≢false, Some, Ok, Err}
-use Rattle.std.specs.Arc.{arc_value}
-use Rattle.mcv_base.specs.declared.reply.FixedReply.TheVariants.{Lost, NotFound}
+use Rattle.std.proofs.Common.{◌≡◌, ◌∙◌, ◌&&◌, not, cond, sym, ap, subst, true≢false}
 use Rattle.mcv_base.specs.Operation.{is_delete}
-use Rattle.mcv_base.specs.Reply.{fixed_value, not_found, part_value}
-use Rattle.mcv_queues.specs.Legs.{is_flight, is_in_flight}
-use Rattle.mcv_queues.specs.Marks.{answered_mark, lost_mark, marks}
+use Rattle.mcv_base.specs.Reply.{part_value}
+use Rattle.mcv_queues.specs.Legs.{is_flight}
 use Rattle.mcv_queues.specs.Queues.{legs}
 use Rattle.mcv_queues.specs.declared.leg.State.TheVariants as states
-use Rattle.mcv_world.specs.Moves.{counted_as, is_error_reply}
+use Rattle.mcv_world.specs.Moves.{is_error_reply}
 use Rattle.mcv_events.specs.QueuedLegs.{count_in}
 use Rattle.mcv_events.specs.Rows.{is_unanswered}
-use Rattle.mcv_core.specs.CoreView.{HasDone, at_row, finished, held, landing_at, place_after, refused, replayed_in, sent_in, step_to, stores}
-use Rattle.mcv_core.specs.Errands.{launch_of}
-use Rattle.mcv_core.specs.Facts.{counts_in, is_counting_delete}
+use Rattle.mcv_core.specs.CoreView.{HasDone, at_row, finished, place_after, step_to}
 use Rattle.mcv_core.specs.Rows.{awaiting_state, row_by, state_of}
 use Rattle.mcv_core.specs.Settling.{settled_row}
-use Rattle.mcv_core.specs.View.{core_view}
+use Rattle.mcv_core.specs.View.{core_view, records_after, records_of}
 use Rattle.mcv_core.specs.declared.settle.Settling.TheVariants as kinds
 use Rattle.mcv_core.specs.declared.step.Change.TheVariants as changes
 use Rattle.mcv_core.specs.declared.step.Place.TheVariants as places
-use Rattle.mcv_core.proofs.Does
 use Rattle.mcv_core.proofs.Landings
 use Rattle.mcv_core.proofs.LegViews
+use Rattle.mcv_core.proofs.SpoolNumbers
 use Rattle.mcv_core.proofs.dispatcher.Dispatcher.finish.Goals as goal
 
 pub settle-requires : goal.settle-requires
@@ -34,8 +29,8 @@ settle-requires c =
       one = c.requires.one;
     }
 
-pub returns : goal.returns
-returns c =
+pub returns-clause-done : goal.returns-clause-done
+returns-clause-done c =
     let d = c.args.self.now in
     let n = c.args.leg.0 in
     let l = Landings.seen (legs d.queues n) c.args.facts c.requires.at in
@@ -44,4 +39,9 @@ returns c =
     c.after-place.ensures ∙ ap (λ b. cond (is_delete c.args.facts.op && not b) places.Performed places.Gone) c.is_error.ensures
     ∙ ap (λ o. cond (is_delete o && not (is_error_reply y)) places.Performed places.Gone) (sym (ap (λ f. f.op) l.is)) in
     subst (λ o. HasDone (at_row (finished (core_view d) n y) o) (core_view c.settle.new.self) (step_to c.after-place.result changes.Answered)) (sym (LegViews.there d n l.leg l.at))
-    (ap (λ p. step_to p changes.Answered) place, c.settle.ensures ∙ ap (settled_row (core_view d) n kinds.Gone y) (LegViews.there d n l.leg l.at))
+    (ap (λ p. step_to p changes.Answered) place, c.settle.ensures.view ∙ ap (settled_row (core_view d) n kinds.Gone y) (LegViews.there d n l.leg l.at))
+
+pub returns-clause-records : goal.returns-clause-records
+returns-clause-records c =
+    let was = records_of c.args.self.now in
+    c.settle.ensures.records ∙ sym (ap (λ p. records_after p c.args.leg.0 was) c.after-place.ensures ∙ SpoolNumbers.records_gone (is_delete c.args.facts.op && not c.is_error.result) c.args.leg.0 was)

@@ -1,4 +1,4 @@
-use Rattle.std.proofs.Common.{◌≡◌, ◌∙◌, sym, ap, subst, rules, true, false, true≢false, refl, Option, Some, None, option_map}
+use Rattle.std.proofs.Common.{◌≡◌, ◌∙◌, sym, subst, rules, true, false, true≢false, refl, Option, Some, None, option_map}
 use Rattle.std.specs.Prelude.{is_none}
 use Rattle.mcv_queues.specs.Groups.{is_in}
 use Rattle.mcv_queues.specs.Numbers.{IsLeast, leg_number}

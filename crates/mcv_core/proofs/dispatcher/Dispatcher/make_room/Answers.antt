@@ -1,6 +1,3 @@
-use Rattle.std.specs.Arc.{arc_value}
-use Rattle.mcv_queues.specs.Queues.{legs, room, servers}
-use Rattle.mcv_core.specs.Calls.{calls_at}
 use Rattle.mcv_core.proofs.Begun
 use Rattle.mcv_core.proofs.dispatcher.Dispatcher.make_room.Goals as goal
 

@@ -6,5 +6,5 @@ use Rattle.mcv_core.proofs.dispatcher.Dispatcher.mark.Goals as goal
 pub invariant_of-self : goal.invariant_of-self
 invariant_of-self c = record { sound = c.args.self.now.sound; table = c.mark.ensures.servers ∙ c.args.self.now.table }
 
-pub returns : goal.returns
-returns c = marked_view c.args.self.now c.mark.new.self c.args.server.0 c.args.server.0 checked_mark c.mark.ensures.marks refl
+pub returns-clause-view : goal.returns-clause-view
+returns-clause-view c = marked_view c.args.self.now c.mark.new.self c.args.server.0 c.args.server.0 checked_mark c.mark.ensures.marks refl

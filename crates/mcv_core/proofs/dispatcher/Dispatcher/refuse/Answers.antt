@@ -1,22 +1,14 @@
-use Rattle.std.proofs.Common.{◌≡◌, ◌∙◌, ◌+◌, ◌-◌, ◌≤◌, ◌&&◌, not, cond, refl, sym, ap, subst, true, false, arith, rules, true≢false}
-use Rattle.mcv_base.specs.declared.reply.FixedReply.TheVariants.{Lost, NotFound}
-use Rattle.mcv_base.specs.Reply.{fixed_value, not_found, part_value}
-use Rattle.mcv_queues.specs.Legs.{is_flight, is_in_flight}
+use Rattle.std.proofs.Common.{◌∙◌, sym, ap}
+use Rattle.mcv_base.specs.Reply.{part_value}
+use Rattle.mcv_queues.specs.Legs.{is_flight}
 use Rattle.mcv_queues.specs.Queues.{legs}
 use Rattle.mcv_queues.specs.declared.leg.State.TheVariants as states
-use Rattle.mcv_world.specs.Moves.{is_error_reply}
 use Rattle.mcv_events.specs.QueuedLegs.{count_in}
 use Rattle.mcv_events.specs.Rows.{is_unanswered}
-use Rattle.mcv_core.specs.CoreView.{HasDone, at_row, held, landing_at, place_after, refused, replayed_in, sent_in, step_to, stores}
-use Rattle.mcv_core.specs.Facts.{counts_in, is_counting_delete}
-use Rattle.mcv_core.specs.Rows.{awaiting_state, row_by, state_of}
-use Rattle.mcv_core.specs.Settling.{settled_row}
+use Rattle.mcv_core.specs.Rows.{awaiting_state, state_of}
 use Rattle.mcv_core.specs.View.{core_view}
 use Rattle.mcv_core.specs.declared.settle.Settling.TheVariants as kinds
-use Rattle.mcv_core.specs.declared.step.Change.TheVariants as changes
-use Rattle.mcv_core.specs.declared.step.Place.TheVariants as places
 use Rattle.mcv_core.proofs.Landings
-use Rattle.mcv_core.proofs.LegViews
 use Rattle.mcv_core.proofs.dispatcher.Dispatcher.refuse.Goals as goal
 
 pub settle-requires : goal.settle-requires
@@ -29,8 +21,11 @@ settle-requires c =
       one = c.lost-reply.ensures.taken ∙ sym c.lost-reply.ensures.outcome;
     }
 
-pub returns : goal.returns
-returns c =
+pub returns-clause-done : goal.returns-clause-done
+returns-clause-done c =
     let d = c.args.self.now in
     let l = Landings.stated (legs d.queues c.args.leg.0) states.Held c.requires in
-    Landings.refused_done d c.args.leg.0 l.leg l.at l.is (part_value c.lost-reply.result.outcome) c.lost-reply.ensures.outcome (core_view c.settle.new.self) c.settle.ensures
+    Landings.refused_done d c.args.leg.0 l.leg l.at l.is (part_value c.lost-reply.result.outcome) c.lost-reply.ensures.outcome (core_view c.settle.new.self) c.settle.ensures.view
+
+pub returns-clause-records : goal.returns-clause-records
+returns-clause-records c = c.settle.ensures.records

@@ -1,8 +1,10 @@
-use Rattle.std.proofs.Common.{◌≡◌, ◌∙◌, sym, ap, rules, None, Some}
+use Rattle.std.proofs.Common.{◌∙◌, sym, ap, None, Some}
 use Rattle.mcv_queues.specs.Queues.{legs}
-use Rattle.mcv_core.specs.View.{core_view}
+use Rattle.mcv_queues.specs.declared.leg.State.TheVariants as states
+use Rattle.mcv_core.specs.Facts.{records_in}
 use Rattle.mcv_core.proofs.LegViews
 use Rattle.mcv_core.proofs.Sendings
+use Rattle.mcv_core.proofs.SpoolNumbers
 use Rattle.mcv_core.proofs.dispatcher.Dispatcher.replay.Goals as goal
 
 pub invariant_of-self : goal.invariant_of-self
@@ -32,3 +34,6 @@ pub returns-in-Err-clause-nothing : goal.returns-in-Err-clause-nothing
 returns-in-Err-clause-nothing c = λ e.
     let both = c.in-Err.ensures.nothing (Sendings.nothing_waits c.in-Err.fault (sym c.refused.ensures ∙ e)) in
     (both.0, Sendings.least_spooled c.args.self.now c.args.server.0 both.0 None both.1)
+
+pub returns-in-Ok-clause-records : goal.returns-in-Ok-clause-records
+returns-in-Ok-clause-records c = ap records_in c.in-Ok.ensures.legs ∙ SpoolNumbers.records_kept (legs c.args.self.now.queues) c.in-Ok.leg.0 states.InReplay

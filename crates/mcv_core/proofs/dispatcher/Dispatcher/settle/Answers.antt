@@ -1,11 +1,13 @@
-use Rattle.std.proofs.Common.{◌≡◌, ◌∙◌, ◌+◌, ◌<◌, ◌≤◌, refl, sym, ap, subst, arith}
+use Rattle.std.proofs.Common.{◌∙◌, sym, ap, subst}
 use Rattle.std.specs.Arc.{arc_value}
 use Rattle.mcv_queues.specs.Queues.{in_flight, legs, room, servers}
 use Rattle.mcv_core.specs.Calls.{calls_at}
+use Rattle.mcv_core.specs.Facts.{records_in}
 use Rattle.mcv_core.specs.Rows.{rows_of}
 use Rattle.mcv_core.specs.Sound.{IsSound}
 use Rattle.mcv_core.specs.View.{core_view, since_of}
 use Rattle.mcv_core.proofs.Settled
+use Rattle.mcv_core.proofs.SpoolNumbers
 use Rattle.mcv_core.proofs.dispatcher.Dispatcher.settle.Goals as goal
 
 pub leave-requires : goal.leave-requires
@@ -66,8 +68,8 @@ invariant_of-self c =
       table = d.table;
     }
 
-pub returns : goal.returns
-returns c =
+pub returns-clause-view : goal.returns-clause-view
+returns-clause-view c =
     let d = c.args.self.now in
     let n = c.args.leg.0 in
     let can = c.requires.can in
@@ -78,3 +80,8 @@ returns c =
     let removed = Settled.code_removed d n c.args.to can c.owner_of-owner.result.call call_is (calls_at c.hear-step.new.self) (calls_at c.remove_if.new.self) c.hear-step.result.ended c.remove_if.ensures in
     ap (λ m. record (core_view d) { rows = rows_of (calls_at c.remove_if.new.self) (legs c.hear-step.new.queues) (since_of d) d.next_call m; flights = in_flight c.hear-step.new.queues }) c.number_after-self.ensures
     ∙ Settled.view_settled d n c.args.to can c.leave.new.queues c.leave.ensures.legs c.args.outcome c.args.taken c.requires.one (calls_at c.hear-step.new.self) c.hear-step.new.queues c.hear-step.result recorded c.remove_if.new.self removed c.leave.ensures.flights c.hear-step.ensures.flights
+
+pub returns-clause-records : goal.returns-clause-records
+returns-clause-records c =
+    let can = c.requires.can in
+    c.hear-step.ensures.records ∙ ap records_in c.leave.ensures.legs ∙ SpoolNumbers.records_settled c.args.to (legs c.args.self.now.queues) c.args.leg.0 can.leg can.at

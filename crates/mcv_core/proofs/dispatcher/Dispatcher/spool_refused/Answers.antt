@@ -1,6 +1,5 @@
-use Rattle.std.proofs.Common.{◌≡◌, ◌∙◌, refl, sym, ap, rules}
+use Rattle.std.proofs.Common.{◌∙◌, sym, ap}
 use Rattle.mcv_queues.specs.Queues.{legs}
-use Rattle.mcv_queues.specs.declared.leg.State.TheVariants as states
 use Rattle.mcv_core.specs.View.{core_view}
 use Rattle.mcv_core.proofs.Does
 use Rattle.mcv_core.proofs.Landings
@@ -10,7 +9,7 @@ pub returns-in-Held-clause-effect : goal.returns-in-Held-clause-effect
 returns-in-Held-clause-effect c =
     let d = c.args.self.now in
     let l = Landings.seen (legs d.queues c.args.leg.0) c.in-Some.facts (sym c.facts.ensures ∙ c.in-Some.is) in
-    Landings.refusing_effect d c.args.leg.0 l.leg l.at (ap (λ f. f.state) l.is ∙ c.in-Held.is) (core_view c.refuse.new.self) c.refuse.result c.refuse.ensures
+    Landings.refusing_effect d c.args.leg.0 l.leg l.at (ap (λ f. f.state) l.is ∙ c.in-Held.is) (core_view c.refuse.new.self) c.refuse.result c.refuse.ensures.done
 
 pub returns-in-Held-clause-does : goal.returns-in-Held-clause-does
 returns-in-Held-clause-does c =

@@ -1,15 +1,13 @@
-use Rattle.std.proofs.Common.{◌≡◌, ◌∙◌, refl, sym, ap, subst, true, false, rules, Some, None, Ok, Err}
-use Rattle.mcv_base.specs.Reply.{not_found}
+use Rattle.std.proofs.Common.{◌≡◌, ◌∙◌, sym, ap, true, rules, Some}
 use Rattle.mcv_queues.specs.Queues.{legs}
 use Rattle.mcv_queues.specs.declared.leg.State.TheVariants as states
 use Rattle.mcv_world.specs.Moves.{is_one}
-use Rattle.mcv_events.specs.Rows as rows
-use Rattle.mcv_core.specs.CoreView.{HasEffect, is_record, refusing_at, spooling_at}
+use Rattle.mcv_world.specs.World.{put}
+use Rattle.mcv_core.specs.CoreView.{is_record}
 use Rattle.mcv_core.specs.Rows.{state_of}
-use Rattle.mcv_core.specs.View.{core_view}
+use Rattle.mcv_core.specs.View.{core_view, records_of}
 use Rattle.mcv_core.proofs.Does
 use Rattle.mcv_core.proofs.Landings
-use Rattle.mcv_core.proofs.LegViews
 use Rattle.mcv_core.proofs.dispatcher.Dispatcher.spooled.Goals as goal
 
 pub returns-in-Held-clause-effect : goal.returns-in-Held-clause-effect
@@ -19,7 +17,7 @@ returns-in-Held-clause-effect c =
     let l = Landings.seen (legs d.queues n) c.in-Some.facts (sym c.facts.ensures ∙ c.in-Some.is) in
     let state : l.leg.state ≡ states.Held = ap (λ f. f.state) l.is ∙ c.in-Held.is in
     let its : is_one ((core_view d).rows.legs n) (is_record (core_view d) n c.args.stored.«record».server c.args.stored.«record».rest) ≡ true = search rules in
-    Landings.storing_effect d n l.leg l.at (ap state_of state) c.args.stored.«record».server c.args.stored.«record».rest its (core_view c.store_held.new.self) c.store_held.result c.store_held.ensures
+    Landings.storing_effect d n l.leg l.at (ap state_of state) c.args.stored.«record».server c.args.stored.«record».rest its (core_view c.store_held.new.self) c.store_held.result c.store_held.ensures.done
 
 pub returns-in-Held-clause-does : goal.returns-in-Held-clause-does
 returns-in-Held-clause-does c =
@@ -32,8 +30,16 @@ returns-in-Refused-clause-effect c =
     let l = Landings.seen (legs d.queues n) c.in-Some.facts (sym c.facts.ensures ∙ c.in-Some.is) in
     let state : l.leg.state ≡ states.Refused = ap (λ f. f.state) l.is ∙ c.in-Refused.is in
     let its : is_one ((core_view d).rows.legs n) (is_record (core_view d) n c.args.stored.«record».server c.args.stored.«record».rest) ≡ true = search rules in
-    Landings.storing_effect d n l.leg l.at (ap state_of state) c.args.stored.«record».server c.args.stored.«record».rest its (core_view c.store_refused.new.self) c.store_refused.result c.store_refused.ensures
+    Landings.storing_effect d n l.leg l.at (ap state_of state) c.args.stored.«record».server c.args.stored.«record».rest its (core_view c.store_refused.new.self) c.store_refused.result c.store_refused.ensures.done
 
 pub returns-in-Refused-clause-does : goal.returns-in-Refused-clause-does
 returns-in-Refused-clause-does c =
     Does.spooling_does (core_view c.args.self.now) (core_view c.store_refused.new.self) c.args.leg.0 c.args.stored.«record».server c.args.stored.«record».rest c.store_refused.result c.args.self.now.sound.core (returns-in-Refused-clause-effect c)
+
+pub returns-in-Held-clause-records : goal.returns-in-Held-clause-records
+returns-in-Held-clause-records c =
+    c.store_held.ensures.records ∙ ap (λ q. put (records_of c.args.self.now) c.args.leg.0 (Some q)) c.seq.ensures
+
+pub returns-in-Refused-clause-records : goal.returns-in-Refused-clause-records
+returns-in-Refused-clause-records c =
+    c.store_refused.ensures.records ∙ ap (λ q. put (records_of c.args.self.now) c.args.leg.0 (Some q)) c.seq-in-Refused.ensures

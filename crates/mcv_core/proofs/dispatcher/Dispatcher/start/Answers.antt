@@ -1,4 +1,4 @@
-use Rattle.std.proofs.Common.{◌≡◌, ◌∙◌, ◌+◌, ◌≤◌, length, sym, ap, subst, rules, arith}
+use Rattle.std.proofs.Common.{◌≡◌, length, subst, rules, arith}
 use Rattle.std.specs.Arc.{arc_value}
 use Rattle.mcv_route.specs.Routes.{IsSoundRoutes}
 use Rattle.mcv_core.specs.View.{core_view}

@@ -1,14 +1,11 @@
-use Rattle.std.proofs.Common.{◌≡◌, ◌∙◌, ◌+◌, ◌-◌, ◌≤◌, ◌&&◌, not, cond, refl, sym, ap, subst, true, false, arith, rules, true≢false, Some}
-use Rattle.mcv_base.specs.declared.reply.FixedReply.TheVariants.{Lost, NotFound}
-use Rattle.mcv_base.specs.Reply.{fixed_value, not_found, part_value}
-use Rattle.mcv_queues.specs.Legs.{is_flight, is_in_flight}
+use Rattle.std.proofs.Common.{◌∙◌, refl, sym, ap, subst, Some}
+use Rattle.mcv_base.specs.Reply.{part_value}
+use Rattle.mcv_queues.specs.Legs.{is_flight}
 use Rattle.mcv_queues.specs.Queues.{legs}
 use Rattle.mcv_queues.specs.declared.leg.State.TheVariants as states
-use Rattle.mcv_world.specs.Moves.{is_error_reply}
 use Rattle.mcv_events.specs.QueuedLegs.{count_in}
 use Rattle.mcv_events.specs.Rows.{is_unanswered}
-use Rattle.mcv_core.specs.CoreView.{HasDone, at_row, held, landing_at, place_after, refused, replayed_in, sent_in, step_to, stores}
-use Rattle.mcv_core.specs.Facts.{counts_in, is_counting_delete}
+use Rattle.mcv_core.specs.CoreView.{HasDone, at_row, step_to, stores}
 use Rattle.mcv_core.specs.Rows.{awaiting_state, row_by, state_of}
 use Rattle.mcv_core.specs.Settling.{settled_row}
 use Rattle.mcv_core.specs.View.{core_view}
@@ -24,17 +21,20 @@ settle-requires c =
     let d = c.args.self.now in
     let l = Landings.stated (legs d.queues c.args.leg.0) states.Held c.requires in
     record {
-      can = Landings.can_settle d c.args.leg.0 l.leg l.at kinds.InSpool (ap (λ t. is_unanswered (awaiting_state t)) l.is) (ap is_flight l.is) (ap (λ t. count_in (state_of t)) l.is)
+      can = Landings.can_settle d c.args.leg.0 l.leg l.at (kinds.InSpool c.args.seq) (ap (λ t. is_unanswered (awaiting_state t)) l.is) (ap is_flight l.is) (ap (λ t. count_in (state_of t)) l.is)
           (λ e. Landings.counted_held d c.args.leg.0 l.leg l.at (ap (λ t. is_unanswered (state_of t)) l.is));
       one = c.not_found-reply.ensures.taken ∙ sym c.not_found-reply.ensures.outcome;
     }
 
-pub returns : goal.returns
-returns c =
+pub returns-clause-done : goal.returns-clause-done
+returns-clause-done c =
     let d = c.args.self.now in
     let l = Landings.stated (legs d.queues c.args.leg.0) states.Held c.requires in
     subst (λ o. HasDone (at_row (stores (core_view d) c.args.leg.0) o) (core_view c.settle.new.self) (step_to places.Spooled changes.Spooled)) (sym (LegViews.there d c.args.leg.0 l.leg l.at)) (
       refl,
-      c.settle.ensures ∙ ap (settled_row (core_view d) c.args.leg.0 kinds.InSpool (part_value c.not_found-reply.result.outcome)) (LegViews.there d c.args.leg.0 l.leg l.at)
-          ∙ ap (λ x. settled_row (core_view d) c.args.leg.0 kinds.InSpool x (Some (row_by state_of l.leg))) c.not_found-reply.ensures.outcome,
+      c.settle.ensures.view ∙ ap (settled_row (core_view d) c.args.leg.0 (kinds.InSpool c.args.seq) (part_value c.not_found-reply.result.outcome)) (LegViews.there d c.args.leg.0 l.leg l.at)
+          ∙ ap (λ x. settled_row (core_view d) c.args.leg.0 (kinds.InSpool c.args.seq) x (Some (row_by state_of l.leg))) c.not_found-reply.ensures.outcome,
     )
+
+pub returns-clause-records : goal.returns-clause-records
+returns-clause-records c = c.settle.ensures.records

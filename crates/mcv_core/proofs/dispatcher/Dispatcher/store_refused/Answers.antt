@@ -1,11 +1,10 @@
-use Rattle.std.proofs.Common.{◌≡◌, ◌∙◌, ◌+◌, ◌-◌, ◌≤◌, refl, sym, ap, subst, true, false, arith, rules}
+use Rattle.std.proofs.Common.{◌∙◌, ◌-◌, refl, sym, ap, subst, arith}
 use Rattle.mcv_queues.specs.Legs.{is_flight, is_in_flight}
 use Rattle.mcv_queues.specs.Queues.{legs}
 use Rattle.mcv_queues.specs.declared.leg.State.TheVariants as states
-use Rattle.mcv_events.specs.Rows.{is_unanswered}
-use Rattle.mcv_core.specs.CoreView.{HasDone, at_row, held, refused, replayed_in, step_to, stores}
-use Rattle.mcv_core.specs.Facts.{counts_in}
-use Rattle.mcv_core.specs.Rows.{awaiting_state, state_of}
+use Rattle.mcv_core.specs.CoreView.{HasDone, at_row, step_to, stores}
+use Rattle.mcv_core.specs.Facts.{records_in}
+use Rattle.mcv_core.specs.Rows.{state_of}
 use Rattle.mcv_core.specs.View.{core_view}
 use Rattle.mcv_core.specs.declared.step.Change.TheVariants as changes
 use Rattle.mcv_core.specs.declared.step.Place.TheVariants as places
@@ -14,6 +13,7 @@ use Rattle.mcv_core.specs.Sound.{spooled_in}
 use Rattle.mcv_core.proofs.Landings
 use Rattle.mcv_core.proofs.Landings.{stated}
 use Rattle.mcv_core.proofs.LegViews
+use Rattle.mcv_core.proofs.SpoolNumbers
 use Rattle.mcv_core.proofs.dispatcher.Dispatcher.store_refused.Goals as goal
 
 pub spooled-requires : goal.spooled-requires
@@ -34,13 +34,19 @@ invariant_of-self c =
     let some = LegViews.some_queued d c.args.leg.0 l.leg l.at (ap (λ t. count_in (state_of t)) l.is) in
     record {
       sound = subst (λ v. LegViews.IsSoundBy d c.spooled.new.self v) (sym c.stored-self.ensures)
-          (LegViews.sound_stored d c.args.leg.0 l.leg l.at l.is c.spooled.new.self c.spooled.ensures.legs c.spooled.ensures.room c.spooled.ensures.servers (d.counts.queued - 1) (omega (arith, some)));
+          (LegViews.sound_stored d c.args.leg.0 l.leg l.at l.is c.args.seq c.spooled.new.self c.spooled.ensures.legs c.spooled.ensures.room c.spooled.ensures.servers (d.counts.queued - 1) (omega (arith, some)));
       table = d.table;
     }
 
-pub returns : goal.returns
-returns c =
+pub returns-clause-done : goal.returns-clause-done
+returns-clause-done c =
     let d = c.args.self.now in
     let l = stated (legs d.queues c.args.leg.0) states.Refused c.requires in
     subst (λ o. HasDone (at_row (stores (core_view d) c.args.leg.0) o) (LegViews.view_with d c.spooled.new.self) (step_to places.Spooled changes.Spooled)) (sym (LegViews.there d c.args.leg.0 l.leg l.at))
-    (refl, Landings.stored_view d c.args.leg.0 l.leg l.at l.is c.spooled.new.self c.spooled.ensures.legs c.spooled.ensures.flights)
+    (refl, Landings.stored_view d c.args.leg.0 l.leg l.at l.is c.args.seq c.spooled.new.self c.spooled.ensures.legs c.spooled.ensures.flights)
+
+pub returns-clause-records : goal.returns-clause-records
+returns-clause-records c =
+    let d = c.args.self.now in
+    let l = stated (legs d.queues c.args.leg.0) states.Refused c.requires in
+    ap records_in c.spooled.ensures.legs ∙ SpoolNumbers.records_stored (legs d.queues) c.args.leg.0 c.args.seq l.leg l.at

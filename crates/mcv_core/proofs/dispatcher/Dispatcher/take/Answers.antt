@@ -1,6 +1,5 @@
-use Rattle.std.proofs.Common.{◌≡◌, ◌∙◌, refl, sym, ap, subst, rules, true, false, Option, Some, None}
+use Rattle.std.proofs.Common.{◌≡◌, rules, true}
 use Rattle.std.specs.Prelude.{is_some}
-use Rattle.mcv_base.specs.declared.reply.Part.{Part}
 use Rattle.mcv_core.specs.Calls.{calls_at}
 use Rattle.mcv_core.proofs.HandingOut
 use Rattle.mcv_core.proofs.Taken

@@ -1,5 +1,4 @@
-use Rattle.std.proofs.Common.{◌≡◌, sym, subst}
-use Rattle.mcv_base.specs.declared.reply.FixedReply.TheVariants.{Lost}
+use Rattle.std.proofs.Common.{sym, subst}
 use Rattle.mcv_core.specs.CoreView.{answer_at, loss_at, refusing_at, spooling_at}
 use Rattle.mcv_core.specs.Steps.{IsAnswered}
 use Rattle.mcv_core.specs.View.{core_view}
@@ -62,14 +61,14 @@ returns-in-Mark-clause-answered g c =
     let h = g.H.KeyHash.chosen c.args.self.now.hash in
     let v = core_view c.args.self.now.dispatcher in
     let w = core_view c.mark.new.self in
-    subst (λ e. IsAnswered h v e answer.Done w) (sym c.in-Mark.is) (Answering.marks h v w c.in-Mark.server c.mark.ensures)
+    subst (λ e. IsAnswered h v e answer.Done w) (sym c.in-Mark.is) (Answering.marks h v w c.in-Mark.server c.mark.ensures.view)
 
 pub returns-in-Unmark-clause-answered : goal.returns-in-Unmark-clause-answered
 returns-in-Unmark-clause-answered g c =
     let h = g.H.KeyHash.chosen c.args.self.now.hash in
     let v = core_view c.args.self.now.dispatcher in
     let w = core_view c.unmark.new.self in
-    subst (λ e. IsAnswered h v e answer.Done w) (sym c.in-Unmark.is) (Answering.unmarks h v w c.in-Unmark.server c.unmark.ensures)
+    subst (λ e. IsAnswered h v e answer.Done w) (sym c.in-Unmark.is) (Answering.unmarks h v w c.in-Unmark.server c.unmark.ensures.view)
 
 pub returns-in-Clock-clause-answered : goal.returns-in-Clock-clause-answered
 returns-in-Clock-clause-answered g c =

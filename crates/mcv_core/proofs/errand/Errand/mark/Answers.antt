@@ -1,5 +1,4 @@
 use Rattle.std.proofs.Common.{◌≡◌, ◌∙◌, sym, ap, rules, get_or}
-use Rattle.mcv_base.specs.declared.operation.Mark.{Mark}
 use Rattle.mcv_base.specs.declared.operation.Mark.TheVariants.{Plain}
 use Rattle.mcv_plan.specs.Evaluation.{no_leg}
 use Rattle.mcv_core.specs.Errands.{launches_of}

@@ -1,5 +1,4 @@
 use Rattle.std.proofs.Common.{◌≡◌, ◌∙◌, sym, ap, rules, get_or}
-use Rattle.mcv_base.specs.declared.operation.Op.{Op}
 use Rattle.mcv_base.specs.declared.operation.Op.TheVariants.{Get}
 use Rattle.mcv_plan.specs.Evaluation.{no_leg}
 use Rattle.mcv_core.specs.Errands.{launches_of}

@@ -1,0 +1,192 @@
+//! What the model expects the core to answer.
+
+use crate::amiss::Amiss;
+use crate::draw::{Deed, Say};
+use crate::model::{Call, Model, Spot};
+use crate::readable::has_outcome;
+use mcv_base::{Moment, Outcome, Part, Reply, ServerId};
+use mcv_core::{Answer, CoreFault, Place};
+use mcv_route::Answered;
+use mcv_rules::{Source, Status};
+use std::alloc::Global;
+
+/// What the core is to answer.
+#[derive(Clone, Copy, Debug, PartialEq, Eq)]
+pub(crate) enum Expected {
+    Call(usize),
+    Leg(usize),
+    Place(Place),
+    /// Where the call's reply is, and None where there is none to be taken.
+    Reply(usize, Option<Source>),
+    Done,
+    Refused(CoreFault),
+}
+
+/// Whether the two are one reply.
+fn is_same(one: &Part, other: &Part) -> bool {
+    match (one, other) {
+        (Part::Fixed(one), Part::Fixed(other)) => one == other,
+        (Part::Owned(one), Part::Owned(other)) => match (&**one, &**other) {
+            (
+                Reply::Hit { cas, body, .. },
+                Reply::Hit {
+                    cas: k,
+                    body: b,
+                    ..
+                },
+            ) => { cas == k && body.as_slice() == b.as_slice() }
+            (Reply::Fault(one), Reply::Fault(other)) => one.as_slice() == other.as_slice(),
+            _ => false,
+        },
+        _ => false,
+    }
+}
+
+/// Whether the part is the reply of this source.
+fn is_reply(answered: &[Answered], source: Option<Source>, part: &Option<Part>) -> bool {
+    match (source, part) {
+        (None, None) => true,
+        (Some(Source::Fixed(reply)), Some(Part::Fixed(fixed))) => reply == *fixed,
+        (Some(Source::Outcome(place)), Some(part)) => match answered.get(place) {
+            Some(answered) => is_same(&answered.reply, part),
+            None => false,
+        },
+        _ => false,
+    }
+}
+
+impl Model<'_> {
+    /// Whether the answer is the expected one.
+    pub(crate) fn is_expected(&self, expected: Expected, answer: &Answer) -> bool {
+        match (expected, answer) {
+            (Expected::Call(call), Answer::Call(number)) => call as u64 == number.0,
+            (Expected::Leg(leg), Answer::Leg(number)) => leg as u64 == number.0,
+            (Expected::Place(place), Answer::Place(there)) => place == *there,
+            (Expected::Reply(call, source), Answer::Reply(part)) => match self.calls.get(call) {
+                Some(call) => is_reply(&call.answered, source, part),
+                None => false,
+            },
+            (Expected::Done, Answer::Done) => true,
+            (Expected::Refused(fault), Answer::Refused(there)) => fault == *there,
+            _ => false,
+        }
+    }
+
+    /// The call's reply was taken, and each of its legs has an outcome.
+    fn has_ended(&self, number: usize, call: &Call) -> bool {
+        call.taken
+            && self
+                .legs
+                .iter()
+                .filter(|leg| leg.call == Some(number))
+                .all(|leg| has_outcome(&call.answered, &leg.launch.position))
+    }
+
+    /// Each call has ended, and no leg has to be sent or stored.
+    fn is_quiet(&self) -> bool {
+        let ended = self
+            .calls
+            .iter()
+            .enumerate()
+            .all(|(number, call)| self.has_ended(number, call));
+        ended
+            && self.legs.iter().all(|leg| matches!(
+                leg.spot,
+                Spot::Spooled | Spot::Performed | Spot::Gone
+            ))
+    }
+
+    fn of_begin(&self, key: usize) -> Expected {
+        let Some(key) = self.key(key) else {
+            return Expected::Refused(CoreFault::BadKey);
+        };
+        match key.route {
+            Some(_) => Expected::Call(self.calls.len()),
+            None => Expected::Refused(CoreFault::UnknownPrefix),
+        }
+    }
+
+    /// The server's first leg at this spot is sent, unless one is in flight.
+    fn of_sending(&self, server: ServerId, spot: Spot) -> Expected {
+        if self.flight(server).is_some() {
+            return Expected::Refused(CoreFault::Busy);
+        }
+        match self.first_at(server, spot) {
+            Some(leg) => Expected::Leg(leg),
+            None => Expected::Refused(CoreFault::NothingWaiting),
+        }
+    }
+
+    /// Where a leg that is in flight is by its server's reply, or its loss: an error, or not.
+    fn of_landing(&self, number: usize, failed: bool) -> Expected {
+        let Some(leg) = self.legs.get(number) else {
+            return Expected::Refused(CoreFault::NoSuchLeg);
+        };
+        if !leg.spot.is_in_flight() {
+            return Expected::Refused(CoreFault::NoSuchLeg);
+        }
+        let place = if leg.spot == Spot::Replayed && failed {
+            Place::Spooled
+        } else if leg.is_counted_delete() && failed {
+            Place::Held
+        } else if leg.launch.op.is_delete() && !failed {
+            Place::Performed
+        } else {
+            Place::Gone
+        };
+        Expected::Place(place)
+    }
+
+    /// An error of a server, or what no server says to the leg's operation, is a failure.
+    fn is_failure(&self, alloc: Global, leg: usize, say: Say) -> Result<bool, Amiss> {
+        let parts = say.parts(alloc, leg)?;
+        let failed = match self.legs.get(leg) {
+            Some(leg) => !parts.may_answer(leg.launch.op),
+            None => true,
+        };
+        Ok(failed || parts.outcome() == Outcome::Error)
+    }
+
+    /// A held leg is in this place then.
+    fn of_spool(&self, leg: usize, taken: bool, place: Place) -> Expected {
+        match self.spot(leg) {
+            Some(spot) if taken && spot.is_held() => Expected::Place(place),
+            _ => Expected::Refused(CoreFault::NoSuchLeg),
+        }
+    }
+
+    fn of_take(&self, alloc: Global, number: usize) -> Result<Expected, Amiss> {
+        let Some(call) = self.calls.get(number) else {
+            return Ok(Expected::Refused(CoreFault::NoSuchCall));
+        };
+        if self.has_ended(number, call) {
+            return Ok(Expected::Refused(CoreFault::NoSuchCall));
+        }
+        let source = match self.status(alloc, call)? {
+            Status::Replied(source) if !call.taken => Some(source),
+            _ => None,
+        };
+        Ok(Expected::Reply(number, source))
+    }
+
+    /// What the core is to answer.
+    pub(crate) fn expected(&self, alloc: Global, deed: Deed) -> Result<Expected, Amiss> {
+        Ok(match deed {
+            Deed::Begin(_, key) => self.of_begin(key),
+            Deed::Next(server) => self.of_sending(server, Spot::Waiting),
+            Deed::Replay(server) => self.of_sending(server, Spot::Spooled),
+            Deed::Answered(leg, say) => { self.of_landing(leg, self.is_failure(alloc, leg, say)?) }
+            Deed::Lost(leg) => self.of_landing(leg, true),
+            Deed::Spooled(leg, own) => self.of_spool(leg, own, Place::Spooled),
+            Deed::SpoolRefused(leg) => self.of_spool(leg, true, Place::Held),
+            Deed::Mark(_) | Deed::Unmark(_) => Expected::Done,
+            Deed::Clock(moment) if Moment(moment) < self.moment => {
+                Expected::Refused(CoreFault::ClockBack)
+            }
+            Deed::Clock(_) => Expected::Done,
+            Deed::Turn if self.is_quiet() => Expected::Done,
+            Deed::Turn => Expected::Refused(CoreFault::Busy),
+            Deed::Take(call) => self.of_take(alloc, call)?,
+        })
+    }
+}

@@ -1,0 +1,11 @@
+use Rattle.std.proofs.Common.{◌≡◌, length, false}
+use Rattle.mcv_session.specs.declared.session.Flow.TheVariants.{GoesOn}
+use Rattle.mcv_session.specs.Served.{Served}
+use Rattle.mcv_session.proofs.serve.serve_session.Given as goal
+
+abbrev pub invariant-loop-turn : goal.invariant-loop-turn
+invariant-loop-turn g l = record {
+  live : l.session.has_ended ≡ false;
+  size : length l.room ≡ 16384;
+  so_far : Served g.D.Desk.asks l.fn.desk l.desk GoesOn l.session.reader (g.R.Read.remaining l.fn.reader) (g.R.Read.remaining l.reader) (g.W.Write.contents l.fn.writer) (g.W.Write.contents l.writer);
+}

@@ -1,0 +1,6 @@
+pub mod Desk
+pub mod Exchange
+pub mod Session
+pub mod State
+pub mod Served
+pub mod Step
