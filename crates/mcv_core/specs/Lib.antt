@@ -15,6 +15,8 @@ pub mod Taking
 pub mod Beginning
 pub mod Opening
 pub mod Asking
+pub mod KeptDeletes
+pub mod Borrowed
 pub mod Acknowledged
 pub mod Steps
 pub mod Answers

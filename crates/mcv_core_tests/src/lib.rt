@@ -8,6 +8,8 @@ mod draw;
 #[cfg(test)]
 mod expect;
 #[cfg(test)]
+mod faults;
+#[cfg(test)]
 mod gets;
 #[cfg(test)]
 mod ground;

@@ -8,6 +8,9 @@ use Rattle.mcv_core.specs.Rows.{state_of}
 use Rattle.mcv_core.specs.View.{core_view, records_of}
 use Rattle.mcv_core.proofs.Does
 use Rattle.mcv_core.proofs.Landings
+use Rattle.mcv_core.proofs.Keeping
+use Rattle.mcv_core.specs.CoreView.{change_move}
+use Rattle.mcv_base.specs.Reply.{not_found}
 use Rattle.mcv_core.proofs.dispatcher.Dispatcher.spooled.Goals as goal
 
 pub returns-in-Held-clause-effect : goal.returns-in-Held-clause-effect
@@ -43,3 +46,9 @@ returns-in-Held-clause-records c =
 pub returns-in-Refused-clause-records : goal.returns-in-Refused-clause-records
 returns-in-Refused-clause-records c =
     c.store_refused.ensures.records ∙ ap (λ q. put (records_of c.args.self.now) c.args.leg.0 (Some q)) c.seq-in-Refused.ensures
+
+pub returns-in-Held-clause-keeps : goal.returns-in-Held-clause-keeps
+returns-in-Held-clause-keeps c = Keeping.events_keep_deletes (core_view c.args.self.now) (core_view c.store_held.new.self) (change_move c.args.leg.0 not_found c.store_held.result.change) (returns-in-Held-clause-does c)
+
+pub returns-in-Refused-clause-keeps : goal.returns-in-Refused-clause-keeps
+returns-in-Refused-clause-keeps c = Keeping.events_keep_deletes (core_view c.args.self.now) (core_view c.store_refused.new.self) (change_move c.args.leg.0 not_found c.store_refused.result.change) (returns-in-Refused-clause-does c)
