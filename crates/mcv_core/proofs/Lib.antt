@@ -10,6 +10,7 @@ pub mod Settlements
 pub mod LegViews
 pub mod Settled
 pub mod Does
+pub mod Chapters
 pub mod Sendings
 pub mod Keeping
 pub mod Landings

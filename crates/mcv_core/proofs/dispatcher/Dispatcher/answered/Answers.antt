@@ -1,4 +1,4 @@
-use Rattle.std.proofs.Common.{◌≡◌, ◌∙◌, sym, ap}
+use Rattle.std.proofs.Common.{◌≡◌, ◌∙◌, sym, ap, Ok}
 use Rattle.mcv_base.specs.Reply.{part_value}
 use Rattle.mcv_queues.specs.Legs.{is_flight}
 use Rattle.mcv_queues.specs.Marks.{answered_mark, marks}
@@ -11,6 +11,7 @@ use Rattle.mcv_core.proofs.Landings
 use Rattle.mcv_core.proofs.LegViews
 use Rattle.mcv_core.proofs.Keeping
 use Rattle.mcv_core.specs.CoreView.{change_move}
+use Rattle.mcv_core.proofs.Chapters
 use Rattle.mcv_core.proofs.dispatcher.Dispatcher.answered.Goals as goal
 
 pub land-requires : goal.land-requires
@@ -34,3 +35,6 @@ returns-in-Err-clause-effect c = Landings.answer_refused c.args.self.now c.args.
 
 pub returns-in-Ok-clause-keeps : goal.returns-in-Ok-clause-keeps
 returns-in-Ok-clause-keeps c = Keeping.events_keep_deletes (core_view c.args.self.now) (core_view c.land.new.self) (change_move c.args.leg.0 c.args.parts c.land.result.change) (returns-in-Ok-clause-does c)
+
+pub returns-in-Ok-clause-chapter : goal.returns-in-Ok-clause-chapter
+returns-in-Ok-clause-chapter c = Chapters.answer_chapter (core_view c.args.self.now) (core_view c.land.new.self) c.args.leg.0 (Ok c.land.result) c.args.parts (returns-in-Ok-clause-effect c)

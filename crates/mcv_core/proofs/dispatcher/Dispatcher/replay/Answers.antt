@@ -41,4 +41,4 @@ pub returns-in-Ok-clause-records : goal.returns-in-Ok-clause-records
 returns-in-Ok-clause-records c = ap records_in c.in-Ok.ensures.legs ∙ SpoolNumbers.records_kept (legs c.args.self.now.queues) c.in-Ok.leg.0 states.InReplay
 
 pub returns-in-Ok-clause-keeps : goal.returns-in-Ok-clause-keeps
-returns-in-Ok-clause-keeps c = Keeping.events_keep_deletes (core_view c.args.self.now) (core_view c.replay.new.self) None (returns-in-Ok-clause-does c)
+returns-in-Ok-clause-keeps c = Keeping.events_keep_deletes (core_view c.args.self.now) _ None (returns-in-Ok-clause-does c)

@@ -1,4 +1,4 @@
-use Rattle.std.proofs.Common.{◌≡◌, ◌∙◌, sym, ap, true, rules, Some}
+use Rattle.std.proofs.Common.{◌≡◌, ◌∙◌, sym, ap, true, rules, Some, Ok}
 use Rattle.mcv_queues.specs.Queues.{legs}
 use Rattle.mcv_queues.specs.declared.leg.State.TheVariants as states
 use Rattle.mcv_world.specs.Moves.{is_one}
@@ -11,6 +11,7 @@ use Rattle.mcv_core.proofs.Landings
 use Rattle.mcv_core.proofs.Keeping
 use Rattle.mcv_core.specs.CoreView.{change_move}
 use Rattle.mcv_base.specs.Reply.{not_found}
+use Rattle.mcv_core.proofs.Chapters
 use Rattle.mcv_core.proofs.dispatcher.Dispatcher.spooled.Goals as goal
 
 pub returns-in-Held-clause-effect : goal.returns-in-Held-clause-effect
@@ -52,3 +53,11 @@ returns-in-Held-clause-keeps c = Keeping.events_keep_deletes (core_view c.args.s
 
 pub returns-in-Refused-clause-keeps : goal.returns-in-Refused-clause-keeps
 returns-in-Refused-clause-keeps c = Keeping.events_keep_deletes (core_view c.args.self.now) (core_view c.store_refused.new.self) (change_move c.args.leg.0 not_found c.store_refused.result.change) (returns-in-Refused-clause-does c)
+
+pub returns-in-Held-clause-chapter : goal.returns-in-Held-clause-chapter
+returns-in-Held-clause-chapter c =
+    Chapters.spooling_chapter (core_view c.args.self.now) (core_view c.store_held.new.self) c.args.leg.0 (Ok c.store_held.result) c.args.stored.«record».server c.args.stored.«record».rest (returns-in-Held-clause-effect c)
+
+pub returns-in-Refused-clause-chapter : goal.returns-in-Refused-clause-chapter
+returns-in-Refused-clause-chapter c =
+    Chapters.spooling_chapter (core_view c.args.self.now) (core_view c.store_refused.new.self) c.args.leg.0 (Ok c.store_refused.result) c.args.stored.«record».server c.args.stored.«record».rest (returns-in-Refused-clause-effect c)
