@@ -210,7 +210,7 @@ impl Dispatcher {
         ensures { result ≡ is_move (core_view self.now).routes (world_of (core_view self.now).rows) (WasTaken call.0) }
     {
         match self.calls.get(call.0) {
-            Some(call) => call.can_be_taken(),
+            Some(running) => running.can_be_taken(),
             None => false,
         }
     }
