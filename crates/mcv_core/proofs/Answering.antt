@@ -21,7 +21,8 @@ use Rattle.mcv_events.specs.Rows.{world_of}
 use Rattle.mcv_core.specs.Answers.{call_answer, done_answer, leg_answer, place_answer, reply_answer}
 use Rattle.mcv_core.specs.declared.begin.Asked.{Asked}
 use Rattle.mcv_core.specs.Asking.{HasBegunFor, IsAsked, IsRefusedFor}
-use Rattle.mcv_core.specs.Beginning.{IsFull}
+use Rattle.mcv_core.specs.Beginning.{HasBegun, IsFull}
+use Rattle.mcv_core.specs.KeptDeletes.{DeletesStayKept}
 use Rattle.mcv_route.specs.Places.{is_alias}
 use Rattle.mcv_world.proofs.Numbers.{no_some}
 use Rattle.std.proofs.lemmas.List.Quantifiers.{position-Some}
@@ -64,6 +65,13 @@ module _ (v : CoreView) (chosen : SymbolValue → List ℕ → ℕ) (request : R
   pub refused_for : {T : Type 0} (r : Result T CoreFault) → IfErr r (IsFull v asks) → IfErr r (IsRefusedFor v chosen request key)
   refused_for (Ok x) f = tt
   refused_for (Err fault) f = refused_by fault f
+
+-- the call that is asked for began
+pub begun_for : (v w : CoreView) (chosen : SymbolValue → List ℕ → ℕ) (request : Request) (key : ℕ) (asks : Asked) → IsAsked v.routes chosen request key asks.op asks.route asks.rest asks.choice
+    → (r : Result CallId CoreFault) → IfOk r (λ call. Moved v w (Began asks.op asks.route asks.rest asks.choice)) → OnOk r (DeletesStayKept v w (Some (Began asks.op asks.route asks.rest asks.choice)))
+    → OnOk r (HasBegun v w asks.op asks.route asks.rest asks.choice) → IfOk r (λ call. HasBegunFor v chosen request key w)
+begun_for v w chosen request key asks a (Ok call) moves keeps view = record { op = asks.op; route = asks.route; rest = asks.rest; choice = asks.choice; asked = a; moves = moves; keeps = keeps; view = view }
+begun_for v w chosen request key asks a (Err fault) moves keeps view = tt
 
 module _ (chosen : SymbolValue → List ℕ → ℕ) (v w : CoreView) where
   refuse : (e : Event) (fault : CoreFault) → w ≡ v → IsAnswered chosen v e (answer.Refused fault) w

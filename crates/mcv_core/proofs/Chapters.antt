@@ -14,7 +14,7 @@ use Rattle.mcv_core.specs.declared.step.Step.{Step}
 use Rattle.mcv_core.specs.CoreView.{CoreView, Effect, HasEffect, answer_at, answer_in, at_row, does, finished, flies, held, is_record, loss_at, loss_in, refused, refuses, refusing_at, refusing_in, replayed_in, sent_in, spooling_at, spooling_in, stores, with_mark}
 
 -- the effect leads to a view of the same chapter
-StaysIn : CoreView → Effect → Type 0
+abbrev StaysIn : CoreView → Effect → Type 0
 StaysIn v (refuses fault) = ⊤
 StaysIn v (does step u) = u.chapter ≡ v.chapter
 

@@ -1,6 +1,6 @@
 -- Deletes are kept after every list of events.
-use Rattle.std.proofs.Common.{◌≡◌, ℕ, List, [], ◌∷◌, ◌++◌, Option, Some, None, refl, sym, ap, ◌∙◌, subst}
-use Rattle.std.specs.Prelude.{slice_get}
+use Rattle.std.proofs.Common.{◌≡◌, ℕ, List, [], ◌∷◌, ◌++◌, Option, Some, None, Result, Ok, Err, refl, sym, ap, ◌∙◌, subst}
+use Rattle.std.specs.Prelude.{IfOk, OnOk, slice_get}
 use Rattle.mcv_pools.specs.Symbol.{SymbolValue}
 use Rattle.mcv_route.specs.Eras.{breaks_of, since_at}
 use Rattle.mcv_route.specs.Routes.{RoutesValue}
@@ -22,6 +22,7 @@ use Rattle.mcv_core.specs.Opening.{known_records, opened_view}
 use Rattle.mcv_core.specs.KeptDeletes.{DeletesStayKept, EventsKeepDeletes, KeepsDeletes, OpenedCoresKeepDeletes}
 use Rattle.mcv_core.specs.Steps.{AreAnswered, DeletesAreKept, IsAnswered, Step, Steps, with_move}
 use Rattle.mcv_core.specs.Steps.{refused, began, sent, replayed, answered, lost, spooled, spool_refused, marked, unmarked, clocked, turned, taken, awaited, none, more}
+use Rattle.mcv_core.specs.declared.fault.CoreFault.{CoreFault}
 use Rattle.mcv_core.specs.declared.run.Answer.{Answer}
 use Rattle.mcv_core.specs.declared.run.Event.{Event}
 use Rattle.mcv_world.proofs.ForgetsSafely.{forgets_safely, moves_are_live}
@@ -54,6 +55,10 @@ moved_keeps v w m world k h =
 pub events_keep_deletes : EventsKeepDeletes
 events_keep_deletes v w None h = λ world k. keeps_at v.routes w world h.routes k.covered k.is (k.live ∙ sym h.world) k.kept
 events_keep_deletes v w (Some m) h = λ world k. moved_keeps v w m world k h
+
+pub moved_keep : {A : Type 0} (r : Result A CoreFault) (v w : CoreView) (m : Move) → IfOk r (λ a. Moved v w m) → OnOk r (DeletesStayKept v w (Some m))
+moved_keep (Ok a) v w m h = events_keep_deletes v w (Some m) h
+moved_keep (Err e) v w m h = tt
 
 -- an event that changes no row
 pub same_rows_keep : (v w : CoreView) → w.rows ≡ v.rows → w.routes ≡ v.routes → DeletesStayKept v w None

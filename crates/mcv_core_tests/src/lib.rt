@@ -4,6 +4,8 @@
 #[cfg(test)]
 mod amiss;
 #[cfg(test)]
+mod asks;
+#[cfg(test)]
 mod draw;
 #[cfg(test)]
 mod expect;
