@@ -11,6 +11,7 @@ pub mod LegViews
 pub mod Settled
 pub mod Does
 pub mod Chapters
+pub mod Dispatchers
 pub mod Sendings
 pub mod Keeping
 pub mod Landings

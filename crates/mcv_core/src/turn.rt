@@ -1,6 +1,6 @@
 //! The clock, chapters and marks.
 
-ghost use Rattle.std.specs.Prelude.{◌≡◌, ◌+◌, ◌<◌, ◌^◌, ◌↔◌, Some, None, IfOk, IfErr, IfSome, OnOk, OnErr, IsTrue, length, option_map};
+ghost use Rattle.std.specs.Prelude.{◌≡◌, ◌+◌, ◌<◌, ◌≤◌, ◌^◌, ◌↔◌, Some, None, IfOk, IfErr, IfSome, OnOk, OnErr, IsTrue, length, option_map};
 ghost use Rattle.mcv_queues.specs.Marks.{checked_mark, no_mark};
 ghost use Rattle.mcv_route.specs.Eras.{breaks_of, era_at, since_at};
 ghost use Rattle.mcv_core.specs.CoreView.{Does, IsQuiet, Unmoved, with_mark};
@@ -22,6 +22,7 @@ impl Era {
     /// The era that began at the second break, where that isn't the first one.
     fn after(old: Option<Moment>, since: Option<Moment>) -> Option<Era>
         ensures changed { IfSome result (λ era. era.since ≡ since) }
+        ensures other { IfSome result (λ era. since ≡ old → ⊥) }
         ensures same { result ≡ None → since ≡ old }
     {
         if since == old {
@@ -38,7 +39,9 @@ impl Dispatcher {
         ensures view { OnOk result (core_view self.new ≡ record (in_era (core_view self.old) (since_at (breaks_of (core_view self.old).routes) moment.0)) { moment = moment.0 }) }
         ensures does { IfOk result (λ era. Does (core_view self.old) (core_view self.new) (era_move era)) }
         ensures keeps { IfOk result (λ era. DeletesStayKept (core_view self.old) (core_view self.new) (era_move era)) }
+        ensures other { IfOk result (λ era. IfSome era (λ e. (core_view self.new).rows.since ≡ (core_view self.old).rows.since → ⊥)) }
         ensures records { records_of self.new ≡ records_of self.old }
+        ensures forward { OnOk result ((core_view self.old).moment ≤ moment.0) }
         ensures back { IfErr result (λ fault. (fault ≡ CoreFault.ClockBack) × (moment.0 < (core_view self.old).moment)) }
         ensures err { OnErr result (core_view self.new ≡ core_view self.old) }
     {
