@@ -72,21 +72,6 @@ era_does d since moment is (Some era) changed same =
       routes = refl;
     })
 
-moments_are : (a b : Option Moment) → option_map (λ (m : Moment). m.0) a ≡ option_map (λ (m : Moment). m.0) b → a ≡ b
-moments_are a b e = sym (back a) ∙ ap (option_map moment_at) e ∙ back b
-  where
-    moment_at : ℕ → Moment
-    moment_at n = record { 0 = n }
-
-    back : (o : Option Moment) → option_map moment_at (option_map (λ (m : Moment). m.0) o) ≡ o
-    back None = refl
-    back (Some m) = refl
-
--- an era that is another one began at another moment
-pub era_is_other : (old since : Option Moment) (era : Option Era) → IfSome era (λ e. since ≡ old → ⊥) → IfSome era (λ e. option_map (λ (m : Moment). m.0) since ≡ option_map (λ (m : Moment). m.0) old → ⊥)
-era_is_other old since None other = tt
-era_is_other old since (Some era) other = λ same. other (moments_are since old same)
-
 -- ---- sums that are 0
 
 sum_zero : {X : Type 0} (weigh : Option X → ℕ) (f : ℕ → Option X) (m k : ℕ) → sum_below weigh f m ≡ 0 → k < m → weigh (f k) ≡ 0

@@ -15,6 +15,3 @@ returns-clause-does c =
 
 pub returns-clause-keeps : goal.returns-clause-keeps
 returns-clause-keeps c = Keeping.events_keep_deletes (core_view c.args.self.now) _ (era_move c.after-era.result) (returns-clause-does c)
-
-pub returns-clause-other : goal.returns-clause-other
-returns-clause-other c = Resting.era_is_other c.args.self.now.since c.since-since.result c.after-era.result c.after-era.ensures.other
