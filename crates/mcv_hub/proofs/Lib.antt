@@ -1,0 +1,6 @@
+mod Counts
+mod UnwrittenRows
+mod BreaksLeft
+mod UnwrittenEvents
+mod Histories
+mod CheckedReceipts

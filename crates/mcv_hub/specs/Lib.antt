@@ -1,0 +1,4 @@
+pub mod Unwritten
+pub mod History
+pub mod State
+pub mod Receipts
