@@ -1,19 +1,19 @@
 -- The breaks after a moment.
 use Rattle.std.proofs.Common.{◌≡◌, ◌∙◌, ◌||◌, cond, inl, inr, ℕ, zero, suc, ◌+◌, ◌<◌, ◌≤◌, Bool, true, false, List, [], ◌∷◌, ◌++◌, length, Option, Some, None, refl, sym, ap, subst, arith, true≢false, get_or, fold, map, take, drop}
-use Rattle.std.specs.Prelude.{filter, nat_eq, nat_le, nat_lt, if◌then◌else◌}
+use Rattle.std.specs.Prelude.{nat_eq, nat_le, nat_lt, if◌then◌else◌}
 use Rattle.std.specs.List.{All, Contains, list_any}
-use Rattle.std.proofs.lemmas.Bool.{cases_Bool, cases_lt, eqb-true}
+use Rattle.std.proofs.lemmas.Bool.{cases_lt, eqb-true}
 use Rattle.std.proofs.lemmas.Grind.{common_steps}
 use Rattle.std.proofs.lemmas.List.Elements.{All-contains}
 use Rattle.std.proofs.lemmas.List.{get_or-take, length-drop, length-map, length-take}
 use Rattle.mcv_base.specs.declared.request.Moment.{Moment}
 use Rattle.mcv_pools.specs.Table.{is_in, numbered, with_entry}
-use Rattle.mcv_route.specs.Eras.{IsBreakTable, IsSince, breaks_of, era_at, passed, since_at}
+use Rattle.mcv_route.specs.Eras.{IsBreakTable, IsSince, breaks_of, passed, since_at}
 use Rattle.mcv_route.specs.Routes.{RoutesValue}
 use Rattle.mcv_route.proofs.Breaks.{era-is}
 use Rattle.mcv_route.proofs.Passed.{since_is_last}
 use Rattle.mcv_rules.proofs.Among.{Among, among_left, among_right}
-use Rattle.mcv_hub.specs.Unwritten.{break_count, breaks_left, breaks_once}
+use Rattle.mcv_hub.specs.MayWrite.{break_count, breaks_left, breaks_once}
 use Rattle.mcv_hub.proofs.Counts.{at_most_all, fewer_pass, one_fewer}
 
 -- ---- each break is among those that are there once

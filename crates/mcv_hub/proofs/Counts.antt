@@ -1,5 +1,5 @@
 -- How many members of a list pass a test.
-use Rattle.std.proofs.Common.{◌≡◌, ◌∙◌, ◌&&◌, not, cond, inl, inr, ℕ, suc, ◌+◌, ◌≤◌, Bool, true, false, List, [], ◌∷◌, length, refl, sym, ap, arith, true≢false}
+use Rattle.std.proofs.Common.{◌≡◌, ◌∙◌, ◌&&◌, not, cond, inl, inr, suc, ◌+◌, ◌≤◌, Bool, true, false, List, [], ◌∷◌, length, refl, sym, ap, arith, true≢false}
 use Rattle.std.specs.Prelude.{filter}
 use Rattle.mcv_rules.proofs.Among.{Among}
 

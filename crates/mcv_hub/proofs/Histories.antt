@@ -1,5 +1,5 @@
 -- Histories that are one entry longer, and what holds of each.
-use Rattle.std.proofs.Common.{◌≡◌, ◌∙◌, ◌⊎◌, inl, inr, ℕ, ◌+◌, ◌<◌, ◌≤◌, ◌^◌, Bool, true, false, List, [], ◌∷◌, ◌++◌, Option, Some, None, Result, Ok, Err, count_by, cond, refl, ap, sym, subst, arith}
+use Rattle.std.proofs.Common.{◌≡◌, ◌∙◌, ◌⊎◌, inl, inr, ℕ, ◌+◌, ◌<◌, ◌≤◌, ◌^◌, Bool, true, false, List, [], ◌∷◌, ◌++◌, Option, Some, None, Ok, Err, count_by, cond, refl, ap, sym, subst, arith}
 use Rattle.std.specs.Prelude.{option_and_then, option_map, slice_get}
 use Rattle.std.specs.Arc.{arc_value}
 use Rattle.std.specs.declared.alloc.Global.{Global}
@@ -25,7 +25,7 @@ use Rattle.mcv_world.specs.Laws.{HasReply, IsWorld}
 use Rattle.mcv_world.proofs.MovesKeepWorlds.{opening_is_world, run_world}
 use Rattle.mcv_world.proofs.ForgetsSafely.{forgets_safely, moves_are_live}
 use Rattle.mcv_world.proofs.DeletesAreKept.{covered_worlds_are_kept}
-use Rattle.mcv_events.specs.Rows.{InSpool, LegRow, Rows, world_of}
+use Rattle.mcv_events.specs.Rows.{InSpool, LegRow, world_of}
 use Rattle.mcv_events.specs.Runs.{OpenedRecord, opened, spooled_row}
 use Rattle.mcv_events.proofs.CoresKeepDeletes.{opened_is_core, spooled_rows_open}
 use Rattle.mcv_core.specs.Opening.{known_records, opened_view}
@@ -40,8 +40,8 @@ use Rattle.mcv_core.specs.declared.step.Change.{Change}
 use Rattle.mcv_core.specs.declared.step.Change.TheVariants.{Nothing, Answered, Spooled, Refused, Performed}
 use Rattle.mcv_hub.specs.declared.entry.Entry.{Entry}
 use Rattle.mcv_hub.specs.declared.entry.Entry.TheVariants as entries
-use Rattle.mcv_hub.specs.History.{AreMovesOf, Begins, IsMoveOf, IsHistory, none, more, is_began, is_taken, with_entry, entries_in, leg_entry, era_entry}
-use Rattle.mcv_hub.specs.Unwritten.{break_count, unwritten, written_by}
+use Rattle.mcv_hub.specs.History.{Begins, IsMoveOf, IsHistory, none, more, is_began, is_taken, with_entry, entries_in, leg_entry, era_entry}
+use Rattle.mcv_hub.specs.MayWrite.{break_count, may_write, written_by}
 use Rattle.mcv_hub.specs.State.{HasRoom, HistoryKeepsDeletes, HubView, IsHub, IsLegEvent, IsSame, IsSameBooks, IsWritten}
 
 run-push : (r : RoutesValue) (w : World) (ms : List Move) (m : Move) → run r w (ms ++ m ∷ []) ≡ after r (run r w ms) m
@@ -155,8 +155,8 @@ hub_same v w es c b t bb tb same h = subst (λ z. IsHub z es c b t bb tb) (sym s
 
 -- ---- the room after an event
 
-pub room_same : (v w : CoreView) (len capacity places : ℕ) → w ≡ v → HasRoom len capacity places (unwritten v) → HasRoom len capacity places (unwritten w)
-room_same v w len capacity places same h = subst (λ z. HasRoom len capacity places (unwritten z)) (sym same) h
+pub room_same : (v w : CoreView) (len capacity places : ℕ) → w ≡ v → HasRoom len capacity places (may_write v) → HasRoom len capacity places (may_write w)
+room_same v w len capacity places same h = subst (λ z. HasRoom len capacity places (may_write z)) (sym same) h
 
 pub written_is : (leg : LegId) (p : Part) (change : Change) → entries_in (leg_entry leg p change) ≡ written_by change
 written_is leg p Nothing = refl
@@ -166,8 +166,8 @@ written_is leg p Refused = refl
 written_is leg p Performed = refl
 
 -- as many entries were written as fewer may still be written
-pub room_stays : (len len' capacity capacity' places unwritten unwritten' written : ℕ) → HasRoom len capacity places unwritten → unwritten' + written ≤ unwritten → len' ≡ len + written → capacity' ≡ capacity → HasRoom len' capacity' places unwritten'
-room_stays len len' capacity capacity' places unwritten unwritten' written h spent longer same =
+pub room_stays : (len len' capacity capacity' places may_write may_write' written : ℕ) → HasRoom len capacity places may_write → may_write' + written ≤ may_write → len' ≡ len + written → capacity' ≡ capacity → HasRoom len' capacity' places may_write'
+room_stays len len' capacity capacity' places may_write may_write' written h spent longer same =
     record { within = omega (arith, h.within, spent, longer); kept = omega (arith, h.kept, same); small = h.small }
 
 -- ---- what a legal history says
@@ -198,7 +198,7 @@ history_keeps_deletes v es covered h =
 -- ---- what events leave of the state's invariant
 
 abbrev pub Holds : (v : CoreView) (es : List Entry) (c b t bb tb len capacity places breaks : ℕ) → Type 0
-Holds v es c b t bb tb len capacity places breaks = IsHub v es c b t bb tb × HasRoom len capacity places (unwritten v) × (breaks ≡ break_count v.routes)
+Holds v es c b t bb tb len capacity places breaks = IsHub v es c b t bb tb × HasRoom len capacity places (may_write v) × (breaks ≡ break_count v.routes)
 
 does_routes : (v w : CoreView) (m : Option Move) → Does v w m → w.routes ≡ v.routes
 does_routes v w None d = d.routes
@@ -211,34 +211,34 @@ module _ (v w : CoreView) (es : List Entry) (c b t bb tb len capacity places bre
 
   -- an event on a leg
   pub leg_holds : (leg : LegId) (p : Part) (x : ReplyValue) (change : Change) (e : Option Entry) (es' : List Entry) (len' capacity' : ℕ) → part_value p ≡ x → Does v w (change_move leg.0 x change) → w.chapter ≡ v.chapter
-      → unwritten w + written_by change ≤ unwritten v → e ≡ leg_entry leg p change → es' ≡ with_entry es e → len' ≡ len + entries_in e → capacity' ≡ capacity → Holds w es' c b t bb tb len' capacity' places breaks
+      → may_write w + written_by change ≤ may_write v → e ≡ leg_entry leg p change → es' ≡ with_entry es e → len' ≡ len + entries_in e → capacity' ≡ capacity → Holds w es' c b t bb tb len' capacity' places breaks
   leg_holds leg p x change e es' len' capacity' is d same spent entry items longer kept = (
     subst (λ z. IsHub w z c b t bb tb) (sym (items ∙ ap (with_entry es) entry)) (hub_after_leg v w es c b t bb tb h.0 leg p x change is d same),
-    room_stays len len' capacity capacity' places (unwritten v) (unwritten w) (written_by change) h.1 spent (longer ∙ ap (λ z. len + entries_in z) entry ∙ ap (λ z. len + z) (written_is leg p change)) kept,
+    room_stays len len' capacity capacity' places (may_write v) (may_write w) (written_by change) h.1 spent (longer ∙ ap (λ z. len + entries_in z) entry ∙ ap (λ z. len + z) (written_is leg p change)) kept,
     h.2 ∙ ap break_count (sym (does_routes v w (change_move leg.0 x change) d)),
   )
 
   -- the clock
   pub clock_holds : (o : Option Era) (e : Option Entry) (es' : List Entry) (len' capacity' : ℕ) → Does v w (era_move o) → w.chapter ≡ v.chapter
-      → unwritten w + entries_in (era_entry o) ≤ unwritten v → e ≡ era_entry o → es' ≡ with_entry es e → len' ≡ len + entries_in e → capacity' ≡ capacity → Holds w es' c b t bb tb len' capacity' places breaks
+      → may_write w + entries_in (era_entry o) ≤ may_write v → e ≡ era_entry o → es' ≡ with_entry es e → len' ≡ len + entries_in e → capacity' ≡ capacity → Holds w es' c b t bb tb len' capacity' places breaks
   clock_holds o e es' len' capacity' d same spent entry items longer kept = (
     subst (λ z. IsHub w z c b t bb tb) (sym (items ∙ ap (with_entry es) entry)) (hub_after_clock v w es c b t bb tb h.0 o d same),
-    room_stays len len' capacity capacity' places (unwritten v) (unwritten w) (entries_in (era_entry o)) h.1 spent (longer ∙ ap (λ z. len + entries_in z) entry) kept,
+    room_stays len len' capacity capacity' places (may_write v) (may_write w) (entries_in (era_entry o)) h.1 spent (longer ∙ ap (λ z. len + entries_in z) entry) kept,
     h.2 ∙ ap break_count (sym (does_routes v w (era_move o) d)),
   )
 
   -- a reply that was taken
   pub take_holds : (call : CallId) (es' : List Entry) (t' len' capacity' : ℕ) → Moved v w (taken_move call.0) → w.chapter ≡ v.chapter
-      → unwritten w + 1 ≤ unwritten v → es' ≡ es ++ entries.Taken call ∷ [] → t' ≡ t + 1 → len' ≡ len + 1 → capacity' ≡ capacity → Holds w es' c b t' bb tb len' capacity' places breaks
+      → may_write w + 1 ≤ may_write v → es' ≡ es ++ entries.Taken call ∷ [] → t' ≡ t + 1 → len' ≡ len + 1 → capacity' ≡ capacity → Holds w es' c b t' bb tb len' capacity' places breaks
   take_holds call es' t' len' capacity' d same spent items more_taken longer kept = (
     subst (λ z. IsHub w z c b t' bb tb) (sym items) (hub_moves v w es c b t bb tb h.0 (entries.Taken call) (taken_move call.0) b t' d refl same (omega arith) (omega (arith, more_taken))),
-    room_stays len len' capacity capacity' places (unwritten v) (unwritten w) 1 h.1 spent longer kept,
+    room_stays len len' capacity capacity' places (may_write v) (may_write w) 1 h.1 spent longer kept,
     h.2 ∙ ap break_count (sym d.routes),
   )
 
   -- a call that began
   pub begin_holds : (request shared : Arc Request Global) (key : ℕ) (es' : List Entry) (b' len' capacity' places' : ℕ) → arc_value shared ≡ arc_value request → HasBegunFor v fnv_index (arc_value request) key w
-      → unwritten w + 1 + v.entries ≤ unwritten v + w.entries → es' ≡ es ++ entries.Began shared key ∷ [] → b' ≡ b + 1 → len' ≡ len + 1 → places' ≤ capacity' → places' ≤ 2 ^ 62 → places' + v.entries ≡ places + w.entries
+      → may_write w + 1 + v.entries ≤ may_write v + w.entries → es' ≡ es ++ entries.Began shared key ∷ [] → b' ≡ b + 1 → len' ≡ len + 1 → places' ≤ capacity' → places' ≤ 2 ^ 62 → places' + v.entries ≡ places + w.entries
       → Holds w es' c b' t bb tb len' capacity' places' breaks
   begin_holds request shared key es' b' len' capacity' places' same g spent items more_begun longer kept small grown = (
     subst (λ z. IsHub w z c b' t bb tb) (sym items) (hub_after_begin v w es c b t bb tb h.0 request shared key b' same g more_begun),
@@ -248,8 +248,8 @@ module _ (v w : CoreView) (es : List Entry) (c b t bb tb len capacity places bre
   )
 
   -- a chapter that began
-  pub turn_holds : (es' : List Entry) (c' places' bb' tb' len' capacity' : ℕ) → w.routes ≡ v.routes → IsQuiet w → c' ≡ w.chapter → bb' ≡ b → tb' ≡ t → bb' < 2 ^ 63 → tb' < 2 ^ 63 → unwritten w ≤ unwritten v → places' ≤ places
-      → (places' ≡ places) ⊎ (unwritten w ≤ places') → es' ≡ [] → len' ≡ 0 → capacity' ≡ capacity → Holds w es' c' b t bb' tb' len' capacity' places' breaks
+  pub turn_holds : (es' : List Entry) (c' places' bb' tb' len' capacity' : ℕ) → w.routes ≡ v.routes → IsQuiet w → c' ≡ w.chapter → bb' ≡ b → tb' ≡ t → bb' < 2 ^ 63 → tb' < 2 ^ 63 → may_write w ≤ may_write v → places' ≤ places
+      → (places' ≡ places) ⊎ (may_write w ≤ places') → es' ≡ [] → len' ≡ 0 → capacity' ≡ capacity → Holds w es' c' b t bb' tb' len' capacity' places' breaks
   turn_holds es' c' places' bb' tb' len' capacity' same q chapter begun taken small few less lesser either empty zero kept_same = (
     subst (λ z. IsHub w z c' b t bb' tb') (sym empty) (hub_after_turn v w c' b t bb' tb' h.0.covered same q chapter begun taken small few),
     let within = h.1.within in
@@ -277,10 +277,10 @@ opened_history r records =
 
 -- a core that was opened
 pub opened_holds : (w : CoreView) (r : RoutesValue) (records : List (ℕ × SpoolRecord)) (es : List Entry) (b t len capacity places breaks : ℕ) → w ≡ opened_view r records → AreCovered r → es ≡ [] → b ≡ 0 → t ≡ 0 → len ≡ 0
-    → unwritten w ≤ places → places ≤ capacity → places ≤ 2 ^ 62 → breaks ≡ break_count r → Holds w es 0 b t 0 0 len capacity places breaks
-opened_holds w r records es b t len capacity places breaks same covered empty begun taken zero writes kept small count = (
+    → may_write w ≤ places → places ≤ capacity → places ≤ 2 ^ 62 → breaks ≡ break_count r → Holds w es 0 b t 0 0 len capacity places breaks
+opened_holds w r records es b t len capacity places breaks same covered empty begun taken zero fewer kept small count = (
   subst (λ z. IsHub z es 0 b t 0 0) (sym same) (subst (λ z. IsHub (opened_view r records) z 0 b t 0 0) (sym empty) hub),
-  record { within = omega (arith, zero, writes); kept = kept; small = small },
+  record { within = omega (arith, zero, fewer); kept = kept; small = small },
   count ∙ ap (λ z. break_count z.routes) (sym same),
 )
   where

@@ -1,6 +1,6 @@
 mod Counts
-mod UnwrittenRows
+mod RowsMayWrite
 mod BreaksLeft
-mod UnwrittenEvents
+mod EventsMayWrite
 mod Histories
 mod CheckedReceipts

@@ -1,4 +1,4 @@
-pub mod Unwritten
+pub mod MayWrite
 pub mod History
 pub mod State
 pub mod Receipts

@@ -18,7 +18,7 @@ use Rattle.mcv_events.specs.Rows.{world_of}
 use Rattle.mcv_core.specs.Asking.{HasBegunFor}
 use Rattle.mcv_core.specs.CoreView.{CoreView, Does, Effect, HasEffect, change_move}
 use Rattle.mcv_core.specs.KeptDeletes.{KeepsDeletes}
-use Rattle.mcv_core.specs.View.{core_view, records_of}
+use Rattle.mcv_core.specs.View.{core_view}
 use Rattle.mcv_core.specs.declared.fault.CoreFault.{CoreFault}
 use Rattle.mcv_core.specs.declared.step.Change.{Change}
 use Rattle.mcv_core.specs.declared.step.Step.{Step}
@@ -55,8 +55,8 @@ pub record HistoryKeepsDeletes (v : CoreView) (history : List Entry) : Type 0 wh
   pub keeps : KeepsDeletes v (run v.routes legal.opening legal.moves)
 
 -- the entries that the core may still write have their places, and all of them can be counted
-pub record HasRoom (len capacity places unwritten : ℕ) : Type 0 where
-  pub within : len + unwritten ≤ places
+pub record HasRoom (len capacity places may_write : ℕ) : Type 0 where
+  pub within : len + may_write ≤ places
   pub kept : places ≤ capacity
   pub small : places ≤ 2 ^ 62
 

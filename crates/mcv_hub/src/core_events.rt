@@ -21,7 +21,7 @@ ghost use Rattle.mcv_core.specs.Turning.{CanTurn, era_move, in_era, spooled_legs
 ghost use Rattle.mcv_core.specs.View.{core_view, records_after, records_of};
 ghost use Rattle.mcv_core.specs.declared.fault.CoreFault.TheVariants.{Memory as OutOfMemory};
 ghost use Rattle.mcv_hub.specs.History.{entries_in, era_entry};
-ghost use Rattle.mcv_hub.specs.Unwritten.{break_count, unwritten, written_by};
+ghost use Rattle.mcv_hub.specs.MayWrite.{break_count, may_write, written_by};
 
 use mcv_base::{CallId, LegId, Moment, Part, Parts, Request, ServerId};
 use mcv_check::Accepted;
@@ -38,7 +38,7 @@ pub(crate) fn open(
     records: &[(u64, SpoolRecord)],
 ) -> Result<Core<Fnv>, CoreFault>
     ensures view { IfOk result (λ core. core_view core.dispatcher ≡ opened_view (arc_value accepted) records.now) }
-    ensures unwritten { IfOk result (λ core. unwritten (core_view core.dispatcher) ≤ (core_view core.dispatcher).entries + break_count (arc_value accepted)) }
+    ensures may_write { IfOk result (λ core. may_write (core_view core.dispatcher) ≤ (core_view core.dispatcher).entries + break_count (arc_value accepted)) }
     ensures err { IfErr result (λ fault. fault ≡ OutOfMemory) }
 {
     Core::new(alloc, accepted, Fnv, records)
@@ -63,7 +63,7 @@ pub(crate) fn begin(
     ensures call { IfOk result (λ call. call.0 ≡ (core_view core.old.dispatcher).rows.next_call) }
     ensures within { OnOk result ((core_view core.old.dispatcher).entries ≤ (core_view core.new.dispatcher).entries) }
     ensures limit { OnOk result ((core_view core.new.dispatcher).entries ≤ 1000000) }
-    ensures unwritten { OnOk result (unwritten (core_view core.new.dispatcher) + 1 + (core_view core.old.dispatcher).entries ≤ unwritten (core_view core.old.dispatcher) + (core_view core.new.dispatcher).entries) }
+    ensures may_write { OnOk result (may_write (core_view core.new.dispatcher) + 1 + (core_view core.old.dispatcher).entries ≤ may_write (core_view core.old.dispatcher) + (core_view core.new.dispatcher).entries) }
     ensures refused { IfErr result (IsRefusedFor (core_view core.old.dispatcher) fnv_index (arc_value request) key) }
     ensures err { OnErr result (core_view core.new.dispatcher ≡ core_view core.old.dispatcher) }
 {
@@ -81,7 +81,7 @@ pub(crate) fn next(core: &mut Core<Fnv>, server: ServerId) -> Result<LegId, Core
     ensures only { IfErr result (λ fault. (fault ≡ CoreFault.Busy) ⊎ (fault ≡ CoreFault.NothingWaiting)) }
     ensures err { OnErr result (core_view core.new.dispatcher ≡ core_view core.old.dispatcher) }
     ensures records { records_of core.new.dispatcher ≡ records_of core.old.dispatcher }
-    ensures unwritten { OnOk result (unwritten (core_view core.new.dispatcher) ≤ unwritten (core_view core.old.dispatcher)) }
+    ensures may_write { OnOk result (may_write (core_view core.new.dispatcher) ≤ may_write (core_view core.old.dispatcher)) }
 {
     core.events().next(server)
 }
@@ -97,7 +97,7 @@ pub(crate) fn replay(core: &mut Core<Fnv>, server: ServerId) -> Result<LegId, Co
     ensures only { IfErr result (λ fault. (fault ≡ CoreFault.Busy) ⊎ (fault ≡ CoreFault.NothingWaiting)) }
     ensures err { OnErr result (core_view core.new.dispatcher ≡ core_view core.old.dispatcher) }
     ensures records { records_of core.new.dispatcher ≡ records_of core.old.dispatcher }
-    ensures unwritten { OnOk result (unwritten (core_view core.new.dispatcher) ≤ unwritten (core_view core.old.dispatcher)) }
+    ensures may_write { OnOk result (may_write (core_view core.new.dispatcher) ≤ may_write (core_view core.old.dispatcher)) }
 {
     core.events().replay(server)
 }
@@ -110,7 +110,7 @@ pub(crate) fn answered(core: &mut Core<Fnv>, leg: LegId, parts: Parts) -> Result
     ensures kept { OnErr result (records_of core.new.dispatcher ≡ records_of core.old.dispatcher) }
     ensures chapter { (core_view core.new.dispatcher).chapter ≡ (core_view core.old.dispatcher).chapter }
     ensures err { OnErr result (core_view core.new.dispatcher ≡ core_view core.old.dispatcher) }
-    ensures unwritten { IfOk result (λ step. unwritten (core_view core.new.dispatcher) + written_by step.change ≤ unwritten (core_view core.old.dispatcher)) }
+    ensures may_write { IfOk result (λ step. may_write (core_view core.new.dispatcher) + written_by step.change ≤ may_write (core_view core.old.dispatcher)) }
 {
     core.events().answered(leg, parts)
 }
@@ -123,7 +123,7 @@ pub(crate) fn lost(core: &mut Core<Fnv>, leg: LegId) -> Result<Step, CoreFault>
     ensures kept { OnErr result (records_of core.new.dispatcher ≡ records_of core.old.dispatcher) }
     ensures chapter { (core_view core.new.dispatcher).chapter ≡ (core_view core.old.dispatcher).chapter }
     ensures err { OnErr result (core_view core.new.dispatcher ≡ core_view core.old.dispatcher) }
-    ensures unwritten { IfOk result (λ step. unwritten (core_view core.new.dispatcher) + written_by step.change ≤ unwritten (core_view core.old.dispatcher)) }
+    ensures may_write { IfOk result (λ step. may_write (core_view core.new.dispatcher) + written_by step.change ≤ may_write (core_view core.old.dispatcher)) }
 {
     core.events().lost(leg)
 }
@@ -136,7 +136,7 @@ pub(crate) fn spooled(core: &mut Core<Fnv>, leg: LegId, stored: Stored) -> Resul
     ensures kept { OnErr result (records_of core.new.dispatcher ≡ records_of core.old.dispatcher) }
     ensures chapter { (core_view core.new.dispatcher).chapter ≡ (core_view core.old.dispatcher).chapter }
     ensures err { OnErr result (core_view core.new.dispatcher ≡ core_view core.old.dispatcher) }
-    ensures unwritten { IfOk result (λ step. unwritten (core_view core.new.dispatcher) + written_by step.change ≤ unwritten (core_view core.old.dispatcher)) }
+    ensures may_write { IfOk result (λ step. may_write (core_view core.new.dispatcher) + written_by step.change ≤ may_write (core_view core.old.dispatcher)) }
 {
     core.events().spooled(leg, stored)
 }
@@ -148,7 +148,7 @@ pub(crate) fn spool_refused(core: &mut Core<Fnv>, leg: LegId) -> Result<Step, Co
     ensures records { records_of core.new.dispatcher ≡ records_of core.old.dispatcher }
     ensures chapter { (core_view core.new.dispatcher).chapter ≡ (core_view core.old.dispatcher).chapter }
     ensures err { OnErr result (core_view core.new.dispatcher ≡ core_view core.old.dispatcher) }
-    ensures unwritten { IfOk result (λ step. unwritten (core_view core.new.dispatcher) + written_by step.change ≤ unwritten (core_view core.old.dispatcher)) }
+    ensures may_write { IfOk result (λ step. may_write (core_view core.new.dispatcher) + written_by step.change ≤ may_write (core_view core.old.dispatcher)) }
 {
     core.events().spool_refused(leg)
 }
@@ -156,7 +156,7 @@ pub(crate) fn spool_refused(core: &mut Core<Fnv>, leg: LegId) -> Result<Step, Co
 /// Marks the server where three or more failures came in a row.
 pub(crate) fn mark(core: &mut Core<Fnv>, server: ServerId)
     ensures view { core_view core.new.dispatcher ≡ with_mark (core_view core.old.dispatcher) server.0 checked_mark }
-    ensures unwritten { unwritten (core_view core.new.dispatcher) ≤ unwritten (core_view core.old.dispatcher) }
+    ensures may_write { may_write (core_view core.new.dispatcher) ≤ may_write (core_view core.old.dispatcher) }
 {
     core.events().mark(server)
 }
@@ -164,7 +164,7 @@ pub(crate) fn mark(core: &mut Core<Fnv>, server: ServerId)
 /// Takes the server's mark away.
 pub(crate) fn unmark(core: &mut Core<Fnv>, server: ServerId)
     ensures view { core_view core.new.dispatcher ≡ with_mark (core_view core.old.dispatcher) server.0 (λ m. no_mark) }
-    ensures unwritten { unwritten (core_view core.new.dispatcher) ≤ unwritten (core_view core.old.dispatcher) }
+    ensures may_write { may_write (core_view core.new.dispatcher) ≤ may_write (core_view core.old.dispatcher) }
 {
     core.events().unmark(server)
 }
@@ -175,7 +175,7 @@ pub(crate) fn clock(core: &mut Core<Fnv>, moment: Moment) -> Result<Option<Era>,
     ensures does { IfOk result (λ era. Does (core_view core.old.dispatcher) (core_view core.new.dispatcher) (era_move era)) }
     ensures back { IfErr result (λ fault. (fault ≡ CoreFault.ClockBack) × (moment.0 + 1 ≤ (core_view core.old.dispatcher).moment)) }
     ensures err { OnErr result (core_view core.new.dispatcher ≡ core_view core.old.dispatcher) }
-    ensures unwritten { IfOk result (λ era. unwritten (core_view core.new.dispatcher) + entries_in (era_entry era) ≤ unwritten (core_view core.old.dispatcher)) }
+    ensures may_write { IfOk result (λ era. may_write (core_view core.new.dispatcher) + entries_in (era_entry era) ≤ may_write (core_view core.old.dispatcher)) }
 {
     core.events().clock(moment)
 }
@@ -187,8 +187,8 @@ pub(crate) fn turn(core: &mut Core<Fnv>) -> Result<(), CoreFault>
     ensures does { OnOk result (Unmoved (core_view core.old.dispatcher) (core_view core.new.dispatcher)) }
     ensures busy { IfErr result (λ fault. (fault ≡ CoreFault.Busy) × (CanTurn (core_view core.old.dispatcher) → ⊥)) }
     ensures err { OnErr result (core_view core.new.dispatcher ≡ core_view core.old.dispatcher) }
-    ensures unwritten { OnOk result (unwritten (core_view core.new.dispatcher) ≤ unwritten (core_view core.old.dispatcher)) }
-    ensures opens { OnOk result (unwritten (core_view core.new.dispatcher) ≤ (core_view core.new.dispatcher).entries + break_count (core_view core.new.dispatcher).routes) }
+    ensures may_write { OnOk result (may_write (core_view core.new.dispatcher) ≤ may_write (core_view core.old.dispatcher)) }
+    ensures opens { OnOk result (may_write (core_view core.new.dispatcher) ≤ (core_view core.new.dispatcher).entries + break_count (core_view core.new.dispatcher).routes) }
 {
     core.events().turn()
 }
@@ -200,7 +200,7 @@ pub(crate) fn take(core: &mut Core<Fnv>, call: CallId) -> Result<Option<Part>, C
     ensures none { IfOk result (λ o. IfNone o ((core_view core.new.dispatcher ≡ core_view core.old.dispatcher) × (is_move (core_view core.old.dispatcher).routes (world_of (core_view core.old.dispatcher).rows) (WasTaken call.0) ≡ false))) }
     ensures err { IfErr result (λ fault. (fault ≡ CoreFault.NoSuchCall) × (core_view core.new.dispatcher ≡ core_view core.old.dispatcher) × ((core_view core.old.dispatcher).rows.calls call.0 ≡ None)) }
     ensures chapter { (core_view core.new.dispatcher).chapter ≡ (core_view core.old.dispatcher).chapter }
-    ensures unwritten { IfOk result (λ o. IfSome o (λ part. unwritten (core_view core.new.dispatcher) + 1 ≤ unwritten (core_view core.old.dispatcher))) }
+    ensures may_write { IfOk result (λ o. IfSome o (λ part. may_write (core_view core.new.dispatcher) + 1 ≤ may_write (core_view core.old.dispatcher))) }
 {
     core.events().take(call)
 }

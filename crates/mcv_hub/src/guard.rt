@@ -1,4 +1,4 @@
-//! The locked state, borrowed by one thread.
+//! The locked state, lent to one thread.
 
 ghost use Rattle.std.specs.Prelude.{◌≡◌, ◌+◌, ◌-◌, ◌<◌, ◌≤◌, ◌^◌, ◌⊎◌, [], ◌∷◌, ◌++◌, length, IfOk, OnOk, IfErr, OnErr, IfSome, IfNone, IsSome, count_by, vec_len, vec_capacity, false, true, None, Some, MatchOption};
 ghost use Rattle.std.specs.Arc.{arc_value};
@@ -19,7 +19,7 @@ ghost use Rattle.mcv_core.specs.Turning.{CanTurn, era_move, in_era, spooled_legs
 ghost use Rattle.mcv_core.specs.View.{core_view, records_after, records_of};
 ghost use Rattle.mcv_core.specs.declared.fault.CoreFault.TheVariants.{Memory as OutOfMemory};
 ghost use Rattle.mcv_hub.specs.History.{era_entry, with_entry};
-ghost use Rattle.mcv_hub.specs.Unwritten.{break_count};
+ghost use Rattle.mcv_hub.specs.MayWrite.{break_count};
 ghost use Rattle.mcv_hub.specs.Receipts.{ArePassed, AreRefused};
 ghost use Rattle.mcv_hub.specs.State.{BeginsOne, HistoryKeepsDeletes, IsLegEvent, IsSame, IsSameBooks, IsSameChapter, Replies};
 ghost use Rattle.mcv_hub.specs.declared.entry.Entry.TheVariants.{Taken as taken_entry};

@@ -19,7 +19,7 @@ ghost use Rattle.mcv_core.specs.Turning.{CanTurn, era_move, in_era, spooled_legs
 ghost use Rattle.mcv_core.specs.View.{core_view, records_after, records_of};
 ghost use Rattle.mcv_core.specs.declared.fault.CoreFault.TheVariants.{Memory as OutOfMemory};
 ghost use Rattle.mcv_hub.specs.History.{era_entry, with_entry};
-ghost use Rattle.mcv_hub.specs.Unwritten.{break_count};
+ghost use Rattle.mcv_hub.specs.MayWrite.{break_count};
 ghost use Rattle.mcv_hub.specs.Receipts.{ArePassed, AreRefused};
 
 use crate::core_events;
@@ -76,11 +76,11 @@ impl<B: Ledger, T: Ledger> Model for HubState<B, T> {
 
     ghost use Rattle.std.specs.Prelude.{◌≡◌, vec_len, vec_capacity};
     ghost use Rattle.mcv_core.specs.View.{core_view};
-    ghost use Rattle.mcv_hub.specs.Unwritten.{break_count, unwritten};
+    ghost use Rattle.mcv_hub.specs.MayWrite.{break_count, may_write};
 
     ghost view = { λ s. record { core = s.core.dispatcher; history = s.history.items; chapter = s.chapter; begun = s.begun.total; taken = s.taken.total; begun_before = s.begun_before; taken_before = s.taken_before } };
 
-    ghost invariant = { λ s. IsHub (core_view s.core.dispatcher) s.history.items s.chapter s.begun.total s.taken.total s.begun_before s.taken_before × HasRoom (vec_len s.history) (vec_capacity s.history) s.places (unwritten (core_view s.core.dispatcher)) × (s.breaks ≡ break_count (core_view s.core.dispatcher).routes) };
+    ghost invariant = { λ s. IsHub (core_view s.core.dispatcher) s.history.items s.chapter s.begun.total s.taken.total s.begun_before s.taken_before × HasRoom (vec_len s.history) (vec_capacity s.history) s.places (may_write (core_view s.core.dispatcher)) × (s.breaks ≡ break_count (core_view s.core.dispatcher).routes) };
 }
 
 /// Makes room in a history for so many entries beside its places. The one error is Memory, and it leaves the entries.

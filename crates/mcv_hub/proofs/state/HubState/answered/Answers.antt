@@ -26,7 +26,7 @@ pub invariant_of-self-2 : goal.invariant_of-self-2
 invariant_of-self-2 g c =
     leg_holds (core_view c.self.inside.core.dispatcher) (core_view c.answered.new.core.dispatcher) c.self.inside.history.items c.self.inside.chapter c.self.inside.begun.total c.self.inside.taken.total c.self.inside.begun_before c.self.inside.taken_before (vec_len c.self.inside.history)
     (vec_capacity c.self.inside.history) c.self.inside.places c.self.inside.breaks c.self.invariant c.args.leg c.into_parts-parts.result.1 c.args.reply c.in_ok-step.step.change c.leg_entry.result _ _ _ c.into_parts-parts.ensures.history
-    (rw c.into_parts-parts.ensures.parts at c.in_ok-step.ensures.does) c.answered.ensures.chapter c.in_ok-step.ensures.unwritten c.leg_entry.ensures c.write.ensures.items c.write.ensures.len c.write.ensures.capacity
+    (rw c.into_parts-parts.ensures.parts at c.in_ok-step.ensures.does) c.answered.ensures.chapter c.in_ok-step.ensures.may_write c.leg_entry.ensures c.write.ensures.items c.write.ensures.len c.write.ensures.capacity
 
 pub returns : goal.returns
 returns g c =

@@ -18,6 +18,6 @@ invariant_of-self-2 g c =
     let capacity = c.push_reserved.ensures.capacity in
     begin_holds v w c.self.inside.history.items c.self.inside.chapter c.self.inside.begun.total c.self.inside.taken.total c.self.inside.begun_before c.self.inside.taken_before (vec_len c.self.inside.history)
     (vec_capacity c.self.inside.history) c.self.inside.places c.self.inside.breaks c.self.invariant c.args.request c.in-Ok.shared
-    c.args.key _ _ _ _ _ c.in-Ok.ensures c.in_ok-call.ensures.begun c.in_ok-call.ensures.unwritten
+    c.args.key _ _ _ _ _ c.in-Ok.ensures c.in_ok-call.ensures.begun c.in_ok-call.ensures.may_write
     (c.push_reserved.ensures.items ∙ ap (λ z. z ++ Began c.in-Ok.shared c.args.key ∷ []) c.make_room.ensures.items) c.add.ensures.total (omega (arith, c.push_reserved.ensures.len, c.make_room.ensures.len))
     (omega (arith, before, after, left, within, limit, room, capacity)) (omega (arith, before, after, left, within, limit, small)) (omega (arith, before, after, within))

@@ -9,7 +9,7 @@ pub invariant_of-self-2 : goal.invariant_of-self-2
 invariant_of-self-2 g c =
     take_holds (core_view c.self.inside.core.dispatcher) (core_view c.take.new.core.dispatcher) c.self.inside.history.items c.self.inside.chapter c.self.inside.begun.total c.self.inside.taken.total c.self.inside.begun_before c.self.inside.taken_before (vec_len c.self.inside.history)
     (vec_capacity c.self.inside.history) c.self.inside.places c.self.inside.breaks c.self.invariant c.args.call _ _ _ _
-    (rw c.in-Some.is at c.in_ok-found.ensures.moves) c.take.ensures.chapter (rw c.in-Some.is at c.in_ok-found.ensures.unwritten) c.push_reserved.ensures.items c.add.ensures.total c.push_reserved.ensures.len c.push_reserved.ensures.capacity
+    (rw c.in-Some.is at c.in_ok-found.ensures.moves) c.take.ensures.chapter (rw c.in-Some.is at c.in_ok-found.ensures.may_write) c.push_reserved.ensures.items c.add.ensures.total c.push_reserved.ensures.len c.push_reserved.ensures.capacity
 
 pub returns-clause-reply : goal.returns-clause-reply
 returns-clause-reply g c w is left =
