@@ -1,4 +1,5 @@
-use Rattle.std.proofs.Common.{◌∙◌, ap, refl, vec_len, vec_capacity}
+use Rattle.std.proofs.Common.{◌∙◌, ap, refl, vec_len, vec_capacity, Result, Ok, Err}
+use Rattle.std.specs.Prelude.{OnErr}
 use Rattle.std.proofs.lemmas.Result.{err_from_is_err_and}
 use Rattle.mcv_base.specs.Reply.{fixed_value, not_found}
 use Rattle.mcv_base.specs.declared.reply.FixedReply.TheVariants as replies
@@ -30,3 +31,13 @@ returns-clause-event g c =
     rw (← c.self.view_is)
     (leg_event_ok _ _ _ _ _ c.in_ok-step.step (rw c.into_parts-parts.ensures.parts at c.in_ok-step.ensures.effect) (rw c.into_parts-parts.ensures.parts at c.in_ok-step.ensures.does) (record { reply = c.into_parts-parts.result.1; is = c.into_parts-parts.ensures.history; entry = c.write.ensures.items ∙ ap (with_entry _) c.leg_entry.ensures })
     (record { begun = refl; taken = refl; same = record { chapter = refl; begun_before = refl; taken_before = refl } }))
+
+on_err : {A E X : Type 0} (r : Result A E) → X → OnErr r X
+on_err (Ok a) x = tt
+on_err (Err e) x = x
+
+pub returns-in_err-step-clause-kept : goal.returns-in_err-step-clause-kept
+returns-in_err-step-clause-kept g c = rw (← c.self.view_is) (on_err c.from_residual.result c.in_err-step.ensures.kept)
+
+pub returns-clause-records : goal.returns-clause-records
+returns-clause-records g c = rw (← c.self.view_is) c.in_ok-step.ensures.records

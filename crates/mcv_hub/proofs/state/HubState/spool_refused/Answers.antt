@@ -30,3 +30,9 @@ returns-clause-event g c =
     rw (← c.self.view_is)
     (leg_event_ok _ _ _ _ _ c.in_ok-step.step c.in_ok-step.ensures.effect c.in_ok-step.ensures.does (record { reply = (parts.Fixed replies.Lost); is = refl; entry = c.write.ensures.items ∙ ap (with_entry _) c.leg_entry.ensures })
     (record { begun = refl; taken = refl; same = record { chapter = refl; begun_before = refl; taken_before = refl } }))
+
+pub returns-in_err-step-clause-records : goal.returns-in_err-step-clause-records
+returns-in_err-step-clause-records g c = rw (← c.self.view_is) c.spool_refused.ensures.records
+
+pub returns-clause-records : goal.returns-clause-records
+returns-clause-records g c = rw (← c.self.view_is) c.spool_refused.ensures.records
