@@ -1,0 +1,5 @@
+pub mod Owed
+pub mod History
+pub mod State
+pub mod Receipts
+pub mod Events
