@@ -21,3 +21,4 @@ pub mod Begun
 pub mod Readings
 pub mod Opened
 pub mod Acknowledged
+pub mod Requests

@@ -19,3 +19,4 @@ pub mod Acknowledged
 pub mod Steps
 pub mod Answers
 pub mod Readers
+pub mod Requests
