@@ -78,6 +78,14 @@ impl Dispatcher {
         Some(Place::of(row.state))
     }
 
+    /// The number of the next leg that a call launches: those that an event launched have the numbers from what it was
+    /// before to what it is after.
+    pub fn next_leg(&self) -> u64
+        ensures { result ≡ (core_view self.now).rows.next_leg }
+    {
+        self.next_leg
+    }
+
     /// The number of a leg's record in the spool; None where the leg isn't stored there, or isn't there.
     pub fn record(&self, leg: LegId) -> Option<u64>
         ensures { result ≡ records_of self.now leg.0 }

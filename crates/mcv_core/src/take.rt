@@ -1,6 +1,6 @@
 //! Replies are taken.
 
-ghost use Rattle.std.specs.Prelude.{◌≡◌, ◌≤◌, ◌+◌, ◌||◌, None, Some, false, cond, is_some, IfOk, IfErr, IfSome, IfNone, option_and_then, option_map};
+ghost use Rattle.std.specs.Prelude.{◌≡◌, ◌≤◌, ◌+◌, ◌||◌, ◌&&◌, not, None, Some, false, cond, is_some, IfOk, IfErr, IfSome, IfNone, option_and_then, option_map};
 ghost use Rattle.mcv_base.specs.Reply.{part_value};
 ghost use Rattle.mcv_world.specs.Moves.{is_move, Taken as WasTaken};
 ghost use Rattle.mcv_world.specs.World.{put, reply_of};
@@ -92,6 +92,32 @@ impl Call {
         }
     }
 
+    /// Whether a source has its reply, which wasn't taken.
+    fn has_reply(&self, source: Source) -> bool
+        ensures { result ≡ is_some (source_reply self.now source) }
+    {
+        match source {
+            Source::Fixed(_) => true,
+            Source::Entry(entry) => match self.place_of(entry) {
+                Some(place) => self.is_there(place),
+                None => false,
+            },
+        }
+    }
+
+    /// Whether its reply is there, and wasn't taken.
+    fn can_be_taken(&self) -> bool
+        ensures { result ≡ (not self.now.taken && is_some (option_and_then (λ a. source_reply self.now a.source) self.now.state.reply)) }
+    {
+        if self.taken {
+            return false;
+        }
+        match self.state.status() {
+            Some(answer) => self.has_reply(answer.source),
+            None => false,
+        }
+    }
+
     /// Takes the reply, once it is there.
     fn take(&mut self) -> Option<Part>
         ensures { HasTaken self.old self.new result }
@@ -174,5 +200,15 @@ impl Dispatcher {
         self.calls.remove_if(call.0, taking.ended);
         self.counts = self.counts.taken(taking.ended, taking.left);
         Ok(taking.part)
+    }
+
+    /// Whether the reply to a call can be taken: the call runs, has a reply, and it wasn't taken.
+    pub fn can_take(&self, call: CallId) -> bool
+        ensures { result ≡ is_move (core_view self.now).routes (world_of (core_view self.now).rows) (WasTaken call.0) }
+    {
+        match self.calls.get(call.0) {
+            Some(call) => call.can_be_taken(),
+            None => false,
+        }
     }
 }
