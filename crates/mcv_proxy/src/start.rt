@@ -1,0 +1,463 @@
+//! The threads of a proxy.
+
+ghost use Rattle.std.specs.Prelude.{◌≡◌, ◌+◌};
+
+use crate::desk::HubDesk;
+use crate::destination::serve_destination;
+use crate::ends::Ends;
+use crate::fault::ProxyFault;
+use crate::gates::{Gates, Link, Watch};
+use crate::replay::serve_replay;
+use crate::spooling::serve_spool;
+use mcv_base::ServerId;
+use mcv_check::Accepted;
+use mcv_hub::{Bell, Hub, Pass, Passes, Receipt, Report, Seat};
+use mcv_session::serve_session;
+use mcv_spool::{Disk, Spool};
+use std::alloc::{AllocError, Global};
+use std::io::{Read, Write};
+use std::marker::Brand;
+use std::sync::ledger::{Blank, Ledger};
+use std::sync::{Arc, Mutex, Wait};
+use std::thread;
+use std::thread::{JoinHandle, Threads};
+
+/// How many sessions there are seats for.
+const SEATS: u64 = 1 << 40;
+
+/// The most sessions.
+const SESSIONS: u64 = 1_000_000_000;
+
+/// How many bells sessions wait at.
+const BELLS: usize = 256;
+
+/// What a session hands back.
+#[derive(Drop)]
+struct Done<B: Ledger, T: Ledger> {
+    seat: Seat<B, T>,
+    receipts: Vec<Receipt>,
+}
+
+/// What all threads share. Each has its own `Shared`.
+#[derive(Drop)]
+struct Shared<B: Ledger, T: Ledger, D: Disk> {
+    accepted: Arc<Accepted>,
+    hub: Arc<Hub<B, T>>,
+    spool: Arc<Mutex<Spool<D>>>,
+    /// The end of the servers' workers and of the replayer.
+    work_ends: Arc<Ends>,
+    /// The end of the spool's worker, which comes later.
+    spool_ends: Arc<Ends>,
+}
+
+impl<B: Ledger, T: Ledger, D: Disk> Shared<B, T, D> {
+    /// The same for one more thread.
+    fn for_thread(&self) -> Result<Shared<B, T, D>, AllocError> {
+        Ok(Shared {
+            accepted: Arc::try_clone(&self.accepted)?,
+            hub: Arc::try_clone(&self.hub)?,
+            spool: Arc::try_clone(&self.spool)?,
+            work_ends: Arc::try_clone(&self.work_ends)?,
+            spool_ends: Arc::try_clone(&self.spool_ends)?,
+        })
+    }
+}
+
+/// The workers that run.
+#[derive(Drop)]
+struct Crew {
+    /// Those of the servers, and the replayer.
+    workers: Vec<JoinHandle<()>>,
+    spool: Option<JoinHandle<()>>,
+}
+
+/// Starts the worker of a server.
+fn employ<
+    B: Ledger + Send + Sync + 'static,
+    T: Ledger + Send + Sync + 'static,
+    D: Disk + Send + 'static,
+    L: Link + Send + 'static,
+    R: Threads + Wait + Copy + Send + 'static,
+>(
+    rt: R,
+    alloc: Global,
+    shared: Shared<B, T, D>,
+    pass: Pass,
+    link: L,
+    server: ServerId,
+) -> Option<JoinHandle<()>> {
+    let job = move || {
+        let mut pass = pass;
+        let mut link = link;
+        serve_destination(
+            &rt,
+            alloc,
+            &shared.hub,
+            &mut pass,
+            &mut link,
+            server,
+            &shared.work_ends,
+        );
+    };
+    thread::spawn(&rt, job).ok()
+}
+
+/// Starts the spool's worker.
+fn employ_spool<
+    B: Ledger + Send + Sync + 'static,
+    T: Ledger + Send + Sync + 'static,
+    D: Disk + Send + 'static,
+    W: Watch + Send + 'static,
+    R: Threads + Wait + Copy + Send + 'static,
+>(rt: R, shared: Shared<B, T, D>, pass: Pass, watch: W) -> Option<JoinHandle<()>> {
+    let job = move || {
+        let mut pass = pass;
+        let mut watch = watch;
+        serve_spool(
+            &rt,
+            &shared.accepted,
+            &shared.hub,
+            &mut pass,
+            &shared.spool,
+            &mut watch,
+            &shared.spool_ends,
+        );
+    };
+    thread::spawn(&rt, job).ok()
+}
+
+/// Starts the replayer.
+fn employ_replayer<
+    B: Ledger + Send + Sync + 'static,
+    T: Ledger + Send + Sync + 'static,
+    D: Disk + Send + 'static,
+    L: Link + Send + 'static,
+    W: Watch + Send + 'static,
+    R: Threads + Wait + Copy + Send + 'static,
+>(
+    rt: R,
+    alloc: Global,
+    shared: Shared<B, T, D>,
+    pass: Pass,
+    links: Vec<L>,
+    watch: W,
+) -> Option<JoinHandle<()>> {
+    let job = move || {
+        let mut pass = pass;
+        let mut links = links;
+        let mut watch = watch;
+        serve_replay(
+            &rt,
+            alloc,
+            &shared.hub,
+            &mut pass,
+            &shared.spool,
+            links.as_mut_slice(),
+            &mut watch,
+            &shared.work_ends,
+        );
+    };
+    thread::spawn(&rt, job).ok()
+}
+
+/// Serves a client until its session ends.
+fn serve<B: Ledger, T: Ledger, I: Read + Drop, O: Write + Drop, W: Watch, R: Wait>(
+    rt: &R,
+    alloc: Global,
+    hub: &Hub<B, T>,
+    pass: Pass,
+    seat: Seat<B, T>,
+    client: (I, O),
+    watch: W,
+) -> Done<B, T> {
+    let (mut reader, mut writer) = client;
+    let mut desk = HubDesk::new(rt, alloc, hub, pass, seat, watch);
+    let _ = serve_session(alloc, &mut reader, &mut writer, &mut desk);
+    let (seat, receipts) = desk.into_parts();
+    Done { seat, receipts }
+}
+
+/// Starts a session. Where there is no thread for it the client is dropped.
+fn host<
+    B: Ledger + Send + Sync + 'static,
+    T: Ledger + Send + Sync + 'static,
+    I: Read + Drop + Send + 'static,
+    O: Write + Drop + Send + 'static,
+    W: Watch + Send + 'static,
+    R: Threads + Wait + Copy + Send + 'static,
+>(
+    rt: R,
+    alloc: Global,
+    hub: Arc<Hub<B, T>>,
+    pass: Pass,
+    seat: Seat<B, T>,
+    client: (I, O),
+    watch: W,
+) -> Option<JoinHandle<Done<B, T>>> {
+    let job = move || serve(&rt, alloc, &*hub, pass, seat, client, watch);
+    thread::spawn(&rt, job).ok()
+}
+
+/// A link to each server, in the order of their numbers.
+fn links_of<G: Gates>(
+    alloc: Global,
+    accepted: &Accepted,
+    gates: &mut G,
+) -> Result<Vec<G::Link>, AllocError> {
+    let servers = accepted.routes().servers();
+    let count = servers.len();
+    let mut links = Vec::with_capacity(alloc, count)?;
+    for number in 0..count {
+        if let Some(text) = servers.text(ServerId(number as u32)) {
+            links.push(gates.link(text)?)?;
+        }
+    }
+    Ok(links)
+}
+
+/// Starts the workers of all servers.
+fn employ_all<
+    B: Ledger + Send + Sync + 'static,
+    T: Ledger + Send + Sync + 'static,
+    D: Disk + Send + 'static,
+    L: Link + Send + 'static,
+    R: Threads + Wait + Copy + Send + 'static,
+>(
+    rt: R,
+    alloc: Global,
+    shared: &Shared<B, T, D>,
+    passes: &Passes<B, T>,
+    links: Vec<L>,
+    crew: &mut Crew,
+) -> Result<(), AllocError> {
+    crew.workers.reserve(links.len())?;
+    let mut number = 0u32;
+    for link in links {
+        let server = ServerId(number);
+        let Some(worker) = employ(rt, alloc, shared.for_thread()?, passes.pass(), link, server)
+        else {
+            return Err(AllocError);
+        };
+        crew.workers.push(worker)?;
+        number = number.saturating_add(1);
+    }
+    Ok(())
+}
+
+/// Starts all workers.
+fn staff<
+    B: Ledger + Send + Sync + 'static,
+    T: Ledger + Send + Sync + 'static,
+    G: Gates,
+    R: Threads + Wait + Copy + Send + 'static,
+>(
+    rt: R,
+    alloc: Global,
+    shared: &Shared<B, T, G::Disk>,
+    passes: &Passes<B, T>,
+    gates: &mut G,
+    crew: &mut Crew,
+) -> Result<(), AllocError> {
+    let links = links_of(alloc, &shared.accepted, gates)?;
+    let repeats = links_of(alloc, &shared.accepted, gates)?;
+    let Some(spool) = employ_spool(rt, shared.for_thread()?, passes.pass(), gates.watch()) else {
+        return Err(AllocError);
+    };
+    crew.spool = Some(spool);
+    crew.workers.reserve(1)?;
+    let Some(replayer) = employ_replayer(
+        rt,
+        alloc,
+        shared.for_thread()?,
+        passes.pass(),
+        repeats,
+        gates.watch(),
+    ) else {
+        return Err(AllocError);
+    };
+    crew.workers.push(replayer)?;
+    employ_all(rt, alloc, shared, passes, links, crew)
+}
+
+/// Serves clients, each in a thread, until no more come.
+fn accept<
+    B: Ledger + Send + Sync + 'static,
+    T: Ledger + Send + Sync + 'static,
+    G: Gates,
+    R: Threads + Wait + Copy + Send + 'static,
+>(
+    rt: R,
+    alloc: Global,
+    hub: &Arc<Hub<B, T>>,
+    passes: &mut Passes<B, T>,
+    gates: &mut G,
+) -> Vec<JoinHandle<Done<B, T>>> {
+    let mut sessions = Vec::new(alloc);
+    for _session in 0..SESSIONS {
+        let Some(client) = gates.session() else {
+            return sessions;
+        };
+        let Some(seat) = passes.seat() else {
+            return sessions;
+        };
+        let (Ok(()), Ok(hub)) = (sessions.reserve(1), Arc::try_clone(hub)) else {
+            continue;
+        };
+        let watch = gates.watch();
+        if let Some(session) = host(rt, alloc, hub, passes.pass(), seat, client, watch) {
+            sessions.push_reserved(session);
+        }
+    }
+    sessions
+}
+
+/// Waits for the sessions to end, adds their shares to this seat's, and gives the receipts of all.
+fn gather<B: Ledger + Send, T: Ledger + Send, R: Threads>(
+    rt: &R,
+    alloc: Global,
+    sessions: Vec<JoinHandle<Done<B, T>>>,
+    seat: &mut Seat<B, T>,
+) -> Result<Vec<Receipt>, AllocError> {
+    let mut receipts = Vec::new(alloc);
+    let mut outcome = Ok(());
+    for session in sessions {
+        let done = session.join(rt);
+        seat.begun.merge(done.seat.begun);
+        seat.taken.merge(done.seat.taken);
+        if receipts
+            .extend_from_slice(done.receipts.as_slice())
+            .is_err()
+        {
+            outcome = Err(AllocError);
+        }
+    }
+    outcome?;
+    Ok(receipts)
+}
+
+/// Asks the servers' workers and the replayer to end, waits until they have, and then does so with the spool's worker.
+fn dismiss<B: Ledger, T: Ledger, D: Disk, R: Threads + Wait>(
+    rt: &R,
+    shared: &Shared<B, T, D>,
+    pass: &mut Pass,
+    crew: Crew,
+) {
+    let Crew { workers, spool } = crew;
+    shared.work_ends.ask(rt, &shared.hub, pass);
+    shared.hub.ring(Bell::Replayer);
+    for number in 0..shared.accepted.routes().servers().len() {
+        shared.hub.ring(Bell::Server(ServerId(number as u32)));
+    }
+    for worker in workers {
+        worker.join(rt);
+    }
+    shared.spool_ends.ask(rt, &shared.hub, pass);
+    shared.hub.ring(Bell::Spool);
+    if let Some(spool) = spool {
+        spool.join(rt);
+    }
+}
+
+/// What all threads share, with the spool of a disk, and what makes passes and seats.
+fn open<B: Ledger, T: Ledger, D: Disk>(
+    alloc: Global,
+    accepted: Arc<Accepted>,
+    disk: D,
+    begun: Blank,
+    taken: Blank,
+) -> Result<(Shared<B, T, D>, Passes<B, T>), ProxyFault>
+    requires begun { (begun.name ≡ B.name) × (begun.parts ≡ B.parts) × (begun.parts ≡ SEATS + 1) }
+    requires taken { (taken.name ≡ T.name) × (taken.parts ≡ T.parts) × (taken.parts ≡ SEATS + 1) }
+{
+    let spool = Spool::open(alloc, disk)?;
+    let records = spool.pending()?;
+    let known = Arc::try_clone(&accepted)?;
+    let Ok((hub, passes)) = Hub::new(alloc, known, records.as_slice(), BELLS, SEATS, begun, taken)
+    else {
+        return Err(ProxyFault::Memory);
+    };
+    let shared = Shared {
+        accepted,
+        hub: Arc::new(alloc, hub)?,
+        spool: Arc::new(alloc, Mutex::new(spool))?,
+        work_ends: Arc::new(alloc, Ends::new())?,
+        spool_ends: Arc::new(alloc, Ends::new())?,
+    };
+    Ok((shared, passes))
+}
+
+/// Serves all clients, and gives the receipts of their sessions; their shares are added to the seat's.
+fn run<
+    B: Ledger + Send + Sync + 'static,
+    T: Ledger + Send + Sync + 'static,
+    G: Gates,
+    R: Threads + Wait + Copy + Send + 'static,
+>(
+    rt: R,
+    alloc: Global,
+    shared: &Shared<B, T, G::Disk>,
+    passes: &mut Passes<B, T>,
+    gates: &mut G,
+    seat: &mut Seat<B, T>,
+) -> Result<Vec<Receipt>, AllocError> {
+    let mut crew = Crew {
+        workers: Vec::new(alloc),
+        spool: None,
+    };
+    let mut pass = passes.pass();
+    if let Err(fault) = staff(rt, alloc, shared, passes, gates, &mut crew) {
+        dismiss(&rt, shared, &mut pass, crew);
+        return Err(fault);
+    }
+    let sessions = accept(rt, alloc, &shared.hub, passes, gates);
+    let receipts = gather(&rt, alloc, sessions, seat);
+    dismiss(&rt, shared, &mut pass, crew);
+    receipts
+}
+
+/// As `start`, with the ledgers of calls begun and of replies taken.
+fn started<
+    B: Ledger + Send + Sync + 'static,
+    T: Ledger + Send + Sync + 'static,
+    G: Gates,
+    R: Threads + Wait + Copy + Send + 'static,
+>(
+    rt: R,
+    alloc: Global,
+    accepted: Arc<Accepted>,
+    gates: &mut G,
+    begun: Blank,
+    taken: Blank,
+) -> Result<Report, ProxyFault>
+    requires begun { (begun.name ≡ B.name) × (begun.parts ≡ B.parts) × (begun.parts ≡ SEATS + 1) }
+    requires taken { (taken.name ≡ T.name) × (taken.parts ≡ T.parts) × (taken.parts ≡ SEATS + 1) }
+{
+    let Some(disk) = gates.disk() else {
+        return Err(ProxyFault::Device);
+    };
+    let (shared, mut passes) = open::<B, T, G::Disk>(alloc, accepted, disk, begun, taken)?;
+    let Some(mut seat) = passes.seat() else {
+        return Err(ProxyFault::Memory);
+    };
+    let receipts = run(rt, alloc, &shared, &mut passes, gates, &mut seat)?;
+    let mut pass = passes.pass();
+    let Seat { begun, taken } = &mut seat;
+    let mut guard = shared.hub.lock(&rt, &mut pass);
+    let report = guard.close(alloc, begun, taken, receipts.as_slice())?;
+    Ok(report)
+}
+
+/// Runs a proxy: one worker for each server, one for the spool and the replayer, and each session in its thread. Where
+/// there is no thread for a worker the others end, and the answer is `Memory`. Once no more clients come and all sessions
+/// have ended, the workers end when they have nothing in hand, and the answer is what was counted.
+pub fn start<G: Gates, R: Threads + Wait + Copy + Send + 'static>(
+    rt: R,
+    alloc: Global,
+    accepted: Arc<Accepted>,
+    gates: G,
+) -> Result<Report, ProxyFault> {
+    let mut gates = gates;
+    let begun = Blank::new(SEATS + 1);
+    let taken = Blank::new(SEATS + 1);
+    started::<Brand, Brand, G, R>(rt, alloc, accepted, &mut gates, begun, taken)
+}
