@@ -15,7 +15,7 @@ mod fault;
 mod gates;
 mod replay;
 mod spooling;
-mod start;
+mod threads;
 
 pub use crate::desk::HubDesk;
 pub use crate::destination::serve_destination;
@@ -24,4 +24,4 @@ pub use crate::fault::ProxyFault;
 pub use crate::gates::{Gates, Link, LinkFault, Watch};
 pub use crate::replay::serve_replay;
 pub use crate::spooling::serve_spool;
-pub use crate::start::start;
+pub use crate::threads::start;

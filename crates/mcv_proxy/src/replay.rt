@@ -37,7 +37,7 @@ enum Found {
 
 /// What came of looking at servers.
 #[derive(Clone, Copy, PartialEq, Eq)]
-enum Look {
+enum Sight {
     /// This leg of this server is in flight again.
     Leg(ServerId, LegId),
     /// None can be sent, but the leg of a server that has another one in flight may be one.
@@ -47,12 +47,12 @@ enum Look {
 }
 
 /// Sends the first leg again that is in the spool for a server, from this one on.
-fn look<B: Ledger, T: Ledger>(guard: &mut Guard<'_, B, T>, from: u32, count: u32) -> Look {
-    let mut found = Look::Empty;
+fn look<B: Ledger, T: Ledger>(guard: &mut Guard<'_, B, T>, from: u32, count: u32) -> Sight {
+    let mut found = Sight::Empty;
     for number in from..count {
         match guard.replay(ServerId(number)) {
-            Ok(leg) => return Look::Leg(ServerId(number), leg),
-            Err(CoreFault::Busy) => found = Look::Busy,
+            Ok(leg) => return Sight::Leg(ServerId(number), leg),
+            Err(CoreFault::Busy) => found = Sight::Busy,
             Err(_) => {}
         }
     }
@@ -97,11 +97,11 @@ fn find<B: Ledger, T: Ledger, R: Wait>(
             return Found::End;
         }
         match look(&mut guard, from, count) {
-            Look::Leg(server, leg) => {
+            Sight::Leg(server, leg) => {
                 return Found::Leg(repeat_of(alloc, &guard, server, leg));
             }
-            Look::Empty if from == 0 => {}
-            Look::Empty | Look::Busy => return Found::Nothing,
+            Sight::Empty if from == 0 => {}
+            Sight::Empty | Sight::Busy => return Found::Nothing,
         }
         guard = hub.wait(rt, guard, Bell::Replayer);
     }
