@@ -6,7 +6,7 @@ use mcv_spool::{Disk, DiskFailed};
 use std::sync::{Arc, Mutex, Wait};
 
 #[derive(Drop)]
-pub(crate) struct MemoryDisk<R: Wait> {
+pub(crate) struct MemoryDisk<R: Wait + Drop> {
     pub(crate) rt: R,
     pub(crate) bytes: Arc<Mutex<Vec<u8>>>,
 }
@@ -37,7 +37,7 @@ fn get(bytes: &[u8], at: usize, room: &mut [u8]) -> Result<(), DiskFailed> {
     Ok(())
 }
 
-impl<R: Wait> Disk for MemoryDisk<R> {
+impl<R: Wait + Drop> Disk for MemoryDisk<R> {
     ghost keeps_model = { ⊥ };
 
     ghost seen = { λ _. [] };

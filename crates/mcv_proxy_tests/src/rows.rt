@@ -53,7 +53,7 @@ fn is_report(report: Report, calls: u64) -> bool {
 }
 
 /// Whether one client of this configuration is answered so, and the servers are sent so many legs.
-fn one_client<R: Threads + Wait + Clock + Copy + Send + 'static>(
+fn one_client<R: Threads + Wait + Clock + Copy + Drop + Send + 'static>(
     rt: R,
     alloc: Global,
     config: &str,
@@ -97,7 +97,7 @@ fn a_get_is_answered(rt: HostRuntime) -> Result<(), Fail> {
 }
 
 /// Two clients, of which the second is answered before the server of the first one answers.
-fn two_clients<R: Threads + Wait + Clock + Copy + Send + 'static>(
+fn two_clients<R: Threads + Wait + Clock + Copy + Drop + Send + 'static>(
     rt: R,
     alloc: Global,
 ) -> Result<bool, Fail> {
@@ -126,7 +126,7 @@ fn two_sessions_go_on_at_once(rt: HostRuntime) -> Result<(), Fail> {
 }
 
 /// What the server was sent.
-fn was_sent<R: Wait + Clock + Copy + Send + 'static>(
+fn was_sent<R: Wait + Clock + Copy + Drop + Send + 'static>(
     rt: R,
     seen: &Scene<R>,
     server: usize,
@@ -138,7 +138,7 @@ fn was_sent<R: Wait + Clock + Copy + Send + 'static>(
     }
 }
 
-fn warm_up_session<R: Threads + Wait + Clock + Copy + Send + 'static>(
+fn warm_up_session<R: Threads + Wait + Clock + Copy + Drop + Send + 'static>(
     rt: R,
     alloc: Global,
 ) -> Result<bool, Fail> {
@@ -193,7 +193,7 @@ fn five_failures(alloc: Global) -> Result<Vec<u8>, Fail> {
 }
 
 /// How many legs a server is sent that breaks each of five.
-fn sent_of_five<R: Threads + Wait + Clock + Copy + Send + 'static>(
+fn sent_of_five<R: Threads + Wait + Clock + Copy + Drop + Send + 'static>(
     rt: R,
     alloc: Global,
     answers_probes: bool,

@@ -125,13 +125,13 @@ pub(crate) fn number_of(rest: &[u8]) -> Option<usize> {
 
 /// The way to a server in memory.
 #[derive(Drop)]
-pub(crate) struct Wire<R: Wait + Clock> {
+pub(crate) struct Wire<R: Wait + Clock + Drop> {
     rt: R,
     alloc: Global,
     server: Arc<Server>,
 }
 
-impl<R: Wait + Clock> Wire<R> {
+impl<R: Wait + Clock + Drop> Wire<R> {
     /// Waits until the server may answer, for at most 20,000 turns.
     fn hold(&self) {
         let Some(sign) = &self.server.waits_for else {
@@ -183,7 +183,7 @@ impl<R: Wait + Clock> Wire<R> {
     }
 }
 
-impl<R: Wait + Clock> Link for Wire<R> {
+impl<R: Wait + Clock + Drop> Link for Wire<R> {
     fn send(&mut self, _pass: &Pass, leg: &LegRequest) -> Result<Reply, LinkFault> {
         self.hold();
         if self.server.breaks() {
@@ -223,13 +223,13 @@ impl Read for Client {
 
 /// What a client is answered. Each write sets a sign, if there is one.
 #[derive(Drop)]
-pub(crate) struct Output<R: Wait> {
+pub(crate) struct Output<R: Wait + Drop> {
     rt: R,
     text: Arc<Mutex<Vec<u8>>>,
     sign: Option<Arc<AtomicBool>>,
 }
 
-impl<R: Wait> Write for Output<R> {
+impl<R: Wait + Drop> Write for Output<R> {
     fn write(&mut self, buf: &[u8]) -> io::Result<usize> {
         self.text.lock(&self.rt).extend_from_slice(buf)?;
         if let Some(sign) = &self.sign {
@@ -263,7 +263,7 @@ impl Watch for Stopped {
 
 /// What a proxy talks to in a test.
 #[derive(Drop)]
-pub(crate) struct Scene<R: Wait + Clock + Copy + Send + 'static> {
+pub(crate) struct Scene<R: Wait + Clock + Copy + Drop + Send + 'static> {
     rt: R,
     alloc: Global,
     pub(crate) servers: Vec<Arc<Server>>,
@@ -273,7 +273,7 @@ pub(crate) struct Scene<R: Wait + Clock + Copy + Send + 'static> {
     pub(crate) disk: Arc<Mutex<Vec<u8>>>,
 }
 
-impl<R: Wait + Clock + Copy + Send + 'static> Scene<R> {
+impl<R: Wait + Clock + Copy + Drop + Send + 'static> Scene<R> {
     /// Nothing, and an empty disk.
     pub(crate) fn new(rt: R, alloc: Global) -> Result<Scene<R>, Fail> {
         Ok(Scene {
@@ -340,7 +340,7 @@ impl<R: Wait + Clock + Copy + Send + 'static> Scene<R> {
     }
 }
 
-impl<R: Wait + Clock + Copy + Send + 'static> Gates for Scene<R> {
+impl<R: Wait + Clock + Copy + Drop + Send + 'static> Gates for Scene<R> {
     type Link = Wire<R>;
 
     type Disk = MemoryDisk<R>;
@@ -379,7 +379,7 @@ impl<R: Wait + Clock + Copy + Send + 'static> Gates for Scene<R> {
 }
 
 /// Runs a proxy over the scene, and gives what was counted and what is to be looked at.
-pub(crate) fn play<R: Threads + Wait + Clock + Copy + Send + 'static>(
+pub(crate) fn play<R: Threads + Wait + Clock + Copy + Drop + Send + 'static>(
     rt: R,
     alloc: Global,
     config: &str,

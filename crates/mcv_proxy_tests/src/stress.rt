@@ -28,7 +28,7 @@ fn deletes(alloc: Global, first: usize, count: usize) -> Result<Vec<u8>, Fail> {
 }
 
 /// So many clients, each with so many deletes of its own.
-fn scene_of<R: Wait + Clock + Copy + Send + 'static>(
+fn scene_of<R: Wait + Clock + Copy + Drop + Send + 'static>(
     rt: R,
     alloc: Global,
     clients: usize,
@@ -52,7 +52,7 @@ fn scene_of<R: Wait + Clock + Copy + Send + 'static>(
 }
 
 /// Which deletes of which servers are performed or pending: a byte for each number, server after server.
-fn kept<R: Wait + Clock + Copy + Send + 'static>(
+fn kept<R: Wait + Clock + Copy + Drop + Send + 'static>(
     rt: R,
     alloc: Global,
     seen: &Scene<R>,
@@ -108,7 +108,7 @@ fn acknowledged(answers: &[u8], kept: &[u8], first: usize, numbers: usize) -> Op
 }
 
 /// How many deletes were acknowledged, each of which is kept at each server.
-fn run<R: Threads + Wait + Clock + Copy + Send + 'static>(
+fn run<R: Threads + Wait + Clock + Copy + Drop + Send + 'static>(
     rt: R,
     alloc: Global,
     clients: usize,
