@@ -144,6 +144,6 @@ fn few_deletes_are_kept(rt: HostRuntime) -> Result<(), Fail> {
 
 #[test]
 fn acknowledged_deletes_are_kept(rt: HostRuntime) -> Result<(), Fail> {
-    assert_eq!(rt; run(rt, rt.alloc(), 16, 500)?, 8_000);
+    assert_eq!(rt; run(rt, rt.alloc(), 16, 200)?, 3_200);
     Ok(())
 }
