@@ -1,6 +1,7 @@
 //! The desk over a hub: a request's keys are calls of the hub.
 
-ghost use Rattle.std.specs.Prelude.{◌≡◌, length};
+ghost use Rattle.std.specs.Prelude.{◌≡◌, ◌+◌, ◌<◌, ◌≤◌, ◌++◌, ◌∷◌, [], length, vec_len, vec_capacity, IfOk, OnOk};
+ghost use Rattle.std.specs.Arc.{arc_value};
 ghost use Rattle.mcv_text.specs.Request.{request_value};
 ghost use Rattle.mcv_session.specs.Desk.{keys_of};
 
@@ -14,16 +15,22 @@ use std::alloc::Global;
 use std::sync::ledger::Ledger;
 use std::sync::{Arc, Wait};
 
-/// Answers the requests of one session by calls of a hub, one for each key.
+/// What calls of a hub take: the pass and the seat of one session, and its watch.
 #[derive(Drop)]
-pub struct HubDesk<'a, B: Ledger, T: Ledger, W: Watch, R: Wait> {
+struct Caller<'a, B: Ledger, T: Ledger, W: Watch, R: Wait> {
     rt: &'a R,
     alloc: Global,
     hub: &'a Hub<B, T>,
     pass: Pass,
     seat: Seat<B, T>,
-    receipts: Vec<Receipt>,
     watch: W,
+}
+
+/// Answers the requests of one session by calls of a hub, one for each key.
+#[derive(Drop)]
+pub struct HubDesk<'a, B: Ledger, T: Ledger, W: Watch, R: Wait> {
+    caller: Caller<'a, B, T, W, R>,
+    receipts: Vec<Receipt>,
 }
 
 /// What a client is answered where the core refuses a call.
@@ -70,32 +77,22 @@ fn take<B: Ledger, T: Ledger, R: Wait>(
     unreachable!()
 }
 
-impl<'a, B: Ledger, T: Ledger, W: Watch, R: Wait> HubDesk<'a, B, T, W, R> {
-    /// A desk that has answered nothing.
-    pub fn new(
-        rt: &'a R,
-        alloc: Global,
-        hub: &'a Hub<B, T>,
-        pass: Pass,
-        seat: Seat<B, T>,
-        watch: W,
-    ) -> HubDesk<'a, B, T, W, R> {
-        HubDesk {
-            rt,
-            alloc,
-            hub,
-            pass,
-            seat,
-            receipts: Vec::new(alloc),
-            watch,
-        }
-    }
+/// Keeps a reply that was taken, and its receipt.
+fn keep(taken: TakenReply, parts: &mut Vec<Part>, receipts: &mut Vec<Receipt>)
+    requires parts { vec_len parts.old < vec_capacity parts.old }
+    requires receipts { vec_len receipts.old < vec_capacity receipts.old }
+    ensures parts { parts.new.items ≡ parts.old.items ++ taken.reply ∷ [] }
+    ensures receipts { receipts.new.items ≡ receipts.old.items ++ taken.receipt ∷ [] }
+    ensures part_len { vec_len parts.new ≡ vec_len parts.old + 1 }
+    ensures receipt_len { vec_len receipts.new ≡ vec_len receipts.old + 1 }
+    ensures part_room { vec_capacity parts.new ≡ vec_capacity parts.old }
+    ensures receipt_room { vec_capacity receipts.new ≡ vec_capacity receipts.old }
+{
+    receipts.push_reserved(taken.receipt());
+    parts.push_reserved(taken.into_reply());
+}
 
-    /// The seat, and the receipts of all replies that were taken.
-    pub fn into_parts(self) -> (Seat<B, T>, Vec<Receipt>) {
-        (self.seat, self.receipts)
-    }
-
+impl<'a, B: Ledger, T: Ledger, W: Watch, R: Wait> Caller<'a, B, T, W, R> {
     /// Begins a call for one key of a request, at this moment.
     fn begin(&mut self, request: &Arc<Request>, key: usize) -> Result<CallId, CoreFault> {
         let Ok(request) = Arc::try_clone(request) else {
@@ -119,9 +116,13 @@ impl<'a, B: Ledger, T: Ledger, W: Watch, R: Wait> HubDesk<'a, B, T, W, R> {
     fn begin_all(
         &mut self,
         request: &Arc<Request>,
-        calls: &mut Vec<CallId>,
         count: usize,
-    ) -> Result<(), CoreFault> {
+        calls: &mut Vec<CallId>,
+    ) -> Result<(), CoreFault>
+        requires { vec_len calls.old + count ≤ vec_capacity calls.old }
+        ensures all { OnOk result (vec_len calls.new ≡ vec_len calls.old + count) }
+        ensures most { vec_len calls.new ≤ vec_len calls.old + count }
+    {
         for key in 0..count {
             let call = self.begin(request, key)?;
             calls.push_reserved(call);
@@ -129,37 +130,90 @@ impl<'a, B: Ledger, T: Ledger, W: Watch, R: Wait> HubDesk<'a, B, T, W, R> {
         Ok(())
     }
 
-    /// Waits for the reply to a call, takes it, and keeps its receipt.
-    fn take(&mut self, call: CallId) -> Result<Part, CoreFault> {
-        let taken = take(self.rt, self.hub, &mut self.pass, &mut self.seat, call)?;
-        self.receipts.push_reserved(taken.receipt());
-        Ok(taken.into_reply())
+    /// Waits for the reply to a call, and takes it.
+    fn take(&mut self, call: CallId) -> Result<TakenReply, CoreFault> {
+        take(self.rt, self.hub, &mut self.pass, &mut self.seat, call)
     }
 
-    /// Takes the replies to calls, in their order. All are taken, also where one isn't there.
-    fn take_all(&mut self, calls: &[CallId], parts: &mut Vec<Part>) -> Result<(), CoreFault> {
-        let mut outcome = Ok(());
+    /// Takes the replies to calls, in their order, and keeps their receipts. Where one isn't there the others are taken too.
+    fn take_all(
+        &mut self,
+        calls: &[CallId],
+        parts: &mut Vec<Part>,
+        receipts: &mut Vec<Receipt>,
+    ) -> Result<(), CoreFault>
+        requires parts { vec_len parts.old + length calls.now ≤ vec_capacity parts.old }
+        requires receipts { vec_len receipts.old + length calls.now ≤ vec_capacity receipts.old }
+        ensures parts { OnOk result (vec_len parts.new ≡ vec_len parts.old + length calls.now) }
+        ensures receipts { OnOk result (vec_len receipts.new ≡ vec_len receipts.old + length calls.now) }
+    {
+        let mut missed = None;
         for call in calls {
             match self.take(*call) {
-                Ok(part) => parts.push_reserved(part),
-                Err(fault) => outcome = Err(fault),
+                Ok(taken) => keep(taken, parts, receipts),
+                Err(fault) => missed = Some(fault),
             }
         }
-        outcome
+        match missed {
+            Some(fault) => Err(fault),
+            None => Ok(()),
+        }
+    }
+}
+
+impl<'a, B: Ledger, T: Ledger, W: Watch, R: Wait> HubDesk<'a, B, T, W, R> {
+    /// A desk that has answered nothing.
+    pub fn new(
+        rt: &'a R,
+        alloc: Global,
+        hub: &'a Hub<B, T>,
+        pass: Pass,
+        seat: Seat<B, T>,
+        watch: W,
+    ) -> HubDesk<'a, B, T, W, R>
+        ensures receipts { result.receipts.items ≡ [] }
+    {
+        HubDesk {
+            caller: Caller {
+                rt,
+                alloc,
+                hub,
+                pass,
+                seat,
+                watch,
+            },
+            receipts: Vec::new(alloc),
+        }
     }
 
-    /// The replies to the keys of a request.
-    fn answer(&mut self, request: &Arc<Request>) -> Result<Vec<Part>, CoreFault> {
+    /// The seat, and the receipts of all replies that were taken.
+    pub fn into_parts(self) -> (Seat<B, T>, Vec<Receipt>)
+        ensures seat { result.0 ≡ self.caller.seat }
+        ensures receipts { result.1 ≡ self.receipts }
+    {
+        (self.caller.seat, self.receipts)
+    }
+
+    /// The replies to the keys of a request, one for each. All calls are begun before the first reply is waited for; where
+    /// one is refused the replies to those before it are taken all the same. Room for all of it is made first.
+    fn answer(&mut self, request: &Arc<Request>) -> Result<Vec<Part>, CoreFault>
+        ensures each { IfOk result (λ parts. vec_len parts ≡ length (keys_of (request_value (arc_value request.now)))) }
+        ensures receipts { OnOk result (vec_len self.new.receipts ≡ vec_len self.old.receipts + length (keys_of (request_value (arc_value request.now)))) }
+    {
         let count = key_count(request);
-        let (Ok(mut calls), Ok(mut parts), Ok(())) = (
-            Vec::with_capacity(self.alloc, count),
-            Vec::with_capacity(self.alloc, count),
-            self.receipts.reserve(count),
-        ) else {
+        let alloc = self.caller.alloc;
+        let Ok(mut calls) = Vec::with_capacity(alloc, count) else {
             return Err(CoreFault::Memory);
         };
-        let begun = self.begin_all(request, &mut calls, count);
-        self.take_all(&calls, &mut parts)?;
+        let Ok(mut parts) = Vec::with_capacity(alloc, count) else {
+            return Err(CoreFault::Memory);
+        };
+        let Ok(()) = self.receipts.reserve(count) else {
+            return Err(CoreFault::Memory);
+        };
+        let begun = self.caller.begin_all(request, count, &mut calls);
+        self.caller
+            .take_all(&calls, &mut parts, &mut self.receipts)?;
         begun?;
         Ok(parts)
     }

@@ -171,7 +171,7 @@ fn go_round<B: Ledger, T: Ledger, L: Link, D: Disk, R: Wait>(
     links: &mut [L],
     ends: &Ends,
 ) -> bool {
-    let count = links.len() as u32;
+    let count = u32::try_from(links.len()).unwrap_or(u32::MAX);
     let mut from = 0;
     for _turn in 0..TURNS {
         match find(rt, alloc, hub, pass, (from, count), ends) {

@@ -198,6 +198,11 @@ fn host<
     thread::spawn(&rt, job).ok()
 }
 
+/// How many servers there are.
+fn server_count(accepted: &Accepted) -> u32 {
+    u32::try_from(accepted.routes().servers().len()).unwrap_or(u32::MAX)
+}
+
 /// A link to each server, in the order of their numbers.
 fn links_of<G: Gates>(
     alloc: Global,
@@ -205,10 +210,9 @@ fn links_of<G: Gates>(
     gates: &mut G,
 ) -> Result<Vec<G::Link>, AllocError> {
     let servers = accepted.routes().servers();
-    let count = servers.len();
-    let mut links = Vec::with_capacity(alloc, count)?;
-    for number in 0..count {
-        if let Some(text) = servers.text(ServerId(number as u32)) {
+    let mut links = Vec::new(alloc);
+    for number in 0..server_count(accepted) {
+        if let Some(text) = servers.text(ServerId(number)) {
             links.push(gates.link(text)?)?;
         }
     }
@@ -300,7 +304,10 @@ fn accept<
         let Some(seat) = passes.seat() else {
             return sessions;
         };
-        let (Ok(()), Ok(hub)) = (sessions.reserve(1), Arc::try_clone(hub)) else {
+        let Ok(hub) = Arc::try_clone(hub) else {
+            continue;
+        };
+        let Ok(()) = sessions.reserve(1) else {
             continue;
         };
         let watch = gates.watch();
@@ -345,8 +352,8 @@ fn dismiss<B: Ledger, T: Ledger, D: Disk, R: Threads + Wait>(
     let Crew { workers, spool } = crew;
     shared.work_ends.ask(rt, &shared.hub, pass);
     shared.hub.ring(Bell::Replayer);
-    for number in 0..shared.accepted.routes().servers().len() {
-        shared.hub.ring(Bell::Server(ServerId(number as u32)));
+    for number in 0..server_count(&shared.accepted) {
+        shared.hub.ring(Bell::Server(ServerId(number)));
     }
     for worker in workers {
         worker.join(rt);

@@ -9,6 +9,23 @@ use std::sync::{Arc, Mutex, Wait};
 pub(crate) struct MemoryDisk<R: Wait + Drop> {
     pub(crate) rt: R,
     pub(crate) bytes: Arc<Mutex<Vec<u8>>>,
+    /// How many more writes succeed until one fails; the writes behind it succeed again.
+    pub(crate) writes_left: Option<u64>,
+}
+
+impl<R: Wait + Drop> MemoryDisk<R> {
+    /// Whether this write fails.
+    fn fails(&mut self) -> bool {
+        let left = self.writes_left.take();
+        match left {
+            Some(0) => true,
+            Some(left) => {
+                self.writes_left = Some(left.saturating_sub(1));
+                false
+            }
+            None => false,
+        }
+    }
 }
 
 /// Writes bytes at an offset, over what is there and past the end.
@@ -65,6 +82,9 @@ impl<R: Wait + Drop> Disk for MemoryDisk<R> {
     }
 
     fn write_at(&mut self, at: usize, bytes: &[u8]) -> Result<(), DiskFailed> {
+        if self.fails() {
+            return Err(DiskFailed);
+        }
         put(&mut *self.bytes.lock(&self.rt), at, bytes)
     }
 

@@ -2,9 +2,10 @@
 
 use crate::scene::{Manner, Scene, Server, bytes, play};
 use mcv_hub::Report;
+use mcv_proxy::ProxyFault;
 use std::alloc::Global;
 use std::rt::Clock;
-use std::sync::atomic::AtomicBool;
+use std::sync::atomic::{AtomicBool, Ordering};
 use std::sync::{Arc, Wait};
 use std::test::Fail;
 use std::thread::Threads;
@@ -112,7 +113,7 @@ fn two_clients<R: Threads + Wait + Clock + Copy + Drop + Send + 'static>(
         .with_client(bytes(alloc, "get a\r\n")?, None)?;
     let (report, seen) = play(rt, alloc, TWO, scene)?;
     Ok(
-        sign.load(std::sync::atomic::Ordering::SeqCst)
+        sign.load(Ordering::SeqCst)
             && matches!(report, Ok(report) if is_report(report, 2))
             && seen.is_answered(1, HIT_A)
             && seen.is_answered(0, "VALUE b 0 1\r\nx\r\nEND\r\n"),
@@ -218,13 +219,111 @@ fn a_marked_server_is_sent_nothing_until_it_answers_a_probe(rt: HostRuntime) -> 
     Ok(())
 }
 
-/// A delete whose server breaks its leg once is answered, spooled and sent again.
 #[test]
-fn refusals_are_whole_answers(rt: HostRuntime) -> Result<(), Fail> {
+fn a_refused_key_is_the_whole_answer(rt: HostRuntime) -> Result<(), Fail> {
     let alloc = rt.alloc();
     let manners = [sound("a:11211", "a")];
     let asks = "get a /x/y/z\r\nget a\r\n";
     let answer = "SERVER_ERROR no route\r\nVALUE a 0 1\r\nx\r\nEND\r\n";
     assert!(rt; one_client(rt, alloc, ONE, &manners, asks, answer, 2, &[2])?);
+    Ok(())
+}
+
+#[test]
+fn nothing_is_written_where_no_reply_is_wanted(rt: HostRuntime) -> Result<(), Fail> {
+    let alloc = rt.alloc();
+    let manners = [sound("a:11211", "a")];
+    let asks = "delete a noreply\r\nset b 0 0 1 noreply\r\nx\r\nversion\r\n";
+    assert!(rt; one_client(rt, alloc, ONE, &manners, asks, "VERSION mcv 1\r\n", 2, &[2])?);
+    Ok(())
+}
+
+/// How many bytes the disk has.
+fn disk_size<R: Wait + Clock + Copy + Drop + Send + 'static>(rt: R, seen: &Scene<R>) -> usize {
+    seen.disk.lock(&rt).len()
+}
+
+/// The byte of the first slot that says whether its record is done.
+fn first_is_done<R: Wait + Clock + Copy + Drop + Send + 'static>(rt: R, seen: &Scene<R>) -> bool {
+    seen.disk.lock(&rt).get(1) == Some(&1)
+}
+
+/// A delete of a broken server is answered and stays in the spool; a proxy that is started on its disk sends it again.
+fn delete_across_two_runs<R: Threads + Wait + Clock + Copy + Drop + Send + 'static>(
+    rt: R,
+    alloc: Global,
+) -> Result<bool, Fail> {
+    let scene = Scene::new(rt, alloc)?
+        .with_server(Server::new(alloc, broken("a:11211", false), 0)?)?
+        .with_client(bytes(alloc, "delete a\r\n")?, None)?;
+    let (report, seen) = play(rt, alloc, ONE, scene)?;
+    let is_kept = matches!(report, Ok(report) if is_report(report, 1))
+        && seen.is_answered(0, "NOT_FOUND\r\n")
+        && disk_size(rt, &seen) == 641
+        && !first_is_done(rt, &seen);
+    let sign = Arc::new(alloc, AtomicBool::new(false))?;
+    let server = Server::new(alloc, sound("a:11211", ""), 0)?;
+    let mut scene = Scene::new(rt, alloc)?
+        .with_server(server.setting(Arc::try_clone(&sign)?))?
+        .with_client(bytes(alloc, "")?, None)?
+        .held_by(Arc::try_clone(&sign)?);
+    scene.disk = Arc::try_clone(&seen.disk)?;
+    let (report, seen) = play(rt, alloc, ONE, scene)?;
+    Ok(
+        is_kept
+            && matches!(report, Ok(report) if is_report(report, 0))
+            && sign.load(Ordering::SeqCst)
+            && was_sent(rt, &seen, 0, "delete a\r\n")
+            && first_is_done(rt, &seen),
+    )
+}
+
+#[test]
+fn a_spooled_delete_is_sent_again_after_a_stop(rt: HostRuntime) -> Result<(), Fail> {
+    assert!(rt; delete_across_two_runs(rt, rt.alloc())?);
+    Ok(())
+}
+
+/// What the client of a broken server is answered where the disk fails at a write, and how long the file is then.
+fn delete_with_a_failing_disk<R: Threads + Wait + Clock + Copy + Drop + Send + 'static>(
+    rt: R,
+    alloc: Global,
+    writes_left: u64,
+    answer: &str,
+) -> Result<Option<usize>, Fail> {
+    let mut scene = Scene::new(rt, alloc)?
+        .with_server(Server::new(alloc, broken("a:11211", false), 0)?)?
+        .with_client(bytes(alloc, "delete a\r\nversion\r\n")?, None)?;
+    scene.writes_left = Some(writes_left);
+    let (report, seen) = play(rt, alloc, ONE, scene)?;
+    if !seen.is_answered(0, answer) || !matches!(report, Ok(report) if is_report(report, 1)) {
+        return Ok(None);
+    }
+    Ok(Some(disk_size(rt, &seen)))
+}
+
+#[test]
+fn a_refused_record_is_an_error_and_is_written_later(rt: HostRuntime) -> Result<(), Fail> {
+    let alloc = rt.alloc();
+    let refused = "SERVER_ERROR destination failed\r\nVERSION mcv 1\r\n";
+    let kept = "NOT_FOUND\r\nVERSION mcv 1\r\n";
+    // The first write is that of the file's gate, in `open`.
+    let size = delete_with_a_failing_disk(rt, alloc, 1, refused)?;
+    assert!(rt; matches!(size, Some(1) | Some(641)));
+    assert!(rt; delete_with_a_failing_disk(rt, alloc, 100, kept)? == Some(641));
+    Ok(())
+}
+
+#[test]
+fn a_disk_that_fails_at_once_ends_the_proxy(rt: HostRuntime) -> Result<(), Fail> {
+    let alloc = rt.alloc();
+    let mut scene = Scene::new(rt, alloc)?.with_server(Server::new(
+        alloc,
+        sound("a:11211", "a"),
+        0,
+    )?)?;
+    scene.writes_left = Some(0);
+    let (report, _seen) = play(rt, alloc, ONE, scene)?;
+    assert!(rt; report == Err(ProxyFault::Device));
     Ok(())
 }

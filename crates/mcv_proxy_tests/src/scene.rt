@@ -59,6 +59,8 @@ pub(crate) struct Server {
     legs: AtomicU64,
     /// It answers only once this is set.
     waits_for: Option<Arc<AtomicBool>>,
+    /// It sets this once it has performed a delete.
+    sets: Option<Arc<AtomicBool>>,
     pub(crate) notes: Mutex<Notes>,
 }
 
@@ -71,6 +73,7 @@ impl Server {
             manner,
             legs: AtomicU64::new(0),
             waits_for: None,
+            sets: None,
             notes: Mutex::new(Notes {
                 text: Vec::new(alloc),
                 deleted,
@@ -79,19 +82,15 @@ impl Server {
     }
 
     /// The same, which answers only once this is set.
-    pub(crate) fn waiting_for(self, sign: Arc<AtomicBool>) -> Server {
-        let Server {
-            manner,
-            legs,
-            waits_for: _,
-            notes,
-        } = self;
-        Server {
-            manner,
-            legs,
-            waits_for: Some(sign),
-            notes,
-        }
+    pub(crate) fn waiting_for(mut self, sign: Arc<AtomicBool>) -> Server {
+        self.waits_for = Some(sign);
+        self
+    }
+
+    /// The same, which sets this once it has performed a delete.
+    pub(crate) fn setting(mut self, sign: Arc<AtomicBool>) -> Server {
+        self.sets = Some(sign);
+        self
     }
 
     /// How many legs it was sent, those among them that broke.
@@ -176,7 +175,12 @@ impl<R: Wait + Clock + Drop> Wire<R> {
                 self.hit()
             }
             Op::Get | Op::Gets => Ok(Reply::Miss),
-            Op::Delete => Ok(Reply::Deleted),
+            Op::Delete => {
+                if let Some(sign) = &self.server.sets {
+                    sign.store(true, Ordering::SeqCst);
+                }
+                Ok(Reply::Deleted)
+            }
             Op::Touch => Ok(Reply::Touched),
             _ => Ok(Reply::Stored),
         }
@@ -204,15 +208,35 @@ impl<R: Wait + Clock + Drop> Link for Wire<R> {
     }
 }
 
-/// A client that sends these bytes.
+/// A client that sends these bytes, and goes once this is set.
 #[derive(Drop)]
-pub(crate) struct Client {
+pub(crate) struct Client<R: Clock + Drop> {
+    rt: R,
     bytes: Vec<u8>,
     at: usize,
+    waits_for: Option<Arc<AtomicBool>>,
 }
 
-impl Read for Client {
+impl<R: Clock + Drop> Client<R> {
+    /// Waits until it may go, for at most 20,000 turns.
+    fn hold(&self) {
+        let Some(sign) = &self.waits_for else {
+            return;
+        };
+        for _turn in 0..20_000 {
+            if sign.load(Ordering::SeqCst) {
+                return;
+            }
+            thread::sleep(&self.rt, Duration::from_millis(1));
+        }
+    }
+}
+
+impl<R: Clock + Drop> Read for Client<R> {
     fn read(&mut self, buf: &mut [u8]) -> io::Result<usize> {
+        if self.at >= self.bytes.len() {
+            self.hold();
+        }
         let left = self.bytes.as_slice().get(self.at..).unwrap_or(&[]);
         let count = left.len().min(buf.len()).min(100);
         buf[..count].copy_from_slice(&left[..count]);
@@ -268,9 +292,11 @@ pub(crate) struct Scene<R: Wait + Clock + Copy + Drop + Send + 'static> {
     alloc: Global,
     pub(crate) servers: Vec<Arc<Server>>,
     /// The clients that are still to come, the last one first.
-    clients: Vec<(Client, Output<R>)>,
+    clients: Vec<(Client<R>, Output<R>)>,
     pub(crate) answers: Vec<Arc<Mutex<Vec<u8>>>>,
     pub(crate) disk: Arc<Mutex<Vec<u8>>>,
+    /// How many writes of the disk succeed until one fails.
+    pub(crate) writes_left: Option<u64>,
 }
 
 impl<R: Wait + Clock + Copy + Drop + Send + 'static> Scene<R> {
@@ -283,6 +309,7 @@ impl<R: Wait + Clock + Copy + Drop + Send + 'static> Scene<R> {
             clients: Vec::new(alloc),
             answers: Vec::new(alloc),
             disk: Arc::new(alloc, Mutex::new(Vec::new(alloc)))?,
+            writes_left: None,
         })
     }
 
@@ -306,8 +333,22 @@ impl<R: Wait + Clock + Copy + Drop + Send + 'static> Scene<R> {
             text,
             sign,
         };
-        self.clients.push((Client { bytes, at: 0 }, output))?;
+        let client = Client {
+            rt: self.rt,
+            bytes,
+            at: 0,
+            waits_for: None,
+        };
+        self.clients.push((client, output))?;
         Ok(self)
+    }
+
+    /// The same clients, of which the next one goes only once this is set.
+    pub(crate) fn held_by(mut self, sign: Arc<AtomicBool>) -> Scene<R> {
+        if let Some((client, _output)) = self.clients.last_mut() {
+            client.waits_for = Some(sign);
+        }
+        self
     }
 
     /// The same servers, answers and disk, to be looked at.
@@ -345,7 +386,7 @@ impl<R: Wait + Clock + Copy + Drop + Send + 'static> Gates for Scene<R> {
 
     type Disk = MemoryDisk<R>;
 
-    type Reader = Client;
+    type Reader = Client<R>;
 
     type Writer = Output<R>;
 
@@ -366,10 +407,14 @@ impl<R: Wait + Clock + Copy + Drop + Send + 'static> Gates for Scene<R> {
 
     fn disk(&mut self) -> Option<MemoryDisk<R>> {
         let bytes = Arc::try_clone(&self.disk).ok()?;
-        Some(MemoryDisk { rt: self.rt, bytes })
+        Some(MemoryDisk {
+            rt: self.rt,
+            bytes,
+            writes_left: self.writes_left,
+        })
     }
 
-    fn session(&mut self) -> Option<(Client, Output<R>)> {
+    fn session(&mut self) -> Option<(Client<R>, Output<R>)> {
         self.clients.pop()
     }
 

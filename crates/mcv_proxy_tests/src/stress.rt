@@ -65,6 +65,7 @@ fn kept<R: Wait + Clock + Copy + Drop + Send + 'static>(
     let disk = MemoryDisk {
         rt,
         bytes: Arc::try_clone(&seen.disk)?,
+        writes_left: None,
     };
     let Ok(spool) = Spool::open(alloc, disk) else {
         return Err(Fail::from("the spool is refused"));
