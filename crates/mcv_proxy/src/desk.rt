@@ -188,8 +188,8 @@ impl<'a, B: Ledger, T: Ledger, W: Watch, R: Wait> HubDesk<'a, B, T, W, R> {
 
     /// The seat, and the receipts of all replies that were taken.
     pub fn into_parts(self) -> (Seat<B, T>, Vec<Receipt>)
-        ensures seat { result.0 ≡ self.caller.seat }
-        ensures receipts { result.1 ≡ self.receipts }
+        ensures seat { result.0 ≡ self.entry.caller.seat }
+        ensures receipts { result.1 ≡ self.entry.receipts }
     {
         (self.caller.seat, self.receipts)
     }

@@ -71,6 +71,19 @@ struct Crew {
     spool: Option<JoinHandle<()>>,
 }
 
+/// The work of a server's worker.
+fn work<B: Ledger, T: Ledger, D: Disk, L: Link, R: Wait>(
+    rt: &R,
+    alloc: Global,
+    shared: Shared<B, T, D>,
+    mut pass: Pass,
+    mut link: L,
+    server: ServerId,
+) {
+    let ends = &shared.work_ends;
+    serve_destination(rt, alloc, &shared.hub, &mut pass, &mut link, server, ends);
+}
+
 /// Starts the worker of a server.
 fn employ<
     B: Ledger + Send + Sync + 'static,
@@ -86,20 +99,26 @@ fn employ<
     link: L,
     server: ServerId,
 ) -> Option<JoinHandle<()>> {
-    let job = move || {
-        let mut pass = pass;
-        let mut link = link;
-        serve_destination(
-            &rt,
-            alloc,
-            &shared.hub,
-            &mut pass,
-            &mut link,
-            server,
-            &shared.work_ends,
-        );
-    };
+    let job = move || work(&rt, alloc, shared, pass, link, server);
     thread::spawn(&rt, job).ok()
+}
+
+/// The work of the spool's worker.
+fn write_down<B: Ledger, T: Ledger, D: Disk, W: Watch, R: Wait>(
+    rt: &R,
+    shared: Shared<B, T, D>,
+    mut pass: Pass,
+    mut watch: W,
+) {
+    serve_spool(
+        rt,
+        &shared.accepted,
+        &shared.hub,
+        &mut pass,
+        &shared.spool,
+        &mut watch,
+        &shared.spool_ends,
+    );
 }
 
 /// Starts the spool's worker.
@@ -110,20 +129,29 @@ fn employ_spool<
     W: Watch + Send + 'static,
     R: Threads + Wait + Copy + Send + 'static,
 >(rt: R, shared: Shared<B, T, D>, pass: Pass, watch: W) -> Option<JoinHandle<()>> {
-    let job = move || {
-        let mut pass = pass;
-        let mut watch = watch;
-        serve_spool(
-            &rt,
-            &shared.accepted,
-            &shared.hub,
-            &mut pass,
-            &shared.spool,
-            &mut watch,
-            &shared.spool_ends,
-        );
-    };
+    let job = move || write_down(&rt, shared, pass, watch);
     thread::spawn(&rt, job).ok()
+}
+
+/// The work of the replayer.
+fn send_again<B: Ledger, T: Ledger, D: Disk, L: Link, W: Watch, R: Wait>(
+    rt: &R,
+    alloc: Global,
+    shared: Shared<B, T, D>,
+    mut pass: Pass,
+    mut links: Vec<L>,
+    mut watch: W,
+) {
+    serve_replay(
+        rt,
+        alloc,
+        &shared.hub,
+        &mut pass,
+        &shared.spool,
+        links.as_mut_slice(),
+        &mut watch,
+        &shared.work_ends,
+    );
 }
 
 /// Starts the replayer.
@@ -142,21 +170,7 @@ fn employ_replayer<
     links: Vec<L>,
     watch: W,
 ) -> Option<JoinHandle<()>> {
-    let job = move || {
-        let mut pass = pass;
-        let mut links = links;
-        let mut watch = watch;
-        serve_replay(
-            &rt,
-            alloc,
-            &shared.hub,
-            &mut pass,
-            &shared.spool,
-            links.as_mut_slice(),
-            &mut watch,
-            &shared.work_ends,
-        );
-    };
+    let job = move || send_again(&rt, alloc, shared, pass, links, watch);
     thread::spawn(&rt, job).ok()
 }
 
