@@ -191,7 +191,8 @@ impl<'a, B: Ledger, T: Ledger, W: Watch, R: Wait> HubDesk<'a, B, T, W, R> {
         ensures seat { result.0 ≡ self.entry.caller.seat }
         ensures receipts { result.1 ≡ self.entry.receipts }
     {
-        (self.caller.seat, self.receipts)
+        let HubDesk { caller, receipts } = self;
+        (caller.seat, receipts)
     }
 
     /// The replies to the keys of a request, one for each. All calls are begun before the first reply is waited for; where

@@ -5,19 +5,18 @@ use crate::ends::Ends;
 use crate::events::{spool_refused, spooled};
 use crate::gates::Watch;
 use mcv_base::{LegId, ServerText};
-use mcv_check::Accepted;
 use mcv_core::Dispatcher;
 use mcv_hub::{Bell, Hub, Pass};
 use mcv_spool::{Disk, Spool, SpoolFault, SpoolRecord, Stored};
 use std::sync::ledger::Ledger;
 use std::sync::{Mutex, Wait};
 
-/// The record of a leg.
-fn record_of(accepted: &Accepted, core: &Dispatcher, leg: LegId) -> Option<SpoolRecord> {
+/// The record of a leg, where these are the texts of the servers.
+fn record_of(texts: &[Option<ServerText>], core: &Dispatcher, leg: LegId) -> Option<SpoolRecord> {
     let view = core.leg(leg)?;
-    let text = accepted.routes().servers().text(view.server)?;
+    let text = texts.get(view.server.0 as usize)?.as_ref()?;
     Some(SpoolRecord {
-        server: ServerText::of(text.as_bytes())?,
+        server: text.copied(),
         rest: view.rest.copied(),
     })
 }
@@ -25,7 +24,7 @@ fn record_of(accepted: &Accepted, core: &Dispatcher, leg: LegId) -> Option<Spool
 /// Waits until the spool is to take a leg, and gives it with its record; None once there is none and the worker is to end.
 fn next_held<B: Ledger, T: Ledger, R: Wait>(
     rt: &R,
-    accepted: &Accepted,
+    texts: &[Option<ServerText>],
     hub: &Hub<B, T>,
     pass: &mut Pass,
     ends: &Ends,
@@ -33,7 +32,7 @@ fn next_held<B: Ledger, T: Ledger, R: Wait>(
     let mut guard = hub.lock(rt, pass);
     for _turn in rt.forever() {
         if let Some(leg) = guard.core().held() {
-            return Some((leg, record_of(accepted, guard.core(), leg)?));
+            return Some((leg, record_of(texts, guard.core(), leg)?));
         }
         if ends.are_asked() {
             return None;
@@ -85,7 +84,7 @@ fn refuse<B: Ledger, T: Ledger, R: Wait>(rt: &R, hub: &Hub<B, T>, pass: &mut Pas
 /// second the first leg that is held then comes next; a worker that is to end does so.
 pub fn serve_spool<B: Ledger, T: Ledger, D: Disk, W: Watch, R: Wait>(
     rt: &R,
-    accepted: &Accepted,
+    texts: &[Option<ServerText>],
     hub: &Hub<B, T>,
     pass: &mut Pass,
     spool: &Mutex<Spool<D>>,
@@ -93,7 +92,7 @@ pub fn serve_spool<B: Ledger, T: Ledger, D: Disk, W: Watch, R: Wait>(
     ends: &Ends,
 ) {
     for _turn in 0..TURNS {
-        let Some((leg, delete)) = next_held(rt, accepted, hub, pass, ends) else {
+        let Some((leg, delete)) = next_held(rt, texts, hub, pass, ends) else {
             return;
         };
         match append(rt, spool, delete) {

@@ -9,7 +9,7 @@ use crate::fault::ProxyFault;
 use crate::gates::{Gates, Link, Watch};
 use crate::replay::serve_replay;
 use crate::spooling::serve_spool;
-use mcv_base::ServerId;
+use mcv_base::{ServerId, ServerText};
 use mcv_check::Accepted;
 use mcv_hub::{Bell, Hub, Pass, Passes, Receipt, Report, Seat};
 use mcv_session::serve_session;
@@ -38,7 +38,7 @@ struct Done<B: Ledger, T: Ledger> {
     receipts: Vec<Receipt>,
 }
 
-/// What all threads share. Each has its own `Shared`.
+/// What threads share.
 #[derive(Drop)]
 struct Shared<B: Ledger, T: Ledger, D: Disk> {
     accepted: Arc<Accepted>,
@@ -50,19 +50,6 @@ struct Shared<B: Ledger, T: Ledger, D: Disk> {
     spool_ends: Arc<Ends>,
 }
 
-impl<B: Ledger, T: Ledger, D: Disk> Shared<B, T, D> {
-    /// The same for one more thread.
-    fn for_thread(&self) -> Result<Shared<B, T, D>, AllocError> {
-        Ok(Shared {
-            accepted: Arc::try_clone(&self.accepted)?,
-            hub: Arc::try_clone(&self.hub)?,
-            spool: Arc::try_clone(&self.spool)?,
-            work_ends: Arc::try_clone(&self.work_ends)?,
-            spool_ends: Arc::try_clone(&self.spool_ends)?,
-        })
-    }
-}
-
 /// The workers that run.
 #[derive(Drop)]
 struct Crew {
@@ -72,53 +59,48 @@ struct Crew {
 }
 
 /// The work of a server's worker.
-fn work<B: Ledger, T: Ledger, D: Disk, L: Link, R: Wait>(
+fn work<B: Ledger, T: Ledger, L: Link, R: Wait>(
     rt: &R,
     alloc: Global,
-    shared: Shared<B, T, D>,
+    hub: &Hub<B, T>,
+    ends: &Ends,
     mut pass: Pass,
     mut link: L,
     server: ServerId,
 ) {
-    let ends = &shared.work_ends;
-    serve_destination(rt, alloc, &shared.hub, &mut pass, &mut link, server, ends);
+    serve_destination(rt, alloc, hub, &mut pass, &mut link, server, ends);
 }
 
 /// Starts the worker of a server.
 fn employ<
     B: Ledger + Send + Sync + 'static,
     T: Ledger + Send + Sync + 'static,
-    D: Disk + Send + 'static,
     L: Link + Send + 'static,
     R: Threads + Wait + Copy + Send + 'static,
 >(
     rt: R,
     alloc: Global,
-    shared: Shared<B, T, D>,
+    hub: Arc<Hub<B, T>>,
+    ends: Arc<Ends>,
     pass: Pass,
     link: L,
     server: ServerId,
 ) -> Option<JoinHandle<()>> {
-    let job = move || work(&rt, alloc, shared, pass, link, server);
+    let job = move || work(&rt, alloc, &*hub, &*ends, pass, link, server);
     thread::spawn(&rt, job).ok()
 }
 
 /// The work of the spool's worker.
 fn write_down<B: Ledger, T: Ledger, D: Disk, W: Watch, R: Wait>(
     rt: &R,
-    shared: Shared<B, T, D>,
+    texts: &[Option<ServerText>],
+    hub: &Hub<B, T>,
+    spool: &Mutex<Spool<D>>,
+    ends: &Ends,
     mut pass: Pass,
     mut watch: W,
 ) {
-    serve_spool(
-        rt,
-        &shared.accepted,
-        &shared.hub,
-        &mut pass,
-        &shared.spool,
-        &mut watch,
-        &shared.spool_ends,
-    );
+    serve_spool(rt, texts, hub, &mut pass, spool, &mut watch, ends);
 }
 
 /// Starts the spool's worker.
@@ -128,8 +110,16 @@ fn employ_spool<
     D: Disk + Send + 'static,
     W: Watch + Send + 'static,
     R: Threads + Wait + Copy + Send + 'static,
->(rt: R, shared: Shared<B, T, D>, pass: Pass, watch: W) -> Option<JoinHandle<()>> {
-    let job = move || write_down(&rt, shared, pass, watch);
+>(
+    rt: R,
+    texts: Vec<Option<ServerText>>,
+    hub: Arc<Hub<B, T>>,
+    spool: Arc<Mutex<Spool<D>>>,
+    ends: Arc<Ends>,
+    pass: Pass,
+    watch: W,
+) -> Option<JoinHandle<()>> {
+    let job = move || write_down(&rt, texts.as_slice(), &*hub, &*spool, &*ends, pass, watch);
     thread::spawn(&rt, job).ok()
 }
 
@@ -137,21 +127,15 @@ fn employ_spool<
 fn send_again<B: Ledger, T: Ledger, D: Disk, L: Link, W: Watch, R: Wait>(
     rt: &R,
     alloc: Global,
-    shared: Shared<B, T, D>,
+    hub: &Hub<B, T>,
+    spool: &Mutex<Spool<D>>,
+    ends: &Ends,
     mut pass: Pass,
     mut links: Vec<L>,
     mut watch: W,
 ) {
-    serve_replay(
-        rt,
-        alloc,
-        &shared.hub,
-        &mut pass,
-        &shared.spool,
-        links.as_mut_slice(),
-        &mut watch,
-        &shared.work_ends,
-    );
+    let links = links.as_mut_slice();
+    serve_replay(rt, alloc, hub, &mut pass, spool, links, &mut watch, ends);
 }
 
 /// Starts the replayer.
@@ -165,12 +149,14 @@ fn employ_replayer<
 >(
     rt: R,
     alloc: Global,
-    shared: Shared<B, T, D>,
+    hub: Arc<Hub<B, T>>,
+    spool: Arc<Mutex<Spool<D>>>,
+    ends: Arc<Ends>,
     pass: Pass,
     links: Vec<L>,
     watch: W,
 ) -> Option<JoinHandle<()>> {
-    let job = move || send_again(&rt, alloc, shared, pass, links, watch);
+    let job = move || send_again(&rt, alloc, &*hub, &*spool, &*ends, pass, links, watch);
     thread::spawn(&rt, job).ok()
 }
 
@@ -217,6 +203,20 @@ fn server_count(accepted: &Accepted) -> u32 {
     u32::try_from(accepted.routes().servers().len()).unwrap_or(u32::MAX)
 }
 
+/// The texts of the servers, in the order of their numbers.
+fn texts_of(alloc: Global, accepted: &Accepted) -> Result<Vec<Option<ServerText>>, AllocError> {
+    let servers = accepted.routes().servers();
+    let mut texts = Vec::new(alloc);
+    for number in 0..server_count(accepted) {
+        let text = match servers.text(ServerId(number)) {
+            Some(text) => ServerText::of(text.as_bytes()),
+            None => None,
+        };
+        texts.push(text)?;
+    }
+    Ok(texts)
+}
+
 /// A link to each server, in the order of their numbers.
 fn links_of<G: Gates>(
     alloc: Global,
@@ -233,11 +233,23 @@ fn links_of<G: Gates>(
     Ok(links)
 }
 
+/// Adds a worker to those that run. An error is that there was no thread or no memory for it.
+fn enlist(
+    workers: &mut Vec<JoinHandle<()>>,
+    worker: Option<JoinHandle<()>>,
+) -> Result<(), AllocError> {
+    let Some(worker) = worker else {
+        return Err(AllocError);
+    };
+    workers.push(worker)?;
+    Ok(())
+}
+
 /// Starts the workers of all servers.
 fn employ_all<
     B: Ledger + Send + Sync + 'static,
     T: Ledger + Send + Sync + 'static,
-    D: Disk + Send + 'static,
+    D: Disk,
     L: Link + Send + 'static,
     R: Threads + Wait + Copy + Send + 'static,
 >(
@@ -246,23 +258,68 @@ fn employ_all<
     shared: &Shared<B, T, D>,
     passes: &Passes<B, T>,
     links: Vec<L>,
-    crew: &mut Crew,
+    workers: &mut Vec<JoinHandle<()>>,
 ) -> Result<(), AllocError> {
-    crew.workers.reserve(links.len())?;
+    workers.reserve(links.len())?;
     let mut number = 0u32;
     for link in links {
+        let hub = Arc::try_clone(&shared.hub)?;
+        let ends = Arc::try_clone(&shared.work_ends)?;
         let server = ServerId(number);
-        let Some(worker) = employ(rt, alloc, shared.for_thread()?, passes.pass(), link, server)
-        else {
-            return Err(AllocError);
-        };
-        crew.workers.push(worker)?;
+        let worker = employ(rt, alloc, hub, ends, passes.pass(), link, server);
+        enlist(workers, worker)?;
         number = number.saturating_add(1);
     }
     Ok(())
 }
 
-/// Starts all workers.
+/// Starts the spool's worker. An error is that there was no thread or no memory for it.
+fn staff_spool<
+    B: Ledger + Send + Sync + 'static,
+    T: Ledger + Send + Sync + 'static,
+    G: Gates,
+    R: Threads + Wait + Copy + Send + 'static,
+>(
+    rt: R,
+    alloc: Global,
+    shared: &Shared<B, T, G::Disk>,
+    passes: &Passes<B, T>,
+    gates: &mut G,
+) -> Result<Option<JoinHandle<()>>, AllocError> {
+    let texts = texts_of(alloc, &shared.accepted)?;
+    let hub = Arc::try_clone(&shared.hub)?;
+    let spool = Arc::try_clone(&shared.spool)?;
+    let ends = Arc::try_clone(&shared.spool_ends)?;
+    let watch = gates.watch();
+    match employ_spool(rt, texts, hub, spool, ends, passes.pass(), watch) {
+        Some(worker) => Ok(Some(worker)),
+        None => Err(AllocError),
+    }
+}
+
+/// Starts the replayer. None where there is no thread for it.
+fn staff_replayer<
+    B: Ledger + Send + Sync + 'static,
+    T: Ledger + Send + Sync + 'static,
+    G: Gates,
+    R: Threads + Wait + Copy + Send + 'static,
+>(
+    rt: R,
+    alloc: Global,
+    shared: &Shared<B, T, G::Disk>,
+    passes: &Passes<B, T>,
+    gates: &mut G,
+) -> Result<Option<JoinHandle<()>>, AllocError> {
+    let hub = Arc::try_clone(&shared.hub)?;
+    let spool = Arc::try_clone(&shared.spool)?;
+    let ends = Arc::try_clone(&shared.work_ends)?;
+    let links = links_of(alloc, &shared.accepted, gates)?;
+    let watch = gates.watch();
+    let pass = passes.pass();
+    Ok(employ_replayer(rt, alloc, hub, spool, ends, pass, links, watch))
+}
+
+/// Starts all workers. Those that were started are in the crew also where one wasn't.
 fn staff<
     B: Ledger + Send + Sync + 'static,
     T: Ledger + Send + Sync + 'static,
@@ -276,25 +333,12 @@ fn staff<
     gates: &mut G,
     crew: &mut Crew,
 ) -> Result<(), AllocError> {
-    let links = links_of(alloc, &shared.accepted, gates)?;
-    let repeats = links_of(alloc, &shared.accepted, gates)?;
-    let Some(spool) = employ_spool(rt, shared.for_thread()?, passes.pass(), gates.watch()) else {
-        return Err(AllocError);
-    };
-    crew.spool = Some(spool);
+    crew.spool = staff_spool(rt, alloc, shared, passes, gates)?;
     crew.workers.reserve(1)?;
-    let Some(replayer) = employ_replayer(
-        rt,
-        alloc,
-        shared.for_thread()?,
-        passes.pass(),
-        repeats,
-        gates.watch(),
-    ) else {
-        return Err(AllocError);
-    };
-    crew.workers.push(replayer)?;
-    employ_all(rt, alloc, shared, passes, links, crew)
+    let replayer = staff_replayer(rt, alloc, shared, passes, gates)?;
+    enlist(&mut crew.workers, replayer)?;
+    let links = links_of(alloc, &shared.accepted, gates)?;
+    employ_all(rt, alloc, shared, passes, links, &mut crew.workers)
 }
 
 /// Serves clients, each in a thread, until no more come.
