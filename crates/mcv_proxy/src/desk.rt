@@ -221,9 +221,8 @@ impl<'a, B: Ledger, T: Ledger, W: Watch, R: Wait> HubDesk<'a, B, T, W, R> {
 }
 
 impl<'a, B: Ledger, T: Ledger, W: Watch, R: Wait> Desk for HubDesk<'a, B, T, W, R> {
-    ghost use Rattle.std.specs.Prelude.{⊤};
-
-    ghost asks = { λ _ _ _ _. ⊤ };
+    // Where it answers it has one receipt more for each key.
+    ghost asks = { λ old request answer new. OnOk answer (vec_len new.receipts ≡ vec_len old.receipts + length (keys_of request)) };
 
     fn ask(&mut self, request: &Arc<Request>) -> Result<Vec<Part>, DeskFault> {
         match self.answer(request) {
