@@ -1,6 +1,6 @@
 -- Deletes are kept after every list of events.
-use Rattle.std.proofs.Common.{◌≡◌, ℕ, List, [], ◌∷◌, ◌++◌, Option, Some, None, refl, sym, ap, ◌∙◌, subst}
-use Rattle.std.specs.Prelude.{slice_get}
+use Rattle.std.proofs.Common.{◌≡◌, ℕ, List, [], ◌∷◌, ◌++◌, Option, Some, None, Result, Ok, Err, refl, sym, ap, ◌∙◌, subst}
+use Rattle.std.specs.Prelude.{IfOk, OnOk, slice_get}
 use Rattle.mcv_pools.specs.Symbol.{SymbolValue}
 use Rattle.mcv_route.specs.Eras.{breaks_of, since_at}
 use Rattle.mcv_route.specs.Routes.{RoutesValue}
@@ -19,8 +19,10 @@ use Rattle.mcv_events.proofs.CoresKeepDeletes.{cores_keep_deletes, opened_is_cor
 use Rattle.mcv_core.proofs.Acknowledged.{answered_calls_are_kept}
 use Rattle.mcv_core.specs.CoreView.{CoreView, Does, Moved}
 use Rattle.mcv_core.specs.Opening.{known_records, opened_view}
-use Rattle.mcv_core.specs.Steps.{AreAnswered, DeletesAreKept, EventsKeepDeletes, IsAnswered, KeepsDeletes, OpenedCoresKeepDeletes, Step, Steps, with_move}
+use Rattle.mcv_core.specs.KeptDeletes.{DeletesStayKept, EventsKeepDeletes, KeepsDeletes, OpenedCoresKeepDeletes}
+use Rattle.mcv_core.specs.Steps.{AreAnswered, DeletesAreKept, IsAnswered, Step, Steps, with_move}
 use Rattle.mcv_core.specs.Steps.{refused, began, sent, replayed, answered, lost, spooled, spool_refused, marked, unmarked, clocked, turned, taken, awaited, none, more}
+use Rattle.mcv_core.specs.declared.fault.CoreFault.{CoreFault}
 use Rattle.mcv_core.specs.declared.run.Answer.{Answer}
 use Rattle.mcv_core.specs.declared.run.Event.{Event}
 use Rattle.mcv_world.proofs.ForgetsSafely.{forgets_safely, moves_are_live}
@@ -35,23 +37,56 @@ use Rattle.std.specs.Prelude.{option_map}
 
 -- ---- one event at a time
 
-keeps_at : (r : RoutesValue) (w : CoreView) (world : World) → w.routes ≡ r → IsWorld r world → live_of r world ≡ world_of w.rows → Kept r world → KeepsDeletes w world
-keeps_at r w world e i l k = record {
+keeps_at : (r : RoutesValue) (w : CoreView) (world : World) → w.routes ≡ r → AreCovered r → IsWorld r world → live_of r world ≡ world_of w.rows → Kept r world → KeepsDeletes w world
+keeps_at r w world e covered i l k = record {
+  covered = subst AreCovered (sym e) covered;
   is = subst (λ r. IsWorld r world) (sym e) i;
   live = subst (λ r. live_of r world ≡ world_of w.rows) (sym e) l;
   kept = subst (λ r. Kept r world) (sym e) k;
 }
 
-moved_keeps : (v w : CoreView) (m : Move) (world : World) → AreCovered v.routes → KeepsDeletes v world → Moved v w m → KeepsDeletes w (after v.routes world m)
-moved_keeps v w m world covered k h =
+moved_keeps : (v w : CoreView) (m : Move) (world : World) → KeepsDeletes v world → Moved v w m → KeepsDeletes w (after v.routes world m)
+moved_keeps v w m world k h =
     let r = v.routes in
     let possible : IsPossible r world m = record { allowed = h.allowed; move = moves_are_live r world m k.is ∙ ap (λ u. is_move r u m) k.live ∙ h.moves.is } in
     let is = moves_keep_worlds r world m k.is possible in
-    keeps_at r w (after r world m) h.routes is (forgets_safely r world m k.is ∙ ap (λ u. live_of r (after r u m)) k.live ∙ sym h.moves.moves) (covered_worlds_are_kept r (after r world m) covered is)
+    keeps_at r w (after r world m) h.routes k.covered is (forgets_safely r world m k.is ∙ ap (λ u. live_of r (after r u m)) k.live ∙ sym h.moves.moves) (covered_worlds_are_kept r (after r world m) k.covered is)
 
 pub events_keep_deletes : EventsKeepDeletes
-events_keep_deletes v w None world covered k h = keeps_at v.routes w world h.routes k.is (k.live ∙ sym h.world) k.kept
-events_keep_deletes v w (Some m) world covered k h = moved_keeps v w m world covered k h
+events_keep_deletes v w None h = λ world k. keeps_at v.routes w world h.routes k.covered k.is (k.live ∙ sym h.world) k.kept
+events_keep_deletes v w (Some m) h = λ world k. moved_keeps v w m world k h
+
+pub moved_keep : {A : Type 0} (r : Result A CoreFault) (v w : CoreView) (m : Move) → IfOk r (λ a. Moved v w m) → OnOk r (DeletesStayKept v w (Some m))
+moved_keep (Ok a) v w m h = events_keep_deletes v w (Some m) h
+moved_keep (Err e) v w m h = tt
+
+-- an event that changes no row
+pub same_rows_keep : (v w : CoreView) → w.rows ≡ v.rows → w.routes ≡ v.routes → DeletesStayKept v w None
+same_rows_keep v w rows routes = λ world k. keeps_at v.routes w world routes k.covered k.is (k.live ∙ ap world_of (sym rows)) k.kept
+
+pub same_view_keeps : (v w : CoreView) → w ≡ v → DeletesStayKept v w None
+same_view_keeps v w same = same_rows_keep v w (ap (λ z. z.rows) same) (ap (λ z. z.routes) same)
+
+module _ (chosen : SymbolValue → List ℕ → ℕ) where
+  pub step_keeps : (v w : CoreView) (e : Event) (a : Answer) (m : Option Move) → Step chosen v e a m w → DeletesStayKept v w m
+  step_keeps v w e a m (refused x fault u same) = same_view_keeps v w same
+  step_keeps v w e a m (began request key call u b number) = events_keep_deletes v w m b.moves
+  step_keeps v w e a m (sent server leg u h) = events_keep_deletes v w m h
+  step_keeps v w e a m (replayed server leg u h) = events_keep_deletes v w m h
+  step_keeps v w e a m (answered leg reply step u h) = events_keep_deletes v w m h
+  step_keeps v w e a m (lost leg step u h) = events_keep_deletes v w m h
+  step_keeps v w e a m (spooled leg stored step u h) = events_keep_deletes v w m h
+  step_keeps v w e a m (spool_refused leg step u h) = events_keep_deletes v w m h
+  step_keeps v w e a m (marked server u is) = same_rows_keep v w (ap (λ z. z.rows) is) (ap (λ z. z.routes) is)
+  step_keeps v w e a m (unmarked server u is) = same_rows_keep v w (ap (λ z. z.rows) is) (ap (λ z. z.routes) is)
+  step_keeps v w e a m (clocked moment era u h) = events_keep_deletes v w m h
+  step_keeps v w e a m (turned u h) = events_keep_deletes v w m h
+  step_keeps v w e a m (taken call part u h reply) = events_keep_deletes v w m h
+  step_keeps v w e a m (awaited call u same waits) = same_view_keeps v w same
+
+  -- the event is answered by this step
+  pub answered_by : (v w : CoreView) (e : Event) (a : Answer) (m : Option Move) → Step chosen v e a m w → IsAnswered chosen v e a w
+  answered_by v w e a m step = record { move = m; step = step; keeps = step_keeps v w e a m step }
 
 spooled_is : (o : Option OpenedRecord) (s : LegRow) → option_map spooled_row o ≡ Some s → s.state ≡ InSpool
 spooled_is None s e = no_some e
@@ -65,7 +100,7 @@ opened_cores_keep_deletes r records covered =
     let era = moments_have_eras r 0 in
     let opening = spooled_rows_open r w (opened_is_core r since known) (λ k. refl) (λ n s e. spooled_is (slice_get known n) s e) era in
     let is = opening_is_world r (world_of w) opening.0 in
-    record { is = is; live = opening.1; kept = covered_worlds_are_kept r (world_of w) covered is }
+    record { covered = covered; is = is; live = opening.1; kept = covered_worlds_are_kept r (world_of w) covered is }
 
 -- ---- lists of events
 

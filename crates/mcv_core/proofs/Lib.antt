@@ -10,6 +10,8 @@ pub mod Settlements
 pub mod LegViews
 pub mod Settled
 pub mod Does
+pub mod Chapters
+pub mod Dispatchers
 pub mod Sendings
 pub mod Keeping
 pub mod Landings
@@ -21,3 +23,4 @@ pub mod Begun
 pub mod Readings
 pub mod Opened
 pub mod Acknowledged
+pub mod Requests

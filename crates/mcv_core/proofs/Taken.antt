@@ -52,7 +52,7 @@ use Rattle.mcv_core.specs.declared.dispatcher.Dispatcher.{Dispatcher}
 use Rattle.mcv_core.specs.declared.errand.Errand.{Errand}
 use Rattle.mcv_core.specs.declared.take.Taking.{Taking}
 use Rattle.mcv_core.specs.Calls.{calls_at}
-use Rattle.mcv_core.specs.CoreView.{Moved}
+use Rattle.mcv_core.specs.CoreView.{Moved, taken_row as taken_row_of, taken_view}
 use Rattle.mcv_core.specs.Launching.{places_of}
 use Rattle.mcv_core.specs.Noting.{has_ended_by}
 use Rattle.mcv_core.specs.Rows.{all_rows, awaiting_state, call_of, call_row, call_rows, entries_of, has_outcome, past_next, past_of, recorded_next, rows_by, rows_of, state_of, taken_at, IsRunning}
@@ -455,6 +455,11 @@ module _ (d : Dispatcher) (k : ℕ) (calls2 : Calls) (result : Taking) (there : 
 
     -- ---- what contracts see
 
+    pub view_then : (p : Part) → t.part ≡ Some p → record (core_view d) { rows = rows_of (calls_at calls3) (legs d.queues) (since_of d) d.next_call d.next_leg } ≡ taken_view (core_view d) k
+    view_then p some =
+        ap (λ v. record (core_view d) { rows = v }) (rows_are d k found.0 found.1 was.call was.part was.took p (sym part_of ∙ some) calls3 calls3_put state_of)
+        ∙ sym (ap (taken_row_of (core_view d) k) (row_there d k found.0 found.1))
+
     pub moves_then : (p : Part) → t.part ≡ Some p → Moved (core_view d) (record (core_view d) { rows = rows_of (calls_at calls3) (legs d.queues) (since_of d) d.next_call d.next_leg }) (Taken k)
     moves_then p some = record { allowed = tt; moves = is_move_of d k found.0 found.1 was.call was.part was.took p (sym part_of ∙ some) calls3 calls3_put state_of d.sound.core; routes = refl }
 
@@ -467,3 +472,18 @@ module _ (d : Dispatcher) (k : ℕ) (calls2 : Calls) (result : Taking) (there : 
     none_then none =
         let stays = unchanged (sym part_of ∙ none) in
         (ap (λ f. record (core_view d) { rows = rows_of f (legs d.queues) (since_of d) d.next_call d.next_leg }) stays, not_taken d k found.0 found.1 was.call was.part was.took (sym part_of ∙ none))
+
+-- ---- whether a reply can be taken
+
+-- what the code looks at says so
+pub can_take_is : (d : Dispatcher) (k : ℕ) (c : Call) → calls_at d.calls k ≡ Some c
+    → (not c.taken && is_some (option_and_then (λ a. source_reply c a.source) c.state.reply)) ≡ is_move (arc_value d.accepted) (world_of (core_view d).rows) (Taken k)
+can_take_is d k c there = by_taken c.taken refl ∙ sym (ap (λ o. is_one o (can_be_taken (arc_value d.accepted))) (ap (option_map (λ (z : CallRow). z.call)) (row_there d k c there)))
+  where
+    by_taken : (b : Bool) → c.taken ≡ b
+        → (not c.taken && is_some (option_and_then (λ a. source_reply c a.source) c.state.reply)) ≡ (not c.taken && is_some (reply_of (arc_value d.accepted) (call_of c)))
+    by_taken true e = ap (λ v. not v && is_some (option_and_then (λ a. source_reply c a.source) c.state.reply)) e ∙ sym (ap (λ v. not v && is_some (reply_of (arc_value d.accepted) (call_of c))) e)
+    by_taken false e = ap (λ o. not c.taken && is_some o) (reply_is (arc_value d.accepted) k c (d.sound.calls_run k c there) e)
+
+pub cannot_take : (d : Dispatcher) (k : ℕ) → calls_at d.calls k ≡ None → is_move (arc_value d.accepted) (world_of (core_view d).rows) (Taken k) ≡ false
+cannot_take d k none = ap (λ o. is_one o (can_be_taken (arc_value d.accepted))) (ap (option_map (λ (z : CallRow). z.call)) (ap (option_map call_row) none))

@@ -12,6 +12,7 @@ use Rattle.mcv_route.specs.Routes.{RoutesValue}
 use Rattle.mcv_world.specs.Moves.{Began}
 use Rattle.mcv_core.specs.Beginning.{HasBegun, IsFull}
 use Rattle.mcv_core.specs.CoreView.{CoreView, Moved}
+use Rattle.mcv_core.specs.KeptDeletes.{DeletesStayKept}
 use Rattle.mcv_core.specs.declared.begin.Asked.{Asked}
 use Rattle.mcv_core.specs.declared.fault.CoreFault.{CoreFault}
 use Rattle.mcv_core.specs.declared.fault.CoreFault.TheVariants.{UnknownPrefix, BadKey, LegsFull, ChapterFull, NothingWaiting, NoSuchLeg, Busy, ClockBack, Memory, NoSuchCall}
@@ -85,4 +86,5 @@ module _ (v : CoreView) (chosen : SymbolValue → List ℕ → ℕ) (request : R
     pub choice : List ℕ
     pub asked : IsAsked v.routes chosen request key op route rest choice
     pub moves : Moved v new (Began op route rest choice)
+    pub keeps : DeletesStayKept v new (Some (Began op route rest choice))
     pub view : HasBegun v new op route rest choice

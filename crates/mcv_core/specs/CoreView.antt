@@ -13,8 +13,8 @@ use Rattle.mcv_world.specs.Live.{live_of}
 use Rattle.mcv_world.specs.Moves.{Move, Answered, WasSpooled, WasRefused, WasPerformed, counted_as, is_error_reply}
 use Rattle.mcv_world.specs.Possible.{IsAllowed, IsOpening}
 use Rattle.mcv_events.specs.Rows as rows
-use Rattle.mcv_events.specs.Rows.{IsCore, LegRow, Rows, awaits, leg_of, with_leg_row, world_of}
-use Rattle.mcv_events.specs.Events.{Moves, in_state, recorded_rows_for, refused_rows, spooled_rows}
+use Rattle.mcv_events.specs.Rows.{CallRow, IsCore, LegRow, Rows, awaits, leg_of, with_leg_row, world_of}
+use Rattle.mcv_events.specs.Events.{Moves, in_state, recorded_rows_for, refused_rows, spooled_rows, taken_rows}
 use Rattle.mcv_core.specs.declared.fault.CoreFault.{CoreFault}
 use Rattle.mcv_core.specs.declared.fault.CoreFault.TheVariants.{NoSuchLeg}
 use Rattle.mcv_core.specs.declared.step.Change.{Change}
@@ -211,3 +211,13 @@ is_spooled server (Some s) = nat_eq s.launch.server.0 server && is_in_spool s.st
 -- the leg at the number is in this state
 abbrev pub in_row_state : Rows → ℕ → rows.State → Rows
 in_row_state w n t = record w { legs = put w.legs n (option_map (λ s. in_state s t) (w.legs n)) }
+
+-- ---- a reply is taken
+
+abbrev pub taken_row : CoreView → ℕ → Option CallRow → CoreView
+taken_row v k None = v
+taken_row v k (Some c) = record v { rows = taken_rows v.routes v.rows k c }
+
+-- the call's reply was taken; it goes if it has ended
+abbrev pub taken_view : CoreView → ℕ → CoreView
+taken_view v k = taken_row v k (v.rows.calls k)

@@ -15,7 +15,10 @@ pub mod Taking
 pub mod Beginning
 pub mod Opening
 pub mod Asking
+pub mod KeptDeletes
+pub mod Borrowed
 pub mod Acknowledged
 pub mod Steps
 pub mod Answers
 pub mod Readers
+pub mod Requests

@@ -46,19 +46,20 @@ IsFirstHeld w b = (IsSome b × IsLeast (λ n. is_held_unheard w (w.legs n)) b) �
 
 -- ---- what a leg does
 
--- its call, server, operation, mark and rest
+-- its call, server, operation, mark, rest and position
 pub record LegSeen : Type 0 where
   pub call : Option ℕ
   pub server : ServerId
   pub op : Op
   pub mark : Mark
   pub rest : List ℕ
+  pub position : List ℕ
 
 abbrev pub seen : LegView → LegSeen
-seen v = record { call = option_map (λ k. k.0) v.call; server = v.server; op = v.op; mark = v.mark; rest = v.rest.now }
+seen v = record { call = option_map (λ k. k.0) v.call; server = v.server; op = v.op; mark = v.mark; rest = v.rest.now; position = v.position.now }
 
 abbrev pub seen_row : LegRow → LegSeen
-seen_row s = record { call = s.call; server = s.launch.server; op = s.launch.op; mark = s.launch.mark; rest = s.rest }
+seen_row s = record { call = s.call; server = s.launch.server; op = s.launch.op; mark = s.launch.mark; rest = s.rest; position = s.launch.position }
 
 -- what the client asked whose call launched the leg
 abbrev pub request_in : Errand → Option Request

@@ -14,19 +14,16 @@ use Rattle.mcv_base.specs.Reply.{ReplyValue, fixed_value, not_found, part_value}
 use Rattle.mcv_pools.specs.Symbol.{SymbolValue}
 use Rattle.mcv_queues.specs.Marks.{checked_mark, no_mark}
 use Rattle.mcv_route.specs.Routes.{RoutesValue}
-use Rattle.mcv_spool.specs.declared.record.SpoolRecord.{SpoolRecord}
 use Rattle.mcv_spool.specs.declared.record.Stored.{Stored}
 use Rattle.mcv_world.specs.Kept.{Kept}
-use Rattle.mcv_world.specs.Laws.{IsWorld}
 use Rattle.mcv_world.specs.Live.{live_of}
-use Rattle.mcv_world.specs.Moves.{Move, Began, Taken, after, is_move, run}
-use Rattle.mcv_world.specs.World.{World, reply_of}
+use Rattle.mcv_world.specs.Moves.{Move, Began, Taken, is_move, run}
+use Rattle.mcv_world.specs.World.{reply_of}
 use Rattle.mcv_events.specs.Rows.{world_of}
-use Rattle.mcv_symbolic.specs.Covered.{AreCovered}
 use Rattle.mcv_core.specs.Acknowledged.{AnsweredCallsAreKept}
 use Rattle.mcv_core.specs.Asking.{HasBegunFor}
 use Rattle.mcv_core.specs.CoreView.{CoreView, Does, Moved, Unmoved, change_move, with_mark}
-use Rattle.mcv_core.specs.Opening.{opened_view}
+use Rattle.mcv_core.specs.KeptDeletes.{DeletesStayKept}
 use Rattle.mcv_core.specs.Turning.{era_move}
 use Rattle.mcv_core.specs.declared.fault.CoreFault.{CoreFault}
 use Rattle.mcv_core.specs.declared.run.Answer.{Answer}
@@ -70,6 +67,7 @@ pub data Steps (chosen : SymbolValue → List ℕ → ℕ) (start : CoreView) : 
 pub record IsAnswered (chosen : SymbolValue → List ℕ → ℕ) (v : CoreView) (e : Event) (a : Answer) (w : CoreView) : Type 0 where
   pub move : Option Move
   pub step : Step chosen v e a move w
+  pub keeps : DeletesStayKept v w move
 
 -- the events are answered so, one after the other, and lead to this view
 pub record AreAnswered (chosen : SymbolValue → List ℕ → ℕ) (start : CoreView) (events : List Event) (answers : List Answer) (w : CoreView) : Type 0 where
@@ -85,21 +83,3 @@ pub record DeletesAreKept (chosen : SymbolValue → List ℕ → ℕ) (start : C
   pub kept : Kept start.routes (run start.routes (world_of start.rows) moves)
   pub acknowledged : AnsweredCallsAreKept start.routes chosen events answers (run start.routes (world_of start.rows) moves)
   pub live : live_of start.routes (run start.routes (world_of start.rows) moves) ≡ world_of w.rows
-
--- deletes are kept in this world, and the core keeps what is left of it
-pub record KeepsDeletes (v : CoreView) (world : World) : Type 0 where
-  pub is : IsWorld v.routes world
-  pub live : live_of v.routes world ≡ world_of v.rows
-  pub kept : Kept v.routes world
-
--- a world after what may be a move
-abbrev pub after_event : RoutesValue → World → Option Move → World
-after_event r world None = world
-after_event r world (Some m) = after r world m
-
--- one event at a time: the world before it and its move give the world after it, so a call stays in it that the core has forgotten
-abbrev pub EventsKeepDeletes : Type 0
-EventsKeepDeletes = (v w : CoreView) (m : Option Move) (world : World) → AreCovered v.routes → KeepsDeletes v world → Does v w m → KeepsDeletes w (after_event v.routes world m)
-
-abbrev pub OpenedCoresKeepDeletes : Type 0
-OpenedCoresKeepDeletes = (r : RoutesValue) (records : List (ℕ × SpoolRecord)) → AreCovered r → KeepsDeletes (opened_view r records) (world_of (opened_view r records).rows)

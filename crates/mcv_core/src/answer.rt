@@ -7,6 +7,7 @@ ghost use Rattle.mcv_queues.specs.Legs.{is_flight, is_in_flight};
 ghost use Rattle.mcv_queues.specs.Queues.{legs};
 ghost use Rattle.mcv_core.specs.CoreView.{Does, HasDone, HasEffect, answer_at, at_row, change_move, finished, held, landing_at, loss_at, replayed_in, sent_in};
 ghost use Rattle.mcv_core.specs.Facts.{counts_in, facts_of as facts_seen, state_in};
+ghost use Rattle.mcv_core.specs.KeptDeletes.{DeletesStayKept};
 ghost use Rattle.mcv_core.specs.View.{core_view, records_after, records_of};
 ghost use Rattle.mcv_base.specs.declared.reply.FixedReply.TheVariants.{Lost as LostReply};
 ghost use Rattle.mcv_core.specs.declared.step.Place.TheVariants as places;
@@ -25,8 +26,11 @@ impl Dispatcher {
     pub fn answered(&mut self, leg: LegId, parts: Parts) -> Result<Step, CoreFault>
         ensures effect { HasEffect (answer_at (core_view self.old) leg.0 parts) (core_view self.old) (core_view self.new) result }
         ensures does { IfOk result (λ step. Does (core_view self.old) (core_view self.new) (change_move leg.0 parts step.change)) }
+        ensures keeps { IfOk result (λ step. DeletesStayKept (core_view self.old) (core_view self.new) (change_move leg.0 parts step.change)) }
         ensures records { IfOk result (λ step. records_of self.new ≡ records_after step.place leg.0 (records_of self.old)) }
         ensures kept { OnErr result (records_of self.new ≡ records_of self.old) }
+        ensures chapter { (core_view self.new).chapter ≡ (core_view self.old).chapter }
+        ensures err { OnErr result (core_view self.new ≡ core_view self.old) }
     {
         match self.flying(leg) {
             Ok(facts) => {
@@ -42,8 +46,11 @@ impl Dispatcher {
     pub fn lost(&mut self, leg: LegId) -> Result<Step, CoreFault>
         ensures effect { HasEffect (loss_at (core_view self.old) leg.0) (core_view self.old) (core_view self.new) result }
         ensures does { IfOk result (λ step. Does (core_view self.old) (core_view self.new) (change_move leg.0 (fixed_value LostReply) step.change)) }
+        ensures keeps { IfOk result (λ step. DeletesStayKept (core_view self.old) (core_view self.new) (change_move leg.0 (fixed_value LostReply) step.change)) }
         ensures records { IfOk result (λ step. records_of self.new ≡ records_after step.place leg.0 (records_of self.old)) }
         ensures kept { OnErr result (records_of self.new ≡ records_of self.old) }
+        ensures chapter { (core_view self.new).chapter ≡ (core_view self.old).chapter }
+        ensures err { OnErr result (core_view self.new ≡ core_view self.old) }
     {
         match self.flying(leg) {
             Ok(facts) => {

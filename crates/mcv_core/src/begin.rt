@@ -1,7 +1,7 @@
 //! Calls begin: what takes memory.
 
 ghost use Rattle.std.specs.Arc.{arc_value};
-ghost use Rattle.std.specs.Prelude.{◌≡◌, ◌+◌, ◌*◌, ◌<◌, ◌≤◌, ◌^◌, ◌⊎◌, IfOk, IfErr, OnOk, OnErr, slice_index};
+ghost use Rattle.std.specs.Prelude.{◌≡◌, ◌+◌, ◌*◌, ◌<◌, ◌≤◌, ◌^◌, ◌⊎◌, IfOk, IfErr, OnOk, OnErr, slice_index, Some};
 ghost use Rattle.mcv_queues.specs.Queues.{room as leg_room};
 ghost use Rattle.mcv_base.specs.Key.{IsRest};
 ghost use Rattle.mcv_route.specs.Outcomes.{IsChoice};
@@ -11,6 +11,7 @@ ghost use Rattle.mcv_world.specs.Moves.{Began};
 ghost use Rattle.mcv_core.specs.Beginning.{AreReadied, CanAdd, CanStart, HasBegun, HasLegRoom, HasRoom, IsFull, IsNewCall, began_by, has_begun};
 ghost use Rattle.mcv_core.specs.Calls.{room as call_room};
 ghost use Rattle.mcv_core.specs.CoreView.{Moved};
+ghost use Rattle.mcv_core.specs.KeptDeletes.{DeletesStayKept};
 ghost use Rattle.mcv_core.specs.View.{core_view, records_of};
 ghost use Rattle.mcv_core.specs.declared.fault.CoreFault.TheVariants.{Memory as OutOfMemory};
 
@@ -165,6 +166,7 @@ impl Dispatcher {
     pub(crate) fn begin(&mut self, alloc: Global, asked: Asked) -> Result<CallId, CoreFault>
         requires choice { IsChoice (sizes_of (core_view self.old).routes) (slice_index asked.choice) }
         ensures moves { IfOk result (λ call. Moved (core_view self.old) (core_view self.new) (Began asked.op asked.route asked.rest asked.choice)) }
+        ensures keeps { OnOk result (DeletesStayKept (core_view self.old) (core_view self.new) (Some (Began asked.op asked.route asked.rest asked.choice))) }
         ensures call { IfOk result (λ call. call.0 ≡ (core_view self.old).rows.next_call) }
         ensures records { records_of self.new ≡ records_of self.old }
         ensures view { OnOk result (HasBegun (core_view self.old) (core_view self.new) asked.op asked.route asked.rest asked.choice) }

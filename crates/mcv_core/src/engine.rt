@@ -2,8 +2,13 @@
 
 ghost use Rattle.std.specs.Arc.{arc_value};
 ghost use Rattle.std.specs.Prelude.{◌≡◌, ℕ, Some, None, IfOk, IfErr, IfSome, OnErr, slice_get};
+ghost use Rattle.std.specs.Borrow.{sem};
 ghost use Rattle.mcv_pools.specs.Choice.{HasIndexEach};
+ghost use Rattle.mcv_symbolic.specs.Covered.{AreCovered};
+ghost use Rattle.mcv_events.specs.Rows.{world_of};
 ghost use Rattle.mcv_core.specs.Asking.{HasBegunFor, HasNoKey, IsAsked, IsKeyOf, IsRefusedFor};
+ghost use Rattle.mcv_core.specs.Borrowed.{LendsEvents};
+ghost use Rattle.mcv_core.specs.KeptDeletes.{KeepsDeletes};
 ghost use Rattle.mcv_core.specs.Opening.{known_numbers, opened_view};
 ghost use Rattle.mcv_core.specs.View.{core_view, records_of};
 ghost use Rattle.mcv_core.specs.declared.fault.CoreFault.TheVariants.{Memory as OutOfMemory};
@@ -37,14 +42,19 @@ impl<H: KeyHash + Drop> Core<H> {
         ensures view { IfOk result (λ core. core_view core.dispatcher ≡ opened_view (arc_value accepted) records.now) }
         ensures records { IfOk result (λ core. (n : ℕ) → records_of core.dispatcher n ≡ slice_get (known_numbers (arc_value accepted).servers records.now) n) }
         ensures hash { IfOk result (λ core. core.hash ≡ hash) }
+        ensures keeps { IfOk result (λ core. KeepsDeletes (core_view core.dispatcher) (world_of (core_view core.dispatcher).rows)) }
         ensures err { IfErr result (λ fault. fault ≡ OutOfMemory) }
     {
+        deletes_are_covered(&accepted);
         let dispatcher = Dispatcher::open(alloc, accepted, records)?;
         Ok(Core { dispatcher, hash })
     }
 
-    /// All events but `begin`.
-    pub fn events(&mut self) -> &mut Dispatcher {
+    /// All events but `begin`. When the borrow ends, the core has the dispatcher as it was left, and its hash.
+    pub fn events(&mut self) -> &mut Dispatcher
+        ensures* writes_back { sem 𝓛 (LendsEvents H.row self.entry result) }
+        ensures value { result.now ≡ self.old.dispatcher }
+    {
         &mut self.dispatcher
     }
 
@@ -99,6 +109,13 @@ impl<H: KeyHash + Drop> Core<H> {
             choice,
         })
     }
+}
+
+/// Deletes are covered in what the checker accepted.
+fn deletes_are_covered(accepted: &Accepted)
+    ensures { AreCovered accepted.now }
+{
+    let _routes = accepted.routes();
 }
 
 /// The operation of a request, and the prefix and the rest of one of its keys.

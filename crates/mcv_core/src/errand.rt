@@ -55,4 +55,14 @@ impl Errand {
             None => Mark::Plain,
         }
     }
+
+    /// Its place in the tree of its call's route.
+    pub fn position(&self) -> &[usize]
+        ensures { result.now ≡ (launch_of self.now).position }
+    {
+        match self.laid.launches.get(self.entry) {
+            Some(launch) => launch.position.steps(),
+            None => &[],
+        }
+    }
 }

@@ -38,14 +38,3 @@ impl CoreFault {
         self as u8
     }
 }
-
-#[cfg(test)]
-mod tests {
-    use super::*;
-
-    #[test]
-    fn faults_have_their_numbers(rt: HostRuntime) {
-        assert_eq!(rt; CoreFault::UnknownPrefix.number(), 1);
-        assert_eq!(rt; CoreFault::NoSuchCall.number(), 10);
-    }
-}

@@ -21,6 +21,7 @@ mod laws;
 mod opening;
 mod progress;
 mod readers;
+mod request;
 mod run;
 mod send;
 mod settle;

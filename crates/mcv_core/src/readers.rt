@@ -22,6 +22,8 @@ pub struct LegView<'a> {
     pub op: Op,
     pub mark: Mark,
     pub rest: &'a Rest,
+    /// Its place in the tree of its call's route; empty where the spool held it at the start.
+    pub position: &'a [usize],
     /// The number of its record in the spool; None until it is stored there.
     pub record: Option<u64>,
     /// What the client asked; None where the spool held the leg at the start.
@@ -50,6 +52,7 @@ impl Errand {
         ensures op { result.op ≡ (launch_of self.now).op }
         ensures mark { result.mark ≡ (launch_of self.now).mark }
         ensures rest { result.rest.now ≡ rest_of self.now }
+        ensures position { result.position.now ≡ (launch_of self.now).position }
         ensures record_number { result.«record» ≡ seq }
         ensures request { option_copied result.request ≡ request_in self.now }
     {
@@ -59,6 +62,7 @@ impl Errand {
             op: self.op(),
             mark: self.mark(),
             rest: &self.laid.rest,
+            position: self.position(),
             record: seq,
             request: self.laid.request.as_deref(),
         }
@@ -72,6 +76,14 @@ impl Dispatcher {
     {
         let row = self.queues.get(leg)?;
         Some(Place::of(row.state))
+    }
+
+    /// The number of the next leg that a call launches: those that an event launched have the numbers from what it was
+    /// before to what it is after.
+    pub fn next_leg(&self) -> u64
+        ensures { result ≡ (core_view self.now).rows.next_leg }
+    {
+        self.next_leg
     }
 
     /// The number of a leg's record in the spool; None where the leg isn't stored there, or isn't there.

@@ -2,7 +2,6 @@
 
 ghost use Rattle.std.specs.Arc.{arc_value};
 ghost use Rattle.std.specs.Prelude.{◌≡◌, [], IfOk, IfErr, OnErr};
-ghost use Rattle.mcv_symbolic.specs.Covered.{AreCovered};
 ghost use Rattle.mcv_core.specs.Answers.{call_answer, done_answer, leg_answer, place_answer, reply_answer};
 ghost use Rattle.mcv_core.specs.Opening.{opened_view};
 ghost use Rattle.mcv_core.specs.Steps.{AreAnswered, DeletesAreKept, IsAnswered};
@@ -150,13 +149,6 @@ impl<H: KeyHash + Drop> Core<H> {
     }
 }
 
-/// Deletes are covered in what the checker accepted.
-fn deletes_are_covered(accepted: &Accepted)
-    ensures { AreCovered accepted.now }
-{
-    let _routes = accepted.routes();
-}
-
 /// A core over accepted routes, after these events: **no acknowledged delete is dropped**. Whatever the events are, each
 /// delete that has a reply other than an error keeps, for every server that could answer a get or gets of its rest, a
 /// counted leg of its own that the server performed, that is queued, or that is spooled (`Kept` of
@@ -173,7 +165,6 @@ pub fn run_all<H: KeyHash + Drop>(
     ensures kept { IfOk result (λ run. DeletesAreKept (H.chosen hash) (opened_view (arc_value accepted) []) events.items run.answers.items (core_view run.core.dispatcher)) }
     ensures err { IfErr result (λ fault. fault ≡ OutOfMemory) }
 {
-    deletes_are_covered(&accepted);
     let mut core = Core::new(alloc, accepted, hash, &[])?;
     let answers = core.run(alloc, events)?;
     Ok(Run { core, answers })

@@ -1,11 +1,12 @@
 //! Legs are sent, for the first time or from the spool.
 
-ghost use Rattle.std.specs.Prelude.{◌≡◌, ◌⊎◌, None, Some, IfOk, IfErr, OnErr, IsSome};
+ghost use Rattle.std.specs.Prelude.{◌≡◌, ◌⊎◌, None, Some, IfOk, IfErr, OnErr, OnOk, IsSome};
 ghost use Rattle.mcv_events.specs.Rows as rows;
 ghost use Rattle.mcv_queues.specs.Numbers.{IsLeast};
 ghost use Rattle.mcv_world.specs.World.{put};
 ghost use Rattle.mcv_core.specs.CoreView.{Does, in_row_state, is_spooled, is_waiting};
 ghost use Rattle.mcv_core.specs.Fault.{queue_fault};
+ghost use Rattle.mcv_core.specs.KeptDeletes.{DeletesStayKept};
 ghost use Rattle.mcv_core.specs.View.{core_view, records_of};
 
 use crate::dispatcher::Dispatcher;
@@ -31,6 +32,7 @@ impl Dispatcher {
         ensures first { IfOk result (λ leg. IsLeast (λ n. is_waiting server.0 ((core_view self.old).rows.legs n)) (Some leg.0)) }
         ensures view { IfOk result (λ leg. core_view self.new ≡ record (core_view self.old) { rows = in_row_state (core_view self.old).rows leg.0 rows.Sent; flights = put (core_view self.old).flights server.0 (Some leg.0) }) }
         ensures does { IfOk result (λ leg. Does (core_view self.old) (core_view self.new) None) }
+        ensures keeps { OnOk result (DeletesStayKept (core_view self.old) (core_view self.new) None) }
         ensures free { IfOk result (λ leg. (core_view self.old).flights server.0 ≡ None) }
         ensures busy { IfErr result (λ fault. fault ≡ CoreFault.Busy → IsSome ((core_view self.old).flights server.0)) }
         ensures nothing { IfErr result (λ fault. fault ≡ CoreFault.NothingWaiting → ((core_view self.old).flights server.0 ≡ None) × IsLeast (λ n. is_waiting server.0 ((core_view self.old).rows.legs n)) None) }
@@ -49,6 +51,7 @@ impl Dispatcher {
         ensures first { IfOk result (λ leg. IsLeast (λ n. is_spooled server.0 ((core_view self.old).rows.legs n)) (Some leg.0)) }
         ensures view { IfOk result (λ leg. core_view self.new ≡ record (core_view self.old) { flights = put (core_view self.old).flights server.0 (Some leg.0) }) }
         ensures does { IfOk result (λ leg. Does (core_view self.old) (core_view self.new) None) }
+        ensures keeps { OnOk result (DeletesStayKept (core_view self.old) (core_view self.new) None) }
         ensures free { IfOk result (λ leg. (core_view self.old).flights server.0 ≡ None) }
         ensures busy { IfErr result (λ fault. fault ≡ CoreFault.Busy → IsSome ((core_view self.old).flights server.0)) }
         ensures nothing { IfErr result (λ fault. fault ≡ CoreFault.NothingWaiting → ((core_view self.old).flights server.0 ≡ None) × IsLeast (λ n. is_spooled server.0 ((core_view self.old).rows.legs n)) None) }

@@ -7,6 +7,7 @@ ghost use Rattle.mcv_world.specs.Moves.{is_one};
 ghost use Rattle.mcv_world.specs.World.{put};
 ghost use Rattle.mcv_core.specs.CoreView.{Does, HasDone, HasEffect, at_row, change_move, is_record, refused, refusing_at, spooling_at, stores};
 ghost use Rattle.mcv_core.specs.Facts.{state_in};
+ghost use Rattle.mcv_core.specs.KeptDeletes.{DeletesStayKept};
 ghost use Rattle.mcv_core.specs.View.{core_view, records_of};
 ghost use Rattle.mcv_base.specs.declared.reply.FixedReply.TheVariants.{Lost as LostReply};
 
@@ -24,8 +25,11 @@ impl Dispatcher {
     pub fn spooled(&mut self, leg: LegId, stored: Stored) -> Result<Step, CoreFault>
         ensures effect { HasEffect (spooling_at (core_view self.old) leg.0 stored.«record».server stored.«record».rest) (core_view self.old) (core_view self.new) result }
         ensures does { IfOk result (λ step. Does (core_view self.old) (core_view self.new) (change_move leg.0 not_found step.change)) }
+        ensures keeps { IfOk result (λ step. DeletesStayKept (core_view self.old) (core_view self.new) (change_move leg.0 not_found step.change)) }
         ensures records { IfOk result (λ step. records_of self.new ≡ put (records_of self.old) leg.0 (Some stored.seq)) }
         ensures kept { OnErr result (records_of self.new ≡ records_of self.old) }
+        ensures chapter { (core_view self.new).chapter ≡ (core_view self.old).chapter }
+        ensures err { OnErr result (core_view self.new ≡ core_view self.old) }
     {
         if !self.is_record_of(leg, stored.record()) {
             return Err(CoreFault::NoSuchLeg);
@@ -46,7 +50,10 @@ impl Dispatcher {
     pub fn spool_refused(&mut self, leg: LegId) -> Result<Step, CoreFault>
         ensures effect { HasEffect (refusing_at (core_view self.old) leg.0) (core_view self.old) (core_view self.new) result }
         ensures does { IfOk result (λ step. Does (core_view self.old) (core_view self.new) (change_move leg.0 (fixed_value LostReply) step.change)) }
+        ensures keeps { IfOk result (λ step. DeletesStayKept (core_view self.old) (core_view self.new) (change_move leg.0 (fixed_value LostReply) step.change)) }
         ensures records { records_of self.new ≡ records_of self.old }
+        ensures chapter { (core_view self.new).chapter ≡ (core_view self.old).chapter }
+        ensures err { OnErr result (core_view self.new ≡ core_view self.old) }
     {
         let Some(facts) = self.facts(leg) else {
             return Err(CoreFault::NoSuchLeg);

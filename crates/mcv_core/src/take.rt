@@ -1,15 +1,16 @@
 //! Replies are taken.
 
-ghost use Rattle.std.specs.Prelude.{◌≡◌, ◌≤◌, ◌+◌, ◌||◌, None, Some, false, cond, is_some, IfOk, IfErr, IfSome, IfNone, option_and_then, option_map};
+ghost use Rattle.std.specs.Prelude.{◌≡◌, ◌≤◌, ◌+◌, ◌||◌, ◌&&◌, not, None, Some, false, cond, is_some, IfOk, IfErr, IfSome, IfNone, option_and_then, option_map};
 ghost use Rattle.mcv_base.specs.Reply.{part_value};
 ghost use Rattle.mcv_world.specs.Moves.{is_move, Taken as WasTaken};
 ghost use Rattle.mcv_world.specs.World.{put, reply_of};
 ghost use Rattle.mcv_events.specs.Rows.{world_of};
 ghost use Rattle.mcv_core.specs.Calls.{calls_at};
-ghost use Rattle.mcv_core.specs.CoreView.{Moved};
+ghost use Rattle.mcv_core.specs.CoreView.{Moved, taken_view};
 ghost use Rattle.mcv_core.specs.Launching.{places_of};
 ghost use Rattle.mcv_core.specs.Rows.{taken_at};
 ghost use Rattle.mcv_core.specs.Taking.{AreKept, HasTaken, IsTakenAt, source_reply};
+ghost use Rattle.mcv_core.specs.KeptDeletes.{DeletesStayKept};
 ghost use Rattle.mcv_core.specs.View.{core_view, records_of};
 ghost use Rattle.mcv_core.specs.declared.call.Call.{Call as Running};
 
@@ -92,6 +93,32 @@ impl Call {
         }
     }
 
+    /// Whether a source has its reply, which wasn't taken.
+    fn has_reply(&self, source: Source) -> bool
+        ensures { result ≡ is_some (source_reply self.now source) }
+    {
+        match source {
+            Source::Fixed(_) => true,
+            Source::Entry(entry) => match self.place_of(entry) {
+                Some(place) => self.is_there(place),
+                None => false,
+            },
+        }
+    }
+
+    /// Whether its reply is there, and wasn't taken.
+    fn can_be_taken(&self) -> bool
+        ensures { result ≡ (not self.now.taken && is_some (option_and_then (λ a. source_reply self.now a.source) self.now.state.reply)) }
+    {
+        if self.taken {
+            return false;
+        }
+        match self.state.status() {
+            Some(answer) => self.has_reply(answer.source),
+            None => false,
+        }
+    }
+
     /// Takes the reply, once it is there.
     fn take(&mut self) -> Option<Part>
         ensures { HasTaken self.old self.new result }
@@ -162,7 +189,9 @@ impl Dispatcher {
     /// Takes the reply to a call, once; None while the call has none.
     pub fn take(&mut self, call: CallId) -> Result<Option<Part>, CoreFault>
         ensures records { records_of self.new ≡ records_of self.old }
+        ensures view { IfOk result (λ o. IfSome o (λ part. core_view self.new ≡ taken_view (core_view self.old) call.0)) }
         ensures moves { IfOk result (λ o. IfSome o (λ part. Moved (core_view self.old) (core_view self.new) (WasTaken call.0))) }
+        ensures keeps { IfOk result (λ o. IfSome o (λ part. DeletesStayKept (core_view self.old) (core_view self.new) (Some (WasTaken call.0)))) }
         ensures reply { IfOk result (λ o. IfSome o (λ part. option_and_then (reply_of (core_view self.old).routes) ((world_of (core_view self.old).rows).calls call.0) ≡ Some (part_value part))) }
         ensures none { IfOk result (λ o. IfNone o ((core_view self.new ≡ core_view self.old) × (is_move (core_view self.old).routes (world_of (core_view self.old).rows) (WasTaken call.0) ≡ false))) }
         ensures err { IfErr result (λ fault. (fault ≡ CoreFault.NoSuchCall) × (core_view self.new ≡ core_view self.old) × ((core_view self.old).rows.calls call.0 ≡ None)) }
@@ -174,5 +203,15 @@ impl Dispatcher {
         self.calls.remove_if(call.0, taking.ended);
         self.counts = self.counts.taken(taking.ended, taking.left);
         Ok(taking.part)
+    }
+
+    /// Whether the reply to a call can be taken: the call runs, has a reply, and it wasn't taken.
+    pub fn can_take(&self, call: CallId) -> bool
+        ensures { result ≡ is_move (core_view self.now).routes (world_of (core_view self.now).rows) (WasTaken call.0) }
+    {
+        match self.calls.get(call.0) {
+            Some(running) => running.can_be_taken(),
+            None => false,
+        }
     }
 }

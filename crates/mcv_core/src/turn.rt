@@ -1,9 +1,10 @@
 //! The clock, chapters and marks.
 
-ghost use Rattle.std.specs.Prelude.{◌≡◌, ◌+◌, ◌<◌, ◌^◌, ◌↔◌, Some, None, IfOk, IfErr, IfSome, OnOk, OnErr, IsTrue, length, option_map};
+ghost use Rattle.std.specs.Prelude.{◌≡◌, ◌+◌, ◌<◌, ◌≤◌, ◌^◌, ◌↔◌, Some, None, IfOk, IfErr, IfSome, OnOk, OnErr, IsTrue, length, option_map};
 ghost use Rattle.mcv_queues.specs.Marks.{checked_mark, no_mark};
 ghost use Rattle.mcv_route.specs.Eras.{breaks_of, era_at, since_at};
 ghost use Rattle.mcv_core.specs.CoreView.{Does, IsQuiet, Unmoved, with_mark};
+ghost use Rattle.mcv_core.specs.KeptDeletes.{DeletesStayKept};
 ghost use Rattle.mcv_core.specs.Turning.{CanTurn, IsAtRest, era_move, in_era, spooled_legs};
 ghost use Rattle.mcv_core.specs.View.{core_view, records_of};
 
@@ -21,6 +22,7 @@ impl Era {
     /// The era that began at the second break, where that isn't the first one.
     fn after(old: Option<Moment>, since: Option<Moment>) -> Option<Era>
         ensures changed { IfSome result (λ era. era.since ≡ since) }
+        ensures other { IfSome result (λ era. since ≡ old → ⊥) }
         ensures same { result ≡ None → since ≡ old }
     {
         if since == old {
@@ -36,7 +38,10 @@ impl Dispatcher {
     pub fn clock(&mut self, moment: Moment) -> Result<Option<Era>, CoreFault>
         ensures view { OnOk result (core_view self.new ≡ record (in_era (core_view self.old) (since_at (breaks_of (core_view self.old).routes) moment.0)) { moment = moment.0 }) }
         ensures does { IfOk result (λ era. Does (core_view self.old) (core_view self.new) (era_move era)) }
+        ensures keeps { IfOk result (λ era. DeletesStayKept (core_view self.old) (core_view self.new) (era_move era)) }
+        ensures other { IfOk result (λ era. IfSome era (λ e. (core_view self.new).rows.since ≡ (core_view self.old).rows.since → ⊥)) }
         ensures records { records_of self.new ≡ records_of self.old }
+        ensures forward { OnOk result ((core_view self.old).moment ≤ moment.0) }
         ensures back { IfErr result (λ fault. (fault ≡ CoreFault.ClockBack) × (moment.0 < (core_view self.old).moment)) }
         ensures err { OnErr result (core_view self.new ≡ core_view self.old) }
     {
@@ -66,6 +71,7 @@ impl Dispatcher {
         ensures view { OnOk result (core_view self.new ≡ record (core_view self.old) { chapter = (core_view self.old).chapter + 1; entries = spooled_legs (core_view self.old).rows }) }
         ensures quiet { OnOk result (IsQuiet (core_view self.new)) }
         ensures does { OnOk result (Unmoved (core_view self.old) (core_view self.new)) }
+        ensures keeps { OnOk result (DeletesStayKept (core_view self.old) (core_view self.new) None) }
         ensures records { records_of self.new ≡ records_of self.old }
         ensures busy { IfErr result (λ fault. (fault ≡ CoreFault.Busy) × (CanTurn (core_view self.old) → ⊥)) }
         ensures err { OnErr result (core_view self.new ≡ core_view self.old) }
@@ -84,6 +90,7 @@ impl Dispatcher {
     /// Marks the server where three or more failures came in a row.
     pub fn mark(&mut self, server: ServerId)
         ensures view { core_view self.new ≡ with_mark (core_view self.old) server.0 checked_mark }
+        ensures keeps { DeletesStayKept (core_view self.old) (core_view self.new) None }
         ensures records { records_of self.new ≡ records_of self.old }
     {
         self.marks.mark(server);
@@ -92,6 +99,7 @@ impl Dispatcher {
     /// Takes the server's mark away, and its failures with it.
     pub fn unmark(&mut self, server: ServerId)
         ensures view { core_view self.new ≡ with_mark (core_view self.old) server.0 (λ m. no_mark) }
+        ensures keeps { DeletesStayKept (core_view self.old) (core_view self.new) None }
         ensures records { records_of self.new ≡ records_of self.old }
     {
         self.marks.unmark(server);

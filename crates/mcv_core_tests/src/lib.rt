@@ -4,9 +4,13 @@
 #[cfg(test)]
 mod amiss;
 #[cfg(test)]
+mod asks;
+#[cfg(test)]
 mod draw;
 #[cfg(test)]
 mod expect;
+#[cfg(test)]
+mod faults;
 #[cfg(test)]
 mod gets;
 #[cfg(test)]

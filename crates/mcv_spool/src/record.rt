@@ -19,7 +19,7 @@ pub(crate) const PENDING: u8 = 0;
 pub(crate) const DONE: u8 = 1;
 
 /// A delete that its server didn't take: that server, and the rest of the delete's key.
-#[derive(Debug, Drop)]
+#[derive(Debug, PartialEq, Eq, Drop)]
 pub struct SpoolRecord {
     pub server: ServerText,
     pub rest: Rest,

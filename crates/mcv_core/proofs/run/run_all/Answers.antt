@@ -13,8 +13,7 @@ returns-clause-kept g c =
     let r = arc_value c.args.accepted in
     let events = c.args.events.items in
     let w = core_view c.run.new.self.dispatcher in
-    let same : c.deref.result.now ≡ r = search rules in
-    let covered : AreCovered r = subst AreCovered same c.deletes_are_covered.ensures in
+    let covered : AreCovered r = subst (λ v. AreCovered v.routes) c.in_ok-core.ensures.view c.in_ok-core.ensures.keeps.covered in
     let answered : AreAnswered (h c.in_ok-core.core.hash) (core_view c.in_ok-core.core.dispatcher) events c.in_ok-answers.answers.items w = c.in_ok-answers.ensures.answered in
     let from : AreAnswered (h c.args.hash) (opened_view r []) events c.in_ok-answers.answers.items w =
     subst (λ v. AreAnswered (h c.args.hash) v events c.in_ok-answers.answers.items w) c.in_ok-core.ensures.view

@@ -1,4 +1,4 @@
-use Rattle.std.proofs.Common.{◌≡◌, ◌∙◌, sym, ap}
+use Rattle.std.proofs.Common.{◌≡◌, ◌∙◌, sym, ap, Ok}
 use Rattle.mcv_base.specs.Reply.{part_value}
 use Rattle.mcv_queues.specs.Legs.{is_flight}
 use Rattle.mcv_queues.specs.Marks.{lost_mark, marks}
@@ -8,6 +8,11 @@ use Rattle.mcv_core.specs.View.{core_view}
 use Rattle.mcv_core.proofs.Does
 use Rattle.mcv_core.proofs.Landings
 use Rattle.mcv_core.proofs.LegViews
+use Rattle.mcv_core.proofs.Keeping
+use Rattle.mcv_core.specs.CoreView.{change_move}
+use Rattle.mcv_base.specs.declared.reply.FixedReply.TheVariants.{Lost}
+use Rattle.mcv_base.specs.Reply.{fixed_value}
+use Rattle.mcv_core.proofs.Chapters
 use Rattle.mcv_core.proofs.dispatcher.Dispatcher.lost.Goals as goal
 
 pub land-requires : goal.land-requires
@@ -27,3 +32,9 @@ returns-in-Ok-clause-does c = Does.loss_does (core_view c.args.self.now) (core_v
 
 pub returns-in-Err-clause-effect : goal.returns-in-Err-clause-effect
 returns-in-Err-clause-effect c = Landings.loss_refused c.args.self.now c.args.leg.0 c.in-Err.fault c.in-Err.ensures.refused.1 c.in-Err.ensures.refused.0
+
+pub returns-in-Ok-clause-keeps : goal.returns-in-Ok-clause-keeps
+returns-in-Ok-clause-keeps c = Keeping.events_keep_deletes (core_view c.args.self.now) (core_view c.land.new.self) (change_move c.args.leg.0 (fixed_value Lost) c.land.result.change) (returns-in-Ok-clause-does c)
+
+pub returns-in-Ok-clause-chapter : goal.returns-in-Ok-clause-chapter
+returns-in-Ok-clause-chapter c = Chapters.loss_chapter (core_view c.args.self.now) (core_view c.land.new.self) c.args.leg.0 (Ok c.land.result) (returns-in-Ok-clause-effect c)

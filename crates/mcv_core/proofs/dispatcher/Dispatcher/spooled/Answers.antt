@@ -1,4 +1,4 @@
-use Rattle.std.proofs.Common.{◌≡◌, ◌∙◌, sym, ap, true, rules, Some}
+use Rattle.std.proofs.Common.{◌≡◌, ◌∙◌, sym, ap, true, rules, Some, Ok}
 use Rattle.mcv_queues.specs.Queues.{legs}
 use Rattle.mcv_queues.specs.declared.leg.State.TheVariants as states
 use Rattle.mcv_world.specs.Moves.{is_one}
@@ -8,6 +8,10 @@ use Rattle.mcv_core.specs.Rows.{state_of}
 use Rattle.mcv_core.specs.View.{core_view, records_of}
 use Rattle.mcv_core.proofs.Does
 use Rattle.mcv_core.proofs.Landings
+use Rattle.mcv_core.proofs.Keeping
+use Rattle.mcv_core.specs.CoreView.{change_move}
+use Rattle.mcv_base.specs.Reply.{not_found}
+use Rattle.mcv_core.proofs.Chapters
 use Rattle.mcv_core.proofs.dispatcher.Dispatcher.spooled.Goals as goal
 
 pub returns-in-Held-clause-effect : goal.returns-in-Held-clause-effect
@@ -43,3 +47,17 @@ returns-in-Held-clause-records c =
 pub returns-in-Refused-clause-records : goal.returns-in-Refused-clause-records
 returns-in-Refused-clause-records c =
     c.store_refused.ensures.records ∙ ap (λ q. put (records_of c.args.self.now) c.args.leg.0 (Some q)) c.seq-in-Refused.ensures
+
+pub returns-in-Held-clause-keeps : goal.returns-in-Held-clause-keeps
+returns-in-Held-clause-keeps c = Keeping.events_keep_deletes (core_view c.args.self.now) (core_view c.store_held.new.self) (change_move c.args.leg.0 not_found c.store_held.result.change) (returns-in-Held-clause-does c)
+
+pub returns-in-Refused-clause-keeps : goal.returns-in-Refused-clause-keeps
+returns-in-Refused-clause-keeps c = Keeping.events_keep_deletes (core_view c.args.self.now) (core_view c.store_refused.new.self) (change_move c.args.leg.0 not_found c.store_refused.result.change) (returns-in-Refused-clause-does c)
+
+pub returns-in-Held-clause-chapter : goal.returns-in-Held-clause-chapter
+returns-in-Held-clause-chapter c =
+    Chapters.spooling_chapter (core_view c.args.self.now) (core_view c.store_held.new.self) c.args.leg.0 (Ok c.store_held.result) c.args.stored.«record».server c.args.stored.«record».rest (returns-in-Held-clause-effect c)
+
+pub returns-in-Refused-clause-chapter : goal.returns-in-Refused-clause-chapter
+returns-in-Refused-clause-chapter c =
+    Chapters.spooling_chapter (core_view c.args.self.now) (core_view c.store_refused.new.self) c.args.leg.0 (Ok c.store_refused.result) c.args.stored.«record».server c.args.stored.«record».rest (returns-in-Refused-clause-effect c)

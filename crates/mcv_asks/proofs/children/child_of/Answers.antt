@@ -1,0 +1,51 @@
+use Rattle.std.proofs.Common.{refl}
+use Rattle.mcv_route.specs.View.{view}
+use Rattle.mcv_route.proofs.Ways.{child_at-Pool, child_at-Null, child_at-Error, child_at-AllSync, child_at-AllInitial, child_at-AllAsync, child_at-Failover, child_at-MissFailover, child-of-WarmUp, child-of-Migrate, child_at-PrefixSelector, child_at-OperationSelector, lent-at}
+use Rattle.mcv_asks.proofs.children.child_of.Goals as goal
+
+pub returns-in-Pool : goal.returns-in-Pool
+returns-in-Pool c = rw (c.in-Pool.is, child_at-Pool, ← c.deref.ensures.value) c.shadow_target.ensures
+
+pub returns-in-Null : goal.returns-in-Null
+returns-in-Null c = rw (c.in-Null.is, child_at-Null) refl
+
+pub returns-in-Error : goal.returns-in-Error
+returns-in-Error c = rw (c.in-Error.is, child_at-Error) refl
+
+pub returns-in-AllSync : goal.returns-in-AllSync
+returns-in-AllSync c =
+    rw (c.in-AllSync.is, child_at-AllSync c.in-AllSync.children c.args.number, ← c.deref-in-AllSync.ensures.value) (lent-at view c.deref-in-AllSync.result.now c.args.number c.get.result c.get.ensures.lookup)
+
+pub returns-in-AllInitial : goal.returns-in-AllInitial
+returns-in-AllInitial c =
+    rw (c.in-AllInitial.is, child_at-AllInitial c.in-AllInitial.children c.args.number, ← c.deref-in-AllInitial.ensures.value) (lent-at view c.deref-in-AllInitial.result.now c.args.number c.get-in-AllInitial.result c.get-in-AllInitial.ensures.lookup)
+
+pub returns-in-AllAsync : goal.returns-in-AllAsync
+returns-in-AllAsync c =
+    rw (c.in-AllAsync.is, child_at-AllAsync c.in-AllAsync.children c.args.number, ← c.deref-in-AllAsync.ensures.value) (lent-at view c.deref-in-AllAsync.result.now c.args.number c.get-in-AllAsync.result c.get-in-AllAsync.ensures.lookup)
+
+pub returns-in-Failover : goal.returns-in-Failover
+returns-in-Failover c =
+    rw (c.in-Failover.is, child_at-Failover c.in-Failover.children c.args.number, ← c.deref-in-Failover.ensures.value) (lent-at view c.deref-in-Failover.result.now c.args.number c.get-in-Failover.result c.get-in-Failover.ensures.lookup)
+
+pub returns-in-MissFailover : goal.returns-in-MissFailover
+returns-in-MissFailover c =
+    rw (c.in-MissFailover.is, child_at-MissFailover c.in-MissFailover.children c.args.number, ← c.deref-in-MissFailover.ensures.value) (lent-at view c.deref-in-MissFailover.result.now c.args.number c.get-in-MissFailover.result c.get-in-MissFailover.ensures.lookup)
+
+pub returns-in-WarmUp : goal.returns-in-WarmUp
+returns-in-WarmUp c =
+    child-of-WarmUp c.args.route.now c.in-WarmUp.cold c.in-WarmUp.warm c.in-WarmUp.exptime c.args.number c.deref-in-WarmUp.result.now c.deref-in-WarmUp-2.result.now _
+    c.in-WarmUp.is c.deref-in-WarmUp.ensures c.deref-in-WarmUp-2.ensures c.warm_up_side.ensures
+
+pub returns-in-Migrate : goal.returns-in-Migrate
+returns-in-Migrate c =
+    child-of-Migrate c.args.route.now c.in-Migrate.from c.in-Migrate.to c.in-Migrate.start c.in-Migrate.interval c.args.number c.deref-in-Migrate.result.now c.deref-in-Migrate-2.result.now _
+    c.in-Migrate.is c.deref-in-Migrate.ensures c.deref-in-Migrate-2.ensures c.migration_side.ensures
+
+pub returns-in-PrefixSelector : goal.returns-in-PrefixSelector
+returns-in-PrefixSelector c =
+    rw (c.in-PrefixSelector.is, child_at-PrefixSelector c.in-PrefixSelector.policies c.in-PrefixSelector.wildcard c.args.number, ← c.deref-in-PrefixSelector.ensures.value) c.prefix_route.ensures
+
+pub returns-in-OperationSelector : goal.returns-in-OperationSelector
+returns-in-OperationSelector c =
+    rw (c.in-OperationSelector.is, child_at-OperationSelector c.in-OperationSelector.policies c.in-OperationSelector.default_policy c.args.number, ← c.deref-in-OperationSelector.ensures.value) c.policy_route.ensures

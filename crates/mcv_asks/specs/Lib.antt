@@ -1,0 +1,3 @@
+pub mod WarmUps
+pub mod Hits
+pub mod Asks

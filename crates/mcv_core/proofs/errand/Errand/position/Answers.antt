@@ -1,0 +1,17 @@
+use Rattle.std.proofs.Common.{◌≡◌, ◌∙◌, [], sym, ap, rules, get_or}
+use Rattle.mcv_plan.specs.Evaluation.{no_leg}
+use Rattle.mcv_core.specs.Errands.{launches_of}
+use Rattle.mcv_core.proofs.Tracking.{launch_get}
+use Rattle.mcv_core.proofs.errand.Errand.position.Goals as goal
+
+pub returns-in-Some : goal.returns-in-Some
+returns-in-Some c =
+    let e = c.args.self.now in
+    let h : c.in-Some.launch.now.position ≡ (get_or (launches_of e) e.entry no_leg).position = search rules in
+    c.steps.ensures ∙ h ∙ sym (ap (λ v. v.position) (launch_get (launches_of e) e.entry))
+
+pub returns-in-None : goal.returns-in-None
+returns-in-None c =
+    let e = c.args.self.now in
+    let h : [] ≡ (get_or (launches_of e) e.entry no_leg).position = search rules in
+    h ∙ sym (ap (λ v. v.position) (launch_get (launches_of e) e.entry))
