@@ -8,8 +8,8 @@ use mcv_core::{CoreFault, Place, Step};
 use mcv_hub::{Guard, LegReply, Receipt, ReceiptFault, Report, Seat, TakenReply};
 use std::alloc::Global;
 use std::marker::Brand;
-use std::sync::{Arc, Wait};
 use std::sync::ledger::{Blank, Ledger};
+use std::sync::{Arc, Wait};
 use std::test::Fail;
 
 /// Whether the event led its leg there.
@@ -68,7 +68,8 @@ fn hit(alloc: Global) -> Result<LegReply, Fail> {
 /// Whether a reply is a hit with the value `x`.
 fn is_hit(part: &Part) -> bool {
     match part {
-        Part::Owned(reply) => matches!(&**reply, Reply::Hit { body, .. } if body.as_slice() == b"x".as_slice()),
+        Part::Owned(reply) =>
+            matches!(&**reply, Reply::Hit { body, .. } if body.as_slice() == b"x".as_slice()),
         Part::Fixed(_) => false,
     }
 }
@@ -145,11 +146,13 @@ fn two_seats<B: Ledger, T: Ledger, R: Wait>(
     };
     let twice = Err(ReceiptFault::Twice);
     let stranger = Err(ReceiptFault::Stranger);
-    Ok(first == receipt(2, 0)
-        && second == receipt(6, 1)
-        && closes(alloc, &mut guard, &mut one, &[first, second], Ok(report))
-        && closes(alloc, &mut guard, &mut one, &[first, first], twice)
-        && closes(alloc, &mut guard, &mut one, &[receipt(0, 0)], stranger))
+    Ok(
+        first == receipt(2, 0)
+            && second == receipt(6, 1)
+            && closes(alloc, &mut guard, &mut one, &[first, second], Ok(report))
+            && closes(alloc, &mut guard, &mut one, &[first, first], twice)
+            && closes(alloc, &mut guard, &mut one, &[receipt(0, 0)], stranger),
+    )
 }
 
 #[test]
