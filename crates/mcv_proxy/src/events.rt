@@ -1,0 +1,149 @@
+//! Events on the lent state, and whom they let go on.
+
+use mcv_base::{CallId, LegId, Request, ServerId};
+use mcv_core::{CoreFault, Dispatcher, Place, Step};
+use mcv_hub::{Bell, Guard, Hub, LegReply, Seat};
+use mcv_spool::Stored;
+use std::alloc::Global;
+use std::sync::Arc;
+use std::sync::ledger::Ledger;
+
+/// Who may go on after an event on a leg, as far as it is known before: its server, its call, and the number of the first
+/// leg that the event would launch.
+#[derive(Clone, Copy)]
+struct Concerned {
+    server: Option<ServerId>,
+    call: Option<CallId>,
+    first: u64,
+}
+
+/// Whom an event on the leg concerns.
+fn concerned_by(core: &Dispatcher, leg: LegId) -> Concerned {
+    let first = core.next_leg();
+    match core.leg(leg) {
+        Some(view) => Concerned {
+            server: Some(view.server),
+            call: view.call,
+            first,
+        },
+        None => Concerned {
+            server: None,
+            call: None,
+            first,
+        },
+    }
+}
+
+/// Rings the workers of the servers of all legs from this number on.
+fn ring_launched<B: Ledger, T: Ledger>(hub: &Hub<B, T>, core: &Dispatcher, first: u64) {
+    for leg in first..core.next_leg() {
+        if let Some(view) = core.leg(LegId(leg)) {
+            hub.ring(Bell::Server(view.server));
+        }
+    }
+}
+
+/// Rings whom an event on a leg let go on: the workers of legs that it launched, the leg's own one, which may send the next
+/// leg, who waits for the reply to its call, once that is there, and the spool's worker or the replayer, whose leg it now is.
+fn ring_after<B: Ledger, T: Ledger>(
+    hub: &Hub<B, T>,
+    core: &Dispatcher,
+    concerned: Concerned,
+    place: Place,
+) {
+    ring_launched(hub, core, concerned.first);
+    if let Some(server) = concerned.server {
+        hub.ring(Bell::Server(server));
+    }
+    if let Some(call) = concerned.call {
+        if core.can_take(call) {
+            hub.ring(Bell::Call(call));
+        }
+    }
+    match place {
+        Place::Held => hub.ring(Bell::Spool),
+        Place::Spooled => hub.ring(Bell::Replayer),
+        Place::Waiting | Place::Sent | Place::Performed | Place::Gone => {}
+    }
+}
+
+/// Begins a call for one key of the request.
+pub(crate) fn begin<B: Ledger, T: Ledger>(
+    alloc: Global,
+    hub: &Hub<B, T>,
+    guard: &mut Guard<'_, B, T>,
+    seat: &mut Seat<B, T>,
+    request: Arc<Request>,
+    key: usize,
+) -> Result<CallId, CoreFault> {
+    let first = guard.core().next_leg();
+    let call = guard.begin(alloc, seat, request, key)?;
+    ring_launched(hub, guard.core(), first);
+    Ok(call)
+}
+
+/// A leg in flight was answered.
+pub(crate) fn answered<B: Ledger, T: Ledger>(
+    hub: &Hub<B, T>,
+    guard: &mut Guard<'_, B, T>,
+    leg: LegId,
+    reply: LegReply,
+) -> Result<Step, CoreFault> {
+    let concerned = concerned_by(guard.core(), leg);
+    let step = guard.answered(leg, reply)?;
+    ring_after(hub, guard.core(), concerned, step.place);
+    Ok(step)
+}
+
+/// A leg in flight was lost, and its server is marked where it has failed too often.
+pub(crate) fn lost<B: Ledger, T: Ledger>(
+    hub: &Hub<B, T>,
+    guard: &mut Guard<'_, B, T>,
+    server: ServerId,
+    leg: LegId,
+) -> Result<Step, CoreFault> {
+    let concerned = concerned_by(guard.core(), leg);
+    let step = guard.lost(leg)?;
+    guard.mark(server);
+    ring_after(hub, guard.core(), concerned, step.place);
+    Ok(step)
+}
+
+/// A leg in flight came to this: it was answered, or it was lost.
+pub(crate) fn landed<B: Ledger, T: Ledger>(
+    hub: &Hub<B, T>,
+    guard: &mut Guard<'_, B, T>,
+    server: ServerId,
+    leg: LegId,
+    reply: Option<LegReply>,
+) -> Result<Step, CoreFault> {
+    match reply {
+        Some(reply) => answered(hub, guard, leg, reply),
+        None => lost(hub, guard, server, leg),
+    }
+}
+
+/// A held leg is in the spool.
+pub(crate) fn spooled<B: Ledger, T: Ledger>(
+    hub: &Hub<B, T>,
+    guard: &mut Guard<'_, B, T>,
+    leg: LegId,
+    stored: Stored,
+) -> Result<Step, CoreFault> {
+    let concerned = concerned_by(guard.core(), leg);
+    let step = guard.spooled(leg, stored)?;
+    ring_after(hub, guard.core(), concerned, step.place);
+    Ok(step)
+}
+
+/// The spool refused a held leg.
+pub(crate) fn spool_refused<B: Ledger, T: Ledger>(
+    hub: &Hub<B, T>,
+    guard: &mut Guard<'_, B, T>,
+    leg: LegId,
+) -> Result<Step, CoreFault> {
+    let concerned = concerned_by(guard.core(), leg);
+    let step = guard.spool_refused(leg)?;
+    ring_after(hub, guard.core(), concerned, step.place);
+    Ok(step)
+}
