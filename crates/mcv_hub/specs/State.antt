@@ -1,9 +1,10 @@
 -- What contracts see of the hub's state, and what holds of it whenever the lock is free (own).
-use Rattle.std.specs.Prelude.{◌≡◌, ◌+◌, ◌<◌, ◌≤◌, ◌^◌, [], ◌∷◌, ◌++◌, ℕ, List, Result, IfOk, OnErr, count_by}
+use Rattle.std.specs.Prelude.{◌≡◌, ◌+◌, ◌<◌, ◌≤◌, ◌^◌, [], ◌∷◌, ◌++◌, ℕ, List, Some, Result, IfOk, OnErr, count_by}
 use Rattle.std.specs.Arc.{arc_value}
 use Rattle.std.specs.declared.alloc.Global.{Global}
 use Rattle.std.specs.declared.sync.Arc.{Arc}
 use Rattle.mcv_base.specs.Reply.{ReplyValue, part_value}
+use Rattle.mcv_base.specs.declared.operation.Op.{Op}
 use Rattle.mcv_base.specs.declared.request.CallId.{CallId}
 use Rattle.mcv_base.specs.declared.reply.Part.{Part}
 use Rattle.mcv_base.specs.declared.request.LegId.{LegId}
@@ -14,7 +15,7 @@ use Rattle.mcv_world.specs.World.{World}
 use Rattle.mcv_world.specs.Laws.{HasReply, IsWorld}
 use Rattle.mcv_world.specs.Live.{live_of}
 use Rattle.mcv_world.specs.Moves.{run}
-use Rattle.mcv_events.specs.Rows.{world_of}
+use Rattle.mcv_events.specs.Rows.{CallRow, world_of}
 use Rattle.mcv_core.specs.Asking.{HasBegunFor}
 use Rattle.mcv_core.specs.CoreView.{CoreView, Does, Effect, HasEffect, change_move}
 use Rattle.mcv_core.specs.KeptDeletes.{KeepsDeletes}
@@ -103,6 +104,14 @@ pub record BeginsOne (old new : HubView) (request : Arc Request Global) (key : �
   pub shared : Arc Request Global
   pub same : arc_value shared ≡ arc_value request
   pub entry : new.history ≡ old.history ++ entries.Began shared key ∷ []
+
+-- the call runs, and asks this operation of this route and rest
+pub record IsCallOf (v : HubView) (k : ℕ) (op : Op) (route : ℕ) (rest : List ℕ) : Type 0 where
+  pub row : CallRow
+  pub there : (core_view v.core).rows.calls k ≡ Some row
+  pub op_is : op ≡ row.call.op
+  pub route_is : route ≡ row.call.route
+  pub rest_is : rest ≡ row.call.rest
 
 -- in each world of which the core's is what is left, and so in the replay of the history, this is the reply of the call
 abbrev pub Replies : HubView → ℕ → ReplyValue → Type 0

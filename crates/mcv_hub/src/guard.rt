@@ -21,9 +21,10 @@ ghost use Rattle.mcv_core.specs.declared.fault.CoreFault.TheVariants.{Memory as 
 ghost use Rattle.mcv_hub.specs.History.{era_entry, with_entry};
 ghost use Rattle.mcv_hub.specs.MayWrite.{break_count};
 ghost use Rattle.mcv_hub.specs.Receipts.{ArePassed, AreRefused};
-ghost use Rattle.mcv_hub.specs.State.{BeginsOne, HistoryKeepsDeletes, IsLegEvent, IsSame, IsSameBooks, IsSameChapter, Replies};
+ghost use Rattle.mcv_hub.specs.State.{BeginsOne, HistoryKeepsDeletes, IsCallOf, IsLegEvent, IsSame, IsSameBooks, IsSameChapter, Replies};
 ghost use Rattle.mcv_hub.specs.declared.entry.Entry.TheVariants.{Taken as taken_entry};
 
+use crate::entry::Entry;
 use crate::pass::Pass;
 use crate::receipts::{Receipt, ReceiptFault, Report};
 use crate::reply::LegReply;
@@ -35,7 +36,9 @@ use mcv_spool::Stored;
 use std::alloc::Global;
 use std::marker::{Model, PhantomData};
 use std::sync::ledger::{Ledger, Share};
-use std::sync::{Arc, Condvar, MutexGuard, Wait};
+use std::rt::Clock;
+use std::sync::{Arc, Condvar, CondvarTimeouts, MutexGuard, Wait};
+use std::time::Duration;
 
 /// The locked state. While it lives, the pass with which it was got is borrowed.
 #[derive(Drop)]
@@ -73,6 +76,21 @@ impl<'a, B: Ledger, T: Ledger> Guard<'a, B, T> {
         let Guard { state, pass } = self;
         let state = match bell {
             Some(bell) => bell.wait(rt, state),
+            None => state,
+        };
+        Guard { state, pass }
+    }
+
+    /// As `wait_at`, for so long at most.
+    pub(crate) fn wait_at_for<R: Wait + Clock>(
+        self,
+        rt: &R,
+        bell: Option<&Condvar>,
+        most: Duration,
+    ) -> Guard<'a, B, T> {
+        let Guard { state, pass } = self;
+        let state = match bell {
+            Some(bell) => bell.wait_timeout(rt, state, most).0,
             None => state,
         };
         Guard { state, pass }
@@ -117,6 +135,7 @@ impl<'a, B: Ledger, T: Ledger> Guard<'a, B, T> {
         ensures history { IfOk result (λ o. IfSome o (λ t. self.new.history ≡ self.old.history ++ taken_entry call ∷ [])) }
         ensures receipt { IfOk result (λ o. IfSome o (λ t. (t.receipt.chapter ≡ self.old.chapter) × (t.receipt.entry ≡ length self.old.history) × (t.receipt.call ≡ call))) }
         ensures reply { IfOk result (λ o. IfSome o (λ t. Replies self.old call.0 (part_value t.reply))) }
+        ensures call { IfOk result (λ o. IfSome o (λ t. IsCallOf self.old call.0 t.op t.route t.rest)) }
         ensures shared { IfOk result (λ o. IfSome o (λ t. (seat.new.taken.amount ≡ seat.old.taken.amount + 1) × (seat.new.begun.amount ≡ seat.old.begun.amount))) }
         ensures counted { IfOk result (λ o. IfSome o (λ t. (self.new.taken ≡ self.old.taken + 1) × (self.new.begun ≡ self.old.begun))) }
         ensures parts { (seat.new.begun.parts ≡ seat.old.begun.parts) × (seat.new.taken.parts ≡ seat.old.taken.parts) }
@@ -268,6 +287,13 @@ impl<'a, B: Ledger, T: Ledger> Guard<'a, B, T> {
         ensures same { IsSame self.old self.new }
     {
         self.state.close(alloc, begun, taken, receipts)
+    }
+
+    /// The entries of the chapter, the oldest first.
+    pub fn history(&self) -> &[Entry]
+        ensures { result.now ≡ self.now.history }
+    {
+        self.state.history()
     }
 
     /// Deletes are kept in the world that the history leads to, and the core's calls and legs are what is left of it.

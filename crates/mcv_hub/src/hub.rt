@@ -12,20 +12,24 @@ use mcv_core::CoreFault;
 use mcv_spool::SpoolRecord;
 use std::alloc::{AllocError, Global};
 use std::sync::ledger::{Blank, Ledger};
+use std::rt::Clock;
 use std::sync::{Arc, Condvar, Mutex, Wait};
+use std::time::Duration;
 
 /// What a thread waits for: a leg for a server's worker, the reply to a call for a session, a record for the spool's
-/// worker, a leg in the spool for the replayer.
+/// worker, a leg in the spool for the replayer, the end of all calls and legs for a session whose call found no place
+/// in the chapter.
 #[derive(Clone, Copy, Debug, PartialEq, Eq)]
 pub enum Bell {
     Server(ServerId),
     Call(CallId),
     Spool,
     Replayer,
+    Chapter,
 }
 
 /// The state that threads share: one lock, and beside it a bell for each server's worker, bells for calls that sessions
-/// await, one for the spool's worker and one for the replayer.
+/// await, one for the spool's worker, one for the replayer and one for a new chapter.
 #[derive(Drop)]
 pub struct Hub<B: Ledger, T: Ledger> {
     state: Mutex<HubState<B, T>>,
@@ -33,6 +37,7 @@ pub struct Hub<B: Ledger, T: Ledger> {
     calls: Vec<Condvar>,
     spool: Condvar,
     replayer: Condvar,
+    chapter: Condvar,
 }
 
 /// As many bells as asked.
@@ -73,6 +78,7 @@ impl<B: Ledger, T: Ledger> Hub<B, T> {
             calls,
             spool: Condvar::new(),
             replayer: Condvar::new(),
+            chapter: Condvar::new(),
         };
         Ok((hub, Passes::new(seats, begun, taken)))
     }
@@ -85,6 +91,17 @@ impl<B: Ledger, T: Ledger> Hub<B, T> {
     /// Lets go of the lock until the bell is rung, or for no reason; where there is no such server the lock is kept.
     pub fn wait<'a, R: Wait>(&self, rt: &R, guard: Guard<'a, B, T>, bell: Bell) -> Guard<'a, B, T> {
         guard.wait_at(rt, self.bell(bell))
+    }
+
+    /// As `wait`, for so long at most.
+    pub fn wait_for<'a, R: Wait + Clock>(
+        &self,
+        rt: &R,
+        guard: Guard<'a, B, T>,
+        bell: Bell,
+        most: Duration,
+    ) -> Guard<'a, B, T> {
+        guard.wait_at_for(rt, self.bell(bell), most)
     }
 
     /// The condition variable of a bell. Calls whose numbers have one remainder by the number of their bells share one;
@@ -101,6 +118,7 @@ impl<B: Ledger, T: Ledger> Hub<B, T> {
             }
             Bell::Spool => Some(&self.spool),
             Bell::Replayer => Some(&self.replayer),
+            Bell::Chapter => Some(&self.chapter),
         }
     }
 

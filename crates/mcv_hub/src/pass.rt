@@ -1,6 +1,6 @@
 //! Passes, with which threads get the lock, and the seats of sessions.
 
-ghost use Rattle.std.specs.Prelude.{◌≡◌, ◌+◌, IfSome};
+ghost use Rattle.std.specs.Prelude.{◌≡◌, ◌+◌, IfNone, IfSome};
 
 use crate::seat::Seat;
 use std::marker::PhantomData;
@@ -40,7 +40,9 @@ impl<B: Ledger, T: Ledger> Passes<B, T> {
 
     /// A seat for one session, which has begun no call and taken no reply; None once all seats were given.
     pub fn seat(&mut self) -> Option<Seat<B, T>>
-        ensures { IfSome result (λ s. (s.begun.parts ≡ 1) × (s.taken.parts ≡ 1) × (s.begun.amount ≡ 0) × (s.taken.amount ≡ 0)) }
+        ensures rest { IfSome result (λ s. (self.new.begun.parts + 1 ≡ self.old.begun.parts) × (self.new.taken.parts + 1 ≡ self.old.taken.parts)) }
+        ensures none { IfNone result ((self.new.begun.parts ≡ self.old.begun.parts) × (self.new.taken.parts ≡ self.old.taken.parts)) }
+        ensures seat { IfSome result (λ s. (s.begun.parts ≡ 1) × (s.taken.parts ≡ 1) × (s.begun.amount ≡ 0) × (s.taken.amount ≡ 0)) }
     {
         if self.left == 0 {
             return None;
@@ -50,5 +52,14 @@ impl<B: Ledger, T: Ledger> Passes<B, T> {
         let taken = taken.split_off(1, 0);
         *left -= 1;
         Some(Seat { begun, taken })
+    }
+
+    /// The shares that no seat was given: no call was begun and no reply taken with them.
+    pub fn into_shares(self) -> (Share<B>, Share<T>)
+        ensures begun { (result.0.parts ≡ self.begun.parts) × (result.0.amount ≡ 0) }
+        ensures taken { (result.1.parts ≡ self.taken.parts) × (result.1.amount ≡ 0) }
+    {
+        let Passes { begun, taken, .. } = self;
+        (begun, taken)
     }
 }

@@ -3,7 +3,7 @@
 ghost use Rattle.std.specs.Prelude.{◌≡◌, ◌<◌};
 
 use crate::receipts::Receipt;
-use mcv_base::Part;
+use mcv_base::{Op, Part, Rest};
 use std::sync::ledger::{Ledger, Share};
 
 /// One session's shares of the books of calls begun and of replies taken.
@@ -15,11 +15,14 @@ pub struct Seat<B: Ledger, T: Ledger> {
     pub ghost taken_part: { 0 < taken.parts },
 }
 
-/// A reply that was taken. `take_reply` alone makes one, and it can't be copied.
+/// A reply that was taken, with what its call asked. `take_reply` alone makes one, and it can't be copied.
 #[derive(Drop)]
 pub struct TakenReply {
     pub(crate) receipt: Receipt,
     pub(crate) reply: Part,
+    pub(crate) op: Op,
+    pub(crate) route: usize,
+    pub(crate) rest: Rest,
 }
 
 impl TakenReply {
@@ -35,6 +38,27 @@ impl TakenReply {
         ensures { result.now ≡ self.now.reply }
     {
         &self.reply
+    }
+
+    /// The operation of the call.
+    pub fn op(&self) -> Op
+        ensures { result ≡ self.now.op }
+    {
+        self.op
+    }
+
+    /// The number of the call's route.
+    pub fn route(&self) -> usize
+        ensures { result ≡ self.now.route }
+    {
+        self.route
+    }
+
+    /// The call's key without its routing prefix.
+    pub fn rest(&self) -> &Rest
+        ensures { result.now ≡ self.now.rest }
+    {
+        &self.rest
     }
 
     /// The reply, by value.

@@ -125,7 +125,7 @@ fn places_for(one: usize, other: usize) -> Option<usize>
 }
 
 impl<B: Ledger, T: Ledger> HubState<B, T> {
-    ghost use Rattle.mcv_hub.specs.State.{BeginsOne, HistoryKeepsDeletes, IsLegEvent, IsSame, IsSameBooks, IsSameChapter, Replies};
+    ghost use Rattle.mcv_hub.specs.State.{BeginsOne, HistoryKeepsDeletes, IsCallOf, IsLegEvent, IsSame, IsSameBooks, IsSameChapter, Replies};
     ghost use Rattle.mcv_hub.specs.declared.entry.Entry.TheVariants.{Taken as taken_entry};
 
     /// A core over these routes with the records that the spool held, in its first chapter, and the shares that count all
@@ -221,6 +221,7 @@ impl<B: Ledger, T: Ledger> HubState<B, T> {
         ensures history { IfOk result (λ o. IfSome o (λ t. self.new.history ≡ self.old.history ++ taken_entry call ∷ [])) }
         ensures receipt { IfOk result (λ o. IfSome o (λ t. (t.receipt.chapter ≡ self.old.chapter) × (t.receipt.entry ≡ length self.old.history) × (t.receipt.call ≡ call))) }
         ensures reply { IfOk result (λ o. IfSome o (λ t. Replies self.old call.0 (part_value t.reply))) }
+        ensures call { IfOk result (λ o. IfSome o (λ t. IsCallOf self.old call.0 t.op t.route t.rest)) }
         ensures shared { IfOk result (λ o. IfSome o (λ t. (seat.new.taken.amount ≡ seat.old.taken.amount + 1) × (seat.new.begun.amount ≡ seat.old.begun.amount))) }
         ensures counted { IfOk result (λ o. IfSome o (λ t. (self.new.taken ≡ self.old.taken + 1) × (self.new.begun ≡ self.old.begun))) }
         ensures parts { (seat.new.begun.parts ≡ seat.old.begun.parts) × (seat.new.taken.parts ≡ seat.old.taken.parts) }
@@ -230,6 +231,10 @@ impl<B: Ledger, T: Ledger> HubState<B, T> {
         ensures unshared { IfOk result (λ o. IfNone o ((seat.new.begun.amount ≡ seat.old.begun.amount) × (seat.new.taken.amount ≡ seat.old.taken.amount))) }
         ensures unshared_err { OnErr result ((seat.new.begun.amount ≡ seat.old.begun.amount) × (seat.new.taken.amount ≡ seat.old.taken.amount)) }
     {
+        let Some(asked) = self.core.state().call(call) else {
+            return Err(CoreFault::NoSuchCall);
+        };
+        let (op, route, rest) = (asked.op, asked.route, asked.rest.copied());
         let found = core_events::take(&mut self.core, call)?;
         let Some(reply) = found else {
             return Ok(None);
@@ -241,7 +246,13 @@ impl<B: Ledger, T: Ledger> HubState<B, T> {
         };
         self.history.push_reserved(Entry::Taken(call));
         self.taken.add(&mut seat.taken, 1);
-        Ok(Some(TakenReply { receipt, reply }))
+        Ok(Some(TakenReply {
+            receipt,
+            reply,
+            op,
+            route,
+            rest,
+        }))
     }
 
     /// Sends the first leg that waits for a server: the one with the least number. An error is Busy, where a leg of the
@@ -436,6 +447,13 @@ impl<B: Ledger, T: Ledger> HubState<B, T> {
             taken: all_taken,
             older,
         })
+    }
+
+    /// The entries of the chapter, the oldest first.
+    pub fn history(&self) -> &[Entry]
+        ensures { result.now ≡ self.now.history }
+    {
+        self.history.as_slice()
     }
 
     /// Deletes are kept in the world that the history leads to, and the core's calls and legs are what is left of it.
