@@ -75,6 +75,21 @@ fn next_task<B: Ledger, T: Ledger, R: Wait>(
     unreachable!()
 }
 
+/// Reports what came of a leg in flight: whether its server is marked by that.
+fn report<B: Ledger, T: Ledger, R: Wait>(
+    rt: &R,
+    hub: &Hub<B, T>,
+    pass: &mut Pass,
+    server: ServerId,
+    leg: LegId,
+    reply: Option<LegReply>,
+) -> bool {
+    let mut guard = hub.lock(rt, pass);
+    let was_marked = guard.core().marked(server);
+    let _ = landed(hub, &mut guard, server, leg, reply);
+    !was_marked && guard.core().marked(server)
+}
+
 /// Sends a leg that is in flight, and reports what came of it.
 fn send<B: Ledger, T: Ledger, L: Link, R: Wait>(
     rt: &R,
@@ -88,8 +103,22 @@ fn send<B: Ledger, T: Ledger, L: Link, R: Wait>(
 ) {
     let sent = link.send(pass, request);
     let reply = reply_of(alloc, sent);
+    if report(rt, hub, pass, server, leg, reply) {
+        link.note_marked(pass);
+    }
+}
+
+/// Takes the mark of a server away: whether it had one.
+fn unmark<B: Ledger, T: Ledger, R: Wait>(
+    rt: &R,
+    hub: &Hub<B, T>,
+    pass: &mut Pass,
+    server: ServerId,
+) -> bool {
     let mut guard = hub.lock(rt, pass);
-    let _ = landed(hub, &mut guard, server, leg, reply);
+    let was_marked = guard.core().marked(server);
+    guard.unmark(server);
+    was_marked
 }
 
 /// Asks a marked server whether it answers, and takes its mark away where it does.
@@ -103,8 +132,9 @@ pub(crate) fn probe<B: Ledger, T: Ledger, L: Link, R: Wait>(
     if link.probe(pass).is_err() {
         return false;
     }
-    let mut guard = hub.lock(rt, pass);
-    guard.unmark(server);
+    if unmark(rt, hub, pass, server) {
+        link.note_unmarked(pass);
+    }
     true
 }
 
