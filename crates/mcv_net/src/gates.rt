@@ -10,7 +10,7 @@ use crate::system_watch::SystemWatch;
 use mcv_proxy::{Gates, ProxyFault};
 use mcv_spool::Disk;
 use std::alloc::{AllocError, Global};
-use std::io::{ErrorKind, Eprint, Write};
+use std::io::{Eprint, ErrorKind, Write};
 use std::net::{Net, TcpListener, TcpStream};
 use std::rt::Clock;
 use std::thread;
@@ -107,7 +107,13 @@ impl<'a, D, W, R> Gates for NetGates<'a, D, W, R>
 where
     D: Disk + Send + 'static,
     W: Write,
-    R: Net<Stream = TcpStream, Listener = TcpListener> + Clock + Eprint + Copy + Drop + Send + 'static,
+    R: Net<Stream = TcpStream, Listener = TcpListener>
+        + Clock
+        + Eprint
+        + Copy
+        + Drop
+        + Send
+        + 'static,
 {
     type Link = TcpLink<TcpDial<R>, StandardError<R>>;
 
