@@ -4,7 +4,7 @@ use crate::ends::Ends;
 use crate::events::{landed, lost};
 use crate::gates::{Link, LinkFault};
 use mcv_base::{LegId, LegRequest, Reply, ServerId};
-use mcv_core::CoreFault;
+use mcv_core::{CoreFault, Place};
 use mcv_hub::{Bell, Guard, Hub, LegReply, Pass};
 use std::alloc::Global;
 use std::sync::Wait;
@@ -75,6 +75,35 @@ fn next_task<B: Ledger, T: Ledger, R: Wait>(
     unreachable!()
 }
 
+/// What a leg in flight came to.
+#[derive(Clone, Copy)]
+pub(crate) struct Landing {
+    pub(crate) is_performed: bool,
+    /// Its server is marked by that.
+    pub(crate) marks: bool,
+}
+
+/// Reports what came of a leg in flight.
+pub(crate) fn report<B: Ledger, T: Ledger, R: Wait>(
+    rt: &R,
+    hub: &Hub<B, T>,
+    pass: &mut Pass,
+    server: ServerId,
+    leg: LegId,
+    reply: Option<LegReply>,
+) -> Landing {
+    let mut guard = hub.lock(rt, pass);
+    let was_marked = guard.core().marked(server);
+    let is_performed = match landed(hub, &mut guard, server, leg, reply) {
+        Ok(step) => step.place == Place::Performed,
+        Err(_) => false,
+    };
+    Landing {
+        is_performed,
+        marks: !was_marked && guard.core().marked(server),
+    }
+}
+
 /// Sends a leg that is in flight, and reports what came of it.
 fn send<B: Ledger, T: Ledger, L: Link, R: Wait>(
     rt: &R,
@@ -88,8 +117,22 @@ fn send<B: Ledger, T: Ledger, L: Link, R: Wait>(
 ) {
     let sent = link.send(pass, request);
     let reply = reply_of(alloc, sent);
+    if report(rt, hub, pass, server, leg, reply).marks {
+        link.note_marked(pass);
+    }
+}
+
+/// Takes the mark of a server away: whether it had one.
+fn unmark<B: Ledger, T: Ledger, R: Wait>(
+    rt: &R,
+    hub: &Hub<B, T>,
+    pass: &mut Pass,
+    server: ServerId,
+) -> bool {
     let mut guard = hub.lock(rt, pass);
-    let _ = landed(hub, &mut guard, server, leg, reply);
+    let was_marked = guard.core().marked(server);
+    guard.unmark(server);
+    was_marked
 }
 
 /// Asks a marked server whether it answers, and takes its mark away where it does.
@@ -103,8 +146,9 @@ pub(crate) fn probe<B: Ledger, T: Ledger, L: Link, R: Wait>(
     if link.probe(pass).is_err() {
         return false;
     }
-    let mut guard = hub.lock(rt, pass);
-    guard.unmark(server);
+    if unmark(rt, hub, pass, server) {
+        link.note_unmarked(pass);
+    }
     true
 }
 

@@ -13,7 +13,7 @@ use thiserror::Error;
 pub enum ProxyFault {
     #[error("out of memory")]
     Memory = 1,
-    /// The disk failed, or what it holds isn't a spool.
+    /// The disk failed, or what it holds isn't a spool; or what the proxy talks to failed as a whole.
     #[error("the spool's disk failed")]
     Device = 2,
     /// A reply was taken that the history doesn't have, or one twice.

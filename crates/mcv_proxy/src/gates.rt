@@ -1,5 +1,6 @@
 //! What a proxy talks to.
 
+use crate::fault::ProxyFault;
 use mcv_base::{LegRequest, Moment, Reply};
 use mcv_hub::Pass;
 use mcv_spool::Disk;
@@ -24,6 +25,12 @@ pub trait Link: Drop {
 
     /// Whether the server answers at all.
     fn probe(&mut self, pass: &Pass) -> Result<(), LinkFault>;
+
+    /// Notes that the server is marked from now on.
+    fn note_marked(&mut self, _pass: &Pass) {}
+
+    /// Notes that the server isn't marked any more.
+    fn note_unmarked(&mut self, _pass: &Pass) {}
 }
 
 /// The time, as one thread sees it.
@@ -33,6 +40,12 @@ pub trait Watch: Drop {
 
     /// Waits for a second.
     fn pause(&mut self);
+
+    /// Notes that the spool refuses records from now on.
+    fn note_refusing(&mut self) {}
+
+    /// Notes that the spool takes records again.
+    fn note_taking(&mut self) {}
 }
 
 /// What a proxy talks to: servers, a disk, clients and the clock.
@@ -58,4 +71,13 @@ pub trait Gates: Drop {
 
     /// A watch for one thread.
     fn watch(&mut self) -> Self::Watch;
+
+    /// The spool is open with so many records that are pending, and all workers run: clients may come. An error ends the
+    /// proxy.
+    fn opened(&mut self, _pending: usize) -> Result<(), ProxyFault> {
+        Ok(())
+    }
+
+    /// Notes that the last client isn't served, since there was no thread or no memory for its session.
+    fn note_unserved(&mut self) {}
 }

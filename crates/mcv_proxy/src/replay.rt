@@ -1,11 +1,10 @@
 //! The replayer: deletes that are in the spool are sent again.
 
-use crate::destination::{TURNS, probe, reply_of};
+use crate::destination::{TURNS, probe, reply_of, report};
 use crate::ends::Ends;
-use crate::events::landed;
 use crate::gates::{Link, Watch};
 use mcv_base::{LegId, LegRequest, ServerId};
-use mcv_core::{CoreFault, Place};
+use mcv_core::CoreFault;
 use mcv_hub::{Bell, Guard, Hub, LegReply, Pass};
 use mcv_spool::{Disk, Spool};
 use std::alloc::Global;
@@ -125,21 +124,6 @@ fn ask<B: Ledger, T: Ledger, L: Link, R: Wait>(
     reply_of(alloc, sent)
 }
 
-/// Reports what came of a leg that was in flight again: whether it was performed.
-fn report<B: Ledger, T: Ledger, R: Wait>(
-    rt: &R,
-    hub: &Hub<B, T>,
-    pass: &mut Pass,
-    repeat: &Repeat,
-    reply: Option<LegReply>,
-) -> bool {
-    let mut guard = hub.lock(rt, pass);
-    match landed(hub, &mut guard, repeat.server, repeat.leg, reply) {
-        Ok(step) => step.place == Place::Performed,
-        Err(_) => false,
-    }
-}
-
 /// Sends a leg again; once it is performed, its record is done. Whether it was performed.
 fn repeat_leg<B: Ledger, T: Ledger, L: Link, D: Disk, R: Wait>(
     rt: &R,
@@ -151,13 +135,16 @@ fn repeat_leg<B: Ledger, T: Ledger, L: Link, D: Disk, R: Wait>(
     repeat: &Repeat,
 ) -> bool {
     let reply = ask(rt, alloc, hub, pass, link, repeat);
-    let performed = report(rt, hub, pass, repeat, reply);
-    if performed {
+    let landing = report(rt, hub, pass, repeat.server, repeat.leg, reply);
+    if landing.marks {
+        link.note_marked(pass);
+    }
+    if landing.is_performed {
         if let Some(seq) = repeat.record {
             let _ = spool.lock(rt).done(seq);
         }
     }
-    performed
+    landing.is_performed
 }
 
 /// Goes round the servers once, and sends the legs again that are in the spool: those of a server until one isn't

@@ -79,6 +79,19 @@ fn refuse<B: Ledger, T: Ledger, R: Wait>(rt: &R, hub: &Hub<B, T>, pass: &mut Pas
     let _ = spool_refused(hub, &mut guard, leg);
 }
 
+/// Notes whether the spool refuses records, where that is another answer than before.
+fn note<W: Watch>(watch: &mut W, refuses: &mut bool, refused: bool) {
+    if *refuses == refused {
+        return;
+    }
+    *refuses = refused;
+    if refused {
+        watch.note_refusing();
+    } else {
+        watch.note_taking();
+    }
+}
+
 /// Writes the records of deletes that their servers didn't perform, until there is none and the worker is to end, at most
 /// 1,000,000,000. Where a record is refused its leg is reported, the spool is opened again if it has to be, and after a
 /// second the first leg that is held then comes next; a worker that is to end does so.
@@ -91,14 +104,19 @@ pub fn serve_spool<B: Ledger, T: Ledger, D: Disk, W: Watch, R: Wait>(
     watch: &mut W,
     ends: &Ends,
 ) {
+    let mut refuses = false;
     for _turn in 0..TURNS {
         let Some((leg, delete)) = next_held(rt, texts, hub, pass, ends) else {
             return;
         };
         match append(rt, spool, delete) {
-            Ok(stored) => keep(rt, hub, pass, leg, stored),
+            Ok(stored) => {
+                keep(rt, hub, pass, leg, stored);
+                note(watch, &mut refuses, false);
+            }
             Err(fault) => {
                 refuse(rt, hub, pass, leg);
+                note(watch, &mut refuses, true);
                 reopen(rt, spool, fault);
                 if ends.are_asked() {
                     return;

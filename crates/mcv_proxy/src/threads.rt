@@ -44,6 +44,8 @@ struct Shared<B: Ledger, T: Ledger, D: Disk> {
     accepted: Arc<Accepted>,
     hub: Arc<Hub<B, T>>,
     spool: Arc<Mutex<Spool<D>>>,
+    /// How many records were pending in the spool when it was opened.
+    pending: usize,
     /// The end of the servers' workers and of the replayer.
     work_ends: Arc<Ends>,
     /// The end of the spool's worker, which comes later.
@@ -198,6 +200,27 @@ fn host<
     thread::spawn(&rt, job).ok()
 }
 
+/// Starts a session on a hub. None where there is no memory or no thread for it.
+fn admit<
+    B: Ledger + Send + Sync + 'static,
+    T: Ledger + Send + Sync + 'static,
+    I: Read + Drop + Send + 'static,
+    O: Write + Drop + Send + 'static,
+    W: Watch + Send + 'static,
+    R: Threads + Wait + Copy + Send + 'static,
+>(
+    rt: R,
+    alloc: Global,
+    hub: &Arc<Hub<B, T>>,
+    pass: Pass,
+    seat: Seat<B, T>,
+    client: (I, O),
+    watch: W,
+) -> Option<JoinHandle<Done<B, T>>> {
+    let hub = Arc::try_clone(hub).ok()?;
+    host(rt, alloc, hub, pass, seat, client, watch)
+}
+
 /// How many servers there are.
 fn server_count(accepted: &Accepted) -> u32 {
     u32::try_from(accepted.routes().servers().len()).unwrap_or(u32::MAX)
@@ -341,6 +364,24 @@ fn staff<
     employ_all(rt, alloc, shared, passes, links, &mut crew.workers)
 }
 
+/// Starts all workers, and then lets clients come. Those that were started are in the crew also where one wasn't.
+fn ready<
+    B: Ledger + Send + Sync + 'static,
+    T: Ledger + Send + Sync + 'static,
+    G: Gates,
+    R: Threads + Wait + Copy + Send + 'static,
+>(
+    rt: R,
+    alloc: Global,
+    shared: &Shared<B, T, G::Disk>,
+    passes: &Passes<B, T>,
+    gates: &mut G,
+    crew: &mut Crew,
+) -> Result<(), ProxyFault> {
+    staff(rt, alloc, shared, passes, gates, crew)?;
+    gates.opened(shared.pending)
+}
+
 /// Serves clients, each in a thread, until no more come.
 fn accept<
     B: Ledger + Send + Sync + 'static,
@@ -362,15 +403,14 @@ fn accept<
         let Some(seat) = passes.seat() else {
             return sessions;
         };
-        let Ok(hub) = Arc::try_clone(hub) else {
-            continue;
-        };
         let Ok(()) = sessions.reserve(1) else {
+            gates.note_unserved();
             continue;
         };
         let watch = gates.watch();
-        if let Some(session) = host(rt, alloc, hub, passes.pass(), seat, client, watch) {
-            sessions.push_reserved(session);
+        match admit(rt, alloc, hub, passes.pass(), seat, client, watch) {
+            Some(session) => sessions.push_reserved(session),
+            None => gates.note_unserved(),
         }
     }
     sessions
@@ -445,6 +485,7 @@ fn open<B: Ledger, T: Ledger, D: Disk>(
         accepted,
         hub: Arc::new(alloc, hub)?,
         spool: Arc::new(alloc, Mutex::new(spool))?,
+        pending: records.len(),
         work_ends: Arc::new(alloc, Ends::new())?,
         spool_ends: Arc::new(alloc, Ends::new())?,
     };
@@ -464,20 +505,20 @@ fn run<
     passes: &mut Passes<B, T>,
     gates: &mut G,
     seat: &mut Seat<B, T>,
-) -> Result<Vec<Receipt>, AllocError> {
+) -> Result<Vec<Receipt>, ProxyFault> {
     let mut crew = Crew {
         workers: Vec::new(alloc),
         spool: None,
     };
     let mut pass = passes.pass();
-    if let Err(fault) = staff(rt, alloc, shared, passes, gates, &mut crew) {
+    if let Err(fault) = ready(rt, alloc, shared, passes, gates, &mut crew) {
         dismiss(&rt, shared, &mut pass, crew);
         return Err(fault);
     }
     let sessions = accept(rt, alloc, &shared.hub, passes, gates);
     let receipts = gather(&rt, alloc, sessions, seat);
     dismiss(&rt, shared, &mut pass, crew);
-    receipts
+    Ok(receipts?)
 }
 
 /// As `start`, with the ledgers of calls begun and of replies taken.
