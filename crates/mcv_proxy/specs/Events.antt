@@ -1,5 +1,5 @@
 -- What events do to the lent state beyond the hub's own (own).
-use Rattle.std.specs.Prelude.{◌≡◌, Option, Some, None, Result, OnOk, OnErr}
+use Rattle.std.specs.Prelude.{◌≡◌, Result, OnOk, OnErr}
 use Rattle.mcv_base.specs.Reply.{fixed_value}
 use Rattle.mcv_base.specs.declared.reply.FixedReply.TheVariants.{Lost}
 use Rattle.mcv_base.specs.declared.request.LegId.{LegId}
