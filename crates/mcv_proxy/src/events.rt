@@ -1,5 +1,17 @@
 //! Events on the lent state, and whom they let go on.
 
+ghost use Rattle.std.specs.Prelude.{◌≡◌, ◌+◌, IfErr, IfNone, IfOk, IfSome, OnErr, OnOk, Some};
+ghost use Rattle.std.specs.Arc.{arc_value};
+ghost use Rattle.mcv_base.specs.Reply.{fixed_value, not_found};
+ghost use Rattle.mcv_base.specs.declared.reply.FixedReply.TheVariants.{Lost as lost_reply};
+ghost use Rattle.mcv_pools.specs.Hash.{fnv_index};
+ghost use Rattle.mcv_world.specs.World.{put};
+ghost use Rattle.mcv_core.specs.Asking.{IsRefusedFor};
+ghost use Rattle.mcv_core.specs.CoreView.{answer_at, refusing_at, spooling_at};
+ghost use Rattle.mcv_core.specs.View.{core_view, records_after, records_of};
+ghost use Rattle.mcv_hub.specs.State.{BeginsOne, IsLegEvent, IsSame, IsSameChapter};
+ghost use Rattle.mcv_proxy.specs.Events.{IsLoss};
+
 use mcv_base::{CallId, LegId, Request, ServerId};
 use mcv_core::{CoreFault, Dispatcher, Place, Step};
 use mcv_hub::{Bell, Guard, Hub, LegReply, Seat};
@@ -75,7 +87,16 @@ pub(crate) fn begin<B: Ledger, T: Ledger>(
     seat: &mut Seat<B, T>,
     request: Arc<Request>,
     key: usize,
-) -> Result<CallId, CoreFault> {
+) -> Result<CallId, CoreFault>
+    ensures begins { IfOk result (BeginsOne guard.old guard.new request key) }
+    ensures counted { OnOk result ((guard.new.begun ≡ guard.old.begun + 1) × (guard.new.taken ≡ guard.old.taken)) }
+    ensures shared { OnOk result ((seat.new.begun.amount ≡ seat.old.begun.amount + 1) × (seat.new.taken.amount ≡ seat.old.taken.amount)) }
+    ensures parts { (seat.new.begun.parts ≡ seat.old.begun.parts) × (seat.new.taken.parts ≡ seat.old.taken.parts) }
+    ensures chapter { IsSameChapter guard.old guard.new }
+    ensures refused { IfErr result (IsRefusedFor (core_view guard.old.core) fnv_index (arc_value request) key) }
+    ensures err { OnErr result (IsSame guard.old guard.new) }
+    ensures unshared { OnErr result ((seat.new.begun.amount ≡ seat.old.begun.amount) × (seat.new.taken.amount ≡ seat.old.taken.amount)) }
+{
     let first = guard.core().next_leg();
     let call = guard.begin(alloc, seat, request, key)?;
     ring_launched(hub, guard.core(), first);
@@ -88,7 +109,10 @@ pub(crate) fn answered<B: Ledger, T: Ledger>(
     guard: &mut Guard<'_, B, T>,
     leg: LegId,
     reply: LegReply,
-) -> Result<Step, CoreFault> {
+) -> Result<Step, CoreFault>
+    ensures event { IsLegEvent (answer_at (core_view guard.old.core) leg.0 reply) reply leg guard.old guard.new result }
+    ensures records { IfOk result (λ step. records_of guard.new.core ≡ records_after step.place leg.0 (records_of guard.old.core)) }
+{
     let concerned = concerned_by(guard.core(), leg);
     let step = guard.answered(leg, reply)?;
     ring_after(hub, guard.core(), concerned, step.place);
@@ -101,7 +125,9 @@ pub(crate) fn lost<B: Ledger, T: Ledger>(
     guard: &mut Guard<'_, B, T>,
     server: ServerId,
     leg: LegId,
-) -> Result<Step, CoreFault> {
+) -> Result<Step, CoreFault>
+    ensures { IsLoss server leg guard.old guard.new result }
+{
     let concerned = concerned_by(guard.core(), leg);
     let step = guard.lost(leg)?;
     guard.mark(server);
@@ -116,7 +142,10 @@ pub(crate) fn landed<B: Ledger, T: Ledger>(
     server: ServerId,
     leg: LegId,
     reply: Option<LegReply>,
-) -> Result<Step, CoreFault> {
+) -> Result<Step, CoreFault>
+    ensures answered { IfSome reply (λ r. IsLegEvent (answer_at (core_view guard.old.core) leg.0 r) r leg guard.old guard.new result) }
+    ensures lost { IfNone reply (IsLoss server leg guard.old guard.new result) }
+{
     match reply {
         Some(reply) => answered(hub, guard, leg, reply),
         None => lost(hub, guard, server, leg),
@@ -129,7 +158,10 @@ pub(crate) fn spooled<B: Ledger, T: Ledger>(
     guard: &mut Guard<'_, B, T>,
     leg: LegId,
     stored: Stored,
-) -> Result<Step, CoreFault> {
+) -> Result<Step, CoreFault>
+    ensures event { IsLegEvent (spooling_at (core_view guard.old.core) leg.0 stored.«record».server stored.«record».rest) not_found leg guard.old guard.new result }
+    ensures records { IfOk result (λ step. records_of guard.new.core ≡ put (records_of guard.old.core) leg.0 (Some stored.seq)) }
+{
     let concerned = concerned_by(guard.core(), leg);
     let step = guard.spooled(leg, stored)?;
     ring_after(hub, guard.core(), concerned, step.place);
@@ -141,7 +173,10 @@ pub(crate) fn spool_refused<B: Ledger, T: Ledger>(
     hub: &Hub<B, T>,
     guard: &mut Guard<'_, B, T>,
     leg: LegId,
-) -> Result<Step, CoreFault> {
+) -> Result<Step, CoreFault>
+    ensures event { IsLegEvent (refusing_at (core_view guard.old.core) leg.0) (fixed_value lost_reply) leg guard.old guard.new result }
+    ensures records { records_of guard.new.core ≡ records_of guard.old.core }
+{
     let concerned = concerned_by(guard.core(), leg);
     let step = guard.spool_refused(leg)?;
     ring_after(hub, guard.core(), concerned, step.place);
