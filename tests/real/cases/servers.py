@@ -174,7 +174,8 @@ def a_connection_that_breaks_is_opened_again(machine):
     fake = machine.fake(Fake(mood=lambda: next(moods, "perform")))
     mcv = machine.mcv(one_pool([fake.text]))
     with mcv.client() as client:
-        client.ask(b"get a\r\nget a\r\nget a\r\nget a\r\nget a\r\n", FAILED + b"END\r\n" + FAILED + b"END\r\nEND\r\n")
+        # A get over a connection that was kept is sent once more over a new one.
+        client.ask(b"get a\r\nget a\r\nget a\r\nget a\r\n", FAILED + b"END\r\nEND\r\nEND\r\n")
 
 
 @case()
