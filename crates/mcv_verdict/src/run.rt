@@ -113,8 +113,7 @@ pub fn judge_input<R: Read>(alloc: Global, reader: &mut R) -> Result<Judgement, 
         × IfSome (R.remaining reader.old) (λ input. AreNamedBy input r) × IsJudgement r judgement) }
     ensures fault { IfErr result (λ fault. IfSome (R.remaining reader.old) (λ input. IsRunFault input None fault)) }
 {
-    let routes = read_configuration(alloc, reader)?;
-    judge_routes(alloc, routes)
+    judge_routes(alloc, read_configuration(alloc, reader)?)
 }
 
 /// The verdict on routes, by the certificate that the text says.

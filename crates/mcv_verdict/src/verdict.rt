@@ -21,5 +21,7 @@ pub enum Judgement {
         certificate: Certificate,
     },
     /// The text of the first finding on them.
-    Lost { finding: Vec<u8> },
+    Lost {
+        finding: Vec<u8>,
+    },
 }
