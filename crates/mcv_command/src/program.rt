@@ -76,7 +76,9 @@ fn serve<R: Read, W: Write, P: Proxy>(
         Judgement::Covered { accepted, .. } => {
             // The routes are covered.
             let _ = accepted.routes();
-            let shared = Arc::new(alloc, accepted)?;
+            let Ok(shared) = Arc::new(alloc, accepted) else {
+                return Err(Stop::Memory);
+            };
             proxy.serve(alloc, shared, listen, spool, sessions, writer)?;
             Ok(Ending::Done)
         }
