@@ -5,10 +5,14 @@
 ghost use Rattle.std.specs.Prelude.{◌≡◌, ◌⊎◌, IfErr};
 ghost use Rattle.mcv_command.specs.declared.stop.Stop.TheVariants.{BadLine, Memory as out_of_memory};
 
-use mcv_command::{Ending, Stop, SystemFiles, exit_status, run_words};
+use mcv_check::Accepted;
+use mcv_command::{Ending, Proxy, ServeFault, Stop, SystemFiles, exit_status, run_words};
+use std::alloc::Global;
 use std::fs::Files;
+use std::io::Write;
 use std::process::ExitCode;
 use std::rt::Env;
+use std::sync::Arc;
 use std::{env, io};
 
 fn main(rt: HostRuntime) -> ExitCode {
@@ -17,6 +21,28 @@ fn main(rt: HostRuntime) -> ExitCode {
         let _ = eprintln!(rt; "{stop}");
     }
     ExitCode::from(exit_status(&ended))
+}
+
+/// The proxy on the system's sockets, which isn't there yet: its device fails. Nothing is known of what it serves.
+#[derive(Drop)]
+struct SystemProxy;
+
+impl Proxy for SystemProxy {
+    ghost use Rattle.std.specs.Prelude.{⊤};
+
+    ghost serves = { λ _ _ _ _ _ _ _. ⊤ };
+
+    fn serve<W: Write>(
+        &self,
+        _alloc: Global,
+        _accepted: Arc<Accepted>,
+        _listen: &str,
+        _spool: &str,
+        _sessions: u64,
+        _out: &mut W,
+    ) -> Result<(), ServeFault> {
+        Err(ServeFault::Device)
+    }
 }
 
 /// The words of the command line, of which the first is the program's name; a bad line where one isn't UTF-8.
@@ -38,6 +64,7 @@ fn run<R: Env + AllocGlobal + Input + Print + Files>(rt: &R) -> Result<Ending, S
         alloc,
         texts.as_slice(),
         &SystemFiles { system: rt },
+        &SystemProxy,
         &mut rt.reader(),
         &mut io::writer(rt),
     )
