@@ -9,15 +9,23 @@ use crate::events;
 use crate::gates::Watch;
 use mcv_base::{CallId, Part, Request};
 use mcv_core::CoreFault;
-use mcv_hub::{Bell, Hub, Pass, Receipt, Seat, TakenReply};
+use mcv_hub::{Bell, Guard, Hub, Pass, Receipt, Seat, TakenReply};
 use mcv_session::{Desk, DeskFault};
 use std::alloc::Global;
+use std::rt::Clock;
 use std::sync::ledger::Ledger;
 use std::sync::{Arc, Wait};
+use std::time::Duration;
+
+/// How often a call is begun anew that found no place in the chapter.
+const ATTEMPTS: u32 = 100;
+
+/// How long such a call waits each time at most, in milliseconds.
+const PATIENCE: u64 = 10;
 
 /// What calls of a hub take: the pass and the seat of one session, and its watch.
 #[derive(Drop)]
-struct Caller<'a, B: Ledger, T: Ledger, W: Watch, R: Wait> {
+struct Caller<'a, B: Ledger, T: Ledger, W: Watch, R: Wait + Clock> {
     rt: &'a R,
     alloc: Global,
     hub: &'a Hub<B, T>,
@@ -28,7 +36,7 @@ struct Caller<'a, B: Ledger, T: Ledger, W: Watch, R: Wait> {
 
 /// Answers the requests of one session by calls of a hub, one for each key.
 #[derive(Drop)]
-pub struct HubDesk<'a, B: Ledger, T: Ledger, W: Watch, R: Wait> {
+pub struct HubDesk<'a, B: Ledger, T: Ledger, W: Watch, R: Wait + Clock> {
     caller: Caller<'a, B, T, W, R>,
     receipts: Vec<Receipt>,
 }
@@ -59,6 +67,37 @@ fn key_count(request: &Request) -> usize
     }
 }
 
+/// Begins a call. Where the chapter has no place for it, a new chapter begins first. The first key of a request waits for
+/// that a second at most, while calls run or legs are queued; for another one the request's own calls run, so it is
+/// refused.
+fn begin_in_chapter<B: Ledger, T: Ledger, R: Wait + Clock>(
+    rt: &R,
+    alloc: Global,
+    hub: &Hub<B, T>,
+    guard: Guard<'_, B, T>,
+    seat: &mut Seat<B, T>,
+    request: &Arc<Request>,
+    key: usize,
+) -> Result<CallId, CoreFault> {
+    let mut guard = guard;
+    for _attempt in 0..ATTEMPTS {
+        let Ok(request) = Arc::try_clone(request) else {
+            return Err(CoreFault::Memory);
+        };
+        match events::begin(alloc, hub, &mut guard, seat, request, key) {
+            Err(CoreFault::ChapterFull) => {}
+            answer => return answer,
+        }
+        if guard.turn().is_err() {
+            if key > 0 {
+                return Err(CoreFault::ChapterFull);
+            }
+            guard = hub.wait_for(rt, guard, Bell::Chapter, Duration::from_millis(PATIENCE));
+        }
+    }
+    Err(CoreFault::ChapterFull)
+}
+
 /// Waits for the reply to a call, and takes it.
 fn take<B: Ledger, T: Ledger, R: Wait>(
     rt: &R,
@@ -70,6 +109,7 @@ fn take<B: Ledger, T: Ledger, R: Wait>(
     let mut guard = hub.lock(rt, pass);
     for _turn in rt.forever() {
         if let Some(taken) = guard.take_reply(seat, call)? {
+            events::turn_where_full(hub, &mut guard);
             return Ok(taken);
         }
         guard = hub.wait(rt, guard, Bell::Call(call));
@@ -92,24 +132,15 @@ fn keep(taken: TakenReply, parts: &mut Vec<Part>, receipts: &mut Vec<Receipt>)
     parts.push_reserved(taken.into_reply());
 }
 
-impl<'a, B: Ledger, T: Ledger, W: Watch, R: Wait> Caller<'a, B, T, W, R> {
+impl<'a, B: Ledger, T: Ledger, W: Watch, R: Wait + Clock> Caller<'a, B, T, W, R> {
     /// Begins a call for one key of a request, at this moment.
     fn begin(&mut self, request: &Arc<Request>, key: usize) -> Result<CallId, CoreFault> {
-        let Ok(request) = Arc::try_clone(request) else {
-            return Err(CoreFault::Memory);
-        };
         let moment = self.watch.moment();
         let mut guard = self.hub.lock(self.rt, &mut self.pass);
         // A moment before the hub's leaves its era as it is.
         let _ = guard.clock(moment);
-        events::begin(
-            self.alloc,
-            self.hub,
-            &mut guard,
-            &mut self.seat,
-            request,
-            key,
-        )
+        let (alloc, hub) = (self.alloc, self.hub);
+        begin_in_chapter(self.rt, alloc, hub, guard, &mut self.seat, request, key)
     }
 
     /// Begins the calls for the keys of a request, in their order, up to the first that is refused.
@@ -161,7 +192,7 @@ impl<'a, B: Ledger, T: Ledger, W: Watch, R: Wait> Caller<'a, B, T, W, R> {
     }
 }
 
-impl<'a, B: Ledger, T: Ledger, W: Watch, R: Wait> HubDesk<'a, B, T, W, R> {
+impl<'a, B: Ledger, T: Ledger, W: Watch, R: Wait + Clock> HubDesk<'a, B, T, W, R> {
     /// A desk that has answered nothing.
     pub fn new(
         rt: &'a R,
@@ -220,7 +251,7 @@ impl<'a, B: Ledger, T: Ledger, W: Watch, R: Wait> HubDesk<'a, B, T, W, R> {
     }
 }
 
-impl<'a, B: Ledger, T: Ledger, W: Watch, R: Wait> Desk for HubDesk<'a, B, T, W, R> {
+impl<'a, B: Ledger, T: Ledger, W: Watch, R: Wait + Clock> Desk for HubDesk<'a, B, T, W, R> {
     // Where it answers it has one receipt more for each key.
     ghost asks = { λ old request answer new. OnOk answer (vec_len new.receipts ≡ vec_len old.receipts + length (keys_of request)) };
 

@@ -46,6 +46,17 @@ fn concerned_by(core: &Dispatcher, leg: LegId) -> Concerned {
     }
 }
 
+/// How many entries a chapter has before a new one is begun as soon as nothing is left of it.
+const MANY_ENTRIES: usize = 500_000;
+
+/// Begins a new chapter where this one has many entries, and no call of it runs and no leg is queued.
+pub(crate) fn turn_where_full<B: Ledger, T: Ledger>(hub: &Hub<B, T>, guard: &mut Guard<'_, B, T>) {
+    if guard.core().entries() >= MANY_ENTRIES {
+        let _ = guard.turn();
+        hub.ring(Bell::Chapter);
+    }
+}
+
 /// Rings the workers of the servers of all legs from this number on.
 fn ring_launched<B: Ledger, T: Ledger>(hub: &Hub<B, T>, core: &Dispatcher, first: u64) {
     for leg in first..core.next_leg() {
@@ -71,6 +82,9 @@ fn ring_after<B: Ledger, T: Ledger>(
         if core.can_take(call) {
             hub.ring(Bell::Call(call));
         }
+    }
+    if core.entries() >= MANY_ENTRIES {
+        hub.ring(Bell::Chapter);
     }
     match place {
         Place::Held => hub.ring(Bell::Spool),

@@ -17,6 +17,7 @@ use mcv_spool::{Disk, Spool};
 use std::alloc::{AllocError, Global};
 use std::io::{Read, Write};
 use std::marker::Brand;
+use std::rt::Clock;
 use std::sync::ledger::{Blank, Ledger};
 use std::sync::{Arc, Mutex, Wait};
 use std::thread;
@@ -78,7 +79,7 @@ fn employ<
     B: Ledger + Send + Sync + 'static,
     T: Ledger + Send + Sync + 'static,
     L: Link + Send + 'static,
-    R: Threads + Wait + Copy + Send + 'static,
+    R: Threads + Wait + Clock + Copy + Send + 'static,
 >(
     rt: R,
     alloc: Global,
@@ -111,7 +112,7 @@ fn employ_spool<
     T: Ledger + Send + Sync + 'static,
     D: Disk + Send + 'static,
     W: Watch + Send + 'static,
-    R: Threads + Wait + Copy + Send + 'static,
+    R: Threads + Wait + Clock + Copy + Send + 'static,
 >(
     rt: R,
     texts: Vec<Option<ServerText>>,
@@ -147,7 +148,7 @@ fn employ_replayer<
     D: Disk + Send + 'static,
     L: Link + Send + 'static,
     W: Watch + Send + 'static,
-    R: Threads + Wait + Copy + Send + 'static,
+    R: Threads + Wait + Clock + Copy + Send + 'static,
 >(
     rt: R,
     alloc: Global,
@@ -163,7 +164,7 @@ fn employ_replayer<
 }
 
 /// Serves a client until its session ends.
-fn serve<B: Ledger, T: Ledger, I: Read + Drop, O: Write + Drop, W: Watch, R: Wait>(
+fn serve<B: Ledger, T: Ledger, I: Read + Drop, O: Write + Drop, W: Watch, R: Wait + Clock>(
     rt: &R,
     alloc: Global,
     hub: &Hub<B, T>,
@@ -186,7 +187,7 @@ fn host<
     I: Read + Drop + Send + 'static,
     O: Write + Drop + Send + 'static,
     W: Watch + Send + 'static,
-    R: Threads + Wait + Copy + Send + 'static,
+    R: Threads + Wait + Clock + Copy + Send + 'static,
 >(
     rt: R,
     alloc: Global,
@@ -207,7 +208,7 @@ fn admit<
     I: Read + Drop + Send + 'static,
     O: Write + Drop + Send + 'static,
     W: Watch + Send + 'static,
-    R: Threads + Wait + Copy + Send + 'static,
+    R: Threads + Wait + Clock + Copy + Send + 'static,
 >(
     rt: R,
     alloc: Global,
@@ -274,7 +275,7 @@ fn employ_all<
     T: Ledger + Send + Sync + 'static,
     D: Disk,
     L: Link + Send + 'static,
-    R: Threads + Wait + Copy + Send + 'static,
+    R: Threads + Wait + Clock + Copy + Send + 'static,
 >(
     rt: R,
     alloc: Global,
@@ -301,7 +302,7 @@ fn staff_spool<
     B: Ledger + Send + Sync + 'static,
     T: Ledger + Send + Sync + 'static,
     G: Gates,
-    R: Threads + Wait + Copy + Send + 'static,
+    R: Threads + Wait + Clock + Copy + Send + 'static,
 >(
     rt: R,
     alloc: Global,
@@ -325,7 +326,7 @@ fn staff_replayer<
     B: Ledger + Send + Sync + 'static,
     T: Ledger + Send + Sync + 'static,
     G: Gates,
-    R: Threads + Wait + Copy + Send + 'static,
+    R: Threads + Wait + Clock + Copy + Send + 'static,
 >(
     rt: R,
     alloc: Global,
@@ -347,7 +348,7 @@ fn staff<
     B: Ledger + Send + Sync + 'static,
     T: Ledger + Send + Sync + 'static,
     G: Gates,
-    R: Threads + Wait + Copy + Send + 'static,
+    R: Threads + Wait + Clock + Copy + Send + 'static,
 >(
     rt: R,
     alloc: Global,
@@ -369,7 +370,7 @@ fn ready<
     B: Ledger + Send + Sync + 'static,
     T: Ledger + Send + Sync + 'static,
     G: Gates,
-    R: Threads + Wait + Copy + Send + 'static,
+    R: Threads + Wait + Clock + Copy + Send + 'static,
 >(
     rt: R,
     alloc: Global,
@@ -387,7 +388,7 @@ fn accept<
     B: Ledger + Send + Sync + 'static,
     T: Ledger + Send + Sync + 'static,
     G: Gates,
-    R: Threads + Wait + Copy + Send + 'static,
+    R: Threads + Wait + Clock + Copy + Send + 'static,
 >(
     rt: R,
     alloc: Global,
@@ -497,7 +498,7 @@ fn run<
     B: Ledger + Send + Sync + 'static,
     T: Ledger + Send + Sync + 'static,
     G: Gates,
-    R: Threads + Wait + Copy + Send + 'static,
+    R: Threads + Wait + Clock + Copy + Send + 'static,
 >(
     rt: R,
     alloc: Global,
@@ -526,7 +527,7 @@ fn started<
     B: Ledger + Send + Sync + 'static,
     T: Ledger + Send + Sync + 'static,
     G: Gates,
-    R: Threads + Wait + Copy + Send + 'static,
+    R: Threads + Wait + Clock + Copy + Send + 'static,
 >(
     rt: R,
     alloc: Global,
@@ -556,7 +557,7 @@ fn started<
 /// Runs a proxy: one worker for each server, one for the spool and the replayer, and each session in its thread. Where
 /// there is no thread for a worker the others end, and the answer is `Memory`. Once no more clients come and all sessions
 /// have ended, the workers end when they have nothing in hand, and the answer is what was counted.
-pub fn start<G: Gates, R: Threads + Wait + Copy + Send + 'static>(
+pub fn start<G: Gates, R: Threads + Wait + Clock + Copy + Send + 'static>(
     rt: R,
     alloc: Global,
     accepted: Arc<Accepted>,
