@@ -35,8 +35,8 @@ use mcv_core::{CoreFault, Dispatcher, Era, Step};
 use mcv_spool::Stored;
 use std::alloc::Global;
 use std::marker::{Model, PhantomData};
-use std::sync::ledger::{Ledger, Share};
 use std::rt::Clock;
+use std::sync::ledger::{Ledger, Share};
 use std::sync::{Arc, Condvar, CondvarTimeouts, MutexGuard, Wait};
 use std::time::Duration;
 
@@ -135,7 +135,7 @@ impl<'a, B: Ledger, T: Ledger> Guard<'a, B, T> {
         ensures history { IfOk result (λ o. IfSome o (λ t. self.new.history ≡ self.old.history ++ taken_entry call ∷ [])) }
         ensures receipt { IfOk result (λ o. IfSome o (λ t. (t.receipt.chapter ≡ self.old.chapter) × (t.receipt.entry ≡ length self.old.history) × (t.receipt.call ≡ call))) }
         ensures reply { IfOk result (λ o. IfSome o (λ t. Replies self.old call.0 (part_value t.reply))) }
-        ensures call { IfOk result (λ o. IfSome o (λ t. IsCallOf self.old call.0 t.op t.route t.rest)) }
+        ensures call { IfOk result (λ o. IfSome o (λ t. IsCallOf self.old call.0 t.asked.op t.asked.route t.asked.rest)) }
         ensures shared { IfOk result (λ o. IfSome o (λ t. (seat.new.taken.amount ≡ seat.old.taken.amount + 1) × (seat.new.begun.amount ≡ seat.old.begun.amount))) }
         ensures counted { IfOk result (λ o. IfSome o (λ t. (self.new.taken ≡ self.old.taken + 1) × (self.new.begun ≡ self.old.begun))) }
         ensures parts { (seat.new.begun.parts ≡ seat.old.begun.parts) × (seat.new.taken.parts ≡ seat.old.taken.parts) }

@@ -20,9 +20,17 @@ pub struct Seat<B: Ledger, T: Ledger> {
 pub struct TakenReply {
     pub(crate) receipt: Receipt,
     pub(crate) reply: Part,
-    pub(crate) op: Op,
-    pub(crate) route: usize,
-    pub(crate) rest: Rest,
+    pub(crate) asked: Asked,
+}
+
+/// What a call asks.
+#[derive(Drop)]
+pub(crate) struct Asked {
+    pub op: Op,
+    /// The number of its route.
+    pub route: usize,
+    /// Its key without the routing prefix.
+    pub rest: Rest,
 }
 
 impl TakenReply {
@@ -42,23 +50,23 @@ impl TakenReply {
 
     /// The operation of the call.
     pub fn op(&self) -> Op
-        ensures { result ≡ self.now.op }
+        ensures { result ≡ self.now.asked.op }
     {
-        self.op
+        self.asked.op
     }
 
     /// The number of the call's route.
     pub fn route(&self) -> usize
-        ensures { result ≡ self.now.route }
+        ensures { result ≡ self.now.asked.route }
     {
-        self.route
+        self.asked.route
     }
 
     /// The call's key without its routing prefix.
     pub fn rest(&self) -> &Rest
-        ensures { result.now ≡ self.now.rest }
+        ensures { result.now ≡ self.now.asked.rest }
     {
-        &self.rest
+        &self.asked.rest
     }
 
     /// The reply, by value.

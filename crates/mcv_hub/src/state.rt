@@ -28,7 +28,7 @@ use crate::entry::Entry;
 use crate::history::{count_began, count_taken, era_entry, leg_entry, write};
 use crate::receipts::{Receipt, ReceiptFault, Report, count_older};
 use crate::reply::LegReply;
-use crate::seat::{Seat, TakenReply};
+use crate::seat::{Asked, Seat, TakenReply};
 use mcv_base::{CallId, FixedReply, LegId, Moment, Part, Request, ServerId};
 use mcv_check::Accepted;
 use mcv_core::{Core, CoreFault, Dispatcher, Era, Step};
@@ -210,6 +210,21 @@ impl<B: Ledger, T: Ledger> HubState<B, T> {
         Ok(call)
     }
 
+    /// What a running call asks. An error is NoSuchCall, where the call doesn't run.
+    fn asked_by(&self, call: CallId) -> Result<Asked, CoreFault>
+        ensures ok { IfOk result (λ a. IsCallOf self.now call.0 a.op a.route a.rest) }
+        ensures err { IfErr result (λ fault. (fault ≡ CoreFault.NoSuchCall) × ((core_view self.now.core).rows.calls call.0 ≡ None)) }
+    {
+        match self.core.state().call(call) {
+            Some(view) => Ok(Asked {
+                op: view.op,
+                route: view.route,
+                rest: view.rest.copied(),
+            }),
+            None => Err(CoreFault::NoSuchCall),
+        }
+    }
+
     /// Takes the reply to a running call, once, and counts it in the seat's share; None where the call has none, or it
     /// was taken. It takes no memory. An error is NoSuchCall, where the call doesn't run.
     pub fn take_reply(
@@ -221,7 +236,7 @@ impl<B: Ledger, T: Ledger> HubState<B, T> {
         ensures history { IfOk result (λ o. IfSome o (λ t. self.new.history ≡ self.old.history ++ taken_entry call ∷ [])) }
         ensures receipt { IfOk result (λ o. IfSome o (λ t. (t.receipt.chapter ≡ self.old.chapter) × (t.receipt.entry ≡ length self.old.history) × (t.receipt.call ≡ call))) }
         ensures reply { IfOk result (λ o. IfSome o (λ t. Replies self.old call.0 (part_value t.reply))) }
-        ensures call { IfOk result (λ o. IfSome o (λ t. IsCallOf self.old call.0 t.op t.route t.rest)) }
+        ensures call { IfOk result (λ o. IfSome o (λ t. IsCallOf self.old call.0 t.asked.op t.asked.route t.asked.rest)) }
         ensures shared { IfOk result (λ o. IfSome o (λ t. (seat.new.taken.amount ≡ seat.old.taken.amount + 1) × (seat.new.begun.amount ≡ seat.old.begun.amount))) }
         ensures counted { IfOk result (λ o. IfSome o (λ t. (self.new.taken ≡ self.old.taken + 1) × (self.new.begun ≡ self.old.begun))) }
         ensures parts { (seat.new.begun.parts ≡ seat.old.begun.parts) × (seat.new.taken.parts ≡ seat.old.taken.parts) }
@@ -231,10 +246,7 @@ impl<B: Ledger, T: Ledger> HubState<B, T> {
         ensures unshared { IfOk result (λ o. IfNone o ((seat.new.begun.amount ≡ seat.old.begun.amount) × (seat.new.taken.amount ≡ seat.old.taken.amount))) }
         ensures unshared_err { OnErr result ((seat.new.begun.amount ≡ seat.old.begun.amount) × (seat.new.taken.amount ≡ seat.old.taken.amount)) }
     {
-        let Some(asked) = self.core.state().call(call) else {
-            return Err(CoreFault::NoSuchCall);
-        };
-        let (op, route, rest) = (asked.op, asked.route, asked.rest.copied());
+        let asked = self.asked_by(call)?;
         let found = core_events::take(&mut self.core, call)?;
         let Some(reply) = found else {
             return Ok(None);
@@ -249,9 +261,7 @@ impl<B: Ledger, T: Ledger> HubState<B, T> {
         Ok(Some(TakenReply {
             receipt,
             reply,
-            op,
-            route,
-            rest,
+            asked,
         }))
     }
 
