@@ -4,3 +4,4 @@ mod BreaksLeft
 mod EventsMayWrite
 mod Histories
 mod CheckedReceipts
+mod AskedCalls
