@@ -5,11 +5,11 @@ ghost use Rattle.std.specs.Prelude.{◌≡◌, ◌+◌};
 use crate::setup::{A, ONE, SEATS, hub_of, request, stored};
 use mcv_base::{CallId, FixedReply, LegId, Op, Part, Reply};
 use mcv_core::{CoreFault, Place, Step};
-use mcv_hub::{Guard, LegReply, Receipt, ReceiptFault, Report, Seat, TakenReply};
+use mcv_hub::{Entry, Guard, LegReply, Receipt, ReceiptFault, Report, Seat, TakenReply};
 use std::alloc::Global;
 use std::marker::Brand;
-use std::sync::{Arc, Wait};
 use std::sync::ledger::{Blank, Ledger};
+use std::sync::{Arc, Wait};
 use std::test::Fail;
 
 /// Whether the event led its leg there.
@@ -68,7 +68,8 @@ fn hit(alloc: Global) -> Result<LegReply, Fail> {
 /// Whether a reply is a hit with the value `x`.
 fn is_hit(part: &Part) -> bool {
     match part {
-        Part::Owned(reply) => matches!(&**reply, Reply::Hit { body, .. } if body.as_slice() == b"x".as_slice()),
+        Part::Owned(reply) =>
+            matches!(&**reply, Reply::Hit { body, .. } if body.as_slice() == b"x".as_slice()),
         Part::Fixed(_) => false,
     }
 }
@@ -117,6 +118,22 @@ fn closes<B: Ledger, T: Ledger>(
     guard.close(alloc, &mut seat.begun, &mut seat.taken, receipts) == wanted
 }
 
+/// Whether the history has the entries of the two calls.
+fn is_of_two_calls(history: &[Entry]) -> bool {
+    matches!(
+        history,
+        [
+            Entry::Began { key: 0, .. },
+            Entry::Spooled(LegId(0)),
+            Entry::Taken(CallId(0)),
+            Entry::Performed(LegId(0)),
+            Entry::Began { key: 0, .. },
+            Entry::Answered { leg: LegId(1), .. },
+            Entry::Taken(CallId(1)),
+        ]
+    )
+}
+
 /// Two sessions, one after the other, and what the hub says of their receipts.
 fn two_seats<B: Ledger, T: Ledger, R: Wait>(
     rt: &R,
@@ -145,11 +162,14 @@ fn two_seats<B: Ledger, T: Ledger, R: Wait>(
     };
     let twice = Err(ReceiptFault::Twice);
     let stranger = Err(ReceiptFault::Stranger);
-    Ok(first == receipt(2, 0)
-        && second == receipt(6, 1)
-        && closes(alloc, &mut guard, &mut one, &[first, second], Ok(report))
-        && closes(alloc, &mut guard, &mut one, &[first, first], twice)
-        && closes(alloc, &mut guard, &mut one, &[receipt(0, 0)], stranger))
+    Ok(
+        first == receipt(2, 0)
+            && second == receipt(6, 1)
+            && is_of_two_calls(guard.history())
+            && closes(alloc, &mut guard, &mut one, &[first, second], Ok(report))
+            && closes(alloc, &mut guard, &mut one, &[first, first], twice)
+            && closes(alloc, &mut guard, &mut one, &[receipt(0, 0)], stranger),
+    )
 }
 
 #[test]

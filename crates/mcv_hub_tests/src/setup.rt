@@ -48,7 +48,15 @@ pub(crate) fn hub_of<B: Ledger, T: Ledger>(
     requires begun { (begun.name ≡ B.name) × (begun.parts ≡ B.parts) × (begun.parts ≡ SEATS + 1) }
     requires taken { (taken.name ≡ T.name) × (taken.parts ≡ T.parts) × (taken.parts ≡ SEATS + 1) }
 {
-    match Hub::new(alloc, accepted_of(alloc, text)?, &[], 4, SEATS, begun, taken) {
+    match Hub::new(
+        alloc,
+        accepted_of(alloc, text)?,
+        &[],
+        4,
+        SEATS,
+        begun,
+        taken,
+    ) {
         Ok(made) => Ok(made),
         Err(_) => Err(Fail::from("out of memory")),
     }
