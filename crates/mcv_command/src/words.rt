@@ -217,10 +217,10 @@ pub fn read_words<'a>(alloc: Global, words: &'a [&'a str]) -> Result<Job<'a>, Li
         return Ok(Job::Check { cert });
     }
     if let Some(found) = matches.subcommand_matches("run") {
-        return match run_job(found) {
-            Some(job) => Ok(job),
-            None => Err(LineFault::BadLine),
+        let Some(job) = run_job(found) else {
+            return Err(LineFault::BadLine);
         };
+        return Ok(job);
     }
     let Some(found) = matches.subcommand_matches("legs") else {
         return Err(LineFault::BadLine);
