@@ -1,25 +1,24 @@
 -- The values that words with which clap finds no fault give the options of `legs` and `run`: each row has one that the parser of its
 -- option takes, an option with a default has a row, and so has one that is wanted. clap's rules are followed from word to word; nothing
 -- of the code is in it.
-use Rattle.std.proofs.Common.{◌≡◌, ◌∙◌, ◌⊎◌, inl, inr, ℕ, zero, suc, Bool, cond, not, ◌&&◌, ◌||◌, true, false, List, [], ◌∷◌, ◌++◌, drop, length, Option, Some, None, ap, codes, fold, is_some, refl, subst, sym, true≢false}
+use Rattle.std.proofs.Common.{◌≡◌, ◌∙◌, inl, inr, ℕ, zero, suc, Bool, cond, not, ◌&&◌, ◌||◌, true, false, List, [], ◌∷◌, ◌++◌, drop, length, Option, Some, None, ap, codes, fold, is_some, refl, subst, sym, true≢false}
 use Rattle.std.specs.Option.{option_map_or}
 use Rattle.std.specs.Str.{bytes_eq, chars}
 use Rattle.std.specs.Prelude.{IfSome, ⊤, slice_get, encode_utf8, find}
 use Rattle.std.proofs.lemmas.Slice.Eq.{bytes_eq-Decides}
 use Rattle.clap.specs.Words.{Kinds, Row, Rule, Shape, Text, built, first_of, one_of}
-use Rattle.clap.specs.Facts.{explicit_source, parser_of_value}
-use Rattle.clap.specs.Kinds.{or_else, range_kinds, value_kinds}
+use Rattle.clap.specs.Facts.{parser_of_value}
+use Rattle.clap.specs.Kinds.{or_else, range_kinds}
 use Rattle.clap.specs.Lexer.{long_of, short_of}
 use Rattle.clap.specs.Takes.{is_given}
 use Rattle.clap.specs.ValueTests.{accepts}
 use Rattle.clap.specs.Simple.{built_leaf, entered, filled, help_rule, inherited, with_index}
 use Rattle.clap.specs.Walk.{Held, Outcome, Step, Waiting, Walk, done, waits, plain, refused, idle, option, positional, next, trailing, subcommand, value}
-use Rattle.clap.specs.Walk.{after_flag, after_step, arg_by_id, arg_by_index, arg_by_long, arg_by_short, at_row, attached_value, bundle, bundle_met, bundle_step, default_rows, finished, flag_met, has_row, is_pending, long_met, long_or_other, more_values, nothing_held, option_met, option_word, plain_word, positional_held, reacted, settled, settled_rows, short_met, short_or_plain, takes_several, takes_values, to_positional, used, used_by_id, walk, walk_from, walked, walked_from, with_default, with_values, without, word_met, rows_after}
+use Rattle.clap.specs.Walk.{after_flag, after_step, arg_by_id, arg_by_index, arg_by_long, arg_by_short, at_row, attached_value, bundle, bundle_met, bundle_step, finished, flag_met, has_row, is_pending, long_met, long_or_other, more_values, nothing_held, option_met, option_word, plain_word, positional_held, reacted, settled, settled_rows, short_met, short_or_plain, takes_several, takes_values, to_positional, used, used_by_id, walk, walk_from, walked, walked_from, with_default, with_values, without, word_met, rows_after}
 use Rattle.clap.specs.Faults.{bundle_fault, bundle_step_fault, check_fault, defaults_fault, entered_fault, flag_word_fault, flags_fault, level_fault, long_fault, option_fault, positional_fault, react_fault, repeat_fault, set_fault, settle_fault, short_fault, step_fault, turn_fault, use_fault, values_fault, walk_fault, word_fault}
-use Rattle.clap.specs.declared.error.kind.ErrorKind.TheVariants.{DisplayHelp, InvalidValue, MissingRequiredArgument, TooManyValues, UnknownArgument, ValueValidation}
+use Rattle.clap.specs.declared.error.kind.ErrorKind.TheVariants.{DisplayHelp, InvalidValue, MissingRequiredArgument, TooManyValues, ValueValidation}
 use Rattle.clap.specs.declared.builder.value_parser.ValueParser.{ValueParser}
 use Rattle.clap.specs.declared.builder.value_parser.ValueParser.TheVariants as parsers
-use Rattle.clap.specs.declared.builder.value_parser.Reading.{Reading}
 use Rattle.clap.specs.declared.builder.value_parser.Reading.TheVariants.{AsWritten}
 use Rattle.clap.specs.declared.parser.matches.ValueSource.{ValueSource}
 use Rattle.clap.specs.declared.parser.matches.ValueSource.TheVariants.{CommandLine, DefaultValue}

@@ -22,9 +22,13 @@ use thiserror::Error;
 #[derive(Clone, Copy, Debug, PartialEq, Eq)]
 pub enum Job<'a> {
     /// To show the legs of a request that comes at a moment.
-    Legs { at: Moment },
+    Legs {
+        at: Moment,
+    },
     /// To judge a configuration, by the certificate in the file of this name where one is given.
-    Check { cert: Option<&'a str> },
+    Check {
+        cert: Option<&'a str>,
+    },
     /// To serve clients at the address, with the spool in the file of this name, until so many sessions have ended.
     Run {
         listen: &'a str,

@@ -1,4 +1,4 @@
-use Rattle.std.proofs.Common.{List, ℕ, None, inr, refl, subst, sym}
+use Rattle.std.proofs.Common.{List, ℕ, inr, refl, subst, sym}
 use Rattle.std.proofs.lemmas.Option.{IfSome_then}
 use Rattle.mcv_verdict.specs.Verdict.{IsVerdict}
 use Rattle.mcv_verdict.specs.declared.verdict.Verdict.TheVariants as verdicts

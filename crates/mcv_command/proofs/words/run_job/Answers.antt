@@ -1,5 +1,5 @@
-use Rattle.std.proofs.Common.{◌≡◌, ◌∙◌, ap, arith, codes, sym, refl, None, Some, Option}
-use Rattle.clap.specs.Words.{Text, found_of, one_of, rows_of}
+use Rattle.std.proofs.Common.{◌≡◌, ◌∙◌, codes, sym, refl, None, Some}
+use Rattle.clap.specs.Words.{found_of, one_of, rows_of}
 use Rattle.std.specs.Str.Parse.{ParsesUnsigned, ExplainsUnsignedError, HasUnsignedDigitsIfOk}
 use Rattle.clap.proofs.WalkLemmas.{first_value-rows, one_text-rows}
 use Rattle.mcv_command.proofs.Matches.{no_number, number_read}
