@@ -1,25 +1,24 @@
 -- The values that words with which clap finds no fault give the options of `legs` and `run`: each row has one that the parser of its
 -- option takes, an option with a default has a row, and so has one that is wanted. clap's rules are followed from word to word; nothing
 -- of the code is in it.
-use Rattle.std.proofs.Common.{◌≡◌, ◌∙◌, ◌⊎◌, inl, inr, ℕ, zero, suc, Bool, cond, not, ◌&&◌, ◌||◌, true, false, List, [], ◌∷◌, ◌++◌, drop, length, Option, Some, None, ap, codes, fold, is_some, refl, subst, sym, true≢false}
+use Rattle.std.proofs.Common.{◌≡◌, ◌∙◌, inl, inr, ℕ, zero, suc, Bool, cond, not, ◌&&◌, ◌||◌, true, false, List, [], ◌∷◌, ◌++◌, drop, length, Option, Some, None, ap, codes, fold, is_some, refl, subst, sym, true≢false}
 use Rattle.std.specs.Option.{option_map_or}
 use Rattle.std.specs.Str.{bytes_eq, chars}
 use Rattle.std.specs.Prelude.{IfSome, ⊤, slice_get, encode_utf8, find}
 use Rattle.std.proofs.lemmas.Slice.Eq.{bytes_eq-Decides}
 use Rattle.clap.specs.Words.{Kinds, Row, Rule, Shape, Text, built, first_of, one_of}
-use Rattle.clap.specs.Facts.{explicit_source, parser_of_value}
-use Rattle.clap.specs.Kinds.{or_else, range_kinds, value_kinds}
+use Rattle.clap.specs.Facts.{parser_of_value}
+use Rattle.clap.specs.Kinds.{or_else, range_kinds}
 use Rattle.clap.specs.Lexer.{long_of, short_of}
 use Rattle.clap.specs.Takes.{is_given}
 use Rattle.clap.specs.ValueTests.{accepts}
 use Rattle.clap.specs.Simple.{built_leaf, entered, filled, help_rule, inherited, with_index}
 use Rattle.clap.specs.Walk.{Held, Outcome, Step, Waiting, Walk, done, waits, plain, refused, idle, option, positional, next, trailing, subcommand, value}
-use Rattle.clap.specs.Walk.{after_flag, after_step, arg_by_id, arg_by_index, arg_by_long, arg_by_short, at_row, attached_value, bundle, bundle_met, bundle_step, default_rows, finished, flag_met, has_row, is_pending, long_met, long_or_other, more_values, nothing_held, option_met, option_word, plain_word, positional_held, reacted, settled, settled_rows, short_met, short_or_plain, takes_several, takes_values, to_positional, used, used_by_id, walk, walk_from, walked, walked_from, with_default, with_values, without, word_met, rows_after}
+use Rattle.clap.specs.Walk.{after_flag, after_step, arg_by_id, arg_by_index, arg_by_long, arg_by_short, at_row, attached_value, bundle, bundle_met, bundle_step, finished, flag_met, has_row, is_pending, long_met, long_or_other, more_values, nothing_held, option_met, option_word, plain_word, positional_held, reacted, settled, settled_rows, short_met, short_or_plain, takes_several, takes_values, to_positional, used, used_by_id, walk, walk_from, walked, walked_from, with_default, with_values, without, word_met, rows_after}
 use Rattle.clap.specs.Faults.{bundle_fault, bundle_step_fault, check_fault, defaults_fault, entered_fault, flag_word_fault, flags_fault, level_fault, long_fault, option_fault, positional_fault, react_fault, repeat_fault, set_fault, settle_fault, short_fault, step_fault, turn_fault, use_fault, values_fault, walk_fault, word_fault}
-use Rattle.clap.specs.declared.error.kind.ErrorKind.TheVariants.{DisplayHelp, InvalidValue, MissingRequiredArgument, TooManyValues, UnknownArgument, ValueValidation}
+use Rattle.clap.specs.declared.error.kind.ErrorKind.TheVariants.{DisplayHelp, InvalidValue, MissingRequiredArgument, TooManyValues, ValueValidation}
 use Rattle.clap.specs.declared.builder.value_parser.ValueParser.{ValueParser}
 use Rattle.clap.specs.declared.builder.value_parser.ValueParser.TheVariants as parsers
-use Rattle.clap.specs.declared.builder.value_parser.Reading.{Reading}
 use Rattle.clap.specs.declared.builder.value_parser.Reading.TheVariants.{AsWritten}
 use Rattle.clap.specs.declared.parser.matches.ValueSource.{ValueSource}
 use Rattle.clap.specs.declared.parser.matches.ValueSource.TheVariants.{CommandLine, DefaultValue}
@@ -47,11 +46,11 @@ good_append c (x ∷ xs) ys gx gy = (gx.0, good_append c xs ys gx.1 gy)
 at_row_good : (c : List Rule) (id : Text) (change : Row → List Row) (missing rows : List Row) → ((r : Row) → IsGoodRow c r → AreGood c (change r)) → AreGood c missing → AreGood c rows
     → AreGood c (at_row id change missing rows)
 at_row_good c id change missing [] changed new good = new
-at_row_good c id change missing (r ∷ rs) changed new good = go (bytes_eq r.id id)
+at_row_good c id change missing (r ∷ rs) changed new good = go (bytes_eq r.id id) (at_row_good c id change missing rs changed new good.1)
   where
-    go : (b : Bool) → AreGood c (cond b (change r ++ rs) (r ∷ at_row id change missing rs))
-    go true = good_append c (change r) rs (changed r good.0) good.1
-    go false = (good.0, at_row_good c id change missing rs changed new good.1)
+    go : (b : Bool) → AreGood c (at_row id change missing rs) → AreGood c (cond b (change r ++ rs) (r ∷ at_row id change missing rs))
+    go true later = good_append c (change r) rs (changed r good.0) good.1
+    go false later = (good.0, later)
 
 without_good : (c : List Rule) (id : Text) (rows : List Row) → AreGood c rows → AreGood c (without id rows)
 without_good c id rows good = at_row_good c id (λ r. []) [] rows (λ r g. tt) tt good
@@ -69,18 +68,18 @@ HasValue c id rows = (v : Text) × (first_of id rows ≡ Some v) × (one_of id r
 
 found_value : (c : List Rule) (id : Text) (rows : List Row) → has_row id rows ≡ true → AreGood c rows → HasValue c id rows
 found_value c id [] has good = absurd (true≢false (sym has))
-found_value c id (r ∷ rs) has good = go (bytes_eq r.id id) refl
+found_value c id (r ∷ rs) has good = go (bytes_eq r.id id) refl (λ more. found_value c id rs more good.1)
   where
-    go : (b : Bool) → bytes_eq r.id id ≡ b → HasValue c id (r ∷ rs)
-    go true is =
+    go : (b : Bool) → bytes_eq r.id id ≡ b → (has_row id rs ≡ true → HasValue c id rs) → HasValue c id (r ∷ rs)
+    go true is rest =
         let row = good.0 in (
           row.0,
           rw (is, row.2) refl,
           rw (is, row.2, row.3) refl,
           subst (λ (name : Text). Suits c name row.0) ((bytes_eq-Decides r.id id).0 is) row.4,
         )
-    go false is =
-        let later = found_value c id rs (rw is at has) good.1 in
+    go false is rest =
+        let later = rest (rw is at has) in
         (later.0, rw is later.1, rw is later.2, later.3)
 
 -- ---- a use of an argument
@@ -91,15 +90,15 @@ IsTame s a = (values : List Text) (rows : List Row) → use_fault s.args_overrid
 
 abbrev AreTame : Shape → List Rule → Type 0
 AreTame s [] = ⊤
-AreTame s (a ∷ as) = IsTame s a × AreTame s as
+AreTame s (a ∷ rest) = IsTame s a × AreTame s rest
 
-found_tame : (s : Shape) (test : Rule → Bool) (as : List Rule) → AreTame s as → IfSome (find test as) (IsTame s)
+found_tame : (s : Shape) (test : Rule → Bool) (rules : List Rule) → AreTame s rules → IfSome (find test rules) (IsTame s)
 found_tame s test [] tame = tt
-found_tame s test (a ∷ as) tame = go (test a)
+found_tame s test (a ∷ rest) tame = go (test a) (found_tame s test rest tame.1)
   where
-    go : (b : Bool) → IfSome (cond b (Some a) (find test as)) (IsTame s)
-    go true = tame.0
-    go false = found_tame s test as tame.1
+    go : (b : Bool) → IfSome (find test rest) (IsTame s) → IfSome (cond b (Some a) (find test rest)) (IsTame s)
+    go true later = tame.0
+    go false later = later
 
 -- ---- the walk over the words of a command whose arguments keep the rows good
 
@@ -321,11 +320,11 @@ unchanged false rows = refl
 
 given_has : (id : Text) (rows : List Row) → is_given id rows ≡ true → has_row id rows ≡ true
 given_has id [] given = absurd (true≢false (sym given))
-given_has id (r ∷ rs) given = go (bytes_eq r.id id) refl
+given_has id (r ∷ rs) given = go (bytes_eq r.id id) refl (λ more. given_has id rs more)
   where
-    go : (b : Bool) → bytes_eq r.id id ≡ b → has_row id (r ∷ rs) ≡ true
-    go true is = rw is refl
-    go false is = rw is (given_has id rs (rw is at given))
+    go : (b : Bool) → bytes_eq r.id id ≡ b → (is_given id rs ≡ true → has_row id rs ≡ true) → has_row id (r ∷ rs) ≡ true
+    go true is rest = rw is refl
+    go false is rest = rw is (rest (rw is at given))
 
 -- ---- `legs`
 
@@ -353,7 +352,7 @@ HasAt rows = (text : Text) × (one_of (codes "at") rows ≡ Some text) × Passes
 
 legs_given : (words : List Text) → level_fault legs [] nothing_held words false [] ≡ [] → HasAt (rows_after legs.rules [] words)
 legs_given words none =
-    let tame : AreTame legs legs.rules = (at_tame, legs_help, tt) in
+    let tame : AreTame legs legs.rules = (at_tame, (legs_help, tt)) in
     let start : List Row = (settled legs.rules (walk legs.rules [] nothing_held words).held).rows in
     let after : List Row = with_default start (with_index 1 (filled at_rule)) in
     let last = defaulted legs.rules (codes "at") (codes "0") start refl refl (leaf_good legs tame words none).0 in
@@ -397,7 +396,7 @@ both_given false b e = absurd (some_kind MissingRequiredArgument [] e)
 
 run_given : (words : List Text) → level_fault run [] nothing_held words false [] ≡ [] → HasAll (rows_after run.rules [] words)
 run_given words none =
-    let tame : AreTame run run.rules = (listen_tame, spool_tame, sessions_tame, run_help, tt) in
+    let tame : AreTame run run.rules = (listen_tame, (spool_tame, (sessions_tame, (run_help, tt)))) in
     let start : List Row = (settled run.rules (walk run.rules [] nothing_held words).held).rows in
     let listened : List Row = with_default start (with_index 1 (filled listen_rule)) in
     let spooled : List Row = with_default listened (with_index 1 (filled spool_rule)) in
@@ -421,7 +420,7 @@ rows_there : (name : Text) (rows more : List Row) → entered_with name rows ≡
 rows_there name rows more is = ap (λ (o : Option (Text × List Row)). option_map_or (λ p. p.1) o []) is
 
 name_apart : (a b : Text) (rows more : List Row) → bytes_eq a a ≡ true → bytes_eq b a ≡ false → entered_with a rows ≡ entered_with b more → ⊥
-name_apart a b rows more yes no is = true≢false (sym yes ∙ ap (λ (o : Option (Text × List Row)). option_map_or (λ p. bytes_eq p.0 a) o false) is ∙ no)
+name_apart a b rows more itself other is = true≢false (sym itself ∙ ap (λ (o : Option (Text × List Row)). option_map_or (λ p. bytes_eq p.0 a) o false) is ∙ other)
 
 -- where the walk stopped at a command, with the words behind it
 at_name : (name called : Text) (p : Text × List Text) (rows : List Row) → p.0 ≡ called → entered (built mcv_app) (Some p) ≡ Some (name, rows)
@@ -434,8 +433,8 @@ no_fault_at called p is none = subst (λ (n : Text). entered_fault (built mcv_ap
 at_legs : (stop : Option (Text × List Text)) (rows : List Row) → StopsAtCommand stop → entered (built mcv_app) stop ≡ Some (codes "legs", rows)
     → entered_fault (built mcv_app) stop ≡ [] → HasAt rows
 at_legs None rows stops at none = absurd (cc)
-at_legs (Some p) rows (inl check) at none = absurd (name_apart (codes "check") (codes "legs") _ rows refl refl (at_name (codes "legs") (codes "check") p rows check at))
-at_legs (Some p) rows (inr (inr run)) at none = absurd (name_apart (codes "run") (codes "legs") _ rows refl refl (at_name (codes "legs") (codes "run") p rows run at))
+at_legs (Some p) rows (inl other) at none = absurd (name_apart (codes "check") (codes "legs") _ rows refl refl (at_name (codes "legs") (codes "check") p rows other at))
+at_legs (Some p) rows (inr (inr other)) at none = absurd (name_apart (codes "run") (codes "legs") _ rows refl refl (at_name (codes "legs") (codes "run") p rows other at))
 at_legs (Some p) rows (inr (inl is)) at none =
     let same : rows_after legs.rules [] p.1 ≡ rows = rows_there (codes "legs") (rows_after legs.rules [] p.1) rows (at_name (codes "legs") (codes "legs") p rows is at) in
     subst HasAt same (legs_given p.1 (no_fault_at (codes "legs") p is none))
@@ -443,8 +442,8 @@ at_legs (Some p) rows (inr (inl is)) at none =
 at_run : (stop : Option (Text × List Text)) (rows : List Row) → StopsAtCommand stop → entered (built mcv_app) stop ≡ Some (codes "run", rows)
     → entered_fault (built mcv_app) stop ≡ [] → HasAll rows
 at_run None rows stops at none = absurd (cc)
-at_run (Some p) rows (inl check) at none = absurd (name_apart (codes "check") (codes "run") _ rows refl refl (at_name (codes "run") (codes "check") p rows check at))
-at_run (Some p) rows (inr (inl legs)) at none = absurd (name_apart (codes "legs") (codes "run") _ rows refl refl (at_name (codes "run") (codes "legs") p rows legs at))
+at_run (Some p) rows (inl other) at none = absurd (name_apart (codes "check") (codes "run") _ rows refl refl (at_name (codes "run") (codes "check") p rows other at))
+at_run (Some p) rows (inr (inl other)) at none = absurd (name_apart (codes "legs") (codes "run") _ rows refl refl (at_name (codes "run") (codes "legs") p rows other at))
 at_run (Some p) rows (inr (inr is)) at none =
     let same : rows_after run.rules [] p.1 ≡ rows = rows_there (codes "run") (rows_after run.rules [] p.1) rows (at_name (codes "run") (codes "run") p rows is at) in
     subst HasAll same (run_given p.1 (no_fault_at (codes "run") p is none))

@@ -1,5 +1,5 @@
 -- What clap's matches and errors say of the words.
-use Rattle.std.proofs.Common.{◌≡◌, ◌∙◌, ◌⊎◌, ◌<◌, ◌≤◌, ◌^◌, inl, inr, ℕ, List, Option, Some, None, false, codes, refl, ap, ap₂, subst, sym}
+use Rattle.std.proofs.Common.{◌≡◌, ◌∙◌, ◌⊎◌, ◌<◌, ◌≤◌, ◌^◌, inl, inr, ℕ, List, [], Option, Some, None, false, codes, refl, ap, ap₂, subst, sym}
 use Rattle.std.specs.Prelude.{Box, Result, Ok, Err, option_map}
 use Rattle.std.specs.Str.Parse.{IsNumeral, ParsesUnsigned, digits_value, without_leading_plus}
 use Rattle.std.specs.Box.{box_value}
@@ -11,7 +11,9 @@ use Rattle.clap.specs.declared.parser.matches.ArgMatches.{ArgMatches}
 use Rattle.clap.specs.declared.parser.matches.ArgMatches.TheViews.{out-ArgMatches, out-SubCommand}
 use Rattle.clap.specs.declared.parser.matches.SubCommand.{SubCommand}
 use Rattle.clap.specs.Simple.{subcommand_rows}
-use Rattle.mcv_command.specs.Words.{faults, session_limit, IsFaultOfKind, IsLineFault, IsNumberOf}
+use Rattle.mcv_command.specs.Words.{faults, named, session_limit, IsFaultOfKind, IsJobOf, IsLineFault, IsNumberOf, IsRunOf}
+use Rattle.mcv_command.specs.declared.words.Job.{Job}
+use Rattle.mcv_command.specs.declared.words.Job.TheVariants.{Legs, Check, Run}
 use Rattle.mcv_command.proofs.Given.{Passes, sessions_parser}
 use Rattle.mcv_command.specs.declared.words.LineFault.{LineFault}
 use Rattle.mcv_command.specs.declared.words.LineFault.TheVariants.{BadLine, Memory, Help}
@@ -78,3 +80,19 @@ in_range rows text n is passes number =
     let takes = accepts-Accepts false sessions_parser text passes in
     let value : n ≡ digits_value 10 (without_leading_plus text) = number.3 ∙ ap (λ (t : Text). digits_value 10 (without_leading_plus t)) same in
     (rw value takes.2, rw value takes.3)
+
+-- the number that a value of `--sessions` spells, which has 64 bits
+pub run_spelt : (rows : List Row) (text : Text) → one_of (codes "sessions") rows ≡ Some text → Passes sessions_parser text
+    → (n : ℕ) × IsNumberOf (codes "sessions") rows n × (n < 2 ^ 64)
+run_spelt rows text is passes =
+    let takes = accepts-Accepts false sessions_parser text passes in
+    (digits_value 10 (without_leading_plus text), (text, is, takes.0, refl), takes.1)
+
+-- the job of `run` that has the values of the words is what they ask for
+pub run_asked : (words : List Text) (rows : List Row) (text : Text) (job : Job) → faults words ≡ [] → named words ≡ Some (codes "run", rows) → one_of (codes "sessions") rows ≡ Some text
+    → Passes sessions_parser text → IsRunOf rows job → IsJobOf words job
+run_asked words rows text (Legs at) none run is passes of = absurd of
+run_asked words rows text (Check cert) none run is passes of = absurd of
+run_asked words rows text (Run listen spool sessions) none run is passes of =
+    let range = in_range rows text sessions is passes of.2 in
+    (none, rows, run, of, range.0, range.1)

@@ -1,6 +1,7 @@
 //! The texts of the help that the command line shows.
 
-pub(crate) const ABOUT: &str = "Verifies configurations of mcrouter, the routing proxy for memcached.
+pub(crate) const ABOUT: &str =
+    "Verifies configurations of mcrouter, the routing proxy for memcached.
 `mcv check` decides whether a delete can be acknowledged that was never sent to
 a server which can be read. `mcv legs` shows to which servers a configuration
 sends a request. `mcv run` serves clients by a configuration for which that
@@ -29,7 +30,8 @@ pub(crate) const LEGS_ABOUT: &str = "Shows to which servers a request is sent at
 pub(crate) const AT: &str = "The moment of the request in seconds, as start_time
 has it, from 0 to 18446744073709551615";
 
-pub(crate) const LEGS_FORM: &str = "Standard input has the request in its first line, and behind it the
+pub(crate) const LEGS_FORM: &str =
+    "Standard input has the request in its first line, and behind it the
 configuration as JSON:
 
   delete a
@@ -175,9 +177,9 @@ output has one line when they can connect, and one at the end:
   mcv closed calls 12
 
 The first has the address that was bound, and how many deletes are in the spool
-file that weren't done. A session is a client's connection, from when it is taken
-to when it is closed. `calls` is how many calls the sessions began: one for each
-key of a request.
+file that weren't done. A session is a client's connection, from when it is
+taken to when it is closed. `calls` is how many calls the sessions began: one
+for each key of a request.
 
 Exit status:
   0  ended, or help was asked for

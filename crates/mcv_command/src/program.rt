@@ -112,11 +112,13 @@ pub fn run_words<'a, R: Read, W: Write, F: NamedFiles, P: Proxy>(
         }
         Ok(Job::Check { cert: None }) => judge(alloc, reader, writer),
         Ok(Job::Check { cert: Some(name) }) => judge_by(alloc, name, files, reader, writer),
-        Ok(Job::Run {
-            listen,
-            spool,
-            sessions,
-        }) => serve(alloc, proxy, listen, spool, sessions, reader, writer),
+        Ok(
+            Job::Run {
+                listen,
+                spool,
+                sessions,
+            },
+        ) => serve(alloc, proxy, listen, spool, sessions, reader, writer),
         Err(LineFault::Help(text)) => {
             write_text(writer, text.as_bytes())?;
             Ok(Ending::Done)

@@ -22,9 +22,13 @@ use thiserror::Error;
 #[derive(Clone, Copy, Debug, PartialEq, Eq)]
 pub enum Job<'a> {
     /// To show the legs of a request that comes at a moment.
-    Legs { at: Moment },
+    Legs {
+        at: Moment,
+    },
     /// To judge a configuration, by the certificate in the file of this name where one is given.
-    Check { cert: Option<&'a str> },
+    Check {
+        cert: Option<&'a str>,
+    },
     /// To serve clients at the address, with the spool in the file of this name, until so many sessions have ended.
     Run {
         listen: &'a str,
@@ -217,10 +221,10 @@ pub fn read_words<'a>(alloc: Global, words: &'a [&'a str]) -> Result<Job<'a>, Li
         return Ok(Job::Check { cert });
     }
     if let Some(found) = matches.subcommand_matches("run") {
-        return match run_job(found) {
-            Some(job) => Ok(job),
-            None => Err(LineFault::BadLine),
+        let Some(job) = run_job(found) else {
+            return Err(LineFault::BadLine);
         };
+        return Ok(job);
     }
     let Some(found) = matches.subcommand_matches("legs") else {
         return Err(LineFault::BadLine);
