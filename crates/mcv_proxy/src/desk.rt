@@ -134,6 +134,13 @@ fn place_of(routes: &Routes, word: &[u8]) -> Result<Place, CoreFault>
     }
 }
 
+/// Whether the call of a reply asked this operation at this place.
+fn has_asked(taken: &TakenReply, op: Op, place: &Place) -> bool
+    ensures { (result ≡ true) ↔ ((taken.now.asked.op ≡ op) × (taken.now.asked.route ≡ place.now.route) × (taken.now.asked.rest ≡ place.now.rest)) }
+{
+    taken.op() == op && taken.route() == place.route && *taken.rest() == place.rest
+}
+
 /// Whether a reply is for this key: its call asked the operation of the request, of the key's route and rest.
 fn is_for(routes: &Routes, request: &Request, key: usize, taken: &TakenReply) -> bool
     ensures { (result ≡ true) ↔ IsFor routes.now (request_value request.now) key taken.now }
@@ -142,10 +149,10 @@ fn is_for(routes: &Routes, request: &Request, key: usize, taken: &TakenReply) ->
     let Some((op, word)) = key_of(request, key) else {
         return false;
     };
-    let Ok(place) = place_of(routes, word) else {
-        return false;
-    };
-    taken.op() == op && taken.route() == place.route && *taken.rest() == place.rest
+    match place_of(routes, word) {
+        Ok(place) => has_asked(taken, op, &place),
+        Err(_) => false,
+    }
 }
 
 /// Whether replies are for the first keys of a request, in their order.
