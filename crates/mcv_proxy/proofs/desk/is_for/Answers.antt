@@ -1,4 +1,5 @@
-use Rattle.std.proofs.Common.{◌≡◌, Some, sym, false≢true}
+use Rattle.std.proofs.Common.{◌≡◌, Some}
+use Rattle.std.proofs.lemmas.Bool.{false≢true}
 use Rattle.mcv_text.specs.Request.{request_value}
 use Rattle.mcv_proxy.specs.Desk.{word_at}
 use Rattle.mcv_proxy.proofs.Places.{is_placed, misplaced, placed}

@@ -1,7 +1,8 @@
 use Rattle.std.proofs.Common.{◌≡◌, ◌∙◌, ◌++◌, [], length, map, refl, sym, ap, subst, rules}
 use Rattle.std.specs.Arc.{arc_value}
-use Rattle.std.proofs.lemmas.List.{append-nil, map-map}
+use Rattle.std.proofs.lemmas.List.{append-nil}
 use Rattle.std.proofs.lemmas.List.Elements.{All-nil}
+use Rattle.std.proofs.lemmas.Simd.{map-map}
 use Rattle.mcv_base.specs.Reply.{part_value}
 use Rattle.mcv_core.specs.declared.fault.CoreFault.TheVariants.{Memory}
 use Rattle.mcv_session.specs.Desk.{keys_of}
