@@ -1,6 +1,6 @@
 -- What a desk over a hub answers, by the replies that it took of the hub (own).
-use Rattle.std.specs.Prelude.{◌≡◌, ◌≢◌, ◌++◌, ℕ, List, [], Option, None, Some, Result, IfOk, IfErr, true, ⊤, length, map, option_map, slice_get}
-use Rattle.std.specs.List.{All}
+use Rattle.std.specs.Prelude.{◌≡◌, ◌≢◌, ◌++◌, ◌∷◌, ℕ, List, [], Option, None, Some, Result, IfOk, IfErr, true, ⊤, fold, length, map, nat_le, option_map, slice_get}
+use Rattle.std.specs.List.{All, filter}
 use Rattle.mcv_base.specs.Key.{IsCut, IsKeyFault, is_key_word}
 use Rattle.mcv_base.specs.Reply.{ReplyValue, part_value}
 use Rattle.mcv_base.specs.declared.key.KeyFault.{KeyFault}
@@ -96,7 +96,7 @@ pub record IsRefusedAt (r : RoutesValue) (request : RequestValue) (key : ℕ) (f
   pub there : word_at request key ≡ Some (op, word)
   pub no_place : HasNoPlace r word fault
 
--- a call is begun or refused for one of these reasons
+-- the hub refuses to begin a call for these reasons alone
 abbrev pub IsRefusal : CoreFault → Type 0
 IsRefusal UnknownPrefix = ⊤
 IsRefusal BadKey = ⊤
@@ -145,10 +145,14 @@ pub record IsFaultOf (r : RoutesValue) (request : RequestValue) (taken : List Ta
   pub is : fault ≡ desk_fault cause
   pub why : IsUnanswered r request taken cause
 
+-- the receipts that are kept once a reply was taken: those of earlier chapters go, and its own is the last
+abbrev pub with_receipt : List Receipt → TakenReply → List Receipt
+with_receipt receipts t = filter (λ r. nat_le t.receipt.chapter r.chapter) receipts ++ t.receipt ∷ []
+
 -- what the desk does at a request: it takes replies of the hub and keeps their receipts, and answers by these replies, or why not
 pub record Asks (r : RoutesValue) (before : List Receipt) (request : RequestValue) (answer : Result (List ReplyValue) DeskFault) (after : List Receipt) : Type 0 where
   pub taken : List TakenReply
   pub each : All WasTaken taken
-  pub kept : after ≡ before ++ map (λ t. t.receipt) taken
+  pub kept : after ≡ fold with_receipt before taken
   pub answered : IfOk answer (IsAnsweredBy r request taken)
   pub refused : IfErr answer (IsFaultOf r request taken)

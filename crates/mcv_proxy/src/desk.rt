@@ -1,11 +1,11 @@
 //! The desk over a hub: a request's keys are calls of the hub.
 
-ghost use Rattle.std.specs.Prelude.{◌≡◌, ◌↔◌, ◌+◌, ◌<◌, ◌≤◌, ◌++◌, ◌∷◌, [], length, map, option_map, vec_len, vec_capacity, true, IfErr, IfOk, OnOk};
+ghost use Rattle.std.specs.Prelude.{◌≡◌, ◌↔◌, ◌+◌, ◌<◌, ◌≤◌, [], fold, length, map, nat_le, option_map, vec_len, vec_capacity, true, IfErr, IfOk, OnOk};
 ghost use Rattle.std.specs.Arc.{arc_value};
-ghost use Rattle.std.specs.List.{All};
+ghost use Rattle.std.specs.List.{All, filter};
 ghost use Rattle.mcv_text.specs.Request.{request_value};
 ghost use Rattle.mcv_session.specs.Desk.{keys_of};
-ghost use Rattle.mcv_proxy.specs.Desk.{AreFor, Asks, HasNoPlace, IsFor, IsPlace, IsRefusal, IsUnanswered, IsUnbegun, WasTaken, desk_fault, word_at};
+ghost use Rattle.mcv_proxy.specs.Desk.{AreFor, Asks, HasNoPlace, IsFor, IsPlace, IsRefusal, IsUnanswered, IsUnbegun, WasTaken, desk_fault, with_receipt, word_at};
 
 use crate::events;
 use crate::gates::Watch;
@@ -43,7 +43,16 @@ struct Caller<'a, B: Ledger, T: Ledger, W: Watch, R: Wait + Clock> {
 pub struct HubDesk<'a, B: Ledger, T: Ledger, W: Watch, R: Wait + Clock> {
     accepted: Arc<Accepted>,
     caller: Caller<'a, B, T, W, R>,
+    kept: Kept,
+}
+
+/// The receipts of replies that were taken, without those of earlier chapters than that of the last one.
+#[derive(Drop)]
+struct Kept {
     receipts: Vec<Receipt>,
+    /// No receipt is of an earlier chapter.
+    chapter: u64,
+    ghost current: { All (λ r. chapter ≤ r.chapter) receipts.items },
 }
 
 /// Where a key word leads.
@@ -244,13 +253,69 @@ fn take<B: Ledger, T: Ledger, R: Wait>(
     unreachable!()
 }
 
-/// Keeps the receipts of replies that were taken.
-fn keep(taken: &[TakenReply], receipts: &mut Vec<Receipt>)
-    requires { vec_len receipts.old + length taken.now ≤ vec_capacity receipts.old }
-    ensures { receipts.new.items ≡ receipts.old.items ++ map (λ t. t.receipt) taken.now }
+/// Drops the receipts of chapters before this one; none of them is of an earlier one than `oldest`.
+fn drop_older(receipts: &mut Vec<Receipt>, oldest: u64, chapter: u64)
+    requires { All (λ r. oldest ≤ r.chapter) receipts.old.items }
+    ensures items { receipts.new.items ≡ filter (λ r. nat_le chapter r.chapter) receipts.old.items }
+    ensures len { vec_len receipts.new ≤ vec_len receipts.old }
+    ensures room { vec_capacity receipts.new ≡ vec_capacity receipts.old }
 {
-    for reply in taken {
-        receipts.push_reserved(reply.receipt());
+    if chapter <= oldest {
+        return;
+    }
+    receipts.retain(|receipt| receipt.chapter >= chapter);
+}
+
+impl Kept {
+    /// No receipts.
+    fn new(alloc: Global) -> Kept
+        ensures { result.receipts.items ≡ [] }
+    {
+        Kept {
+            receipts: Vec::new(alloc),
+            chapter: 0,
+        }
+    }
+
+    /// Makes room for so many more.
+    fn reserve(&mut self, count: usize) -> Result<(), AllocError>
+        ensures same { self.new.receipts.items ≡ self.old.receipts.items }
+        ensures room { OnOk result (vec_len self.new.receipts + count ≤ vec_capacity self.new.receipts) }
+    {
+        self.receipts.reserve(count)
+    }
+
+    /// Drops the receipts of chapters before this one.
+    fn enter(&mut self, chapter: u64)
+        ensures items { self.new.receipts.items ≡ filter (λ r. nat_le chapter r.chapter) self.old.receipts.items }
+        ensures chapter { self.new.chapter ≡ chapter }
+        ensures len { vec_len self.new.receipts ≤ vec_len self.old.receipts }
+        ensures room { vec_capacity self.new.receipts ≡ vec_capacity self.old.receipts }
+    {
+        drop_older(&mut self.receipts, self.chapter, chapter);
+        self.chapter = chapter;
+    }
+
+    /// Keeps the receipt of a reply, and drops those of earlier chapters.
+    fn keep(&mut self, taken: &TakenReply)
+        requires { vec_len self.old.receipts < vec_capacity self.old.receipts }
+        ensures kept { self.new.receipts.items ≡ with_receipt self.old.receipts.items taken.now }
+        ensures len { vec_len self.new.receipts ≤ vec_len self.old.receipts + 1 }
+        ensures room { vec_capacity self.new.receipts ≡ vec_capacity self.old.receipts }
+    {
+        let receipt = taken.receipt();
+        self.enter(receipt.chapter);
+        self.receipts.push_reserved(receipt);
+    }
+
+    /// Keeps the receipts of replies, in their order.
+    fn keep_all(&mut self, taken: &[TakenReply])
+        requires { vec_len self.old.receipts + length taken.now ≤ vec_capacity self.old.receipts }
+        ensures { self.new.receipts.items ≡ fold with_receipt self.old.receipts.items taken.now }
+    {
+        for reply in taken {
+            self.keep(reply);
+        }
     }
 }
 
@@ -344,7 +409,7 @@ impl<'a, B: Ledger, T: Ledger, W: Watch, R: Wait + Clock> HubDesk<'a, B, T, W, R
         seat: Seat<B, T>,
         watch: W,
     ) -> HubDesk<'a, B, T, W, R>
-        ensures receipts { result.receipts.items ≡ [] }
+        ensures receipts { result.kept.receipts.items ≡ [] }
         ensures routes { result.accepted ≡ accepted }
     {
         HubDesk {
@@ -357,21 +422,21 @@ impl<'a, B: Ledger, T: Ledger, W: Watch, R: Wait + Clock> HubDesk<'a, B, T, W, R
                 seat,
                 watch,
             },
-            receipts: Vec::new(alloc),
+            kept: Kept::new(alloc),
         }
     }
 
-    /// The seat, and the receipts of all replies that were taken.
+    /// The seat, and the receipts that were kept.
     pub fn into_parts(self) -> (Seat<B, T>, Vec<Receipt>)
         ensures seat { result.0 ≡ self.entry.caller.seat }
-        ensures receipts { result.1 ≡ self.entry.receipts }
+        ensures receipts { result.1 ≡ self.entry.kept.receipts }
     {
         let HubDesk {
             accepted: _,
             caller,
-            receipts,
+            kept,
         } = self;
-        (caller.seat, receipts)
+        (caller.seat, kept.receipts)
     }
 
     /// Takes a reply for each key of a request, in the order of the keys, and keeps their receipts. All calls are begun before
@@ -386,10 +451,10 @@ impl<'a, B: Ledger, T: Ledger, W: Watch, R: Wait + Clock> HubDesk<'a, B, T, W, R
         requires calls { length (keys_of (request_value (arc_value request.now))) ≤ vec_capacity calls.old }
         requires no_replies { taken.old.items ≡ [] }
         requires replies { length (keys_of (request_value (arc_value request.now))) ≤ vec_capacity taken.old }
-        requires receipts { vec_len self.old.receipts + length (keys_of (request_value (arc_value request.now))) ≤ vec_capacity self.old.receipts }
+        requires receipts { vec_len self.old.kept.receipts + length (keys_of (request_value (arc_value request.now))) ≤ vec_capacity self.old.kept.receipts }
         ensures routes { self.new.accepted ≡ self.old.accepted }
         ensures each { All WasTaken taken.new.items }
-        ensures kept { self.new.receipts.items ≡ self.old.receipts.items ++ map (λ t. t.receipt) taken.new.items }
+        ensures kept { self.new.kept.receipts.items ≡ fold with_receipt self.old.kept.receipts.items taken.new.items }
         ensures for_keys { OnOk result (AreFor (arc_value self.old.accepted) (request_value (arc_value request.now)) taken.new.items) }
         ensures one_each { OnOk result (vec_len taken.new ≡ length (keys_of (request_value (arc_value request.now)))) }
         ensures err { IfErr result (IsUnanswered (arc_value self.old.accepted) (request_value (arc_value request.now)) taken.new.items) }
@@ -398,7 +463,7 @@ impl<'a, B: Ledger, T: Ledger, W: Watch, R: Wait + Clock> HubDesk<'a, B, T, W, R
         let routes = self.accepted.routes();
         let begun = self.caller.begin_all(routes, request, count, calls);
         let outcome = self.caller.take_all(calls.as_slice(), taken);
-        keep(taken.as_slice(), &mut self.receipts);
+        self.kept.keep_all(taken.as_slice());
         outcome?;
         if !are_for(routes, request, taken.as_slice()) {
             return Err(CoreFault::NoSuchCall);
@@ -411,18 +476,18 @@ impl<'a, B: Ledger, T: Ledger, W: Watch, R: Wait + Clock> HubDesk<'a, B, T, W, R
         ensures calls { IfOk result (λ room. (room.calls.items ≡ []) × (count ≤ vec_capacity room.calls)) }
         ensures taken { IfOk result (λ room. (room.taken.items ≡ []) × (count ≤ vec_capacity room.taken)) }
         ensures parts { IfOk result (λ room. (room.parts.items ≡ []) × (count ≤ vec_capacity room.parts)) }
-        ensures receipts { OnOk result (vec_len self.new.receipts + count ≤ vec_capacity self.new.receipts) }
-        ensures kept { self.new.receipts.items ≡ self.old.receipts.items }
+        ensures receipts { OnOk result (vec_len self.new.kept.receipts + count ≤ vec_capacity self.new.kept.receipts) }
+        ensures kept { self.new.kept.receipts.items ≡ self.old.kept.receipts.items }
         ensures routes { self.new.accepted ≡ self.old.accepted }
     {
-        self.receipts.reserve(count)?;
+        self.kept.reserve(count)?;
         Room::new(self.caller.alloc, count)
     }
 }
 
 impl<'a, B: Ledger, T: Ledger, W: Watch, R: Wait + Clock> Desk for HubDesk<'a, B, T, W, R> {
     // Its routes stay.
-    ghost asks = { λ old request answer new. Asks (arc_value old.accepted) old.receipts.items request answer new.receipts.items × (new.accepted ≡ old.accepted) };
+    ghost asks = { λ old request answer new. Asks (arc_value old.accepted) old.kept.receipts.items request answer new.kept.receipts.items × (new.accepted ≡ old.accepted) };
 
     fn ask(&mut self, request: &Arc<Request>) -> Result<Vec<Part>, DeskFault> {
         let Ok(room) = self.room_for(key_count(request)) else {

@@ -1,13 +1,12 @@
-use Rattle.std.proofs.Common.{◌≡◌, ◌∙◌, ◌++◌, [], length, map, refl, sym, ap, subst, rules}
+use Rattle.std.proofs.Common.{◌≡◌, ◌∙◌, [], fold, length, map, refl, ap, subst, rules}
 use Rattle.std.specs.Arc.{arc_value}
-use Rattle.std.proofs.lemmas.List.{append-nil}
 use Rattle.std.proofs.lemmas.List.Elements.{All-nil}
 use Rattle.std.proofs.lemmas.Simd.{map-map}
 use Rattle.mcv_base.specs.Reply.{part_value}
 use Rattle.mcv_core.specs.declared.fault.CoreFault.TheVariants.{Memory}
 use Rattle.mcv_session.specs.Desk.{keys_of}
 use Rattle.mcv_text.specs.Request.{request_value}
-use Rattle.mcv_proxy.specs.Desk.{AreFor, WasTaken}
+use Rattle.mcv_proxy.specs.Desk.{AreFor, WasTaken, with_receipt}
 use Rattle.mcv_proxy.proofs.Places.{none_is_for}
 use Rattle.mcv_proxy.proofs.desk.HubDeskDesk.ask.Goals as goal
 
@@ -18,7 +17,7 @@ returns-in_default-clause-asks g c =
     (record {
         taken = [];
         each = All-nil WasTaken;
-        kept = c.room_for.ensures.kept ∙ sym (append-nil before.receipts.items);
+        kept = c.room_for.ensures.kept;
         answered = tt;
         refused = record { cause = Memory; is = refl; why = (none_is_for (arc_value before.accepted) request, tt) };
       },
@@ -33,7 +32,7 @@ returns-in-Ok-take_replies-clause-asks g c =
     (record {
         taken = taken;
         each = c.take_replies.ensures.each;
-        kept = c.take_replies.ensures.kept ∙ ap (λ x. x ++ map (λ t. t.receipt) taken) c.room_for.ensures.kept;
+        kept = c.take_replies.ensures.kept ∙ ap (λ x. fold with_receipt x taken) c.room_for.ensures.kept;
         answered = record {
           for_keys = subst (λ a. AreFor (arc_value a) request taken) c.room_for.ensures.routes c.in-Ok-take_replies.ensures.for_keys;
           one_each = one_each;
