@@ -167,6 +167,7 @@ fn employ_replayer<
 fn serve<B: Ledger, T: Ledger, I: Read + Drop, O: Write + Drop, W: Watch, R: Wait + Clock>(
     rt: &R,
     alloc: Global,
+    accepted: Arc<Accepted>,
     hub: &Hub<B, T>,
     pass: Pass,
     seat: Seat<B, T>,
@@ -174,7 +175,7 @@ fn serve<B: Ledger, T: Ledger, I: Read + Drop, O: Write + Drop, W: Watch, R: Wai
     watch: W,
 ) -> Done<B, T> {
     let (mut reader, mut writer) = client;
-    let mut desk = HubDesk::new(rt, alloc, hub, pass, seat, watch);
+    let mut desk = HubDesk::new(rt, alloc, accepted, hub, pass, seat, watch);
     let _ = serve_session(alloc, &mut reader, &mut writer, &mut desk);
     let (seat, receipts) = desk.into_parts();
     Done { seat, receipts }
@@ -191,13 +192,14 @@ fn host<
 >(
     rt: R,
     alloc: Global,
+    accepted: Arc<Accepted>,
     hub: Arc<Hub<B, T>>,
     pass: Pass,
     seat: Seat<B, T>,
     client: (I, O),
     watch: W,
 ) -> Option<JoinHandle<Done<B, T>>> {
-    let job = move || serve(&rt, alloc, &*hub, pass, seat, client, watch);
+    let job = move || serve(&rt, alloc, accepted, &*hub, pass, seat, client, watch);
     thread::spawn(&rt, job).ok()
 }
 
@@ -212,14 +214,16 @@ fn admit<
 >(
     rt: R,
     alloc: Global,
+    accepted: &Arc<Accepted>,
     hub: &Arc<Hub<B, T>>,
     pass: Pass,
     seat: Seat<B, T>,
     client: (I, O),
     watch: W,
 ) -> Option<JoinHandle<Done<B, T>>> {
+    let accepted = Arc::try_clone(accepted).ok()?;
     let hub = Arc::try_clone(hub).ok()?;
-    host(rt, alloc, hub, pass, seat, client, watch)
+    host(rt, alloc, accepted, hub, pass, seat, client, watch)
 }
 
 /// How many servers there are.
@@ -392,6 +396,7 @@ fn accept<
 >(
     rt: R,
     alloc: Global,
+    accepted: &Arc<Accepted>,
     hub: &Arc<Hub<B, T>>,
     passes: &mut Passes<B, T>,
     gates: &mut G,
@@ -409,7 +414,8 @@ fn accept<
             continue;
         };
         let watch = gates.watch();
-        match admit(rt, alloc, hub, passes.pass(), seat, client, watch) {
+        let pass = passes.pass();
+        match admit(rt, alloc, accepted, hub, pass, seat, client, watch) {
             Some(session) => sessions.push_reserved(session),
             None => gates.note_unserved(),
         }
@@ -516,7 +522,7 @@ fn run<
         dismiss(&rt, shared, &mut pass, crew);
         return Err(fault);
     }
-    let sessions = accept(rt, alloc, &shared.hub, passes, gates);
+    let sessions = accept(rt, alloc, &shared.accepted, &shared.hub, passes, gates);
     let receipts = gather(&rt, alloc, sessions, seat);
     dismiss(&rt, shared, &mut pass, crew);
     Ok(receipts?)

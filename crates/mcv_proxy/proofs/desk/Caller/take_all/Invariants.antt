@@ -1,14 +1,16 @@
-use Rattle.std.proofs.Common.{◌≡◌, ◌+◌, ◌≤◌, None}
-use Rattle.std.specs.Prelude.{vec_len, vec_capacity}
+use Rattle.std.proofs.Common.{◌≡◌, ◌≤◌, map, take}
+use Rattle.std.specs.List.{All}
+use Rattle.std.specs.Prelude.{vec_len, vec_capacity, IfErr, OnOk}
+use Rattle.mcv_core.specs.declared.fault.CoreFault.TheVariants.{NoSuchCall}
+use Rattle.mcv_proxy.specs.Desk.{WasTaken}
 use Rattle.mcv_proxy.proofs.desk.Caller.take_all.Given as goal
 
--- each reply so far was kept, unless one wasn't there
+-- the reply to each call so far was taken, unless one wasn't there
 abbrev pub invariant-loop-call : goal.invariant-loop-call
 invariant-loop-call g l = record {
-  parts : l.missed ≡ None → vec_len l.parts ≡ vec_len l.fn.parts + l.call-index;
-  receipts : l.missed ≡ None → vec_len l.receipts ≡ vec_len l.fn.receipts + l.call-index;
-  few_parts : vec_len l.parts ≤ vec_len l.fn.parts + l.call-index;
-  few_receipts : vec_len l.receipts ≤ vec_len l.fn.receipts + l.call-index;
-  part_room : vec_capacity l.parts ≡ vec_capacity l.fn.parts;
-  receipt_room : vec_capacity l.receipts ≡ vec_capacity l.fn.receipts;
+  each : All WasTaken l.taken.items;
+  most : vec_len l.taken ≤ l.call-index;
+  room : vec_capacity l.taken ≡ vec_capacity l.fn.taken;
+  calls : OnOk l.outcome (map (λ t. t.receipt.call) l.taken.items ≡ take l.call-index l.calls);
+  err : IfErr l.outcome (λ fault. fault ≡ NoSuchCall);
 }
