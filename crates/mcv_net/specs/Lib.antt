@@ -1,0 +1,5 @@
+-- What a proxy on sockets writes, reads and prints.
+pub mod Exchange
+pub mod Lines
+pub mod Repeat
+pub mod Sends
