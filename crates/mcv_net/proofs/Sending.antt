@@ -7,8 +7,8 @@ use Rattle.mcv_net.specs.Repeat.{may_repeat}
 use Rattle.mcv_net.specs.Sends.{AsksAnew, AsksOver, AsksTwice, Sends}
 
 module _ {S X : Type 0} (contents remaining : S → Option (List ℕ)) (spells : List ℕ → X → Type 0) (text : List ℕ) where
-  no_loss : (x : X) (loss : Loss) → Ok {E = Loss} x ≡ Err loss → ⊥
-  no_loss x loss e = let g : Ok {E = Loss} x ≡ Err loss = e in cc
+  no_loss : (x : X) (loss : Loss) → ◌≡◌ {A = Result X Loss} (Ok x) (Err loss) → ⊥
+  no_loss x loss e = let g : ◌≡◌ {A = Result X Loss} (Ok x) (Err loss) = e in cc
 
   asks_spelled : (old new : S) (x : X) → Asks contents remaining spells text old new (Ok x) → (bytes : List ℕ) × spells bytes x
   asks_spelled old new x (inl l) = absurd (no_loss x l.0 l.1)
@@ -21,7 +21,7 @@ module _ {S X : Type 0} (contents remaining : S → Option (List ℕ)) (spells :
   anew_spelled kept x (inl l) = absurd (no_loss x _ l.0)
   anew_spelled kept x (inr r) = over_spelled r.0 kept x r.1
 
-  again_spelled : (op : Op) (loss : Loss) (kept then_kept : Option S) (x : X) (b : Bool) → may_repeat op loss ≡ b → (may_repeat op loss ≡ true → AsksAnew contents remaining spells text (Ok x) kept) × (may_repeat op loss ≡ false → (Ok {E = Loss} x ≡ Err loss) × (kept ≡ then_kept)) → (bytes : List ℕ) × spells bytes x
+  again_spelled : (op : Op) (loss : Loss) (kept then_kept : Option S) (x : X) (b : Bool) → may_repeat op loss ≡ b → (may_repeat op loss ≡ true → AsksAnew contents remaining spells text (Ok x) kept) × (may_repeat op loss ≡ false → ◌≡◌ {A = Result X Loss} (Ok x) (Err loss) × (kept ≡ then_kept)) → (bytes : List ℕ) × spells bytes x
   again_spelled op loss kept then_kept x true is h = anew_spelled kept x (h.0 is)
   again_spelled op loss kept then_kept x false is h = absurd (no_loss x loss (h.1 is).0)
 
