@@ -1,5 +1,5 @@
 -- A reply that is read piece by piece.
-use Rattle.std.proofs.Common.{◌≡◌, ◌≢◌, ◌∙◌, ◌+◌, ◌<◌, ◌≤◌, ℕ, Bool, true, false, List, [], ◌∷◌, ◌++◌, Option, None, Some, Ok, Err, refl, sym, ap, subst, arith, length, take, length-append, length-take-le, append-nil, Result}
+use Rattle.std.proofs.Common.{◌≡◌, ◌≢◌, ◌∙◌, ◌<◌, ◌≤◌, ℕ, Bool, true, false, List, [], ◌++◌, Option, None, Some, Ok, Err, refl, sym, ap, subst, arith, length, take, length-append, length-take-le, append-nil, Result}
 use Rattle.std.proofs.KnownBytes.{Consumes-nil, Consumes-trans}
 use Rattle.std.specs.Io.KnownBytes.{Consumes, Keeps}
 use Rattle.std.specs.declared.alloc.Global.{Global}
@@ -13,7 +13,6 @@ use Rattle.mcv_reply.specs.Reader.{Answers, Fed, Feeds, FeedsAt, Reading, Stands
 use Rattle.mcv_reply.specs.Reply.{SpellsVersion}
 use Rattle.mcv_reply.specs.Probe.{FeedsProbe, ProbeAnswers}
 use Rattle.mcv_net.specs.declared.loss.Loss.{Loss}
-use Rattle.mcv_net.specs.declared.loss.Loss.TheVariants.{Unread, Broken, Memory}
 use Rattle.mcv_net.specs.Exchange.{AnswersProbe, Reads, SpellsReply, loss_by, loss_of}
 
 pub consumes_kept : (a b : Option (List ℕ)) → Keeps a b → Consumes a b []

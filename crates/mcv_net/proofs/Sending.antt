@@ -1,5 +1,5 @@
 -- A reply that is given was read from a connection.
-use Rattle.std.proofs.Common.{◌≡◌, ◌⊎◌, ℕ, Bool, true, false, List, Option, None, Some, Ok, Err, refl, sym, subst, inl, inr, Result}
+use Rattle.std.proofs.Common.{◌≡◌, ℕ, Bool, true, false, List, Option, None, Some, Ok, Err, refl, sym, subst, inl, inr, Result}
 use Rattle.mcv_base.specs.declared.operation.Op.{Op}
 use Rattle.mcv_net.specs.declared.loss.Loss.{Loss}
 use Rattle.mcv_net.specs.Exchange.{Asks}

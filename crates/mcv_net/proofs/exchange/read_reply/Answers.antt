@@ -1,4 +1,4 @@
-use Rattle.std.proofs.Common.{◌≡◌, ◌∙◌, ◌++◌, ◌<◌, ◌≤◌, Ok, None, arith, ap, length, subst, sym, take}
+use Rattle.std.proofs.Common.{◌≡◌, ◌++◌, Ok, None, arith, subst, sym, take}
 use Rattle.std.specs.Arc.{arc_value}
 use Rattle.std.specs.Io.KnownBytes.{Consumes}
 use Rattle.mcv_reply.specs.Reader.{Feeds}

@@ -1,6 +1,5 @@
-use Rattle.std.proofs.Common.{◌≡◌, ◌∙◌, ◌++◌, ◌<◌, ◌≤◌, Ok, None, Some, arith, ap, length, subst, sym, take}
+use Rattle.std.proofs.Common.{◌≡◌, ◌∙◌, ◌++◌, Ok, None, arith, subst, sym, take}
 use Rattle.std.specs.Io.KnownBytes.{Consumes}
-use Rattle.mcv_reply.specs.Reader.{Fed}
 use Rattle.mcv_reply.specs.Probe.{FeedsProbe}
 use Rattle.mcv_net.specs.Exchange.{AnswersProbe}
 use Rattle.mcv_net.proofs.Reading.{HasCome, come_more, come_refused, come_still, come_whole, not_answered, probe_answers, taken_some}

@@ -1,4 +1,4 @@
-use Rattle.std.proofs.Common.{◌≡◌, ◌<◌, ◌≤◌, arith, length, subst, sym, take}
+use Rattle.std.proofs.Common.{◌<◌, ◌≤◌, arith, length, subst, sym, take}
 use Rattle.std.proofs.KnownBytes.{Appends-kept}
 use Rattle.std.specs.Io.KnownBytes.{Appends}
 use Rattle.mcv_net.proofs.Writing.{front_grows, rest_bound}
