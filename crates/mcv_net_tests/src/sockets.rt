@@ -45,7 +45,7 @@ fn serve_a_hit(alloc: Global, listener: &TcpListener) -> bool {
 }
 
 /// Connects to an address, sends a request, and whether it is answered so.
-fn visit<R: Net<Stream = TcpStream>>(
+fn is_answered_at<R: Net<Stream = TcpStream>>(
     rt: &R,
     alloc: Global,
     address: &str,
@@ -100,7 +100,7 @@ where
     let Visit { request, reply, .. } = visits;
     let client = thread::spawn(
         &rt,
-        move || visit(&rt, alloc, address.as_str(), request, reply),
+        move || is_answered_at(&rt, alloc, address.as_str(), request, reply),
     )?;
     let mut out = Vec::new(alloc);
     let disk = rt.open_spool(spool)?;
