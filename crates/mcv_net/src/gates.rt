@@ -1,5 +1,7 @@
 //! What a proxy on sockets talks to.
 
+ghost use Rattle.std.specs.Prelude.{◌≡◌, ◌<◌, IfSome};
+
 use crate::client::Client;
 use crate::dial::TcpDial;
 use crate::fault::RunFault;
@@ -63,7 +65,9 @@ impl<'a, D: Disk, W: Write, R: Clock + Eprint + Copy + Drop> NetGates<'a, D, W, 
     }
 
     /// Notes whether clients can be accepted, where that is another answer than before.
-    fn note_hearing(&mut self, is_deaf: bool) {
+    fn note_hearing(&mut self, is_deaf: bool)
+        ensures { self.new.sessions ≡ self.old.sessions }
+    {
         if self.is_deaf == is_deaf {
             return;
         }
@@ -77,7 +81,9 @@ impl<'a, D: Disk, W: Write, R: Clock + Eprint + Copy + Drop> NetGates<'a, D, W, 
 
     /// The next connection of a client, once there is one, and None where none comes any more. Where one can't be accepted,
     /// as while too many files are open, it tries again 10 ms later, at most 1,000,000,000 times.
-    fn next_stream(&mut self) -> Option<TcpStream> {
+    fn next_stream(&mut self) -> Option<TcpStream>
+        ensures { self.new.sessions ≡ self.old.sessions }
+    {
         for _try in 0..TRIES {
             match self.listener.accept() {
                 Ok((stream, _address)) => {
@@ -135,7 +141,9 @@ where
         self.disk.take()
     }
 
-    fn session(&mut self) -> Option<(Client, Client)> {
+    fn session(&mut self) -> Option<(Client, Client)>
+        ensures { IfSome result (λ _. self.new.sessions < self.old.sessions) }
+    {
         for _try in 0..TRIES {
             self.sessions = self.sessions.checked_sub(1)?;
             let stream = self.next_stream()?;
