@@ -1,6 +1,8 @@
 //! What a proxy on sockets talks to.
 
-ghost use Rattle.std.specs.Prelude.{◌≡◌, ◌<◌, IfSome};
+ghost use Rattle.std.specs.Prelude.{◌≡◌, ◌<◌, ℕ, List, IfSome, OnOk};
+ghost use Rattle.std.specs.Io.KnownBytes.{Appends};
+ghost use Rattle.mcv_net.specs.Lines.{listening_line};
 
 use crate::client::Client;
 use crate::dial::TcpDial;
@@ -101,7 +103,9 @@ impl<'a, D: Disk, W: Write, R: Clock + Eprint + Copy + Drop> NetGates<'a, D, W, 
     }
 
     /// Prints the line that says where clients may come, and how many records are pending.
-    fn print_listening(&mut self, pending: usize) -> Result<(), RunFault> {
+    fn print_listening(&mut self, pending: usize) -> Result<(), RunFault>
+        ensures { OnOk result ((address : List ℕ) × Appends (W.contents self.old.out.now) (W.contents self.new.out.now) (listening_line address pending)) }
+    {
         let address = format!(in self.alloc; "{}", self.listener.local_addr()?)?;
         let line = listening_line(self.alloc, address.as_str(), pending)?;
         print_line(self.out, line.as_slice())?;
@@ -161,7 +165,9 @@ where
         SystemWatch::new(self.rt, StandardError { rt: self.rt })
     }
 
-    fn opened(&mut self, pending: usize) -> Result<(), ProxyFault> {
+    fn opened(&mut self, pending: usize) -> Result<(), ProxyFault>
+        ensures { OnOk result ((address : List ℕ) × Appends (W.contents self.old.out.now) (W.contents self.new.out.now) (listening_line address pending)) }
+    {
         match self.print_listening(pending) {
             Ok(()) => Ok(()),
             Err(RunFault::Memory) => Err(ProxyFault::Memory),
