@@ -176,13 +176,27 @@ const ROWS: &[Row] = &[
     },
 ];
 
-/// Whether the legs of a row came to what it says.
-fn holds<R: Wait + Copy + Drop>(
-    rt: R,
+fn is_text(bytes: &[u8], text: &str) -> bool {
+    bytes == text.as_bytes()
+}
+
+/// A letter for each leg that is sent over a link, one after another.
+fn letters_of<L: Link>(
     alloc: Global,
+    link: &mut L,
     pass: &Pass,
-    row: &Row,
-) -> Result<bool, Fail> {
+    ops: &[Op],
+) -> Result<Vec<u8>, Fail> {
+    let mut letters = Vec::new(alloc);
+    for op in ops {
+        let leg = leg_of(alloc, *op)?;
+        letters.push(letter(&link.send(pass, &leg)))?;
+    }
+    Ok(letters)
+}
+
+/// Whether the legs of a row came to what it says.
+fn holds<R: Wait + Copy + Drop>(rt: R, alloc: Global, pass: &Pass, row: Row) -> Result<bool, Fail> {
     let seen = Seen {
         dials: 0,
         text: Vec::new(alloc),
@@ -194,16 +208,10 @@ fn holds<R: Wait + Copy + Drop>(
         seen: Arc::try_clone(&seen)?,
     };
     let mut link = TcpLink::new(alloc, "a:11211", dial, Nobody)?;
-    let mut letters = Vec::new(alloc);
-    for op in row.ops {
-        letters.push(letter(&link.send(pass, &leg_of(alloc, *op)?)))?;
-    }
+    let letters = letters_of(alloc, &mut link, pass, row.ops)?;
     let seen = seen.lock(&rt);
-    Ok(
-        letters.as_slice() == row.letters.as_bytes()
-            && seen.dials == row.dials
-            && seen.text.as_slice() == row.text.as_bytes(),
-    )
+    let is_sent = seen.dials == row.dials && is_text(seen.text.as_slice(), row.text);
+    Ok(is_sent && is_text(letters.as_slice(), row.letters))
 }
 
 #[test]
@@ -211,7 +219,7 @@ fn legs_go_over_the_kept_connection_or_a_new_one(rt: HostRuntime) -> Result<(), 
     let alloc = rt.alloc();
     let pass = pass_of::<Brand, Brand>(alloc, Blank::new(2), Blank::new(2))?;
     for row in ROWS {
-        assert!(rt; holds(rt, alloc, &pass, row)?, "{}", row.name);
+        assert!(rt; holds(rt, alloc, &pass, *row)?, "{}", row.name);
     }
     Ok(())
 }
