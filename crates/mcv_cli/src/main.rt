@@ -7,41 +7,62 @@ ghost use Rattle.mcv_command.specs.declared.stop.Stop.TheVariants.{BadLine, Memo
 
 use mcv_check::Accepted;
 use mcv_command::{Ending, Proxy, ServeFault, Stop, SystemFiles, exit_status, run_words};
+use mcv_net::{RunFault, SpoolFiles, serve};
 use std::alloc::Global;
 use std::fs::Files;
-use std::io::Write;
+use std::io::{Eprint, Write};
+use std::net::{Net, TcpListener, TcpStream};
 use std::process::ExitCode;
-use std::rt::Env;
-use std::sync::Arc;
+use std::rt::{Clock, Env};
+use std::sync::{Arc, Wait};
+use std::thread::Threads;
 use std::{env, io};
 
 fn main(rt: HostRuntime) -> ExitCode {
-    let ended = run(&rt);
+    let ended = run(&rt, &SystemProxy { system: rt });
     if let Err(stop) = &ended {
         let _ = eprintln!(rt; "{stop}");
     }
     ExitCode::from(exit_status(&ended))
 }
 
-/// The proxy on the system's sockets, which isn't there yet: its device fails. Nothing is known of what it serves.
+/// The proxy on the system's sockets. Nothing is known of what it serves.
 #[derive(Drop)]
-struct SystemProxy;
+struct SystemProxy<R: Drop> {
+    system: R,
+}
 
-impl Proxy for SystemProxy {
+impl<R> Proxy for SystemProxy<R>
+where
+    R: Net<Stream = TcpStream, Listener = TcpListener>
+        + SpoolFiles
+        + Threads
+        + Wait
+        + Clock
+        + Eprint
+        + Copy
+        + Drop
+        + Send
+        + 'static,
+{
     ghost use Rattle.std.specs.Prelude.{⊤};
 
     ghost serves = { λ _ _ _ _ _ _ _. ⊤ };
 
     fn serve<W: Write>(
         &self,
-        _alloc: Global,
-        _accepted: Arc<Accepted>,
-        _listen: &str,
-        _spool: &str,
-        _sessions: u64,
-        _out: &mut W,
+        alloc: Global,
+        accepted: Arc<Accepted>,
+        listen: &str,
+        spool: &str,
+        sessions: u64,
+        out: &mut W,
     ) -> Result<(), ServeFault> {
-        Err(ServeFault::Device)
+        match serve(self.system, alloc, accepted, listen, spool, sessions, out) {
+            Ok(()) => Ok(()),
+            Err(RunFault::Memory) => Err(ServeFault::Memory),
+            Err(RunFault::Device) => Err(ServeFault::Device),
+        }
     }
 }
 
@@ -56,7 +77,10 @@ fn given_words<R: Env + AllocGlobal>(rt: &R) -> Result<Vec<String>, Stop>
     }
 }
 
-fn run<R: Env + AllocGlobal + Input + Print + Files>(rt: &R) -> Result<Ending, Stop> {
+fn run<R: Env + AllocGlobal + Input + Print + Files, P: Proxy>(
+    rt: &R,
+    proxy: &P,
+) -> Result<Ending, Stop> {
     let alloc = rt.alloc();
     let words = given_words(rt)?;
     let texts: Vec<&str> = words.iter().map(|word| word.as_str()).collect(alloc)?;
@@ -64,7 +88,7 @@ fn run<R: Env + AllocGlobal + Input + Print + Files>(rt: &R) -> Result<Ending, S
         alloc,
         texts.as_slice(),
         &SystemFiles { system: rt },
-        &SystemProxy,
+        proxy,
         &mut rt.reader(),
         &mut io::writer(rt),
     )

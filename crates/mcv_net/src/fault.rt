@@ -1,5 +1,11 @@
 //! Why a proxy on sockets can't be run.
 
+ghost use Rattle.std.specs.Prelude.{◌≡◌, ◌≢◌};
+ghost use Rattle.std.specs.IoError.{error_kind};
+ghost use Rattle.std.specs.declared.io.ErrorKind.TheVariants.{OutOfMemory};
+ghost use Rattle.mcv_net.specs.declared.fault.RunFault.TheVariants.{Device, Memory as out_of_memory};
+ghost use Rattle.mcv_net.specs.Fault.{fault_number, run_fault};
+
 use mcv_proxy::ProxyFault;
 use std::alloc::AllocError;
 use std::io;
@@ -17,18 +23,24 @@ pub enum RunFault {
 
 impl RunFault {
     /// The number of the fault, from 1.
-    pub fn number(self) -> u8 {
+    pub fn number(self) -> u8
+        ensures { result ≡ fault_number self }
+    {
         self as u8
     }
 }
 
 impl From<AllocError> for RunFault {
+    ghost from_gives = { λ _ fault. fault ≡ out_of_memory };
+
     fn from(_fault: AllocError) -> RunFault {
         RunFault::Memory
     }
 }
 
 impl From<ProxyFault> for RunFault {
+    ghost from_gives = { λ fault result. result ≡ run_fault fault };
+
     fn from(fault: ProxyFault) -> RunFault {
         match fault {
             ProxyFault::Memory => RunFault::Memory,
@@ -38,6 +50,8 @@ impl From<ProxyFault> for RunFault {
 }
 
 impl From<io::Error> for RunFault {
+    ghost from_gives = { λ error fault. (error_kind error ≡ OutOfMemory → fault ≡ out_of_memory) × (error_kind error ≢ OutOfMemory → fault ≡ Device) };
+
     fn from(error: io::Error) -> RunFault {
         if error.kind() == io::ErrorKind::OutOfMemory {
             RunFault::Memory

@@ -1,5 +1,9 @@
 //! What a proxy on sockets talks to.
 
+ghost use Rattle.std.specs.Prelude.{◌≡◌, ◌<◌, ℕ, List, IfSome, OnOk};
+ghost use Rattle.std.specs.Io.KnownBytes.{Appends};
+ghost use Rattle.mcv_net.specs.Lines.{listening_line};
+
 use crate::client::Client;
 use crate::dial::TcpDial;
 use crate::fault::RunFault;
@@ -63,7 +67,9 @@ impl<'a, D: Disk, W: Write, R: Clock + Eprint + Copy + Drop> NetGates<'a, D, W, 
     }
 
     /// Notes whether clients can be accepted, where that is another answer than before.
-    fn note_hearing(&mut self, is_deaf: bool) {
+    fn note_hearing(&mut self, is_deaf: bool)
+        ensures { self.new.sessions ≡ self.old.sessions }
+    {
         if self.is_deaf == is_deaf {
             return;
         }
@@ -77,7 +83,9 @@ impl<'a, D: Disk, W: Write, R: Clock + Eprint + Copy + Drop> NetGates<'a, D, W, 
 
     /// The next connection of a client, once there is one, and None where none comes any more. Where one can't be accepted,
     /// as while too many files are open, it tries again 10 ms later, at most 1,000,000,000 times.
-    fn next_stream(&mut self) -> Option<TcpStream> {
+    fn next_stream(&mut self) -> Option<TcpStream>
+        ensures { self.new.sessions ≡ self.old.sessions }
+    {
         for _try in 0..TRIES {
             match self.listener.accept() {
                 Ok((stream, _address)) => {
@@ -95,7 +103,9 @@ impl<'a, D: Disk, W: Write, R: Clock + Eprint + Copy + Drop> NetGates<'a, D, W, 
     }
 
     /// Prints the line that says where clients may come, and how many records are pending.
-    fn print_listening(&mut self, pending: usize) -> Result<(), RunFault> {
+    fn print_listening(&mut self, pending: usize) -> Result<(), RunFault>
+        ensures { OnOk result ((address : List ℕ) × Appends (W.contents self.old.out.now) (W.contents self.new.out.now) (listening_line address pending)) }
+    {
         let address = format!(in self.alloc; "{}", self.listener.local_addr()?)?;
         let line = listening_line(self.alloc, address.as_str(), pending)?;
         print_line(self.out, line.as_slice())?;
@@ -135,7 +145,9 @@ where
         self.disk.take()
     }
 
-    fn session(&mut self) -> Option<(Client, Client)> {
+    fn session(&mut self) -> Option<(Client, Client)>
+        ensures { IfSome result (λ _. self.new.sessions < self.old.sessions) }
+    {
         for _try in 0..TRIES {
             self.sessions = self.sessions.checked_sub(1)?;
             let stream = self.next_stream()?;
@@ -153,7 +165,9 @@ where
         SystemWatch::new(self.rt, StandardError { rt: self.rt })
     }
 
-    fn opened(&mut self, pending: usize) -> Result<(), ProxyFault> {
+    fn opened(&mut self, pending: usize) -> Result<(), ProxyFault>
+        ensures { OnOk result ((address : List ℕ) × Appends (W.contents self.old.out.now) (W.contents self.new.out.now) (listening_line address pending)) }
+    {
         match self.print_listening(pending) {
             Ok(()) => Ok(()),
             Err(RunFault::Memory) => Err(ProxyFault::Memory),

@@ -1,5 +1,9 @@
 //! The lines that a proxy prints.
 
+ghost use Rattle.std.specs.Prelude.{◌≡◌, IfOk, OnOk};
+ghost use Rattle.std.specs.Io.KnownBytes.{Appends};
+ghost use Rattle.mcv_net.specs.Lines.{closed_line, listening_line};
+
 use mcv_base::push_number;
 use mcv_hub::Report;
 use std::alloc::{AllocError, Global};
@@ -11,7 +15,9 @@ pub(crate) fn listening_line(
     alloc: Global,
     address: &str,
     pending: usize,
-) -> Result<Vec<u8>, AllocError> {
+) -> Result<Vec<u8>, AllocError>
+    ensures { IfOk result (λ line. line.items ≡ listening_line address.now pending) }
+{
     let mut line = Vec::new(alloc);
     line.extend_from_slice(b"mcv listening ")?;
     line.extend_from_slice(address.as_bytes())?;
@@ -22,7 +28,9 @@ pub(crate) fn listening_line(
 }
 
 /// `mcv closed calls <n>`, where n is the number of calls begun.
-pub(crate) fn closed_line(alloc: Global, report: Report) -> Result<Vec<u8>, AllocError> {
+pub(crate) fn closed_line(alloc: Global, report: Report) -> Result<Vec<u8>, AllocError>
+    ensures { IfOk result (λ line. line.items ≡ closed_line report.begun) }
+{
     let mut line = Vec::new(alloc);
     line.extend_from_slice(b"mcv closed calls ")?;
     push_number(&mut line, report.begun as usize)?;
@@ -31,7 +39,9 @@ pub(crate) fn closed_line(alloc: Global, report: Report) -> Result<Vec<u8>, Allo
 }
 
 /// Writes a line, so that it is seen at once.
-pub(crate) fn print_line<W: Write>(out: &mut W, line: &[u8]) -> io::Result<()> {
+pub(crate) fn print_line<W: Write>(out: &mut W, line: &[u8]) -> io::Result<()>
+    ensures { OnOk result (Appends (W.contents out.old) (W.contents out.new) line.now) }
+{
     out.write_all(line)?;
     out.flush()
 }

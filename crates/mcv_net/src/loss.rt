@@ -1,5 +1,8 @@
 //! Why a text that was sent has no reply, and whether it may be sent again.
 
+ghost use Rattle.std.specs.Prelude.{◌≡◌};
+ghost use Rattle.mcv_net.specs.Repeat.{may_repeat};
+
 use mcv_base::Op;
 
 /// Why a text that was sent over a connection has no reply.
@@ -15,21 +18,16 @@ pub enum Loss {
     Memory,
 }
 
-/// Whether performing the operation twice leaves what performing it once does, and its reply says as much: get, gets, delete
-/// and touch. An add that is performed twice replies NOT_STORED, a cas EXISTS, an append adds twice, and a set or a replace
-/// may write over what another client has written between.
-fn is_repeatable(op: Op) -> bool {
-    match op {
-        Op::Get | Op::Gets | Op::Delete | Op::Touch => true,
-        Op::Set | Op::Add | Op::Replace | Op::Append | Op::Prepend | Op::Cas => false,
-    }
-}
-
-/// Whether a leg of this operation that was lost so may be sent once more.
-pub fn may_ask_again(op: Op, loss: Loss) -> bool {
+/// Whether a leg of this operation that was lost so may be sent once more: where nothing of it was written, and, if it sends no
+/// value to be stored, also where nothing was read. To perform these twice leaves what once does. An add that was performed
+/// would reply NOT_STORED, a cas EXISTS, an append would add twice, and a set or a replace might write over what another
+/// client has written between.
+pub fn may_ask_again(op: Op, loss: Loss) -> bool
+    ensures { result ≡ may_repeat op loss }
+{
     match loss {
         Loss::Unwritten => true,
-        Loss::Unread => is_repeatable(op),
+        Loss::Unread => !op.is_storing(),
         Loss::Broken | Loss::Memory => false,
     }
 }

@@ -1,5 +1,7 @@
 //! A proxy on sockets, from its first line to its last.
 
+ghost use Rattle.std.specs.Prelude.{◌≡◌, IfErr};
+
 use crate::fault::RunFault;
 use crate::gates::NetGates;
 use crate::lines::{closed_line, print_line};
@@ -52,7 +54,9 @@ where
 pub fn listen<R: Net<Stream = TcpStream, Listener = TcpListener>>(
     rt: &R,
     address: &str,
-) -> Result<TcpListener, RunFault> {
+) -> Result<TcpListener, RunFault>
+    ensures { IfErr result (λ fault. fault ≡ RunFault.Device) }
+{
     match TcpListener::bind(rt, address) {
         Ok(listener) => Ok(listener),
         Err(_) => Err(RunFault::Device),
