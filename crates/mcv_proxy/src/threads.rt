@@ -75,6 +75,7 @@ fn work<B: Ledger, T: Ledger, L: Link, R: Wait>(
 }
 
 /// Starts the worker of a server.
+#[tactic(auto, using(crate::proofs::Crossing::hub_crosses))]
 fn employ<
     B: Ledger + Send + Sync + 'static,
     T: Ledger + Send + Sync + 'static,
@@ -107,6 +108,7 @@ fn write_down<B: Ledger, T: Ledger, D: Disk, W: Watch, R: Wait>(
 }
 
 /// Starts the spool's worker.
+#[tactic(auto, using(crate::proofs::Crossing::hub_crosses))]
 fn employ_spool<
     B: Ledger + Send + Sync + 'static,
     T: Ledger + Send + Sync + 'static,
@@ -142,6 +144,7 @@ fn send_again<B: Ledger, T: Ledger, D: Disk, L: Link, W: Watch, R: Wait>(
 }
 
 /// Starts the replayer.
+#[tactic(auto, using(crate::proofs::Crossing::hub_crosses))]
 fn employ_replayer<
     B: Ledger + Send + Sync + 'static,
     T: Ledger + Send + Sync + 'static,
@@ -182,6 +185,7 @@ fn serve<B: Ledger, T: Ledger, I: Read + Drop, O: Write + Drop, W: Watch, R: Wai
 }
 
 /// Starts a session. Where there is no thread for it the client is dropped.
+#[tactic(auto, using(crate::proofs::Crossing::hub_crosses))]
 fn host<
     B: Ledger + Send + Sync + 'static,
     T: Ledger + Send + Sync + 'static,
