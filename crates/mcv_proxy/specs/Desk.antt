@@ -1,5 +1,5 @@
 -- What a desk over a hub answers, by the replies that it took of the hub (own).
-use Rattle.std.specs.Prelude.{◌≡◌, ◌≢◌, ◌++◌, ◌∷◌, ℕ, List, [], Option, None, Some, Result, IfOk, IfErr, true, ⊤, fold, length, map, nat_le, option_map, slice_get}
+use Rattle.std.specs.Prelude.{◌≡◌, ◌≢◌, ◌+◌, ◌≤◌, ◌++◌, ◌∷◌, ℕ, List, [], Option, None, Some, Result, IfOk, IfErr, true, ⊤, fold, length, map, nat_le, option_map, slice_get}
 use Rattle.std.specs.List.{All, filter}
 use Rattle.mcv_base.specs.Key.{IsCut, IsKeyFault, is_key_word}
 use Rattle.mcv_base.specs.Reply.{ReplyValue, part_value}
@@ -149,10 +149,21 @@ pub record IsFaultOf (r : RoutesValue) (request : RequestValue) (taken : List Ta
 abbrev pub with_receipt : List Receipt → TakenReply → List Receipt
 with_receipt receipts t = filter (λ r. nat_le t.receipt.chapter r.chapter) receipts ++ t.receipt ∷ []
 
--- what the desk does at a request: it takes replies of the hub and keeps their receipts, and answers by these replies, or why not
-pub record Asks (r : RoutesValue) (before : List Receipt) (request : RequestValue) (answer : Result (List ReplyValue) DeskFault) (after : List Receipt) : Type 0 where
+-- what a desk counts: the receipts that it keeps, and how many calls were begun and replies taken with its seat
+pub record DeskView : Type 0 where
+  pub receipts : List Receipt
+  pub begun : ℕ
+  pub taken : ℕ
+
+-- what the desk does at a request: it begins calls, takes replies of the hub and keeps their receipts, and answers by these
+-- replies, or why not
+pub record Asks (r : RoutesValue) (before : DeskView) (request : RequestValue) (answer : Result (List ReplyValue) DeskFault) (after : DeskView) : Type 0 where
+  pub calls : ℕ
   pub taken : List TakenReply
   pub each : All WasTaken taken
-  pub kept : after ≡ fold with_receipt before taken
-  pub answered : IfOk answer (IsAnsweredBy r request taken)
+  pub kept : after.receipts ≡ fold with_receipt before.receipts taken
+  pub begun : after.begun ≡ before.begun + calls
+  pub counted : after.taken ≡ before.taken + length taken
+  pub most : length taken ≤ calls
+  pub answered : IfOk answer (λ replies. IsAnsweredBy r request taken replies × (calls ≡ length taken))
   pub refused : IfErr answer (IsFaultOf r request taken)

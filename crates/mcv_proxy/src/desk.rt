@@ -1,6 +1,6 @@
 //! The desk over a hub: a request's keys are calls of the hub.
 
-ghost use Rattle.std.specs.Prelude.{◌≡◌, ◌↔◌, ◌+◌, ◌<◌, ◌≤◌, [], fold, length, map, nat_le, option_map, vec_len, vec_capacity, true, IfErr, IfOk, OnOk};
+ghost use Rattle.std.specs.Prelude.{◌≡◌, ◌↔◌, ◌+◌, ◌<◌, ◌≤◌, [], fold, length, map, nat_le, option_map, vec_len, vec_capacity, true, IfErr, IfOk, OnErr, OnOk};
 ghost use Rattle.std.specs.Arc.{arc_value};
 ghost use Rattle.std.specs.List.{All, filter};
 ghost use Rattle.mcv_text.specs.Request.{request_value};
@@ -208,7 +208,10 @@ fn begin_in_chapter<B: Ledger, T: Ledger, R: Wait + Clock>(
     request: &Arc<Request>,
     key: usize,
 ) -> Result<CallId, CoreFault>
-    ensures { IfErr result IsRefusal }
+    ensures err { IfErr result IsRefusal }
+    ensures begun { OnOk result (seat.new.begun.amount ≡ seat.old.begun.amount + 1) }
+    ensures unbegun { OnErr result (seat.new.begun.amount ≡ seat.old.begun.amount) }
+    ensures taken { seat.new.taken.amount ≡ seat.old.taken.amount }
 {
     let mut guard = guard;
     for _attempt in 0..ATTEMPTS {
@@ -239,6 +242,9 @@ fn take<B: Ledger, T: Ledger, R: Wait>(
 ) -> Result<TakenReply, CoreFault>
     ensures taken { IfOk result WasTaken }
     ensures call { IfOk result (λ taken. taken.receipt.call ≡ call) }
+    ensures counted { OnOk result (seat.new.taken.amount ≡ seat.old.taken.amount + 1) }
+    ensures uncounted { OnErr result (seat.new.taken.amount ≡ seat.old.taken.amount) }
+    ensures begun { seat.new.begun.amount ≡ seat.old.begun.amount }
     ensures err { IfErr result (λ fault. fault ≡ CoreFault.NoSuchCall) }
 {
     let mut guard = hub.lock(rt, pass);
@@ -335,7 +341,10 @@ fn into_parts(taken: Vec<TakenReply>, parts: Vec<Part>) -> Vec<Part>
 impl<'a, B: Ledger, T: Ledger, W: Watch, R: Wait + Clock> Caller<'a, B, T, W, R> {
     /// Begins a call for one key of a request, at this moment.
     fn begin(&mut self, request: &Arc<Request>, key: usize) -> Result<CallId, CoreFault>
-        ensures { IfErr result IsRefusal }
+        ensures err { IfErr result IsRefusal }
+        ensures begun { OnOk result (self.new.seat.begun.amount ≡ self.old.seat.begun.amount + 1) }
+        ensures unbegun { OnErr result (self.new.seat.begun.amount ≡ self.old.seat.begun.amount) }
+        ensures taken { self.new.seat.taken.amount ≡ self.old.seat.taken.amount }
     {
         let moment = self.watch.moment();
         let mut guard = self.hub.lock(self.rt, &mut self.pass);
@@ -357,6 +366,8 @@ impl<'a, B: Ledger, T: Ledger, W: Watch, R: Wait + Clock> Caller<'a, B, T, W, R>
         requires room { count ≤ vec_capacity calls.old }
         ensures all { OnOk result (vec_len calls.new ≡ count) }
         ensures most { vec_len calls.new ≤ count }
+        ensures begun { self.new.seat.begun.amount ≡ self.old.seat.begun.amount + vec_len calls.new }
+        ensures taken { self.new.seat.taken.amount ≡ self.old.seat.taken.amount }
         ensures err { IfErr result (IsUnbegun routes.now (request_value (arc_value request.now)) (vec_len calls.new)) }
     {
         for key in 0..count {
@@ -372,6 +383,9 @@ impl<'a, B: Ledger, T: Ledger, W: Watch, R: Wait + Clock> Caller<'a, B, T, W, R>
     fn take(&mut self, call: CallId) -> Result<TakenReply, CoreFault>
         ensures taken { IfOk result WasTaken }
         ensures call { IfOk result (λ taken. taken.receipt.call ≡ call) }
+        ensures counted { OnOk result (self.new.seat.taken.amount ≡ self.old.seat.taken.amount + 1) }
+        ensures uncounted { OnErr result (self.new.seat.taken.amount ≡ self.old.seat.taken.amount) }
+        ensures begun { self.new.seat.begun.amount ≡ self.old.seat.begun.amount }
         ensures err { IfErr result (λ fault. fault ≡ CoreFault.NoSuchCall) }
     {
         take(self.rt, self.hub, &mut self.pass, &mut self.seat, call)
@@ -385,6 +399,8 @@ impl<'a, B: Ledger, T: Ledger, W: Watch, R: Wait + Clock> Caller<'a, B, T, W, R>
         ensures most { vec_len taken.new ≤ length calls.now }
         ensures room { vec_capacity taken.new ≡ vec_capacity taken.old }
         ensures calls { OnOk result (map (λ t. t.receipt.call) taken.new.items ≡ calls.now) }
+        ensures counted { self.new.seat.taken.amount ≡ self.old.seat.taken.amount + vec_len taken.new }
+        ensures begun { self.new.seat.begun.amount ≡ self.old.seat.begun.amount }
         ensures err { IfErr result (λ fault. fault ≡ CoreFault.NoSuchCall) }
     {
         let mut outcome = Ok(());
@@ -455,6 +471,10 @@ impl<'a, B: Ledger, T: Ledger, W: Watch, R: Wait + Clock> HubDesk<'a, B, T, W, R
         ensures routes { self.new.accepted ≡ self.old.accepted }
         ensures each { All WasTaken taken.new.items }
         ensures kept { self.new.kept.receipts.items ≡ fold with_receipt self.old.kept.receipts.items taken.new.items }
+        ensures counted { self.new.caller.seat.taken.amount ≡ self.old.caller.seat.taken.amount + vec_len taken.new }
+        ensures begun { self.new.caller.seat.begun.amount ≡ self.old.caller.seat.begun.amount + vec_len calls.new }
+        ensures most { vec_len taken.new ≤ vec_len calls.new }
+        ensures all_begun { OnOk result (vec_len calls.new ≡ length (keys_of (request_value (arc_value request.now)))) }
         ensures for_keys { OnOk result (AreFor (arc_value self.old.accepted) (request_value (arc_value request.now)) taken.new.items) }
         ensures one_each { OnOk result (vec_len taken.new ≡ length (keys_of (request_value (arc_value request.now)))) }
         ensures err { IfErr result (IsUnanswered (arc_value self.old.accepted) (request_value (arc_value request.now)) taken.new.items) }
@@ -478,6 +498,7 @@ impl<'a, B: Ledger, T: Ledger, W: Watch, R: Wait + Clock> HubDesk<'a, B, T, W, R
         ensures parts { IfOk result (λ room. (room.parts.items ≡ []) × (count ≤ vec_capacity room.parts)) }
         ensures receipts { OnOk result (vec_len self.new.kept.receipts + count ≤ vec_capacity self.new.kept.receipts) }
         ensures kept { self.new.kept.receipts.items ≡ self.old.kept.receipts.items }
+        ensures seat { (self.new.caller.seat.begun.amount ≡ self.old.caller.seat.begun.amount) × (self.new.caller.seat.taken.amount ≡ self.old.caller.seat.taken.amount) }
         ensures routes { self.new.accepted ≡ self.old.accepted }
     {
         self.kept.reserve(count)?;
@@ -487,7 +508,7 @@ impl<'a, B: Ledger, T: Ledger, W: Watch, R: Wait + Clock> HubDesk<'a, B, T, W, R
 
 impl<'a, B: Ledger, T: Ledger, W: Watch, R: Wait + Clock> Desk for HubDesk<'a, B, T, W, R> {
     // Its routes stay.
-    ghost asks = { λ old request answer new. Asks (arc_value old.accepted) old.kept.receipts.items request answer new.kept.receipts.items × (new.accepted ≡ old.accepted) };
+    ghost asks = { λ old request answer new. Asks (arc_value old.accepted) (record { receipts = old.kept.receipts.items; begun = old.caller.seat.begun.amount; taken = old.caller.seat.taken.amount }) request answer (record { receipts = new.kept.receipts.items; begun = new.caller.seat.begun.amount; taken = new.caller.seat.taken.amount }) × (new.accepted ≡ old.accepted) };
 
     fn ask(&mut self, request: &Arc<Request>) -> Result<Vec<Part>, DeskFault> {
         let Ok(room) = self.room_for(key_count(request)) else {

@@ -1,4 +1,4 @@
-use Rattle.std.proofs.Common.{◌≡◌, ◌≤◌, map, take}
+use Rattle.std.proofs.Common.{◌≡◌, ◌+◌, ◌≤◌, map, take}
 use Rattle.std.specs.List.{All}
 use Rattle.std.specs.Prelude.{vec_len, vec_capacity, IfErr, OnOk}
 use Rattle.mcv_core.specs.declared.fault.CoreFault.TheVariants.{NoSuchCall}
@@ -12,5 +12,7 @@ invariant-loop-call g l = record {
   most : vec_len l.taken ≤ l.call-index;
   room : vec_capacity l.taken ≡ vec_capacity l.fn.taken;
   calls : OnOk l.outcome (map (λ t. t.receipt.call) l.taken.items ≡ take l.call-index l.calls);
+  counted : l.self.seat.taken.amount ≡ l.fn.self.seat.taken.amount + vec_len l.taken;
+  begun : l.self.seat.begun.amount ≡ l.fn.self.seat.begun.amount;
   err : IfErr l.outcome (λ fault. fault ≡ NoSuchCall);
 }
