@@ -5,6 +5,7 @@ use Rattle.std.specs.declared.sync.ledger.Ledger.{Ghosts}
 use Rattle.std.proofs.Crossing.{crosses}
 use Rattle.std.proofs.MapsCrossing as maps
 use Rattle.std.proofs.sync.ledger.Book.TheSendSync as book
+use Rattle.std.proofs.sync.atomic.AtomicBool.TheSendSync as flag
 use Rattle.mcv_base.proofs.key.Prefix.TheSendSync as prefix
 use Rattle.mcv_base.proofs.operation.Op.TheSendSync as op
 use Rattle.mcv_base.proofs.request.Moment.TheSendSync as moment
@@ -36,6 +37,7 @@ use Rattle.mcv_core.proofs.call.Recorded.TheSendSync as recorded
 use Rattle.mcv_hub.specs.contracts.state.HubState as HubState
 use Rattle.mcv_hub.specs.contracts.hub.Hub as Hub
 use Rattle.mcv_hub.proofs.entry.Entry.TheSendSync as entry
+use Rattle.mcv_proxy.specs.contracts.ends.Ends as Ends
 
 route_send : IsSend Route.the_field.row
 route_send = search (route.crosses, route.crosses_both, leaf.the_field_send, leaf.the_field_sync, op.the_field_send, sendable, crosses, maps.crosses) depth 24
@@ -86,4 +88,8 @@ module _ (B T : RattleType) (b : Ghosts B.Denot) (t : Ghosts T.Denot) where
   pub hub_sync : IsSync (Hub.the_row B T b t)
   hub_sync = search (state_send, sendable, crosses, maps.crosses) depth 24
 
-pub ruleset hub_crosses = (state_send, hub_send, hub_sync)
+pub ends_send : IsSend Ends.the_row
+ends_send = search (flag.the_send, flag.the_field_send, sendable, crosses) depth 24
+
+pub ends_sync : IsSync Ends.the_row
+ends_sync = search (flag.the_sync, flag.the_field_sync, sendable, crosses) depth 24

@@ -75,7 +75,6 @@ fn work<B: Ledger, T: Ledger, L: Link, R: Wait>(
 }
 
 /// Starts the worker of a server.
-#[tactic(auto, using(crate::proofs::Crossing::hub_crosses))]
 fn employ<
     B: Ledger + Send + Sync + 'static,
     T: Ledger + Send + Sync + 'static,
@@ -108,7 +107,6 @@ fn write_down<B: Ledger, T: Ledger, D: Disk, W: Watch, R: Wait>(
 }
 
 /// Starts the spool's worker.
-#[tactic(auto, using(crate::proofs::Crossing::hub_crosses))]
 fn employ_spool<
     B: Ledger + Send + Sync + 'static,
     T: Ledger + Send + Sync + 'static,
@@ -144,7 +142,6 @@ fn send_again<B: Ledger, T: Ledger, D: Disk, L: Link, W: Watch, R: Wait>(
 }
 
 /// Starts the replayer.
-#[tactic(auto, using(crate::proofs::Crossing::hub_crosses))]
 fn employ_replayer<
     B: Ledger + Send + Sync + 'static,
     T: Ledger + Send + Sync + 'static,
@@ -185,7 +182,6 @@ fn serve<B: Ledger, T: Ledger, I: Read + Drop, O: Write + Drop, W: Watch, R: Wai
 }
 
 /// Starts a session. Where there is no thread for it the client is dropped.
-#[tactic(auto, using(crate::proofs::Crossing::hub_crosses))]
 fn host<
     B: Ledger + Send + Sync + 'static,
     T: Ledger + Send + Sync + 'static,
