@@ -57,10 +57,10 @@ routes_send = search (aliased_send, servers.the_send, symbols.the_send, moment.t
 routes_sync : IsSync Routes.the_row
 routes_sync = search (aliased_sync, servers.the_sync, symbols.the_sync, moment.the_sync, sendable, crosses, maps.crosses) depth 24
 
-accepted_send : IsSend Accepted.the_row
+pub accepted_send : IsSend Accepted.the_row
 accepted_send = search (routes_send, sendable, crosses, maps.crosses) depth 24
 
-accepted_sync : IsSync Accepted.the_row
+pub accepted_sync : IsSync Accepted.the_row
 accepted_sync = search (routes_sync, sendable, crosses, maps.crosses) depth 24
 
 eval_send : IsSend EvalState.the_field.row
