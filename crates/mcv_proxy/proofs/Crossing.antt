@@ -38,6 +38,11 @@ use Rattle.mcv_hub.specs.contracts.state.HubState as HubState
 use Rattle.mcv_hub.specs.contracts.hub.Hub as Hub
 use Rattle.mcv_hub.proofs.entry.Entry.TheSendSync as entry
 use Rattle.mcv_proxy.specs.contracts.ends.Ends as Ends
+use Rattle.std.specs.contracts.option.Option as Option
+use Rattle.mcv_base.specs.contracts.server.ServerText as ServerText
+use Rattle.mcv_base.proofs.server.ServerText.TheSendSync as text
+use Rattle.mcv_hub.specs.contracts.seat.Seat as Seat
+use Rattle.mcv_hub.proofs.seat.Seat.TheSendSync as seat
 
 route_send : IsSend Route.the_field.row
 route_send = search (route.crosses, route.crosses_both, leaf.the_field_send, leaf.the_field_sync, op.the_field_send, sendable, crosses, maps.crosses) depth 24
@@ -93,3 +98,13 @@ ends_send = search (flag.the_send, flag.the_field_send, sendable, crosses) depth
 
 pub ends_sync : IsSync Ends.the_row
 ends_sync = search (flag.the_sync, flag.the_field_sync, sendable, crosses) depth 24
+
+pub text_send : IsSend ServerText.the_row
+text_send = search (text.the_send, sendable, crosses) depth 24
+
+pub maybe_text_send : IsSend (Option.the_row ServerText.the_row)
+maybe_text_send = search (text_send, sendable, crosses) depth 24
+
+module _ (B T : RattleType) (b : Ghosts B.Denot) (t : Ghosts T.Denot) where
+  pub seat_send : IsSend (Seat.the_row B T b t)
+  seat_send = search (seat.the_send, sendable, crosses) depth 24
