@@ -14,9 +14,10 @@ returns-in-Ok c =
     let word = c.in-Some.word.now in
     let route = c.in-Ok.place.route in
     let rest = c.in-Ok.place.rest in
-    let e : word_at request c.args.key ≡ Some (op, word) = cc (c.in-Some.ensures, c.in-Some.op-is, c.in-Some.word-is) in
-    (λ b. is_placed r request c.args.key t op word route rest e c.in-Ok.ensures.place (c.has_asked.ensures.0 b),
-      λ f. c.has_asked.ensures.1 (placed c.key_words_have_one_reading.ensures.one r request c.args.key t op word route rest e c.in-Ok.ensures.place f))
+    let e : word_at request c.args.key ≡ Some (op, word) = cc (c.in-Some.ensures, c.in-Some.op-is, c.in-Some.word-is) in (
+      λ b. is_placed r request c.args.key t op word route rest e c.in-Ok.ensures.place (c.has_asked.ensures.0 b),
+      λ f. c.has_asked.ensures.1 (placed c.key_words_have_one_reading.ensures.one r request c.args.key t op word route rest e c.in-Ok.ensures.place f),
+    )
 
 pub returns-in-Err : goal.returns-in-Err
 returns-in-Err c =
@@ -25,6 +26,7 @@ returns-in-Err c =
     let t = c.args.taken.now in
     let op = c.in-Some.op in
     let word = c.in-Some.word.now in
-    let e : word_at request c.args.key ≡ Some (op, word) = cc (c.in-Some.ensures, c.in-Some.op-is, c.in-Some.word-is) in
-    (λ b. absurd (false≢true b),
-      λ f. absurd (misplaced c.key_words_have_one_reading.ensures.one c.key_words_have_one_reading.ensures.no_rest r request c.args.key t op word c.in-Err.field-0 e c.in-Err.ensures.err f))
+    let e : word_at request c.args.key ≡ Some (op, word) = cc (c.in-Some.ensures, c.in-Some.op-is, c.in-Some.word-is) in (
+      λ b. absurd (false≢true b),
+      λ f. absurd (misplaced c.key_words_have_one_reading.ensures.one c.key_words_have_one_reading.ensures.no_rest r request c.args.key t op word c.in-Err.field-0 e c.in-Err.ensures.err f),
+    )

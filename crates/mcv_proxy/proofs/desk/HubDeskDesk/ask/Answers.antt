@@ -13,8 +13,8 @@ use Rattle.mcv_proxy.proofs.desk.HubDeskDesk.ask.Goals as goal
 pub returns-in_default-clause-asks : goal.returns-in_default-clause-asks
 returns-in_default-clause-asks g c =
     let before = c.args.self.now in
-    let request = request_value (arc_value c.args.request.now) in
-    (record {
+    let request = request_value (arc_value c.args.request.now) in (
+      record {
         calls = 0;
         taken = [];
         each = All-nil WasTaken;
@@ -25,7 +25,8 @@ returns-in_default-clause-asks g c =
         answered = tt;
         refused = record { cause = Memory; is = refl; why = (none_is_for (arc_value before.accepted) request, tt) };
       },
-      c.room_for.ensures.routes)
+      c.room_for.ensures.routes,
+    )
 
 pub returns-in-Ok-take_replies-clause-asks : goal.returns-in-Ok-take_replies-clause-asks
 returns-in-Ok-take_replies-clause-asks g c =
@@ -38,8 +39,8 @@ returns-in-Ok-take_replies-clause-asks g c =
     let counted : after.taken.amount ≡ before.taken.amount + length taken = search rules in
     let most : length taken ≤ length c.take_replies.new.calls.items = search rules in
     let all_begun : length c.take_replies.new.calls.items ≡ length taken = search rules in
-    let replies : map part_value c.into_parts.result.items ≡ map (λ t. part_value t.reply) taken = ap (map part_value) c.into_parts.ensures ∙ map-map part_value (λ t. t.reply) taken in
-    (record {
+    let replies : map part_value c.into_parts.result.items ≡ map (λ t. part_value t.reply) taken = ap (map part_value) c.into_parts.ensures ∙ map-map part_value (λ t. t.reply) taken in (
+      record {
         calls = length c.take_replies.new.calls.items;
         taken = taken;
         each = c.take_replies.ensures.each;
@@ -47,11 +48,15 @@ returns-in-Ok-take_replies-clause-asks g c =
         begun = begun;
         counted = counted;
         most = most;
-        answered = (record {
-          for_keys = subst (λ a. AreFor (arc_value a) request taken) c.room_for.ensures.routes c.in-Ok-take_replies.ensures.for_keys;
-          one_each = one_each;
-          replies_are = replies;
-        }, all_begun);
+        answered = (
+          record {
+            for_keys = subst (λ a. AreFor (arc_value a) request taken) c.room_for.ensures.routes c.in-Ok-take_replies.ensures.for_keys;
+            one_each = one_each;
+            replies_are = replies;
+          },
+          all_begun,
+        );
         refused = tt;
       },
-      c.take_replies.ensures.routes ∙ c.room_for.ensures.routes)
+      c.take_replies.ensures.routes ∙ c.room_for.ensures.routes,
+    )
