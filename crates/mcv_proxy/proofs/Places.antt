@@ -1,5 +1,5 @@
 -- Where key words lead.
-use Rattle.std.proofs.Common.{◌≡◌, ◌∙◌, ◌+◌, ◌≤◌, ◌<◌, inl, inr, ℕ, List, [], Bool, true, false, None, Some, ap, sym, refl, subst, get_or, length, arith, true≢false}
+use Rattle.std.proofs.Common.{◌≡◌, ◌∙◌, ◌+◌, ◌<◌, inl, inr, ℕ, List, [], true, false, None, Some, ap, sym, refl, subst, get_or, length, arith, true≢false}
 use Rattle.std.specs.Prelude.{slice_get}
 use Rattle.std.proofs.lemmas.Bool.{cases_lt}
 use Rattle.std.proofs.lemmas.Option.{slice_get_read}
@@ -16,7 +16,7 @@ use Rattle.mcv_hub.specs.declared.seat.TakenReply.{TakenReply}
 use Rattle.mcv_route.specs.Places.{route_of_prefix}
 use Rattle.mcv_route.specs.Routes.{RoutesValue}
 use Rattle.mcv_text.specs.Request.{RequestValue}
-use Rattle.mcv_proxy.specs.Desk.{AreFor, HasNoPlace, HasNoRoute, IsFor, IsNoKey, IsPlace, word_at}
+use Rattle.mcv_proxy.specs.Desk.{AreFor, HasNoPlace, IsFor, IsPlace, word_at}
 
 abbrev pub OneReading : Type 0
 OneReading = (word prefix rest other more : List ℕ) → IsCut word prefix rest → IsCut word other more → (prefix ≡ other) × (rest ≡ more)

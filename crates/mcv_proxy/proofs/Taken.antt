@@ -1,5 +1,5 @@
 -- Replies that were taken.
-use Rattle.std.proofs.Common.{◌≡◌, ℕ, Option, None, Some, length, sym, subst}
+use Rattle.std.proofs.Common.{◌≡◌, Option, None, Some, length, sym, subst}
 use Rattle.std.specs.Prelude.{IfSome}
 use Rattle.mcv_base.specs.Reply.{part_value}
 use Rattle.mcv_base.specs.declared.request.CallId.{CallId}

@@ -171,10 +171,10 @@ fn serve<B: Ledger, T: Ledger, I: Read + Drop, O: Write + Drop, W: Watch, R: Wai
     hub: &Hub<B, T>,
     pass: Pass,
     seat: Seat<B, T>,
-    client: (I, O),
+    mut reader: I,
+    mut writer: O,
     watch: W,
 ) -> Done<B, T> {
-    let (mut reader, mut writer) = client;
     let mut desk = HubDesk::new(rt, alloc, accepted, hub, pass, seat, watch);
     let _ = serve_session(alloc, &mut reader, &mut writer, &mut desk);
     let (seat, receipts) = desk.into_parts();
@@ -196,10 +196,13 @@ fn host<
     hub: Arc<Hub<B, T>>,
     pass: Pass,
     seat: Seat<B, T>,
-    client: (I, O),
+    reader: I,
+    writer: O,
     watch: W,
 ) -> Option<JoinHandle<Done<B, T>>> {
-    let job = move || serve(&rt, alloc, accepted, &*hub, pass, seat, client, watch);
+    let job = move || serve(
+        &rt, alloc, accepted, &*hub, pass, seat, reader, writer, watch,
+    );
     thread::spawn(&rt, job).ok()
 }
 
@@ -223,7 +226,8 @@ fn admit<
 ) -> Option<JoinHandle<Done<B, T>>> {
     let accepted = Arc::try_clone(accepted).ok()?;
     let hub = Arc::try_clone(hub).ok()?;
-    host(rt, alloc, accepted, hub, pass, seat, client, watch)
+    let (reader, writer) = client;
+    host(rt, alloc, accepted, hub, pass, seat, reader, writer, watch)
 }
 
 /// How many servers there are.

@@ -1,7 +1,6 @@
 use denote.Param.Send.{sendable}
 use Rattle.std.proofs.Crossing.{crosses}
 use Rattle.std.proofs.alloc.Global.TheSendSync as heap
-use Rattle.mcv_base.proofs.server.ServerText.TheSendSync as text
 use Rattle.mcv_spool.proofs.spool.Spool.TheSendSync as spool
 use Rattle.mcv_hub.proofs.pass.Pass.TheSendSync as pass
 use Rattle.mcv_proxy.proofs.Crossing.{ends_send, ends_sync, hub_send, hub_sync, maybe_text_send, text_send}

@@ -1,7 +1,6 @@
 use denote.Param.Send.{sendable}
 use Rattle.std.proofs.Crossing.{crosses}
 use Rattle.std.proofs.alloc.Global.TheSendSync as heap
-use Rattle.mcv_hub.proofs.seat.Seat.TheSendSync as seat
 use Rattle.mcv_hub.proofs.pass.Pass.TheSendSync as pass
 use Rattle.mcv_proxy.proofs.Crossing.{accepted_send, accepted_sync, hub_send, hub_sync, seat_send}
 use Rattle.mcv_proxy.proofs.threads.host.Goals as goal
