@@ -217,7 +217,9 @@ fn holds<R: Wait + Copy + Drop>(rt: R, alloc: Global, pass: &Pass, row: Row) -> 
 #[test]
 fn legs_go_over_the_kept_connection_or_a_new_one(rt: HostRuntime) -> Result<(), Fail> {
     let alloc = rt.alloc();
-    let pass = pass_of::<Brand, Brand>(alloc, Blank::new(2), Blank::new(2))?;
+    let begun = Blank::new(2);
+    let taken = Blank::new(2);
+    let pass = pass_of::<Brand, Brand>(alloc, begun, taken)?;
     for row in ROWS {
         assert!(rt; holds(rt, alloc, &pass, *row)?, "{}", row.name);
     }
