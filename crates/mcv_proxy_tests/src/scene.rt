@@ -237,10 +237,10 @@ impl<R: Clock + Drop> Read for Client<R> {
         if self.at >= self.bytes.len() {
             self.hold();
         }
-        let left = self.bytes.as_slice().get(self.at..).unwrap_or(&[]);
-        let count = left.len().min(buf.len()).min(100);
-        buf[..count].copy_from_slice(&left[..count]);
-        self.at = self.at.saturating_add(count);
+        let at = self.at.min(self.bytes.len());
+        let count = (self.bytes.len() - at).min(buf.len()).min(100);
+        buf[..count].copy_from_slice(&self.bytes.as_slice()[at..at + count]);
+        self.at = at + count;
         Ok(count)
     }
 }
@@ -345,8 +345,8 @@ impl<R: Wait + Clock + Copy + Drop + Send + 'static> Scene<R> {
 
     /// The same clients, of which the next one goes only once this is set.
     pub(crate) fn held_by(mut self, sign: Arc<AtomicBool>) -> Scene<R> {
-        if let Some((client, _output)) = self.clients.last_mut() {
-            client.waits_for = Some(sign);
+        if let Some(next) = self.clients.last_mut() {
+            next.0.waits_for = Some(sign);
         }
         self
     }
