@@ -53,6 +53,19 @@ fn is_report(report: Report, calls: u64) -> bool {
     report.begun == calls && report.taken == calls && report.older == 0
 }
 
+/// Whether the servers were sent so many legs.
+fn were_sent<R: Wait + Clock + Copy + Drop + Send + 'static>(
+    seen: &Scene<R>,
+    legs: &[u64],
+) -> bool {
+    for server in 0..legs.len() {
+        if seen.legs(server) != legs[server] {
+            return false;
+        }
+    }
+    true
+}
+
 /// Whether one client of this configuration is answered so, and the servers are sent so many legs.
 fn one_client<R: Threads + Wait + Clock + Copy + Drop + Send + 'static>(
     rt: R,
@@ -73,11 +86,7 @@ fn one_client<R: Threads + Wait + Clock + Copy + Drop + Send + 'static>(
     let Ok(report) = report else {
         return Ok(false);
     };
-    let all_sent = legs
-        .iter()
-        .enumerate()
-        .all(|(server, count)| seen.legs(server) == *count);
-    Ok(seen.is_answered(0, answer) && is_report(report, calls) && all_sent)
+    Ok(seen.is_answered(0, answer) && is_report(report, calls) && were_sent(&seen, legs))
 }
 
 #[test]
