@@ -11,7 +11,7 @@ use std::sync::Arc;
 const READS: u64 = 2_000_000;
 
 /// Writes a text, with one write where the connection takes all of it at once.
-fn write_text<S: Write>(stream: &mut S, text: &[u8]) -> Result<(), Loss> {
+pub(crate) fn write_text<S: Write>(stream: &mut S, text: &[u8]) -> Result<(), Loss> {
     match stream.write(text) {
         Ok(count) if count == text.len() => Ok(()),
         Ok(count) => match stream.write_all(&text[count..]) {
@@ -46,7 +46,7 @@ fn next_piece<S: Read>(stream: &mut S, room: &mut [u8], has_read: bool) -> Resul
 }
 
 /// Reads the reply to a leg, with at most 2,000,000 reads.
-fn read_reply<S: Read>(
+pub(crate) fn read_reply<S: Read>(
     alloc: Global,
     stream: &mut S,
     room: &mut [u8],

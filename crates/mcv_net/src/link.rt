@@ -1,7 +1,7 @@
 //! The way to one server, over one connection.
 
 use crate::dial::Dial;
-use crate::exchange::{ask, ask_version};
+use crate::exchange::{ask, ask_version, read_reply, write_text};
 use crate::loss::{Loss, may_ask_again};
 use crate::notice::{Notice, Notices};
 use mcv_base::{LegRequest, Op, Reply};
@@ -28,7 +28,16 @@ pub struct TcpLink<D: Dial, N: Notices> {
     dial: D,
     notices: N,
     kept: Option<D::Stream>,
+    /// The connection over which a leg is under way. It isn't kept meanwhile.
+    begun: Option<Begun<D::Stream>>,
     room: Vec<u8>,
+}
+
+/// A leg that was written to a connection, or couldn't be.
+#[derive(Drop)]
+struct Begun<S: Drop> {
+    stream: S,
+    written: Result<(), Loss>,
 }
 
 fn fault_of(loss: Loss) -> LinkFault {
@@ -55,8 +64,34 @@ impl<D: Dial, N: Notices> TcpLink<D, N> {
             dial,
             notices,
             kept: None,
+            begun: None,
             room,
         })
+    }
+
+    /// Writes a leg to the kept connection, if there is one and memory for the leg's text.
+    fn begin(&mut self, leg: &LegRequest) {
+        self.begun = None;
+        let Ok(text) = leg_text(self.alloc, leg) else {
+            return;
+        };
+        if let Some(stream) = self.kept.take() {
+            let mut stream = stream;
+            let written = write_text(&mut stream, text.as_slice());
+            self.begun = Some(Begun { stream, written });
+        }
+    }
+
+    /// Reads the reply to a leg that was written, and keeps the connection where the reply is there.
+    fn finish(&mut self, begun: Begun<D::Stream>, leg: &LegRequest) -> Result<Reply, Loss> {
+        let Begun {
+            mut stream,
+            written,
+        } = begun;
+        written?;
+        let reply = read_reply(self.alloc, &mut stream, self.room.as_mut_slice(), leg)?;
+        self.kept = Some(stream);
+        Ok(reply)
     }
 
     /// Sends a leg over this connection, and keeps it where the reply is there.
@@ -73,20 +108,23 @@ impl<D: Dial, N: Notices> TcpLink<D, N> {
     }
 
     /// Sends a leg over a new connection.
-    fn ask_anew(&mut self, leg: &LegRequest, text: &[u8]) -> Result<Reply, Loss> {
+    fn ask_anew(&mut self, leg: &LegRequest) -> Result<Reply, Loss> {
+        let Ok(text) = leg_text(self.alloc, leg) else {
+            return Err(Loss::Memory);
+        };
         match self.dial.dial(self.server.as_str()) {
-            Some(stream) => self.ask_over(stream, leg, text),
+            Some(stream) => self.ask_over(stream, leg, text.as_slice()),
             None => Err(Loss::Unwritten),
         }
     }
 
-    /// Sends a leg over the kept connection; over a new one where there is none, and where the leg may be sent once more.
-    fn ask(&mut self, leg: &LegRequest, text: &[u8]) -> Result<Reply, Loss> {
-        let Some(stream) = self.kept.take() else {
-            return self.ask_anew(leg, text);
+    /// Goes on with a leg that is under way; one that isn't, or that may be sent once more, is sent over a new connection.
+    fn ask(&mut self, leg: &LegRequest) -> Result<Reply, Loss> {
+        let Some(begun) = self.begun.take() else {
+            return self.ask_anew(leg);
         };
-        match self.ask_over(stream, leg, text) {
-            Err(loss) if may_ask_again(leg.op, loss) => self.ask_anew(leg, text),
+        match self.finish(begun, leg) {
+            Err(loss) if may_ask_again(leg.op, loss) => self.ask_anew(leg),
             outcome => outcome,
         }
     }
@@ -120,11 +158,15 @@ impl<D: Dial, N: Notices> TcpLink<D, N> {
 }
 
 impl<D: Dial, N: Notices> Link for TcpLink<D, N> {
+    fn start(&mut self, _pass: &Pass, leg: &LegRequest) {
+        self.begin(leg);
+    }
+
     fn send(&mut self, _pass: &Pass, leg: &LegRequest) -> Result<Reply, LinkFault> {
-        let Ok(text) = leg_text(self.alloc, leg) else {
-            return Err(LinkFault::Memory);
-        };
-        match self.ask(leg, text.as_slice()) {
+        if self.begun.is_none() {
+            self.begin(leg);
+        }
+        match self.ask(leg) {
             Ok(reply) => Ok(reply),
             Err(loss) => Err(fault_of(loss)),
         }

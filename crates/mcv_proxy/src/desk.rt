@@ -5,8 +5,10 @@ ghost use Rattle.std.specs.Arc.{arc_value};
 ghost use Rattle.mcv_text.specs.Request.{request_value};
 ghost use Rattle.mcv_session.specs.Desk.{keys_of};
 
+use crate::errands::Errands;
 use crate::events;
-use crate::gates::Watch;
+use crate::gates::{Link, Watch};
+use crate::lanes::{Lanes, Links};
 use mcv_base::{CallId, Part, Request};
 use mcv_core::CoreFault;
 use mcv_hub::{Bell, Guard, Hub, Pass, Receipt, Seat, TakenReply};
@@ -23,21 +25,32 @@ const ATTEMPTS: u32 = 100;
 /// How long such a call waits each time at most, in milliseconds.
 const PATIENCE: u64 = 10;
 
-/// What calls of a hub take: the pass and the seat of one session, and its watch.
+/// What calls of a hub take: the ways to the servers, the pass and the seat of one session, its watch and its errands.
 #[derive(Drop)]
-struct Caller<'a, B: Ledger, T: Ledger, W: Watch, R: Wait + Clock> {
+struct Caller<'a, B: Ledger, T: Ledger, L: Link, W: Watch, R: Wait + Clock> {
     rt: &'a R,
     alloc: Global,
     hub: &'a Hub<B, T>,
+    lanes: &'a Lanes,
+    links: &'a Links<L>,
     pass: Pass,
     seat: Seat<B, T>,
     watch: W,
+    errands: Errands<'a, B, T>,
+}
+
+/// How far a session has come with the replies to its calls.
+#[derive(Clone, Copy)]
+struct Progress {
+    /// How many calls are done with: their replies were taken, or won't come.
+    done: usize,
+    missed: Option<CoreFault>,
 }
 
 /// Answers the requests of one session by calls of a hub, one for each key.
 #[derive(Drop)]
-pub struct HubDesk<'a, B: Ledger, T: Ledger, W: Watch, R: Wait + Clock> {
-    caller: Caller<'a, B, T, W, R>,
+pub struct HubDesk<'a, B: Ledger, T: Ledger, L: Link, W: Watch, R: Wait + Clock> {
+    caller: Caller<'a, B, T, L, W, R>,
     receipts: Vec<Receipt>,
 }
 
@@ -70,51 +83,62 @@ fn key_count(request: &Request) -> usize
 /// Begins a call. Where the chapter has no place for it, a new chapter begins first. The first key of a request waits for
 /// that a second at most, while calls run or legs are queued; for another one the request's own calls run, so it is
 /// refused.
-fn begin_in_chapter<B: Ledger, T: Ledger, R: Wait + Clock>(
+fn begin_in_chapter<'a, B: Ledger, T: Ledger, R: Wait + Clock>(
     rt: &R,
     alloc: Global,
     hub: &Hub<B, T>,
-    guard: Guard<'_, B, T>,
+    guard: Guard<'a, B, T>,
     seat: &mut Seat<B, T>,
+    errands: &mut Errands<'_, B, T>,
     request: &Arc<Request>,
     key: usize,
-) -> Result<CallId, CoreFault> {
+) -> (Guard<'a, B, T>, Result<CallId, CoreFault>) {
     let mut guard = guard;
     for _attempt in 0..ATTEMPTS {
         let Ok(request) = Arc::try_clone(request) else {
-            return Err(CoreFault::Memory);
+            return (guard, Err(CoreFault::Memory));
         };
-        match events::begin(alloc, hub, &mut guard, seat, request, key) {
+        match events::begin(alloc, &mut errands.agenda, &mut guard, seat, request, key) {
             Err(CoreFault::ChapterFull) => {}
-            answer => return answer,
+            answer => return (guard, answer),
         }
         if guard.turn().is_err() {
             if key > 0 {
-                return Err(CoreFault::ChapterFull);
+                return (guard, Err(CoreFault::ChapterFull));
             }
             guard = hub.wait_for(rt, guard, Bell::Chapter, Duration::from_millis(PATIENCE));
         }
     }
-    Err(CoreFault::ChapterFull)
+    (guard, Err(CoreFault::ChapterFull))
 }
 
-/// Waits for the reply to a call, and takes it.
-fn take<B: Ledger, T: Ledger, R: Wait>(
+/// Begins the calls for the keys of a request, in their order, up to the first that is refused.
+fn begin_all<'a, B: Ledger, T: Ledger, R: Wait + Clock>(
     rt: &R,
+    alloc: Global,
     hub: &Hub<B, T>,
-    pass: &mut Pass,
+    guard: Guard<'a, B, T>,
     seat: &mut Seat<B, T>,
-    call: CallId,
-) -> Result<TakenReply, CoreFault> {
-    let mut guard = hub.lock(rt, pass);
-    for _turn in rt.forever() {
-        if let Some(taken) = guard.take_reply(seat, call)? {
-            events::turn_where_full(hub, &mut guard);
-            return Ok(taken);
+    errands: &mut Errands<'_, B, T>,
+    request: &Arc<Request>,
+    count: usize,
+    calls: &mut Vec<CallId>,
+) -> (Guard<'a, B, T>, Result<(), CoreFault>)
+    requires { vec_len calls.old + count ≤ vec_capacity calls.old }
+    ensures all { OnOk result.1 (vec_len calls.new ≡ vec_len calls.old + count) }
+    ensures most { vec_len calls.new ≤ vec_len calls.old + count }
+{
+    let mut guard = guard;
+    for key in 0..count {
+        let (next, begun) =
+            begin_in_chapter(rt, alloc, hub, guard, seat, errands, request, key);
+        guard = next;
+        match begun {
+            Ok(call) => calls.push_reserved(call),
+            Err(fault) => return (guard, Err(fault)),
         }
-        guard = hub.wait(rt, guard, Bell::Call(call));
     }
-    unreachable!()
+    (guard, Ok(()))
 }
 
 /// Keeps a reply that was taken, and its receipt.
@@ -132,76 +156,192 @@ fn keep(taken: TakenReply, parts: &mut Vec<Part>, receipts: &mut Vec<Receipt>)
     parts.push_reserved(taken.into_reply());
 }
 
-impl<'a, B: Ledger, T: Ledger, W: Watch, R: Wait + Clock> Caller<'a, B, T, W, R> {
-    /// Begins a call for one key of a request, at this moment.
-    fn begin(&mut self, request: &Arc<Request>, key: usize) -> Result<CallId, CoreFault> {
-        let moment = self.watch.moment();
-        let mut guard = self.hub.lock(self.rt, &mut self.pass);
-        // A moment before the hub's leaves its era as it is.
-        let _ = guard.clock(moment);
-        let (alloc, hub) = (self.alloc, self.hub);
-        begin_in_chapter(self.rt, alloc, hub, guard, &mut self.seat, request, key)
+/// Takes the reply to a call, if it is there, and keeps it. Whether it was there.
+fn take<B: Ledger, T: Ledger>(
+    guard: &mut Guard<'_, B, T>,
+    seat: &mut Seat<B, T>,
+    call: CallId,
+    parts: &mut Vec<Part>,
+    receipts: &mut Vec<Receipt>,
+) -> Result<bool, CoreFault>
+    requires parts { vec_len parts.old < vec_capacity parts.old }
+    requires receipts { vec_len receipts.old < vec_capacity receipts.old }
+{
+    match guard.take_reply(seat, call)? {
+        Some(taken) => {
+            keep(taken, parts, receipts);
+            Ok(true)
+        }
+        None => Ok(false),
     }
+}
 
-    /// Begins the calls for the keys of a request, in their order, up to the first that is refused.
-    fn begin_all(
+/// Takes the replies to calls that are there, in their order, up to the first that isn't. Where one won't come the others are
+/// taken too.
+fn take_ready<B: Ledger, T: Ledger>(
+    guard: &mut Guard<'_, B, T>,
+    seat: &mut Seat<B, T>,
+    calls: &[CallId],
+    progress: Progress,
+    parts: &mut Vec<Part>,
+    receipts: &mut Vec<Receipt>,
+) -> Progress {
+    let mut missed = progress.missed;
+    for done in progress.done..calls.len() {
+        match take(guard, seat, calls[done], parts, receipts) {
+            Ok(true) => {}
+            Ok(false) => return Progress { done, missed },
+            Err(fault) => missed = Some(fault),
+        }
+    }
+    Progress {
+        done: calls.len(),
+        missed,
+    }
+}
+
+/// Goes on with calls under the lock until legs are to be sent, or all replies were taken.
+fn go_on<B: Ledger, T: Ledger, R: Wait>(
+    rt: &R,
+    alloc: Global,
+    hub: &Hub<B, T>,
+    lanes: &Lanes,
+    guard: Guard<'_, B, T>,
+    seat: &mut Seat<B, T>,
+    errands: &mut Errands<'_, B, T>,
+    calls: &[CallId],
+    progress: Progress,
+    parts: &mut Vec<Part>,
+    receipts: &mut Vec<Receipt>,
+) -> Progress {
+    let mut guard = guard;
+    let mut progress = progress;
+    for _turn in rt.forever() {
+        progress = take_ready(&mut guard, seat, calls, progress, parts, receipts);
+        let Some(call) = calls.get(progress.done) else {
+            errands.leave(&guard);
+            events::turn_where_full(&mut errands.agenda, &mut guard);
+            return progress;
+        };
+        errands.set_off(rt, alloc, lanes, &mut guard, calls, *call);
+        if errands.have_flights() {
+            return progress;
+        }
+        errands.agenda.ring_all();
+        guard = hub.wait(rt, guard, Bell::Call(*call));
+    }
+    unreachable!()
+}
+
+impl<'a, B: Ledger, T: Ledger, L: Link, W: Watch, R: Wait + Clock> Caller<'a, B, T, L, W, R> {
+    /// Begins the calls for the keys of a request at this moment, up to the first that is refused, and goes on with them.
+    fn first_round(
         &mut self,
         request: &Arc<Request>,
         count: usize,
         calls: &mut Vec<CallId>,
-    ) -> Result<(), CoreFault>
-        requires { vec_len calls.old + count ≤ vec_capacity calls.old }
-        ensures all { OnOk result (vec_len calls.new ≡ vec_len calls.old + count) }
-        ensures most { vec_len calls.new ≤ vec_len calls.old + count }
-    {
-        for key in 0..count {
-            let call = self.begin(request, key)?;
-            calls.push_reserved(call);
-        }
-        Ok(())
+        parts: &mut Vec<Part>,
+        receipts: &mut Vec<Receipt>,
+    ) -> (Progress, Result<(), CoreFault>) {
+        let moment = self.watch.moment();
+        let (rt, alloc, hub, lanes) = (self.rt, self.alloc, self.hub, self.lanes);
+        let mut guard = hub.lock(rt, &mut self.pass);
+        // A moment before the hub's leaves its era as it is.
+        let _ = guard.clock(moment);
+        let (guard, begun) = begin_all(
+            rt,
+            alloc,
+            hub,
+            guard,
+            &mut self.seat,
+            &mut self.errands,
+            request,
+            count,
+            calls,
+        );
+        let fresh = Progress {
+            done: 0,
+            missed: None,
+        };
+        let progress = go_on(
+            rt,
+            alloc,
+            hub,
+            lanes,
+            guard,
+            &mut self.seat,
+            &mut self.errands,
+            calls.as_slice(),
+            fresh,
+            parts,
+            receipts,
+        );
+        (progress, begun)
     }
 
-    /// Waits for the reply to a call, and takes it.
-    fn take(&mut self, call: CallId) -> Result<TakenReply, CoreFault> {
-        take(self.rt, self.hub, &mut self.pass, &mut self.seat, call)
+    /// Reports what came of the legs that were sent, and goes on with the calls.
+    fn next_round(
+        &mut self,
+        calls: &[CallId],
+        progress: Progress,
+        parts: &mut Vec<Part>,
+        receipts: &mut Vec<Receipt>,
+    ) -> Progress {
+        let (rt, alloc, hub, lanes) = (self.rt, self.alloc, self.hub, self.lanes);
+        let mut guard = hub.lock(rt, &mut self.pass);
+        self.errands.land_all(rt, lanes, &mut guard, calls);
+        go_on(
+            rt,
+            alloc,
+            hub,
+            lanes,
+            guard,
+            &mut self.seat,
+            &mut self.errands,
+            calls,
+            progress,
+            parts,
+            receipts,
+        )
     }
 
-    /// Takes the replies to calls, in their order, and keeps their receipts. Where one isn't there the others are taken too.
+    /// Sends legs, as long as there are any, and takes the replies to all calls, in their order, with their receipts.
     fn take_all(
         &mut self,
         calls: &[CallId],
+        progress: Progress,
         parts: &mut Vec<Part>,
         receipts: &mut Vec<Receipt>,
-    ) -> Result<(), CoreFault>
-        requires parts { vec_len parts.old + length calls.now ≤ vec_capacity parts.old }
-        requires receipts { vec_len receipts.old + length calls.now ≤ vec_capacity receipts.old }
-        ensures parts { OnOk result (vec_len parts.new ≡ vec_len parts.old + length calls.now) }
-        ensures receipts { OnOk result (vec_len receipts.new ≡ vec_len receipts.old + length calls.now) }
-    {
-        let mut missed = None;
-        for call in calls {
-            match self.take(*call) {
-                Ok(taken) => keep(taken, parts, receipts),
-                Err(fault) => missed = Some(fault),
+    ) -> Result<(), CoreFault> {
+        let mut progress = progress;
+        for _turn in self.rt.forever() {
+            if !self.errands.have_flights() {
+                break;
             }
+            self.errands
+                .carry(self.rt, self.alloc, self.links, &self.pass);
+            progress = self.next_round(calls, progress, parts, receipts);
         }
-        match missed {
+        self.errands.finish(self.rt, self.links, &self.pass);
+        match progress.missed {
             Some(fault) => Err(fault),
             None => Ok(()),
         }
     }
 }
 
-impl<'a, B: Ledger, T: Ledger, W: Watch, R: Wait + Clock> HubDesk<'a, B, T, W, R> {
+impl<'a, B: Ledger, T: Ledger, L: Link, W: Watch, R: Wait + Clock> HubDesk<'a, B, T, L, W, R> {
     /// A desk that has answered nothing.
     pub fn new(
         rt: &'a R,
         alloc: Global,
         hub: &'a Hub<B, T>,
+        lanes: &'a Lanes,
+        links: &'a Links<L>,
         pass: Pass,
         seat: Seat<B, T>,
         watch: W,
-    ) -> HubDesk<'a, B, T, W, R>
+    ) -> HubDesk<'a, B, T, L, W, R>
         ensures receipts { result.receipts.items ≡ [] }
     {
         HubDesk {
@@ -209,9 +349,12 @@ impl<'a, B: Ledger, T: Ledger, W: Watch, R: Wait + Clock> HubDesk<'a, B, T, W, R
                 rt,
                 alloc,
                 hub,
+                lanes,
+                links,
                 pass,
                 seat,
                 watch,
+                errands: Errands::new(alloc, hub),
             },
             receipts: Vec::new(alloc),
         }
@@ -243,15 +386,21 @@ impl<'a, B: Ledger, T: Ledger, W: Watch, R: Wait + Clock> HubDesk<'a, B, T, W, R
         let Ok(()) = self.receipts.reserve(count) else {
             return Err(CoreFault::Memory);
         };
-        let begun = self.caller.begin_all(request, count, &mut calls);
+        let (progress, begun) = self.caller.first_round(
+            request,
+            count,
+            &mut calls,
+            &mut parts,
+            &mut self.receipts,
+        );
         self.caller
-            .take_all(&calls, &mut parts, &mut self.receipts)?;
+            .take_all(&calls, progress, &mut parts, &mut self.receipts)?;
         begun?;
         Ok(parts)
     }
 }
 
-impl<'a, B: Ledger, T: Ledger, W: Watch, R: Wait + Clock> Desk for HubDesk<'a, B, T, W, R> {
+impl<'a, B: Ledger, T: Ledger, L: Link, W: Watch, R: Wait + Clock> Desk for HubDesk<'a, B, T, L, W, R> {
     // Where it answers it has one receipt more for each key.
     ghost asks = { λ old request answer new. OnOk answer (vec_len new.receipts ≡ vec_len old.receipts + length (keys_of request)) };
 

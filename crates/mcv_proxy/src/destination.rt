@@ -1,8 +1,10 @@
 //! The worker of a server.
 
+use crate::agenda::Agenda;
 use crate::ends::Ends;
 use crate::events::{landed, lost};
 use crate::gates::{Link, LinkFault};
+use crate::lanes::Lanes;
 use mcv_base::{LegId, LegRequest, Reply, ServerId};
 use mcv_core::{CoreFault, Place};
 use mcv_hub::{Bell, Guard, Hub, LegReply, Pass};
@@ -36,39 +38,76 @@ pub(crate) fn reply_of(alloc: Global, sent: Result<Reply, LinkFault>) -> Option<
 /// memory.
 fn task_for<B: Ledger, T: Ledger>(
     alloc: Global,
-    hub: &Hub<B, T>,
+    agenda: &mut Agenda<'_, B, T>,
     guard: &mut Guard<'_, B, T>,
     server: ServerId,
     leg: LegId,
 ) -> Task {
     if guard.core().marked(server) {
-        let _ = lost(hub, guard, server, leg);
+        let _ = lost(agenda, guard, &[], server, leg);
         return Task::Probe;
     }
     match guard.core().to_request(alloc, leg) {
         Ok(Some(request)) => Task::Send(leg, request),
         Ok(None) | Err(_) => {
-            let _ = lost(hub, guard, server, leg);
+            let _ = lost(agenda, guard, &[], server, leg);
             Task::Nothing
         }
     }
 }
 
-/// Waits until a leg can be sent to the server, and sends it; or until none waits and the worker is to end.
+/// As `task_for`; where the leg is lost, who is next at its server is rung.
+fn task_or_next<B: Ledger, T: Ledger, R: Wait>(
+    rt: &R,
+    alloc: Global,
+    lanes: &Lanes,
+    agenda: &mut Agenda<'_, B, T>,
+    guard: &mut Guard<'_, B, T>,
+    server: ServerId,
+    leg: LegId,
+) -> Task {
+    let task = task_for(alloc, agenda, guard, server, leg);
+    if !matches!(task, Task::Send(..)) {
+        note_next(rt, lanes, agenda, guard, server);
+    }
+    task
+}
+
+/// No leg of the server is in flight any more: who is next there is rung.
+fn note_next<B: Ledger, T: Ledger, R: Wait>(
+    rt: &R,
+    lanes: &Lanes,
+    agenda: &mut Agenda<'_, B, T>,
+    guard: &Guard<'_, B, T>,
+    server: ServerId,
+) {
+    if let Some(bell) = lanes.heir(rt, guard.core(), server) {
+        agenda.add(bell);
+    }
+}
+
+/// Waits until a leg can be sent to the server, and sends it; or until none waits and the worker is to end. A probe that is
+/// asked for comes behind the legs that can be sent.
 fn next_task<B: Ledger, T: Ledger, R: Wait>(
     rt: &R,
     alloc: Global,
-    hub: &Hub<B, T>,
+    lanes: &Lanes,
+    agenda: &mut Agenda<'_, B, T>,
     pass: &mut Pass,
     server: ServerId,
     ends: &Ends,
 ) -> Task {
+    let hub = agenda.hub();
     let mut guard = hub.lock(rt, pass);
     for _turn in rt.forever() {
         match guard.next(server) {
-            Ok(leg) => return task_for(alloc, hub, &mut guard, server, leg),
+            Ok(leg) => return task_or_next(rt, alloc, lanes, agenda, &mut guard, server, leg),
             Err(CoreFault::NothingWaiting) if ends.are_asked() => return Task::End,
+            Err(CoreFault::Busy) => lanes.queue_worker(rt, server),
             Err(_) => {}
+        }
+        if lanes.take_probe(rt, server) {
+            return Task::Probe;
         }
         guard = hub.wait(rt, guard, Bell::Server(server));
     }
@@ -83,21 +122,39 @@ pub(crate) struct Landing {
     pub(crate) marks: bool,
 }
 
-/// Reports what came of a leg in flight.
+/// Reports what came of a leg in flight, and rings who is next at its server.
 pub(crate) fn report<B: Ledger, T: Ledger, R: Wait>(
     rt: &R,
-    hub: &Hub<B, T>,
+    lanes: &Lanes,
+    agenda: &mut Agenda<'_, B, T>,
     pass: &mut Pass,
     server: ServerId,
     leg: LegId,
     reply: Option<LegReply>,
 ) -> Landing {
+    let landing = land(rt, lanes, agenda, pass, server, leg, reply);
+    agenda.ring_all();
+    landing
+}
+
+/// Reports what came of a leg in flight, and notes whom to ring.
+fn land<B: Ledger, T: Ledger, R: Wait>(
+    rt: &R,
+    lanes: &Lanes,
+    agenda: &mut Agenda<'_, B, T>,
+    pass: &mut Pass,
+    server: ServerId,
+    leg: LegId,
+    reply: Option<LegReply>,
+) -> Landing {
+    let hub = agenda.hub();
     let mut guard = hub.lock(rt, pass);
     let was_marked = guard.core().marked(server);
-    let is_performed = match landed(hub, &mut guard, server, leg, reply) {
+    let is_performed = match landed(agenda, &mut guard, &[], server, leg, reply) {
         Ok(step) => step.place == Place::Performed,
         Err(_) => false,
     };
+    note_next(rt, lanes, agenda, &guard, server);
     Landing {
         is_performed,
         marks: !was_marked && guard.core().marked(server),
@@ -108,7 +165,8 @@ pub(crate) fn report<B: Ledger, T: Ledger, R: Wait>(
 fn send<B: Ledger, T: Ledger, L: Link, R: Wait>(
     rt: &R,
     alloc: Global,
-    hub: &Hub<B, T>,
+    lanes: &Lanes,
+    agenda: &mut Agenda<'_, B, T>,
     pass: &mut Pass,
     link: &mut L,
     server: ServerId,
@@ -117,7 +175,7 @@ fn send<B: Ledger, T: Ledger, L: Link, R: Wait>(
 ) {
     let sent = link.send(pass, request);
     let reply = reply_of(alloc, sent);
-    if report(rt, hub, pass, server, leg, reply).marks {
+    if report(rt, lanes, agenda, pass, server, leg, reply).marks {
         link.note_marked(pass);
     }
 }
@@ -153,20 +211,25 @@ pub(crate) fn probe<B: Ledger, T: Ledger, L: Link, R: Wait>(
 }
 
 /// Sends the legs that wait for a server, one at a time, until none waits and the worker is to end, at most 1,000,000,000.
-/// The legs of a marked server are lost without being sent, and after each the server is probed once.
+/// The legs of a marked server are lost without being sent, and after each the server is probed once, as it is where a
+/// session lost one so.
 pub fn serve_destination<B: Ledger, T: Ledger, L: Link, R: Wait>(
     rt: &R,
     alloc: Global,
     hub: &Hub<B, T>,
+    lanes: &Lanes,
     pass: &mut Pass,
     link: &mut L,
     server: ServerId,
     ends: &Ends,
 ) {
+    let mut agenda = Agenda::new(alloc, hub);
     for _turn in 0..TURNS {
-        match next_task(rt, alloc, hub, pass, server, ends) {
+        let task = next_task(rt, alloc, lanes, &mut agenda, pass, server, ends);
+        agenda.ring_all();
+        match task {
             Task::Send(leg, request) => {
-                send(rt, alloc, hub, pass, link, server, leg, &request);
+                send(rt, alloc, lanes, &mut agenda, pass, link, server, leg, &request);
             }
             Task::Probe => {
                 probe(rt, hub, pass, link, server);
