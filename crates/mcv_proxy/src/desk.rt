@@ -223,12 +223,14 @@ fn go_on<B: Ledger, T: Ledger, R: Wait>(
             events::turn_where_full(&mut errands.agenda, &mut guard);
             return progress;
         };
-        errands.set_off(rt, alloc, lanes, &mut guard, calls, *call);
+        let has_lost = errands.set_off(rt, alloc, lanes, &mut guard, calls, *call);
         if errands.have_flights() {
             return progress;
         }
-        errands.agenda.ring_all();
-        guard = hub.wait(rt, guard, Bell::Call(*call));
+        if !has_lost {
+            errands.agenda.ring_all();
+            guard = hub.wait(rt, guard, Bell::Call(*call));
+        }
     }
     unreachable!()
 }

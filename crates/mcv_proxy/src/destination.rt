@@ -86,6 +86,35 @@ fn note_next<B: Ledger, T: Ledger, R: Wait>(
     }
 }
 
+/// What came of the leg that a worker sent.
+#[derive(Drop)]
+struct Landed {
+    leg: LegId,
+    reply: Option<LegReply>,
+}
+
+/// What a worker is to do next, and whether its server is marked by the leg that landed.
+#[derive(Drop)]
+struct Turn {
+    task: Task,
+    marks: bool,
+}
+
+/// Reports what came of the leg that the worker sent, if there was one. Whether its server is marked by that.
+fn land<B: Ledger, T: Ledger>(
+    agenda: &mut Agenda<'_, B, T>,
+    guard: &mut Guard<'_, B, T>,
+    server: ServerId,
+    sent: Option<Landed>,
+) -> bool {
+    let Some(sent) = sent else {
+        return false;
+    };
+    let was_marked = guard.core().marked(server);
+    let _ = landed(agenda, guard, &[], server, sent.leg, sent.reply);
+    !was_marked && guard.core().marked(server)
+}
+
 /// Waits until a leg can be sent to the server, and sends it; or until none waits and the worker is to end. A probe that is
 /// asked for comes behind the legs that can be sent.
 fn next_task<B: Ledger, T: Ledger, R: Wait>(
@@ -93,12 +122,12 @@ fn next_task<B: Ledger, T: Ledger, R: Wait>(
     alloc: Global,
     lanes: &Lanes,
     agenda: &mut Agenda<'_, B, T>,
-    pass: &mut Pass,
+    guard: Guard<'_, B, T>,
     server: ServerId,
     ends: &Ends,
 ) -> Task {
     let hub = agenda.hub();
-    let mut guard = hub.lock(rt, pass);
+    let mut guard = guard;
     for _turn in rt.forever() {
         match guard.next(server) {
             Ok(leg) => return task_or_next(rt, alloc, lanes, agenda, &mut guard, server, leg),
@@ -109,9 +138,36 @@ fn next_task<B: Ledger, T: Ledger, R: Wait>(
         if lanes.take_probe(rt, server) {
             return Task::Probe;
         }
+        agenda.ring_all();
         guard = hub.wait(rt, guard, Bell::Server(server));
     }
     unreachable!()
+}
+
+/// Reports what came of the leg that the worker sent, and waits for its next task. Where the server is marked by that it has
+/// none for now.
+fn turn<B: Ledger, T: Ledger, R: Wait>(
+    rt: &R,
+    alloc: Global,
+    lanes: &Lanes,
+    agenda: &mut Agenda<'_, B, T>,
+    pass: &mut Pass,
+    server: ServerId,
+    ends: &Ends,
+    sent: Option<Landed>,
+) -> Turn {
+    let hub = agenda.hub();
+    let mut guard = hub.lock(rt, pass);
+    let marks = land(agenda, &mut guard, server, sent);
+    lanes.clear(rt, guard.core(), server);
+    if marks {
+        return Turn {
+            task: Task::Nothing,
+            marks,
+        };
+    }
+    let task = next_task(rt, alloc, lanes, agenda, guard, server, ends);
+    Turn { task, marks }
 }
 
 /// What a leg in flight came to.
@@ -132,13 +188,13 @@ pub(crate) fn report<B: Ledger, T: Ledger, R: Wait>(
     leg: LegId,
     reply: Option<LegReply>,
 ) -> Landing {
-    let landing = land(rt, lanes, agenda, pass, server, leg, reply);
+    let landing = report_only(rt, lanes, agenda, pass, server, leg, reply);
     agenda.ring_all();
     landing
 }
 
 /// Reports what came of a leg in flight, and notes whom to ring.
-fn land<B: Ledger, T: Ledger, R: Wait>(
+fn report_only<B: Ledger, T: Ledger, R: Wait>(
     rt: &R,
     lanes: &Lanes,
     agenda: &mut Agenda<'_, B, T>,
@@ -161,22 +217,21 @@ fn land<B: Ledger, T: Ledger, R: Wait>(
     }
 }
 
-/// Sends a leg that is in flight, and reports what came of it.
-fn send<B: Ledger, T: Ledger, L: Link, R: Wait>(
-    rt: &R,
+/// Sends a leg that is in flight. Whoever is to be woken is, while it is under way.
+fn send<B: Ledger, T: Ledger, L: Link>(
     alloc: Global,
-    lanes: &Lanes,
     agenda: &mut Agenda<'_, B, T>,
-    pass: &mut Pass,
+    pass: &Pass,
     link: &mut L,
-    server: ServerId,
     leg: LegId,
     request: &LegRequest,
-) {
+) -> Landed {
+    link.start(pass, request);
+    agenda.ring_all();
     let sent = link.send(pass, request);
-    let reply = reply_of(alloc, sent);
-    if report(rt, lanes, agenda, pass, server, leg, reply).marks {
-        link.note_marked(pass);
+    Landed {
+        leg,
+        reply: reply_of(alloc, sent),
     }
 }
 
@@ -224,18 +279,24 @@ pub fn serve_destination<B: Ledger, T: Ledger, L: Link, R: Wait>(
     ends: &Ends,
 ) {
     let mut agenda = Agenda::new(alloc, hub);
+    let mut sent = None;
     for _turn in 0..TURNS {
-        let task = next_task(rt, alloc, lanes, &mut agenda, pass, server, ends);
-        agenda.ring_all();
-        match task {
+        let next = turn(rt, alloc, lanes, &mut agenda, pass, server, ends, sent);
+        sent = None;
+        if next.marks {
+            link.note_marked(pass);
+        }
+        match next.task {
             Task::Send(leg, request) => {
-                send(rt, alloc, lanes, &mut agenda, pass, link, server, leg, &request);
+                sent = Some(send(alloc, &mut agenda, pass, link, leg, &request));
             }
             Task::Probe => {
+                agenda.ring_all();
                 probe(rt, hub, pass, link, server);
             }
-            Task::Nothing => {}
-            Task::End => return,
+            Task::Nothing => agenda.ring_all(),
+            Task::End => break,
         }
     }
+    agenda.ring_all();
 }

@@ -6,7 +6,7 @@ use crate::events::{landed, lost};
 use crate::gates::Link;
 use crate::lanes::{Lanes, Links};
 use mcv_base::{CallId, LegId, LegRequest, ServerId};
-use mcv_core::{CoreFault, Place};
+use mcv_core::Place;
 use mcv_hub::{Bell, Guard, Hub, LegReply, Pass};
 use std::alloc::Global;
 use std::sync::Wait;
@@ -21,6 +21,17 @@ struct Flight {
     reply: Option<LegReply>,
 }
 
+/// When a leg that is owed is to be looked at again.
+#[derive(Clone, Copy, Debug, PartialEq, Eq)]
+enum Attention {
+    /// It doesn't wait any more.
+    None,
+    /// At once: another leg of its server was in the way, and isn't any more.
+    Now,
+    /// Once the leg in flight to its server has landed.
+    Later,
+}
+
 /// What a session has to do for the legs of its calls, and for legs of others that it put in flight.
 #[derive(Drop)]
 pub(crate) struct Errands<'a, B: Ledger, T: Ledger> {
@@ -30,6 +41,8 @@ pub(crate) struct Errands<'a, B: Ledger, T: Ledger> {
     late: Vec<Owed>,
     /// Servers that are marked since the last notice.
     marked: Vec<ServerId>,
+    /// A leg was lost without being sent, so that replies may be there.
+    has_lost: bool,
 }
 
 impl<'a, B: Ledger, T: Ledger> Errands<'a, B, T> {
@@ -40,6 +53,7 @@ impl<'a, B: Ledger, T: Ledger> Errands<'a, B, T> {
             flights: Vec::new(alloc),
             late: Vec::new(alloc),
             marked: Vec::new(alloc),
+            has_lost: false,
         }
     }
 
@@ -48,13 +62,42 @@ impl<'a, B: Ledger, T: Ledger> Errands<'a, B, T> {
         !self.flights.is_empty()
     }
 
-    /// Whether one of the legs in flight goes to the server.
-    fn fly_to(&self, server: ServerId) -> bool {
-        self.flights.iter().any(|flight| flight.server == server)
+    /// A leg in flight is to be sent. None is where there is no memory for its request.
+    fn pack(&mut self, alloc: Global, guard: &Guard<'_, B, T>, server: ServerId, leg: LegId) -> bool {
+        let Ok(Some(request)) = guard.core().to_request(alloc, leg) else {
+            return false;
+        };
+        let flight = Flight {
+            server,
+            leg,
+            request,
+            reply: None,
+        };
+        self.flights.push(flight).is_ok()
     }
 
-    /// A leg of the server came in flight: it is to be sent. That of a marked server is lost, and its worker is to probe the
-    /// server; so is one whose request gets no memory. Room for it was made.
+    /// A leg in flight won't be sent: it is lost. The worker of a marked server is to probe it, and who is next there is rung.
+    fn give_up<R: Wait>(
+        &mut self,
+        rt: &R,
+        lanes: &Lanes,
+        guard: &mut Guard<'_, B, T>,
+        own: &[CallId],
+        server: ServerId,
+        leg: LegId,
+    ) {
+        if guard.core().marked(server) {
+            lanes.ask_probe(rt, server);
+            self.agenda.add(Bell::Server(server));
+        }
+        let _ = lost(&mut self.agenda, guard, own, server, leg);
+        self.has_lost = true;
+        if let Some(bell) = lanes.heir(rt, guard.core(), server) {
+            self.agenda.add(bell);
+        }
+    }
+
+    /// A leg came in flight: it is to be sent, unless its server is marked or there is no memory. Whether it is.
     fn take_up<R: Wait>(
         &mut self,
         rt: &R,
@@ -64,28 +107,16 @@ impl<'a, B: Ledger, T: Ledger> Errands<'a, B, T> {
         own: &[CallId],
         server: ServerId,
         leg: LegId,
-    ) {
-        if !guard.core().marked(server) {
-            if let Ok(Some(request)) = guard.core().to_request(alloc, leg) {
-                let flight = Flight {
-                    server,
-                    leg,
-                    request,
-                    reply: None,
-                };
-                if self.flights.push(flight).is_ok() {
-                    return;
-                }
-            }
-        } else {
-            lanes.ask_probe(rt, server);
+    ) -> bool {
+        if !guard.core().marked(server) && self.pack(alloc, guard, server, leg) {
+            return true;
         }
-        let _ = lost(&mut self.agenda, guard, own, server, leg);
-        self.agenda.add(Bell::Server(server));
+        self.give_up(rt, lanes, guard, own, server, leg);
+        false
     }
 
     /// Puts a leg in flight to the server of one that is owed, if it still waits. Where another one is in flight the session
-    /// waits in the lane, at the bell of this call. Whether the leg is still owed.
+    /// waits in the lane, at the bell of this call.
     fn attend<R: Wait>(
         &mut self,
         rt: &R,
@@ -95,26 +126,42 @@ impl<'a, B: Ledger, T: Ledger> Errands<'a, B, T> {
         own: &[CallId],
         call: CallId,
         owed: Owed,
-    ) -> bool {
+    ) -> Attention {
         if guard.core().place(owed.leg) != Some(Place::Waiting) {
-            return false;
+            return Attention::None;
         }
         match guard.next(owed.server) {
             Ok(leg) => {
-                self.take_up(rt, alloc, lanes, guard, own, owed.server, leg);
-                leg != owed.leg
-            }
-            Err(CoreFault::Busy) => {
-                if !self.fly_to(owed.server) {
-                    lanes.queue(rt, owed.server, owed.leg, call);
+                let is_sent = self.take_up(rt, alloc, lanes, guard, own, owed.server, leg);
+                if leg == owed.leg {
+                    Attention::None
+                } else if is_sent {
+                    Attention::Later
+                } else {
+                    Attention::Now
                 }
-                true
             }
-            Err(_) => false,
+            Err(_) => {
+                lanes.queue(rt, owed.server, owed.leg, call);
+                Attention::Later
+            }
         }
     }
 
-    /// Puts legs in flight to the servers of all that are owed, as far as none is in flight there.
+    /// What is still owed of a leg is kept in mind. Without memory for that its server's worker sends it.
+    fn keep(&mut self, owed: Owed, attention: Attention) {
+        let kept = match attention {
+            Attention::None => return,
+            Attention::Now => self.agenda.owed.push(owed),
+            Attention::Later => self.late.push(owed),
+        };
+        if kept.is_err() {
+            self.agenda.add(Bell::Server(owed.server));
+        }
+    }
+
+    /// Puts legs in flight to the servers of all that are owed, as far as none is in flight there. Whether one was lost
+    /// without being sent, so that replies may be there.
     pub(crate) fn set_off<R: Wait>(
         &mut self,
         rt: &R,
@@ -123,17 +170,17 @@ impl<'a, B: Ledger, T: Ledger> Errands<'a, B, T> {
         guard: &mut Guard<'_, B, T>,
         own: &[CallId],
         call: CallId,
-    ) {
+    ) -> bool {
+        self.has_lost = false;
         for _turn in rt.forever() {
             let Some(owed) = self.agenda.owed.pop() else {
                 break;
             };
-            if self.attend(rt, alloc, lanes, guard, own, call, owed) && self.late.push(owed).is_err()
-            {
-                self.agenda.add(Bell::Server(owed.server));
-            }
+            let attention = self.attend(rt, alloc, lanes, guard, own, call, owed);
+            self.keep(owed, attention);
         }
         std::mem::swap(&mut self.agenda.owed, &mut self.late);
+        self.has_lost
     }
 
     /// Sends the legs in flight, so that all are under way at once, and reads the replies to them.

@@ -23,6 +23,7 @@ struct Lane {
     worker: bool,
     /// It is marked, and to be probed.
     probe: bool,
+    many: usize,
 }
 
 /// Who is to look at each server once its leg in flight has landed. It is used under the hub's lock alone.
@@ -49,38 +50,55 @@ impl Lane {
         }
     }
 
-    /// The call of the first session in the lane whose leg still waits. Those before it leave the lane, and it does.
-    fn first(&mut self, core: &Dispatcher) -> Option<CallId> {
+    /// The first session in the lane whose leg still waits. Those before it leave the lane, and it does.
+    fn first(&mut self, core: &Dispatcher) -> Option<Waiter> {
         while let Some(waiter) = self.waiters.pop_front() {
             if core.place(waiter.leg) == Some(Place::Waiting) {
-                return Some(waiter.call);
+                return Some(waiter);
             }
         }
         None
     }
 
-    /// The bell of who is to look at the server next. Who that is leaves the lane.
+    /// Those whose legs don't wait any more leave the lane, up to the first other one.
+    fn clear(&mut self, core: &Dispatcher) {
+        if let Some(waiter) = self.first(core) {
+            if self.waiters.push_front(waiter).is_err() {
+                self.worker = true;
+            }
+        }
+    }
+
+    /// The bell of who is to look at the server next. A session that is leaves the lane.
     fn heir(&mut self, core: &Dispatcher, server: ServerId) -> Option<Bell> {
-        if let Some(call) = self.first(core) {
-            return Some(Bell::Call(call));
+        let first = self.first(core);
+        let are_many = self.many > 0 && self.waiters.len().saturating_add(1) >= self.many;
+        match first {
+            Some(waiter) if are_many => {
+                let _ = self.waiters.push_front(waiter);
+                self.worker = false;
+                Some(Bell::Server(server))
+            }
+            Some(waiter) => Some(Bell::Call(waiter.call)),
+            None if self.worker => {
+                self.worker = false;
+                Some(Bell::Server(server))
+            }
+            None => None,
         }
-        if self.worker {
-            self.worker = false;
-            return Some(Bell::Server(server));
-        }
-        None
     }
 }
 
 impl Lanes {
     /// The lanes of so many servers, with nobody in them.
-    pub fn new(alloc: Global, count: u32) -> Result<Lanes, AllocError> {
+    pub fn new(alloc: Global, count: u32, many: usize) -> Result<Lanes, AllocError> {
         let mut lanes = Vec::new(alloc);
         for _server in 0..count {
             lanes.push(Mutex::new(Lane {
                 waiters: VecDeque::new(alloc),
                 worker: false,
                 probe: false,
+                many,
             }))?;
         }
         Ok(Lanes { lanes })
@@ -109,6 +127,13 @@ impl Lanes {
     ) -> Option<Bell> {
         let lane = self.lanes.get(server.0 as usize)?;
         lane.lock(rt).heir(core, server)
+    }
+
+    /// Those whose legs don't wait any more leave the server's lane.
+    pub(crate) fn clear<R: Wait>(&self, rt: &R, core: &Dispatcher, server: ServerId) {
+        if let Some(lane) = self.lanes.get(server.0 as usize) {
+            lane.lock(rt).clear(core);
+        }
     }
 
     /// The server is to be probed.
