@@ -130,8 +130,7 @@ fn begin_all<'a, B: Ledger, T: Ledger, R: Wait + Clock>(
 {
     let mut guard = guard;
     for key in 0..count {
-        let (next, begun) =
-            begin_in_chapter(rt, alloc, hub, guard, seat, errands, request, key);
+        let (next, begun) = begin_in_chapter(rt, alloc, hub, guard, seat, errands, request, key);
         guard = next;
         match begun {
             Ok(call) => calls.push_reserved(call),
@@ -156,26 +155,6 @@ fn keep(taken: TakenReply, parts: &mut Vec<Part>, receipts: &mut Vec<Receipt>)
     parts.push_reserved(taken.into_reply());
 }
 
-/// Takes the reply to a call, if it is there, and keeps it. Whether it was there.
-fn take<B: Ledger, T: Ledger>(
-    guard: &mut Guard<'_, B, T>,
-    seat: &mut Seat<B, T>,
-    call: CallId,
-    parts: &mut Vec<Part>,
-    receipts: &mut Vec<Receipt>,
-) -> Result<bool, CoreFault>
-    requires parts { vec_len parts.old < vec_capacity parts.old }
-    requires receipts { vec_len receipts.old < vec_capacity receipts.old }
-{
-    match guard.take_reply(seat, call)? {
-        Some(taken) => {
-            keep(taken, parts, receipts);
-            Ok(true)
-        }
-        None => Ok(false),
-    }
-}
-
 /// Takes the replies to calls that are there, in their order, up to the first that isn't. Where one won't come the others are
 /// taken too.
 fn take_ready<B: Ledger, T: Ledger>(
@@ -185,12 +164,24 @@ fn take_ready<B: Ledger, T: Ledger>(
     progress: Progress,
     parts: &mut Vec<Part>,
     receipts: &mut Vec<Receipt>,
-) -> Progress {
+) -> Progress
+    requires within { progress.done ≤ length calls.now }
+    requires parts { vec_len parts.old + length calls.now ≤ vec_capacity parts.old + progress.done }
+    requires receipts { vec_len receipts.old + length calls.now ≤ vec_capacity receipts.old + progress.done }
+    ensures on { (progress.done ≤ result.done) × (result.done ≤ length calls.now) }
+    ensures missed { result.missed ≡ None → progress.missed ≡ None }
+    ensures parts { result.missed ≡ None → vec_len parts.new + progress.done ≡ vec_len parts.old + result.done }
+    ensures receipts { result.missed ≡ None → vec_len receipts.new + progress.done ≡ vec_len receipts.old + result.done }
+    ensures few_parts { vec_len parts.new + progress.done ≤ vec_len parts.old + result.done }
+    ensures few_receipts { vec_len receipts.new + progress.done ≤ vec_len receipts.old + result.done }
+    ensures part_room { vec_capacity parts.new ≡ vec_capacity parts.old }
+    ensures receipt_room { vec_capacity receipts.new ≡ vec_capacity receipts.old }
+{
     let mut missed = progress.missed;
     for done in progress.done..calls.len() {
-        match take(guard, seat, calls[done], parts, receipts) {
-            Ok(true) => {}
-            Ok(false) => return Progress { done, missed },
+        match guard.take_reply(seat, calls[done]) {
+            Ok(Some(taken)) => keep(taken, parts, receipts),
+            Ok(None) => return Progress { done, missed },
             Err(fault) => missed = Some(fault),
         }
     }
@@ -213,7 +204,19 @@ fn go_on<B: Ledger, T: Ledger, R: Wait>(
     progress: Progress,
     parts: &mut Vec<Part>,
     receipts: &mut Vec<Receipt>,
-) -> Progress {
+) -> Progress
+    requires within { progress.done ≤ length calls.now }
+    requires parts { vec_len parts.old + length calls.now ≤ vec_capacity parts.old + progress.done }
+    requires receipts { vec_len receipts.old + length calls.now ≤ vec_capacity receipts.old + progress.done }
+    ensures on { (progress.done ≤ result.done) × (result.done ≤ length calls.now) }
+    ensures missed { result.missed ≡ None → progress.missed ≡ None }
+    ensures parts { result.missed ≡ None → vec_len parts.new + progress.done ≡ vec_len parts.old + result.done }
+    ensures receipts { result.missed ≡ None → vec_len receipts.new + progress.done ≡ vec_len receipts.old + result.done }
+    ensures few_parts { vec_len parts.new + progress.done ≤ vec_len parts.old + result.done }
+    ensures few_receipts { vec_len receipts.new + progress.done ≤ vec_len receipts.old + result.done }
+    ensures part_room { vec_capacity parts.new ≡ vec_capacity parts.old }
+    ensures receipt_room { vec_capacity receipts.new ≡ vec_capacity receipts.old }
+{
     let mut guard = guard;
     let mut progress = progress;
     for _turn in rt.forever() {
@@ -244,7 +247,21 @@ impl<'a, B: Ledger, T: Ledger, L: Link, W: Watch, R: Wait + Clock> Caller<'a, B,
         calls: &mut Vec<CallId>,
         parts: &mut Vec<Part>,
         receipts: &mut Vec<Receipt>,
-    ) -> (Progress, Result<(), CoreFault>) {
+    ) -> (Progress, Result<(), CoreFault>)
+        requires none { vec_len calls.old ≡ 0 }
+        requires calls { count ≤ vec_capacity calls.old }
+        requires parts { vec_len parts.old + count ≤ vec_capacity parts.old }
+        requires receipts { vec_len receipts.old + count ≤ vec_capacity receipts.old }
+        ensures all { OnOk result.1 (vec_len calls.new ≡ count) }
+        ensures most { vec_len calls.new ≤ count }
+        ensures within { result.0.done ≤ vec_len calls.new }
+        ensures parts { result.0.missed ≡ None → vec_len parts.new ≡ vec_len parts.old + result.0.done }
+        ensures receipts { result.0.missed ≡ None → vec_len receipts.new ≡ vec_len receipts.old + result.0.done }
+        ensures few_parts { vec_len parts.new ≤ vec_len parts.old + result.0.done }
+        ensures few_receipts { vec_len receipts.new ≤ vec_len receipts.old + result.0.done }
+        ensures part_room { vec_capacity parts.new ≡ vec_capacity parts.old }
+        ensures receipt_room { vec_capacity receipts.new ≡ vec_capacity receipts.old }
+    {
         let moment = self.watch.moment();
         let (rt, alloc, hub, lanes) = (self.rt, self.alloc, self.hub, self.lanes);
         let mut guard = hub.lock(rt, &mut self.pass);
@@ -288,7 +305,19 @@ impl<'a, B: Ledger, T: Ledger, L: Link, W: Watch, R: Wait + Clock> Caller<'a, B,
         progress: Progress,
         parts: &mut Vec<Part>,
         receipts: &mut Vec<Receipt>,
-    ) -> Progress {
+    ) -> Progress
+        requires within { progress.done ≤ length calls.now }
+        requires parts { vec_len parts.old + length calls.now ≤ vec_capacity parts.old + progress.done }
+        requires receipts { vec_len receipts.old + length calls.now ≤ vec_capacity receipts.old + progress.done }
+        ensures on { (progress.done ≤ result.done) × (result.done ≤ length calls.now) }
+        ensures missed { result.missed ≡ None → progress.missed ≡ None }
+        ensures parts { result.missed ≡ None → vec_len parts.new + progress.done ≡ vec_len parts.old + result.done }
+        ensures receipts { result.missed ≡ None → vec_len receipts.new + progress.done ≡ vec_len receipts.old + result.done }
+        ensures few_parts { vec_len parts.new + progress.done ≤ vec_len parts.old + result.done }
+        ensures few_receipts { vec_len receipts.new + progress.done ≤ vec_len receipts.old + result.done }
+        ensures part_room { vec_capacity parts.new ≡ vec_capacity parts.old }
+        ensures receipt_room { vec_capacity receipts.new ≡ vec_capacity receipts.old }
+    {
         let (rt, alloc, hub, lanes) = (self.rt, self.alloc, self.hub, self.lanes);
         let mut guard = hub.lock(rt, &mut self.pass);
         self.errands.land_all(rt, lanes, &mut guard, calls);
@@ -307,17 +336,24 @@ impl<'a, B: Ledger, T: Ledger, L: Link, W: Watch, R: Wait + Clock> Caller<'a, B,
         )
     }
 
-    /// Sends legs, as long as there are any, and takes the replies to all calls, in their order, with their receipts.
+    /// Takes the replies to the other calls, in their order, with their receipts, and sends legs for that.
     fn take_all(
         &mut self,
         calls: &[CallId],
         progress: Progress,
         parts: &mut Vec<Part>,
         receipts: &mut Vec<Receipt>,
-    ) -> Result<(), CoreFault> {
+    ) -> Result<(), CoreFault>
+        requires within { progress.done ≤ length calls.now }
+        requires parts { vec_len parts.old + length calls.now ≤ vec_capacity parts.old + progress.done }
+        requires receipts { vec_len receipts.old + length calls.now ≤ vec_capacity receipts.old + progress.done }
+        ensures missed { OnOk result (progress.missed ≡ None) }
+        ensures parts { OnOk result (vec_len parts.new + progress.done ≡ vec_len parts.old + length calls.now) }
+        ensures receipts { OnOk result (vec_len receipts.new + progress.done ≡ vec_len receipts.old + length calls.now) }
+    {
         let mut progress = progress;
         for _turn in self.rt.forever() {
-            if !self.errands.have_flights() {
+            if progress.done >= calls.len() {
                 break;
             }
             self.errands
@@ -388,13 +424,9 @@ impl<'a, B: Ledger, T: Ledger, L: Link, W: Watch, R: Wait + Clock> HubDesk<'a, B
         let Ok(()) = self.receipts.reserve(count) else {
             return Err(CoreFault::Memory);
         };
-        let (progress, begun) = self.caller.first_round(
-            request,
-            count,
-            &mut calls,
-            &mut parts,
-            &mut self.receipts,
-        );
+        let (progress, begun) = self
+            .caller
+            .first_round(request, count, &mut calls, &mut parts, &mut self.receipts);
         self.caller
             .take_all(&calls, progress, &mut parts, &mut self.receipts)?;
         begun?;
@@ -402,7 +434,8 @@ impl<'a, B: Ledger, T: Ledger, L: Link, W: Watch, R: Wait + Clock> HubDesk<'a, B
     }
 }
 
-impl<'a, B: Ledger, T: Ledger, L: Link, W: Watch, R: Wait + Clock> Desk for HubDesk<'a, B, T, L, W, R> {
+impl<'a, B: Ledger, T: Ledger, L: Link, W: Watch, R: Wait + Clock> Desk
+    for HubDesk<'a, B, T, L, W, R> {
     // Where it answers it has one receipt more for each key.
     ghost asks = { λ old request answer new. OnOk answer (vec_len new.receipts ≡ vec_len old.receipts + length (keys_of request)) };
 

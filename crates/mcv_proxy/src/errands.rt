@@ -63,7 +63,13 @@ impl<'a, B: Ledger, T: Ledger> Errands<'a, B, T> {
     }
 
     /// A leg in flight is to be sent. None is where there is no memory for its request.
-    fn pack(&mut self, alloc: Global, guard: &Guard<'_, B, T>, server: ServerId, leg: LegId) -> bool {
+    fn pack(
+        &mut self,
+        alloc: Global,
+        guard: &Guard<'_, B, T>,
+        server: ServerId,
+        leg: LegId,
+    ) -> bool {
         let Ok(Some(request)) = guard.core().to_request(alloc, leg) else {
             return false;
         };
@@ -218,7 +224,10 @@ impl<'a, B: Ledger, T: Ledger> Errands<'a, B, T> {
         flight: Flight,
     ) {
         let Flight {
-            server, leg, reply, ..
+            server,
+            leg,
+            reply,
+            ..
         } = flight;
         let was_marked = guard.core().marked(server);
         let _ = landed(&mut self.agenda, guard, own, server, leg, reply);

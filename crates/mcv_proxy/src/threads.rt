@@ -128,8 +128,16 @@ fn employ_spool<
     pass: Pass,
     watch: W,
 ) -> Option<JoinHandle<()>> {
-    let job =
-        move || write_down(&rt, alloc, texts.as_slice(), &*hub, &*spool, &*ends, pass, watch);
+    let job = move || write_down(
+        &rt,
+        alloc,
+        texts.as_slice(),
+        &*hub,
+        &*spool,
+        &*ends,
+        pass,
+        watch,
+    );
     thread::spawn(&rt, job).ok()
 }
 
@@ -146,7 +154,9 @@ fn send_again<B: Ledger, T: Ledger, D: Disk, L: Link, W: Watch, R: Wait>(
     mut watch: W,
 ) {
     let links = links.as_mut_slice();
-    serve_replay(rt, alloc, hub, lanes, &mut pass, spool, links, &mut watch, ends);
+    serve_replay(
+        rt, alloc, hub, lanes, &mut pass, spool, links, &mut watch, ends,
+    );
 }
 
 /// Starts the replayer.
@@ -168,21 +178,14 @@ fn employ_replayer<
     links: Vec<L>,
     watch: W,
 ) -> Option<JoinHandle<()>> {
-    let job =
-        move || send_again(&rt, alloc, &*hub, &*lanes, &*spool, &*ends, pass, links, watch);
+    let job = move || send_again(
+        &rt, alloc, &*hub, &*lanes, &*spool, &*ends, pass, links, watch,
+    );
     thread::spawn(&rt, job).ok()
 }
 
 /// Serves a client until its session ends.
-fn serve<
-    B: Ledger,
-    T: Ledger,
-    L: Link,
-    I: Read + Drop,
-    O: Write + Drop,
-    W: Watch,
-    R: Wait + Clock,
->(
+fn serve<B: Ledger, T: Ledger, L: Link, I: Read + Drop, O: Write + Drop, W: Watch, R: Wait + Clock>(
     rt: &R,
     alloc: Global,
     hub: &Hub<B, T>,
@@ -220,7 +223,9 @@ fn host<
     client: (I, O),
     watch: W,
 ) -> Option<JoinHandle<Done<B, T>>> {
-    let job = move || serve(&rt, alloc, &*hub, &*lanes, &*links, pass, seat, client, watch);
+    let job = move || serve(
+        &rt, alloc, &*hub, &*lanes, &*links, pass, seat, client, watch,
+    );
     thread::spawn(&rt, job).ok()
 }
 
@@ -441,7 +446,17 @@ fn accept<
             continue;
         };
         let watch = gates.watch();
-        match admit(rt, alloc, hub, lanes, links, passes.pass(), seat, client, watch) {
+        match admit(
+            rt,
+            alloc,
+            hub,
+            lanes,
+            links,
+            passes.pass(),
+            seat,
+            client,
+            watch,
+        ) {
             Some(session) => sessions.push_reserved(session),
             None => gates.note_unserved(),
         }
@@ -553,15 +568,7 @@ fn run<
         dismiss(&rt, shared, &mut pass, crew);
         return Err(fault);
     }
-    let sessions = accept(
-        rt,
-        alloc,
-        &shared.hub,
-        &shared.lanes,
-        &links,
-        passes,
-        gates,
-    );
+    let sessions = accept(rt, alloc, &shared.hub, &shared.lanes, &links, passes, gates);
     let receipts = gather(&rt, alloc, sessions, seat);
     dismiss(&rt, shared, &mut pass, crew);
     Ok(receipts?)
@@ -587,7 +594,14 @@ fn started<
     let Some(disk) = gates.disk() else {
         return Err(ProxyFault::Device);
     };
-    let (shared, mut passes) = open::<B, T, G::Disk>(alloc, accepted, disk, gates.policy(), begun, taken)?;
+    let (shared, mut passes) = open::<B, T, G::Disk>(
+        alloc,
+        accepted,
+        disk,
+        gates.policy(),
+        begun,
+        taken,
+    )?;
     let Some(mut seat) = passes.seat() else {
         return Err(ProxyFault::Memory);
     };
