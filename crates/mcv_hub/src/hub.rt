@@ -11,8 +11,8 @@ use mcv_check::Accepted;
 use mcv_core::CoreFault;
 use mcv_spool::SpoolRecord;
 use std::alloc::{AllocError, Global};
-use std::sync::ledger::{Blank, Ledger};
 use std::rt::Clock;
+use std::sync::ledger::{Blank, Ledger};
 use std::sync::{Arc, Condvar, Mutex, Wait};
 use std::time::Duration;
 

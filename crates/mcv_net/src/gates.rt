@@ -161,10 +161,6 @@ where
         }
     }
 
-    fn policy(&self) -> usize {
-        (self.sessions % 10) as usize
-    }
-
     fn note_unserved(&mut self) {
         self.note(Notice::Unserved);
     }

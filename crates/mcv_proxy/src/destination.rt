@@ -20,6 +20,8 @@ pub(crate) const TURNS: u64 = 1_000_000_000;
 enum Task {
     /// Send the leg, which is in flight.
     Send(LegId, LegRequest),
+    /// Note that the server is marked now.
+    Marked,
     /// See whether the server, which is marked, answers again.
     Probe,
     /// Nothing more for this leg.
@@ -32,45 +34,6 @@ enum Task {
 pub(crate) fn reply_of(alloc: Global, sent: Result<Reply, LinkFault>) -> Option<LegReply> {
     let reply = sent.ok()?;
     LegReply::new(alloc, reply).ok()
-}
-
-/// What is to be done about a leg that is in flight now. That of a marked server is lost, as one is whose request gets no
-/// memory.
-fn task_for<B: Ledger, T: Ledger>(
-    alloc: Global,
-    agenda: &mut Agenda<'_, B, T>,
-    guard: &mut Guard<'_, B, T>,
-    server: ServerId,
-    leg: LegId,
-) -> Task {
-    if guard.core().marked(server) {
-        let _ = lost(agenda, guard, &[], server, leg);
-        return Task::Probe;
-    }
-    match guard.core().to_request(alloc, leg) {
-        Ok(Some(request)) => Task::Send(leg, request),
-        Ok(None) | Err(_) => {
-            let _ = lost(agenda, guard, &[], server, leg);
-            Task::Nothing
-        }
-    }
-}
-
-/// As `task_for`; where the leg is lost, who is next at its server is rung.
-fn task_or_next<B: Ledger, T: Ledger, R: Wait>(
-    rt: &R,
-    alloc: Global,
-    lanes: &Lanes,
-    agenda: &mut Agenda<'_, B, T>,
-    guard: &mut Guard<'_, B, T>,
-    server: ServerId,
-    leg: LegId,
-) -> Task {
-    let task = task_for(alloc, agenda, guard, server, leg);
-    if !matches!(task, Task::Send(..)) {
-        note_next(rt, lanes, agenda, guard, server);
-    }
-    task
 }
 
 /// No leg of the server is in flight any more: who is next there is rung.
@@ -86,6 +49,47 @@ fn note_next<B: Ledger, T: Ledger, R: Wait>(
     }
 }
 
+/// A leg in flight won't be sent: it is lost, and who is next at its server is rung. A marked server is to be probed then.
+fn give_up<B: Ledger, T: Ledger, R: Wait>(
+    rt: &R,
+    lanes: &Lanes,
+    agenda: &mut Agenda<'_, B, T>,
+    guard: &mut Guard<'_, B, T>,
+    server: ServerId,
+    leg: LegId,
+) -> Task {
+    if guard.core().marked(server) {
+        lanes.ask_probe(rt, server);
+    }
+    let _ = lost(agenda, guard, &[], server, leg);
+    let is_probed = lanes.take_probe(rt, server);
+    note_next(rt, lanes, agenda, guard, server);
+    if is_probed {
+        Task::Probe
+    } else {
+        Task::Nothing
+    }
+}
+
+/// What is to be done about a leg that is in flight now. That of a marked server is lost, as one is whose request gets no
+/// memory.
+fn task_for<B: Ledger, T: Ledger, R: Wait>(
+    rt: &R,
+    alloc: Global,
+    lanes: &Lanes,
+    agenda: &mut Agenda<'_, B, T>,
+    guard: &mut Guard<'_, B, T>,
+    server: ServerId,
+    leg: LegId,
+) -> Task {
+    if !guard.core().marked(server) {
+        if let Ok(Some(request)) = guard.core().to_request(alloc, leg) {
+            return Task::Send(leg, request);
+        }
+    }
+    give_up(rt, lanes, agenda, guard, server, leg)
+}
+
 /// What came of the leg that a worker sent.
 #[derive(Drop)]
 struct Landed {
@@ -93,26 +97,31 @@ struct Landed {
     reply: Option<LegReply>,
 }
 
-/// What a worker is to do next, and whether its server is marked by the leg that landed.
-#[derive(Drop)]
-struct Turn {
-    task: Task,
-    marks: bool,
+/// What a leg in flight came to.
+#[derive(Clone, Copy)]
+pub(crate) struct Landing {
+    pub(crate) is_performed: bool,
+    /// Its server is marked by that.
+    pub(crate) marks: bool,
 }
 
-/// Reports what came of the leg that the worker sent, if there was one. Whether its server is marked by that.
+/// Reports what came of a leg in flight.
 fn land<B: Ledger, T: Ledger>(
     agenda: &mut Agenda<'_, B, T>,
     guard: &mut Guard<'_, B, T>,
     server: ServerId,
-    sent: Option<Landed>,
-) -> bool {
-    let Some(sent) = sent else {
-        return false;
-    };
+    leg: LegId,
+    reply: Option<LegReply>,
+) -> Landing {
     let was_marked = guard.core().marked(server);
-    let _ = landed(agenda, guard, &[], server, sent.leg, sent.reply);
-    !was_marked && guard.core().marked(server)
+    let is_performed = match landed(agenda, guard, &[], server, leg, reply) {
+        Ok(step) => step.place == Place::Performed,
+        Err(_) => false,
+    };
+    Landing {
+        is_performed,
+        marks: !was_marked && guard.core().marked(server),
+    }
 }
 
 /// Waits until a leg can be sent to the server, and sends it; or until none waits and the worker is to end. A probe that is
@@ -129,8 +138,9 @@ fn next_task<B: Ledger, T: Ledger, R: Wait>(
     let hub = agenda.hub();
     let mut guard = guard;
     for _turn in rt.forever() {
+        lanes.attend(rt, guard.core(), server);
         match guard.next(server) {
-            Ok(leg) => return task_or_next(rt, alloc, lanes, agenda, &mut guard, server, leg),
+            Ok(leg) => return task_for(rt, alloc, lanes, agenda, &mut guard, server, leg),
             Err(CoreFault::NothingWaiting) if ends.are_asked() => return Task::End,
             Err(CoreFault::Busy) => lanes.queue_worker(rt, server),
             Err(_) => {}
@@ -144,8 +154,7 @@ fn next_task<B: Ledger, T: Ledger, R: Wait>(
     unreachable!()
 }
 
-/// Reports what came of the leg that the worker sent, and waits for its next task. Where the server is marked by that it has
-/// none for now.
+/// Reports what came of the leg that the worker sent, if there was one, and waits for its next task.
 fn turn<B: Ledger, T: Ledger, R: Wait>(
     rt: &R,
     alloc: Global,
@@ -155,27 +164,15 @@ fn turn<B: Ledger, T: Ledger, R: Wait>(
     server: ServerId,
     ends: &Ends,
     sent: Option<Landed>,
-) -> Turn {
+) -> Task {
     let hub = agenda.hub();
     let mut guard = hub.lock(rt, pass);
-    let marks = land(agenda, &mut guard, server, sent);
-    lanes.clear(rt, guard.core(), server);
-    if marks {
-        return Turn {
-            task: Task::Nothing,
-            marks,
-        };
+    if let Some(Landed { leg, reply }) = sent {
+        if land(agenda, &mut guard, server, leg, reply).marks {
+            return Task::Marked;
+        }
     }
-    let task = next_task(rt, alloc, lanes, agenda, guard, server, ends);
-    Turn { task, marks }
-}
-
-/// What a leg in flight came to.
-#[derive(Clone, Copy)]
-pub(crate) struct Landing {
-    pub(crate) is_performed: bool,
-    /// Its server is marked by that.
-    pub(crate) marks: bool,
+    next_task(rt, alloc, lanes, agenda, guard, server, ends)
 }
 
 /// Reports what came of a leg in flight, and rings who is next at its server.
@@ -188,13 +185,13 @@ pub(crate) fn report<B: Ledger, T: Ledger, R: Wait>(
     leg: LegId,
     reply: Option<LegReply>,
 ) -> Landing {
-    let landing = report_only(rt, lanes, agenda, pass, server, leg, reply);
+    let landing = land_for_next(rt, lanes, agenda, pass, server, leg, reply);
     agenda.ring_all();
     landing
 }
 
 /// Reports what came of a leg in flight, and notes whom to ring.
-fn report_only<B: Ledger, T: Ledger, R: Wait>(
+fn land_for_next<B: Ledger, T: Ledger, R: Wait>(
     rt: &R,
     lanes: &Lanes,
     agenda: &mut Agenda<'_, B, T>,
@@ -205,16 +202,9 @@ fn report_only<B: Ledger, T: Ledger, R: Wait>(
 ) -> Landing {
     let hub = agenda.hub();
     let mut guard = hub.lock(rt, pass);
-    let was_marked = guard.core().marked(server);
-    let is_performed = match landed(agenda, &mut guard, &[], server, leg, reply) {
-        Ok(step) => step.place == Place::Performed,
-        Err(_) => false,
-    };
+    let landing = land(agenda, &mut guard, server, leg, reply);
     note_next(rt, lanes, agenda, &guard, server);
-    Landing {
-        is_performed,
-        marks: !was_marked && guard.core().marked(server),
-    }
+    landing
 }
 
 /// Sends a leg that is in flight. Whoever is to be woken is, while it is under way.
@@ -265,6 +255,24 @@ pub(crate) fn probe<B: Ledger, T: Ledger, L: Link, R: Wait>(
     true
 }
 
+/// Does a task that sends no leg.
+fn rest<B: Ledger, T: Ledger, L: Link, R: Wait>(
+    rt: &R,
+    hub: &Hub<B, T>,
+    pass: &mut Pass,
+    link: &mut L,
+    server: ServerId,
+    task: &Task,
+) {
+    match task {
+        Task::Marked => link.note_marked(pass),
+        Task::Probe => {
+            probe(rt, hub, pass, link, server);
+        }
+        Task::Send(..) | Task::Nothing | Task::End => {}
+    }
+}
+
 /// Sends the legs that wait for a server, one at a time, until none waits and the worker is to end, at most 1,000,000,000.
 /// The legs of a marked server are lost without being sent, and after each the server is probed once, as it is where a
 /// session lost one so.
@@ -281,22 +289,16 @@ pub fn serve_destination<B: Ledger, T: Ledger, L: Link, R: Wait>(
     let mut agenda = Agenda::new(alloc, hub);
     let mut sent = None;
     for _turn in 0..TURNS {
-        let next = turn(rt, alloc, lanes, &mut agenda, pass, server, ends, sent);
-        sent = None;
-        if next.marks {
-            link.note_marked(pass);
-        }
-        match next.task {
-            Task::Send(leg, request) => {
-                sent = Some(send(alloc, &mut agenda, pass, link, leg, &request));
-            }
-            Task::Probe => {
-                agenda.ring_all();
-                probe(rt, hub, pass, link, server);
-            }
-            Task::Nothing => agenda.ring_all(),
+        let task = turn(rt, alloc, lanes, &mut agenda, pass, server, ends, sent);
+        sent = match task {
+            Task::Send(leg, request) => Some(send(alloc, &mut agenda, pass, link, leg, &request)),
             Task::End => break,
-        }
+            other => {
+                agenda.ring_all();
+                rest(rt, hub, pass, link, server, &other);
+                None
+            }
+        };
     }
     agenda.ring_all();
 }

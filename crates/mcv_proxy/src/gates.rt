@@ -82,10 +82,6 @@ pub trait Gates: Drop {
         Ok(())
     }
 
-    fn policy(&self) -> usize {
-        0
-    }
-
     /// Notes that the last client isn't served, since there was no thread or no memory for its session.
     fn note_unserved(&mut self) {}
 }

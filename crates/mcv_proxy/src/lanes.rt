@@ -15,28 +15,43 @@ struct Waiter {
     call: CallId,
 }
 
+/// From so many sessions on that wait for a server, its worker sends their legs one after another, and they only wait for
+/// replies: it needn't wake for each leg as a session has to.
+const MANY: usize = 4;
+
 /// Who is to look at one server once the leg in flight has landed.
 #[derive(Drop)]
 struct Lane {
     waiters: VecDeque<Waiter>,
     /// Its worker found a leg in flight.
     worker: bool,
+    /// Its worker probes the server, which may take long.
+    away: bool,
     /// It is marked, and to be probed.
     probe: bool,
-    many: usize,
 }
 
 /// Who is to look at each server once its leg in flight has landed. It is used under the hub's lock alone.
 ///
-/// No leg waits with nobody to send it. A leg that waits for a server was looked at when it was launched, by a session or by
-/// the worker that was rung; where another leg was in flight it is in the lane since, or its worker is; and who lands a leg
-/// looks at the server again itself, or rings the first in the lane whose leg still waits, and else the worker.
+/// No leg waits with nobody to send it. Who launches a leg looks at its server, or rings the worker, which does; who finds
+/// another leg in flight there joins the lane; and who lands a leg looks at the server again, or rings the first in the lane
+/// whose leg still waits, or the worker. A leg ceases to wait only when it comes in flight.
 #[derive(Drop)]
 pub struct Lanes {
     lanes: Vec<Mutex<Lane>>,
 }
 
 impl Lane {
+    /// Nobody.
+    fn new(alloc: Global) -> Lane {
+        Lane {
+            waiters: VecDeque::new(alloc),
+            worker: false,
+            away: false,
+            probe: false,
+        }
+    }
+
     /// A session waits for its leg to be sent, at the bell of this call. Without memory for that the worker sends it.
     fn queue(&mut self, leg: LegId, call: CallId) {
         for waiter in self.waiters.iter_mut() {
@@ -50,56 +65,49 @@ impl Lane {
         }
     }
 
-    /// The first session in the lane whose leg still waits. Those before it leave the lane, and it does.
-    fn first(&mut self, core: &Dispatcher) -> Option<Waiter> {
-        while let Some(waiter) = self.waiters.pop_front() {
-            if core.place(waiter.leg) == Some(Place::Waiting) {
-                return Some(waiter);
-            }
-        }
-        None
-    }
-
-    /// Those whose legs don't wait any more leave the lane, up to the first other one.
+    /// Those leave the lane whose legs don't wait any more, up to the first whose leg does.
     fn clear(&mut self, core: &Dispatcher) {
-        if let Some(waiter) = self.first(core) {
-            if self.waiters.push_front(waiter).is_err() {
-                self.worker = true;
+        while let Some(waiter) = self.waiters.front() {
+            if core.place(waiter.leg) == Some(Place::Waiting) {
+                return;
             }
+            let _ = self.waiters.pop_front();
         }
     }
 
     /// The bell of who is to look at the server next. A session that is leaves the lane.
     fn heir(&mut self, core: &Dispatcher, server: ServerId) -> Option<Bell> {
-        let first = self.first(core);
-        let are_many = self.many > 0 && self.waiters.len().saturating_add(1) >= self.many;
-        match first {
-            Some(waiter) if are_many => {
-                let _ = self.waiters.push_front(waiter);
-                self.worker = false;
-                Some(Bell::Server(server))
-            }
-            Some(waiter) => Some(Bell::Call(waiter.call)),
-            None if self.worker => {
-                self.worker = false;
-                Some(Bell::Server(server))
-            }
-            None => None,
+        self.clear(core);
+        let are_many = self.waiters.len() >= MANY && !self.away;
+        if are_many || self.waiters.is_empty() && self.worker {
+            self.worker = false;
+            return Some(Bell::Server(server));
         }
+        let waiter = self.waiters.pop_front()?;
+        Some(Bell::Call(waiter.call))
+    }
+
+    /// The worker looks at the server. Those whose legs don't wait any more leave the lane.
+    fn attend(&mut self, core: &Dispatcher) {
+        self.away = false;
+        self.clear(core);
+    }
+
+    /// Whether the server is to be probed. If so the worker is away for that.
+    fn take_probe(&mut self) -> bool {
+        let is_asked = self.probe;
+        self.probe = false;
+        self.away = is_asked;
+        is_asked
     }
 }
 
 impl Lanes {
     /// The lanes of so many servers, with nobody in them.
-    pub fn new(alloc: Global, count: u32, many: usize) -> Result<Lanes, AllocError> {
+    pub fn new(alloc: Global, count: u32) -> Result<Lanes, AllocError> {
         let mut lanes = Vec::new(alloc);
         for _server in 0..count {
-            lanes.push(Mutex::new(Lane {
-                waiters: VecDeque::new(alloc),
-                worker: false,
-                probe: false,
-                many,
-            }))?;
+            lanes.push(Mutex::new(Lane::new(alloc)))?;
         }
         Ok(Lanes { lanes })
     }
@@ -129,10 +137,10 @@ impl Lanes {
         lane.lock(rt).heir(core, server)
     }
 
-    /// Those whose legs don't wait any more leave the server's lane.
-    pub(crate) fn clear<R: Wait>(&self, rt: &R, core: &Dispatcher, server: ServerId) {
+    /// The server's worker looks at it.
+    pub(crate) fn attend<R: Wait>(&self, rt: &R, core: &Dispatcher, server: ServerId) {
         if let Some(lane) = self.lanes.get(server.0 as usize) {
-            lane.lock(rt).clear(core);
+            lane.lock(rt).attend(core);
         }
     }
 
@@ -143,15 +151,12 @@ impl Lanes {
         }
     }
 
-    /// Whether the server is to be probed. It isn't any more.
+    /// Whether the server is to be probed. If so it isn't any more, and its worker is away for that.
     pub(crate) fn take_probe<R: Wait>(&self, rt: &R, server: ServerId) -> bool {
-        let Some(lane) = self.lanes.get(server.0 as usize) else {
-            return false;
-        };
-        let mut lane = lane.lock(rt);
-        let is_asked = lane.probe;
-        lane.probe = false;
-        is_asked
+        match self.lanes.get(server.0 as usize) {
+            Some(lane) => lane.lock(rt).take_probe(),
+            None => false,
+        }
     }
 }
 

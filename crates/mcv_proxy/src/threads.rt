@@ -516,7 +516,6 @@ fn open<B: Ledger, T: Ledger, D: Disk>(
     alloc: Global,
     accepted: Arc<Accepted>,
     disk: D,
-    many: usize,
     begun: Blank,
     taken: Blank,
 ) -> Result<(Shared<B, T, D>, Passes<B, T>), ProxyFault>
@@ -530,7 +529,7 @@ fn open<B: Ledger, T: Ledger, D: Disk>(
     else {
         return Err(ProxyFault::Memory);
     };
-    let lanes = Lanes::new(alloc, server_count(&accepted), many)?;
+    let lanes = Lanes::new(alloc, server_count(&accepted))?;
     let shared = Shared {
         accepted,
         hub: Arc::new(alloc, hub)?,
@@ -594,14 +593,7 @@ fn started<
     let Some(disk) = gates.disk() else {
         return Err(ProxyFault::Device);
     };
-    let (shared, mut passes) = open::<B, T, G::Disk>(
-        alloc,
-        accepted,
-        disk,
-        gates.policy(),
-        begun,
-        taken,
-    )?;
+    let (shared, mut passes) = open::<B, T, G::Disk>(alloc, accepted, disk, begun, taken)?;
     let Some(mut seat) = passes.seat() else {
         return Err(ProxyFault::Memory);
     };
