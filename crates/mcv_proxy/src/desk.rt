@@ -191,7 +191,7 @@ fn take_ready<B: Ledger, T: Ledger>(
     }
 }
 
-/// Goes on with calls under the lock until legs are to be sent, or all replies were taken.
+/// Goes on with calls under the lock until a leg is to be sent, or all replies were taken.
 fn go_on<B: Ledger, T: Ledger, R: Wait>(
     rt: &R,
     alloc: Global,
@@ -227,7 +227,7 @@ fn go_on<B: Ledger, T: Ledger, R: Wait>(
             return progress;
         };
         let has_lost = errands.set_off(rt, alloc, lanes, &mut guard, calls, *call);
-        if errands.have_flights() {
+        if errands.have_flight() {
             return progress;
         }
         if !has_lost {
@@ -298,7 +298,7 @@ impl<'a, B: Ledger, T: Ledger, L: Link, W: Watch, R: Wait + Clock> Caller<'a, B,
         (progress, begun)
     }
 
-    /// Reports what came of the legs that were sent, and goes on with the calls.
+    /// Reports what came of the leg that was sent, and goes on with the calls.
     fn next_round(
         &mut self,
         calls: &[CallId],
@@ -320,7 +320,7 @@ impl<'a, B: Ledger, T: Ledger, L: Link, W: Watch, R: Wait + Clock> Caller<'a, B,
     {
         let (rt, alloc, hub, lanes) = (self.rt, self.alloc, self.hub, self.lanes);
         let mut guard = hub.lock(rt, &mut self.pass);
-        self.errands.land_all(rt, lanes, &mut guard, calls);
+        self.errands.land(rt, lanes, &mut guard, calls);
         go_on(
             rt,
             alloc,

@@ -21,28 +21,29 @@ struct Flight {
     reply: Option<LegReply>,
 }
 
-/// When a leg that is owed is to be looked at again.
+/// What becomes of a leg that is owed, once its server was looked at.
 #[derive(Clone, Copy, Debug, PartialEq, Eq)]
 enum Attention {
-    /// It doesn't wait any more.
+    /// It isn't owed any more.
     None,
-    /// At once: another leg of its server was in the way, and isn't any more.
+    /// It is looked at again at once: another leg of its server was in the way, and isn't any more.
     Now,
-    /// Once the leg in flight to its server has landed.
+    /// It is looked at again once the leg in flight to its server has landed.
     Later,
 }
 
-/// What a session has to do for the legs of its calls, and for legs of others that it put in flight.
+/// What a session has to do for the legs of its calls. It sends one leg at a time, so that no server waits for another one's
+/// reply; what is owed to other servers meanwhile is left to their workers.
 #[derive(Drop)]
 pub(crate) struct Errands<'a, B: Ledger, T: Ledger> {
     pub(crate) agenda: Agenda<'a, B, T>,
-    flights: Vec<Flight>,
+    flight: Option<Flight>,
     /// Legs that are still owed, while others are looked at.
     late: Vec<Owed>,
-    /// Servers that are marked since the last notice.
-    marked: Vec<ServerId>,
     /// A leg was lost without being sent, so that replies may be there.
     has_lost: bool,
+    /// A server that is marked since the last notice.
+    marked: Option<ServerId>,
 }
 
 impl<'a, B: Ledger, T: Ledger> Errands<'a, B, T> {
@@ -50,36 +51,24 @@ impl<'a, B: Ledger, T: Ledger> Errands<'a, B, T> {
     pub(crate) fn new(alloc: Global, hub: &'a Hub<B, T>) -> Errands<'a, B, T> {
         Errands {
             agenda: Agenda::new(alloc, hub),
-            flights: Vec::new(alloc),
+            flight: None,
             late: Vec::new(alloc),
-            marked: Vec::new(alloc),
             has_lost: false,
+            marked: None,
         }
     }
 
-    /// Whether legs in flight are to be sent.
-    pub(crate) fn have_flights(&self) -> bool {
-        !self.flights.is_empty()
+    /// Whether a leg in flight is to be sent.
+    pub(crate) fn have_flight(&self) -> bool {
+        self.flight.is_some()
     }
 
-    /// A leg in flight is to be sent. None is where there is no memory for its request.
-    fn pack(
-        &mut self,
-        alloc: Global,
-        guard: &Guard<'_, B, T>,
-        server: ServerId,
-        leg: LegId,
-    ) -> bool {
-        let Ok(Some(request)) = guard.core().to_request(alloc, leg) else {
-            return false;
-        };
-        let flight = Flight {
-            server,
-            leg,
-            request,
-            reply: None,
-        };
-        self.flights.push(flight).is_ok()
+    /// The server of the leg in flight that is to be sent.
+    fn flies_to(&self) -> Option<ServerId> {
+        match &self.flight {
+            Some(flight) => Some(flight.server),
+            None => None,
+        }
     }
 
     /// A leg in flight won't be sent: it is lost. The worker of a marked server is to probe it, and who is next there is rung.
@@ -103,7 +92,7 @@ impl<'a, B: Ledger, T: Ledger> Errands<'a, B, T> {
         }
     }
 
-    /// A leg came in flight: it is to be sent, unless its server is marked or there is no memory. Whether it is.
+    /// A leg came in flight: it is to be sent, unless its server is marked or there is no memory for its request. Whether it is.
     fn take_up<R: Wait>(
         &mut self,
         rt: &R,
@@ -114,15 +103,46 @@ impl<'a, B: Ledger, T: Ledger> Errands<'a, B, T> {
         server: ServerId,
         leg: LegId,
     ) -> bool {
-        if !guard.core().marked(server) && self.pack(alloc, guard, server, leg) {
-            return true;
+        if !guard.core().marked(server) {
+            if let Ok(Some(request)) = guard.core().to_request(alloc, leg) {
+                self.flight = Some(Flight {
+                    server,
+                    leg,
+                    request,
+                    reply: None,
+                });
+                return true;
+            }
         }
         self.give_up(rt, lanes, guard, own, server, leg);
         false
     }
 
-    /// Puts a leg in flight to the server of one that is owed, if it still waits. Where another one is in flight the session
-    /// waits in the lane, at the bell of this call.
+    /// Looks at the server of a leg that is owed and waits, while the session has no leg in flight.
+    fn try_server<R: Wait>(
+        &mut self,
+        rt: &R,
+        alloc: Global,
+        lanes: &Lanes,
+        guard: &mut Guard<'_, B, T>,
+        own: &[CallId],
+        owed: Owed,
+    ) -> Attention {
+        let Ok(leg) = guard.next(owed.server) else {
+            return Attention::Later;
+        };
+        let is_sent = self.take_up(rt, alloc, lanes, guard, own, owed.server, leg);
+        if leg == owed.leg {
+            Attention::None
+        } else if is_sent {
+            Attention::Later
+        } else {
+            Attention::Now
+        }
+    }
+
+    /// Looks at the server of a leg that is owed. While the session has a leg in flight to another server the leg is left to
+    /// its worker.
     fn attend<R: Wait>(
         &mut self,
         rt: &R,
@@ -130,26 +150,18 @@ impl<'a, B: Ledger, T: Ledger> Errands<'a, B, T> {
         lanes: &Lanes,
         guard: &mut Guard<'_, B, T>,
         own: &[CallId],
-        call: CallId,
         owed: Owed,
     ) -> Attention {
         if guard.core().place(owed.leg) != Some(Place::Waiting) {
             return Attention::None;
         }
-        match guard.next(owed.server) {
-            Ok(leg) => {
-                let is_sent = self.take_up(rt, alloc, lanes, guard, own, owed.server, leg);
-                if leg == owed.leg {
-                    Attention::None
-                } else if is_sent {
-                    Attention::Later
-                } else {
-                    Attention::Now
-                }
-            }
-            Err(_) => {
-                lanes.queue(rt, owed.server, owed.leg, call);
-                Attention::Later
+        match self.flies_to() {
+            None => self.try_server(rt, alloc, lanes, guard, own, owed),
+            Some(server) if server == owed.server => Attention::Later,
+            Some(_) => {
+                lanes.leave(rt, owed.server, owed.leg);
+                self.agenda.add(Bell::Server(owed.server));
+                Attention::None
             }
         }
     }
@@ -166,8 +178,43 @@ impl<'a, B: Ledger, T: Ledger> Errands<'a, B, T> {
         }
     }
 
-    /// Puts legs in flight to the servers of all that are owed, as far as none is in flight there. Whether one was lost
-    /// without being sent, so that replies may be there.
+    /// Looks at the servers of all legs that are owed.
+    fn attend_all<R: Wait>(
+        &mut self,
+        rt: &R,
+        alloc: Global,
+        lanes: &Lanes,
+        guard: &mut Guard<'_, B, T>,
+        own: &[CallId],
+    ) {
+        for _turn in rt.forever() {
+            let Some(owed) = self.agenda.owed.pop() else {
+                break;
+            };
+            let attention = self.attend(rt, alloc, lanes, guard, own, owed);
+            self.keep(owed, attention);
+        }
+    }
+
+    /// A leg is still owed. Where the session has none in flight it waits in the lane, at the bell of this call; where it has
+    /// one to another server it leaves the lane to the worker.
+    fn await_turn<R: Wait>(&mut self, rt: &R, lanes: &Lanes, call: CallId, owed: Owed) {
+        match self.flies_to() {
+            None => lanes.queue(rt, owed.server, owed.leg, call),
+            Some(server) if server == owed.server => {}
+            Some(_) => {
+                lanes.leave(rt, owed.server, owed.leg);
+                return;
+            }
+        }
+        if self.agenda.owed.push(owed).is_err() {
+            self.agenda.add(Bell::Server(owed.server));
+        }
+    }
+
+    /// Puts a leg in flight to the server of one that is owed, if none is in flight there. Where that can't be done for any,
+    /// the session waits in their lanes, at the bell of this call. Whether one was lost without being sent, so that replies
+    /// may be there.
     pub(crate) fn set_off<R: Wait>(
         &mut self,
         rt: &R,
@@ -178,18 +225,14 @@ impl<'a, B: Ledger, T: Ledger> Errands<'a, B, T> {
         call: CallId,
     ) -> bool {
         self.has_lost = false;
-        for _turn in rt.forever() {
-            let Some(owed) = self.agenda.owed.pop() else {
-                break;
-            };
-            let attention = self.attend(rt, alloc, lanes, guard, own, call, owed);
-            self.keep(owed, attention);
+        self.attend_all(rt, alloc, lanes, guard, own);
+        while let Some(owed) = self.late.pop() {
+            self.await_turn(rt, lanes, call, owed);
         }
-        std::mem::swap(&mut self.agenda.owed, &mut self.late);
         self.has_lost
     }
 
-    /// Sends the legs in flight, so that all are under way at once, and reads the replies to them.
+    /// Sends the leg in flight, and reads its reply. Whoever is to be woken is, while it is under way.
     pub(crate) fn carry<L: Link, R: Wait>(
         &mut self,
         rt: &R,
@@ -197,11 +240,9 @@ impl<'a, B: Ledger, T: Ledger> Errands<'a, B, T> {
         links: &Links<L>,
         pass: &Pass,
     ) {
-        for flight in self.flights.iter() {
+        if let Some(flight) = &mut self.flight {
             links.start(rt, pass, flight.server, &flight.request);
-        }
-        self.agenda.ring_all();
-        for flight in self.flights.iter_mut() {
+            self.agenda.ring_all();
             let sent = links.send(rt, pass, flight.server, &flight.request);
             flight.reply = reply_of(alloc, sent);
         }
@@ -214,44 +255,34 @@ impl<'a, B: Ledger, T: Ledger> Errands<'a, B, T> {
         })
     }
 
-    /// Reports what came of a leg in flight. Where the session has no other leg for its server, who is next there is rung.
-    fn land<R: Wait>(
+    /// Reports what came of the leg in flight. Where the session has no other leg for its server, who is next there is rung.
+    pub(crate) fn land<R: Wait>(
         &mut self,
         rt: &R,
         lanes: &Lanes,
         guard: &mut Guard<'_, B, T>,
         own: &[CallId],
-        flight: Flight,
     ) {
-        let Flight {
-            server,
-            leg,
-            reply,
-            ..
-        } = flight;
+        let Some(
+            Flight {
+                server,
+                leg,
+                reply,
+                ..
+            },
+        ) = self.flight.take()
+        else {
+            return;
+        };
         let was_marked = guard.core().marked(server);
         let _ = landed(&mut self.agenda, guard, own, server, leg, reply);
         if !was_marked && guard.core().marked(server) {
-            // Without memory there is no notice.
-            let _ = self.marked.push(server);
+            self.marked = Some(server);
         }
         if !self.owe_to(guard, server) {
             if let Some(bell) = lanes.heir(rt, guard.core(), server) {
                 self.agenda.add(bell);
             }
-        }
-    }
-
-    /// Reports what came of all legs in flight.
-    pub(crate) fn land_all<R: Wait>(
-        &mut self,
-        rt: &R,
-        lanes: &Lanes,
-        guard: &mut Guard<'_, B, T>,
-        own: &[CallId],
-    ) {
-        while let Some(flight) = self.flights.pop() {
-            self.land(rt, lanes, guard, own, flight);
         }
     }
 
@@ -264,10 +295,10 @@ impl<'a, B: Ledger, T: Ledger> Errands<'a, B, T> {
         }
     }
 
-    /// Notes the servers that are marked since the last time, and rings all bells.
+    /// Rings all bells, and notes the server that is marked since the last time.
     pub(crate) fn finish<L: Link, R: Wait>(&mut self, rt: &R, links: &Links<L>, pass: &Pass) {
         self.agenda.ring_all();
-        while let Some(server) = self.marked.pop() {
+        if let Some(server) = self.marked.take() {
             links.note_marked(rt, pass, server);
         }
     }

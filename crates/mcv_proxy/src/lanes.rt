@@ -65,6 +65,12 @@ impl Lane {
         }
     }
 
+    /// A session leaves the lane, and its leg to the worker.
+    fn leave(&mut self, leg: LegId) {
+        self.waiters.retain(|waiter| waiter.leg != leg);
+        self.worker = true;
+    }
+
     /// Those leave the lane whose legs don't wait any more, up to the first whose leg does.
     fn clear(&mut self, core: &Dispatcher) {
         while let Some(waiter) = self.waiters.front() {
@@ -116,6 +122,13 @@ impl Lanes {
     pub(crate) fn queue<R: Wait>(&self, rt: &R, server: ServerId, leg: LegId, call: CallId) {
         if let Some(lane) = self.lanes.get(server.0 as usize) {
             lane.lock(rt).queue(leg, call);
+        }
+    }
+
+    /// A session waits no more for its leg to be sent to the server: the worker sends it, once the leg in flight has landed.
+    pub(crate) fn leave<R: Wait>(&self, rt: &R, server: ServerId, leg: LegId) {
+        if let Some(lane) = self.lanes.get(server.0 as usize) {
+            lane.lock(rt).leave(leg);
         }
     }
 
