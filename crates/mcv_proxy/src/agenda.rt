@@ -1,7 +1,7 @@
 //! What events leave to be done by the thread that had the lock.
 
 use mcv_base::{CallId, LegId, Mark, ServerId};
-use mcv_core::{Dispatcher, LegView};
+use mcv_core::{Dispatcher, LegView, Place};
 use mcv_hub::{Bell, Hub};
 use std::alloc::Global;
 use std::sync::ledger::Ledger;
@@ -30,6 +30,13 @@ fn is_awaited(view: &LegView<'_>, own: &[CallId]) -> bool {
     }
 }
 
+/// A bell is to be rung. Where there is no memory to keep it in mind it is rung at once.
+fn keep_in_mind<B: Ledger, T: Ledger>(hub: &Hub<B, T>, bells: &mut Vec<Bell>, bell: Bell) {
+    if bells.push(bell).is_err() {
+        hub.ring(bell);
+    }
+}
+
 impl<'a, B: Ledger, T: Ledger> Agenda<'a, B, T> {
     /// Nothing to be done. It takes no memory.
     pub(crate) fn new(alloc: Global, hub: &'a Hub<B, T>) -> Agenda<'a, B, T> {
@@ -45,18 +52,17 @@ impl<'a, B: Ledger, T: Ledger> Agenda<'a, B, T> {
         self.hub
     }
 
-    /// This bell is to be rung. Where there is no memory to keep it in mind it is rung at once.
+    /// This bell is to be rung.
     pub(crate) fn add(&mut self, bell: Bell) {
-        if self.bells.push(bell).is_err() {
-            self.hub.ring(bell);
-        }
+        keep_in_mind(self.hub, &mut self.bells, bell);
     }
 
     /// Rings all bells that are to be rung.
     pub(crate) fn ring_all(&mut self) {
-        while let Some(bell) = self.bells.pop() {
-            self.hub.ring(bell);
+        for bell in self.bells.iter() {
+            self.hub.ring(*bell);
         }
+        self.bells.clear();
     }
 
     /// A leg was launched: the session owes it if one of its own calls may wait for it; else its server's worker is rung.
@@ -75,5 +81,15 @@ impl<'a, B: Ledger, T: Ledger> Agenda<'a, B, T> {
                 self.note_leg(leg, &view, own);
             }
         }
+    }
+
+    /// Leaves the legs that are owed and still wait to the workers of their servers.
+    pub(crate) fn leave(&mut self, core: &Dispatcher) {
+        for owed in self.owed.iter() {
+            if core.place(owed.leg) == Some(Place::Waiting) {
+                keep_in_mind(self.hub, &mut self.bells, Bell::Server(owed.server));
+            }
+        }
+        self.owed.clear();
     }
 }

@@ -222,7 +222,7 @@ fn go_on<B: Ledger, T: Ledger, R: Wait>(
     for _turn in rt.forever() {
         progress = take_ready(&mut guard, seat, calls, progress, parts, receipts);
         let Some(call) = calls.get(progress.done) else {
-            errands.leave(&guard);
+            errands.agenda.leave(guard.core());
             events::turn_where_full(&mut errands.agenda, &mut guard);
             return progress;
         };

@@ -212,6 +212,16 @@ impl<'a, B: Ledger, T: Ledger> Errands<'a, B, T> {
         }
     }
 
+    /// Awaits the turn of all legs that are still owed.
+    fn await_turns<R: Wait>(&mut self, rt: &R, lanes: &Lanes, call: CallId) {
+        for _turn in rt.forever() {
+            let Some(owed) = self.late.pop() else {
+                break;
+            };
+            self.await_turn(rt, lanes, call, owed);
+        }
+    }
+
     /// Puts a leg in flight to the server of one that is owed, if none is in flight there. Where that can't be done for any,
     /// the session waits in their lanes, at the bell of this call. Whether one was lost without being sent, so that replies
     /// may be there.
@@ -226,9 +236,7 @@ impl<'a, B: Ledger, T: Ledger> Errands<'a, B, T> {
     ) -> bool {
         self.has_lost = false;
         self.attend_all(rt, alloc, lanes, guard, own);
-        while let Some(owed) = self.late.pop() {
-            self.await_turn(rt, lanes, call, owed);
-        }
+        self.await_turns(rt, lanes, call);
         self.has_lost
     }
 
@@ -282,15 +290,6 @@ impl<'a, B: Ledger, T: Ledger> Errands<'a, B, T> {
         if !self.owe_to(guard, server) {
             if let Some(bell) = lanes.heir(rt, guard.core(), server) {
                 self.agenda.add(bell);
-            }
-        }
-    }
-
-    /// Leaves the legs that still wait to the workers of their servers.
-    pub(crate) fn leave(&mut self, guard: &Guard<'_, B, T>) {
-        while let Some(owed) = self.agenda.owed.pop() {
-            if guard.core().place(owed.leg) == Some(Place::Waiting) {
-                self.agenda.add(Bell::Server(owed.server));
             }
         }
     }

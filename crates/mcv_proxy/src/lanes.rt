@@ -73,11 +73,13 @@ impl Lane {
 
     /// Those leave the lane whose legs don't wait any more, up to the first whose leg does.
     fn clear(&mut self, core: &Dispatcher) {
-        while let Some(waiter) = self.waiters.front() {
-            if core.place(waiter.leg) == Some(Place::Waiting) {
-                return;
+        for _waiter in 0..self.waiters.len() {
+            match self.waiters.front() {
+                Some(waiter) if core.place(waiter.leg) == Some(Place::Waiting) => return,
+                _ => {
+                    let _ = self.waiters.pop_front();
+                }
             }
-            let _ = self.waiters.pop_front();
         }
     }
 
