@@ -319,6 +319,46 @@ fn legs_of_one_call_are_under_way_at_once(rt: HostRuntime) -> Result<(), Fail> {
     Ok(())
 }
 
+/// Deletes to both of two servers, gets to the second.
+const SECOND: &str =
+    "{\"pools\":{\"A\":{\"servers\":[\"a:11211\"]},\"B\":{\"servers\":[\"b:11211\"]}},\"route\":{\"type\":\"OperationSelectorRoute\",\"operation_policies\":{\"delete\":{\"type\":\"AllSyncRoute\",\"children\":[\"PoolRoute|A\",\"PoolRoute|B\"]}},\"default_policy\":\"PoolRoute|B\"}}";
+
+/// The same, with the servers of deletes in the other order.
+const SECOND_FIRST: &str =
+    "{\"pools\":{\"A\":{\"servers\":[\"a:11211\"]},\"B\":{\"servers\":[\"b:11211\"]}},\"route\":{\"type\":\"OperationSelectorRoute\",\"operation_policies\":{\"delete\":{\"type\":\"AllSyncRoute\",\"children\":[\"PoolRoute|B\",\"PoolRoute|A\"]}},\"default_policy\":\"PoolRoute|B\"}}";
+
+/// A delete to both servers, of which the first answers only once a client of the second, which came later, has its answer.
+fn slow_beside_quick<R: Threads + Wait + Clock + Copy + Drop + Send + 'static>(
+    rt: R,
+    alloc: Global,
+    config: &str,
+) -> Result<bool, Fail> {
+    let is_slow = Arc::new(alloc, AtomicBool::new(false))?;
+    let is_answered = Arc::new(alloc, AtomicBool::new(false))?;
+    let first = Server::new(alloc, sound("a:11211", ""), 0)?;
+    let first = first.waiting_for(Arc::try_clone(&is_answered)?);
+    let second = Server::new(alloc, sound("b:11211", "b"), 0)?;
+    let scene = Scene::new(rt, alloc)?
+        .with_server(first.starting(Arc::try_clone(&is_slow)?))?
+        .with_server(second)?
+        .with_client(bytes(alloc, "get b\r\n")?, Some(is_answered))?
+        .coming_with(is_slow)
+        .with_client(bytes(alloc, "delete a\r\n")?, None)?;
+    let (report, seen) = play(rt, alloc, config, scene)?;
+    Ok(
+        matches!(report, Ok(report) if is_report(report, 2))
+            && seen.is_answered(1, "DELETED\r\n")
+            && seen.is_answered(0, "VALUE b 0 1\r\nx\r\nEND\r\n"),
+    )
+}
+
+#[test]
+fn a_slow_server_holds_up_no_other_one(rt: HostRuntime) -> Result<(), Fail> {
+    assert!(rt; slow_beside_quick(rt, rt.alloc(), SECOND)?);
+    assert!(rt; slow_beside_quick(rt, rt.alloc(), SECOND_FIRST)?);
+    Ok(())
+}
+
 /// Sets to the first server at once and to the second without a reply.
 const INITIAL: &str =
     "{\"pools\":{\"A\":{\"servers\":[\"a:11211\"]},\"B\":{\"servers\":[\"b:11211\"]}},\"route\":{\"type\":\"AllInitialRoute\",\"children\":[\"PoolRoute|A\",\"PoolRoute|B\"]}}";
