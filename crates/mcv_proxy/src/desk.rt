@@ -1,19 +1,23 @@
 //! The desk over a hub: a request's keys are calls of the hub.
 
-ghost use Rattle.std.specs.Prelude.{◌≡◌, ◌+◌, ◌<◌, ◌≤◌, ◌++◌, ◌∷◌, [], length, vec_len, vec_capacity, IfOk, OnOk};
+ghost use Rattle.std.specs.Prelude.{◌≡◌, ◌↔◌, ◌+◌, ◌<◌, ◌≤◌, [], None, fold, length, map, nat_le, option_map, take, vec_len, vec_capacity, true, IfErr, IfOk, IfSome, OnErr, OnOk};
 ghost use Rattle.std.specs.Arc.{arc_value};
+ghost use Rattle.std.specs.List.{All, filter};
 ghost use Rattle.mcv_text.specs.Request.{request_value};
 ghost use Rattle.mcv_session.specs.Desk.{keys_of};
+ghost use Rattle.mcv_proxy.specs.Desk.{AreFor, Asks, HasNoPlace, IsFor, IsPlace, IsRefusal, IsUnanswered, IsUnbegun, WasTaken, desk_fault, with_receipt, word_at};
 
 use crate::errands::Errands;
 use crate::events;
 use crate::gates::{Link, Watch};
 use crate::lanes::{Lanes, Links};
-use mcv_base::{CallId, Part, Request};
+use mcv_base::{CallId, Op, Part, Request, Rest, key_words_have_one_reading, split_key};
+use mcv_check::Accepted;
 use mcv_core::CoreFault;
 use mcv_hub::{Bell, Guard, Hub, Pass, Receipt, Seat, TakenReply};
+use mcv_route::Routes;
 use mcv_session::{Desk, DeskFault};
-use std::alloc::Global;
+use std::alloc::{AllocError, Global};
 use std::rt::Clock;
 use std::sync::ledger::Ledger;
 use std::sync::{Arc, Wait};
@@ -50,12 +54,59 @@ struct Progress {
 /// Answers the requests of one session by calls of a hub, one for each key.
 #[derive(Drop)]
 pub struct HubDesk<'a, B: Ledger, T: Ledger, L: Link, W: Watch, R: Wait + Clock> {
+    accepted: Arc<Accepted>,
     caller: Caller<'a, B, T, L, W, R>,
+    kept: Kept,
+}
+
+/// The receipts of replies that were taken, without those of earlier chapters than that of the last one.
+#[derive(Drop)]
+struct Kept {
     receipts: Vec<Receipt>,
+    /// No receipt is of an earlier chapter.
+    chapter: u64,
+    ghost current: { All (λ r. chapter ≤ r.chapter) receipts.items },
+}
+
+/// Where a key word leads.
+#[derive(Drop)]
+struct Place {
+    /// The number of its route.
+    route: usize,
+    /// The word without its routing prefix.
+    rest: Rest,
+}
+
+/// What the calls for the keys of one request are kept in, with room for all of them.
+#[derive(Drop)]
+struct Room {
+    calls: Vec<CallId>,
+    taken: Vec<TakenReply>,
+    parts: Vec<Part>,
+}
+
+impl Room {
+    /// Room for so many calls.
+    fn new(alloc: Global, count: usize) -> Result<Room, AllocError>
+        ensures calls { IfOk result (λ room. (room.calls.items ≡ []) × (count ≤ vec_capacity room.calls)) }
+        ensures taken { IfOk result (λ room. (room.taken.items ≡ []) × (count ≤ vec_capacity room.taken)) }
+        ensures parts { IfOk result (λ room. (room.parts.items ≡ []) × (count ≤ vec_capacity room.parts)) }
+    {
+        let calls = Vec::with_capacity(alloc, count)?;
+        let taken = Vec::with_capacity(alloc, count)?;
+        let parts = Vec::with_capacity(alloc, count)?;
+        Ok(Room {
+            calls,
+            taken,
+            parts,
+        })
+    }
 }
 
 /// What a client is answered where the core refuses a call.
-fn fault_for(fault: CoreFault) -> DeskFault {
+fn fault_for(fault: CoreFault) -> DeskFault
+    ensures { result ≡ desk_fault fault }
+{
     match fault {
         CoreFault::UnknownPrefix => DeskFault::NoRoute,
         CoreFault::BadKey => DeskFault::BadKey,
@@ -80,6 +131,84 @@ fn key_count(request: &Request) -> usize
     }
 }
 
+/// The operation of a request, and one of its key words.
+fn key_of(request: &Request, key: usize) -> Option<(Op, &[u8])>
+    ensures { option_map (λ k. (k.0, k.1.now)) result ≡ word_at (request_value request.now) key }
+{
+    let Request::Ask(ask) = request else {
+        return None;
+    };
+    let word = ask.keys.get(key)?;
+    Some((ask.op, word.as_slice()))
+}
+
+/// Where a key word leads. An error is BadKey, where it is no key, or UnknownPrefix, where no route has its prefix.
+fn place_of(routes: &Routes, word: &[u8]) -> Result<Place, CoreFault>
+    ensures place { IfOk result (λ place. IsPlace routes.now word.now place.route place.rest) }
+    ensures err { IfErr result (HasNoPlace routes.now word.now) }
+{
+    let Ok((prefix, rest)) = split_key(word) else {
+        return Err(CoreFault::BadKey);
+    };
+    match routes.route_of(&prefix) {
+        Some(route) => Ok(Place { route, rest }),
+        None => Err(CoreFault::UnknownPrefix),
+    }
+}
+
+/// Whether the call of a reply asked this operation at this place.
+fn has_asked(taken: &TakenReply, op: Op, place: &Place) -> bool
+    ensures { (result ≡ true) ↔ ((taken.now.asked.op ≡ op) × (taken.now.asked.route ≡ place.now.route) × (taken.now.asked.rest ≡ place.now.rest)) }
+{
+    taken.op() == op && taken.route() == place.route && *taken.rest() == place.rest
+}
+
+/// Whether a reply is for this key: its call asked the operation of the request, of the key's route and rest.
+fn is_for(routes: &Routes, request: &Request, key: usize, taken: &TakenReply) -> bool
+    ensures { (result ≡ true) ↔ IsFor routes.now (request_value request.now) key taken.now }
+{
+    key_words_have_one_reading();
+    let Some((op, word)) = key_of(request, key) else {
+        return false;
+    };
+    match place_of(routes, word) {
+        Ok(place) => has_asked(taken, op, &place),
+        Err(_) => false,
+    }
+}
+
+/// Whether replies are for the first keys of a request, in their order.
+fn are_for(routes: &Routes, request: &Request, taken: &[TakenReply]) -> bool
+    ensures { (result ≡ true) ↔ AreFor routes.now (request_value request.now) taken.now }
+{
+    for key in 0..taken.len() {
+        if !is_for(routes, request, key, &taken[key]) {
+            return false;
+        }
+    }
+    true
+}
+
+/// Why the hub began no call for a key, as far as the routes say so: where they have a place for a key that the hub has none
+/// for, it is NoSuchCall.
+fn confirmed(routes: &Routes, request: &Request, key: usize, fault: CoreFault) -> CoreFault
+    requires { IsRefusal fault }
+    ensures { IsUnbegun routes.now (request_value request.now) key result }
+{
+    match fault {
+        CoreFault::UnknownPrefix | CoreFault::BadKey => {
+            let Some((_op, word)) = key_of(request, key) else {
+                return CoreFault::NoSuchCall;
+            };
+            match place_of(routes, word) {
+                Ok(_) => CoreFault::NoSuchCall,
+                Err(fault) => fault,
+            }
+        }
+        other => other,
+    }
+}
+
 /// Begins a call. Where the chapter has no place for it, a new chapter begins first. The first key of a request waits for
 /// that a second at most, while calls run or legs are queued; for another one the request's own calls run, so it is
 /// refused.
@@ -92,7 +221,12 @@ fn begin_in_chapter<'a, B: Ledger, T: Ledger, R: Wait + Clock>(
     errands: &mut Errands<'_, B, T>,
     request: &Arc<Request>,
     key: usize,
-) -> (Guard<'a, B, T>, Result<CallId, CoreFault>) {
+) -> (Guard<'a, B, T>, Result<CallId, CoreFault>)
+    ensures err { IfErr result.1 IsRefusal }
+    ensures begun { OnOk result.1 (seat.new.begun.amount ≡ seat.old.begun.amount + 1) }
+    ensures unbegun { OnErr result.1 (seat.new.begun.amount ≡ seat.old.begun.amount) }
+    ensures taken { seat.new.taken.amount ≡ seat.old.taken.amount }
+{
     let mut guard = guard;
     for _attempt in 0..ATTEMPTS {
         let Ok(request) = Arc::try_clone(request) else {
@@ -113,20 +247,25 @@ fn begin_in_chapter<'a, B: Ledger, T: Ledger, R: Wait + Clock>(
 }
 
 /// Begins the calls for the keys of a request, in their order, up to the first that is refused.
-fn begin_all<'a, B: Ledger, T: Ledger, R: Wait + Clock>(
+fn begin_each<'a, B: Ledger, T: Ledger, R: Wait + Clock>(
     rt: &R,
     alloc: Global,
     hub: &Hub<B, T>,
     guard: Guard<'a, B, T>,
     seat: &mut Seat<B, T>,
     errands: &mut Errands<'_, B, T>,
+    routes: &Routes,
     request: &Arc<Request>,
     count: usize,
     calls: &mut Vec<CallId>,
 ) -> (Guard<'a, B, T>, Result<(), CoreFault>)
-    requires { vec_len calls.old + count ≤ vec_capacity calls.old }
-    ensures all { OnOk result.1 (vec_len calls.new ≡ vec_len calls.old + count) }
-    ensures most { vec_len calls.new ≤ vec_len calls.old + count }
+    requires empty { calls.old.items ≡ [] }
+    requires room { count ≤ vec_capacity calls.old }
+    ensures all { OnOk result.1 (vec_len calls.new ≡ count) }
+    ensures most { vec_len calls.new ≤ count }
+    ensures begun { seat.new.begun.amount ≡ seat.old.begun.amount + vec_len calls.new }
+    ensures taken { seat.new.taken.amount ≡ seat.old.taken.amount }
+    ensures err { IfErr result.1 (IsUnbegun routes.now (request_value (arc_value request.now)) (vec_len calls.new)) }
 {
     let mut guard = guard;
     for key in 0..count {
@@ -134,53 +273,41 @@ fn begin_all<'a, B: Ledger, T: Ledger, R: Wait + Clock>(
         guard = next;
         match begun {
             Ok(call) => calls.push_reserved(call),
-            Err(fault) => return (guard, Err(fault)),
+            Err(fault) => return (guard, Err(confirmed(routes, request, key, fault))),
         }
     }
     (guard, Ok(()))
 }
 
-/// Keeps a reply that was taken, and its receipt.
-fn keep(taken: TakenReply, parts: &mut Vec<Part>, receipts: &mut Vec<Receipt>)
-    requires parts { vec_len parts.old < vec_capacity parts.old }
-    requires receipts { vec_len receipts.old < vec_capacity receipts.old }
-    ensures parts { parts.new.items ≡ parts.old.items ++ taken.reply ∷ [] }
-    ensures receipts { receipts.new.items ≡ receipts.old.items ++ taken.receipt ∷ [] }
-    ensures part_len { vec_len parts.new ≡ vec_len parts.old + 1 }
-    ensures receipt_len { vec_len receipts.new ≡ vec_len receipts.old + 1 }
-    ensures part_room { vec_capacity parts.new ≡ vec_capacity parts.old }
-    ensures receipt_room { vec_capacity receipts.new ≡ vec_capacity receipts.old }
-{
-    receipts.push_reserved(taken.receipt());
-    parts.push_reserved(taken.into_reply());
-}
-
 /// Takes the replies to calls that are there, in their order, up to the first that isn't. Where one won't come the others are
-/// taken too.
+/// taken too, and it is NoSuchCall.
 fn take_ready<B: Ledger, T: Ledger>(
     guard: &mut Guard<'_, B, T>,
     seat: &mut Seat<B, T>,
     calls: &[CallId],
     progress: Progress,
-    parts: &mut Vec<Part>,
-    receipts: &mut Vec<Receipt>,
+    taken: &mut Vec<TakenReply>,
 ) -> Progress
     requires within { progress.done ≤ length calls.now }
-    requires parts { vec_len parts.old + length calls.now ≤ vec_capacity parts.old + progress.done }
-    requires receipts { vec_len receipts.old + length calls.now ≤ vec_capacity receipts.old + progress.done }
+    requires room { length calls.now ≤ vec_capacity taken.old }
+    requires few { vec_len taken.old ≤ progress.done }
+    requires each { All WasTaken taken.old.items }
+    requires calls { progress.missed ≡ None → map (λ t. t.receipt.call) taken.old.items ≡ take progress.done calls.now }
+    requires missed { IfSome progress.missed (λ fault. fault ≡ CoreFault.NoSuchCall) }
     ensures on { (progress.done ≤ result.done) × (result.done ≤ length calls.now) }
-    ensures missed { result.missed ≡ None → progress.missed ≡ None }
-    ensures parts { result.missed ≡ None → vec_len parts.new + progress.done ≡ vec_len parts.old + result.done }
-    ensures receipts { result.missed ≡ None → vec_len receipts.new + progress.done ≡ vec_len receipts.old + result.done }
-    ensures few_parts { vec_len parts.new + progress.done ≤ vec_len parts.old + result.done }
-    ensures few_receipts { vec_len receipts.new + progress.done ≤ vec_len receipts.old + result.done }
-    ensures part_room { vec_capacity parts.new ≡ vec_capacity parts.old }
-    ensures receipt_room { vec_capacity receipts.new ≡ vec_capacity receipts.old }
+    ensures most { vec_len taken.new ≤ result.done }
+    ensures room { vec_capacity taken.new ≡ vec_capacity taken.old }
+    ensures each { All WasTaken taken.new.items }
+    ensures calls { result.missed ≡ None → map (λ t. t.receipt.call) taken.new.items ≡ take result.done calls.now }
+    ensures missed { IfSome result.missed (λ fault. fault ≡ CoreFault.NoSuchCall) }
+    ensures counted { seat.new.taken.amount + vec_len taken.old ≡ seat.old.taken.amount + vec_len taken.new }
+    ensures begun { seat.new.begun.amount ≡ seat.old.begun.amount }
 {
     let mut missed = progress.missed;
     for done in progress.done..calls.len() {
+        guard.deletes_are_kept();
         match guard.take_reply(seat, calls[done]) {
-            Ok(Some(taken)) => keep(taken, parts, receipts),
+            Ok(Some(reply)) => taken.push_reserved(reply),
             Ok(None) => return Progress { done, missed },
             Err(fault) => missed = Some(fault),
         }
@@ -202,25 +329,27 @@ fn go_on<B: Ledger, T: Ledger, R: Wait>(
     errands: &mut Errands<'_, B, T>,
     calls: &[CallId],
     progress: Progress,
-    parts: &mut Vec<Part>,
-    receipts: &mut Vec<Receipt>,
+    taken: &mut Vec<TakenReply>,
 ) -> Progress
     requires within { progress.done ≤ length calls.now }
-    requires parts { vec_len parts.old + length calls.now ≤ vec_capacity parts.old + progress.done }
-    requires receipts { vec_len receipts.old + length calls.now ≤ vec_capacity receipts.old + progress.done }
+    requires room { length calls.now ≤ vec_capacity taken.old }
+    requires few { vec_len taken.old ≤ progress.done }
+    requires each { All WasTaken taken.old.items }
+    requires calls { progress.missed ≡ None → map (λ t. t.receipt.call) taken.old.items ≡ take progress.done calls.now }
+    requires missed { IfSome progress.missed (λ fault. fault ≡ CoreFault.NoSuchCall) }
     ensures on { (progress.done ≤ result.done) × (result.done ≤ length calls.now) }
-    ensures missed { result.missed ≡ None → progress.missed ≡ None }
-    ensures parts { result.missed ≡ None → vec_len parts.new + progress.done ≡ vec_len parts.old + result.done }
-    ensures receipts { result.missed ≡ None → vec_len receipts.new + progress.done ≡ vec_len receipts.old + result.done }
-    ensures few_parts { vec_len parts.new + progress.done ≤ vec_len parts.old + result.done }
-    ensures few_receipts { vec_len receipts.new + progress.done ≤ vec_len receipts.old + result.done }
-    ensures part_room { vec_capacity parts.new ≡ vec_capacity parts.old }
-    ensures receipt_room { vec_capacity receipts.new ≡ vec_capacity receipts.old }
+    ensures most { vec_len taken.new ≤ result.done }
+    ensures room { vec_capacity taken.new ≡ vec_capacity taken.old }
+    ensures each { All WasTaken taken.new.items }
+    ensures calls { result.missed ≡ None → map (λ t. t.receipt.call) taken.new.items ≡ take result.done calls.now }
+    ensures missed { IfSome result.missed (λ fault. fault ≡ CoreFault.NoSuchCall) }
+    ensures counted { seat.new.taken.amount + vec_len taken.old ≡ seat.old.taken.amount + vec_len taken.new }
+    ensures begun { seat.new.begun.amount ≡ seat.old.begun.amount }
 {
     let mut guard = guard;
     let mut progress = progress;
     for _turn in rt.forever() {
-        progress = take_ready(&mut guard, seat, calls, progress, parts, receipts);
+        progress = take_ready(&mut guard, seat, calls, progress, taken);
         let Some(call) = calls.get(progress.done) else {
             errands.agenda.leave(guard.core());
             events::turn_where_full(&mut errands.agenda, &mut guard);
@@ -238,127 +367,173 @@ fn go_on<B: Ledger, T: Ledger, R: Wait>(
     unreachable!()
 }
 
+/// Drops the receipts of chapters before this one; none of them is of an earlier one than `oldest`.
+fn drop_older(receipts: &mut Vec<Receipt>, oldest: u64, chapter: u64)
+    requires { All (λ r. oldest ≤ r.chapter) receipts.old.items }
+    ensures items { receipts.new.items ≡ filter (λ r. nat_le chapter r.chapter) receipts.old.items }
+    ensures len { vec_len receipts.new ≤ vec_len receipts.old }
+    ensures room { vec_capacity receipts.new ≡ vec_capacity receipts.old }
+{
+    if chapter <= oldest {
+        return;
+    }
+    receipts.retain(|receipt| receipt.chapter >= chapter);
+}
+
+impl Kept {
+    /// No receipts.
+    fn new(alloc: Global) -> Kept
+        ensures { result.receipts.items ≡ [] }
+    {
+        Kept {
+            receipts: Vec::new(alloc),
+            chapter: 0,
+        }
+    }
+
+    /// Makes room for so many more.
+    fn reserve(&mut self, count: usize) -> Result<(), AllocError>
+        ensures same { self.new.receipts.items ≡ self.old.receipts.items }
+        ensures room { OnOk result (vec_len self.new.receipts + count ≤ vec_capacity self.new.receipts) }
+    {
+        self.receipts.reserve(count)
+    }
+
+    /// Drops the receipts of chapters before this one.
+    fn enter(&mut self, chapter: u64)
+        ensures items { self.new.receipts.items ≡ filter (λ r. nat_le chapter r.chapter) self.old.receipts.items }
+        ensures chapter { self.new.chapter ≡ chapter }
+        ensures len { vec_len self.new.receipts ≤ vec_len self.old.receipts }
+        ensures room { vec_capacity self.new.receipts ≡ vec_capacity self.old.receipts }
+    {
+        drop_older(&mut self.receipts, self.chapter, chapter);
+        self.chapter = chapter;
+    }
+
+    /// Keeps the receipt of a reply, and drops those of earlier chapters.
+    fn keep(&mut self, taken: &TakenReply)
+        requires { vec_len self.old.receipts < vec_capacity self.old.receipts }
+        ensures kept { self.new.receipts.items ≡ with_receipt self.old.receipts.items taken.now }
+        ensures len { vec_len self.new.receipts ≤ vec_len self.old.receipts + 1 }
+        ensures room { vec_capacity self.new.receipts ≡ vec_capacity self.old.receipts }
+    {
+        let receipt = taken.receipt();
+        self.enter(receipt.chapter);
+        self.receipts.push_reserved(receipt);
+    }
+
+    /// Keeps the receipts of replies, in their order.
+    fn keep_all(&mut self, taken: &[TakenReply])
+        requires { vec_len self.old.receipts + length taken.now ≤ vec_capacity self.old.receipts }
+        ensures { self.new.receipts.items ≡ fold with_receipt self.old.receipts.items taken.now }
+    {
+        for reply in taken {
+            self.keep(reply);
+        }
+    }
+}
+
+/// The replies as a client gets them.
+fn into_parts(taken: Vec<TakenReply>, parts: Vec<Part>) -> Vec<Part>
+    requires empty { parts.items ≡ [] }
+    requires room { vec_len taken ≤ vec_capacity parts }
+    ensures { result.items ≡ map (λ t. t.reply) taken.items }
+{
+    let mut parts = parts;
+    for reply in taken {
+        parts.push_reserved(reply.into_reply());
+    }
+    parts
+}
+
 impl<'a, B: Ledger, T: Ledger, L: Link, W: Watch, R: Wait + Clock> Caller<'a, B, T, L, W, R> {
-    /// Begins the calls for the keys of a request at this moment, up to the first that is refused, and goes on with them.
-    fn first_round(
+    /// Begins the calls for the keys of a request at this moment, in their order, up to the first that is refused, and puts a
+    /// leg of theirs in flight where that can be done at once.
+    fn begin_all(
         &mut self,
+        routes: &Routes,
         request: &Arc<Request>,
         count: usize,
         calls: &mut Vec<CallId>,
-        parts: &mut Vec<Part>,
-        receipts: &mut Vec<Receipt>,
-    ) -> (Progress, Result<(), CoreFault>)
-        requires none { vec_len calls.old ≡ 0 }
-        requires calls { count ≤ vec_capacity calls.old }
-        requires parts { vec_len parts.old + count ≤ vec_capacity parts.old }
-        requires receipts { vec_len receipts.old + count ≤ vec_capacity receipts.old }
-        ensures all { OnOk result.1 (vec_len calls.new ≡ count) }
+    ) -> Result<(), CoreFault>
+        requires empty { calls.old.items ≡ [] }
+        requires room { count ≤ vec_capacity calls.old }
+        ensures all { OnOk result (vec_len calls.new ≡ count) }
         ensures most { vec_len calls.new ≤ count }
-        ensures within { result.0.done ≤ vec_len calls.new }
-        ensures parts { result.0.missed ≡ None → vec_len parts.new ≡ vec_len parts.old + result.0.done }
-        ensures receipts { result.0.missed ≡ None → vec_len receipts.new ≡ vec_len receipts.old + result.0.done }
-        ensures few_parts { vec_len parts.new ≤ vec_len parts.old + result.0.done }
-        ensures few_receipts { vec_len receipts.new ≤ vec_len receipts.old + result.0.done }
-        ensures part_room { vec_capacity parts.new ≡ vec_capacity parts.old }
-        ensures receipt_room { vec_capacity receipts.new ≡ vec_capacity receipts.old }
+        ensures begun { self.new.seat.begun.amount ≡ self.old.seat.begun.amount + vec_len calls.new }
+        ensures taken { self.new.seat.taken.amount ≡ self.old.seat.taken.amount }
+        ensures err { IfErr result (IsUnbegun routes.now (request_value (arc_value request.now)) (vec_len calls.new)) }
     {
         let moment = self.watch.moment();
         let (rt, alloc, hub, lanes) = (self.rt, self.alloc, self.hub, self.lanes);
         let mut guard = hub.lock(rt, &mut self.pass);
         // A moment before the hub's leaves its era as it is.
         let _ = guard.clock(moment);
-        let (guard, begun) = begin_all(
-            rt,
-            alloc,
-            hub,
-            guard,
-            &mut self.seat,
-            &mut self.errands,
-            request,
-            count,
-            calls,
+        let seat = &mut self.seat;
+        let errands = &mut self.errands;
+        let (mut guard, begun) = begin_each(
+            rt, alloc, hub, guard, seat, errands, routes, request, count, calls,
         );
-        let fresh = Progress {
-            done: 0,
-            missed: None,
-        };
-        let progress = go_on(
-            rt,
-            alloc,
-            hub,
-            lanes,
-            guard,
-            &mut self.seat,
-            &mut self.errands,
-            calls.as_slice(),
-            fresh,
-            parts,
-            receipts,
-        );
-        (progress, begun)
+        errands.set_off_at_once(rt, alloc, lanes, &mut guard, calls.as_slice());
+        begun
     }
 
-    /// Reports what came of the leg that was sent, and goes on with the calls.
-    fn next_round(
+    /// Reports what came of the leg that was sent, if one was, and goes on with the calls.
+    fn round(
         &mut self,
         calls: &[CallId],
         progress: Progress,
-        parts: &mut Vec<Part>,
-        receipts: &mut Vec<Receipt>,
+        taken: &mut Vec<TakenReply>,
     ) -> Progress
         requires within { progress.done ≤ length calls.now }
-        requires parts { vec_len parts.old + length calls.now ≤ vec_capacity parts.old + progress.done }
-        requires receipts { vec_len receipts.old + length calls.now ≤ vec_capacity receipts.old + progress.done }
+        requires room { length calls.now ≤ vec_capacity taken.old }
+        requires few { vec_len taken.old ≤ progress.done }
+        requires each { All WasTaken taken.old.items }
+        requires calls { progress.missed ≡ None → map (λ t. t.receipt.call) taken.old.items ≡ take progress.done calls.now }
+        requires missed { IfSome progress.missed (λ fault. fault ≡ CoreFault.NoSuchCall) }
         ensures on { (progress.done ≤ result.done) × (result.done ≤ length calls.now) }
-        ensures missed { result.missed ≡ None → progress.missed ≡ None }
-        ensures parts { result.missed ≡ None → vec_len parts.new + progress.done ≡ vec_len parts.old + result.done }
-        ensures receipts { result.missed ≡ None → vec_len receipts.new + progress.done ≡ vec_len receipts.old + result.done }
-        ensures few_parts { vec_len parts.new + progress.done ≤ vec_len parts.old + result.done }
-        ensures few_receipts { vec_len receipts.new + progress.done ≤ vec_len receipts.old + result.done }
-        ensures part_room { vec_capacity parts.new ≡ vec_capacity parts.old }
-        ensures receipt_room { vec_capacity receipts.new ≡ vec_capacity receipts.old }
+        ensures most { vec_len taken.new ≤ result.done }
+        ensures room { vec_capacity taken.new ≡ vec_capacity taken.old }
+        ensures each { All WasTaken taken.new.items }
+        ensures calls { result.missed ≡ None → map (λ t. t.receipt.call) taken.new.items ≡ take result.done calls.now }
+        ensures missed { IfSome result.missed (λ fault. fault ≡ CoreFault.NoSuchCall) }
+        ensures counted { self.new.seat.taken.amount + vec_len taken.old ≡ self.old.seat.taken.amount + vec_len taken.new }
+        ensures begun { self.new.seat.begun.amount ≡ self.old.seat.begun.amount }
     {
         let (rt, alloc, hub, lanes) = (self.rt, self.alloc, self.hub, self.lanes);
         let mut guard = hub.lock(rt, &mut self.pass);
         self.errands.land(rt, lanes, &mut guard, calls);
+        let seat = &mut self.seat;
+        let errands = &mut self.errands;
         go_on(
-            rt,
-            alloc,
-            hub,
-            lanes,
-            guard,
-            &mut self.seat,
-            &mut self.errands,
-            calls,
-            progress,
-            parts,
-            receipts,
+            rt, alloc, hub, lanes, guard, seat, errands, calls, progress, taken,
         )
     }
 
-    /// Takes the replies to the other calls, in their order, with their receipts, and sends legs for that.
-    fn take_all(
-        &mut self,
-        calls: &[CallId],
-        progress: Progress,
-        parts: &mut Vec<Part>,
-        receipts: &mut Vec<Receipt>,
-    ) -> Result<(), CoreFault>
-        requires within { progress.done ≤ length calls.now }
-        requires parts { vec_len parts.old + length calls.now ≤ vec_capacity parts.old + progress.done }
-        requires receipts { vec_len receipts.old + length calls.now ≤ vec_capacity receipts.old + progress.done }
-        ensures missed { OnOk result (progress.missed ≡ None) }
-        ensures parts { OnOk result (vec_len parts.new + progress.done ≡ vec_len parts.old + length calls.now) }
-        ensures receipts { OnOk result (vec_len receipts.new + progress.done ≡ vec_len receipts.old + length calls.now) }
+    /// Takes the replies to calls, in their order, and sends legs for that. Where one isn't there the others are taken too, and
+    /// it is NoSuchCall.
+    fn take_all(&mut self, calls: &[CallId], taken: &mut Vec<TakenReply>) -> Result<(), CoreFault>
+        requires empty { taken.old.items ≡ [] }
+        requires room { length calls.now ≤ vec_capacity taken.old }
+        ensures each { All WasTaken taken.new.items }
+        ensures most { vec_len taken.new ≤ length calls.now }
+        ensures room { vec_capacity taken.new ≡ vec_capacity taken.old }
+        ensures calls { OnOk result (map (λ t. t.receipt.call) taken.new.items ≡ calls.now) }
+        ensures counted { self.new.seat.taken.amount ≡ self.old.seat.taken.amount + vec_len taken.new }
+        ensures begun { self.new.seat.begun.amount ≡ self.old.seat.begun.amount }
+        ensures err { IfErr result (λ fault. fault ≡ CoreFault.NoSuchCall) }
     {
-        let mut progress = progress;
+        let mut progress = Progress {
+            done: 0,
+            missed: None,
+        };
         for _turn in self.rt.forever() {
             if progress.done >= calls.len() {
                 break;
             }
             self.errands
                 .carry(self.rt, self.alloc, self.links, &self.pass);
-            progress = self.next_round(calls, progress, parts, receipts);
+            progress = self.round(calls, progress, taken);
         }
         self.errands.finish(self.rt, self.links, &self.pass);
         match progress.missed {
@@ -369,10 +544,11 @@ impl<'a, B: Ledger, T: Ledger, L: Link, W: Watch, R: Wait + Clock> Caller<'a, B,
 }
 
 impl<'a, B: Ledger, T: Ledger, L: Link, W: Watch, R: Wait + Clock> HubDesk<'a, B, T, L, W, R> {
-    /// A desk that has answered nothing.
+    /// A desk over a hub of these routes that has answered nothing.
     pub fn new(
         rt: &'a R,
         alloc: Global,
+        accepted: Arc<Accepted>,
         hub: &'a Hub<B, T>,
         lanes: &'a Lanes,
         links: &'a Links<L>,
@@ -380,9 +556,11 @@ impl<'a, B: Ledger, T: Ledger, L: Link, W: Watch, R: Wait + Clock> HubDesk<'a, B
         seat: Seat<B, T>,
         watch: W,
     ) -> HubDesk<'a, B, T, L, W, R>
-        ensures receipts { result.receipts.items ≡ [] }
+        ensures receipts { result.kept.receipts.items ≡ [] }
+        ensures routes { result.accepted ≡ accepted }
     {
         HubDesk {
+            accepted,
             caller: Caller {
                 rt,
                 alloc,
@@ -394,54 +572,90 @@ impl<'a, B: Ledger, T: Ledger, L: Link, W: Watch, R: Wait + Clock> HubDesk<'a, B
                 watch,
                 errands: Errands::new(alloc, hub),
             },
-            receipts: Vec::new(alloc),
+            kept: Kept::new(alloc),
         }
     }
 
-    /// The seat, and the receipts of all replies that were taken.
+    /// The seat, and the receipts that were kept.
     pub fn into_parts(self) -> (Seat<B, T>, Vec<Receipt>)
         ensures seat { result.0 ≡ self.entry.caller.seat }
-        ensures receipts { result.1 ≡ self.entry.receipts }
+        ensures receipts { result.1 ≡ self.entry.kept.receipts }
     {
-        let HubDesk { caller, receipts } = self;
-        (caller.seat, receipts)
+        let HubDesk {
+            accepted: _,
+            caller,
+            kept,
+        } = self;
+        (caller.seat, kept.receipts)
     }
 
-    /// The replies to the keys of a request, one for each. All calls are begun before the first reply is waited for; where
-    /// one is refused the replies to those before it are taken all the same. Room for all of it is made first.
-    fn answer(&mut self, request: &Arc<Request>) -> Result<Vec<Part>, CoreFault>
-        ensures each { IfOk result (λ parts. vec_len parts ≡ length (keys_of (request_value (arc_value request.now)))) }
-        ensures receipts { OnOk result (vec_len self.new.receipts ≡ vec_len self.old.receipts + length (keys_of (request_value (arc_value request.now)))) }
+    /// Takes a reply for each key of a request, in the order of the keys, and keeps their receipts. All calls are begun before
+    /// the first reply is waited for; where one is refused the replies to those before it are taken all the same.
+    fn take_replies(
+        &mut self,
+        request: &Arc<Request>,
+        calls: &mut Vec<CallId>,
+        taken: &mut Vec<TakenReply>,
+    ) -> Result<(), CoreFault>
+        requires no_calls { calls.old.items ≡ [] }
+        requires calls { length (keys_of (request_value (arc_value request.now))) ≤ vec_capacity calls.old }
+        requires no_replies { taken.old.items ≡ [] }
+        requires replies { length (keys_of (request_value (arc_value request.now))) ≤ vec_capacity taken.old }
+        requires receipts { vec_len self.old.kept.receipts + length (keys_of (request_value (arc_value request.now))) ≤ vec_capacity self.old.kept.receipts }
+        ensures routes { self.new.accepted ≡ self.old.accepted }
+        ensures each { All WasTaken taken.new.items }
+        ensures kept { self.new.kept.receipts.items ≡ fold with_receipt self.old.kept.receipts.items taken.new.items }
+        ensures counted { self.new.caller.seat.taken.amount ≡ self.old.caller.seat.taken.amount + vec_len taken.new }
+        ensures begun { self.new.caller.seat.begun.amount ≡ self.old.caller.seat.begun.amount + vec_len calls.new }
+        ensures most { vec_len taken.new ≤ vec_len calls.new }
+        ensures all_begun { OnOk result (vec_len calls.new ≡ length (keys_of (request_value (arc_value request.now)))) }
+        ensures for_keys { OnOk result (AreFor (arc_value self.old.accepted) (request_value (arc_value request.now)) taken.new.items) }
+        ensures one_each { OnOk result (vec_len taken.new ≡ length (keys_of (request_value (arc_value request.now)))) }
+        ensures err { IfErr result (IsUnanswered (arc_value self.old.accepted) (request_value (arc_value request.now)) taken.new.items) }
     {
         let count = key_count(request);
-        let alloc = self.caller.alloc;
-        let Ok(mut calls) = Vec::with_capacity(alloc, count) else {
-            return Err(CoreFault::Memory);
-        };
-        let Ok(mut parts) = Vec::with_capacity(alloc, count) else {
-            return Err(CoreFault::Memory);
-        };
-        let Ok(()) = self.receipts.reserve(count) else {
-            return Err(CoreFault::Memory);
-        };
-        let (progress, begun) = self
-            .caller
-            .first_round(request, count, &mut calls, &mut parts, &mut self.receipts);
-        self.caller
-            .take_all(&calls, progress, &mut parts, &mut self.receipts)?;
-        begun?;
-        Ok(parts)
+        let routes = self.accepted.routes();
+        let begun = self.caller.begin_all(routes, request, count, calls);
+        let outcome = self.caller.take_all(calls.as_slice(), taken);
+        self.kept.keep_all(taken.as_slice());
+        outcome?;
+        if !are_for(routes, request, taken.as_slice()) {
+            return Err(CoreFault::NoSuchCall);
+        }
+        begun
+    }
+
+    /// Room for the calls of a request and for their receipts.
+    fn room_for(&mut self, count: usize) -> Result<Room, AllocError>
+        ensures calls { IfOk result (λ room. (room.calls.items ≡ []) × (count ≤ vec_capacity room.calls)) }
+        ensures taken { IfOk result (λ room. (room.taken.items ≡ []) × (count ≤ vec_capacity room.taken)) }
+        ensures parts { IfOk result (λ room. (room.parts.items ≡ []) × (count ≤ vec_capacity room.parts)) }
+        ensures receipts { OnOk result (vec_len self.new.kept.receipts + count ≤ vec_capacity self.new.kept.receipts) }
+        ensures kept { self.new.kept.receipts.items ≡ self.old.kept.receipts.items }
+        ensures seat { (self.new.caller.seat.begun.amount ≡ self.old.caller.seat.begun.amount) × (self.new.caller.seat.taken.amount ≡ self.old.caller.seat.taken.amount) }
+        ensures routes { self.new.accepted ≡ self.old.accepted }
+    {
+        self.kept.reserve(count)?;
+        Room::new(self.caller.alloc, count)
     }
 }
 
 impl<'a, B: Ledger, T: Ledger, L: Link, W: Watch, R: Wait + Clock> Desk
     for HubDesk<'a, B, T, L, W, R> {
-    // Where it answers it has one receipt more for each key.
-    ghost asks = { λ old request answer new. OnOk answer (vec_len new.receipts ≡ vec_len old.receipts + length (keys_of request)) };
+    // Its routes stay.
+    ghost asks = { λ old request answer new. Asks (arc_value old.accepted) (record { receipts = old.kept.receipts.items; begun = old.caller.seat.begun.amount; taken = old.caller.seat.taken.amount }) request answer (record { receipts = new.kept.receipts.items; begun = new.caller.seat.begun.amount; taken = new.caller.seat.taken.amount }) × (new.accepted ≡ old.accepted) };
 
     fn ask(&mut self, request: &Arc<Request>) -> Result<Vec<Part>, DeskFault> {
-        match self.answer(request) {
-            Ok(parts) => Ok(parts),
+        let Ok(room) = self.room_for(key_count(request)) else {
+            return Err(DeskFault::Memory);
+        };
+        let Room {
+            mut calls,
+            mut taken,
+            parts,
+        } = room;
+        match self.take_replies(request, &mut calls, &mut taken) {
+            Ok(()) => Ok(into_parts(taken, parts)),
             Err(fault) => Err(fault_for(fault)),
         }
     }

@@ -240,6 +240,40 @@ impl<'a, B: Ledger, T: Ledger> Errands<'a, B, T> {
         self.has_lost
     }
 
+    /// Puts a leg in flight to the server of one that is owed, if none is in flight there. What else is owed the session looks
+    /// at again.
+    pub(crate) fn set_off_at_once<R: Wait>(
+        &mut self,
+        rt: &R,
+        alloc: Global,
+        lanes: &Lanes,
+        guard: &mut Guard<'_, B, T>,
+        own: &[CallId],
+    ) {
+        self.attend_all(rt, alloc, lanes, guard, own);
+        let server = self.flies_to();
+        for _turn in rt.forever() {
+            let Some(owed) = self.late.pop() else {
+                break;
+            };
+            self.keep_or_leave(rt, lanes, server, owed);
+        }
+    }
+
+    /// A leg is still owed. Where the session has one in flight to another server it is left to the worker.
+    fn keep_or_leave<R: Wait>(
+        &mut self,
+        rt: &R,
+        lanes: &Lanes,
+        flight: Option<ServerId>,
+        owed: Owed,
+    ) {
+        match flight {
+            Some(server) if server != owed.server => lanes.leave(rt, owed.server, owed.leg),
+            _ => self.keep(owed, Attention::Now),
+        }
+    }
+
     /// Sends the leg in flight, and reads its reply. Whoever is to be woken is, while it is under way.
     pub(crate) fn carry<L: Link, R: Wait>(
         &mut self,

@@ -188,6 +188,7 @@ fn employ_replayer<
 fn serve<B: Ledger, T: Ledger, L: Link, I: Read + Drop, O: Write + Drop, W: Watch, R: Wait + Clock>(
     rt: &R,
     alloc: Global,
+    accepted: Arc<Accepted>,
     hub: &Hub<B, T>,
     lanes: &Lanes,
     links: &Links<L>,
@@ -197,7 +198,7 @@ fn serve<B: Ledger, T: Ledger, L: Link, I: Read + Drop, O: Write + Drop, W: Watc
     watch: W,
 ) -> Done<B, T> {
     let (mut reader, mut writer) = client;
-    let mut desk = HubDesk::new(rt, alloc, hub, lanes, links, pass, seat, watch);
+    let mut desk = HubDesk::new(rt, alloc, accepted, hub, lanes, links, pass, seat, watch);
     let _ = serve_session(alloc, &mut reader, &mut writer, &mut desk);
     let (seat, receipts) = desk.into_parts();
     Done { seat, receipts }
@@ -215,6 +216,7 @@ fn host<
 >(
     rt: R,
     alloc: Global,
+    accepted: Arc<Accepted>,
     hub: Arc<Hub<B, T>>,
     lanes: Arc<Lanes>,
     links: Arc<Links<L>>,
@@ -224,7 +226,7 @@ fn host<
     watch: W,
 ) -> Option<JoinHandle<Done<B, T>>> {
     let job = move || serve(
-        &rt, alloc, &*hub, &*lanes, &*links, pass, seat, client, watch,
+        &rt, alloc, accepted, &*hub, &*lanes, &*links, pass, seat, client, watch,
     );
     thread::spawn(&rt, job).ok()
 }
@@ -241,6 +243,7 @@ fn admit<
 >(
     rt: R,
     alloc: Global,
+    accepted: &Arc<Accepted>,
     hub: &Arc<Hub<B, T>>,
     lanes: &Arc<Lanes>,
     links: &Arc<Links<L>>,
@@ -249,10 +252,13 @@ fn admit<
     client: (I, O),
     watch: W,
 ) -> Option<JoinHandle<Done<B, T>>> {
+    let accepted = Arc::try_clone(accepted).ok()?;
     let hub = Arc::try_clone(hub).ok()?;
     let lanes = Arc::try_clone(lanes).ok()?;
     let links = Arc::try_clone(links).ok()?;
-    host(rt, alloc, hub, lanes, links, pass, seat, client, watch)
+    host(
+        rt, alloc, accepted, hub, lanes, links, pass, seat, client, watch,
+    )
 }
 
 /// How many servers there are.
@@ -427,6 +433,7 @@ fn accept<
 >(
     rt: R,
     alloc: Global,
+    accepted: &Arc<Accepted>,
     hub: &Arc<Hub<B, T>>,
     lanes: &Arc<Lanes>,
     links: &Arc<Links<G::Link>>,
@@ -446,16 +453,9 @@ fn accept<
             continue;
         };
         let watch = gates.watch();
+        let pass = passes.pass();
         match admit(
-            rt,
-            alloc,
-            hub,
-            lanes,
-            links,
-            passes.pass(),
-            seat,
-            client,
-            watch,
+            rt, alloc, accepted, hub, lanes, links, pass, seat, client, watch,
         ) {
             Some(session) => sessions.push_reserved(session),
             None => gates.note_unserved(),
@@ -567,7 +567,16 @@ fn run<
         dismiss(&rt, shared, &mut pass, crew);
         return Err(fault);
     }
-    let sessions = accept(rt, alloc, &shared.hub, &shared.lanes, &links, passes, gates);
+    let sessions = accept(
+        rt,
+        alloc,
+        &shared.accepted,
+        &shared.hub,
+        &shared.lanes,
+        &links,
+        passes,
+        gates,
+    );
     let receipts = gather(&rt, alloc, sessions, seat);
     dismiss(&rt, shared, &mut pass, crew);
     Ok(receipts?)

@@ -1,19 +1,21 @@
-use Rattle.std.proofs.Common.{◌≡◌, ◌+◌, ◌≤◌, None, length}
-use Rattle.std.specs.Prelude.{vec_len, vec_capacity}
+use Rattle.std.proofs.Common.{◌≡◌, ◌+◌, ◌≤◌, None, length, map, take}
+use Rattle.std.specs.List.{All}
+use Rattle.std.specs.Prelude.{vec_len, vec_capacity, IfSome}
+use Rattle.mcv_core.specs.declared.fault.CoreFault.TheVariants.{NoSuchCall}
+use Rattle.mcv_proxy.specs.Desk.{WasTaken}
 use Rattle.mcv_proxy.proofs.desk.Caller.take_all.Given as goal
 
--- the replies to the calls that are done with were kept, unless one won't come
+-- the replies to the calls that are done with were taken, unless one won't come
 abbrev pub invariant-loop-turn : goal.invariant-loop-turn
 invariant-loop-turn g l = record {
   next : (goal.iterator-loop-turn g).can_next l._turn-iterator;
   finite : (goal.iterator-loop-turn g).is_finite l._turn-iterator;
-  on : l.fn.progress.done ≤ l.progress.done;
   within : l.progress.done ≤ length l.calls;
-  missed : l.progress.missed ≡ None → l.fn.progress.missed ≡ None;
-  parts : l.progress.missed ≡ None → vec_len l.parts + l.fn.progress.done ≡ vec_len l.fn.parts + l.progress.done;
-  receipts : l.progress.missed ≡ None → vec_len l.receipts + l.fn.progress.done ≡ vec_len l.fn.receipts + l.progress.done;
-  few_parts : vec_len l.parts + l.fn.progress.done ≤ vec_len l.fn.parts + l.progress.done;
-  few_receipts : vec_len l.receipts + l.fn.progress.done ≤ vec_len l.fn.receipts + l.progress.done;
-  part_room : vec_capacity l.parts ≡ vec_capacity l.fn.parts;
-  receipt_room : vec_capacity l.receipts ≡ vec_capacity l.fn.receipts;
+  most : vec_len l.taken ≤ l.progress.done;
+  room : vec_capacity l.taken ≡ vec_capacity l.fn.taken;
+  each : All WasTaken l.taken.items;
+  calls : l.progress.missed ≡ None → map (λ t. t.receipt.call) l.taken.items ≡ take l.progress.done l.calls;
+  missed : IfSome l.progress.missed (λ fault. fault ≡ NoSuchCall);
+  counted : l.self.seat.taken.amount + vec_len l.fn.taken ≡ l.fn.self.seat.taken.amount + vec_len l.taken;
+  begun : l.self.seat.begun.amount ≡ l.fn.self.seat.begun.amount;
 }
