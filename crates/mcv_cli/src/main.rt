@@ -5,18 +5,83 @@
 ghost use Rattle.std.specs.Prelude.{◌≡◌, ◌⊎◌, IfErr};
 ghost use Rattle.mcv_command.specs.declared.stop.Stop.TheVariants.{BadLine, Memory as out_of_memory};
 
-use mcv_command::{Ending, Stop, SystemFiles, exit_status, run_words};
+use mcv_check::Accepted;
+use mcv_command::{Ending, Proxy, ServeFault, Stop, SystemFiles, exit_status, run_words};
+use mcv_net::{RunFault, SpoolFiles, serve};
+use std::alloc::{AllocError, Global};
+use std::cell::Cell;
 use std::fs::Files;
+use std::io::{Eprint, Write};
+use std::net::{Net, TcpListener, TcpStream};
 use std::process::ExitCode;
-use std::rt::Env;
+use std::rt::{Clock, Env};
+use std::sync::{Arc, Wait};
+use std::thread::Threads;
 use std::{env, io};
 
 fn main(rt: HostRuntime) -> ExitCode {
-    let ended = run(&rt);
+    let ended = run(rt);
     if let Err(stop) = &ended {
         let _ = eprintln!(rt; "{stop}");
     }
     ExitCode::from(exit_status(&ended))
+}
+
+/// What is to be served: the routes, the address, the name of the spool's file, and how many sessions.
+#[derive(Drop)]
+struct Order {
+    accepted: Arc<Accepted>,
+    listen: String,
+    spool: String,
+    sessions: u64,
+}
+
+impl Order {
+    fn new(
+        alloc: Global,
+        accepted: Arc<Accepted>,
+        listen: &str,
+        spool: &str,
+        sessions: u64,
+    ) -> Result<Order, AllocError> {
+        Ok(Order {
+            accepted,
+            listen: String::from_str(alloc, listen)?,
+            spool: String::from_str(alloc, spool)?,
+            sessions,
+        })
+    }
+}
+
+/// Keeps what is to be served until the words have been read; it is served behind that, since only a function with the
+/// system's threads may start one. Nothing is known of what it serves.
+#[derive(Drop)]
+struct Orders {
+    order: Cell<Option<Order>>,
+}
+
+impl Proxy for Orders {
+    ghost use Rattle.std.specs.Prelude.{⊤};
+
+    ghost serves = { λ _ _ _ _ _ _ _. ⊤ };
+
+    fn serve<W: Write>(
+        &self,
+        alloc: Global,
+        accepted: Arc<Accepted>,
+        listen: &str,
+        spool: &str,
+        sessions: u64,
+        _out: &mut W,
+    ) -> Result<(), ServeFault> {
+        match Order::new(alloc, accepted, listen, spool, sessions) {
+            Ok(order) => {
+                self.order.set(Some(order));
+                Ok(())
+            }
+            Err(_) => Err(ServeFault::Memory),
+        }
+    }
 }
 
 /// The words of the command line, of which the first is the program's name; a bad line where one isn't UTF-8.
@@ -30,7 +95,11 @@ fn given_words<R: Env + AllocGlobal>(rt: &R) -> Result<Vec<String>, Stop>
     }
 }
 
-fn run<R: Env + AllocGlobal + Input + Print + Files>(rt: &R) -> Result<Ending, Stop> {
+/// Does what the words ask for, and keeps what is to be served.
+fn read<R: Env + AllocGlobal + Input + Print + Files>(
+    rt: &R,
+    orders: &Orders,
+) -> Result<Ending, Stop> {
     let alloc = rt.alloc();
     let words = given_words(rt)?;
     let texts: Vec<&str> = words.iter().map(|word| word.as_str()).collect(alloc)?;
@@ -38,7 +107,65 @@ fn run<R: Env + AllocGlobal + Input + Print + Files>(rt: &R) -> Result<Ending, S
         alloc,
         texts.as_slice(),
         &SystemFiles { system: rt },
+        orders,
         &mut rt.reader(),
         &mut io::writer(rt),
     )
+}
+
+/// Serves clients on the system's sockets.
+fn serve_order<W, R>(rt: R, alloc: Global, order: Order, out: &mut W) -> Result<Ending, Stop>
+where
+    W: Write,
+    R: Net<Stream = TcpStream, Listener = TcpListener>
+        + SpoolFiles
+        + Threads
+        + Wait
+        + Clock
+        + Eprint
+        + Copy
+        + Drop
+        + Send
+        + 'static,
+{
+    let Order {
+        accepted,
+        listen,
+        spool,
+        sessions,
+    } = order;
+    let (listen, spool) = (listen.as_str(), spool.as_str());
+    match serve(rt, alloc, accepted, listen, spool, sessions, out) {
+        Ok(()) => Ok(Ending::Done),
+        Err(RunFault::Memory) => Err(Stop::Memory),
+        Err(RunFault::Device) => Err(Stop::Device),
+    }
+}
+
+fn run<R>(rt: R) -> Result<Ending, Stop>
+where
+    R: Env
+        + AllocGlobal
+        + Input
+        + Print
+        + Files
+        + Net<Stream = TcpStream, Listener = TcpListener>
+        + SpoolFiles
+        + Threads
+        + Wait
+        + Clock
+        + Eprint
+        + Copy
+        + Drop
+        + Send
+        + 'static,
+{
+    let orders = Orders {
+        order: Cell::new(None),
+    };
+    let ending = read(&rt, &orders)?;
+    match orders.order.replace(None) {
+        Some(order) => serve_order(rt, rt.alloc(), order, &mut io::writer(&rt)),
+        None => Ok(ending),
+    }
 }

@@ -1,7 +1,7 @@
 -- What clap makes of short command lines.
-use Rattle.std.proofs.Common.{◌≡◌, [], ◌∷◌, List, Option, Some, None, refl, codes, option_map}
+use Rattle.std.proofs.Common.{◌≡◌, [], ◌∷◌, ◌++◌, List, Option, Some, None, refl, codes, option_map}
 use Rattle.clap.specs.Words.{Row, Text, first_of, one_of}
-use Rattle.clap.specs.declared.error.kind.ErrorKind.TheVariants.{ArgumentConflict, DisplayHelp, InvalidSubcommand, MissingSubcommand, UnknownArgument, ValueValidation}
+use Rattle.clap.specs.declared.error.kind.ErrorKind.TheVariants.{ArgumentConflict, DisplayHelp, InvalidSubcommand, MissingRequiredArgument, MissingSubcommand, UnknownArgument, ValueValidation}
 use Rattle.clap.proofs.OnLiterals.{clap_on_literals}
 use Rattle.mcv_command.specs.Words.{faults, named}
 
@@ -44,7 +44,7 @@ no_words : faults [] ≡ MissingSubcommand ∷ []
 unfolding clap_on_literals
 no_words = refl
 
-unknown_command : faults (codes "mcv" ∷ codes "run" ∷ []) ≡ UnknownArgument ∷ InvalidSubcommand ∷ []
+unknown_command : faults (codes "mcv" ∷ codes "serve" ∷ []) ≡ UnknownArgument ∷ InvalidSubcommand ∷ []
 unfolding clap_on_literals
 unknown_command = refl
 
@@ -87,3 +87,32 @@ cert_named = refl
 cert_twice : faults (codes "mcv" ∷ codes "check" ∷ codes "--cert" ∷ codes "a" ∷ codes "--cert" ∷ codes "b" ∷ []) ≡ ArgumentConflict ∷ []
 unfolding clap_on_literals
 cert_twice = refl
+
+abbrev at_address : List Text
+at_address = codes "mcv" ∷ codes "run" ∷ codes "--listen" ∷ codes "h:1" ∷ []
+
+abbrev run_line : List Text
+run_line = at_address ++ codes "--spool" ∷ codes "f" ∷ []
+
+run : faults run_line ≡ []
+unfolding clap_on_literals
+run = refl
+
+abbrev run_of : Option (Text × List Row) → Option (Option Text × Option Text × Option Text)
+run_of = option_map (λ p. (first_of (codes "listen") p.1, first_of (codes "spool") p.1, one_of (codes "sessions") p.1))
+
+run_named : run_of (named run_line) ≡ Some (Some (codes "h:1"), Some (codes "f"), Some (codes "1000000000"))
+unfolding clap_on_literals
+run_named = refl
+
+sessions_named : run_of (named (run_line ++ codes "--sessions" ∷ codes "3" ∷ [])) ≡ Some (Some (codes "h:1"), Some (codes "f"), Some (codes "3"))
+unfolding clap_on_literals
+sessions_named = refl
+
+no_spool : faults at_address ≡ MissingRequiredArgument ∷ []
+unfolding clap_on_literals
+no_spool = refl
+
+no_sessions : faults (run_line ++ codes "--sessions" ∷ codes "0" ∷ []) ≡ ValueValidation ∷ []
+unfolding clap_on_literals
+no_sessions = refl

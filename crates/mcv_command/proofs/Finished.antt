@@ -1,5 +1,5 @@
 -- What the program did, by what the words asked for.
-use Rattle.std.proofs.Common.{◌≡◌, ◌∙◌, ◌+◌, ◌<◌, ◌≤◌, ℕ, List, length, take, Option, None, Some, subst, sym, arith}
+use Rattle.std.proofs.Common.{◌≡◌, ◌∙◌, inl, inr, ◌+◌, ◌<◌, ◌≤◌, ℕ, List, length, take, Option, None, Some, subst, sym, arith}
 use Rattle.std.specs.Prelude.{IfSome, MatchOption}
 use Rattle.std.proofs.lemmas.List.{length-take}
 use Rattle.std.proofs.lemmas.Option.{IfSome_then}
@@ -21,11 +21,13 @@ use Rattle.mcv_verdict.specs.declared.verdict.Verdict.{Verdict}
 use Rattle.mcv_verdict.specs.declared.verdict.Verdict.TheVariants.{Covered, Lost}
 use Rattle.mcv_cert.specs.declared.fault.CertFault.{CertFault}
 use Rattle.mcv_cert.specs.declared.fault.CertFault.TheVariants as text_faults
+use Rattle.mcv_command.specs.declared.proxy.ServeFault.{ServeFault}
+use Rattle.mcv_command.specs.declared.proxy.ServeFault.TheVariants as serve_faults
 use Rattle.mcv_command.specs.declared.stop.Stop.{Stop}
 use Rattle.mcv_command.specs.declared.stop.Stop.TheVariants.{BadLine, Legs, Check, Memory, Device}
 use Rattle.mcv_command.specs.declared.words.Job.TheVariants as jobs
-use Rattle.mcv_command.specs.Program.{Held, IfGiven, IsJudgingFault, IsStop}
-use Rattle.mcv_command.specs.Stop.{of_check, of_input, of_legs}
+use Rattle.mcv_command.specs.Program.{AsksAnyRun, Held, IfGiven, IsJudgingFault, IsStop}
+use Rattle.mcv_command.specs.Stop.{of_check, of_input, of_legs, of_serve}
 use Rattle.mcv_command.specs.Words.{AsksCheck, IsJobOf}
 
 -- ---- the faults of legs and of a verdict, as the program's
@@ -55,9 +57,21 @@ pub judging_stop : (words : List Text) (held : Held) (input : Option Text) (cert
     → IsStop words held input stop
 judging_stop words held input cert BadLine asks stands = absurd stands
 judging_stop words held input cert (Legs fault) asks stands = absurd stands
-judging_stop words held input cert (Check fault) asks stands = (cert, asks, stands)
+judging_stop words held input cert (Check fault) asks stands = inl (cert, asks, stands)
 judging_stop words held input cert Memory asks stands = tt
 judging_stop words held input cert Device asks stands = tt
+
+pub running_stop : (words : List Text) (held : Held) (input : Option Text) (stop : Stop) → AsksAnyRun words → IsJudgingFault held None input stop → IsStop words held input stop
+running_stop words held input BadLine asks stands = absurd stands
+running_stop words held input (Legs fault) asks stands = absurd stands
+running_stop words held input (Check fault) asks stands = inr (asks, stands)
+running_stop words held input Memory asks stands = tt
+running_stop words held input Device asks stands = tt
+
+-- a proxy's fault is no fault of what was read
+pub serving_stop : (held : Held) (input : Option Text) (fault : ServeFault) → IsJudgingFault held None input (of_serve fault)
+serving_stop held input serve_faults.Memory = tt
+serving_stop held input serve_faults.Device = tt
 
 -- ---- a certificate's text by its first bytes
 

@@ -1,7 +1,7 @@
 -- What clap's matches and errors say of the words.
-use Rattle.std.proofs.Common.{◌≡◌, ◌∙◌, ◌⊎◌, inl, inr, ℕ, List, Option, Some, None, false, codes, refl, ap, ap₂, subst, sym}
+use Rattle.std.proofs.Common.{◌≡◌, ◌∙◌, ◌⊎◌, ◌<◌, ◌≤◌, ◌^◌, inl, inr, ℕ, List, [], Option, Some, None, false, codes, refl, ap, ap₂, subst, sym}
 use Rattle.std.specs.Prelude.{Box, Result, Ok, Err, option_map}
-use Rattle.std.specs.Str.Parse.{ParsesUnsigned}
+use Rattle.std.specs.Str.Parse.{IsNumeral, ParsesUnsigned, digits_value, without_leading_plus}
 use Rattle.std.specs.Box.{box_value}
 use Rattle.clap.specs.Words.{IsAmong, ReadsOne, Row, Text, one_of, subcommand_rows_of, subcommand_name_of}
 use Rattle.clap.proofs.ValueTestLemmas.{accepts-Accepts}
@@ -11,8 +11,10 @@ use Rattle.clap.specs.declared.parser.matches.ArgMatches.{ArgMatches}
 use Rattle.clap.specs.declared.parser.matches.ArgMatches.TheViews.{out-ArgMatches, out-SubCommand}
 use Rattle.clap.specs.declared.parser.matches.SubCommand.{SubCommand}
 use Rattle.clap.specs.Simple.{subcommand_rows}
-use Rattle.mcv_command.specs.Words.{faults, IsAt, IsFaultOfKind, IsLineFault}
-use Rattle.mcv_command.proofs.Given.{Passes, at_parser}
+use Rattle.mcv_command.specs.Words.{faults, named, session_limit, IsFaultOfKind, IsJobOf, IsLineFault, IsNumberOf, IsRunOf}
+use Rattle.mcv_command.specs.declared.words.Job.{Job}
+use Rattle.mcv_command.specs.declared.words.Job.TheVariants.{Legs, Check, Run}
+use Rattle.mcv_command.proofs.Given.{Passes, sessions_parser}
 use Rattle.mcv_command.specs.declared.words.LineFault.{LineFault}
 use Rattle.mcv_command.specs.declared.words.LineFault.TheVariants.{BadLine, Memory, Help}
 
@@ -47,20 +49,50 @@ fault_of_kind words kind Memory among by = tt
 fault_of_kind words kind (Help text) (inl memory) by = absurd (cc)
 fault_of_kind words kind (Help text) (inr among) by = subst (λ (k : ErrorKind). IsAmong k (faults words)) by among
 
--- ---- the number of `--at`
+-- ---- numbers
 
 abbrev ReadsNumbers : {E : Type 0} → (List ℕ → Result ℕ E → Type 0) → Type 0
 ReadsNumbers {E} G = (t : List ℕ) (x : Result ℕ E) → G t x → ParsesUnsigned 64 10 t x
 
--- a value that the parser of `--at` takes is read as a number
-pub no_number : {E : Type 0} (G : List ℕ → Result ℕ E → Type 0) (text : List ℕ) → ReadsNumbers G → Passes text → ReadsOne G text None → ⊥
-no_number G text only passes read =
-    let takes = accepts-Accepts false at_parser text passes in
-    only text (Err read.0) read.1 (takes.0, takes.1)
+-- a text that spells a number of 64 bits is read as one
+pub no_number : {E : Type 0} (G : List ℕ → Result ℕ E → Type 0) (text : List ℕ) → ReadsNumbers G → IsNumeral 10 (without_leading_plus text)
+    → digits_value 10 (without_leading_plus text) < 2 ^ 64 → ReadsOne G text None → ⊥
+no_number G text only spells fits read = only text (Err read.0) read.1 (spells, fits)
 
 -- .. and as the one that it spells
-pub number_at : {E : Type 0} (G : List ℕ → Result ℕ E → Type 0) (rows : List Row) (text : List ℕ) (n : ℕ) → ReadsNumbers G → one_of (codes "at") rows ≡ Some text
-    → ReadsOne G text (Some n) → IsAt rows n
-number_at G rows text n only is read =
+pub number_of : {E : Type 0} (G : List ℕ → Result ℕ E → Type 0) (option : Text) (rows : List Row) (text : List ℕ) (n : ℕ) → ReadsNumbers G → one_of option rows ≡ Some text
+    → ReadsOne G text (Some n) → IsNumberOf option rows n
+number_of G option rows text n only is read =
     let spelt = only text (Ok n) read in
     (text, is, spelt.0.0, spelt.1)
+
+-- a number that is read is that of a text
+pub number_read : {E : Type 0} (G : List ℕ → Result ℕ E → Type 0) (option : Text) (rows : List Row) (known : Option Text) (n : ℕ) → ReadsNumbers G → one_of option rows ≡ known
+    → (known ≡ None → Some n ≡ None) → ((t : List ℕ) → known ≡ Some t → ReadsOne G t (Some n)) → IsNumberOf option rows n
+number_read G option rows None n only is none read = absurd (let never : Some n ≡ None = none refl in cc)
+number_read G option rows (Some text) n only is none read = number_of G option rows text n only is (read text refl)
+
+-- the number of sessions that words give is in its range
+pub in_range : (rows : List Row) (text : Text) (n : ℕ) → one_of (codes "sessions") rows ≡ Some text → Passes sessions_parser text → IsNumberOf (codes "sessions") rows n
+    → (1 ≤ n) × (n ≤ session_limit)
+in_range rows text n is passes number =
+    let same : number.0 ≡ text = inside number.0 text (sym number.1 ∙ is) in
+    let takes = accepts-Accepts false sessions_parser text passes in
+    let value : n ≡ digits_value 10 (without_leading_plus text) = number.3 ∙ ap (λ (t : Text). digits_value 10 (without_leading_plus t)) same in
+    (rw value takes.2, rw value takes.3)
+
+-- the number that a value of `--sessions` spells, which has 64 bits
+pub run_spelt : (rows : List Row) (text : Text) → one_of (codes "sessions") rows ≡ Some text → Passes sessions_parser text
+    → (n : ℕ) × IsNumberOf (codes "sessions") rows n × (n < 2 ^ 64)
+run_spelt rows text is passes =
+    let takes = accepts-Accepts false sessions_parser text passes in
+    (digits_value 10 (without_leading_plus text), (text, is, takes.0, refl), takes.1)
+
+-- the job of `run` that has the values of the words is what they ask for
+pub run_asked : (words : List Text) (rows : List Row) (text : Text) (job : Job) → faults words ≡ [] → named words ≡ Some (codes "run", rows) → one_of (codes "sessions") rows ≡ Some text
+    → Passes sessions_parser text → IsRunOf rows job → IsJobOf words job
+run_asked words rows text (Legs at) none run is passes of = absurd of
+run_asked words rows text (Check cert) none run is passes of = absurd of
+run_asked words rows text (Run listen spool sessions) none run is passes of =
+    let range = in_range rows text sessions is passes of.2 in
+    (none, rows, run, of, range.0, range.1)

@@ -1,16 +1,19 @@
 -- What the program does for the words of a command line.
-use Rattle.std.specs.Prelude.{◌≡◌, ◌⊎◌, List, Option, Some, None, IfSome, MatchOption, ⊤}
+use Rattle.std.specs.Prelude.{◌≡◌, ◌⊎◌, ℕ, List, Option, Some, None, IfSome, MatchOption, ⊤}
 use Rattle.std.specs.Io.KnownBytes.{Appends}
 use Rattle.clap.specs.Words.{IsAmong, Text}
 use Rattle.clap.specs.declared.error.kind.ErrorKind.TheVariants.{DisplayHelp}
 use Rattle.mcv_base.specs.declared.request.Moment.{Moment}
+use Rattle.mcv_input.specs.Fault.{AreNamedBy}
 use Rattle.mcv_legs.specs.Answer.{IsAnswer}
 use Rattle.mcv_legs.specs.Fault as legs
+use Rattle.mcv_route.specs.Routes.{RoutesValue}
+use Rattle.mcv_symbolic.specs.Covered.{AreCovered}
 use Rattle.mcv_verdict.specs.Fault as check
 use Rattle.mcv_verdict.specs.Verdict.{IsVerdictOn}
 use Rattle.mcv_verdict.specs.declared.verdict.Verdict.{Verdict}
 use Rattle.mcv_verdict.specs.declared.verdict.Verdict.TheVariants as verdicts
-use Rattle.mcv_command.specs.Words.{AsksCheck, IsJobOf, IsLineFault, faults}
+use Rattle.mcv_command.specs.Words.{AsksCheck, AsksRun, IsJobOf, IsLineFault, faults}
 use Rattle.mcv_command.specs.declared.words.Job.TheVariants as jobs
 use Rattle.mcv_command.specs.declared.words.LineFault.TheVariants as line_fault
 use Rattle.mcv_command.specs.declared.stop.Ending.{Ending}
@@ -45,19 +48,37 @@ IsJudgingFault held cert input (Check fault) = IfSome input (λ bytes. IfGiven h
 IsJudgingFault held cert input Memory = ⊤
 IsJudgingFault held cert input Device = ⊤
 
+-- what it is that a proxy served routes: at an address, with the spool in the file of this name, until so many sessions had ended, from
+-- what the writer held to what it holds
+abbrev pub Serves : Type 1
+Serves = RoutesValue → (listen spool : Text) → (sessions : ℕ) → (old new : Option Text) → Type 0
+
+-- the input names routes, these are covered, and the proxy served them; or the verdict that they aren't was written
+abbrev pub IsServed : Held → Serves → (listen spool : Text) → (sessions : ℕ) → (input old new : Option Text) → Ending → Type 0
+IsServed held serves listen spool sessions input old new ending =
+    ((r : RoutesValue) × IfSome input (λ bytes. AreNamedBy bytes r) × AreCovered r × serves r listen spool sessions old new × (ending ≡ Done))
+    ⊎ (IsJudged held None input old new Lost × (ending ≡ Lost))
+
+-- the words ask for a run
+abbrev pub AsksAnyRun : List Text → Type 0
+AsksAnyRun words = (listen : Text) × (spool : Text) × (sessions : ℕ) × AsksRun words listen spool sessions
+
 -- help was asked for and shown; or the words ask for legs at a moment, and what answers the input at that moment was written; or they
--- ask for a verdict, and it was written
-abbrev pub IsDone : List Text → Held → (input old new : Option Text) → Ending → Type 0
-IsDone words held input old new ending =
+-- ask for a verdict, and it was written; or they ask for a run, and the proxy served as they ask, or the verdict was written by which
+-- it doesn't
+abbrev pub IsDone : List Text → Held → Serves → (input old new : Option Text) → Ending → Type 0
+IsDone words held serves input old new ending =
     (IsAmong DisplayHelp (faults words) × (text : Text) × Appends old new text × (ending ≡ Done))
     ⊎ (((at : Moment) × IsJobOf words (jobs.Legs at) × (text : Text) × IfSome input (λ bytes. IsAnswer at.0 bytes text) × Appends old new text × (ending ≡ Done))
-    ⊎ ((cert : Option Text) × AsksCheck words cert × IsJudged held cert input old new ending))
+    ⊎ (((cert : Option Text) × AsksCheck words cert × IsJudged held cert input old new ending)
+    ⊎ ((listen : Text) × (spool : Text) × (sessions : ℕ) × AsksRun words listen spool sessions × IsServed held serves listen spool sessions input old new ending)))
 
--- the words are at fault; or they ask for legs or for a verdict, and the fault stands in what was read; or memory ran out, or a device
--- failed
+-- the words are at fault; or they ask for legs, for a verdict or for a run, and the fault stands in what was read; or memory ran out, or
+-- a device failed
 abbrev pub IsStop : List Text → Held → (input : Option Text) → Stop → Type 0
 IsStop words held input BadLine = IsLineFault words line_fault.BadLine
 IsStop words held input (Legs fault) = (at : Moment) × IsJobOf words (jobs.Legs at) × IfSome input (λ bytes. legs.IsRunFault bytes fault)
-IsStop words held input (Check fault) = (cert : Option Text) × AsksCheck words cert × IsJudgingFault held cert input (Check fault)
+IsStop words held input (Check fault) = ((cert : Option Text) × AsksCheck words cert × IsJudgingFault held cert input (Check fault))
+    ⊎ (AsksAnyRun words × IsJudgingFault held None input (Check fault))
 IsStop words held input Memory = ⊤
 IsStop words held input Device = ⊤

@@ -13,6 +13,8 @@ use Rattle.mcv_legs.specs.declared.fault.RunFault.TheVariants as legs
 use Rattle.mcv_verdict.specs.Fault as check_fault
 use Rattle.mcv_verdict.specs.declared.fault.RunFault.{RunFault as CheckFault}
 use Rattle.mcv_verdict.specs.declared.fault.RunFault.TheVariants as check
+use Rattle.mcv_command.specs.declared.proxy.ServeFault.{ServeFault}
+use Rattle.mcv_command.specs.declared.proxy.ServeFault.TheVariants as serve
 use Rattle.mcv_command.specs.declared.stop.Ending.{Ending}
 use Rattle.mcv_command.specs.declared.stop.Ending.TheVariants.{Done, Lost}
 use Rattle.mcv_command.specs.declared.stop.Stop.{Stop}
@@ -86,3 +88,7 @@ abbrev pub of_input : InputFault → Stop
 of_input (input.Config fault) = Check (check.Config fault)
 of_input input.Memory = Memory
 of_input input.Device = Device
+
+abbrev pub of_serve : ServeFault → Stop
+of_serve serve.Memory = Memory
+of_serve serve.Device = Device

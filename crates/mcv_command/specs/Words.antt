@@ -1,24 +1,29 @@
 -- What the words of a command line ask for. The words are those of the shell, the program's name
 -- first; how they are read is clap's: `fault_of` lists the kinds of fault that it finds with words,
 -- and `subcommand_of` the subcommand that they name.
-use Rattle.std.specs.Prelude.{◌≡◌, ◌≢◌, ◌⊎◌, ⊤, ℕ, true, List, [], ◌∷◌, Option, Some, codes, option_map}
+use Rattle.std.specs.Prelude.{◌≡◌, ◌≢◌, ◌≤◌, ◌⊎◌, ⊤, ℕ, true, List, [], ◌∷◌, Option, Some, codes, option_map}
 use Rattle.std.specs.Str.Parse.{IsNumeral, digits_value, without_leading_plus}
 use Rattle.clap.specs.Words.{App, IsAmong, Kinds, Row, Rule, Text, fault_of, first_of, new_app, new_rule, one_of, subcommand_of, with_rule, with_subcommand}
 use Rattle.clap.specs.declared.builder.value_parser.ValueParser.TheVariants as parsers
 use Rattle.clap.specs.declared.error.kind.ErrorKind.{ErrorKind}
 use Rattle.clap.specs.declared.error.kind.ErrorKind.TheVariants.{DisplayHelp, OutOfMemory}
 use Rattle.mcv_command.specs.declared.words.Job.{Job}
-use Rattle.mcv_command.specs.declared.words.Job.TheVariants.{Legs, Check}
+use Rattle.mcv_command.specs.declared.words.Job.TheVariants.{Legs, Check, Run}
 use Rattle.mcv_command.specs.declared.words.LineFault.{LineFault}
 use Rattle.mcv_command.specs.declared.words.LineFault.TheVariants.{BadLine, Memory, Help}
 
 -- ---- the commands
 
+-- an option that takes one value, named by its long name
+abbrev pub option_rule : Text → Rule
+option_rule name = record (new_rule name) {
+  long = Some name;
+  value_names = 1;
+}
+
 -- `--at SECONDS`: a number from 0 to 18446744073709551615, and 0 where it isn't given
 abbrev pub at_rule : Rule
-at_rule = record (new_rule (codes "at")) {
-  long = Some (codes "at");
-  value_names = 1;
+at_rule = record (option_rule (codes "at")) {
   parser = Some (parsers.Unsigned 0 18446744073709551615);
   defaults = codes "0" ∷ [];
 }
@@ -29,22 +34,41 @@ legs_app = with_rule (new_app (codes "legs")) at_rule
 
 -- `--cert FILE`
 abbrev pub cert_rule : Rule
-cert_rule = record (new_rule (codes "cert")) {
-  long = Some (codes "cert");
-  value_names = 1;
-}
+cert_rule = option_rule (codes "cert")
 
 -- `check [--cert FILE]`
 abbrev pub check_app : App
 check_app = with_rule (new_app (codes "check")) cert_rule
 
+-- `--listen ADDRESS`, `--spool FILE`: wanted
+abbrev pub listen_rule : Rule
+listen_rule = record (option_rule (codes "listen")) { required = true }
+
+abbrev pub spool_rule : Rule
+spool_rule = record (option_rule (codes "spool")) { required = true }
+
+-- the most sessions of a run, and how many there are where their number isn't given
+abbrev pub session_limit : ℕ
+session_limit = 1000000000
+
+-- `--sessions N`: a number from 1 to 1000000000, and 1000000000 where it isn't given
+abbrev pub sessions_rule : Rule
+sessions_rule = record (option_rule (codes "sessions")) {
+  parser = Some (parsers.Unsigned 1 session_limit);
+  defaults = codes "1000000000" ∷ [];
+}
+
+-- `run --listen ADDRESS --spool FILE [--sessions N]`
+abbrev pub run_app : App
+run_app = with_rule (with_rule (with_rule (new_app (codes "run")) listen_rule) spool_rule) sessions_rule
+
 -- a command that wants one of its subcommands
 abbrev pub wanting_a_command : App → App
 wanting_a_command app = record app { top = record app.top { subcommand_required = true } }
 
--- `mcv check [--cert FILE]` and `mcv legs [--at SECONDS]`
+-- `mcv check [--cert FILE]`, `mcv legs [--at SECONDS]` and `mcv run --listen ADDRESS --spool FILE [--sessions N]`
 abbrev pub mcv_app : App
-mcv_app = with_subcommand (with_subcommand (wanting_a_command (new_app (codes "mcv"))) check_app.top) legs_app.top
+mcv_app = with_subcommand (with_subcommand (with_subcommand (wanting_a_command (new_app (codes "mcv"))) check_app.top) legs_app.top) run_app.top
 
 -- ---- what words ask for
 
@@ -56,19 +80,36 @@ faults words = fault_of mcv_app words
 abbrev pub named : List Text → Option (Text × List Row)
 named words = subcommand_of mcv_app words
 
--- the value of `--at` spells the number in decimal digits, a plus sign before them or none
-abbrev pub IsAt : List Row → ℕ → Type 0
-IsAt rows n = (text : Text) × (one_of (codes "at") rows ≡ Some text) × IsNumeral 10 (without_leading_plus text)
+-- the value of the option spells the number in decimal digits, a plus sign before them or none
+abbrev pub IsNumberOf : (option : Text) → List Row → ℕ → Type 0
+IsNumberOf option rows n = (text : Text) × (one_of option rows ≡ Some text) × IsNumeral 10 (without_leading_plus text)
     × (n ≡ digits_value 10 (without_leading_plus text))
 
 -- clap takes the words, and they name the command `check` with this value of `--cert`, or none
 abbrev pub AsksCheck : List Text → Option Text → Type 0
 AsksCheck words cert = (faults words ≡ []) × (rows : List Row) × (named words ≡ Some (codes "check", rows)) × (cert ≡ first_of (codes "cert") rows)
 
+-- the values of `--listen`, `--spool` and `--sessions`
+abbrev pub HasRunValues : List Row → (listen spool : Text) → (sessions : ℕ) → Type 0
+HasRunValues rows listen spool sessions = (first_of (codes "listen") rows ≡ Some listen) × (first_of (codes "spool") rows ≡ Some spool)
+    × IsNumberOf (codes "sessions") rows sessions
+
+-- clap takes the words, and they name the command `run` with these values; the number of sessions is in its range
+abbrev pub AsksRun : List Text → (listen spool : Text) → (sessions : ℕ) → Type 0
+AsksRun words listen spool sessions = (faults words ≡ []) × (rows : List Row) × (named words ≡ Some (codes "run", rows))
+    × HasRunValues rows listen spool sessions × (1 ≤ sessions) × (sessions ≤ session_limit)
+
+-- the job of `run` with these values
+abbrev pub IsRunOf : List Row → Job → Type 0
+IsRunOf rows (Legs at) = ⊥
+IsRunOf rows (Check cert) = ⊥
+IsRunOf rows (Run listen spool sessions) = HasRunValues rows listen.now spool.now sessions
+
 -- clap takes the words, and they name the job's command with the values that the job has
 abbrev pub IsJobOf : List Text → Job → Type 0
 IsJobOf words (Check cert) = AsksCheck words (option_map (λ name. name.now) cert)
-IsJobOf words (Legs at) = (faults words ≡ []) × (rows : List Row) × (named words ≡ Some (codes "legs", rows)) × IsAt rows at.0
+IsJobOf words (Legs at) = (faults words ≡ []) × (rows : List Row) × (named words ≡ Some (codes "legs", rows)) × IsNumberOf (codes "at") rows at.0
+IsJobOf words (Run listen spool sessions) = AsksRun words listen.now spool.now sessions
 
 -- why words ask for no job: clap finds a fault with them that isn't the wish for help; memory ran
 -- out; they ask for help

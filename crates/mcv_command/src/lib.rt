@@ -1,15 +1,18 @@
-//! What the program does with the words of its command line, over any reader, any writer and any files.
+//! What the program does with the words of its command line, over any reader, any writer, any files and any proxy.
 //!
 //! `read_words` says what is asked for (`Job`), `run_words` does it and says how the program ends (`Ending`, `Stop`);
 //! `exit_status` is the status that it ends with.
 #![tactic(auto)]
 
 mod files;
+mod help;
 mod program;
+mod proxy;
 mod stop;
 mod words;
 
 pub use files::{NamedFiles, SystemFiles};
 pub use program::run_words;
+pub use proxy::{Proxy, ServeFault};
 pub use stop::{Ending, Stop, exit_status};
 pub use words::{Job, LineFault, read_words};

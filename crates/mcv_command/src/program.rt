@@ -1,17 +1,19 @@
-//! The program, over any reader and writer in place of standard input and output, and any files.
+//! The program, over any reader and writer in place of standard input and output, any files and any proxy.
 
-ghost use Rattle.std.specs.Prelude.{◌≡◌, ◌≢◌, None, Some, IfErr, IfOk, map};
-ghost use Rattle.mcv_command.specs.Program.{Held, IsDone, IsJudged, IsJudgingFault, IsStop, ending_of};
-ghost use Rattle.mcv_command.specs.declared.stop.Stop.TheVariants.{Device};
+ghost use Rattle.std.specs.Prelude.{◌≡◌, ◌≢◌, ◌≤◌, None, Some, IfErr, IfOk, map};
+ghost use Rattle.mcv_command.specs.Program.{AsksAnyRun, Held, IsDone, IsJudged, IsJudgingFault, IsServed, IsStop, ending_of};
+ghost use Rattle.mcv_command.specs.declared.stop.Stop.TheVariants.{Device, Memory};
 
 use crate::files::NamedFiles;
+use crate::proxy::Proxy;
 use crate::stop::{Ending, Stop};
 use crate::words::{Job, LineFault, read_words};
 use mcv_input::write_text;
 use mcv_legs::run_legs;
-use mcv_verdict::{Verdict, run_check};
+use mcv_verdict::{Judgement, Verdict, judge_input, run_check};
 use std::alloc::Global;
 use std::io::{Read, Write};
+use std::sync::Arc;
 
 /// The most bytes that are read of a certificate's file: one more than a certificate's text may have.
 const CERTIFICATE_LIMIT: u64 = 268_435_457;
@@ -53,19 +55,55 @@ fn judge_by<R: Read, W: Write, F: NamedFiles>(
     Ok(ending_of(verdict))
 }
 
-/// Does what the words of a command line ask for, of which the first is the program's name: help,
-/// legs and verdicts are written to the writer.
-pub fn run_words<'a, R: Read, W: Write, F: NamedFiles>(
+/// Judges a configuration, and has the proxy serve it where it is covered; else the verdict is written.
+fn serve<R: Read, W: Write, P: Proxy>(
     alloc: Global,
-    words: &'a [&'a str],
-    files: &F,
+    proxy: &P,
+    listen: &str,
+    spool: &str,
+    sessions: u64,
     reader: &mut R,
     writer: &mut W,
 ) -> Result<Ending, Stop>
-    ensures done { IfOk result (IsDone (map (λ w. w.now) words.entry.now) (F.held files.now) (R.remaining reader.old)
+    requires least { 1 ≤ sessions }
+    requires most { sessions ≤ 1000000000 }
+    ensures done { (held : Held) → IfOk result (IsServed held (P.serves proxy.now) listen.now spool.now sessions (R.remaining reader.old)
+        (W.contents writer.old) (W.contents writer.new)) }
+    ensures stop { (held : Held) → IfErr result (IsJudgingFault held None (R.remaining reader.old)) }
+    ensures silent { IfErr result (λ stop. stop ≢ Device → stop ≢ Memory → W.contents writer.new ≡ W.contents writer.old) }
+{
+    match judge_input(alloc, reader)? {
+        Judgement::Covered { accepted, .. } => {
+            // The routes are covered.
+            let _ = accepted.routes();
+            let Ok(shared) = Arc::new(alloc, accepted) else {
+                return Err(Stop::Memory);
+            };
+            proxy.serve(alloc, shared, listen, spool, sessions, writer)?;
+            Ok(Ending::Done)
+        }
+        Judgement::Lost { finding } => {
+            write_text(writer, finding.as_slice())?;
+            Ok(ending_of(Verdict::Lost))
+        }
+    }
+}
+
+/// Does what the words of a command line ask for, of which the first is the program's name: help,
+/// legs and verdicts are written to the writer, and so is what the proxy says of itself.
+pub fn run_words<'a, R: Read, W: Write, F: NamedFiles, P: Proxy>(
+    alloc: Global,
+    words: &'a [&'a str],
+    files: &F,
+    proxy: &P,
+    reader: &mut R,
+    writer: &mut W,
+) -> Result<Ending, Stop>
+    ensures done { IfOk result (IsDone (map (λ w. w.now) words.entry.now) (F.held files.now) (P.serves proxy.now) (R.remaining reader.old)
         (W.contents writer.old) (W.contents writer.new)) }
     ensures stop { IfErr result (IsStop (map (λ w. w.now) words.entry.now) (F.held files.now) (R.remaining reader.old)) }
-    ensures silent { IfErr result (λ stop. stop ≢ Device → W.contents writer.new ≡ W.contents writer.old) }
+    ensures silent { IfErr result (λ stop. stop ≢ Device → (stop ≡ Memory → ¬ AsksAnyRun (map (λ w. w.now) words.entry.now))
+        → W.contents writer.new ≡ W.contents writer.old) }
 {
     match read_words(alloc, words) {
         Ok(Job::Legs { at }) => {
@@ -74,6 +112,13 @@ pub fn run_words<'a, R: Read, W: Write, F: NamedFiles>(
         }
         Ok(Job::Check { cert: None }) => judge(alloc, reader, writer),
         Ok(Job::Check { cert: Some(name) }) => judge_by(alloc, name, files, reader, writer),
+        Ok(
+            Job::Run {
+                listen,
+                spool,
+                sessions,
+            },
+        ) => serve(alloc, proxy, listen, spool, sessions, reader, writer),
         Err(LineFault::Help(text)) => {
             write_text(writer, text.as_bytes())?;
             Ok(Ending::Done)

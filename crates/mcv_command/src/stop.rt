@@ -2,9 +2,10 @@
 //! `stop_text`.
 
 ghost use Rattle.std.specs.Prelude.{◌≡◌, Some};
-ghost use Rattle.mcv_command.specs.Stop.{ended_status, ending_status, of_check, of_input, of_legs, stop_status, stop_text};
+ghost use Rattle.mcv_command.specs.Stop.{ended_status, ending_status, of_check, of_input, of_legs, of_serve, stop_status, stop_text};
 ghost use Rattle.mcv_command.specs.declared.stop.Stop.TheVariants.{Memory as out_of_memory};
 
+use crate::proxy::ServeFault;
 use mcv_input::InputFault;
 use mcv_legs::RunFault as LegsFault;
 use mcv_verdict::RunFault as CheckFault;
@@ -43,7 +44,7 @@ pub enum Stop {
     Check(CheckFault),
     /// Memory ran out, in whatever part.
     Memory,
-    /// Standard input, standard output or a file failed.
+    /// Standard input, standard output, a file or the address of the proxy failed.
     Device,
 }
 
@@ -140,6 +141,17 @@ impl From<InputFault> for Stop {
             InputFault::Config(fault) => Stop::Check(CheckFault::Config(fault)),
             InputFault::Memory => Stop::Memory,
             InputFault::Device => Stop::Device,
+        }
+    }
+}
+
+impl From<ServeFault> for Stop {
+    ghost from_gives = { λ fault stop. stop ≡ of_serve fault };
+
+    fn from(fault: ServeFault) -> Stop {
+        match fault {
+            ServeFault::Memory => Stop::Memory,
+            ServeFault::Device => Stop::Device,
         }
     }
 }

@@ -1,10 +1,13 @@
 //! Command lines, their help, and what the program writes for an input.
 
-ghost use Rattle.std.specs.Prelude.{None};
+ghost use Rattle.std.specs.Prelude.{None, ⊤};
 
-use mcv_command::{Job, LineFault, NamedFiles, read_words, run_words};
+use mcv_check::Accepted;
+use mcv_command::{Job, LineFault, NamedFiles, Proxy, ServeFault, read_words, run_words};
 use mcv_input::{InputFault, read_at_most};
 use std::alloc::{AllocError, Global};
+use std::io::Write;
+use std::sync::Arc;
 use std::test::Fail;
 
 const LINES: &str = "mcv legs: legs at 0
@@ -25,12 +28,32 @@ mcv check --cert a --cert b: bad line
 mcv check a.cert: bad line
 mcv check --at 1: bad line
 mcv legs --cert a: bad line
-mcv: bad line
+mcv run --listen h:1 --spool f: run h:1 f 1000000000
+mcv run --spool=f --listen=h:1 --sessions=+7: run h:1 f 7
+mcv run --listen h:1 --spool f --sessions 1: run h:1 f 1
+mcv run --listen h:1 --spool f --sessions 1000000000: run h:1 f 1000000000
+mcv run --listen h:1 --spool f --sessions 1000000001: bad line
+mcv run --listen h:1 --spool f --sessions 0: bad line
+mcv run --listen h:1 --spool f --sessions -1: bad line
+mcv run --listen h:1 --spool f --sessions all: bad line
+mcv run --listen h:1 --spool f --sessions: bad line
+mcv run --listen h:1 --spool f --sessions 1 --sessions 2: bad line
+mcv run --listen= --spool=: run   1000000000
 mcv run: bad line
+mcv run --listen h:1: bad line
+mcv run --spool f: bad line
+mcv run --sessions 1: bad line
+mcv run --listen --spool f: bad line
+mcv run --listen h:1 --listen h:2 --spool f: bad line
+mcv run h:1 --listen h:1 --spool f: bad line
+mcv run --at 1 --listen h:1 --spool f: bad line
+mcv check --listen h:1: bad line
+mcv: bad line
+mcv serve: bad line
 mcv legs x: bad line
 mcv legs legs: bad line
 mcv --version: bad line
-mcv help run: bad line
+mcv help serve: bad line
 mcv --help: help
 mcv -h: help
 mcv help: help
@@ -38,6 +61,9 @@ mcv help legs: help
 mcv check --help: help
 mcv help check: help
 mcv legs --help: help
+mcv run --help: help
+mcv run -h: help
+mcv help run: help
 mcv legs -h: help";
 
 fn asked(alloc: Global, line: &str) -> Result<String, AllocError> {
@@ -49,6 +75,13 @@ fn asked(alloc: Global, line: &str) -> Result<String, AllocError> {
         }
         Ok(Job::Check { cert: None }) => String::from_str(alloc, "check"),
         Ok(Job::Check { cert: Some(name) }) => format!(in alloc; "check by {name}"),
+        Ok(
+            Job::Run {
+                listen,
+                spool,
+                sessions,
+            },
+        ) => format!(in alloc; "run {listen} {spool} {sessions}"),
         Err(LineFault::BadLine) => String::from_str(alloc, "bad line"),
         Err(LineFault::Memory) => String::from_str(alloc, "memory"),
         Err(LineFault::Help(_)) => String::from_str(alloc, "help"),
@@ -82,10 +115,47 @@ impl<'a> NamedFiles for OneFile<'a> {
     }
 }
 
+/// A proxy that writes what it is to serve, or fails, by the address.
+#[derive(Drop)]
+struct Listed;
+
+impl Proxy for Listed {
+    ghost serves = { λ _ _ _ _ _ _ _. ⊤ };
+
+    fn serve<W: Write>(
+        &self,
+        alloc: Global,
+        accepted: Arc<Accepted>,
+        listen: &str,
+        spool: &str,
+        sessions: u64,
+        out: &mut W,
+    ) -> Result<(), ServeFault> {
+        if listen == "full:1" {
+            return Err(ServeFault::Memory);
+        }
+        let servers = accepted.routes().servers().len();
+        let Ok(line) = format!(in alloc; "{listen} {spool} {sessions} of {servers}\n") else {
+            return Err(ServeFault::Memory);
+        };
+        match out.write_all(line.as_bytes()) {
+            Ok(()) if listen != "busy:1" => Ok(()),
+            _ => Err(ServeFault::Device),
+        }
+    }
+}
+
 fn help(alloc: Global, words: &[&str]) -> Result<String, AllocError> {
     let mut shown = Vec::new(alloc);
     let files = OneFile { held: b"" };
-    match run_words(alloc, words, &files, &mut b"".as_slice(), &mut shown) {
+    match run_words(
+        alloc,
+        words,
+        &files,
+        &Listed,
+        &mut b"".as_slice(),
+        &mut shown,
+    ) {
         Ok(_) => Ok(String::from_utf8(shown).unwrap_or(String::new(alloc))),
         Err(_) => Ok(String::new(alloc)),
     }
@@ -99,8 +169,10 @@ fn help_names_input_and_exit_statuses(rt: HostRuntime) -> Result<(), Fail> {
         "mcrouter",
         "  check  ",
         "  legs  ",
+        "  run  ",
         "\n  mcv check < mcrouter.json\n",
         "\n  (echo 'delete a'; cat mcrouter.json) | mcv legs\n",
+        "\n  mcv run --listen 127.0.0.1:5000 --spool mcv.spool < mcrouter.json\n",
         "Exit status:",
     ] {
         assert!(rt; text.as_str().contains(part), "{text}");
@@ -136,6 +208,34 @@ fn help_names_input_and_exit_statuses(rt: HostRuntime) -> Result<(), Fail> {
     Ok(())
 }
 
+#[test]
+fn help_of_run_names_its_options_lines_and_statuses(rt: HostRuntime) -> Result<(), Fail> {
+    let text = help(rt.alloc(), &["mcv", "run", "--help"])?;
+    for part in [
+        "Usage: mcv run --listen ADDRESS --spool FILE [--sessions N] < FILE",
+        "--listen <ADDRESS>",
+        "--spool <FILE>",
+        "--sessions <N>",
+        "[default: 1000000000]",
+        "\n  mcv run --listen 127.0.0.1:5000 --spool mcv.spool < mcrouter.json\n",
+        "\n  mcv listening 127.0.0.1:5000 pending 0\n",
+        "\n  mcv closed calls 12\n",
+        "\nExit status:\n  0  ended, or help was asked for\n  1  bad command line\n",
+        "\n  2  the configuration is refused\n  3  the configuration can lose a delete\n  4  ",
+        "mcv: configuration NUMBER at PATH",
+    ] {
+        assert!(rt; text.as_str().contains(part), "{text}");
+    }
+    for line in text.as_str().lines() {
+        assert!(rt; line.len() <= 80, "{line}");
+    }
+    let main = help(rt.alloc(), &["mcv", "--help"])?;
+    for line in main.as_str().lines() {
+        assert!(rt; line.len() <= 80, "{line}");
+    }
+    Ok(())
+}
+
 const HANDLES: &str =
     "PoolRoute NullRoute ErrorRoute AllSyncRoute AllInitialRoute AllAsyncRoute FailoverRoute MissFailoverRoute WarmUpRoute MigrateRoute PrefixSelectorRoute OperationSelectorRoute";
 
@@ -163,7 +263,14 @@ fn said_by(
 ) -> Result<(String, u8), AllocError> {
     let mut written = Vec::new(alloc);
     let files = OneFile { held: file };
-    match run_words(alloc, words, &files, &mut input.as_bytes(), &mut written) {
+    match run_words(
+        alloc,
+        words,
+        &files,
+        &Listed,
+        &mut input.as_bytes(),
+        &mut written,
+    ) {
         Ok(ending) => {
             let text = String::from_utf8(written).unwrap_or(String::new(alloc));
             Ok((text, ending.status()))
@@ -241,7 +348,14 @@ fn bad_words_and_full_devices_stop_the_program(rt: HostRuntime) -> Result<(), Fa
     ] {
         let mut writer = room.as_mut_slice();
         let files = OneFile { held: b"" };
-        let Err(stop) = run_words(alloc, &words, &files, &mut b"".as_slice(), &mut writer) else {
+        let Err(stop) = run_words(
+            alloc,
+            &words,
+            &files,
+            &Listed,
+            &mut b"".as_slice(),
+            &mut writer,
+        ) else {
             return Err(Fail::from("a stop"));
         };
         let text = format!(in alloc; "{stop}")?;
@@ -266,6 +380,36 @@ fn configurations_are_judged(rt: HostRuntime) -> Result<(), Fail> {
         ("{", "mcv: configuration 1 at .", 2),
     ] {
         let (text, found) = said(alloc, &["mcv", "check"], configuration)?;
+        assert!(rt; text.as_str() == expected, "{text}");
+        assert!(rt; found == status, "{found}");
+    }
+    Ok(())
+}
+
+#[test]
+fn a_run_serves_what_is_covered(rt: HostRuntime) -> Result<(), Fail> {
+    let alloc = rt.alloc();
+    let lost =
+        "lost b:11211\nroute 0\nclass =\nera 0\nkey /././!\nget 0=miss 1=hit\ndelete 0=deleted\n";
+    for (address, configuration, expected, status) in [
+        ("h:1", POOL, "h:1 f 3 of 1\n", 0),
+        ("h:1", WARM_UP, lost, 3),
+        ("busy:1", WARM_UP, lost, 3),
+        ("busy:1", "{", "mcv: configuration 1 at .", 2),
+        ("busy:1", POOL, "mcv: device failed", 4),
+        ("full:1", POOL, "mcv: out of memory", 4),
+    ] {
+        let words = [
+            "mcv",
+            "run",
+            "--listen",
+            address,
+            "--spool",
+            "f",
+            "--sessions",
+            "3",
+        ];
+        let (text, found) = said(alloc, &words, configuration)?;
         assert!(rt; text.as_str() == expected, "{text}");
         assert!(rt; found == status, "{found}");
     }

@@ -9,9 +9,10 @@ use Rattle.mcv_queues.specs.declared.leg.Leg.{Leg}
 use Rattle.mcv_queues.specs.Numbers.{IsLeast}
 use Rattle.mcv_queues.specs.Queues.{legs}
 use Rattle.mcv_events.specs.Rows as rows
-use Rattle.mcv_events.specs.Rows.{LegRow, Rows, awaits}
+use Rattle.mcv_events.specs.Rows.{CallRow, LegRow, Rows, awaits}
 use Rattle.mcv_core.specs.declared.dispatcher.Dispatcher.{Dispatcher}
 use Rattle.mcv_core.specs.declared.errand.Errand.{Errand}
+use Rattle.mcv_core.specs.declared.readers.CallView.{CallView}
 use Rattle.mcv_core.specs.declared.readers.LegView.{LegView}
 use Rattle.mcv_core.specs.declared.step.Place.{Place}
 use Rattle.mcv_core.specs.declared.step.Place.TheVariants as places
@@ -43,6 +44,20 @@ is_held_unheard w (Some s) = is_held_in s.state && awaits w.calls s s.call
 -- the first held leg of which its call has no outcome; where there is none, the first held leg
 abbrev pub IsFirstHeld : Rows → Option ℕ → Type 0
 IsFirstHeld w b = (IsSome b × IsLeast (λ n. is_held_unheard w (w.legs n)) b) ⊎ (IsLeast (λ n. is_held_unheard w (w.legs n)) None × IsLeast (λ n. is_held (w.legs n)) b)
+
+-- ---- what a running call asks
+
+-- its operation, the number of its route, and its key without the routing prefix
+pub record Asked : Type 0 where
+  pub op : Op
+  pub route : ℕ
+  pub rest : List ℕ
+
+abbrev pub call_asked : CallView → Asked
+call_asked v = record { op = v.op; route = v.route; rest = v.rest.now }
+
+abbrev pub row_asked : CallRow → Asked
+row_asked c = record { op = c.call.op; route = c.call.route; rest = c.call.rest }
 
 -- ---- what a leg does
 

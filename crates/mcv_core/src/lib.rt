@@ -34,7 +34,7 @@ pub use dispatcher::Dispatcher;
 pub use engine::Core;
 pub use fault::CoreFault;
 pub use laws::events_keep_deletes;
-pub use readers::LegView;
+pub use readers::{CallView, LegView};
 pub use run::{Answer, Event, Run, run_all};
 pub use step::{Change, Place, Step};
 pub use turn::Era;

@@ -3,10 +3,11 @@
 ghost use Rattle.std.specs.Prelude.{◌≡◌, option_and_then, option_copied, option_map};
 ghost use Rattle.mcv_queues.specs.Numbers.{leg_number};
 ghost use Rattle.mcv_core.specs.Errands.{launch_of, rest_of};
-ghost use Rattle.mcv_core.specs.Readers.{IsFirstHeld, place_of, request_in, request_of, seen, seen_row};
-ghost use Rattle.mcv_core.specs.Rows.{state_of};
+ghost use Rattle.mcv_core.specs.Readers.{IsFirstHeld, call_asked, place_of, request_in, request_of, row_asked, seen, seen_row};
+ghost use Rattle.mcv_core.specs.Rows.{call_row, state_of};
 ghost use Rattle.mcv_core.specs.View.{core_view, records_of};
 
+use crate::call::Call;
 use crate::dispatcher::Dispatcher;
 use crate::errand::Errand;
 use crate::step::Place;
@@ -28,6 +29,16 @@ pub struct LegView<'a> {
     pub record: Option<u64>,
     /// What the client asked; None where the spool held the leg at the start.
     pub request: Option<&'a Request>,
+}
+
+/// What a running call asks.
+#[derive(Clone, Copy)]
+pub struct CallView<'a> {
+    pub op: Op,
+    /// The number of its route.
+    pub route: usize,
+    /// Its key without the routing prefix.
+    pub rest: &'a Rest,
 }
 
 impl Place {
@@ -69,7 +80,30 @@ impl Errand {
     }
 }
 
+impl Call {
+    /// What it asks.
+    fn view(&self) -> CallView<'_>
+        ensures { call_asked result ≡ row_asked (call_row self.now) }
+    {
+        CallView {
+            op: self.op,
+            route: self.route,
+            rest: &self.laid.rest,
+        }
+    }
+}
+
 impl Dispatcher {
+    /// What a running call asks; None where the call doesn't run.
+    pub fn call(&self, call: CallId) -> Option<CallView<'_>>
+        ensures { option_map call_asked result ≡ option_map row_asked ((core_view self.now).rows.calls call.0) }
+    {
+        match self.calls.get(call.0) {
+            Some(running) => Some(running.view()),
+            None => None,
+        }
+    }
+
     /// Where a leg is; None where it is neither queued nor spooled.
     pub fn place(&self, leg: LegId) -> Option<Place>
         ensures { result ≡ option_map (λ s. place_of s.state) ((core_view self.now).rows.legs leg.0) }

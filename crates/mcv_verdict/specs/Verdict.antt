@@ -13,6 +13,8 @@ use Rattle.mcv_make.specs.First.{IsFirstFinding}
 use Rattle.mcv_make.specs.Told.{IsTold}
 use Rattle.mcv_witness.specs.Finding.{FindingValue}
 use Rattle.mcv_witness.specs.Text.{finding_text}
+use Rattle.mcv_verdict.specs.declared.verdict.Judgement.{Judgement}
+use Rattle.mcv_verdict.specs.declared.verdict.Judgement.TheVariants as judgements
 use Rattle.mcv_verdict.specs.declared.verdict.Verdict.{Verdict}
 use Rattle.mcv_verdict.specs.declared.verdict.Verdict.TheVariants.{Covered, Lost}
 use Rattle.mcv_verdict.specs.Text.{covered_line}
@@ -36,6 +38,11 @@ pub record IsLossBy (r : RoutesValue) (f : FindingValue) : Type 0 where
 abbrev pub IsVerdict : RoutesValue → Verdict → (text : List ℕ) → Type 0
 IsVerdict r (Covered n) text = (ps : List PairValue) × AreCoveredBy r ps × All (IsPickedOf r) ps × (n ≡ length ps) × (text ≡ covered_line n ++ certificate_text ps)
 IsVerdict r Lost text = (f : FindingValue) × IsLossBy r f × (text ≡ finding_text r f)
+
+-- what is found of routes where no certificate is given: they are those that were accepted, and are covered by the certificate that was made; or they aren't, and this is the text of the first finding
+abbrev pub IsJudgement : RoutesValue → Judgement → Type 0
+IsJudgement r (judgements.Covered accepted certificate) = (accepted ≡ r) × AreCoveredBy r certificate × All (IsPickedOf r) certificate
+IsJudgement r (judgements.Lost finding) = IsVerdict r Lost finding.items
 
 -- where a certificate's text is given: it says pairs by which the routes are covered, and their number is written
 abbrev pub IsVerdictBy : RoutesValue → (certificate : List ℕ) → Verdict → (text : List ℕ) → Type 0

@@ -1,7 +1,7 @@
 //! A configuration in, the verdict on it out: whether each delete that is acknowledged was sent to every server that
 //! can be read.
 //!
-//! `run_check` is the path from the bytes read to the bytes written. Which verdict there is on routes, and its text,
+//! `run_check` is the path from the bytes read to the bytes written, and `judge_input` that to routes that are covered. Which verdict there is on routes, and its text,
 //! stands in `specs/Verdict.antt`; which fault stands in what was read, in `specs/Fault.antt`.
 #![tactic(auto)]
 
@@ -11,5 +11,5 @@ mod text;
 mod verdict;
 
 pub use fault::RunFault;
-pub use run::run_check;
-pub use verdict::Verdict;
+pub use run::{judge_input, run_check};
+pub use verdict::{Judgement, Verdict};

@@ -1,20 +1,22 @@
 //! The path from the bytes read to the bytes written.
 
-ghost use Rattle.std.specs.Prelude.{◌≡◌, ◌≢◌, ◌<◌, ◌++◌, ℕ, List, length, option_map, IfSome, IfOk, IfErr};
+ghost use Rattle.std.specs.Prelude.{◌≡◌, ◌≢◌, ◌<◌, ◌++◌, ℕ, List, length, option_map, None, IfSome, IfOk, IfErr};
 ghost use Rattle.std.specs.Io.KnownBytes.{Appends};
 ghost use Rattle.mcv_cert.specs.Pair.{IsCertificate};
 ghost use Rattle.mcv_cert.specs.Text.{certificate_text};
+ghost use Rattle.mcv_input.specs.Fault.{AreNamedBy};
 ghost use Rattle.mcv_make.specs.First.{IsFirstFinding};
 ghost use Rattle.mcv_make.specs.Told.{IsTold};
+ghost use Rattle.mcv_route.specs.Routes.{RoutesValue};
 ghost use Rattle.mcv_symbolic.specs.Covered.{AreCovered};
 ghost use Rattle.mcv_verdict.specs.Fault.{IsRefusedBy, IsRefusedFor, IsRunFault};
 ghost use Rattle.mcv_verdict.specs.Text.{covered_line};
-ghost use Rattle.mcv_verdict.specs.Verdict.{IsVerdict, IsVerdictBy, IsVerdictFor, IsVerdictOn};
+ghost use Rattle.mcv_verdict.specs.Verdict.{IsJudgement, IsVerdict, IsVerdictBy, IsVerdictFor, IsVerdictOn};
 ghost use Rattle.mcv_witness.specs.Finding.{finding_of};
 
 use crate::fault::RunFault;
 use crate::text::covered_line;
-use crate::verdict::Verdict;
+use crate::verdict::{Judgement, Verdict};
 use mcv_cert::{Certificate, read_certificate};
 use mcv_check::{Accepted, check};
 use mcv_input::{read_configuration, write_text};
@@ -66,19 +68,52 @@ fn verdict_for(alloc: Global, routes: Routes, certificate: Option<&[u8]>) -> Res
     }
 }
 
-/// The verdict on routes, by a certificate made here. Who made it isn't trusted: it is checked like any other.
+/// The verdict on routes, by a certificate made here.
 fn verdict_on(alloc: Global, routes: Routes) -> Result<Told, RunFault>
     ensures told { IfOk result (λ told. IsVerdict routes told.verdict told.text.items) }
+    ensures fault { IfErr result (λ fault. fault ≡ RunFault.Memory) }
+{
+    match judge_routes(alloc, routes)? {
+        Judgement::Covered {
+            accepted,
+            certificate,
+        } => Ok(covered_with(alloc, &accepted, &certificate)?),
+        Judgement::Lost { finding } => Ok(Told {
+            verdict: Verdict::Lost,
+            text: finding,
+        }),
+    }
+}
+
+/// What is found of routes. Who made the certificate isn't trusted: it is checked like any other.
+fn judge_routes(alloc: Global, routes: Routes) -> Result<Judgement, RunFault>
+    ensures judged { IfOk result (IsJudgement routes) }
     ensures fault { IfErr result (λ fault. fault ≡ RunFault.Memory) }
 {
     match make(alloc, &routes) {
         Ok(certificate) => {
             let accepted = check(alloc, routes, &certificate)?;
-            Ok(covered_with(alloc, &accepted, &certificate)?)
+            // The routes are covered, and the pairs are those of a certificate.
+            let _ = accepted.routes();
+            let _ = certificate.pairs();
+            Ok(Judgement::Covered {
+                accepted,
+                certificate,
+            })
         }
         Err(MakeFault::Lost(finding)) => Ok(lost(alloc, &routes, &finding)?),
         Err(MakeFault::Memory) => Err(RunFault::Memory),
     }
+}
+
+/// Reads a configuration and gives its routes, if they are covered; else what shows that they aren't. The reader may be
+/// left with bytes behind a configuration that is too long.
+pub fn judge_input<R: Read>(alloc: Global, reader: &mut R) -> Result<Judgement, RunFault>
+    ensures judged { IfOk result (λ judgement. (r : RoutesValue)
+        × IfSome (R.remaining reader.old) (λ input. AreNamedBy input r) × IsJudgement r judgement) }
+    ensures fault { IfErr result (λ fault. IfSome (R.remaining reader.old) (λ input. IsRunFault input None fault)) }
+{
+    judge_routes(alloc, read_configuration(alloc, reader)?)
 }
 
 /// The verdict on routes, by the certificate that the text says.
@@ -129,16 +164,15 @@ fn covered_with(
     Ok(told)
 }
 
-/// That a delete can be lost, and what shows it.
-fn lost(alloc: Global, routes: &Routes, finding: &Finding) -> Result<Told, AllocError>
+/// What shows that a delete can be lost.
+fn lost(alloc: Global, routes: &Routes, finding: &Finding) -> Result<Judgement, AllocError>
     requires uncovered { ¬ AreCovered routes.now }
     requires known { finding.now.server.0 < length routes.now.servers }
     requires first { IsFirstFinding routes.now (finding_of finding.now) }
     requires told { IsTold routes.now (finding_of finding.now) }
-    ensures { IfOk result (λ told. IsVerdict routes.now told.verdict told.text.items) }
+    ensures { IfOk result (IsJudgement routes.now) }
 {
-    Ok(Told {
-        verdict: Verdict::Lost,
-        text: finding_text(alloc, finding, routes)?,
+    Ok(Judgement::Lost {
+        finding: finding_text(alloc, finding, routes)?,
     })
 }

@@ -1,5 +1,8 @@
 //! The verdict on a configuration.
 
+use mcv_cert::Certificate;
+use mcv_check::Accepted;
+
 /// The verdict on a configuration.
 #[derive(Clone, Copy, Debug, PartialEq, Eq)]
 pub enum Verdict {
@@ -7,4 +10,18 @@ pub enum Verdict {
     Covered(u64),
     /// An acknowledged delete can leave a server that can be read without it.
     Lost,
+}
+
+/// What is found of a configuration by a certificate that is made for it.
+#[derive(Drop)]
+pub enum Judgement {
+    /// Its routes are covered, and the certificate says why.
+    Covered {
+        accepted: Accepted,
+        certificate: Certificate,
+    },
+    /// The text of the first finding on them.
+    Lost {
+        finding: Vec<u8>,
+    },
 }

@@ -1,9 +1,9 @@
-use Rattle.std.proofs.Common.{List, None, inr, map, sym, subst}
+use Rattle.std.proofs.Common.{List, None, inl, inr, map, sym, subst}
 use Rattle.std.proofs.lemmas.Result.{IfErr-weaker, IfOk-weaker, err_from_is_err_and}
 use Rattle.clap.specs.Words.{Text}
 use Rattle.mcv_command.specs.Program.{IsStop}
 use Rattle.mcv_command.specs.declared.stop.Stop.{Stop}
-use Rattle.mcv_command.proofs.Finished.{judging_stop, legs_stop}
+use Rattle.mcv_command.proofs.Finished.{judging_stop, legs_stop, running_stop}
 use Rattle.mcv_command.proofs.program.run_words.Goals as goal
 
 pub returns-in_err-run_legs-in-Ok-Legs-clause-stop : goal.returns-in_err-run_legs-in-Ok-Legs-clause-stop
@@ -20,7 +20,7 @@ pub returns-in-Ok-Check-None-clause-done : goal.returns-in-Ok-Check-None-clause-
 returns-in-Ok-Check-None-clause-done g c =
     let held = g.F.NamedFiles.held c.args.files.now in
     let asks = rw (c.in-Ok-Check-None.field-0-is, c.in-Ok-Check-None.field-0-0-is) at c.in-Ok-Check-None.ensures.job in
-    IfOk-weaker c.judge.result _ _ (λ ending judged. inr (inr (None, asks, judged))) (c.judge.ensures.done held)
+    IfOk-weaker c.judge.result _ _ (λ ending judged. inr (inr (inl (None, asks, judged)))) (c.judge.ensures.done held)
 
 pub returns-in-Ok-Check-None-clause-stop : goal.returns-in-Ok-Check-None-clause-stop
 returns-in-Ok-Check-None-clause-stop g c =
@@ -29,3 +29,30 @@ returns-in-Ok-Check-None-clause-stop g c =
     let known = g.R.Read.remaining c.args.reader.now in
     let asks = rw (c.in-Ok-Check-None.field-0-is, c.in-Ok-Check-None.field-0-0-is) at c.in-Ok-Check-None.ensures.job in
     IfErr-weaker c.judge.result _ _ (λ stop stands. judging_stop words held known None stop asks stands) (c.judge.ensures.stop held)
+
+pub serve-requires-clause-most : goal.serve-requires-clause-most
+serve-requires-clause-most g c =
+    let asks = rw c.in-Ok-Run.field-0-is at c.in-Ok-Run.ensures.job in
+    asks.5
+
+pub returns-in-Ok-Run-clause-done : goal.returns-in-Ok-Run-clause-done
+returns-in-Ok-Run-clause-done g c =
+    let held = g.F.NamedFiles.held c.args.files.now in
+    let asks = rw c.in-Ok-Run.field-0-is at c.in-Ok-Run.ensures.job in
+    IfOk-weaker c.serve.result _ _ (λ ending served. inr (inr (inr (c.in-Ok-Run.listen.now, c.in-Ok-Run.spool.now, c.in-Ok-Run.sessions, asks, served)))) (c.serve.ensures.done held)
+
+pub returns-in-Ok-Run-clause-stop : goal.returns-in-Ok-Run-clause-stop
+returns-in-Ok-Run-clause-stop g c =
+    let words : List Text = map (λ w. w.now) c.args.words.now in
+    let held = g.F.NamedFiles.held c.args.files.now in
+    let known = g.R.Read.remaining c.args.reader.now in
+    let asks = rw c.in-Ok-Run.field-0-is at c.in-Ok-Run.ensures.job in
+    IfErr-weaker c.serve.result _ _ (λ stop stands. running_stop words held known stop (c.in-Ok-Run.listen.now, c.in-Ok-Run.spool.now, c.in-Ok-Run.sessions, asks) stands)
+    (c.serve.ensures.stop held)
+
+pub returns-in-Ok-Run-clause-silent : goal.returns-in-Ok-Run-clause-silent
+returns-in-Ok-Run-clause-silent g c =
+    let asks = rw c.in-Ok-Run.field-0-is at c.in-Ok-Run.ensures.job in
+    IfErr-weaker c.serve.result _ _
+    (λ stop silent no_device unasked. silent no_device (λ memory. unasked memory (c.in-Ok-Run.listen.now, c.in-Ok-Run.spool.now, c.in-Ok-Run.sessions, asks)))
+    c.serve.ensures.silent

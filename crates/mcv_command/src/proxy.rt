@@ -1,0 +1,42 @@
+//! The proxy that `mcv run` starts.
+
+ghost use Rattle.std.specs.Prelude.{◌≤◌, OnOk};
+ghost use Rattle.std.specs.Arc.{arc_value};
+ghost use Rattle.mcv_command.specs.Program.{Serves};
+
+use mcv_check::Accepted;
+use std::alloc::Global;
+use std::io::Write;
+use std::sync::Arc;
+use thiserror::Error;
+
+/// Why a proxy ends before its sessions have.
+#[derive(Clone, Copy, Debug, PartialEq, Eq, Error)]
+pub enum ServeFault {
+    #[error("out of memory")]
+    Memory,
+    /// The address, the spool's file or the writer failed.
+    #[error("device failed")]
+    Device,
+}
+
+/// A proxy for clients.
+pub trait Proxy {
+    /// What it does where it serves routes.
+    ghost serves: { Self → Serves };
+
+    /// Serves clients at the address by the routes, with the spool in the file of this name, until so many sessions have
+    /// ended.
+    fn serve<W: Write>(
+        &self,
+        alloc: Global,
+        accepted: Arc<Accepted>,
+        listen: &str,
+        spool: &str,
+        sessions: u64,
+        out: &mut W,
+    ) -> Result<(), ServeFault>
+        requires least { 1 ≤ sessions }
+        requires most { sessions ≤ 1000000000 }
+        ensures { OnOk result (serves self.now (arc_value accepted) listen.now spool.now sessions (W.contents out.old) (W.contents out.new)) };
+}

@@ -1,0 +1,7 @@
+mod Counts
+mod RowsMayWrite
+mod BreaksLeft
+mod EventsMayWrite
+mod Histories
+mod CheckedReceipts
+mod AskedCalls

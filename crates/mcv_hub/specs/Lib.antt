@@ -1,0 +1,4 @@
+pub mod MayWrite
+pub mod History
+pub mod State
+pub mod Receipts

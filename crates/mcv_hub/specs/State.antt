@@ -1,0 +1,119 @@
+-- What contracts see of the hub's state, and what holds of it whenever the lock is free (own).
+use Rattle.std.specs.Prelude.{◌≡◌, ◌+◌, ◌<◌, ◌≤◌, ◌^◌, [], ◌∷◌, ◌++◌, ℕ, List, Some, Result, IfOk, OnErr, count_by}
+use Rattle.std.specs.Arc.{arc_value}
+use Rattle.std.specs.declared.alloc.Global.{Global}
+use Rattle.std.specs.declared.sync.Arc.{Arc}
+use Rattle.mcv_base.specs.Reply.{ReplyValue, part_value}
+use Rattle.mcv_base.specs.declared.operation.Op.{Op}
+use Rattle.mcv_base.specs.declared.request.CallId.{CallId}
+use Rattle.mcv_base.specs.declared.reply.Part.{Part}
+use Rattle.mcv_base.specs.declared.request.LegId.{LegId}
+use Rattle.mcv_base.specs.declared.request.Request.{Request}
+use Rattle.mcv_pools.specs.Hash.{fnv_index}
+use Rattle.mcv_symbolic.specs.Covered.{AreCovered}
+use Rattle.mcv_world.specs.World.{World}
+use Rattle.mcv_world.specs.Laws.{HasReply, IsWorld}
+use Rattle.mcv_world.specs.Live.{live_of}
+use Rattle.mcv_world.specs.Moves.{run}
+use Rattle.mcv_events.specs.Rows.{CallRow, world_of}
+use Rattle.mcv_core.specs.Asking.{HasBegunFor}
+use Rattle.mcv_core.specs.CoreView.{CoreView, Does, Effect, HasEffect, change_move}
+use Rattle.mcv_core.specs.KeptDeletes.{KeepsDeletes}
+use Rattle.mcv_core.specs.View.{core_view}
+use Rattle.mcv_core.specs.declared.fault.CoreFault.{CoreFault}
+use Rattle.mcv_core.specs.declared.step.Change.{Change}
+use Rattle.mcv_core.specs.declared.step.Step.{Step}
+use Rattle.mcv_core.specs.declared.dispatcher.Dispatcher.{Dispatcher}
+use Rattle.mcv_hub.specs.History.{IsHistory, is_began, is_taken, leg_entry, with_entry}
+use Rattle.mcv_hub.specs.declared.entry.Entry.{Entry}
+use Rattle.mcv_hub.specs.declared.entry.Entry.TheVariants as entries
+
+pub record HubView : Type 0 where
+  pub core : Dispatcher
+  -- of this chapter
+  pub history : List Entry
+  pub chapter : ℕ
+  -- the books of calls begun and of replies taken
+  pub begun : ℕ
+  pub taken : ℕ
+  -- and what they were when the chapter began
+  pub begun_before : ℕ
+  pub taken_before : ℕ
+
+-- the routes are covered, the history is legal and leads to the core, and the books count its entries
+pub record IsHub (v : CoreView) (history : List Entry) (chapter begun taken begun_before taken_before : ℕ) : Type 0 where
+  pub covered : AreCovered v.routes
+  pub legal : IsHistory v.routes (world_of v.rows) history
+  pub chapter_is : chapter ≡ v.chapter
+  pub begun_is : begun ≡ begun_before + count_by is_began history
+  pub taken_is : taken ≡ taken_before + count_by is_taken history
+  pub begun_small : begun_before < 2 ^ 63
+  pub taken_small : taken_before < 2 ^ 63
+
+-- the history is legal, and deletes are kept in the world that it leads to, in which a call stays that the core has forgotten
+pub record HistoryKeepsDeletes (v : CoreView) (history : List Entry) : Type 0 where
+  pub legal : IsHistory v.routes (world_of v.rows) history
+  pub keeps : KeepsDeletes v (run v.routes legal.opening legal.moves)
+
+-- the entries that the core may still write have their places, and all of them can be counted
+pub record HasRoom (len capacity places may_write : ℕ) : Type 0 where
+  pub within : len + may_write ≤ places
+  pub kept : places ≤ capacity
+  pub small : places ≤ 2 ^ 62
+
+-- ---- what an event leaves
+
+-- the same chapter
+pub record IsSameChapter (old new : HubView) : Type 0 where
+  pub chapter : new.chapter ≡ old.chapter
+  pub begun_before : new.begun_before ≡ old.begun_before
+  pub taken_before : new.taken_before ≡ old.taken_before
+
+-- no call was begun and no reply taken
+pub record IsSameBooks (old new : HubView) : Type 0 where
+  pub begun : new.begun ≡ old.begun
+  pub taken : new.taken ≡ old.taken
+  pub same : IsSameChapter old new
+
+-- nothing that callers see has changed
+pub record IsSame (old new : HubView) : Type 0 where
+  pub core : core_view new.core ≡ core_view old.core
+  pub history : new.history ≡ old.history
+  pub books : IsSameBooks old new
+
+-- the entry of an event on a leg that had this reply was written
+pub record IsWritten (old new : HubView) (leg : LegId) (x : ReplyValue) (change : Change) : Type 0 where
+  pub reply : Part
+  pub is : part_value reply ≡ x
+  pub entry : new.history ≡ with_entry old.history (leg_entry leg reply change)
+
+-- what an event on a leg does: it answers and changes what the core's does, and writes the entry of its move, or none
+pub record IsLegEvent (e : Effect) (x : ReplyValue) (leg : LegId) (old new : HubView) (result : Result Step CoreFault) : Type 0 where
+  pub effect : HasEffect e (core_view old.core) (core_view new.core) result
+  pub does : IfOk result (λ step. Does (core_view old.core) (core_view new.core) (change_move leg.0 x step.change))
+  pub entry : IfOk result (λ step. IsWritten old new leg x step.change)
+  pub books : IsSameBooks old new
+  pub refused : OnErr result (IsSame old new)
+
+-- ---- calls
+
+-- the call for the key was begun, and its entry written
+pub record BeginsOne (old new : HubView) (request : Arc Request Global) (key : ℕ) (call : CallId) : Type 0 where
+  pub begun : HasBegunFor (core_view old.core) fnv_index (arc_value request) key (core_view new.core)
+  pub number : call.0 ≡ (core_view old.core).rows.next_call
+  pub shared : Arc Request Global
+  pub same : arc_value shared ≡ arc_value request
+  pub entry : new.history ≡ old.history ++ entries.Began shared key ∷ []
+
+-- the call runs, and asks this operation of this route and rest
+pub record IsCallOf (v : HubView) (k : ℕ) (op : Op) (route : ℕ) (rest : List ℕ) : Type 0 where
+  pub row : CallRow
+  pub there : (core_view v.core).rows.calls k ≡ Some row
+  pub op_is : op ≡ row.call.op
+  pub route_is : route ≡ row.call.route
+  pub rest_is : rest ≡ row.call.rest
+
+-- in each world of which the core's is what is left, and so in the replay of the history, this is the reply of the call
+abbrev pub Replies : HubView → ℕ → ReplyValue → Type 0
+Replies v k x =
+    (w : World) → IsWorld (core_view v.core).routes w → live_of (core_view v.core).routes w ≡ world_of (core_view v.core).rows → HasReply (core_view v.core).routes (w.calls k) x

@@ -1,0 +1,27 @@
+//! The one state that a proxy's threads share, under one lock: the core, the history of what happened to it, and the
+//! books of calls begun and replies taken.
+//!
+//! A thread has a `Pass`, and gets the lock with it; while its `Guard` lives the pass is borrowed. Each event on the guard
+//! is that event of the core and writes the entry of its move, so whatever is seen under the lock is what a legal history
+//! leads to, and deletes are kept in it (`Guard::deletes_are_kept`).
+#![tactic(auto)]
+
+mod core_events;
+mod entry;
+mod guard;
+mod history;
+mod hub;
+mod pass;
+mod receipts;
+mod reply;
+mod seat;
+mod state;
+
+pub use crate::entry::Entry;
+pub use crate::guard::Guard;
+pub use crate::hub::{Bell, Hub};
+pub use crate::pass::{Pass, Passes};
+pub use crate::receipts::{Receipt, ReceiptFault, Report};
+pub use crate::reply::LegReply;
+pub use crate::seat::{Seat, TakenReply};
+pub use crate::state::HubState;

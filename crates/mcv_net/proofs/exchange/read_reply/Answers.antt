@@ -1,0 +1,35 @@
+use Rattle.std.proofs.Common.{◌≡◌, ◌++◌, Ok, None, arith, subst, sym, take}
+use Rattle.std.specs.Arc.{arc_value}
+use Rattle.std.specs.Io.KnownBytes.{Consumes}
+use Rattle.mcv_reply.specs.Reader.{Feeds}
+use Rattle.mcv_net.specs.Exchange.{SpellsReply}
+use Rattle.mcv_net.proofs.Reading.{HasCome, IsFed, come_more, come_refused, come_still, fed_answers, fed_on, not_spelled, taken_some}
+use Rattle.mcv_net.proofs.exchange.read_reply.Goals as goal
+use Rattle.mcv_net.proofs.exchange.read_reply.Goals.{then-count-gt0+in-Ok-None, else-count-gt0}
+
+pub returns-in-Err : goal.returns-in-Err
+returns-in-Err g c =
+    let was = c.loop-read.invariant in
+    let answered = fed_answers _ _ _ _ was.0 _ _ was.1 c.in-Err.ensures in
+    come_refused (SpellsReply c.args.leg.now.op (arc_value c.args.leg.now.rest)) _ _ _ _ was.0 _ c.in-Err.fault _ was.2 c.in_ok-count.ensures.read
+    (taken_some _ _ c.if-count-gt0.true c.in_ok-count.ensures.within) (not_spelled _ _ _ c.in-Err.fault _ answered) c.refused.ensures
+
+pub loop-read-preserved : goal.loop-read-preserved
+loop-read-preserved g c =
+    let was = c.loop-read.invariant in
+    let op = c.args.leg.now.op in
+    let key = arc_value c.args.leg.now.rest in
+    let start = g.S.Read.remaining c.args.stream.now in
+    let now = g.S.Read.remaining c.next_piece.new.stream in
+    let piece = take c.in_ok-count.count c.next_piece.new.room in
+    elim c.if-count-gt0.branch [
+      | then-count-gt0+in-Ok-None w ↦
+          let fed : Feeds c.loop-read.reader piece (Ok None) w.feed.new.self = subst (λ r. Feeds c.loop-read.reader piece (Ok r) w.feed.new.self) w.in-Ok-None.field-0-is w.in-Ok-None.ensures in
+          let answered = fed_answers _ _ op key was.0 piece _ was.1 fed in
+          let come = come_more (SpellsReply op key) _ _ _ _ was.0 piece was.2 c.in_ok-count.ensures.read (taken_some _ _ w.if-count-gt0.true c.in_ok-count.ensures.within) (λ x. answered.0.0 _) in
+          (was.0 ++ piece, subst (λ r. IsFed r op key (was.0 ++ piece)) (sym w.reader-is) (fed_on _ _ op key was.0 piece was.1 fed), subst (λ h. HasCome (SpellsReply op key) start now h (was.0 ++ piece)) (sym w.has_read-is) come)
+      | else-count-gt0 w ↦
+          let none : c.in_ok-count.count ≡ 0 = let le = w.if-count-gt0.false in omega (arith, le) in
+          let read = subst (λ n. Consumes (g.S.Read.remaining c.loop-read.stream) now (take n c.next_piece.new.room)) none c.in_ok-count.ensures.read in
+          (was.0, subst (λ r. IsFed r op key was.0) (sym w.reader-is) was.1, subst (λ h. HasCome (SpellsReply op key) start now h was.0) (sym w.has_read-is) (come_still (SpellsReply op key) _ _ _ _ was.0 was.2 read))
+    ]

@@ -1,0 +1,53 @@
+-- A text that is written to a connection, and the reply that is read from it (own). What a connection was given and what it
+-- has left is known only of one in memory.
+use Rattle.std.specs.Prelude.{◌≡◌, ◌≢◌, ◌<◌, ◌⊎◌, ℕ, Bool, true, false, List, [], length, take, Option, Result, Ok, Err}
+use Rattle.std.specs.Io.KnownBytes.{Appends, Consumes, Keeps}
+use Rattle.mcv_base.specs.declared.operation.Op.{Op}
+use Rattle.mcv_base.specs.declared.reply.Reply.{Reply}
+use Rattle.mcv_base.specs.Reply.{reply_value}
+use Rattle.mcv_reply.specs.declared.fault.ReplyFault.{ReplyFault}
+use Rattle.mcv_reply.specs.declared.fault.ReplyFault.TheVariants as faults
+use Rattle.mcv_reply.specs.Reply.{Spells, SpellsVersion}
+use Rattle.mcv_net.specs.declared.loss.Loss.{Loss}
+use Rattle.mcv_net.specs.declared.loss.Loss.TheVariants.{Unwritten, Unread, Broken, Memory}
+
+-- the whole text was written; or nothing of it; or a part
+abbrev pub Writes : {X : Type 0} → Option (List ℕ) → Option (List ℕ) → List ℕ → Result X Loss → Type 0
+Writes {X} old new text (Ok x) = Appends old new text
+Writes {X} old new text (Err Unwritten) = Keeps old new
+Writes {X} old new text (Err Unread) = (n : ℕ) × (0 < n) × (n < length text) × Appends old new (take n text)
+Writes {X} old new text (Err Broken) = ⊥
+Writes {X} old new text (Err Memory) = ⊥
+
+-- what was read spells the result; or nothing was read; or something that spells none
+abbrev pub Reads : {X : Type 0} → (List ℕ → X → Type 0) → Option (List ℕ) → Option (List ℕ) → Result X Loss → Type 0
+Reads {X} spells old new (Ok x) = (bytes : List ℕ) × Consumes old new bytes × spells bytes x
+Reads {X} spells old new (Err Unwritten) = ⊥
+Reads {X} spells old new (Err Unread) = Consumes old new []
+Reads {X} spells old new (Err Broken) = (bytes : List ℕ) × Consumes old new bytes × (bytes ≢ []) × ((x : X) → spells bytes x → ⊥)
+Reads {X} spells old new (Err Memory) = (bytes : List ℕ) × Consumes old new bytes
+
+-- the whole text is written before anything is read
+abbrev pub Asks : {S X : Type 0} → (S → Option (List ℕ)) → (S → Option (List ℕ)) → (List ℕ → X → Type 0) → List ℕ → S → S → Result X Loss → Type 0
+Asks {S} {X} contents remaining spells text old new result =
+    ((loss : Loss) × (result ≡ Err loss) × Writes {X = X} (contents old) (contents new) text (Err loss))
+    ⊎ ((between : S) × Appends (contents old) (contents between) text × Reads spells (remaining between) (remaining new) result)
+
+-- the bytes are a server's reply to a leg of this operation and rest
+abbrev pub SpellsReply : Op → List ℕ → List ℕ → Reply → Type 0
+SpellsReply op rest bytes reply = Spells op rest bytes (reply_value reply)
+
+-- the bytes are a server's answer to a probe
+abbrev pub AnswersProbe : {X : Type 0} → List ℕ → X → Type 0
+AnswersProbe {X} bytes x = (version : List ℕ) × SpellsVersion bytes version
+
+-- what is lost where no more can be read
+abbrev pub loss_of : Bool → Loss
+loss_of true = Broken
+loss_of false = Unread
+
+-- what is lost where bytes are no reply
+abbrev pub loss_by : ReplyFault → Loss
+loss_by faults.NotAReply = Broken
+loss_by faults.Closed = Broken
+loss_by faults.Memory = Memory

@@ -1,0 +1,6 @@
+-- What a proxy on sockets writes, reads and prints.
+pub mod Exchange
+pub mod Fault
+pub mod Lines
+pub mod Repeat
+pub mod Sends

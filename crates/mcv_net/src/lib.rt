@@ -1,0 +1,27 @@
+//! The proxy on sockets: its servers and its clients over TCP, its spool in a file.
+//!
+//! `TcpLink` is the way to one server over one connection that is kept, `NetGates` what a proxy talks to, and `serve` runs
+//! one by the texts of a command line.
+#![tactic(auto)]
+
+mod client;
+mod dial;
+mod exchange;
+mod fault;
+mod gates;
+mod lines;
+mod link;
+mod loss;
+mod notice;
+mod run;
+mod system_watch;
+
+pub use client::Client;
+pub use dial::{Dial, TcpDial};
+pub use fault::RunFault;
+pub use gates::NetGates;
+pub use link::TcpLink;
+pub use loss::{Loss, may_ask_again};
+pub use notice::{Notice, Notices, StandardError};
+pub use run::{SpoolFiles, listen, run_proxy, serve};
+pub use system_watch::SystemWatch;

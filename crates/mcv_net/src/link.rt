@@ -1,0 +1,171 @@
+//! The way to one server, over one connection.
+
+ghost use Rattle.std.specs.Prelude.{◌≡◌, ◌++◌, ℕ, List, None, IfOk, codes};
+ghost use Rattle.std.specs.Arc.{arc_value};
+ghost use Rattle.mcv_text.specs.Answer.{line_end};
+ghost use Rattle.mcv_net.specs.Exchange.{AnswersProbe, SpellsReply};
+ghost use Rattle.mcv_net.specs.Sends.{AsksAnew, AsksOver, Sends, kept_behind};
+
+use crate::dial::Dial;
+use crate::exchange::{ask, ask_version};
+use crate::loss::{Loss, may_ask_again};
+use crate::notice::{Notice, Notices};
+use mcv_base::{LegRequest, Op, Reply};
+use mcv_hub::Pass;
+use mcv_proxy::{Link, LinkFault};
+use mcv_text::leg_text;
+use std::alloc::{AllocError, Global};
+
+/// The most bytes of one read.
+const PIECE: usize = 16_384;
+
+/// The way to one server, over one connection that is kept from leg to leg. A connection is closed after any fault, and where
+/// bytes come that are no reply, also behind a reply; the next leg opens another.
+///
+/// A server may have closed a kept connection while it was idle. So a leg that is lost over a kept connection is sent once
+/// more over a new one, where it may be (`may_ask_again`).
+#[derive(Drop)]
+pub struct TcpLink<D: Dial, N: Notices> {
+    alloc: Global,
+    server: String,
+    dial: D,
+    notices: N,
+    kept: Option<D::Stream>,
+    room: Vec<u8>,
+}
+
+fn fault_of(loss: Loss) -> LinkFault {
+    match loss {
+        Loss::Memory => LinkFault::Memory,
+        Loss::Unwritten | Loss::Unread | Loss::Broken => LinkFault::Broken,
+    }
+}
+
+/// A connection is kept behind a reply, and after no loss.
+fn kept_behind<S: Drop, X>(stream: S, outcome: &Result<X, Loss>) -> Option<S>
+    ensures { result ≡ kept_behind stream outcome.now }
+{
+    match outcome {
+        Ok(_) => Some(stream),
+        Err(_) => None,
+    }
+}
+
+impl<D: Dial, N: Notices> TcpLink<D, N> {
+    /// A link to the server of this text that has no connection yet.
+    pub fn new(
+        alloc: Global,
+        server: &str,
+        dial: D,
+        notices: N,
+    ) -> Result<TcpLink<D, N>, AllocError> {
+        let server = String::from_str(alloc, server)?;
+        let mut room = Vec::new(alloc);
+        room.resize(PIECE, 0)?;
+        Ok(TcpLink {
+            alloc,
+            server,
+            dial,
+            notices,
+            kept: None,
+            room,
+        })
+    }
+
+    /// Sends a leg over this connection, and keeps it where the reply is there.
+    fn ask_over(&mut self, stream: D::Stream, leg: &LegRequest, text: &[u8]) -> Result<Reply, Loss>
+        ensures { AsksOver D.Stream.contents D.Stream.remaining (SpellsReply leg.now.op (arc_value leg.now.rest)) text.now stream result self.new.kept }
+    {
+        let mut stream = stream;
+        let outcome = ask(self.alloc, &mut stream, self.room.as_mut_slice(), leg, text);
+        self.kept = kept_behind(stream, &outcome);
+        outcome
+    }
+
+    /// Sends a leg over a new connection, where none is kept.
+    fn ask_anew(&mut self, leg: &LegRequest, text: &[u8]) -> Result<Reply, Loss>
+        requires { self.old.kept ≡ None }
+        ensures { AsksAnew D.Stream.contents D.Stream.remaining (SpellsReply leg.now.op (arc_value leg.now.rest)) text.now result self.new.kept }
+    {
+        match self.dial.dial(self.server.as_str()) {
+            Some(stream) => self.ask_over(stream, leg, text),
+            None => Err(Loss::Unwritten),
+        }
+    }
+
+    /// Sends a leg over the kept connection; over a new one where there is none, and where the leg may be sent once more.
+    fn ask(&mut self, leg: &LegRequest, text: &[u8]) -> Result<Reply, Loss>
+        ensures { Sends D.Stream.contents D.Stream.remaining (SpellsReply leg.now.op (arc_value leg.now.rest)) text.now leg.now.op self.old.kept result self.new.kept }
+    {
+        let Some(stream) = self.kept.take() else {
+            return self.ask_anew(leg, text);
+        };
+        match self.ask_over(stream, leg, text) {
+            Err(loss) if may_ask_again(leg.op, loss) => self.ask_anew(leg, text),
+            outcome => outcome,
+        }
+    }
+
+    /// Probes over this connection, and keeps it where the answer is there.
+    fn probe_over(&mut self, stream: D::Stream) -> Result<(), Loss>
+        ensures { AsksOver D.Stream.contents D.Stream.remaining AnswersProbe (codes "version" ++ line_end) stream result self.new.kept }
+    {
+        let mut stream = stream;
+        let outcome = ask_version(self.alloc, &mut stream, self.room.as_mut_slice());
+        self.kept = kept_behind(stream, &outcome);
+        outcome
+    }
+
+    /// Probes over a new connection, where none is kept.
+    fn probe_anew(&mut self) -> Result<(), Loss>
+        requires { self.old.kept ≡ None }
+        ensures { AsksAnew D.Stream.contents D.Stream.remaining AnswersProbe (codes "version" ++ line_end) result self.new.kept }
+    {
+        match self.dial.dial(self.server.as_str()) {
+            Some(stream) => self.probe_over(stream),
+            None => Err(Loss::Unwritten),
+        }
+    }
+
+    /// Probes over the kept connection; over a new one as a get would be sent.
+    fn ask_version(&mut self) -> Result<(), Loss>
+        ensures { Sends D.Stream.contents D.Stream.remaining AnswersProbe (codes "version" ++ line_end) Op.Get self.old.kept result self.new.kept }
+    {
+        let Some(stream) = self.kept.take() else {
+            return self.probe_anew();
+        };
+        match self.probe_over(stream) {
+            Err(loss) if may_ask_again(Op::Get, loss) => self.probe_anew(),
+            outcome => outcome,
+        }
+    }
+}
+
+impl<D: Dial, N: Notices> Link for TcpLink<D, N> {
+    fn send(&mut self, _pass: &Pass, leg: &LegRequest) -> Result<Reply, LinkFault>
+        ensures { IfOk result (λ reply. (bytes : List ℕ) × SpellsReply leg.now.op (arc_value leg.now.rest) bytes reply) }
+    {
+        let Ok(text) = leg_text(self.alloc, leg) else {
+            return Err(LinkFault::Memory);
+        };
+        match self.ask(leg, text.as_slice()) {
+            Ok(reply) => Ok(reply),
+            Err(loss) => Err(fault_of(loss)),
+        }
+    }
+
+    fn probe(&mut self, _pass: &Pass) -> Result<(), LinkFault> {
+        match self.ask_version() {
+            Ok(()) => Ok(()),
+            Err(loss) => Err(fault_of(loss)),
+        }
+    }
+
+    fn note_marked(&mut self, _pass: &Pass) {
+        self.notices.note(Notice::Marked(self.server.as_str()));
+    }
+
+    fn note_unmarked(&mut self, _pass: &Pass) {
+        self.notices.note(Notice::Unmarked(self.server.as_str()));
+    }
+}

@@ -1,0 +1,54 @@
+//! What an operator sees while the proxy runs.
+
+use std::fmt;
+use std::io::Eprint;
+
+/// What an operator sees: a line where something changes, and none for a request.
+#[derive(Clone, Copy, Debug, PartialEq, Eq)]
+pub enum Notice<'a> {
+    /// The server of this text has failed too often: it is sent nothing until it answers a probe.
+    Marked(&'a str),
+    /// It has answered a probe.
+    Unmarked(&'a str),
+    /// The spool refuses records.
+    Refusing,
+    /// It takes them again.
+    Taking,
+    /// There was no thread or no memory for a session.
+    Unserved,
+    /// Clients can't be accepted.
+    Deaf,
+    /// They are accepted again.
+    Hearing,
+}
+
+impl<'a> fmt::Display for Notice<'a> {
+    fn fmt<W: fmt::Write>(&self, f: &mut fmt::Formatter<W>) -> fmt::Result {
+        match self {
+            Notice::Marked(server) => write!(f, "mcv: server {server} is marked"),
+            Notice::Unmarked(server) => write!(f, "mcv: server {server} answers again"),
+            Notice::Refusing => write!(f, "mcv: the spool refuses records"),
+            Notice::Taking => write!(f, "mcv: the spool takes records again"),
+            Notice::Unserved => write!(f, "mcv: no thread for a session"),
+            Notice::Deaf => write!(f, "mcv: clients can't be accepted"),
+            Notice::Hearing => write!(f, "mcv: clients are accepted again"),
+        }
+    }
+}
+
+/// Who shows notices to an operator.
+pub trait Notices: Drop {
+    fn note(&mut self, notice: Notice<'_>);
+}
+
+/// Shows each notice as a line on standard error, which may fail.
+#[derive(Drop)]
+pub struct StandardError<R: Eprint + Drop> {
+    pub rt: R,
+}
+
+impl<R: Eprint + Drop> Notices for StandardError<R> {
+    fn note(&mut self, notice: Notice<'_>) {
+        let _ = eprintln!(self.rt; "{notice}");
+    }
+}

@@ -1,0 +1,107 @@
+//! A proxy on sockets, from its first line to its last.
+
+ghost use Rattle.std.specs.Prelude.{◌≡◌, IfErr};
+
+use crate::fault::RunFault;
+use crate::gates::NetGates;
+use crate::lines::{closed_line, print_line};
+use mcv_check::Accepted;
+use mcv_proxy::start;
+use mcv_spool::{Disk, FileDisk};
+use std::alloc::Global;
+use std::io;
+use std::io::{Eprint, Write};
+use std::net::{Net, TcpListener, TcpStream};
+use std::rt::Clock;
+use std::sync::{Arc, Wait};
+use std::thread::Threads;
+
+/// Serves so many clients of a listener, by what the checker accepted and with the spool on a disk. Once the spool is open and
+/// the workers run it prints `mcv listening <address> pending <n>`, where n is the number of records pending in the spool;
+/// once the last session has ended and the workers have nothing in hand, `mcv closed calls <n>`, where n is the number of
+/// calls begun.
+pub fn run_proxy<D, W, R>(
+    rt: R,
+    alloc: Global,
+    accepted: Arc<Accepted>,
+    listener: TcpListener,
+    disk: D,
+    sessions: u64,
+    out: &mut W,
+) -> Result<(), RunFault>
+where
+    D: Disk + Send + 'static,
+    W: Write,
+    R: Net<Stream = TcpStream, Listener = TcpListener>
+        + Threads
+        + Wait
+        + Clock
+        + Eprint
+        + Copy
+        + Drop
+        + Send
+        + 'static,
+{
+    let gates = NetGates::new(rt, alloc, listener, disk, sessions, &mut *out);
+    let report = start(rt, alloc, accepted, gates)?;
+    let line = closed_line(alloc, report)?;
+    print_line(out, line.as_slice())?;
+    Ok(())
+}
+
+/// Listens at an address, `127.0.0.1:5000`, `[::1]:5000` or `localhost:5000`. An address that doesn't read, or that can't be
+/// listened at, is `Device`.
+pub fn listen<R: Net<Stream = TcpStream, Listener = TcpListener>>(
+    rt: &R,
+    address: &str,
+) -> Result<TcpListener, RunFault>
+    ensures { IfErr result (λ fault. fault ≡ RunFault.Device) }
+{
+    match TcpListener::bind(rt, address) {
+        Ok(listener) => Ok(listener),
+        Err(_) => Err(RunFault::Device),
+    }
+}
+
+/// Opens the disks of spools by the names of their files.
+pub trait SpoolFiles {
+    type Disk: Disk + Send + 'static;
+
+    fn open_spool(&self, name: &str) -> io::Result<Self::Disk>;
+}
+
+impl SpoolFiles for HostRuntime {
+    type Disk = FileDisk;
+
+    fn open_spool(&self, name: &str) -> io::Result<FileDisk> {
+        FileDisk::open(self, name)
+    }
+}
+
+/// Listens at an address, opens the spool of a file's name, and serves so many clients (`run_proxy`).
+pub fn serve<W, R>(
+    rt: R,
+    alloc: Global,
+    accepted: Arc<Accepted>,
+    address: &str,
+    spool: &str,
+    sessions: u64,
+    out: &mut W,
+) -> Result<(), RunFault>
+where
+    W: Write,
+    R: Net<Stream = TcpStream, Listener = TcpListener>
+        + SpoolFiles
+        + Threads
+        + Wait
+        + Clock
+        + Eprint
+        + Copy
+        + Drop
+        + Send
+        + 'static,
+{
+    let listener = listen(&rt, address)?;
+    let disk = rt.open_spool(spool)?;
+    run_proxy(rt, alloc, accepted, listener, disk, sessions, out)
+}

@@ -1,0 +1,55 @@
+//! The system's clock as a watch.
+
+use crate::notice::{Notice, Notices};
+use mcv_base::Moment;
+use mcv_proxy::Watch;
+use std::rt::Clock;
+use std::thread;
+use std::time::{Duration, SystemTime, UNIX_EPOCH};
+
+/// The system's clock, as one thread sees it.
+#[derive(Drop)]
+pub struct SystemWatch<R: Clock + Drop, N: Notices> {
+    rt: R,
+    notices: N,
+    /// The last moment, which is given again where the clock can't be read.
+    last: u64,
+}
+
+impl<R: Clock + Drop, N: Notices> SystemWatch<R, N> {
+    pub fn new(rt: R, notices: N) -> SystemWatch<R, N> {
+        SystemWatch {
+            rt,
+            notices,
+            last: 0,
+        }
+    }
+
+    /// Seconds since 1970 by the clock; None where it can't be read or is set before 1970.
+    fn seconds(&self) -> Option<u64> {
+        let now = SystemTime::now(&self.rt).ok()?;
+        let since = now.duration_since(UNIX_EPOCH).ok()?;
+        Some(since.as_secs())
+    }
+}
+
+impl<R: Clock + Drop, N: Notices> Watch for SystemWatch<R, N> {
+    fn moment(&mut self) -> Moment {
+        if let Some(seconds) = self.seconds() {
+            self.last = seconds;
+        }
+        Moment(self.last)
+    }
+
+    fn pause(&mut self) {
+        thread::sleep(&self.rt, Duration::from_secs(1));
+    }
+
+    fn note_refusing(&mut self) {
+        self.notices.note(Notice::Refusing);
+    }
+
+    fn note_taking(&mut self) {
+        self.notices.note(Notice::Taking);
+    }
+}

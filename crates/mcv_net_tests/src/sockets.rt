@@ -1,0 +1,184 @@
+//! A proxy between sockets of this machine.
+
+use crate::links::accepted_of;
+use mcv_net::{SpoolFiles, listen, run_proxy};
+use std::alloc::Global;
+use std::io::{Eprint, Read, Write};
+use std::net::{Net, TcpListener, TcpStream};
+use std::rt::Clock;
+use std::sync::Wait;
+use std::test::Fail;
+use std::thread::Threads;
+use std::{env, fs, process, thread};
+
+/// The next so many bytes; None where they don't come.
+fn read_bytes(alloc: Global, mut stream: &TcpStream, count: usize) -> Option<Vec<u8>> {
+    let mut bytes = Vec::new(alloc);
+    bytes.resize(count, 0).ok()?;
+    stream.read_exact(bytes.as_mut_slice()).ok()?;
+    Some(bytes)
+}
+
+/// Sends a request to an address, and whether it is answered so.
+fn is_answered(alloc: Global, stream: &TcpStream, request: &str, reply: &str) -> bool {
+    let mut writer = stream;
+    if writer.write_all(request.as_bytes()).is_err() {
+        return false;
+    }
+    match read_bytes(alloc, stream, reply.len()) {
+        Some(bytes) => bytes.as_slice() == reply.as_bytes(),
+        None => false,
+    }
+}
+
+/// Answers one request of one client with a hit of `a`.
+fn serve_a_hit(alloc: Global, listener: &TcpListener) -> bool {
+    let Ok((stream, _address)) = listener.accept() else {
+        return false;
+    };
+    match read_bytes(alloc, &stream, 7) {
+        Some(bytes) if bytes.as_slice() == b"get a\r\n".as_slice() => {
+            (&stream).write_all(b"VALUE a 0 1\r\nx\r\nEND\r\n").is_ok()
+        }
+        _ => false,
+    }
+}
+
+/// Connects to an address, sends a request, and whether it is answered so.
+fn is_answered_at<R: Net<Stream = TcpStream>>(
+    rt: &R,
+    alloc: Global,
+    address: &str,
+    request: &str,
+    reply: &str,
+) -> bool {
+    match TcpStream::connect(rt, address) {
+        Ok(stream) => is_answered(alloc, &stream, request, reply),
+        Err(_) => false,
+    }
+}
+
+/// What a client asks, and what it and the proxy's last line say.
+#[derive(Clone, Copy)]
+struct Visit {
+    request: &'static str,
+    reply: &'static str,
+    pending: usize,
+    calls: usize,
+}
+
+/// Whether a proxy to one server, with the spool in this file, serves one client so.
+fn is_served<R>(
+    rt: R,
+    alloc: Global,
+    server: &str,
+    spool: &str,
+    visits: Visit,
+) -> Result<bool, Fail>
+where
+    R: Net<Stream = TcpStream, Listener = TcpListener>
+        + SpoolFiles
+        + Threads
+        + Wait
+        + Clock
+        + Eprint
+        + Copy
+        + Drop
+        + Send
+        + 'static,
+{
+    let config = format!(in alloc;
+        "{{\"pools\":{{\"A\":{{\"servers\":[\"{server}\"]}}}},\"route\":\"PoolRoute|A\"}}"
+    )?;
+    let accepted = accepted_of(alloc, config.as_str())?;
+    let listener = listen(&rt, "127.0.0.1:0")?;
+    let address = format!(in alloc; "{}", listener.local_addr()?)?;
+    let lines = format!(in alloc;
+        "mcv listening {address} pending {}\nmcv closed calls {}\n",
+        visits.pending, visits.calls
+    )?;
+    let Visit { request, reply, .. } = visits;
+    let client = thread::spawn(
+        &rt,
+        move || is_answered_at(&rt, alloc, address.as_str(), request, reply),
+    )?;
+    let mut out = Vec::new(alloc);
+    let disk = rt.open_spool(spool)?;
+    let ran = run_proxy(rt, alloc, accepted, listener, disk, 1, &mut out);
+    let is_answered = client.join(&rt);
+    Ok(ran.is_ok() && is_answered && out.as_slice() == lines.as_bytes())
+}
+
+/// Whether a get is answered by a server's hit.
+fn hits<R>(rt: R, alloc: Global, spool: &str) -> Result<bool, Fail>
+where
+    R: Net<Stream = TcpStream, Listener = TcpListener>
+        + SpoolFiles
+        + Threads
+        + Wait
+        + Clock
+        + Eprint
+        + Copy
+        + Drop
+        + Send
+        + 'static,
+{
+    let listener = listen(&rt, "127.0.0.1:0")?;
+    let server = format!(in alloc; "{}", listener.local_addr()?)?;
+    let worker = thread::spawn(&rt, move || serve_a_hit(alloc, &listener))?;
+    let get = Visit {
+        request: "get a\r\n",
+        reply: "VALUE a 0 1\r\nx\r\nEND\r\n",
+        pending: 0,
+        calls: 1,
+    };
+    let is_served = is_served(rt, alloc, server.as_str(), spool, get)?;
+    Ok(worker.join(&rt) && is_served)
+}
+
+/// Whether a delete to a server that isn't there is in the spool, also for the next proxy.
+fn spools<R>(rt: R, alloc: Global, spool: &str) -> Result<bool, Fail>
+where
+    R: Net<Stream = TcpStream, Listener = TcpListener>
+        + SpoolFiles
+        + Threads
+        + Wait
+        + Clock
+        + Eprint
+        + Copy
+        + Drop
+        + Send
+        + 'static,
+{
+    let listener = listen(&rt, "127.0.0.1:0")?;
+    let server = format!(in alloc; "{}", listener.local_addr()?)?;
+    drop(listener);
+    let delete = Visit {
+        request: "delete a\r\n",
+        reply: "NOT_FOUND\r\n",
+        pending: 0,
+        calls: 1,
+    };
+    let version = Visit {
+        request: "version\r\n",
+        reply: "VERSION mcv 1\r\n",
+        pending: 1,
+        calls: 0,
+    };
+    let is_spooled = is_served(rt, alloc, server.as_str(), spool, delete)?;
+    Ok(is_spooled && is_served(rt, alloc, server.as_str(), spool, version)?)
+}
+
+#[test]
+fn a_get_hits_and_a_delete_is_spooled(rt: HostRuntime) -> Result<(), Fail> {
+    let alloc = rt.alloc();
+    let temporary = env::temp_dir(&rt)?;
+    let folder = temporary.as_str();
+    let spool = format!(in alloc; "{folder}/mcv_net_tests.{}", process::id(rt.process()))?;
+    let is_right = hits(rt, alloc, spool.as_str())? && spools(rt, alloc, spool.as_str())?;
+    let length = fs::read(&rt, spool.as_str())?.len();
+    fs::remove_file(&rt, spool.as_str())?;
+    assert!(rt; is_right);
+    assert!(rt; length == 641, "{length} bytes");
+    Ok(())
+}

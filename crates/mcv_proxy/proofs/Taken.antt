@@ -1,0 +1,26 @@
+-- Replies that were taken.
+use Rattle.std.proofs.Common.{◌≡◌, Option, None, Some, length, sym, subst}
+use Rattle.std.specs.Prelude.{IfSome}
+use Rattle.mcv_base.specs.Reply.{part_value}
+use Rattle.mcv_base.specs.declared.request.CallId.{CallId}
+use Rattle.mcv_core.specs.View.{core_view}
+use Rattle.mcv_hub.specs.State.{HistoryKeepsDeletes, HubView, IsCallOf, Replies}
+use Rattle.mcv_hub.specs.declared.seat.TakenReply.{TakenReply}
+use Rattle.mcv_proxy.specs.Desk.{WasTaken}
+
+-- by what the hub says of a reply that it hands out
+pub was_taken : (v : HubView) (call : CallId) (o : Option TakenReply) (t : TakenReply) → o ≡ Some t → HistoryKeepsDeletes (core_view v.core) v.history
+    → IfSome o (λ t. (t.receipt.chapter ≡ v.chapter) × (t.receipt.entry ≡ length v.history) × (t.receipt.call ≡ call)) → IfSome o (λ t. Replies v call.0 (part_value t.reply))
+    → IfSome o (λ t. IsCallOf v call.0 t.asked.op t.asked.route t.asked.rest) → WasTaken t
+was_taken v call None t e keeps r p a = absurd (none e)
+  where
+    none : None ≡ Some t → ⊥
+    none n = cc
+was_taken v call (Some x) t e keeps r p a =
+    let same : x ≡ t = one e in
+    let P : CallId → Type 0 = λ n. Replies v n.0 (part_value x.reply) in
+    let Q : CallId → Type 0 = λ n. IsCallOf v n.0 x.asked.op x.asked.route x.asked.rest in
+    subst WasTaken same (record { state = v; keeps = keeps; asked = subst Q (sym r.2) a; reply = subst P (sym r.2) p; chapter = r.0; entry = r.1 })
+  where
+    one : Some x ≡ Some t → x ≡ t
+    one n = cc

@@ -1,0 +1,169 @@
+-- What a desk over a hub answers, by the replies that it took of the hub (own).
+use Rattle.std.specs.Prelude.{◌≡◌, ◌≢◌, ◌+◌, ◌≤◌, ◌++◌, ◌∷◌, ℕ, List, [], Option, None, Some, Result, IfOk, IfErr, true, ⊤, fold, length, map, nat_le, option_map, slice_get}
+use Rattle.std.specs.List.{All, filter}
+use Rattle.mcv_base.specs.Key.{IsCut, IsKeyFault, is_key_word}
+use Rattle.mcv_base.specs.Reply.{ReplyValue, part_value}
+use Rattle.mcv_base.specs.declared.key.KeyFault.{KeyFault}
+use Rattle.mcv_base.specs.declared.operation.Op.{Op}
+use Rattle.mcv_core.specs.View.{core_view}
+use Rattle.mcv_core.specs.declared.fault.CoreFault.{CoreFault}
+use Rattle.mcv_core.specs.declared.fault.CoreFault.TheVariants.{UnknownPrefix, BadKey, LegsFull, ChapterFull, NothingWaiting, NoSuchLeg, Busy, ClockBack, Memory, NoSuchCall}
+use Rattle.mcv_hub.specs.State.{HistoryKeepsDeletes, HubView, IsCallOf, Replies}
+use Rattle.mcv_hub.specs.declared.receipts.Receipt.{Receipt}
+use Rattle.mcv_hub.specs.declared.seat.TakenReply.{TakenReply}
+use Rattle.mcv_route.specs.Places.{route_of_prefix}
+use Rattle.mcv_route.specs.Routes.{RoutesValue}
+use Rattle.mcv_session.specs.Desk.{keys_of}
+use Rattle.mcv_session.specs.declared.desk.DeskFault.{DeskFault}
+use Rattle.mcv_session.specs.declared.desk.DeskFault.TheVariants as answers
+use Rattle.mcv_text.specs.Request.{RequestValue, asking, version, quit}
+
+-- ---- keys
+
+-- the operation of a request, and its key word of this number, from 0
+abbrev pub word_at : RequestValue → ℕ → Option (Op × List ℕ)
+word_at (asking ask) key = option_map (λ word. (ask.op, word)) (slice_get ask.keys key)
+word_at version key = None
+word_at quit key = None
+
+-- the key word has this rest, and this is the route of its prefix
+pub record IsPlace (r : RoutesValue) (word : List ℕ) (route : ℕ) (rest : List ℕ) : Type 0 where
+  pub prefix : List ℕ
+  pub is_key : is_key_word word ≡ true
+  pub cut : IsCut word prefix rest
+  pub some : rest ≢ []
+  pub routed : route_of_prefix prefix r.entries ≡ Some route
+
+-- the word is no key
+pub record IsNoKey (word : List ℕ) : Type 0 where
+  pub fault : KeyFault
+  pub faulty : IsKeyFault word fault
+
+-- no route has the prefix of the key word
+pub record HasNoRoute (r : RoutesValue) (word : List ℕ) : Type 0 where
+  pub prefix : List ℕ
+  pub rest : List ℕ
+  pub cut : IsCut word prefix rest
+  pub unrouted : route_of_prefix prefix r.entries ≡ None
+
+-- why a word has no place
+abbrev pub HasNoPlace : RoutesValue → List ℕ → CoreFault → Type 0
+HasNoPlace r word UnknownPrefix = HasNoRoute r word
+HasNoPlace r word BadKey = IsNoKey word
+HasNoPlace r word LegsFull = ⊥
+HasNoPlace r word ChapterFull = ⊥
+HasNoPlace r word NothingWaiting = ⊥
+HasNoPlace r word NoSuchLeg = ⊥
+HasNoPlace r word Busy = ⊥
+HasNoPlace r word ClockBack = ⊥
+HasNoPlace r word Memory = ⊥
+HasNoPlace r word NoSuchCall = ⊥
+
+-- ---- replies
+
+-- the reply was taken of the hub: in a state of it the call of the receipt ran, asked this, and had this reply, and the receipt
+-- names the entry that was written then. The history up to there is legal, and deletes are kept in the world that it leads to
+pub record WasTaken (t : TakenReply) : Type 0 where
+  pub state : HubView
+  pub keeps : HistoryKeepsDeletes (core_view state.core) state.history
+  pub asked : IsCallOf state t.receipt.call.0 t.asked.op t.asked.route t.asked.rest
+  pub reply : Replies state t.receipt.call.0 (part_value t.reply)
+  pub chapter : t.receipt.chapter ≡ state.chapter
+  pub entry : t.receipt.entry ≡ length state.history
+
+-- the reply is for the key of this number: its call asked the operation of the request, of the key's route and rest
+pub record IsFor (r : RoutesValue) (request : RequestValue) (key : ℕ) (t : TakenReply) : Type 0 where
+  pub word : List ℕ
+  pub there : word_at request key ≡ Some (t.asked.op, word)
+  pub place : IsPlace r word t.asked.route t.asked.rest
+
+-- the replies are for the first keys of the request, in their order
+abbrev pub AreFor : RoutesValue → RequestValue → List TakenReply → Type 0
+AreFor r request taken = (key : ℕ) (t : TakenReply) → slice_get taken key ≡ Some t → IsFor r request key t
+
+-- ---- answers
+
+-- the request is answered by these replies, one for each key, in the order of the keys
+pub record IsAnsweredBy (r : RoutesValue) (request : RequestValue) (taken : List TakenReply) (replies : List ReplyValue) : Type 0 where
+  pub for_keys : AreFor r request taken
+  pub one_each : length taken ≡ length (keys_of request)
+  pub replies_are : replies ≡ map (λ t. part_value t.reply) taken
+
+-- the word of this number is no key, or no route has its prefix
+pub record IsRefusedAt (r : RoutesValue) (request : RequestValue) (key : ℕ) (fault : CoreFault) : Type 0 where
+  pub op : Op
+  pub word : List ℕ
+  pub there : word_at request key ≡ Some (op, word)
+  pub no_place : HasNoPlace r word fault
+
+-- the hub refuses to begin a call for these reasons alone
+abbrev pub IsRefusal : CoreFault → Type 0
+IsRefusal UnknownPrefix = ⊤
+IsRefusal BadKey = ⊤
+IsRefusal LegsFull = ⊤
+IsRefusal ChapterFull = ⊤
+IsRefusal NothingWaiting = ⊥
+IsRefusal NoSuchLeg = ⊥
+IsRefusal Busy = ⊥
+IsRefusal ClockBack = ⊥
+IsRefusal Memory = ⊤
+IsRefusal NoSuchCall = ⊥
+
+-- why no call is begun for the key of this number. The hub may be full, and memory may run out, at any time
+abbrev pub IsUnbegun : RoutesValue → RequestValue → ℕ → CoreFault → Type 0
+IsUnbegun r request key UnknownPrefix = IsRefusedAt r request key UnknownPrefix
+IsUnbegun r request key BadKey = IsRefusedAt r request key BadKey
+IsUnbegun r request key LegsFull = ⊤
+IsUnbegun r request key ChapterFull = ⊤
+IsUnbegun r request key NothingWaiting = ⊥
+IsUnbegun r request key NoSuchLeg = ⊥
+IsUnbegun r request key Busy = ⊥
+IsUnbegun r request key ClockBack = ⊥
+IsUnbegun r request key Memory = ⊤
+IsUnbegun r request key NoSuchCall = ⊤
+
+-- why the request isn't answered: no call is begun for the first key behind those of the replies, or a call or a reply is a stranger
+abbrev pub IsUnanswered : RoutesValue → RequestValue → List TakenReply → CoreFault → Type 0
+IsUnanswered r request taken NoSuchCall = ⊤
+IsUnanswered r request taken fault = AreFor r request taken × IsUnbegun r request (length taken) fault
+
+-- what a client is answered for a fault of the core
+abbrev pub desk_fault : CoreFault → DeskFault
+desk_fault UnknownPrefix = answers.NoRoute
+desk_fault BadKey = answers.BadKey
+desk_fault LegsFull = answers.Busy
+desk_fault ChapterFull = answers.Busy
+desk_fault NothingWaiting = answers.Busy
+desk_fault NoSuchLeg = answers.Busy
+desk_fault Busy = answers.Busy
+desk_fault ClockBack = answers.Busy
+desk_fault Memory = answers.Memory
+desk_fault NoSuchCall = answers.Busy
+
+pub record IsFaultOf (r : RoutesValue) (request : RequestValue) (taken : List TakenReply) (fault : DeskFault) : Type 0 where
+  pub cause : CoreFault
+  pub is : fault ≡ desk_fault cause
+  pub why : IsUnanswered r request taken cause
+
+-- the receipts that are kept once a reply was taken: those of earlier chapters go, and its own is the last
+abbrev pub with_receipt : List Receipt → TakenReply → List Receipt
+with_receipt receipts t = filter (λ r. nat_le t.receipt.chapter r.chapter) receipts ++ t.receipt ∷ []
+
+-- what a desk counts: the receipts that it keeps, and how many calls were begun and replies taken with its seat
+pub record DeskView : Type 0 where
+  pub receipts : List Receipt
+  pub begun : ℕ
+  pub taken : ℕ
+
+-- what the desk does at a request: it begins calls, takes replies of the hub and keeps their receipts, and answers by these
+-- replies, or why not
+pub record Asks (r : RoutesValue) (before : DeskView) (request : RequestValue) (answer : Result (List ReplyValue) DeskFault) (after : DeskView) : Type 0 where
+  pub calls : ℕ
+  pub taken : List TakenReply
+  pub each : All WasTaken taken
+  pub kept : after.receipts ≡ fold with_receipt before.receipts taken
+  pub begun : after.begun ≡ before.begun + calls
+  pub counted : after.taken ≡ before.taken + length taken
+  pub most : length taken ≤ calls
+  pub answered : IfOk answer (λ replies. IsAnsweredBy r request taken replies × (calls ≡ length taken))
+  pub refused : IfErr answer (IsFaultOf r request taken)

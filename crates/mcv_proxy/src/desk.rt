@@ -1,0 +1,527 @@
+//! The desk over a hub: a request's keys are calls of the hub.
+
+ghost use Rattle.std.specs.Prelude.{◌≡◌, ◌↔◌, ◌+◌, ◌<◌, ◌≤◌, [], fold, length, map, nat_le, option_map, vec_len, vec_capacity, true, IfErr, IfOk, OnErr, OnOk};
+ghost use Rattle.std.specs.Arc.{arc_value};
+ghost use Rattle.std.specs.List.{All, filter};
+ghost use Rattle.mcv_text.specs.Request.{request_value};
+ghost use Rattle.mcv_session.specs.Desk.{keys_of};
+ghost use Rattle.mcv_proxy.specs.Desk.{AreFor, Asks, HasNoPlace, IsFor, IsPlace, IsRefusal, IsUnanswered, IsUnbegun, WasTaken, desk_fault, with_receipt, word_at};
+
+use crate::events;
+use crate::gates::Watch;
+use mcv_base::{CallId, Op, Part, Request, Rest, key_words_have_one_reading, split_key};
+use mcv_check::Accepted;
+use mcv_core::CoreFault;
+use mcv_hub::{Bell, Guard, Hub, Pass, Receipt, Seat, TakenReply};
+use mcv_route::Routes;
+use mcv_session::{Desk, DeskFault};
+use std::alloc::{AllocError, Global};
+use std::rt::Clock;
+use std::sync::ledger::Ledger;
+use std::sync::{Arc, Wait};
+use std::time::Duration;
+
+/// How often a call is begun anew that found no place in the chapter.
+const ATTEMPTS: u32 = 100;
+
+/// How long such a call waits each time at most, in milliseconds.
+const PATIENCE: u64 = 10;
+
+/// What calls of a hub take: the pass and the seat of one session, and its watch.
+#[derive(Drop)]
+struct Caller<'a, B: Ledger, T: Ledger, W: Watch, R: Wait + Clock> {
+    rt: &'a R,
+    alloc: Global,
+    hub: &'a Hub<B, T>,
+    pass: Pass,
+    seat: Seat<B, T>,
+    watch: W,
+}
+
+/// Answers the requests of one session by calls of a hub, one for each key.
+#[derive(Drop)]
+pub struct HubDesk<'a, B: Ledger, T: Ledger, W: Watch, R: Wait + Clock> {
+    accepted: Arc<Accepted>,
+    caller: Caller<'a, B, T, W, R>,
+    kept: Kept,
+}
+
+/// The receipts of replies that were taken, without those of earlier chapters than that of the last one.
+#[derive(Drop)]
+struct Kept {
+    receipts: Vec<Receipt>,
+    /// No receipt is of an earlier chapter.
+    chapter: u64,
+    ghost current: { All (λ r. chapter ≤ r.chapter) receipts.items },
+}
+
+/// Where a key word leads.
+#[derive(Drop)]
+struct Place {
+    /// The number of its route.
+    route: usize,
+    /// The word without its routing prefix.
+    rest: Rest,
+}
+
+/// What the calls for the keys of one request are kept in, with room for all of them.
+#[derive(Drop)]
+struct Room {
+    calls: Vec<CallId>,
+    taken: Vec<TakenReply>,
+    parts: Vec<Part>,
+}
+
+impl Room {
+    /// Room for so many calls.
+    fn new(alloc: Global, count: usize) -> Result<Room, AllocError>
+        ensures calls { IfOk result (λ room. (room.calls.items ≡ []) × (count ≤ vec_capacity room.calls)) }
+        ensures taken { IfOk result (λ room. (room.taken.items ≡ []) × (count ≤ vec_capacity room.taken)) }
+        ensures parts { IfOk result (λ room. (room.parts.items ≡ []) × (count ≤ vec_capacity room.parts)) }
+    {
+        let calls = Vec::with_capacity(alloc, count)?;
+        let taken = Vec::with_capacity(alloc, count)?;
+        let parts = Vec::with_capacity(alloc, count)?;
+        Ok(Room {
+            calls,
+            taken,
+            parts,
+        })
+    }
+}
+
+/// What a client is answered where the core refuses a call.
+fn fault_for(fault: CoreFault) -> DeskFault
+    ensures { result ≡ desk_fault fault }
+{
+    match fault {
+        CoreFault::UnknownPrefix => DeskFault::NoRoute,
+        CoreFault::BadKey => DeskFault::BadKey,
+        CoreFault::Memory => DeskFault::Memory,
+        CoreFault::LegsFull
+        | CoreFault::ChapterFull
+        | CoreFault::NothingWaiting
+        | CoreFault::NoSuchLeg
+        | CoreFault::Busy
+        | CoreFault::ClockBack
+        | CoreFault::NoSuchCall => DeskFault::Busy,
+    }
+}
+
+/// How many keys a request has.
+fn key_count(request: &Request) -> usize
+    ensures { result ≡ length (keys_of (request_value request.now)) }
+{
+    match request {
+        Request::Ask(ask) => ask.keys.len(),
+        Request::Version | Request::Quit => 0,
+    }
+}
+
+/// The operation of a request, and one of its key words.
+fn key_of(request: &Request, key: usize) -> Option<(Op, &[u8])>
+    ensures { option_map (λ k. (k.0, k.1.now)) result ≡ word_at (request_value request.now) key }
+{
+    let Request::Ask(ask) = request else {
+        return None;
+    };
+    let word = ask.keys.get(key)?;
+    Some((ask.op, word.as_slice()))
+}
+
+/// Where a key word leads. An error is BadKey, where it is no key, or UnknownPrefix, where no route has its prefix.
+fn place_of(routes: &Routes, word: &[u8]) -> Result<Place, CoreFault>
+    ensures place { IfOk result (λ place. IsPlace routes.now word.now place.route place.rest) }
+    ensures err { IfErr result (HasNoPlace routes.now word.now) }
+{
+    let Ok((prefix, rest)) = split_key(word) else {
+        return Err(CoreFault::BadKey);
+    };
+    match routes.route_of(&prefix) {
+        Some(route) => Ok(Place { route, rest }),
+        None => Err(CoreFault::UnknownPrefix),
+    }
+}
+
+/// Whether the call of a reply asked this operation at this place.
+fn has_asked(taken: &TakenReply, op: Op, place: &Place) -> bool
+    ensures { (result ≡ true) ↔ ((taken.now.asked.op ≡ op) × (taken.now.asked.route ≡ place.now.route) × (taken.now.asked.rest ≡ place.now.rest)) }
+{
+    taken.op() == op && taken.route() == place.route && *taken.rest() == place.rest
+}
+
+/// Whether a reply is for this key: its call asked the operation of the request, of the key's route and rest.
+fn is_for(routes: &Routes, request: &Request, key: usize, taken: &TakenReply) -> bool
+    ensures { (result ≡ true) ↔ IsFor routes.now (request_value request.now) key taken.now }
+{
+    key_words_have_one_reading();
+    let Some((op, word)) = key_of(request, key) else {
+        return false;
+    };
+    match place_of(routes, word) {
+        Ok(place) => has_asked(taken, op, &place),
+        Err(_) => false,
+    }
+}
+
+/// Whether replies are for the first keys of a request, in their order.
+fn are_for(routes: &Routes, request: &Request, taken: &[TakenReply]) -> bool
+    ensures { (result ≡ true) ↔ AreFor routes.now (request_value request.now) taken.now }
+{
+    for key in 0..taken.len() {
+        if !is_for(routes, request, key, &taken[key]) {
+            return false;
+        }
+    }
+    true
+}
+
+/// Why the hub began no call for a key, as far as the routes say so: where they have a place for a key that the hub has none
+/// for, it is NoSuchCall.
+fn confirmed(routes: &Routes, request: &Request, key: usize, fault: CoreFault) -> CoreFault
+    requires { IsRefusal fault }
+    ensures { IsUnbegun routes.now (request_value request.now) key result }
+{
+    match fault {
+        CoreFault::UnknownPrefix | CoreFault::BadKey => {
+            let Some((_op, word)) = key_of(request, key) else {
+                return CoreFault::NoSuchCall;
+            };
+            match place_of(routes, word) {
+                Ok(_) => CoreFault::NoSuchCall,
+                Err(fault) => fault,
+            }
+        }
+        other => other,
+    }
+}
+
+/// Begins a call. Where the chapter has no place for it, a new chapter begins first. The first key of a request waits for
+/// that a second at most, while calls run or legs are queued; for another one the request's own calls run, so it is
+/// refused.
+fn begin_in_chapter<B: Ledger, T: Ledger, R: Wait + Clock>(
+    rt: &R,
+    alloc: Global,
+    hub: &Hub<B, T>,
+    guard: Guard<'_, B, T>,
+    seat: &mut Seat<B, T>,
+    request: &Arc<Request>,
+    key: usize,
+) -> Result<CallId, CoreFault>
+    ensures err { IfErr result IsRefusal }
+    ensures begun { OnOk result (seat.new.begun.amount ≡ seat.old.begun.amount + 1) }
+    ensures unbegun { OnErr result (seat.new.begun.amount ≡ seat.old.begun.amount) }
+    ensures taken { seat.new.taken.amount ≡ seat.old.taken.amount }
+{
+    let mut guard = guard;
+    for _attempt in 0..ATTEMPTS {
+        let Ok(request) = Arc::try_clone(request) else {
+            return Err(CoreFault::Memory);
+        };
+        match events::begin(alloc, hub, &mut guard, seat, request, key) {
+            Err(CoreFault::ChapterFull) => {}
+            answer => return answer,
+        }
+        if guard.turn().is_err() {
+            if key > 0 {
+                return Err(CoreFault::ChapterFull);
+            }
+            guard = hub.wait_for(rt, guard, Bell::Chapter, Duration::from_millis(PATIENCE));
+        }
+    }
+    Err(CoreFault::ChapterFull)
+}
+
+/// Waits for the reply to a call, and takes it. An error is NoSuchCall, where the call doesn't run.
+fn take<B: Ledger, T: Ledger, R: Wait>(
+    rt: &R,
+    hub: &Hub<B, T>,
+    pass: &mut Pass,
+    seat: &mut Seat<B, T>,
+    call: CallId,
+) -> Result<TakenReply, CoreFault>
+    ensures taken { IfOk result WasTaken }
+    ensures call { IfOk result (λ taken. taken.receipt.call ≡ call) }
+    ensures counted { OnOk result (seat.new.taken.amount ≡ seat.old.taken.amount + 1) }
+    ensures uncounted { OnErr result (seat.new.taken.amount ≡ seat.old.taken.amount) }
+    ensures begun { seat.new.begun.amount ≡ seat.old.begun.amount }
+    ensures err { IfErr result (λ fault. fault ≡ CoreFault.NoSuchCall) }
+{
+    let mut guard = hub.lock(rt, pass);
+    for _turn in rt.forever() {
+        guard.deletes_are_kept();
+        if let Some(taken) = guard.take_reply(seat, call)? {
+            events::turn_where_full(hub, &mut guard);
+            return Ok(taken);
+        }
+        guard = hub.wait(rt, guard, Bell::Call(call));
+    }
+    unreachable!()
+}
+
+/// Drops the receipts of chapters before this one; none of them is of an earlier one than `oldest`.
+fn drop_older(receipts: &mut Vec<Receipt>, oldest: u64, chapter: u64)
+    requires { All (λ r. oldest ≤ r.chapter) receipts.old.items }
+    ensures items { receipts.new.items ≡ filter (λ r. nat_le chapter r.chapter) receipts.old.items }
+    ensures len { vec_len receipts.new ≤ vec_len receipts.old }
+    ensures room { vec_capacity receipts.new ≡ vec_capacity receipts.old }
+{
+    if chapter <= oldest {
+        return;
+    }
+    receipts.retain(|receipt| receipt.chapter >= chapter);
+}
+
+impl Kept {
+    /// No receipts.
+    fn new(alloc: Global) -> Kept
+        ensures { result.receipts.items ≡ [] }
+    {
+        Kept {
+            receipts: Vec::new(alloc),
+            chapter: 0,
+        }
+    }
+
+    /// Makes room for so many more.
+    fn reserve(&mut self, count: usize) -> Result<(), AllocError>
+        ensures same { self.new.receipts.items ≡ self.old.receipts.items }
+        ensures room { OnOk result (vec_len self.new.receipts + count ≤ vec_capacity self.new.receipts) }
+    {
+        self.receipts.reserve(count)
+    }
+
+    /// Drops the receipts of chapters before this one.
+    fn enter(&mut self, chapter: u64)
+        ensures items { self.new.receipts.items ≡ filter (λ r. nat_le chapter r.chapter) self.old.receipts.items }
+        ensures chapter { self.new.chapter ≡ chapter }
+        ensures len { vec_len self.new.receipts ≤ vec_len self.old.receipts }
+        ensures room { vec_capacity self.new.receipts ≡ vec_capacity self.old.receipts }
+    {
+        drop_older(&mut self.receipts, self.chapter, chapter);
+        self.chapter = chapter;
+    }
+
+    /// Keeps the receipt of a reply, and drops those of earlier chapters.
+    fn keep(&mut self, taken: &TakenReply)
+        requires { vec_len self.old.receipts < vec_capacity self.old.receipts }
+        ensures kept { self.new.receipts.items ≡ with_receipt self.old.receipts.items taken.now }
+        ensures len { vec_len self.new.receipts ≤ vec_len self.old.receipts + 1 }
+        ensures room { vec_capacity self.new.receipts ≡ vec_capacity self.old.receipts }
+    {
+        let receipt = taken.receipt();
+        self.enter(receipt.chapter);
+        self.receipts.push_reserved(receipt);
+    }
+
+    /// Keeps the receipts of replies, in their order.
+    fn keep_all(&mut self, taken: &[TakenReply])
+        requires { vec_len self.old.receipts + length taken.now ≤ vec_capacity self.old.receipts }
+        ensures { self.new.receipts.items ≡ fold with_receipt self.old.receipts.items taken.now }
+    {
+        for reply in taken {
+            self.keep(reply);
+        }
+    }
+}
+
+/// The replies as a client gets them.
+fn into_parts(taken: Vec<TakenReply>, parts: Vec<Part>) -> Vec<Part>
+    requires empty { parts.items ≡ [] }
+    requires room { vec_len taken ≤ vec_capacity parts }
+    ensures { result.items ≡ map (λ t. t.reply) taken.items }
+{
+    let mut parts = parts;
+    for reply in taken {
+        parts.push_reserved(reply.into_reply());
+    }
+    parts
+}
+
+impl<'a, B: Ledger, T: Ledger, W: Watch, R: Wait + Clock> Caller<'a, B, T, W, R> {
+    /// Begins a call for one key of a request, at this moment.
+    fn begin(&mut self, request: &Arc<Request>, key: usize) -> Result<CallId, CoreFault>
+        ensures err { IfErr result IsRefusal }
+        ensures begun { OnOk result (self.new.seat.begun.amount ≡ self.old.seat.begun.amount + 1) }
+        ensures unbegun { OnErr result (self.new.seat.begun.amount ≡ self.old.seat.begun.amount) }
+        ensures taken { self.new.seat.taken.amount ≡ self.old.seat.taken.amount }
+    {
+        let moment = self.watch.moment();
+        let mut guard = self.hub.lock(self.rt, &mut self.pass);
+        // A moment before the hub's leaves its era as it is.
+        let _ = guard.clock(moment);
+        let (alloc, hub) = (self.alloc, self.hub);
+        begin_in_chapter(self.rt, alloc, hub, guard, &mut self.seat, request, key)
+    }
+
+    /// Begins the calls for the keys of a request, in their order, up to the first that is refused.
+    fn begin_all(
+        &mut self,
+        routes: &Routes,
+        request: &Arc<Request>,
+        count: usize,
+        calls: &mut Vec<CallId>,
+    ) -> Result<(), CoreFault>
+        requires empty { calls.old.items ≡ [] }
+        requires room { count ≤ vec_capacity calls.old }
+        ensures all { OnOk result (vec_len calls.new ≡ count) }
+        ensures most { vec_len calls.new ≤ count }
+        ensures begun { self.new.seat.begun.amount ≡ self.old.seat.begun.amount + vec_len calls.new }
+        ensures taken { self.new.seat.taken.amount ≡ self.old.seat.taken.amount }
+        ensures err { IfErr result (IsUnbegun routes.now (request_value (arc_value request.now)) (vec_len calls.new)) }
+    {
+        for key in 0..count {
+            match self.begin(request, key) {
+                Ok(call) => calls.push_reserved(call),
+                Err(fault) => return Err(confirmed(routes, request, key, fault)),
+            }
+        }
+        Ok(())
+    }
+
+    /// Waits for the reply to a call, and takes it.
+    fn take(&mut self, call: CallId) -> Result<TakenReply, CoreFault>
+        ensures taken { IfOk result WasTaken }
+        ensures call { IfOk result (λ taken. taken.receipt.call ≡ call) }
+        ensures counted { OnOk result (self.new.seat.taken.amount ≡ self.old.seat.taken.amount + 1) }
+        ensures uncounted { OnErr result (self.new.seat.taken.amount ≡ self.old.seat.taken.amount) }
+        ensures begun { self.new.seat.begun.amount ≡ self.old.seat.begun.amount }
+        ensures err { IfErr result (λ fault. fault ≡ CoreFault.NoSuchCall) }
+    {
+        take(self.rt, self.hub, &mut self.pass, &mut self.seat, call)
+    }
+
+    /// Takes the replies to calls, in their order. Where one isn't there the others are taken too, and it is NoSuchCall.
+    fn take_all(&mut self, calls: &[CallId], taken: &mut Vec<TakenReply>) -> Result<(), CoreFault>
+        requires empty { taken.old.items ≡ [] }
+        requires room { length calls.now ≤ vec_capacity taken.old }
+        ensures each { All WasTaken taken.new.items }
+        ensures most { vec_len taken.new ≤ length calls.now }
+        ensures room { vec_capacity taken.new ≡ vec_capacity taken.old }
+        ensures calls { OnOk result (map (λ t. t.receipt.call) taken.new.items ≡ calls.now) }
+        ensures counted { self.new.seat.taken.amount ≡ self.old.seat.taken.amount + vec_len taken.new }
+        ensures begun { self.new.seat.begun.amount ≡ self.old.seat.begun.amount }
+        ensures err { IfErr result (λ fault. fault ≡ CoreFault.NoSuchCall) }
+    {
+        let mut outcome = Ok(());
+        for call in calls {
+            match self.take(*call) {
+                Ok(reply) => taken.push_reserved(reply),
+                Err(fault) => outcome = Err(fault),
+            }
+        }
+        outcome
+    }
+}
+
+impl<'a, B: Ledger, T: Ledger, W: Watch, R: Wait + Clock> HubDesk<'a, B, T, W, R> {
+    /// A desk over a hub of these routes that has answered nothing.
+    pub fn new(
+        rt: &'a R,
+        alloc: Global,
+        accepted: Arc<Accepted>,
+        hub: &'a Hub<B, T>,
+        pass: Pass,
+        seat: Seat<B, T>,
+        watch: W,
+    ) -> HubDesk<'a, B, T, W, R>
+        ensures receipts { result.kept.receipts.items ≡ [] }
+        ensures routes { result.accepted ≡ accepted }
+    {
+        HubDesk {
+            accepted,
+            caller: Caller {
+                rt,
+                alloc,
+                hub,
+                pass,
+                seat,
+                watch,
+            },
+            kept: Kept::new(alloc),
+        }
+    }
+
+    /// The seat, and the receipts that were kept.
+    pub fn into_parts(self) -> (Seat<B, T>, Vec<Receipt>)
+        ensures seat { result.0 ≡ self.entry.caller.seat }
+        ensures receipts { result.1 ≡ self.entry.kept.receipts }
+    {
+        let HubDesk {
+            accepted: _,
+            caller,
+            kept,
+        } = self;
+        (caller.seat, kept.receipts)
+    }
+
+    /// Takes a reply for each key of a request, in the order of the keys, and keeps their receipts. All calls are begun before
+    /// the first reply is waited for; where one is refused the replies to those before it are taken all the same.
+    fn take_replies(
+        &mut self,
+        request: &Arc<Request>,
+        calls: &mut Vec<CallId>,
+        taken: &mut Vec<TakenReply>,
+    ) -> Result<(), CoreFault>
+        requires no_calls { calls.old.items ≡ [] }
+        requires calls { length (keys_of (request_value (arc_value request.now))) ≤ vec_capacity calls.old }
+        requires no_replies { taken.old.items ≡ [] }
+        requires replies { length (keys_of (request_value (arc_value request.now))) ≤ vec_capacity taken.old }
+        requires receipts { vec_len self.old.kept.receipts + length (keys_of (request_value (arc_value request.now))) ≤ vec_capacity self.old.kept.receipts }
+        ensures routes { self.new.accepted ≡ self.old.accepted }
+        ensures each { All WasTaken taken.new.items }
+        ensures kept { self.new.kept.receipts.items ≡ fold with_receipt self.old.kept.receipts.items taken.new.items }
+        ensures counted { self.new.caller.seat.taken.amount ≡ self.old.caller.seat.taken.amount + vec_len taken.new }
+        ensures begun { self.new.caller.seat.begun.amount ≡ self.old.caller.seat.begun.amount + vec_len calls.new }
+        ensures most { vec_len taken.new ≤ vec_len calls.new }
+        ensures all_begun { OnOk result (vec_len calls.new ≡ length (keys_of (request_value (arc_value request.now)))) }
+        ensures for_keys { OnOk result (AreFor (arc_value self.old.accepted) (request_value (arc_value request.now)) taken.new.items) }
+        ensures one_each { OnOk result (vec_len taken.new ≡ length (keys_of (request_value (arc_value request.now)))) }
+        ensures err { IfErr result (IsUnanswered (arc_value self.old.accepted) (request_value (arc_value request.now)) taken.new.items) }
+    {
+        let count = key_count(request);
+        let routes = self.accepted.routes();
+        let begun = self.caller.begin_all(routes, request, count, calls);
+        let outcome = self.caller.take_all(calls.as_slice(), taken);
+        self.kept.keep_all(taken.as_slice());
+        outcome?;
+        if !are_for(routes, request, taken.as_slice()) {
+            return Err(CoreFault::NoSuchCall);
+        }
+        begun
+    }
+
+    /// Room for the calls of a request and for their receipts.
+    fn room_for(&mut self, count: usize) -> Result<Room, AllocError>
+        ensures calls { IfOk result (λ room. (room.calls.items ≡ []) × (count ≤ vec_capacity room.calls)) }
+        ensures taken { IfOk result (λ room. (room.taken.items ≡ []) × (count ≤ vec_capacity room.taken)) }
+        ensures parts { IfOk result (λ room. (room.parts.items ≡ []) × (count ≤ vec_capacity room.parts)) }
+        ensures receipts { OnOk result (vec_len self.new.kept.receipts + count ≤ vec_capacity self.new.kept.receipts) }
+        ensures kept { self.new.kept.receipts.items ≡ self.old.kept.receipts.items }
+        ensures seat { (self.new.caller.seat.begun.amount ≡ self.old.caller.seat.begun.amount) × (self.new.caller.seat.taken.amount ≡ self.old.caller.seat.taken.amount) }
+        ensures routes { self.new.accepted ≡ self.old.accepted }
+    {
+        self.kept.reserve(count)?;
+        Room::new(self.caller.alloc, count)
+    }
+}
+
+impl<'a, B: Ledger, T: Ledger, W: Watch, R: Wait + Clock> Desk for HubDesk<'a, B, T, W, R> {
+    // Its routes stay.
+    ghost asks = { λ old request answer new. Asks (arc_value old.accepted) (record { receipts = old.kept.receipts.items; begun = old.caller.seat.begun.amount; taken = old.caller.seat.taken.amount }) request answer (record { receipts = new.kept.receipts.items; begun = new.caller.seat.begun.amount; taken = new.caller.seat.taken.amount }) × (new.accepted ≡ old.accepted) };
+
+    fn ask(&mut self, request: &Arc<Request>) -> Result<Vec<Part>, DeskFault> {
+        let Ok(room) = self.room_for(key_count(request)) else {
+            return Err(DeskFault::Memory);
+        };
+        let Room {
+            mut calls,
+            mut taken,
+            parts,
+        } = room;
+        match self.take_replies(request, &mut calls, &mut taken) {
+            Ok(()) => Ok(into_parts(taken, parts)),
+            Err(fault) => Err(fault_for(fault)),
+        }
+    }
+}

@@ -1,0 +1,198 @@
+//! Events on the lent state, and whom they let go on.
+
+ghost use Rattle.std.specs.Prelude.{◌≡◌, ◌+◌, IfErr, IfNone, IfOk, IfSome, OnErr, OnOk, Some};
+ghost use Rattle.std.specs.Arc.{arc_value};
+ghost use Rattle.mcv_base.specs.Reply.{fixed_value, not_found};
+ghost use Rattle.mcv_base.specs.declared.reply.FixedReply.TheVariants.{Lost as lost_reply};
+ghost use Rattle.mcv_pools.specs.Hash.{fnv_index};
+ghost use Rattle.mcv_world.specs.World.{put};
+ghost use Rattle.mcv_core.specs.Asking.{IsRefusedFor};
+ghost use Rattle.mcv_core.specs.CoreView.{answer_at, refusing_at, spooling_at};
+ghost use Rattle.mcv_core.specs.View.{core_view, records_after, records_of};
+ghost use Rattle.mcv_hub.specs.State.{BeginsOne, IsLegEvent, IsSame, IsSameChapter};
+ghost use Rattle.mcv_proxy.specs.Events.{IsLoss};
+
+use mcv_base::{CallId, LegId, Request, ServerId};
+use mcv_core::{CoreFault, Dispatcher, Place, Step};
+use mcv_hub::{Bell, Guard, Hub, LegReply, Seat};
+use mcv_spool::Stored;
+use std::alloc::Global;
+use std::sync::Arc;
+use std::sync::ledger::Ledger;
+
+/// Who may go on after an event on a leg, as far as it is known before: its server, its call, and the number of the first
+/// leg that the event would launch.
+#[derive(Clone, Copy)]
+struct Concerned {
+    server: Option<ServerId>,
+    call: Option<CallId>,
+    first: u64,
+}
+
+/// Whom an event on the leg concerns.
+fn concerned_by(core: &Dispatcher, leg: LegId) -> Concerned {
+    let first = core.next_leg();
+    match core.leg(leg) {
+        Some(view) => Concerned {
+            server: Some(view.server),
+            call: view.call,
+            first,
+        },
+        None => Concerned {
+            server: None,
+            call: None,
+            first,
+        },
+    }
+}
+
+/// How many entries a chapter has before a new one is begun as soon as nothing is left of it.
+const MANY_ENTRIES: usize = 500_000;
+
+/// Begins a new chapter where this one has many entries, and no call of it runs and no leg is queued.
+pub(crate) fn turn_where_full<B: Ledger, T: Ledger>(hub: &Hub<B, T>, guard: &mut Guard<'_, B, T>) {
+    if guard.core().entries() >= MANY_ENTRIES {
+        let _ = guard.turn();
+        hub.ring(Bell::Chapter);
+    }
+}
+
+/// Rings the workers of the servers of all legs from this number on.
+fn ring_launched<B: Ledger, T: Ledger>(hub: &Hub<B, T>, core: &Dispatcher, first: u64) {
+    for leg in first..core.next_leg() {
+        if let Some(view) = core.leg(LegId(leg)) {
+            hub.ring(Bell::Server(view.server));
+        }
+    }
+}
+
+/// Rings whom an event on a leg let go on: the workers of legs that it launched, the leg's own one, which may send the next
+/// leg, who waits for the reply to its call, once that is there, and the spool's worker or the replayer, whose leg it now is.
+fn ring_after<B: Ledger, T: Ledger>(
+    hub: &Hub<B, T>,
+    core: &Dispatcher,
+    concerned: Concerned,
+    place: Place,
+) {
+    ring_launched(hub, core, concerned.first);
+    if let Some(server) = concerned.server {
+        hub.ring(Bell::Server(server));
+    }
+    if let Some(call) = concerned.call {
+        if core.can_take(call) {
+            hub.ring(Bell::Call(call));
+        }
+    }
+    if core.entries() >= MANY_ENTRIES {
+        hub.ring(Bell::Chapter);
+    }
+    match place {
+        Place::Held => hub.ring(Bell::Spool),
+        Place::Spooled => hub.ring(Bell::Replayer),
+        Place::Waiting | Place::Sent | Place::Performed | Place::Gone => {}
+    }
+}
+
+/// Begins a call for one key of the request.
+pub(crate) fn begin<B: Ledger, T: Ledger>(
+    alloc: Global,
+    hub: &Hub<B, T>,
+    guard: &mut Guard<'_, B, T>,
+    seat: &mut Seat<B, T>,
+    request: Arc<Request>,
+    key: usize,
+) -> Result<CallId, CoreFault>
+    ensures begins { IfOk result (BeginsOne guard.old guard.new request key) }
+    ensures counted { OnOk result ((guard.new.begun ≡ guard.old.begun + 1) × (guard.new.taken ≡ guard.old.taken)) }
+    ensures shared { OnOk result ((seat.new.begun.amount ≡ seat.old.begun.amount + 1) × (seat.new.taken.amount ≡ seat.old.taken.amount)) }
+    ensures parts { (seat.new.begun.parts ≡ seat.old.begun.parts) × (seat.new.taken.parts ≡ seat.old.taken.parts) }
+    ensures chapter { IsSameChapter guard.old guard.new }
+    ensures refused { IfErr result (IsRefusedFor (core_view guard.old.core) fnv_index (arc_value request) key) }
+    ensures err { OnErr result (IsSame guard.old guard.new) }
+    ensures unshared { OnErr result ((seat.new.begun.amount ≡ seat.old.begun.amount) × (seat.new.taken.amount ≡ seat.old.taken.amount)) }
+{
+    let first = guard.core().next_leg();
+    let call = guard.begin(alloc, seat, request, key)?;
+    ring_launched(hub, guard.core(), first);
+    Ok(call)
+}
+
+/// A leg in flight was answered.
+pub(crate) fn answered<B: Ledger, T: Ledger>(
+    hub: &Hub<B, T>,
+    guard: &mut Guard<'_, B, T>,
+    leg: LegId,
+    reply: LegReply,
+) -> Result<Step, CoreFault>
+    ensures event { IsLegEvent (answer_at (core_view guard.old.core) leg.0 reply) reply leg guard.old guard.new result }
+    ensures records { IfOk result (λ step. records_of guard.new.core ≡ records_after step.place leg.0 (records_of guard.old.core)) }
+{
+    let concerned = concerned_by(guard.core(), leg);
+    let step = guard.answered(leg, reply)?;
+    ring_after(hub, guard.core(), concerned, step.place);
+    Ok(step)
+}
+
+/// A leg in flight was lost, and its server is marked where it has failed too often.
+pub(crate) fn lost<B: Ledger, T: Ledger>(
+    hub: &Hub<B, T>,
+    guard: &mut Guard<'_, B, T>,
+    server: ServerId,
+    leg: LegId,
+) -> Result<Step, CoreFault>
+    ensures { IsLoss server leg guard.old guard.new result }
+{
+    let concerned = concerned_by(guard.core(), leg);
+    let step = guard.lost(leg)?;
+    guard.mark(server);
+    ring_after(hub, guard.core(), concerned, step.place);
+    Ok(step)
+}
+
+/// A leg in flight came to this: it was answered, or it was lost.
+pub(crate) fn landed<B: Ledger, T: Ledger>(
+    hub: &Hub<B, T>,
+    guard: &mut Guard<'_, B, T>,
+    server: ServerId,
+    leg: LegId,
+    reply: Option<LegReply>,
+) -> Result<Step, CoreFault>
+    ensures answered { IfSome reply (λ r. IsLegEvent (answer_at (core_view guard.old.core) leg.0 r) r leg guard.old guard.new result) }
+    ensures lost { IfNone reply (IsLoss server leg guard.old guard.new result) }
+{
+    match reply {
+        Some(reply) => answered(hub, guard, leg, reply),
+        None => lost(hub, guard, server, leg),
+    }
+}
+
+/// A held leg is in the spool.
+pub(crate) fn spooled<B: Ledger, T: Ledger>(
+    hub: &Hub<B, T>,
+    guard: &mut Guard<'_, B, T>,
+    leg: LegId,
+    stored: Stored,
+) -> Result<Step, CoreFault>
+    ensures event { IsLegEvent (spooling_at (core_view guard.old.core) leg.0 stored.«record».server stored.«record».rest) not_found leg guard.old guard.new result }
+    ensures records { IfOk result (λ step. records_of guard.new.core ≡ put (records_of guard.old.core) leg.0 (Some stored.seq)) }
+{
+    let concerned = concerned_by(guard.core(), leg);
+    let step = guard.spooled(leg, stored)?;
+    ring_after(hub, guard.core(), concerned, step.place);
+    Ok(step)
+}
+
+/// The spool refused a held leg.
+pub(crate) fn spool_refused<B: Ledger, T: Ledger>(
+    hub: &Hub<B, T>,
+    guard: &mut Guard<'_, B, T>,
+    leg: LegId,
+) -> Result<Step, CoreFault>
+    ensures event { IsLegEvent (refusing_at (core_view guard.old.core) leg.0) (fixed_value lost_reply) leg guard.old guard.new result }
+    ensures records { records_of guard.new.core ≡ records_of guard.old.core }
+{
+    let concerned = concerned_by(guard.core(), leg);
+    let step = guard.spool_refused(leg)?;
+    ring_after(hub, guard.core(), concerned, step.place);
+    Ok(step)
+}

@@ -1,0 +1,83 @@
+//! What a proxy talks to.
+
+use crate::fault::ProxyFault;
+use mcv_base::{LegRequest, Moment, Reply};
+use mcv_hub::Pass;
+use mcv_spool::Disk;
+use std::alloc::AllocError;
+use std::io::{Read, Write};
+use thiserror::Error;
+
+/// Why a server's reply can't be had.
+#[derive(Clone, Copy, Debug, PartialEq, Eq, Error)]
+pub enum LinkFault {
+    /// It couldn't be reached, the connection broke, or what came wasn't a reply.
+    #[error("the server can't be reached")]
+    Broken,
+    #[error("out of memory")]
+    Memory,
+}
+
+/// The way to one server. Who asks over it shows a pass, so that it hasn't the hub's lock.
+pub trait Link: Drop {
+    /// Sends a leg, and waits for its reply.
+    fn send(&mut self, pass: &Pass, leg: &LegRequest) -> Result<Reply, LinkFault>;
+
+    /// Whether the server answers at all.
+    fn probe(&mut self, pass: &Pass) -> Result<(), LinkFault>;
+
+    /// Notes that the server is marked from now on.
+    fn note_marked(&mut self, _pass: &Pass) {}
+
+    /// Notes that the server isn't marked any more.
+    fn note_unmarked(&mut self, _pass: &Pass) {}
+}
+
+/// The time, as one thread sees it.
+pub trait Watch: Drop {
+    /// Seconds since 1970.
+    fn moment(&mut self) -> Moment;
+
+    /// Waits for a second.
+    fn pause(&mut self);
+
+    /// Notes that the spool refuses records from now on.
+    fn note_refusing(&mut self) {}
+
+    /// Notes that the spool takes records again.
+    fn note_taking(&mut self) {}
+}
+
+/// What a proxy talks to: servers, a disk, clients and the clock.
+pub trait Gates: Drop {
+    type Link: Link + Send + 'static;
+
+    type Disk: Disk + Send + 'static;
+
+    type Reader: Read + Drop + Send + 'static;
+
+    type Writer: Write + Drop + Send + 'static;
+
+    type Watch: Watch + Send + 'static;
+
+    /// A new way to the server of this text. An error is that memory ran out.
+    fn link(&mut self, server: &str) -> Result<Self::Link, AllocError>;
+
+    /// The spool's disk. It is asked for once; None where it can't be had.
+    fn disk(&mut self) -> Option<Self::Disk>;
+
+    /// The next client, once there is one: what is read from it, and what is written to it. None where no more are served.
+    fn session(&mut self) -> Option<(Self::Reader, Self::Writer)>;
+
+    /// A watch for one thread.
+    fn watch(&mut self) -> Self::Watch;
+
+    /// The spool is open with so many records that are pending, and all workers run: clients may come. An error ends the
+    /// proxy.
+    fn opened(&mut self, _pending: usize) -> Result<(), ProxyFault> {
+        Ok(())
+    }
+
+    /// Notes that the last client isn't served, since there was no thread or no memory for its session.
+    fn note_unserved(&mut self) {}
+}

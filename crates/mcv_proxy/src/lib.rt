@@ -1,0 +1,27 @@
+//! The proxy over whatever it talks to: clients' sessions, a worker for each server, one for the spool and the replayer,
+//! each in a thread of its own over one hub.
+//!
+//! A session begins a call for each key of a request, and waits at the bell of the call for its reply. The worker of a
+//! server sends the legs that wait for it, one at a time. The spool's worker writes down the deletes that their servers
+//! didn't perform, and the replayer sends these again. Whatever happens to the hub happens on a lent guard, in `events`,
+//! which rings those who can go on then. No thread waits for a server, a disk, a client or the clock while it has the lock.
+#![tactic(auto)]
+
+mod desk;
+mod destination;
+mod ends;
+mod events;
+mod fault;
+mod gates;
+mod replay;
+mod spooling;
+mod threads;
+
+pub use crate::desk::HubDesk;
+pub use crate::destination::serve_destination;
+pub use crate::ends::Ends;
+pub use crate::fault::ProxyFault;
+pub use crate::gates::{Gates, Link, LinkFault, Watch};
+pub use crate::replay::serve_replay;
+pub use crate::spooling::serve_spool;
+pub use crate::threads::start;

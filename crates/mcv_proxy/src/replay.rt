@@ -1,0 +1,200 @@
+//! The replayer: deletes that are in the spool are sent again.
+
+use crate::destination::{TURNS, probe, reply_of, report};
+use crate::ends::Ends;
+use crate::gates::{Link, Watch};
+use mcv_base::{LegId, LegRequest, ServerId};
+use mcv_core::CoreFault;
+use mcv_hub::{Bell, Guard, Hub, LegReply, Pass};
+use mcv_spool::{Disk, Spool};
+use std::alloc::Global;
+use std::sync::ledger::Ledger;
+use std::sync::{Mutex, Wait};
+
+/// A leg that is in flight again.
+#[derive(Drop)]
+struct Repeat {
+    server: ServerId,
+    leg: LegId,
+    /// None where it gets no memory.
+    request: Option<LegRequest>,
+    /// The number of its record.
+    record: Option<u64>,
+    /// Whether its server is marked.
+    is_marked: bool,
+}
+
+/// What the replayer finds.
+#[derive(Drop)]
+enum Found {
+    Leg(Repeat),
+    /// The round is over.
+    Nothing,
+    /// It is to end.
+    End,
+}
+
+/// What came of looking at servers.
+#[derive(Clone, Copy, PartialEq, Eq)]
+enum Sight {
+    /// This leg of this server is in flight again.
+    Leg(ServerId, LegId),
+    /// None can be sent, but the leg of a server that has another one in flight may be one.
+    Busy,
+    /// None is in the spool.
+    Empty,
+}
+
+/// Sends the first leg again that is in the spool for a server, from this one on.
+fn look<B: Ledger, T: Ledger>(guard: &mut Guard<'_, B, T>, from: u32, count: u32) -> Sight {
+    let mut found = Sight::Empty;
+    for number in from..count {
+        match guard.replay(ServerId(number)) {
+            Ok(leg) => return Sight::Leg(ServerId(number), leg),
+            Err(CoreFault::Busy) => found = Sight::Busy,
+            Err(_) => {}
+        }
+    }
+    found
+}
+
+/// What is known of a leg that is in flight again.
+fn repeat_of<B: Ledger, T: Ledger>(
+    alloc: Global,
+    guard: &Guard<'_, B, T>,
+    server: ServerId,
+    leg: LegId,
+) -> Repeat {
+    let core = guard.core();
+    let request = match core.to_request(alloc, leg) {
+        Ok(request) => request,
+        Err(_) => None,
+    };
+    Repeat {
+        server,
+        leg,
+        request,
+        record: core.record(leg),
+        is_marked: core.marked(server),
+    }
+}
+
+/// Looks for a leg in the spool from this server on. From the first server on it waits until there is one, if no server is
+/// busy.
+fn find<B: Ledger, T: Ledger, R: Wait>(
+    rt: &R,
+    alloc: Global,
+    hub: &Hub<B, T>,
+    pass: &mut Pass,
+    servers: (u32, u32),
+    ends: &Ends,
+) -> Found {
+    let (from, count) = servers;
+    let mut guard = hub.lock(rt, pass);
+    for _turn in rt.forever() {
+        if ends.are_asked() {
+            return Found::End;
+        }
+        match look(&mut guard, from, count) {
+            Sight::Leg(server, leg) => {
+                return Found::Leg(repeat_of(alloc, &guard, server, leg));
+            }
+            Sight::Empty if from == 0 => {}
+            Sight::Empty | Sight::Busy => return Found::Nothing,
+        }
+        guard = hub.wait(rt, guard, Bell::Replayer);
+    }
+    unreachable!()
+}
+
+/// Asks the server of a leg that is in flight again: a marked one is probed first, and asked where it answers.
+fn ask<B: Ledger, T: Ledger, L: Link, R: Wait>(
+    rt: &R,
+    alloc: Global,
+    hub: &Hub<B, T>,
+    pass: &mut Pass,
+    link: &mut L,
+    repeat: &Repeat,
+) -> Option<LegReply> {
+    if repeat.is_marked && !probe(rt, hub, pass, link, repeat.server) {
+        return None;
+    }
+    let request = repeat.request.as_ref()?;
+    let sent = link.send(pass, request);
+    reply_of(alloc, sent)
+}
+
+/// Sends a leg again; once it is performed, its record is done. Whether it was performed.
+fn repeat_leg<B: Ledger, T: Ledger, L: Link, D: Disk, R: Wait>(
+    rt: &R,
+    alloc: Global,
+    hub: &Hub<B, T>,
+    pass: &mut Pass,
+    spool: &Mutex<Spool<D>>,
+    link: &mut L,
+    repeat: &Repeat,
+) -> bool {
+    let reply = ask(rt, alloc, hub, pass, link, repeat);
+    let landing = report(rt, hub, pass, repeat.server, repeat.leg, reply);
+    if landing.marks {
+        link.note_marked(pass);
+    }
+    if landing.is_performed {
+        if let Some(seq) = repeat.record {
+            let _ = spool.lock(rt).done(seq);
+        }
+    }
+    landing.is_performed
+}
+
+/// Goes round the servers once, and sends the legs again that are in the spool: those of a server until one isn't
+/// performed. Whether the replayer goes on.
+fn go_round<B: Ledger, T: Ledger, L: Link, D: Disk, R: Wait>(
+    rt: &R,
+    alloc: Global,
+    hub: &Hub<B, T>,
+    pass: &mut Pass,
+    spool: &Mutex<Spool<D>>,
+    links: &mut [L],
+    ends: &Ends,
+) -> bool {
+    let count = u32::try_from(links.len()).unwrap_or(u32::MAX);
+    let mut from = 0;
+    for _turn in 0..TURNS {
+        match find(rt, alloc, hub, pass, (from, count), ends) {
+            Found::Leg(repeat) => {
+                from = repeat.server.0;
+                let Some(link) = links.get_mut(from as usize) else {
+                    return false;
+                };
+                if !repeat_leg(rt, alloc, hub, pass, spool, link, &repeat) {
+                    from = from.saturating_add(1);
+                }
+            }
+            Found::Nothing => return true,
+            Found::End => return false,
+        }
+    }
+    true
+}
+
+/// Goes round the servers and sends the legs again that are in the spool, until it is to end, at most 1,000,000,000 times.
+/// After each round it waits for a second. A server that is marked is probed first. The record of a leg is done once its
+/// server has performed it.
+pub fn serve_replay<B: Ledger, T: Ledger, L: Link, D: Disk, W: Watch, R: Wait>(
+    rt: &R,
+    alloc: Global,
+    hub: &Hub<B, T>,
+    pass: &mut Pass,
+    spool: &Mutex<Spool<D>>,
+    links: &mut [L],
+    watch: &mut W,
+    ends: &Ends,
+) {
+    for _turn in 0..TURNS {
+        if !go_round(rt, alloc, hub, pass, spool, links, ends) {
+            return;
+        }
+        watch.pause();
+    }
+}

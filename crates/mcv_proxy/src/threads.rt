@@ -1,0 +1,580 @@
+//! The threads of a proxy.
+
+ghost use Rattle.std.specs.Prelude.{◌≡◌, ◌+◌};
+
+use crate::desk::HubDesk;
+use crate::destination::serve_destination;
+use crate::ends::Ends;
+use crate::fault::ProxyFault;
+use crate::gates::{Gates, Link, Watch};
+use crate::replay::serve_replay;
+use crate::spooling::serve_spool;
+use mcv_base::{ServerId, ServerText};
+use mcv_check::Accepted;
+use mcv_hub::{Bell, Hub, Pass, Passes, Receipt, Report, Seat};
+use mcv_session::serve_session;
+use mcv_spool::{Disk, Spool};
+use std::alloc::{AllocError, Global};
+use std::io::{Read, Write};
+use std::marker::Brand;
+use std::rt::Clock;
+use std::sync::ledger::{Blank, Ledger};
+use std::sync::{Arc, Mutex, Wait};
+use std::thread;
+use std::thread::{JoinHandle, Threads};
+
+/// How many sessions there are seats for.
+const SEATS: u64 = 1 << 40;
+
+/// The most sessions.
+const SESSIONS: u64 = 1_000_000_000;
+
+/// How many bells sessions wait at.
+const BELLS: usize = 256;
+
+/// What a session hands back.
+#[derive(Drop)]
+struct Done<B: Ledger, T: Ledger> {
+    seat: Seat<B, T>,
+    receipts: Vec<Receipt>,
+}
+
+/// What threads share.
+#[derive(Drop)]
+struct Shared<B: Ledger, T: Ledger, D: Disk> {
+    accepted: Arc<Accepted>,
+    hub: Arc<Hub<B, T>>,
+    spool: Arc<Mutex<Spool<D>>>,
+    /// How many records were pending in the spool when it was opened.
+    pending: usize,
+    /// The end of the servers' workers and of the replayer.
+    work_ends: Arc<Ends>,
+    /// The end of the spool's worker, which comes later.
+    spool_ends: Arc<Ends>,
+}
+
+/// The workers that run.
+#[derive(Drop)]
+struct Crew {
+    /// Those of the servers, and the replayer.
+    workers: Vec<JoinHandle<()>>,
+    spool: Option<JoinHandle<()>>,
+}
+
+/// The work of a server's worker.
+fn work<B: Ledger, T: Ledger, L: Link, R: Wait>(
+    rt: &R,
+    alloc: Global,
+    hub: &Hub<B, T>,
+    ends: &Ends,
+    mut pass: Pass,
+    mut link: L,
+    server: ServerId,
+) {
+    serve_destination(rt, alloc, hub, &mut pass, &mut link, server, ends);
+}
+
+/// Starts the worker of a server.
+fn employ<
+    B: Ledger + Send + Sync + 'static,
+    T: Ledger + Send + Sync + 'static,
+    L: Link + Send + 'static,
+    R: Threads + Wait + Clock + Copy + Send + 'static,
+>(
+    rt: R,
+    alloc: Global,
+    hub: Arc<Hub<B, T>>,
+    ends: Arc<Ends>,
+    pass: Pass,
+    link: L,
+    server: ServerId,
+) -> Option<JoinHandle<()>> {
+    let job = move || work(&rt, alloc, &*hub, &*ends, pass, link, server);
+    thread::spawn(&rt, job).ok()
+}
+
+/// The work of the spool's worker.
+fn write_down<B: Ledger, T: Ledger, D: Disk, W: Watch, R: Wait>(
+    rt: &R,
+    texts: &[Option<ServerText>],
+    hub: &Hub<B, T>,
+    spool: &Mutex<Spool<D>>,
+    ends: &Ends,
+    mut pass: Pass,
+    mut watch: W,
+) {
+    serve_spool(rt, texts, hub, &mut pass, spool, &mut watch, ends);
+}
+
+/// Starts the spool's worker.
+fn employ_spool<
+    B: Ledger + Send + Sync + 'static,
+    T: Ledger + Send + Sync + 'static,
+    D: Disk + Send + 'static,
+    W: Watch + Send + 'static,
+    R: Threads + Wait + Clock + Copy + Send + 'static,
+>(
+    rt: R,
+    texts: Vec<Option<ServerText>>,
+    hub: Arc<Hub<B, T>>,
+    spool: Arc<Mutex<Spool<D>>>,
+    ends: Arc<Ends>,
+    pass: Pass,
+    watch: W,
+) -> Option<JoinHandle<()>> {
+    let job = move || write_down(&rt, texts.as_slice(), &*hub, &*spool, &*ends, pass, watch);
+    thread::spawn(&rt, job).ok()
+}
+
+/// The work of the replayer.
+fn send_again<B: Ledger, T: Ledger, D: Disk, L: Link, W: Watch, R: Wait>(
+    rt: &R,
+    alloc: Global,
+    hub: &Hub<B, T>,
+    spool: &Mutex<Spool<D>>,
+    ends: &Ends,
+    mut pass: Pass,
+    mut links: Vec<L>,
+    mut watch: W,
+) {
+    let links = links.as_mut_slice();
+    serve_replay(rt, alloc, hub, &mut pass, spool, links, &mut watch, ends);
+}
+
+/// Starts the replayer.
+fn employ_replayer<
+    B: Ledger + Send + Sync + 'static,
+    T: Ledger + Send + Sync + 'static,
+    D: Disk + Send + 'static,
+    L: Link + Send + 'static,
+    W: Watch + Send + 'static,
+    R: Threads + Wait + Clock + Copy + Send + 'static,
+>(
+    rt: R,
+    alloc: Global,
+    hub: Arc<Hub<B, T>>,
+    spool: Arc<Mutex<Spool<D>>>,
+    ends: Arc<Ends>,
+    pass: Pass,
+    links: Vec<L>,
+    watch: W,
+) -> Option<JoinHandle<()>> {
+    let job = move || send_again(&rt, alloc, &*hub, &*spool, &*ends, pass, links, watch);
+    thread::spawn(&rt, job).ok()
+}
+
+/// Serves a client until its session ends.
+fn serve<B: Ledger, T: Ledger, I: Read + Drop, O: Write + Drop, W: Watch, R: Wait + Clock>(
+    rt: &R,
+    alloc: Global,
+    accepted: Arc<Accepted>,
+    hub: &Hub<B, T>,
+    pass: Pass,
+    seat: Seat<B, T>,
+    mut reader: I,
+    mut writer: O,
+    watch: W,
+) -> Done<B, T> {
+    let mut desk = HubDesk::new(rt, alloc, accepted, hub, pass, seat, watch);
+    let _ = serve_session(alloc, &mut reader, &mut writer, &mut desk);
+    let (seat, receipts) = desk.into_parts();
+    Done { seat, receipts }
+}
+
+/// Starts a session. Where there is no thread for it the client is dropped.
+fn host<
+    B: Ledger + Send + Sync + 'static,
+    T: Ledger + Send + Sync + 'static,
+    I: Read + Drop + Send + 'static,
+    O: Write + Drop + Send + 'static,
+    W: Watch + Send + 'static,
+    R: Threads + Wait + Clock + Copy + Send + 'static,
+>(
+    rt: R,
+    alloc: Global,
+    accepted: Arc<Accepted>,
+    hub: Arc<Hub<B, T>>,
+    pass: Pass,
+    seat: Seat<B, T>,
+    reader: I,
+    writer: O,
+    watch: W,
+) -> Option<JoinHandle<Done<B, T>>> {
+    let job = move || serve(
+        &rt, alloc, accepted, &*hub, pass, seat, reader, writer, watch,
+    );
+    thread::spawn(&rt, job).ok()
+}
+
+/// Starts a session on a hub. None where there is no memory or no thread for it.
+fn admit<
+    B: Ledger + Send + Sync + 'static,
+    T: Ledger + Send + Sync + 'static,
+    I: Read + Drop + Send + 'static,
+    O: Write + Drop + Send + 'static,
+    W: Watch + Send + 'static,
+    R: Threads + Wait + Clock + Copy + Send + 'static,
+>(
+    rt: R,
+    alloc: Global,
+    accepted: &Arc<Accepted>,
+    hub: &Arc<Hub<B, T>>,
+    pass: Pass,
+    seat: Seat<B, T>,
+    client: (I, O),
+    watch: W,
+) -> Option<JoinHandle<Done<B, T>>> {
+    let accepted = Arc::try_clone(accepted).ok()?;
+    let hub = Arc::try_clone(hub).ok()?;
+    let (reader, writer) = client;
+    host(rt, alloc, accepted, hub, pass, seat, reader, writer, watch)
+}
+
+/// How many servers there are.
+fn server_count(accepted: &Accepted) -> u32 {
+    u32::try_from(accepted.routes().servers().len()).unwrap_or(u32::MAX)
+}
+
+/// The texts of the servers, in the order of their numbers.
+fn texts_of(alloc: Global, accepted: &Accepted) -> Result<Vec<Option<ServerText>>, AllocError> {
+    let servers = accepted.routes().servers();
+    let mut texts = Vec::new(alloc);
+    for number in 0..server_count(accepted) {
+        let text = match servers.text(ServerId(number)) {
+            Some(text) => ServerText::of(text.as_bytes()),
+            None => None,
+        };
+        texts.push(text)?;
+    }
+    Ok(texts)
+}
+
+/// A link to each server, in the order of their numbers.
+fn links_of<G: Gates>(
+    alloc: Global,
+    accepted: &Accepted,
+    gates: &mut G,
+) -> Result<Vec<G::Link>, AllocError> {
+    let servers = accepted.routes().servers();
+    let mut links = Vec::new(alloc);
+    for number in 0..server_count(accepted) {
+        if let Some(text) = servers.text(ServerId(number)) {
+            links.push(gates.link(text)?)?;
+        }
+    }
+    Ok(links)
+}
+
+/// Adds a worker to those that run. An error is that there was no thread or no memory for it.
+fn enlist(
+    workers: &mut Vec<JoinHandle<()>>,
+    worker: Option<JoinHandle<()>>,
+) -> Result<(), AllocError> {
+    let Some(worker) = worker else {
+        return Err(AllocError);
+    };
+    workers.push(worker)?;
+    Ok(())
+}
+
+/// Starts the workers of all servers.
+fn employ_all<
+    B: Ledger + Send + Sync + 'static,
+    T: Ledger + Send + Sync + 'static,
+    D: Disk,
+    L: Link + Send + 'static,
+    R: Threads + Wait + Clock + Copy + Send + 'static,
+>(
+    rt: R,
+    alloc: Global,
+    shared: &Shared<B, T, D>,
+    passes: &Passes<B, T>,
+    links: Vec<L>,
+    workers: &mut Vec<JoinHandle<()>>,
+) -> Result<(), AllocError> {
+    workers.reserve(links.len())?;
+    let mut number = 0u32;
+    for link in links {
+        let hub = Arc::try_clone(&shared.hub)?;
+        let ends = Arc::try_clone(&shared.work_ends)?;
+        let server = ServerId(number);
+        let worker = employ(rt, alloc, hub, ends, passes.pass(), link, server);
+        enlist(workers, worker)?;
+        number = number.saturating_add(1);
+    }
+    Ok(())
+}
+
+/// Starts the spool's worker. An error is that there was no thread or no memory for it.
+fn staff_spool<
+    B: Ledger + Send + Sync + 'static,
+    T: Ledger + Send + Sync + 'static,
+    G: Gates,
+    R: Threads + Wait + Clock + Copy + Send + 'static,
+>(
+    rt: R,
+    alloc: Global,
+    shared: &Shared<B, T, G::Disk>,
+    passes: &Passes<B, T>,
+    gates: &mut G,
+) -> Result<Option<JoinHandle<()>>, AllocError> {
+    let texts = texts_of(alloc, &shared.accepted)?;
+    let hub = Arc::try_clone(&shared.hub)?;
+    let spool = Arc::try_clone(&shared.spool)?;
+    let ends = Arc::try_clone(&shared.spool_ends)?;
+    let watch = gates.watch();
+    match employ_spool(rt, texts, hub, spool, ends, passes.pass(), watch) {
+        Some(worker) => Ok(Some(worker)),
+        None => Err(AllocError),
+    }
+}
+
+/// Starts the replayer. None where there is no thread for it.
+fn staff_replayer<
+    B: Ledger + Send + Sync + 'static,
+    T: Ledger + Send + Sync + 'static,
+    G: Gates,
+    R: Threads + Wait + Clock + Copy + Send + 'static,
+>(
+    rt: R,
+    alloc: Global,
+    shared: &Shared<B, T, G::Disk>,
+    passes: &Passes<B, T>,
+    gates: &mut G,
+) -> Result<Option<JoinHandle<()>>, AllocError> {
+    let hub = Arc::try_clone(&shared.hub)?;
+    let spool = Arc::try_clone(&shared.spool)?;
+    let ends = Arc::try_clone(&shared.work_ends)?;
+    let links = links_of(alloc, &shared.accepted, gates)?;
+    let watch = gates.watch();
+    let pass = passes.pass();
+    Ok(employ_replayer(rt, alloc, hub, spool, ends, pass, links, watch))
+}
+
+/// Starts all workers. Those that were started are in the crew also where one wasn't.
+fn staff<
+    B: Ledger + Send + Sync + 'static,
+    T: Ledger + Send + Sync + 'static,
+    G: Gates,
+    R: Threads + Wait + Clock + Copy + Send + 'static,
+>(
+    rt: R,
+    alloc: Global,
+    shared: &Shared<B, T, G::Disk>,
+    passes: &Passes<B, T>,
+    gates: &mut G,
+    crew: &mut Crew,
+) -> Result<(), AllocError> {
+    crew.spool = staff_spool(rt, alloc, shared, passes, gates)?;
+    crew.workers.reserve(1)?;
+    let replayer = staff_replayer(rt, alloc, shared, passes, gates)?;
+    enlist(&mut crew.workers, replayer)?;
+    let links = links_of(alloc, &shared.accepted, gates)?;
+    employ_all(rt, alloc, shared, passes, links, &mut crew.workers)
+}
+
+/// Starts all workers, and then lets clients come. Those that were started are in the crew also where one wasn't.
+fn ready<
+    B: Ledger + Send + Sync + 'static,
+    T: Ledger + Send + Sync + 'static,
+    G: Gates,
+    R: Threads + Wait + Clock + Copy + Send + 'static,
+>(
+    rt: R,
+    alloc: Global,
+    shared: &Shared<B, T, G::Disk>,
+    passes: &Passes<B, T>,
+    gates: &mut G,
+    crew: &mut Crew,
+) -> Result<(), ProxyFault> {
+    staff(rt, alloc, shared, passes, gates, crew)?;
+    gates.opened(shared.pending)
+}
+
+/// Serves clients, each in a thread, until no more come.
+fn accept<
+    B: Ledger + Send + Sync + 'static,
+    T: Ledger + Send + Sync + 'static,
+    G: Gates,
+    R: Threads + Wait + Clock + Copy + Send + 'static,
+>(
+    rt: R,
+    alloc: Global,
+    accepted: &Arc<Accepted>,
+    hub: &Arc<Hub<B, T>>,
+    passes: &mut Passes<B, T>,
+    gates: &mut G,
+) -> Vec<JoinHandle<Done<B, T>>> {
+    let mut sessions = Vec::new(alloc);
+    for _session in 0..SESSIONS {
+        let Some(client) = gates.session() else {
+            return sessions;
+        };
+        let Some(seat) = passes.seat() else {
+            return sessions;
+        };
+        let Ok(()) = sessions.reserve(1) else {
+            gates.note_unserved();
+            continue;
+        };
+        let watch = gates.watch();
+        let pass = passes.pass();
+        match admit(rt, alloc, accepted, hub, pass, seat, client, watch) {
+            Some(session) => sessions.push_reserved(session),
+            None => gates.note_unserved(),
+        }
+    }
+    sessions
+}
+
+/// Waits for the sessions to end, adds their shares to this seat's, and gives the receipts of all.
+fn gather<B: Ledger + Send, T: Ledger + Send, R: Threads>(
+    rt: &R,
+    alloc: Global,
+    sessions: Vec<JoinHandle<Done<B, T>>>,
+    seat: &mut Seat<B, T>,
+) -> Result<Vec<Receipt>, AllocError> {
+    let mut receipts = Vec::new(alloc);
+    let mut outcome = Ok(());
+    for session in sessions {
+        let done = session.join(rt);
+        seat.begun.merge(done.seat.begun);
+        seat.taken.merge(done.seat.taken);
+        if receipts
+            .extend_from_slice(done.receipts.as_slice())
+            .is_err()
+        {
+            outcome = Err(AllocError);
+        }
+    }
+    outcome?;
+    Ok(receipts)
+}
+
+/// Asks the servers' workers and the replayer to end, waits until they have, and then does so with the spool's worker.
+fn dismiss<B: Ledger, T: Ledger, D: Disk, R: Threads + Wait>(
+    rt: &R,
+    shared: &Shared<B, T, D>,
+    pass: &mut Pass,
+    crew: Crew,
+) {
+    let Crew { workers, spool } = crew;
+    shared.work_ends.ask(rt, &shared.hub, pass);
+    shared.hub.ring(Bell::Replayer);
+    for number in 0..server_count(&shared.accepted) {
+        shared.hub.ring(Bell::Server(ServerId(number)));
+    }
+    for worker in workers {
+        worker.join(rt);
+    }
+    shared.spool_ends.ask(rt, &shared.hub, pass);
+    shared.hub.ring(Bell::Spool);
+    if let Some(spool) = spool {
+        spool.join(rt);
+    }
+}
+
+/// What all threads share, with the spool of a disk, and what makes passes and seats.
+fn open<B: Ledger, T: Ledger, D: Disk>(
+    alloc: Global,
+    accepted: Arc<Accepted>,
+    disk: D,
+    begun: Blank,
+    taken: Blank,
+) -> Result<(Shared<B, T, D>, Passes<B, T>), ProxyFault>
+    requires begun { (begun.name ≡ B.name) × (begun.parts ≡ B.parts) × (begun.parts ≡ SEATS + 1) }
+    requires taken { (taken.name ≡ T.name) × (taken.parts ≡ T.parts) × (taken.parts ≡ SEATS + 1) }
+{
+    let spool = Spool::open(alloc, disk)?;
+    let records = spool.pending()?;
+    let known = Arc::try_clone(&accepted)?;
+    let Ok((hub, passes)) = Hub::new(alloc, known, records.as_slice(), BELLS, SEATS, begun, taken)
+    else {
+        return Err(ProxyFault::Memory);
+    };
+    let shared = Shared {
+        accepted,
+        hub: Arc::new(alloc, hub)?,
+        spool: Arc::new(alloc, Mutex::new(spool))?,
+        pending: records.len(),
+        work_ends: Arc::new(alloc, Ends::new())?,
+        spool_ends: Arc::new(alloc, Ends::new())?,
+    };
+    Ok((shared, passes))
+}
+
+/// Serves all clients, and gives the receipts of their sessions; their shares are added to the seat's.
+fn run<
+    B: Ledger + Send + Sync + 'static,
+    T: Ledger + Send + Sync + 'static,
+    G: Gates,
+    R: Threads + Wait + Clock + Copy + Send + 'static,
+>(
+    rt: R,
+    alloc: Global,
+    shared: &Shared<B, T, G::Disk>,
+    passes: &mut Passes<B, T>,
+    gates: &mut G,
+    seat: &mut Seat<B, T>,
+) -> Result<Vec<Receipt>, ProxyFault> {
+    let mut crew = Crew {
+        workers: Vec::new(alloc),
+        spool: None,
+    };
+    let mut pass = passes.pass();
+    if let Err(fault) = ready(rt, alloc, shared, passes, gates, &mut crew) {
+        dismiss(&rt, shared, &mut pass, crew);
+        return Err(fault);
+    }
+    let sessions = accept(rt, alloc, &shared.accepted, &shared.hub, passes, gates);
+    let receipts = gather(&rt, alloc, sessions, seat);
+    dismiss(&rt, shared, &mut pass, crew);
+    Ok(receipts?)
+}
+
+/// As `start`, with the ledgers of calls begun and of replies taken.
+fn started<
+    B: Ledger + Send + Sync + 'static,
+    T: Ledger + Send + Sync + 'static,
+    G: Gates,
+    R: Threads + Wait + Clock + Copy + Send + 'static,
+>(
+    rt: R,
+    alloc: Global,
+    accepted: Arc<Accepted>,
+    gates: &mut G,
+    begun: Blank,
+    taken: Blank,
+) -> Result<Report, ProxyFault>
+    requires begun { (begun.name ≡ B.name) × (begun.parts ≡ B.parts) × (begun.parts ≡ SEATS + 1) }
+    requires taken { (taken.name ≡ T.name) × (taken.parts ≡ T.parts) × (taken.parts ≡ SEATS + 1) }
+{
+    let Some(disk) = gates.disk() else {
+        return Err(ProxyFault::Device);
+    };
+    let (shared, mut passes) = open::<B, T, G::Disk>(alloc, accepted, disk, begun, taken)?;
+    let Some(mut seat) = passes.seat() else {
+        return Err(ProxyFault::Memory);
+    };
+    let receipts = run(rt, alloc, &shared, &mut passes, gates, &mut seat)?;
+    let mut pass = passes.pass();
+    let Seat { begun, taken } = &mut seat;
+    let mut guard = shared.hub.lock(&rt, &mut pass);
+    let report = guard.close(alloc, begun, taken, receipts.as_slice())?;
+    Ok(report)
+}
+
+/// Runs a proxy: one worker for each server, one for the spool and the replayer, and each session in its thread. Where
+/// there is no thread for a worker the others end, and the answer is `Memory`. Once no more clients come and all sessions
+/// have ended, the workers end when they have nothing in hand, and the answer is what was counted.
+pub fn start<G: Gates, R: Threads + Wait + Clock + Copy + Send + 'static>(
+    rt: R,
+    alloc: Global,
+    accepted: Arc<Accepted>,
+    gates: G,
+) -> Result<Report, ProxyFault> {
+    let mut gates = gates;
+    let begun = Blank::new(SEATS + 1);
+    let taken = Blank::new(SEATS + 1);
+    started::<Brand, Brand, G, R>(rt, alloc, accepted, &mut gates, begun, taken)
+}

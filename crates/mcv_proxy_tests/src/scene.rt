@@ -1,0 +1,442 @@
+//! Servers, clients and a clock in memory.
+
+use crate::disk::MemoryDisk;
+use mcv_base::{LegRequest, Moment, Op, Reply};
+use mcv_check::{Accepted, check};
+use mcv_config::read_config;
+use mcv_hub::{Pass, Report};
+use mcv_make::make;
+use mcv_proxy::{Gates, Link, LinkFault, ProxyFault, Watch, start};
+use mcv_route::Routes;
+use mcv_text::leg_text;
+use std::alloc::{AllocError, Global};
+use std::io::{Read, Write};
+use std::rt::Clock;
+use std::sync::atomic::{AtomicBool, AtomicU64, Ordering};
+use std::sync::{Arc, Mutex, Wait};
+use std::test::Fail;
+use std::thread::Threads;
+use std::time::Duration;
+use std::{io, thread};
+
+/// What the checker makes of a configuration.
+pub(crate) fn accepted_of(alloc: Global, text: &str) -> Result<Arc<Accepted>, Fail> {
+    let Ok(config) = read_config(alloc, text.as_bytes()) else {
+        return Err(Fail::from("the text is refused"));
+    };
+    let routes = Routes::build(alloc, config)?;
+    let Ok(certificate) = make(alloc, &routes) else {
+        return Err(Fail::from("the routes aren't covered"));
+    };
+    match check(alloc, routes, &certificate) {
+        Ok(accepted) => Ok(Arc::new(alloc, accepted)?),
+        Err(_) => Err(Fail::from("the certificate is refused")),
+    }
+}
+
+/// How a server behaves.
+#[derive(Clone, Copy)]
+pub(crate) struct Manner {
+    pub(crate) text: &'static str,
+    /// The rest of the one key that it has a value of, `x`.
+    pub(crate) has: &'static str,
+    /// Of so many legs it breaks the last one; none where this is 0.
+    pub(crate) breaks_every: u64,
+    pub(crate) answers_probes: bool,
+}
+
+/// What a server noted: the texts of the legs that it was sent, and how often it performed the delete of each number.
+#[derive(Drop)]
+pub(crate) struct Notes {
+    pub(crate) text: Vec<u8>,
+    pub(crate) deleted: Vec<u8>,
+}
+
+/// A server in memory.
+#[derive(Drop)]
+pub(crate) struct Server {
+    manner: Manner,
+    legs: AtomicU64,
+    /// It answers only once this is set.
+    waits_for: Option<Arc<AtomicBool>>,
+    /// It sets this once it has performed a delete.
+    sets: Option<Arc<AtomicBool>>,
+    pub(crate) notes: Mutex<Notes>,
+}
+
+impl Server {
+    /// A server that performs the deletes of so many numbers.
+    pub(crate) fn new(alloc: Global, manner: Manner, numbers: usize) -> Result<Server, Fail> {
+        let mut deleted = Vec::new(alloc);
+        deleted.resize(numbers, 0)?;
+        Ok(Server {
+            manner,
+            legs: AtomicU64::new(0),
+            waits_for: None,
+            sets: None,
+            notes: Mutex::new(Notes {
+                text: Vec::new(alloc),
+                deleted,
+            }),
+        })
+    }
+
+    /// The same, which answers only once this is set.
+    pub(crate) fn waiting_for(mut self, sign: Arc<AtomicBool>) -> Server {
+        self.waits_for = Some(sign);
+        self
+    }
+
+    /// The same, which sets this once it has performed a delete.
+    pub(crate) fn setting(mut self, sign: Arc<AtomicBool>) -> Server {
+        self.sets = Some(sign);
+        self
+    }
+
+    /// How many legs it was sent, those among them that broke.
+    pub(crate) fn legs(&self) -> u64 {
+        self.legs.load(Ordering::SeqCst)
+    }
+
+    /// Whether the next leg breaks.
+    fn breaks(&self) -> bool {
+        let number = self.legs.fetch_add(1, Ordering::SeqCst).saturating_add(1);
+        match number.checked_rem(self.manner.breaks_every) {
+            Some(rest) => rest == 0,
+            None => false,
+        }
+    }
+}
+
+/// The number behind the first letter of a rest; None where there is none.
+pub(crate) fn number_of(rest: &[u8]) -> Option<usize> {
+    let digits = rest.get(1..)?;
+    let mut number = 0usize;
+    for digit in digits {
+        if !digit.is_ascii_digit() {
+            return None;
+        }
+        let value = usize::from(digit.saturating_sub(b'0'));
+        number = number.saturating_mul(10).saturating_add(value);
+    }
+    Some(number)
+}
+
+/// The way to a server in memory.
+#[derive(Drop)]
+pub(crate) struct Wire<R: Wait + Clock + Drop> {
+    rt: R,
+    alloc: Global,
+    server: Arc<Server>,
+}
+
+impl<R: Wait + Clock + Drop> Wire<R> {
+    /// Waits until the server may answer, for at most 20,000 turns.
+    fn hold(&self) {
+        let Some(sign) = &self.server.waits_for else {
+            return;
+        };
+        for _turn in 0..20_000 {
+            if sign.load(Ordering::SeqCst) {
+                return;
+            }
+            thread::sleep(&self.rt, Duration::from_millis(1));
+        }
+    }
+
+    /// Notes a leg.
+    fn note(&self, leg: &LegRequest) -> Result<(), AllocError> {
+        let text = leg_text(self.alloc, leg)?;
+        let mut notes = self.server.notes.lock(&self.rt);
+        if leg.op == Op::Delete {
+            if let Some(number) = number_of(leg.rest.as_bytes()) {
+                if let Some(times) = notes.deleted.get_mut(number) {
+                    *times = times.saturating_add(1);
+                    return Ok(());
+                }
+            }
+        }
+        notes.text.extend_from_slice(text.as_slice())
+    }
+
+    fn hit(&self) -> Result<Reply, AllocError> {
+        let body = Arc::new(self.alloc, Vec::from_slice(self.alloc, b"x")?)?;
+        Ok(Reply::Hit {
+            flags: 0,
+            cas: None,
+            body,
+        })
+    }
+
+    fn answer(&self, leg: &LegRequest) -> Result<Reply, AllocError> {
+        self.note(leg)?;
+        match leg.op {
+            Op::Get | Op::Gets if leg.rest.as_bytes() == self.server.manner.has.as_bytes() => {
+                self.hit()
+            }
+            Op::Get | Op::Gets => Ok(Reply::Miss),
+            Op::Delete => {
+                if let Some(sign) = &self.server.sets {
+                    sign.store(true, Ordering::SeqCst);
+                }
+                Ok(Reply::Deleted)
+            }
+            Op::Touch => Ok(Reply::Touched),
+            _ => Ok(Reply::Stored),
+        }
+    }
+}
+
+impl<R: Wait + Clock + Drop> Link for Wire<R> {
+    fn send(&mut self, _pass: &Pass, leg: &LegRequest) -> Result<Reply, LinkFault> {
+        self.hold();
+        if self.server.breaks() {
+            return Err(LinkFault::Broken);
+        }
+        match self.answer(leg) {
+            Ok(reply) => Ok(reply),
+            Err(_) => Err(LinkFault::Memory),
+        }
+    }
+
+    fn probe(&mut self, _pass: &Pass) -> Result<(), LinkFault> {
+        if self.server.manner.answers_probes {
+            Ok(())
+        } else {
+            Err(LinkFault::Broken)
+        }
+    }
+}
+
+/// A client that sends these bytes, and goes once this is set.
+#[derive(Drop)]
+pub(crate) struct Client<R: Clock + Drop> {
+    rt: R,
+    bytes: Vec<u8>,
+    at: usize,
+    waits_for: Option<Arc<AtomicBool>>,
+}
+
+impl<R: Clock + Drop> Client<R> {
+    /// Waits until it may go, for at most 20,000 turns.
+    fn hold(&self) {
+        let Some(sign) = &self.waits_for else {
+            return;
+        };
+        for _turn in 0..20_000 {
+            if sign.load(Ordering::SeqCst) {
+                return;
+            }
+            thread::sleep(&self.rt, Duration::from_millis(1));
+        }
+    }
+}
+
+impl<R: Clock + Drop> Read for Client<R> {
+    fn read(&mut self, buf: &mut [u8]) -> io::Result<usize> {
+        if self.at >= self.bytes.len() {
+            self.hold();
+        }
+        let at = self.at.min(self.bytes.len());
+        let count = (self.bytes.len() - at).min(buf.len()).min(100);
+        buf[..count].copy_from_slice(&self.bytes.as_slice()[at..at + count]);
+        self.at = at + count;
+        Ok(count)
+    }
+}
+
+/// What a client is answered. Each write sets a sign, if there is one.
+#[derive(Drop)]
+pub(crate) struct Output<R: Wait + Drop> {
+    rt: R,
+    text: Arc<Mutex<Vec<u8>>>,
+    sign: Option<Arc<AtomicBool>>,
+}
+
+impl<R: Wait + Drop> Write for Output<R> {
+    fn write(&mut self, buf: &[u8]) -> io::Result<usize> {
+        self.text.lock(&self.rt).extend_from_slice(buf)?;
+        if let Some(sign) = &self.sign {
+            if !buf.is_empty() {
+                sign.store(true, Ordering::SeqCst);
+            }
+        }
+        Ok(buf.len())
+    }
+
+    fn flush(&mut self) -> io::Result<()> {
+        Ok(())
+    }
+}
+
+/// A clock that stays at a moment, and on which nobody waits.
+#[derive(Drop)]
+pub(crate) struct Stopped {
+    moment: u64,
+}
+
+impl Watch for Stopped {
+    fn moment(&mut self) -> Moment {
+        Moment(self.moment)
+    }
+
+    fn pause(&mut self) {
+        thread::yield_now();
+    }
+}
+
+/// What a proxy talks to in a test.
+#[derive(Drop)]
+pub(crate) struct Scene<R: Wait + Clock + Copy + Drop + Send + 'static> {
+    rt: R,
+    alloc: Global,
+    pub(crate) servers: Vec<Arc<Server>>,
+    /// The clients that are still to come, the last one first.
+    clients: Vec<(Client<R>, Output<R>)>,
+    pub(crate) answers: Vec<Arc<Mutex<Vec<u8>>>>,
+    pub(crate) disk: Arc<Mutex<Vec<u8>>>,
+    /// How many writes of the disk succeed until one fails.
+    pub(crate) writes_left: Option<u64>,
+}
+
+impl<R: Wait + Clock + Copy + Drop + Send + 'static> Scene<R> {
+    /// Nothing, and an empty disk.
+    pub(crate) fn new(rt: R, alloc: Global) -> Result<Scene<R>, Fail> {
+        Ok(Scene {
+            rt,
+            alloc,
+            servers: Vec::new(alloc),
+            clients: Vec::new(alloc),
+            answers: Vec::new(alloc),
+            disk: Arc::new(alloc, Mutex::new(Vec::new(alloc)))?,
+            writes_left: None,
+        })
+    }
+
+    /// One more server.
+    pub(crate) fn with_server(mut self, server: Server) -> Result<Scene<R>, Fail> {
+        let server = Arc::new(self.alloc, server)?;
+        self.servers.push(server)?;
+        Ok(self)
+    }
+
+    /// One more client, which comes before those that are there already.
+    pub(crate) fn with_client(
+        mut self,
+        bytes: Vec<u8>,
+        sign: Option<Arc<AtomicBool>>,
+    ) -> Result<Scene<R>, Fail> {
+        let text = Arc::new(self.alloc, Mutex::new(Vec::new(self.alloc)))?;
+        self.answers.push(Arc::try_clone(&text)?)?;
+        let output = Output {
+            rt: self.rt,
+            text,
+            sign,
+        };
+        let client = Client {
+            rt: self.rt,
+            bytes,
+            at: 0,
+            waits_for: None,
+        };
+        self.clients.push((client, output))?;
+        Ok(self)
+    }
+
+    /// The same clients, of which the next one goes only once this is set.
+    pub(crate) fn held_by(mut self, sign: Arc<AtomicBool>) -> Scene<R> {
+        if let Some(next) = self.clients.last_mut() {
+            next.0.waits_for = Some(sign);
+        }
+        self
+    }
+
+    /// The same servers, answers and disk, to be looked at.
+    pub(crate) fn seen(&self) -> Result<Scene<R>, Fail> {
+        let mut seen = Scene::new(self.rt, self.alloc)?;
+        for server in self.servers.iter() {
+            seen.servers.push(Arc::try_clone(server)?)?;
+        }
+        for answer in self.answers.iter() {
+            seen.answers.push(Arc::try_clone(answer)?)?;
+        }
+        seen.disk = Arc::try_clone(&self.disk)?;
+        Ok(seen)
+    }
+
+    /// What the client of this number was answered.
+    pub(crate) fn is_answered(&self, client: usize, wanted: &str) -> bool {
+        match self.answers.get(client) {
+            Some(text) => text.lock(&self.rt).as_slice() == wanted.as_bytes(),
+            None => false,
+        }
+    }
+
+    /// How many legs the server of this number was sent.
+    pub(crate) fn legs(&self, server: usize) -> u64 {
+        match self.servers.get(server) {
+            Some(server) => server.legs(),
+            None => 0,
+        }
+    }
+}
+
+impl<R: Wait + Clock + Copy + Drop + Send + 'static> Gates for Scene<R> {
+    type Link = Wire<R>;
+
+    type Disk = MemoryDisk<R>;
+
+    type Reader = Client<R>;
+
+    type Writer = Output<R>;
+
+    type Watch = Stopped;
+
+    fn link(&mut self, server: &str) -> Result<Wire<R>, AllocError> {
+        for known in self.servers.iter() {
+            if known.manner.text == server {
+                return Ok(Wire {
+                    rt: self.rt,
+                    alloc: self.alloc,
+                    server: Arc::try_clone(known)?,
+                });
+            }
+        }
+        Err(AllocError)
+    }
+
+    fn disk(&mut self) -> Option<MemoryDisk<R>> {
+        let bytes = Arc::try_clone(&self.disk).ok()?;
+        Some(MemoryDisk {
+            rt: self.rt,
+            bytes,
+            writes_left: self.writes_left,
+        })
+    }
+
+    fn session(&mut self) -> Option<(Client<R>, Output<R>)> {
+        self.clients.pop()
+    }
+
+    fn watch(&mut self) -> Stopped {
+        Stopped { moment: 0 }
+    }
+}
+
+/// Runs a proxy over the scene, and gives what was counted and what is to be looked at.
+pub(crate) fn play<R: Threads + Wait + Clock + Copy + Drop + Send + 'static>(
+    rt: R,
+    alloc: Global,
+    config: &str,
+    scene: Scene<R>,
+) -> Result<(Result<Report, ProxyFault>, Scene<R>), Fail> {
+    let accepted = accepted_of(alloc, config)?;
+    let seen = scene.seen()?;
+    let report = start(rt, alloc, accepted, scene);
+    Ok((report, seen))
+}
+
+/// The bytes of a text.
+pub(crate) fn bytes(alloc: Global, text: &str) -> Result<Vec<u8>, Fail> {
+    Ok(Vec::from_slice(alloc, text.as_bytes())?)
+}

@@ -1,0 +1,13 @@
+"""The cases, in the order in which they run."""
+from cases import clients, crowds, requests, servers, starts, stops
+
+MODULES = [starts, requests, clients, servers, crowds, stops]
+
+
+def named(names):
+    """The cases of these names; all where none is given."""
+    every = [value for module in MODULES for value in vars(module).values() if hasattr(value, "seconds")]
+    unknown = set(names) - {case.__name__ for case in every}
+    if unknown:
+        raise SystemExit("no such case: " + " ".join(sorted(unknown)))
+    return [case for case in every if not names or case.__name__ in names]

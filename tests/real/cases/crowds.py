@@ -1,0 +1,125 @@
+"""Many clients at once, and clients that do harm."""
+import contextlib
+import random
+import socket
+import struct
+import threading
+
+from parts import Failed, case, deletes_to_all, expect, one_pool, stored, value_answer, wait_for
+
+
+@case(120)
+def three_hundred_connections_at_once(machine):
+    mcv = machine.mcv(one_pool(machine.servers(4)))
+    with contextlib.ExitStack() as kept:
+        clients = [kept.enter_context(mcv.client()) for _ in range(300)]
+        for turn in range(3):
+            for n, client in enumerate(clients):
+                client.send(stored(b"k%d" % n, b"%d.%d" % (turn, n)) + b"get k%d\r\n" % n)
+            for n, client in enumerate(clients):
+                wanted = b"STORED\r\n" + value_answer(b"k%d" % n, b"%d.%d" % (turn, n))
+                expect(client.exactly(len(wanted)), wanted, "client %d" % n)
+        for n, client in enumerate(clients):
+            client.ask(b"delete k%d\r\nquit\r\n" % n, b"DELETED\r\n")
+            expect(client.rest(), b"")
+
+
+def working(mcv, number, stop, faults, done):
+    """Sets, gets and deletes a key of its own until it is to stop; notes the first wrong answer."""
+    try:
+        with mcv.client() as client:
+            while not stop.is_set() or not done[number]:
+                value = b"%d of %d" % (done[number], number)
+                client.ask(stored(b"w%d" % number, value), b"STORED\r\n")
+                client.ask(b"get w%d\r\n" % number, value_answer(b"w%d" % number, value))
+                client.ask(b"delete w%d\r\nget w%d\r\n" % (number, number), b"DELETED\r\nEND\r\n")
+                done[number] += 1
+    except (Failed, OSError) as fault:
+        faults.append("client %d: %s" % (number, fault))
+
+
+@contextlib.contextmanager
+def workers(mcv, count):
+    """Clients that work while the block runs, and have to do so without a fault, each at least 20 rounds in it."""
+    stop, faults, done = threading.Event(), [], [0] * count
+    threads = [threading.Thread(target=working, args=(mcv, n, stop, faults, done)) for n in range(count)]
+    for thread in threads:
+        thread.start()
+    try:
+        yield
+        before = list(done)
+        wait_for(lambda: faults or all(now >= was + 20 for was, now in zip(before, done)), "each client goes on")
+    finally:
+        stop.set()
+        for thread in threads:
+            thread.join()
+    expect(faults, [], "faults of clients that work")
+
+
+GARBAGE = [
+    b"\0" * 1000, b"\xff\xfe\r\n" * 50, b"get " + b"a" * 300 + b"\r\n", b"get " + b"a " * 40000, b"set a 0 0 99999999999\r\n", b"\r\n" * 500,
+    b"set g 0 0 5\r\nabc", b"set g 0 0 1048576\r\nhalf", b"get g", b"gets ", b"delete", b"cas g 0 0 1 1\r\n", b"set g 0 0 2000000\r\n",
+    b"\x80\x00\x00\x01\x00\x00\x00\x00", b"GET / HTTP/1.1\r\nHost: x\r\n\r\n", b"set g 0 0 3\r\nabcdef\r\n", b"n" * 70000, b"noreply\r\n" * 20,
+]
+
+
+@case()
+def garbage_and_half_requests_while_others_work(machine):
+    mcv = machine.mcv(one_pool(machine.servers(2)))
+    chosen = random.Random(5)
+    with workers(mcv, 4), contextlib.ExitStack() as kept:
+        clients = [kept.enter_context(mcv.client()) for _ in range(50)]
+        for n, client in enumerate(clients):
+            sent = GARBAGE[n] if n < len(GARBAGE) else chosen.randbytes(chosen.randrange(1, 4000))
+            with contextlib.suppress(OSError):
+                client.send(sent)
+        for _ in range(5):
+            for client in clients[::2]:
+                with contextlib.suppress(OSError):
+                    client.send(chosen.randbytes(200))
+    with mcv.client() as client:
+        client.ask(b"get g\r\n", b"END\r\n")
+
+
+@case()
+def a_client_that_reads_nothing_stops_no_other(machine):
+    mcv = machine.mcv(one_pool(machine.servers(1)))
+    with contextlib.ExitStack() as kept:
+        deaf = [kept.enter_context(mcv.client()) for _ in range(5)]
+        deaf[0].ask(stored(b"big", b"x" * 1000000), b"STORED\r\n")
+        for client in deaf:
+            client.send(b"get big\r\n" * 50)
+        with workers(mcv, 4):
+            pass
+
+
+@case()
+def clients_that_go_in_the_midst_stop_no_other(machine):
+    mcv = machine.mcv(one_pool(machine.servers(1)))
+    with workers(mcv, 2):
+        for n in range(100):
+            client = mcv.client()
+            client.send(stored(b"big", b"x" * 100000) + b"get big\r\n" * 20 if n % 2 else b"get big\r\nset big 0 0 100000\r\nx")
+            # Closed with a reset.
+            client.socket.setsockopt(socket.SOL_SOCKET, socket.SO_LINGER, struct.pack("ii", 1, 0))
+            client.socket.close()
+
+
+@case()
+def deletes_without_reply_of_clients_that_go_are_performed(machine):
+    servers = machine.servers(2)
+    mcv = machine.mcv(deletes_to_all(servers))
+    with mcv.client() as look:
+        for n in range(30):
+            look.ask(stored(b"k%d" % n, b"1"), b"STORED\r\n")
+            with mcv.client() as client:
+                client.send(b"delete k%d noreply\r\n" % n)
+
+        def gone():
+            look.send(b"get " + b" ".join(b"k%d" % n for n in range(30)) + b"\r\n")
+            found = look.line()
+            while found[-5:] != b"END\r\n":
+                found += look.line()
+            return found == b"END\r\n"
+
+        wait_for(gone, "each delete is performed")

@@ -1,0 +1,243 @@
+"""Servers that go away, come back, misbehave, or have other addresses."""
+import signal
+import socket
+
+from fakes import DROP, REFUSE, SILENCE, Fake
+from parts import (Client, Failed, answer, case, deletes_to_all, expect, free_port, one_pool, pending, records, stored, value_answer,
+                   wait_for)
+
+FAILED = b"SERVER_ERROR destination failed\r\n"
+
+
+@case()
+def a_server_killed_and_started_again_takes_its_deletes(machine):
+    text, process = machine.memcached()
+    other = machine.servers(1)[0]
+    spool = machine.path("mcv.spool")
+    mcv = machine.mcv(deletes_to_all([text, other]))
+    keys = [b"k%d" % n for n in range(100)]
+    with mcv.client() as client:
+        client.ask(b"delete before\r\n", b"NOT_FOUND\r\n")
+        process.send_signal(signal.SIGKILL)
+        process.wait()
+        for key in keys:
+            expect(answer(other, stored(key, b"old")), b"STORED\r\n")
+            client.ask(b"delete " + key + b"\r\n", b"NOT_FOUND\r\n")
+            expect(answer(other, b"get " + key + b"\r\n"), b"END\r\n", "the server that is up")
+        expect(sorted(pending(spool)), sorted((text.encode(), key) for key in keys), "pending in the spool")
+        # mcv is held while the keys are put there, so that only a delete that is sent again takes them away.
+        mcv.process.send_signal(signal.SIGSTOP)
+        machine.memcached(port=int(text.rsplit(":", 1)[1]))
+        for key in keys:
+            expect(answer(text, stored(key, b"old")), b"STORED\r\n")
+        mcv.process.send_signal(signal.SIGCONT)
+        wait_for(lambda: answer(text, b"get " + b" ".join(keys) + b"\r\n") == b"END\r\n", "each delete is sent again")
+        wait_for(lambda: not pending(spool), "each record is marked as done")
+        expect(len(records(spool)), len(keys), "records")
+        client.ask(b"delete behind\r\n", b"NOT_FOUND\r\n")
+        expect(len(records(spool)), len(keys), "records, once the server is back")
+
+
+@case()
+def deletes_spooled_by_one_run_are_sent_by_the_next(machine):
+    port = free_port()
+    text = "127.0.0.1:%d" % port
+    first = machine.mcv(one_pool([text]), sessions=1)
+    expect(first.pending, 0)
+    expect(answer(first.address, b"delete a\r\ndelete b\r\nquit\r\n"), b"NOT_FOUND\r\nNOT_FOUND\r\n")
+    expect(first.last_lines(), (b"mcv closed calls 2\n", 0))
+    expect(pending(machine.path("mcv.spool")), [(text.encode(), b"a"), (text.encode(), b"b")])
+    machine.memcached(port=port)
+    expect(answer(text, stored(b"a", b"old")), b"STORED\r\n")
+    second = machine.mcv(one_pool([text]))
+    expect(second.pending, 2)
+    wait_for(lambda: answer(text, b"get a\r\n") == b"END\r\n", "the delete of the first run")
+    wait_for(lambda: not pending(machine.path("mcv.spool")), "its record is marked as done")
+    second.kill()
+    expect(machine.mcv(one_pool([text])).pending, 0)
+
+
+@case()
+def one_spooled_delete_is_a_file_of_641_bytes(machine):
+    text = "127.0.0.1:%d" % free_port()
+    spool = machine.path("mcv.spool")
+    mcv = machine.mcv(one_pool([text]), sessions=1)
+    expect(answer(mcv.address, b"delete a\r\n"), b"NOT_FOUND\r\n")
+    mcv.last_lines()
+    with open(spool, "rb") as file:
+        found = file.read()
+    record = bytes([1, 0, 0, len(text), 0, 1]) + text.encode() + b"a"
+    expect(found, record + bytes(641 - len(record)), "the spool file")
+    expect(machine.mcv(one_pool([text])).pending, 1)
+
+
+@case()
+def a_get_of_a_server_that_is_away_is_an_error_until_it_is_back(machine):
+    port = free_port()
+    text = "127.0.0.1:%d" % port
+    mcv = machine.mcv(one_pool([text]))
+    with mcv.client() as client:
+        for _ in range(5):
+            client.ask(b"get a\r\n", FAILED)
+            client.ask(stored(b"a", b"1"), FAILED)
+            client.ask(b"touch a 0\r\n", FAILED)
+        client.ask(b"get a b c\r\n", FAILED)
+        machine.memcached(port=port)
+
+        def back():
+            client.send(b"get a\r\n")
+            return client.line() == b"END\r\n"
+
+        wait_for(back, "gets are answered again")
+        client.ask(stored(b"a", b"1") + b"get a\r\n", b"STORED\r\n" + value_answer(b"a", b"1"))
+
+
+@case()
+def gets_fail_over_and_deletes_go_to_both(machine):
+    (first, process), second = machine.memcached(), machine.servers(1)[0]
+    config = {
+        "pools": {"A": {"servers": [first]}, "B": {"servers": [second]}},
+        "route": {
+            "type": "OperationSelectorRoute",
+            "operation_policies": {name: {"type": "AllSyncRoute", "children": ["PoolRoute|A", "PoolRoute|B"]} for name in ("delete", "set")},
+            "default_policy": {"type": "FailoverRoute", "children": ["PoolRoute|A", "PoolRoute|B"]},
+        },
+    }
+    mcv = machine.mcv(config)
+    with mcv.client() as client:
+        client.ask(stored(b"a", b"1") + stored(b"b", b"2"), b"STORED\r\nSTORED\r\n")
+        process.kill()
+        process.wait()
+        for _ in range(5):
+            client.ask(b"get a\r\n", value_answer(b"a", b"1"))
+        client.ask(b"delete a\r\n", b"NOT_FOUND\r\n")
+        client.ask(b"get a b\r\n", b"VALUE b 0 1\r\n2\r\nEND\r\n")
+        client.ask(stored(b"c", b"3"), FAILED)
+    expect(pending(machine.path("mcv.spool")), [(first.encode(), b"a")])
+
+
+@case()
+def a_warm_up_adds_what_the_warm_pool_had(machine):
+    cold, warm = machine.servers(2)
+    both = {"type": "AllSyncRoute", "children": ["PoolRoute|A", "PoolRoute|B"]}
+    route = {
+        "type": "OperationSelectorRoute",
+        "operation_policies": {"delete": both},
+        "default_policy": {"type": "WarmUpRoute", "cold": "PoolRoute|A", "warm": "PoolRoute|B"},
+    }
+    mcv = machine.mcv({"pools": {"A": {"servers": [cold]}, "B": {"servers": [warm]}}, "route": route})
+    expect(answer(warm, stored(b"a", b"warm", 7)), b"STORED\r\n")
+    with mcv.client() as client:
+        client.ask(b"get a\r\n", value_answer(b"a", b"warm", 7))
+        wait_for(lambda: answer(cold, b"get a\r\n") == value_answer(b"a", b"warm", 7), "the add")
+        client.ask(b"delete a\r\n", b"DELETED\r\n")
+    expect(answer(cold, b"get a\r\n") + answer(warm, b"get a\r\n"), b"END\r\nEND\r\n")
+
+
+@case()
+def what_is_no_reply_is_an_error_and_a_delete_is_spooled(machine):
+    cases = {
+        b"get": [b"VALUE other 0 1\r\nx\r\nEND\r\n", b"VALUE a 0 1 7\r\nx\r\nEND\r\n", b"STORED\r\n", b"VALUE a 0 1048577\r\n", b"x" * 3000,
+                 b"END\r\nEND\r\n", b"VALUE a 0 1\r\nxyEND\r\n", b"\0\r\n"],
+        b"delete": [b"STORED\r\n", b"nonsense\r\n", b"DELETED\r\nDELETED\r\n"],
+    }
+    spooled = 0
+    for name, texts in cases.items():
+        for text in texts:
+            fake = machine.fake(Fake(replies={name: text}))
+            spool = machine.path("spool.%d" % id(fake))
+            mcv = machine.mcv(one_pool([fake.text]), spool=spool)
+            with mcv.client() as client:
+                wanted = FAILED if name == b"get" else b"NOT_FOUND\r\n"
+                client.ask(name + b" a\r\n", wanted)
+            if name == b"delete":
+                expect(records(spool)[0][1:], (fake.text.encode(), b"a"))
+                spooled += 1
+            mcv.kill()
+    expect(spooled, 3)
+
+
+@case()
+def an_error_of_a_server_is_passed_on_but_for_a_delete(machine):
+    fake = machine.fake(Fake(mood=lambda: REFUSE))
+    mcv = machine.mcv(one_pool([fake.text]))
+    with mcv.client() as client:
+        client.ask(b"get a\r\n", b"SERVER_ERROR not now\r\n")
+        client.ask(stored(b"a", b"1"), b"SERVER_ERROR not now\r\n")
+        client.ask(b"delete a\r\n", b"NOT_FOUND\r\n")
+    expect(pending(machine.path("mcv.spool")), [(fake.text.encode(), b"a")])
+
+
+@case()
+def a_connection_that_breaks_is_opened_again(machine):
+    moods = iter([DROP, "perform", DROP, "perform"])
+    fake = machine.fake(Fake(mood=lambda: next(moods, "perform")))
+    mcv = machine.mcv(one_pool([fake.text]))
+    with mcv.client() as client:
+        # A get over a connection that was kept is sent once more over a new one.
+        client.ask(b"get a\r\nget a\r\nget a\r\nget a\r\n", FAILED + b"END\r\nEND\r\nEND\r\n")
+
+
+@case()
+def a_server_that_answers_nothing_stops_no_other(machine):
+    silent = machine.fake(Fake(mood=lambda: SILENCE))
+    up = machine.servers(1)[0]
+    route = {"type": "PrefixSelectorRoute", "policies": {"silent": "PoolRoute|A"}, "wildcard": "PoolRoute|B"}
+    mcv = machine.mcv({"pools": {"A": {"servers": [silent.text]}, "B": {"servers": [up]}}, "route": route})
+    with mcv.client() as waits, mcv.client() as works:
+        waits.send(b"get silent\r\n")
+        wait_for(lambda: (b"get", b"silent") in silent.requests, "the get reaches the silent server")
+        for n in range(200):
+            works.ask(stored(b"k", b"%d" % n) + b"get k\r\n", b"STORED\r\n" + value_answer(b"k", b"%d" % n))
+        silent.close()
+        expect(waits.line(), FAILED)
+
+
+@case()
+def the_spool_refuses_and_takes_it_later(machine):
+    """A file that can't grow past two records, until the limit is taken away."""
+    text = "127.0.0.1:%d" % free_port()
+    spool = machine.path("mcv.spool")
+    limited = ["prlimit", "--fsize=1281:", "env", "--ignore-signal=XFSZ"]
+    mcv = machine.mcv(one_pool([text]), before=limited)
+    with mcv.client() as client:
+        client.ask(b"delete a\r\ndelete b\r\n", b"NOT_FOUND\r\nNOT_FOUND\r\n")
+        client.ask(b"delete c\r\n", FAILED)
+        expect([rest for _, rest in pending(spool)], [b"a", b"b"])
+        machine.start(["prlimit", "--pid", str(mcv.process.pid), "--fsize=unlimited:"]).wait()
+        wait_for(lambda: [rest for _, rest in pending(spool)] == [b"a", b"b", b"c"], "the delete that was refused is written")
+        client.ask(b"delete d\r\n", b"NOT_FOUND\r\n")
+        expect([rest for _, rest in pending(spool)], [b"a", b"b", b"c", b"d"])
+
+
+def has_ipv6():
+    try:
+        with socket.socket(socket.AF_INET6) as tried:
+            tried.bind(("::1", 0))
+        return True
+    except OSError:
+        return False
+
+
+@case()
+def servers_and_clients_over_ipv6(machine):
+    if not has_ipv6():
+        return
+    server, _ = machine.memcached(host="::1")
+    mcv = machine.mcv(one_pool([server]), listen="[::1]:0")
+    if not mcv.address.startswith("[::1]:"):
+        raise Failed("the address is " + mcv.address)
+    with mcv.client() as client:
+        client.ask(stored(b"a", b"6") + b"get a\r\ndelete a\r\n", b"STORED\r\n" + value_answer(b"a", b"6") + b"DELETED\r\n")
+    expect(pending(machine.path("mcv.spool")), [])
+
+
+@case()
+def a_server_by_the_name_localhost(machine):
+    server, _ = machine.memcached()
+    named = "localhost:" + server.rsplit(":", 1)[1]
+    mcv = machine.mcv(one_pool([named]))
+    with mcv.client() as client:
+        client.ask(stored(b"a", b"1") + b"get a\r\ndelete a\r\n", b"STORED\r\n" + value_answer(b"a", b"1") + b"DELETED\r\n")
+    with Client(server) as client:
+        client.ask(b"get a\r\n", b"END\r\n")

@@ -1,0 +1,117 @@
+"""How `mcv run` starts and ends: what it prints, refuses, and leaves."""
+import os
+import signal
+import socket
+
+from parts import Failed, answer, case, deletes_to_all, expect, free_port, one_pool, stored, value_answer
+
+LOST = {
+    "pools": {"A": {"servers": ["127.0.0.1:1"]}, "B": {"servers": ["127.0.0.1:2"]}},
+    "route": {"type": "FailoverRoute", "children": ["PoolRoute|A", "PoolRoute|B"]},
+}
+DEVICE = (4, b"", b"mcv: device failed\n")
+BAD_LINE = (1, b"", b"mcv: bad command line\n")
+
+
+def held_port(machine):
+    """An address that is in use as long as the case runs."""
+    holder = socket.create_server(("127.0.0.1", 0))
+    machine.ends.append(holder.close)
+    return "127.0.0.1:%d" % holder.getsockname()[1]
+
+
+@case()
+def one_session_with_one_get(machine):
+    server = machine.servers(1)[0]
+    expect(answer(server, stored(b"a", b"1")), b"STORED\r\n")
+    port = free_port()
+    mcv = machine.mcv(one_pool([server]), listen="127.0.0.1:%d" % port, sessions=1)
+    expect((mcv.address, mcv.pending), ("127.0.0.1:%d" % port, 0))
+    expect(answer(mcv.address, b"get a\r\nquit\r\n"), value_answer(b"a", b"1"))
+    expect(mcv.last_lines(), (b"mcv closed calls 1\n", 0))
+    expect(mcv.error_text(), b"", "standard error")
+
+
+@case()
+def two_sessions_and_the_number_of_their_calls(machine):
+    mcv = machine.mcv(deletes_to_all(machine.servers(2)), sessions=2)
+    with mcv.client() as first, mcv.client() as second:
+        first.ask(stored(b"a", b"1") + b"get a b c\r\n", b"STORED\r\nVALUE a 0 1\r\n1\r\nEND\r\n")
+        second.ask(b"get /c/c/a\r\nversion\r\nnonsense\r\n", b"SERVER_ERROR no route\r\nVERSION mcv 1\r\nERROR\r\n")
+        first.ask(b"delete x noreply\r\nquit\r\n", b"")
+        expect(first.rest(), b"")
+        second.ask(b"touch a 0\r\n", b"TOUCHED\r\n")
+    # A set, three gets, a delete and a touch.
+    expect(mcv.last_lines(), (b"mcv closed calls 6\n", 0))
+
+
+@case()
+def what_check_refuses_isnt_served_and_nothing_is_bound(machine):
+    spool = machine.path("mcv.spool")
+    # The address is in use, so a program that binds it first ends with another status.
+    status, printed, errors = machine.refused(LOST, listen=held_port(machine))
+    judged = machine.refused(LOST, words=[machine.program, "check"])
+    expect((status, printed, errors), judged)
+    expect(status, 3)
+    if not printed.startswith(b"lost 127.0.0.1:2\n"):
+        raise Failed("another finding: %r" % printed)
+    expect(os.path.exists(spool), False, "a spool file")
+
+
+@case()
+def a_configuration_that_doesnt_read(machine):
+    for config in ("{", {"pools": {"A": {"servers": []}}, "route": "PoolRoute|A"}, {"route": "PoolRoute|Z"}):
+        found = machine.refused(config, listen=held_port(machine))
+        expect(found, machine.refused(config, words=[machine.program, "check"]))
+        expect(found[0], 2)
+
+
+@case()
+def a_bad_command_line(machine):
+    run = [machine.program, "run"]
+    spool = ["--spool", machine.path("mcv.spool")]
+    listen = ["--listen", "127.0.0.1:0"]
+    for words in (run, run + spool, run + listen, run + listen + spool + ["--sessions", "0"], run + listen + spool + ["--sessions", "1000000001"],
+                  run + listen + spool + ["--sessions", "x"], run + listen + spool + ["more"], run + listen + listen + spool):
+        expect(machine.refused(one_pool(["127.0.0.1:1"]), words=words), BAD_LINE, " ".join(words[1:]))
+
+
+@case()
+def an_address_that_cant_be_bound(machine):
+    for listen in (held_port(machine), "127.0.0.1", "127.0.0.1:x", "127.0.0.1:65536", "", "192.0.2.1:0"):
+        expect(machine.refused(one_pool(["127.0.0.1:1"]), listen=listen), DEVICE, listen)
+
+
+@case()
+def a_spool_that_cant_be_opened(machine):
+    os.mkdir(machine.path("folder"))
+    with open(machine.path("damaged"), "wb") as file:
+        file.write(bytes([1]) + bytes(640))
+    for name in ("folder", "nowhere/mcv.spool", "damaged"):
+        expect(machine.refused(one_pool(["127.0.0.1:1"]), spool=machine.path(name)), DEVICE, name)
+
+
+@case()
+def a_second_process_on_the_same_spool_file(machine):
+    server = machine.servers(1)[0]
+    mcv = machine.mcv(one_pool([server]))
+    expect(machine.refused(one_pool([server])), DEVICE)
+    with mcv.client() as client:
+        client.ask(stored(b"a", b"1") + b"get a\r\n", b"STORED\r\n" + value_answer(b"a", b"1"))
+    mcv.kill()
+    again = machine.mcv(one_pool([server]))
+    with again.client() as client:
+        client.ask(b"get a\r\n", value_answer(b"a", b"1"))
+
+
+@case()
+def sigterm_ends_it_and_its_address_is_free_again(machine):
+    server = machine.servers(1)[0]
+    listen = "127.0.0.1:%d" % free_port()
+    for _ in range(3):
+        mcv = machine.mcv(one_pool([server]), listen=listen)
+        with mcv.client() as client:
+            client.ask(b"get a\r\n", b"END\r\n")
+            mcv.process.terminate()
+            expect(mcv.last_lines(), (b"", -signal.SIGTERM))
+            expect(client.rest().replace(b"<reset>", b""), b"")
