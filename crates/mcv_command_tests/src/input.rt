@@ -1,8 +1,11 @@
+//! What is read of a configuration, up to its limit.
+
+use crate::devices::Broken;
 use mcv_base::ServerId;
 use mcv_input::{read_at_most, read_configuration, read_routes, write_text};
 use std::alloc::{AllocError, Global};
 use std::io;
-use std::io::{Read, Write};
+use std::io::Read;
 use std::test::Fail;
 
 const LONE: &str = "{\"pools\":{\"A\":{\"servers\":[\"a:11211\"]}},\"route\":\"PoolRoute|A\"}";
@@ -13,26 +16,6 @@ const REFUSED: &str = "\
 {} = configuration 3 at .
 {\"route\":\"PoolRoute|Z\"} = configuration 5 at /route
 {\"pools\":{\"A\":{\"servers\":[]}},\"route\":\"PoolRoute|A\"} = configuration 6 at /pools/A/servers";
-
-/// A device that takes and gives nothing.
-#[derive(Drop)]
-struct Broken;
-
-impl Read for Broken {
-    fn read(&mut self, _buf: &mut [u8]) -> io::Result<usize> {
-        Err(io::Error::from(io::ErrorKind::BrokenPipe))
-    }
-}
-
-impl Write for Broken {
-    fn write(&mut self, _buf: &[u8]) -> io::Result<usize> {
-        Err(io::Error::from(io::ErrorKind::StorageFull))
-    }
-
-    fn flush(&mut self) -> io::Result<()> {
-        Ok(())
-    }
-}
 
 /// What is read of a reader: the first server's text, or the fault.
 fn read<R: Read>(alloc: Global, reader: &mut R) -> Result<String, AllocError> {

@@ -1,8 +1,11 @@
+//! What `mcv legs` writes.
+
+use crate::devices::{Broken, joined};
 use mcv_base::Moment;
 use mcv_legs::{RunFault, requests_have_one_reading, run_legs};
 use std::alloc::Global;
 use std::io;
-use std::io::{Read, Write};
+use std::io::Read;
 use std::process::Abort;
 use std::test::Fail;
 
@@ -48,26 +51,6 @@ get a = {\"pools\":{\"A\":{\"servers\":[\"a:11211\"]}},\"route\":\"PoolRoute|Z\"
 get a = {\"route\":{\"type\":\"RandomRoute\",\"children\":[\"NullRoute\"]}} = 3 2 configuration 10 at /route/type
 get a = [[[[[[[[[[[[[[[[[[[[[[[[[[[[[[[[[[[[[[[[[[[[[[[[[[[[[[[[[[[[[[[[[[[[[[[[[[[[[[[[[[[[[[[[[[[[[[[[[[[[[[[[[[[[[[[[[[[[[[[[[[[[[[[[[[[[[[[[[[[[[[[[[[[[[[[[[[[[[[[[[[[[[[[[[[[[[[[[[[[[[[[[[[[[[[[[[[[[[[[[ = 3 2 configuration 1 at .";
 
-/// A device that takes and gives nothing.
-#[derive(Drop)]
-struct Broken;
-
-impl Read for Broken {
-    fn read(&mut self, _buf: &mut [u8]) -> io::Result<usize> {
-        Err(io::Error::from(io::ErrorKind::BrokenPipe))
-    }
-}
-
-impl Write for Broken {
-    fn write(&mut self, _buf: &[u8]) -> io::Result<usize> {
-        Err(io::Error::from(io::ErrorKind::StorageFull))
-    }
-
-    fn flush(&mut self) -> io::Result<()> {
-        Ok(())
-    }
-}
-
 /// The lines written, with slashes between them, or the fault.
 fn shown<R: Read>(alloc: Global, reader: &mut R) -> Result<String, Fail> {
     let mut output = Vec::new(alloc);
@@ -79,14 +62,7 @@ fn shown<R: Read>(alloc: Global, reader: &mut R) -> Result<String, Fail> {
         }
         return Ok(format!(in alloc; "{number} {status} {fault}")?);
     }
-    let mut text = String::new(alloc);
-    for line in String::from_utf8(output)?.lines() {
-        if !text.is_empty() {
-            text.push_str(" / ")?;
-        }
-        text.push_str(line)?;
-    }
-    Ok(text)
+    joined(alloc, output)
 }
 
 fn table_holds(rt: &(impl AllocGlobal + Abort), table: &str) -> Result<(), Fail> {

@@ -1,21 +1,15 @@
 //! What can be read and what is acknowledged, a row a case; each pool has one server.
 
+use crate::routes::{pool, shadowed, warm_up};
 use mcv_base::{Op, Outcome, Position, Rest, ServerId};
-use mcv_route::{Leaf, Route, Shadow};
+use mcv_route::{Route, Shadow};
 use mcv_rules::PlannedLeg;
 use mcv_symbolic::{Case, LegAnswer};
 use std::alloc::{AllocError, Global};
-use std::sync::Arc;
 use std::test::Fail;
 
-fn pool(alloc: Global, server: u32, shadows: Vec<Shadow>) -> Result<Route, AllocError> {
-    let mut servers = Vec::new(alloc);
-    servers.push(ServerId(server))?;
-    let leaf = Leaf {
-        symbol: 0,
-        servers: Arc::new(alloc, servers)?,
-    };
-    Ok(Route::Pool { leaf, shadows })
+fn lone(alloc: Global, server: u32) -> Result<Route, AllocError> {
+    pool(alloc, 0, &[ServerId(server)])
 }
 
 /// A pool whose copies go to another.
@@ -24,9 +18,9 @@ fn copied(alloc: Global) -> Result<Route, AllocError> {
     shadows.push(Shadow {
         first: 0,
         last: 0,
-        target: pool(alloc, 1, Vec::new(alloc))?,
+        target: lone(alloc, 1)?,
     })?;
-    pool(alloc, 0, shadows)
+    shadowed(alloc, 0, &[ServerId(0)], shadows)
 }
 
 /// The last routes, in their order.
@@ -42,35 +36,40 @@ fn last_of(alloc: Global, routes: &mut Vec<Route>, count: usize) -> Result<Vec<R
 }
 
 /// A WarmUpRoute of the last two routes.
-fn warm_up(alloc: Global, routes: &mut Vec<Route>) -> Result<Route, AllocError> {
+fn warming(alloc: Global, routes: &mut Vec<Route>) -> Result<Route, AllocError> {
     let warm = routes.pop().unwrap_or(Route::Null);
     let cold = routes.pop().unwrap_or(Route::Null);
-    Ok(Route::WarmUp {
-        cold: Box::new(alloc, cold)?,
-        warm: Box::new(alloc, warm)?,
-        exptime: 60,
+    warm_up(alloc, cold, warm, 60)
+}
+
+/// The route of a letter, whose children are the last ones: N a NullRoute, E an ErrorRoute, C a copied pool; s, i, m and f
+/// an AllSyncRoute, an AllInitialRoute, a MissFailoverRoute and a FailoverRoute of the last two, w a WarmUpRoute of them,
+/// F a FailoverRoute of the last three; any other letter a pool.
+fn lettered(alloc: Global, routes: &mut Vec<Route>, letter: u8) -> Result<Route, AllocError> {
+    Ok(match letter {
+        b'N' => Route::Null,
+        b'E' => Route::Error,
+        b'C' => copied(alloc)?,
+        b's' => Route::AllSync(last_of(alloc, routes, 2)?),
+        b'i' => Route::AllInitial(last_of(alloc, routes, 2)?),
+        b'm' => Route::MissFailover(last_of(alloc, routes, 2)?),
+        b'f' => Route::Failover(last_of(alloc, routes, 2)?),
+        b'w' => warming(alloc, routes)?,
+        b'F' => Route::Failover(last_of(alloc, routes, 3)?),
+        other => lone(alloc, u32::from(other))?,
     })
 }
 
-/// The route that letters spell: N a NullRoute, E an ErrorRoute, C a copied pool; s, i, m and f an AllSyncRoute, an
-/// AllInitialRoute, a MissFailoverRoute and a FailoverRoute of the last two, w a WarmUpRoute of them, F a FailoverRoute
-/// of the last three; any other letter a pool.
+fn push_lettered(alloc: Global, routes: &mut Vec<Route>, letter: u8) -> Result<(), AllocError> {
+    let route = lettered(alloc, routes, letter)?;
+    routes.push(route)
+}
+
+/// The route that letters spell.
 fn route_of(alloc: Global, letters: &str) -> Result<Route, Fail> {
     let mut routes = Vec::new(alloc);
     for letter in letters.as_bytes() {
-        let route = match *letter {
-            b'N' => Route::Null,
-            b'E' => Route::Error,
-            b'C' => copied(alloc)?,
-            b's' => Route::AllSync(last_of(alloc, &mut routes, 2)?),
-            b'i' => Route::AllInitial(last_of(alloc, &mut routes, 2)?),
-            b'm' => Route::MissFailover(last_of(alloc, &mut routes, 2)?),
-            b'f' => Route::Failover(last_of(alloc, &mut routes, 2)?),
-            b'w' => warm_up(alloc, &mut routes)?,
-            b'F' => Route::Failover(last_of(alloc, &mut routes, 3)?),
-            other => pool(alloc, u32::from(other), Vec::new(alloc))?,
-        };
-        routes.push(route)?;
+        push_lettered(alloc, &mut routes, *letter)?;
     }
     Ok(routes.pop().ok_or("no route")?)
 }
@@ -84,17 +83,31 @@ fn places(alloc: Global, legs: &[&PlannedLeg]) -> Result<String, Fail> {
     Ok(text)
 }
 
-/// The positions from which the route can be read by a get; those to which every delete that has a reply has been
-/// sent, and whether one can be acknowledged.
-fn given(alloc: Global, route: &Route) -> Result<String, Fail> {
+/// The positions from which the route can be read by a get.
+fn readable(alloc: Global, route: &Route) -> Result<String, Fail> {
     let rest = Rest::of(b"a").ok_or("no rest")?;
     let get = Case::new(alloc, route, Op::Get, &rest, None)?;
+    let legs = get.readable(alloc)?;
+    places(alloc, legs.as_slice())
+}
+
+/// The positions to which every delete that has a reply has been sent, and whether one can be acknowledged.
+fn acknowledged(alloc: Global, route: &Route) -> Result<String, Fail> {
+    let rest = Rest::of(b"a").ok_or("no rest")?;
     let delete = Case::new(alloc, route, Op::Delete, &rest, None)?;
-    let readable = places(alloc, get.readable(alloc)?.as_slice())?;
-    let acknowledged = places(alloc, delete.acknowledged_legs(alloc)?.as_slice())?;
+    let legs = delete.acknowledged_legs(alloc)?;
+    let mut text = places(alloc, legs.as_slice())?;
     let can = delete.can_acknowledge();
-    let mut text = String::new(alloc);
-    write!(text, "{readable} {acknowledged} {can}")?;
+    write!(text, " {can}")?;
+    Ok(text)
+}
+
+/// Where the route of these letters can be read, and what is acknowledged there.
+fn given(alloc: Global, letters: &str) -> Result<String, Fail> {
+    let route = route_of(alloc, letters)?;
+    let mut text = readable(alloc, &route)?;
+    text.push_str(" ")?;
+    text.push_str(acknowledged(alloc, &route)?.as_str())?;
     Ok(text)
 }
 
@@ -115,8 +128,7 @@ fn sets_are_those_of_the_rows(rt: HostRuntime) -> Result<(), Fail> {
     let alloc = rt.alloc();
     for row in ROWS.lines() {
         let (letters, wanted) = row.split_once(" | ").ok_or("a row without a bar")?;
-        let route = route_of(alloc, letters)?;
-        let found = given(alloc, &route)?;
+        let found = given(alloc, letters)?;
         let found = found.as_str();
         assert!(rt; found == wanted, "{row}\n{found}");
     }
@@ -133,21 +145,30 @@ fn shown(alloc: Global, answers: &[LegAnswer]) -> Result<String, Fail> {
     Ok(text)
 }
 
-/// The answers by which a hit of each of the first two children is a get's answer, `-` where none do.
+/// The answers by which a hit of this leaf is a get's answer, `-` where none do.
+fn hit(alloc: Global, get: &Case<'_>, leaf: &Position) -> Result<String, Fail> {
+    match get.hit_of(alloc, leaf)? {
+        Some(answers) => shown(alloc, answers.as_slice()),
+        None => Ok(String::from_str(alloc, "-")?),
+    }
+}
+
+/// The answers by which a hit of each of the first two children is a get's answer.
 fn hits(alloc: Global, route: &Route) -> Result<String, Fail> {
     let rest = Rest::of(b"a").ok_or("no rest")?;
     let get = Case::new(alloc, route, Op::Get, &rest, None)?;
     let mut text = String::new(alloc);
     for child in 0..2 {
-        let leaf = Position::root(alloc).child(alloc, child)?;
-        let answers = match get.hit_of(alloc, &leaf)? {
-            Some(answers) => shown(alloc, answers.as_slice())?,
-            None => String::from_str(alloc, "-")?,
-        };
-        let answers = answers.as_str();
-        write!(text, "{answers};")?;
+        let leaf = Position::at(alloc, &[child])?;
+        text.push_str(hit(alloc, &get, &leaf)?.as_str())?;
+        text.push_str(";")?;
     }
     Ok(text)
+}
+
+fn hits_of(alloc: Global, letters: &str) -> Result<String, Fail> {
+    let route = route_of(alloc, letters)?;
+    hits(alloc, &route)
 }
 
 const HITS: &str = "\
@@ -165,22 +186,27 @@ fn hits_are_those_of_the_rows(rt: HostRuntime) -> Result<(), Fail> {
     let alloc = rt.alloc();
     for row in HITS.lines() {
         let (letters, wanted) = row.split_once(" | ").ok_or("a row without a bar")?;
-        let route = route_of(alloc, letters)?;
-        let found = hits(alloc, &route)?;
+        let found = hits_of(alloc, letters)?;
         let found = found.as_str();
         assert!(rt; found == wanted, "{row}\n{found}");
     }
     Ok(())
 }
 
-/// The answers of a delete where all legs answer Good, and where all answer Error.
-fn alike(alloc: Global, route: &Route) -> Result<String, Fail> {
+/// The answers of a delete where all legs answer so.
+fn answers(alloc: Global, route: &Route, outcome: Outcome) -> Result<String, Fail> {
     let rest = Rest::of(b"a").ok_or("no rest")?;
     let delete = Case::new(alloc, route, Op::Delete, &rest, None)?;
-    let good = shown(alloc, delete.answers(alloc, Outcome::Good)?.as_slice())?;
-    let bad = shown(alloc, delete.answers(alloc, Outcome::Error)?.as_slice())?;
-    let mut text = String::new(alloc);
-    write!(text, "{good} {bad}")?;
+    let legs = delete.answers(alloc, outcome)?;
+    shown(alloc, legs.as_slice())
+}
+
+/// The answers of a delete where all legs answer Good, and where all answer Error.
+fn alike(alloc: Global, letters: &str) -> Result<String, Fail> {
+    let route = route_of(alloc, letters)?;
+    let mut text = answers(alloc, &route, Outcome::Good)?;
+    text.push_str(" ")?;
+    text.push_str(answers(alloc, &route, Outcome::Error)?.as_str())?;
     Ok(text)
 }
 
@@ -195,8 +221,7 @@ fn answers_alike_are_those_of_the_rows(rt: HostRuntime) -> Result<(), Fail> {
     let alloc = rt.alloc();
     for row in ALIKE.lines() {
         let (letters, wanted) = row.split_once(" | ").ok_or("a row without a bar")?;
-        let route = route_of(alloc, letters)?;
-        let found = alike(alloc, &route)?;
+        let found = alike(alloc, letters)?;
         let found = found.as_str();
         assert!(rt; found == wanted, "{row}\n{found}");
     }

@@ -1,9 +1,9 @@
 //! Configurations with their certificates, or with the first place where a delete can be lost.
 
+use crate::built::{lines, routes};
 use mcv_certify::{CertifyFault, Gap, certify};
-use mcv_config::read_config;
 use mcv_route::Routes;
-use std::alloc::{AllocError, Global};
+use std::alloc::Global;
 use std::process::Abort;
 use std::test::Fail;
 
@@ -28,23 +28,6 @@ const LOST: &str = "\
 {\"pools\":{\"A\":{\"servers\":[\"a:11211\",\"b:11211\"]},\"B\":{\"servers\":[\"a:11211\",\"b:11211\"]}},\"route\":{\"type\":\"OperationSelectorRoute\",\"operation_policies\":{\"delete\":{\"type\":\"PoolRoute\",\"pool\":\"B\",\"hash\":{\"hash_func\":\"Ch3\",\"salt\":\"x\"}}},\"default_policy\":\"PoolRoute|A\"}} => a:11211 0 0 0 .1 0
 {\"pools\":{\"A\":{\"servers\":[\"a:11211\"]},\"B\":{\"servers\":[\"b:11211\"]}},\"route\":{\"type\":\"OperationSelectorRoute\",\"operation_policies\":{\"delete\":\"PoolRoute|A\",\"get\":\"PoolRoute|A\",\"gets\":\"PoolRoute|B\"}}} => b:11211 0 0 0 .2 0";
 
-fn routes(rt: &impl Abort, alloc: Global, text: &str) -> Result<Routes, AllocError> {
-    match read_config(alloc, text.as_bytes()) {
-        Ok(config) => Routes::build(alloc, config),
-        Err(_) => panic!(rt; "the text is refused"),
-    }
-}
-
-/// The lines as a text.
-fn lines(alloc: Global, lines: &str) -> Result<Vec<u8>, Fail> {
-    let mut text = Vec::new(alloc);
-    for line in lines.split(" / ") {
-        text.extend_from_slice(line.as_bytes())?;
-        text.push(b'\n')?;
-    }
-    Ok(text)
-}
-
 /// The gap in a line.
 fn shown(alloc: Global, routes: &Routes, gap: &Gap) -> Result<String, Fail> {
     let mut text = String::new(alloc);
@@ -61,41 +44,54 @@ fn shown(alloc: Global, routes: &Routes, gap: &Gap) -> Result<String, Fail> {
     Ok(text)
 }
 
+/// The routes have this certificate.
+fn check_covered(
+    rt: &impl Abort,
+    alloc: Global,
+    routes: &Routes,
+    wanted: &str,
+) -> Result<(), Fail> {
+    match certify(alloc, routes) {
+        Ok(made) => {
+            let found = made.text(alloc)?;
+            let text = lines(alloc, wanted)?;
+            assert!(rt; found.as_slice() == text.as_slice(), "{wanted}");
+            Ok(())
+        }
+        Err(_) => panic!(rt; "no certificate"),
+    }
+}
+
 #[test]
 fn covered_routes_have_their_certificate(rt: HostRuntime) -> Result<(), Fail> {
     let alloc = rt.alloc();
     for case in COVERED.lines() {
-        let Some((text, certificate)) = case.split_once(" => ") else {
-            panic!(rt; "a case in two parts");
-        };
+        let (text, wanted) = case.split_once(" => ").ok_or("a case in two parts")?;
         let routes = routes(&rt, alloc, text)?;
-        match certify(alloc, &routes) {
-            Ok(made) => {
-                let found = made.text(alloc)?;
-                let wanted = lines(alloc, certificate)?;
-                assert!(rt; found.as_slice() == wanted.as_slice(), "{certificate}");
-            }
-            Err(_) => panic!(rt; "no certificate"),
-        }
+        check_covered(&rt, alloc, &routes, wanted)?;
     }
     Ok(())
+}
+
+/// The routes have this gap.
+fn check_gap(rt: &impl Abort, alloc: Global, routes: &Routes, wanted: &str) -> Result<(), Fail> {
+    match certify(alloc, routes) {
+        Err(CertifyFault::Lost(gap)) => {
+            let found = shown(alloc, routes, &gap)?;
+            assert_eq!(rt; found.as_str(), wanted);
+            Ok(())
+        }
+        _ => panic!(rt; "no gap"),
+    }
 }
 
 #[test]
 fn other_routes_have_a_first_gap(rt: HostRuntime) -> Result<(), Fail> {
     let alloc = rt.alloc();
     for case in LOST.lines() {
-        let Some((text, wanted)) = case.split_once(" => ") else {
-            panic!(rt; "a case in two parts");
-        };
+        let (text, wanted) = case.split_once(" => ").ok_or("a case in two parts")?;
         let routes = routes(&rt, alloc, text)?;
-        match certify(alloc, &routes) {
-            Err(CertifyFault::Lost(gap)) => {
-                let found = shown(alloc, &routes, &gap)?;
-                assert_eq!(rt; found.as_str(), wanted);
-            }
-            _ => panic!(rt; "no gap"),
-        }
+        check_gap(&rt, alloc, &routes, wanted)?;
     }
     Ok(())
 }

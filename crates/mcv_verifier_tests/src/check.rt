@@ -1,9 +1,8 @@
 //! Certificates of small configurations, a row a case: accepted, or the number of the first fault.
 
+use crate::built::routes;
 use mcv_cert::read_certificate;
 use mcv_check::check;
-use mcv_config::read_config;
-use mcv_route::Routes;
 use std::alloc::{AllocError, Global};
 use std::process::Abort;
 use std::test::Fail;
@@ -27,13 +26,6 @@ fn configuration(name: &str) -> &'static str {
     }
 }
 
-fn routes(rt: &impl Abort, alloc: Global, name: &str) -> Result<Routes, AllocError> {
-    match read_config(alloc, configuration(name).as_bytes()) {
-        Ok(config) => Routes::build(alloc, config),
-        Err(_) => panic!(rt; "the configuration is refused"),
-    }
-}
-
 /// The text of a certificate with these lines, which are parted by semicolons.
 fn certificate_text(alloc: Global, lines: &str) -> Result<String, AllocError> {
     let mut text = String::from_str(alloc, "mcv-cert 1\n")?;
@@ -49,7 +41,7 @@ fn certificate_text(alloc: Global, lines: &str) -> Result<String, AllocError> {
 
 /// The number of the first fault of the certificate with these lines; 0 where it is accepted.
 fn judged(rt: &impl Abort, alloc: Global, name: &str, lines: &str) -> Result<u8, AllocError> {
-    let routes = routes(rt, alloc, name)?;
+    let routes = routes(rt, alloc, configuration(name))?;
     let text = certificate_text(alloc, lines)?;
     let Ok(certificate) = read_certificate(alloc, text.as_bytes()) else {
         panic!(rt; "the certificate isn't read");

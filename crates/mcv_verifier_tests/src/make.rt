@@ -1,6 +1,6 @@
 //! Configurations that aren't covered, and the text of what shows it.
 
-use mcv_config::read_config;
+use crate::built::{lines, routes};
 use mcv_make::{MakeFault, make};
 use mcv_route::Routes;
 use mcv_witness::{confirm, finding_text};
@@ -28,21 +28,23 @@ const LOST: &str = "\
 {\"pools\":{\"A\":{\"servers\":[\"a:11211\"]},\"B\":{\"servers\":[\"b:11211\"]},\"C\":{\"servers\":[\"c:11211\"]}},\"route\":{\"type\":\"OperationSelectorRoute\",\"operation_policies\":{\"delete\":{\"type\":\"FailoverRoute\",\"children\":[{\"type\":\"AllSyncRoute\",\"children\":[\"PoolRoute|A\",\"ErrorRoute\"]},\"PoolRoute|B\",\"PoolRoute|C\"]}},\"default_policy\":{\"type\":\"FailoverRoute\",\"children\":[\"PoolRoute|A\",\"PoolRoute|B\",\"PoolRoute|C\"]}}} => lost c:11211 / route 0 / class = / era 0 / key /././! / get 1.0=error 1.1=error 1.2=hit / delete 0.0.0=deleted 0.1=deleted
 {\"pools\":{\"A\":{\"servers\":[\"a:11211\"]},\"B\":{\"servers\":[\"b:11211\"]}},\"routes\":[{\"aliases\":[\"/a/a/\"],\"route\":\"PoolRoute|A\"},{\"aliases\":[\"/b/b/\",\"/c/c/\"],\"route\":{\"type\":\"WarmUpRoute\",\"cold\":\"PoolRoute|A\",\"warm\":\"PoolRoute|B\"}}]} => lost b:11211 / route 1 / class = / era 0 / key /b/b/! / get 0=miss 1=hit / delete 0=deleted";
 
-fn routes(rt: &impl Abort, alloc: Global, text: &str) -> Result<Routes, Fail> {
-    match read_config(alloc, text.as_bytes()) {
-        Ok(config) => Ok(Routes::build(alloc, config)?),
-        Err(_) => panic!(rt; "the text is refused"),
+/// The routes have this finding.
+fn check_lost(
+    rt: &impl Abort,
+    alloc: Global,
+    routes: &Routes,
+    wanted: &str,
+) -> Result<(), Fail> {
+    match make(alloc, routes) {
+        Err(MakeFault::Lost(finding)) => {
+            assert!(rt; confirm(routes, &finding), "{wanted}");
+            let found = finding_text(alloc, &finding, routes)?;
+            let text = lines(alloc, wanted)?;
+            assert!(rt; found.as_slice() == text.as_slice(), "{wanted}");
+            Ok(())
+        }
+        _ => panic!(rt; "no finding"),
     }
-}
-
-/// The lines as a text.
-fn lines(alloc: Global, lines: &str) -> Result<Vec<u8>, Fail> {
-    let mut text = Vec::new(alloc);
-    for line in lines.split(" / ") {
-        text.extend_from_slice(line.as_bytes())?;
-        text.push(b'\n')?;
-    }
-    Ok(text)
 }
 
 #[test]
@@ -51,15 +53,7 @@ fn losses_have_their_finding(rt: HostRuntime) -> Result<(), Fail> {
     for case in LOST.lines() {
         let (text, wanted) = case.split_once(" => ").ok_or("a case in two parts")?;
         let routes = routes(&rt, alloc, text)?;
-        match make(alloc, &routes) {
-            Err(MakeFault::Lost(finding)) => {
-                assert!(rt; confirm(&routes, &finding), "{wanted}");
-                let found = finding_text(alloc, &finding, &routes)?;
-                let text = lines(alloc, wanted)?;
-                assert!(rt; found.as_slice() == text.as_slice(), "{wanted}");
-            }
-            _ => panic!(rt; "no finding"),
-        }
+        check_lost(&rt, alloc, &routes, wanted)?;
     }
     Ok(())
 }

@@ -1,11 +1,11 @@
 //! Findings, true ones with their texts, and false ones.
 
+use crate::built::{lines, routes};
 use mcv_base::{Op, Outcome, Position, ServerId};
-use mcv_config::read_config;
 use mcv_pools::Choice;
 use mcv_route::Routes;
 use mcv_witness::{Finding, LegOutcome, confirm, finding_text};
-use std::alloc::{AllocError, Global};
+use std::alloc::Global;
 use std::process::Abort;
 use std::test::Fail;
 
@@ -68,13 +68,6 @@ const FALSE: &str = "\
 5 0 - 0 /././! 2 0 1 0 gets - 0=deleted => gets without a hit
 6 0 ab 0 /a/b/ab 0.1 0 0 0 get 0.0=miss,0.1=hit 0.0=deleted => another server behind a prefix
 6 0 ab 0 /a/b/ab 0.1 0 1 0 get 0.0=miss 0.0=deleted => no hit behind a prefix";
-
-fn routes(rt: &impl Abort, alloc: Global, text: &str) -> Result<Routes, AllocError> {
-    match read_config(alloc, text.as_bytes()) {
-        Ok(config) => Routes::build(alloc, config),
-        Err(_) => panic!(rt; "the configuration is refused"),
-    }
-}
 
 /// Numbers with this sign between them.
 fn numbers(alloc: Global, text: &str, sign: char) -> Result<Vec<usize>, Fail> {
@@ -205,28 +198,30 @@ fn config(number: &str) -> Result<&'static str, Fail> {
     Ok(CONFIGS.lines().nth(number).ok_or("a configuration")?)
 }
 
-/// The lines as a text.
-fn text_of(alloc: Global, lines: &str) -> Result<Vec<u8>, Fail> {
-    let mut text = Vec::new(alloc);
-    for line in lines.split(" / ") {
-        text.extend_from_slice(line.as_bytes())?;
-        text.push(b'\n')?;
-    }
-    Ok(text)
+/// The finding is true and has this text.
+fn check_true(
+    rt: &impl Abort,
+    alloc: Global,
+    routes: &Routes,
+    finding: &Finding,
+    wanted: &str,
+) -> Result<(), Fail> {
+    assert!(rt; confirm(routes, finding), "{wanted}");
+    let found = finding_text(alloc, finding, routes)?;
+    let text = lines(alloc, wanted)?;
+    assert!(rt; found.as_slice() == text.as_slice(), "{wanted}");
+    Ok(())
 }
 
 #[test]
 fn what_breaks_coverage_is_confirmed(rt: HostRuntime) -> Result<(), Fail> {
     let alloc = rt.alloc();
     for case in TRUE.lines() {
-        let (row, lines) = case.split_once(" => ").ok_or("a case in two parts")?;
+        let (row, wanted) = case.split_once(" => ").ok_or("a case in two parts")?;
         let (number, line) = row.split_once(' ').ok_or("a configuration")?;
         let routes = routes(&rt, alloc, config(number)?)?;
         let finding = finding(alloc, line)?;
-        assert!(rt; confirm(&routes, &finding), "{row}");
-        let text = finding_text(alloc, &finding, &routes)?;
-        let wanted = text_of(alloc, lines)?;
-        assert!(rt; text.as_slice() == wanted.as_slice(), "{lines}");
+        check_true(&rt, alloc, &routes, &finding, wanted)?;
     }
     Ok(())
 }

@@ -1,10 +1,9 @@
 //! Certificates that are refused, and other faults, in their order.
 
-use crate::verdicts::{by_operation, shown};
+use super::verdicts::{by_operation, shown};
+use crate::devices::Broken;
 use mcv_verdict::{RunFault, Verdict, run_check};
 use std::alloc::Global;
-use std::io;
-use std::io::{Read, Write};
 use std::test::Fail;
 
 /// The pairs of a certificate over a pool of two servers and deletes to both, with semicolons between its lines, and what is written.
@@ -81,26 +80,6 @@ fn the_configuration_is_judged_before_the_certificate(rt: HostRuntime) -> Result
     let text = shown(alloc, "{\"route\":\"PoolRoute|Z\"}", None)?;
     assert_eq!(rt; text.as_str(), "3 2 configuration 5 at /route");
     Ok(())
-}
-
-/// A device that takes and gives nothing.
-#[derive(Drop)]
-struct Broken;
-
-impl Read for Broken {
-    fn read(&mut self, _buf: &mut [u8]) -> io::Result<usize> {
-        Err(io::Error::from(io::ErrorKind::BrokenPipe))
-    }
-}
-
-impl Write for Broken {
-    fn write(&mut self, _buf: &[u8]) -> io::Result<usize> {
-        Err(io::Error::from(io::ErrorKind::StorageFull))
-    }
-
-    fn flush(&mut self) -> io::Result<()> {
-        Ok(())
-    }
 }
 
 #[test]

@@ -1,5 +1,6 @@
 //! Which verdict there is on configurations, and what is written of it.
 
+use crate::devices::joined;
 use mcv_verdict::{Verdict, run_check};
 use std::alloc::Global;
 use std::process::Abort;
@@ -53,14 +54,7 @@ pub fn shown(
         }
         return Ok(format!(in alloc; "{number} {status} {fault}")?);
     }
-    let mut text = String::new(alloc);
-    for line in String::from_utf8(output)?.lines() {
-        if !text.is_empty() {
-            text.push_str(" / ")?;
-        }
-        text.push_str(line)?;
-    }
-    Ok(text)
+    joined(alloc, output)
 }
 
 /// A configuration with these pools, whose deletes go one way, and all else another.

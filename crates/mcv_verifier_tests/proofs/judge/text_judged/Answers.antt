@@ -1,7 +1,7 @@
 use Rattle.std.proofs.Common.{[], arith}
 use Rattle.std.proofs.lemmas.List.Elements.{All-cons, All-nil}
-use Rattle.mcv_judge_tests.proofs.Order.{Before, HasIndex, alone, four_rise}
-use Rattle.mcv_judge_tests.proofs.certificates.text_judged.Goals as goal
+use Rattle.mcv_verifier_tests.proofs.Order.{Before, HasIndex, alone, four_rise}
+use Rattle.mcv_verifier_tests.proofs.judge.text_judged.Goals as goal
 
 pub number_told-requires : goal.number_told-requires
 number_told-requires c = record {
