@@ -177,14 +177,16 @@ fn class(word: &str) -> &[u8] {
 fn finding(alloc: Global, line: &str) -> Result<Finding, Fail> {
     let words = words(line)?;
     let read = reading(words.read)?;
+    let (route, era) = (words.route.parse::<usize>()?, words.era.parse::<usize>()?);
+    let (at, server) = (read.at.parse::<usize>()?, read.server.parse::<u32>()?);
     Ok(Finding {
-        route: words.route.parse::<usize>()?,
+        route,
         class: Vec::from_slice(alloc, class(words.class))?,
-        era: words.era.parse::<usize>()?,
+        era,
         key: Vec::from_slice(alloc, words.key.as_bytes())?,
         leaf: position(alloc, read.leaf)?,
-        at: read.at.parse::<usize>()?,
-        server: ServerId(read.server.parse::<u32>()?),
+        at,
+        server: ServerId(server),
         choice: Choice::new(numbers(alloc, read.choice, ',')?),
         op: op(read.op),
         gets: outcomes(alloc, read.gets)?,
