@@ -90,7 +90,11 @@ fn check_leaves(
 ) -> Result<(), Fail> {
     for row in rows.lines() {
         let (place, leaf) = row.split_once(" = ").ok_or("no row")?;
-        assert_eq!(rt; shown(alloc, routes, number, place)?.as_str(), leaf, "{row}");
+        assert_eq!(rt;
+            shown(alloc, routes, number, place)?.as_str(),
+            leaf,
+            "{row}"
+        );
     }
     Ok(())
 }

@@ -32,12 +32,7 @@ pub fn two(alloc: Global, first: Route, second: Route) -> Result<Vec<Route>, All
     Ok(children)
 }
 
-pub fn warm_up(
-    alloc: Global,
-    cold: Route,
-    warm: Route,
-    exptime: u32,
-) -> Result<Route, AllocError> {
+pub fn warm_up(alloc: Global, cold: Route, warm: Route, exptime: u32) -> Result<Route, AllocError> {
     Ok(Route::WarmUp {
         cold: Box::new(alloc, cold)?,
         warm: Box::new(alloc, warm)?,

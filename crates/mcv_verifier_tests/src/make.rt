@@ -29,12 +29,7 @@ const LOST: &str = "\
 {\"pools\":{\"A\":{\"servers\":[\"a:11211\"]},\"B\":{\"servers\":[\"b:11211\"]}},\"routes\":[{\"aliases\":[\"/a/a/\"],\"route\":\"PoolRoute|A\"},{\"aliases\":[\"/b/b/\",\"/c/c/\"],\"route\":{\"type\":\"WarmUpRoute\",\"cold\":\"PoolRoute|A\",\"warm\":\"PoolRoute|B\"}}]} => lost b:11211 / route 1 / class = / era 0 / key /b/b/! / get 0=miss 1=hit / delete 0=deleted";
 
 /// The routes have this finding.
-fn check_lost(
-    rt: &impl Abort,
-    alloc: Global,
-    routes: &Routes,
-    wanted: &str,
-) -> Result<(), Fail> {
+fn check_lost(rt: &impl Abort, alloc: Global, routes: &Routes, wanted: &str) -> Result<(), Fail> {
     match make(alloc, routes) {
         Err(MakeFault::Lost(finding)) => {
             assert!(rt; confirm(routes, &finding), "{wanted}");
