@@ -301,7 +301,7 @@ fn goes_on(
             known[entry] = Some(outcome);
         }
         mark_fresh(state, launched);
-        well = well && are_launched(state, known, launched);
+        well = well && are_launched(state, known.as_slice(), launched.as_slice());
     }
     Ok(well)
 }
@@ -309,7 +309,7 @@ fn goes_on(
 /// Whether after each of the outcomes the legs that were fresh so far are those that are launched.
 fn agrees(alloc: Global, plan: &Plan, outcomes: &str) -> Result<bool, Fail> {
     let (mut state, entries) = state_of(alloc, plan)?;
-    let mut known = vec![in alloc; None; entries.len()]?;
+    let mut known: Vec<Option<Outcome>> = vec![in alloc; None; entries.len()]?;
     let mut launched = vec![in alloc; false; entries.len()]?;
     mark_fresh(&state, &mut launched);
     let begins_well = are_launched(&state, &known, &launched);
