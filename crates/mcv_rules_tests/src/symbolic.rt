@@ -62,7 +62,7 @@ fn lettered(alloc: Global, routes: &mut Vec<Route>, letter: u8) -> Result<Route,
 
 fn push_lettered(alloc: Global, routes: &mut Vec<Route>, letter: u8) -> Result<(), AllocError> {
     let route = lettered(alloc, routes, letter)?;
-    routes.push(route)
+    Ok(routes.push(route)?)
 }
 
 /// The route that letters spell.
