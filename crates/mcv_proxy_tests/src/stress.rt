@@ -22,31 +22,21 @@ const KEYS: usize = 1_000;
 
 const SESSIONS: usize = 16;
 
-/// A server without values that breaks the last ones of so many legs.
-fn breaking(text: &'static str, breaks_every: u64, in_a_row: u64, answers_probes: bool) -> Manner {
+/// How the server of this number behaves: it breaks one leg in ten, every second one three in a row, which marks it. A dead
+/// one breaks all, and answers no probe.
+fn manner_of(server: usize, text: &'static str, is_dead: bool) -> Manner {
+    let (breaks_every, in_a_row) = match (is_dead, server % 2) {
+        (true, _) => (1, 1),
+        (false, 0) => (10, 1),
+        (false, _) => (30, 3),
+    };
     Manner {
         text,
         has: "",
         breaks_every,
         in_a_row,
-        answers_probes,
+        answers_probes: !is_dead,
     }
-}
-
-/// Servers that break one leg in ten, two of them three in a row, which marks them.
-fn weak() -> [Manner; 4] {
-    [
-        breaking(SERVERS[0], 10, 1, true),
-        breaking(SERVERS[1], 30, 3, true),
-        breaking(SERVERS[2], 10, 1, true),
-        breaking(SERVERS[3], 30, 3, true),
-    ]
-}
-
-/// The same, but the last one answers nothing at all.
-fn weak_and_dead() -> [Manner; 4] {
-    let [first, second, third, _] = weak();
-    [first, second, third, breaking(SERVERS[3], 1, 1, false)]
 }
 
 /// The number of the key of a session's request.
@@ -80,12 +70,13 @@ fn requests(alloc: Global, count: usize) -> Result<Vec<u8>, Fail> {
 fn scene_of<R: Wait + Clock + Copy + Drop + Send + 'static>(
     rt: R,
     alloc: Global,
-    manners: &[Manner],
+    dead: Option<usize>,
     count: usize,
 ) -> Result<Scene<R>, Fail> {
     let mut scene = Scene::new(rt, alloc)?;
-    for manner in manners {
-        scene = scene.with_server(Server::new(alloc, *manner, KEYS)?)?;
+    for (server, text) in SERVERS.iter().enumerate() {
+        let manner = manner_of(server, *text, dead == Some(server));
+        scene = scene.with_server(Server::new(alloc, manner, KEYS)?)?;
     }
     for _session in 0..SESSIONS {
         scene = scene.with_client(requests(alloc, count)?, None)?;
@@ -148,13 +139,14 @@ fn count_pending<R: Wait + Clock + Copy + Drop + Send + 'static>(
         return Err(Fail::from("the spool is refused"));
     };
     let records = spool.pending()?;
-    for (_seq, delete) in records.iter() {
+    let count = records.len();
+    for (_seq, delete) in records {
         match place_of(delete.server.as_bytes(), delete.rest.as_bytes()) {
             Some(place) => count_at(table, place),
             None => return Err(Fail::from("a record of another server or key")),
         }
     }
-    Ok(records.len())
+    Ok(count)
 }
 
 /// Whether a line acknowledges a delete.
@@ -179,8 +171,9 @@ fn count_acknowledged(answers: &[u8], table: &mut [u8]) -> usize {
 fn lacking(kept: &[u8], acknowledged: &[u8]) -> usize {
     let mut count = 0usize;
     for (place, times) in kept.iter().enumerate() {
-        if acknowledged.get(place % KEYS) > Some(times) {
-            count = count.saturating_add(1);
+        match acknowledged.get(place % KEYS) {
+            Some(asked) if *asked > *times => count = count.saturating_add(1),
+            _ => {}
         }
     }
     count
@@ -206,13 +199,13 @@ fn look<R: Wait + Clock + Copy + Drop + Send + 'static>(
     seen: &Scene<R>,
 ) -> Result<Seen, Fail> {
     let mut kept = performed(rt, alloc, seen)?;
-    let pending = count_pending(rt, alloc, seen, &mut kept)?;
+    let pending = count_pending(rt, alloc, seen, kept.as_mut_slice())?;
     let mut acknowledged = Vec::new(alloc);
     acknowledged.resize(KEYS, 0u8)?;
     let mut answers = 0usize;
     for text in seen.answers.iter() {
         let text = text.lock(&rt);
-        let lines = count_acknowledged(text.as_slice(), &mut acknowledged);
+        let lines = count_acknowledged(text.as_slice(), acknowledged.as_mut_slice());
         answers = answers.saturating_add(lines);
     }
     Ok(Seen {
@@ -224,14 +217,14 @@ fn look<R: Wait + Clock + Copy + Drop + Send + 'static>(
     })
 }
 
-/// What comes of sessions with so many requests each.
+/// What comes of sessions with so many requests each, where this server is dead.
 fn run<R: Threads + Wait + Clock + Copy + Drop + Send + 'static>(
     rt: R,
     alloc: Global,
-    manners: &[Manner],
+    dead: Option<usize>,
     count: usize,
 ) -> Result<(Report, Seen), Fail> {
-    let scene = scene_of(rt, alloc, manners, count)?;
+    let scene = scene_of(rt, alloc, dead, count)?;
     let (report, seen) = play(rt, alloc, ALL, scene)?;
     let Ok(report) = report else {
         return Err(Fail::from("the proxy failed"));
@@ -241,7 +234,7 @@ fn run<R: Threads + Wait + Clock + Copy + Drop + Send + 'static>(
 
 #[test]
 fn acknowledged_deletes_are_kept(rt: HostRuntime) -> Result<(), Fail> {
-    let (report, seen) = run(rt, rt.alloc(), &weak(), 12_500)?;
+    let (report, seen) = run(rt, rt.alloc(), None, 12_500)?;
     assert_eq!(rt; report.begun, 200_000);
     assert_eq!(rt; report.taken, 200_000);
     assert_eq!(rt; seen.answers, 200_000);
@@ -253,7 +246,7 @@ fn acknowledged_deletes_are_kept(rt: HostRuntime) -> Result<(), Fail> {
 
 #[test]
 fn deletes_of_a_dead_server_are_pending(rt: HostRuntime) -> Result<(), Fail> {
-    let (report, seen) = run(rt, rt.alloc(), &weak_and_dead(), 100)?;
+    let (report, seen) = run(rt, rt.alloc(), Some(3), 100)?;
     assert_eq!(rt; report.begun, 1_600);
     assert_eq!(rt; seen.acknowledged, 400);
     assert_eq!(rt; seen.lacking, 0);
