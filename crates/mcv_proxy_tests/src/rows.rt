@@ -35,6 +35,7 @@ fn sound(text: &'static str, has: &'static str) -> Manner {
         text,
         has,
         breaks_every: 0,
+        in_a_row: 1,
         answers_probes: true,
     }
 }
@@ -45,6 +46,7 @@ fn broken(text: &'static str, answers_probes: bool) -> Manner {
         text,
         has: "",
         breaks_every: 1,
+        in_a_row: 1,
         answers_probes,
     }
 }

@@ -40,8 +40,10 @@ pub(crate) struct Manner {
     pub(crate) text: &'static str,
     /// The rest of the one key that it has a value of, `x`.
     pub(crate) has: &'static str,
-    /// Of so many legs it breaks the last one; none where this is 0.
+    /// Of so many legs it breaks the last ones; none where this is 0.
     pub(crate) breaks_every: u64,
+    /// How many it breaks in a row.
+    pub(crate) in_a_row: u64,
     pub(crate) answers_probes: bool,
 }
 
@@ -100,9 +102,10 @@ impl Server {
 
     /// Whether the next leg breaks.
     fn breaks(&self) -> bool {
-        let number = self.legs.fetch_add(1, Ordering::SeqCst).saturating_add(1);
-        match number.checked_rem(self.manner.breaks_every) {
-            Some(rest) => rest == 0,
+        let number = self.legs.fetch_add(1, Ordering::SeqCst);
+        let every = self.manner.breaks_every;
+        match number.checked_rem(every) {
+            Some(rest) => every.saturating_sub(rest) <= self.manner.in_a_row,
             None => false,
         }
     }

@@ -3,6 +3,7 @@
 use crate::disk::MemoryDisk;
 use crate::scene::{Manner, Scene, Server, number_of, play};
 use mcv_base::push_number;
+use mcv_hub::Report;
 use mcv_spool::Spool;
 use std::alloc::Global;
 use std::rt::Clock;
@@ -10,58 +11,125 @@ use std::sync::{Arc, Mutex, Wait};
 use std::test::Fail;
 use std::thread::Threads;
 
-/// Deletes go to all four servers.
+/// Deletes go to all four servers, a set to the second and later to the third, a get to the first one that answers.
 const ALL: &str =
-    "{\"pools\":{\"A\":{\"servers\":[\"a:11211\"]},\"B\":{\"servers\":[\"b:11211\"]},\"C\":{\"servers\":[\"c:11211\"]},\"D\":{\"servers\":[\"d:11211\"]}},\"route\":{\"type\":\"OperationSelectorRoute\",\"operation_policies\":{\"delete\":{\"type\":\"AllSyncRoute\",\"children\":[\"PoolRoute|A\",\"PoolRoute|B\",\"PoolRoute|C\",\"PoolRoute|D\"]}},\"default_policy\":\"PoolRoute|A\"}}";
+    "{\"pools\":{\"A\":{\"servers\":[\"a:11211\"]},\"B\":{\"servers\":[\"b:11211\"]},\"C\":{\"servers\":[\"c:11211\"]},\"D\":{\"servers\":[\"d:11211\"]}},\"route\":{\"type\":\"OperationSelectorRoute\",\"operation_policies\":{\"delete\":{\"type\":\"AllSyncRoute\",\"children\":[\"PoolRoute|A\",\"PoolRoute|B\",\"PoolRoute|C\",\"PoolRoute|D\"]},\"set\":{\"type\":\"AllInitialRoute\",\"children\":[\"PoolRoute|B\",\"PoolRoute|C\"]}},\"default_policy\":{\"type\":\"FailoverRoute\",\"children\":[\"PoolRoute|A\",\"PoolRoute|B\",\"PoolRoute|C\",\"PoolRoute|D\"]}}}";
 
 const SERVERS: [&str; 4] = ["a:11211", "b:11211", "c:11211", "d:11211"];
 
-/// Deletes of the numbers from one on.
-fn deletes(alloc: Global, first: usize, count: usize) -> Result<Vec<u8>, Fail> {
+/// How many keys there are. A key is deleted fewer than 255 times.
+const KEYS: usize = 1_000;
+
+const SESSIONS: usize = 16;
+
+/// How the server of this number behaves: it breaks one leg in ten, every second one three in a row, which marks it. A dead
+/// one breaks all, and answers no probe.
+fn manner_of(server: usize, text: &'static str, is_dead: bool) -> Manner {
+    let (breaks_every, in_a_row) = match (is_dead, server % 2) {
+        (true, _) => (1, 1),
+        (false, 0) => (10, 1),
+        (false, _) => (30, 3),
+    };
+    Manner {
+        text,
+        has: "",
+        breaks_every,
+        in_a_row,
+        answers_probes: !is_dead,
+    }
+}
+
+/// The number of the key of a session's request.
+fn key_of(request: usize) -> usize {
+    request / 4 % KEYS
+}
+
+/// A session's request of this number: four for each key, the first of which is a delete.
+fn push_request(text: &mut Vec<u8>, request: usize) -> Result<(), Fail> {
+    let (before, behind) = match request % 4 {
+        0 => ("delete k", "\r\n"),
+        2 => ("set k", " 0 0 1\r\nx\r\n"),
+        _ => ("get k", "\r\n"),
+    };
+    text.extend_from_slice(before.as_bytes())?;
+    push_number(text, key_of(request))?;
+    text.extend_from_slice(behind.as_bytes())?;
+    Ok(())
+}
+
+/// So many requests of a session.
+fn requests(alloc: Global, count: usize) -> Result<Vec<u8>, Fail> {
     let mut text = Vec::new(alloc);
-    for number in first..first.saturating_add(count) {
-        text.extend_from_slice(b"delete k")?;
-        push_number(&mut text, number)?;
-        text.extend_from_slice(b"\r\n")?;
+    for request in 0..count {
+        push_request(&mut text, request)?;
     }
     Ok(text)
 }
 
-/// So many clients, each with so many deletes of its own.
+/// Sessions of so many requests each.
 fn scene_of<R: Wait + Clock + Copy + Drop + Send + 'static>(
     rt: R,
     alloc: Global,
-    clients: usize,
+    dead: Option<usize>,
     count: usize,
 ) -> Result<Scene<R>, Fail> {
     let mut scene = Scene::new(rt, alloc)?;
-    for text in SERVERS {
-        let manner = Manner {
-            text,
-            has: "",
-            breaks_every: 10,
-            answers_probes: true,
-        };
-        let server = Server::new(alloc, manner, clients.saturating_mul(count))?;
-        scene = scene.with_server(server)?;
+    for (server, text) in SERVERS.iter().enumerate() {
+        let manner = manner_of(server, *text, dead == Some(server));
+        scene = scene.with_server(Server::new(alloc, manner, KEYS)?)?;
     }
-    for client in 0..clients {
-        scene = scene.with_client(deletes(alloc, client.saturating_mul(count), count)?, None)?;
+    for _session in 0..SESSIONS {
+        scene = scene.with_client(requests(alloc, count)?, None)?;
     }
     Ok(scene)
 }
 
-/// Which deletes of which servers are performed or pending: a byte for each number, server after server.
-fn kept<R: Wait + Clock + Copy + Drop + Send + 'static>(
+/// One more at a place of a table.
+fn count_at(table: &mut [u8], place: usize) {
+    if let Some(times) = table.get_mut(place) {
+        *times = times.saturating_add(1);
+    }
+}
+
+fn sum_of(table: &[u8]) -> usize {
+    let mut sum = 0usize;
+    for times in table {
+        sum = sum.saturating_add(usize::from(*times));
+    }
+    sum
+}
+
+/// How often each server performed the delete of each key: a byte for each key, server after server.
+fn performed<R: Wait + Clock + Copy + Drop + Send + 'static>(
     rt: R,
     alloc: Global,
     seen: &Scene<R>,
-    numbers: usize,
 ) -> Result<Vec<u8>, Fail> {
-    let mut kept = Vec::new(alloc);
+    let mut table = Vec::new(alloc);
     for server in seen.servers.iter() {
-        kept.extend_from_slice(server.notes.lock(&rt).deleted.as_slice())?;
+        table.extend_from_slice(server.notes.lock(&rt).deleted.as_slice())?;
     }
+    Ok(table)
+}
+
+/// Where the delete of a key stands in a table of all servers; None where there is no such server or key.
+fn place_of(server: &[u8], rest: &[u8]) -> Option<usize> {
+    let number = number_of(rest)?;
+    for (place, text) in SERVERS.iter().enumerate() {
+        if text.as_bytes() == server {
+            return Some(place.saturating_mul(KEYS).saturating_add(number));
+        }
+    }
+    None
+}
+
+/// Counts the deletes that are pending in the spool. How many there are.
+fn count_pending<R: Wait + Clock + Copy + Drop + Send + 'static>(
+    rt: R,
+    alloc: Global,
+    seen: &Scene<R>,
+    table: &mut [u8],
+) -> Result<usize, Fail> {
     let disk = MemoryDisk {
         rt,
         bytes: Arc::try_clone(&seen.disk)?,
@@ -70,18 +138,15 @@ fn kept<R: Wait + Clock + Copy + Drop + Send + 'static>(
     let Ok(spool) = Spool::open(alloc, disk) else {
         return Err(Fail::from("the spool is refused"));
     };
-    for (_seq, delete) in spool.pending()? {
-        for (place, text) in SERVERS.iter().enumerate() {
-            if text.as_bytes() == delete.server.as_bytes() {
-                let number = number_of(delete.rest.as_bytes()).unwrap_or(usize::MAX);
-                let at = place.saturating_mul(numbers).saturating_add(number);
-                if let Some(times) = kept.get_mut(at) {
-                    *times = times.saturating_add(1);
-                }
-            }
+    let records = spool.pending()?;
+    let count = records.len();
+    for (_seq, delete) in records {
+        match place_of(delete.server.as_bytes(), delete.rest.as_bytes()) {
+            Some(place) => count_at(table, place),
+            None => return Err(Fail::from("a record of another server or key")),
         }
     }
-    Ok(kept)
+    Ok(count)
 }
 
 /// Whether a line acknowledges a delete.
@@ -89,62 +154,121 @@ fn acknowledges(line: &[u8]) -> bool {
     line == b"DELETED\r".as_slice() || line == b"NOT_FOUND\r".as_slice()
 }
 
-/// How many of a client's deletes were acknowledged; none where one that was isn't kept at each server.
-fn acknowledged(answers: &[u8], kept: &[u8], first: usize, numbers: usize) -> Option<usize> {
-    let mut count = 0usize;
-    let mut number = first;
+/// Counts the deletes of each key that a session was acknowledged. How many lines it was answered; each answer has one.
+fn count_acknowledged(answers: &[u8], table: &mut [u8]) -> usize {
+    let mut request = 0usize;
     for line in answers.split(|byte| *byte == b'\n') {
-        if acknowledges(line) {
-            count = count.saturating_add(1);
-            for server in 0..SERVERS.len() {
-                let at = server.saturating_mul(numbers).saturating_add(number);
-                if *kept.get(at)? == 0 {
-                    return None;
-                }
-            }
+        if request % 4 == 0 && acknowledges(line) {
+            count_at(table, key_of(request));
         }
-        number = number.saturating_add(1);
+        request = request.saturating_add(1);
     }
-    Some(count)
+    // Behind the last line end there is an empty piece.
+    request.saturating_sub(1)
 }
 
-/// How many deletes were acknowledged, each of which is kept at each server.
+/// How many requests a session was refused, since the chapter had no place for them.
+fn count_refused(answers: &[u8]) -> usize {
+    let mut count = 0usize;
+    for line in answers.split(|byte| *byte == b'\n') {
+        if line == b"SERVER_ERROR busy\r".as_slice() {
+            count = count.saturating_add(1);
+        }
+    }
+    count
+}
+
+/// At how many servers and keys fewer deletes are kept than were acknowledged.
+fn lacking(kept: &[u8], acknowledged: &[u8]) -> usize {
+    let mut count = 0usize;
+    for (place, times) in kept.iter().enumerate() {
+        match acknowledged.get(place % KEYS) {
+            Some(asked) if *asked > *times => count = count.saturating_add(1),
+            _ => {}
+        }
+    }
+    count
+}
+
+/// What sessions and servers saw.
+#[derive(Clone, Copy)]
+struct Seen {
+    /// The lines that all sessions were answered.
+    answers: usize,
+    /// Those that refuse a request.
+    refused: usize,
+    /// The deletes that they were acknowledged.
+    acknowledged: usize,
+    /// The deletes that servers performed or that are pending in the spool.
+    kept: usize,
+    pending: usize,
+    /// The servers and keys where fewer deletes are kept than were acknowledged.
+    lacking: usize,
+}
+
+fn look<R: Wait + Clock + Copy + Drop + Send + 'static>(
+    rt: R,
+    alloc: Global,
+    seen: &Scene<R>,
+) -> Result<Seen, Fail> {
+    let mut kept = performed(rt, alloc, seen)?;
+    let pending = count_pending(rt, alloc, seen, kept.as_mut_slice())?;
+    let mut acknowledged = Vec::new(alloc);
+    acknowledged.resize(KEYS, 0u8)?;
+    let (mut answers, mut refused) = (0usize, 0usize);
+    for text in seen.answers.iter() {
+        let text = text.lock(&rt);
+        let lines = count_acknowledged(text.as_slice(), acknowledged.as_mut_slice());
+        answers = answers.saturating_add(lines);
+        refused = refused.saturating_add(count_refused(text.as_slice()));
+    }
+    Ok(Seen {
+        answers,
+        refused,
+        acknowledged: sum_of(acknowledged.as_slice()),
+        kept: sum_of(kept.as_slice()),
+        pending,
+        lacking: lacking(kept.as_slice(), acknowledged.as_slice()),
+    })
+}
+
+/// What comes of sessions with so many requests each, where this server is dead.
 fn run<R: Threads + Wait + Clock + Copy + Drop + Send + 'static>(
     rt: R,
     alloc: Global,
-    clients: usize,
+    dead: Option<usize>,
     count: usize,
-) -> Result<usize, Fail> {
-    let numbers = clients.saturating_mul(count);
-    let scene = scene_of(rt, alloc, clients, count)?;
+) -> Result<(Report, Seen), Fail> {
+    let scene = scene_of(rt, alloc, dead, count)?;
     let (report, seen) = play(rt, alloc, ALL, scene)?;
     let Ok(report) = report else {
         return Err(Fail::from("the proxy failed"));
     };
-    if report.begun != report.taken || report.begun != numbers as u64 {
-        return Err(Fail::from("other calls"));
-    }
-    let kept = kept(rt, alloc, &seen, numbers)?;
-    let mut sum = 0usize;
-    for (client, answers) in seen.answers.iter().enumerate() {
-        let first = client.saturating_mul(count);
-        let answers = answers.lock(&rt);
-        let Some(found) = acknowledged(answers.as_slice(), kept.as_slice(), first, numbers) else {
-            return Err(Fail::from("an acknowledged delete isn't kept"));
-        };
-        sum = sum.saturating_add(found);
-    }
-    Ok(sum)
-}
-
-#[test]
-fn few_deletes_are_kept(rt: HostRuntime) -> Result<(), Fail> {
-    assert_eq!(rt; run(rt, rt.alloc(), 2, 20)?, 40);
-    Ok(())
+    Ok((report, look(rt, alloc, &seen)?))
 }
 
 #[test]
 fn acknowledged_deletes_are_kept(rt: HostRuntime) -> Result<(), Fail> {
-    assert_eq!(rt; run(rt, rt.alloc(), 16, 200)?, 3_200);
+    let (report, seen) = run(rt, rt.alloc(), None, 12_500)?;
+    assert_eq!(rt; seen.answers, 200_000);
+    assert_eq!(rt;
+        report.begun,
+        200_000u64.saturating_sub(seen.refused as u64)
+    );
+    assert_eq!(rt; report.taken, report.begun);
+    assert!(rt; seen.acknowledged > 49_000);
+    assert_eq!(rt; seen.lacking, 0);
+    assert_eq!(rt; seen.kept, seen.acknowledged.saturating_mul(4));
+    Ok(())
+}
+
+#[test]
+fn deletes_of_a_dead_server_are_pending(rt: HostRuntime) -> Result<(), Fail> {
+    let (report, seen) = run(rt, rt.alloc(), Some(3), 100)?;
+    assert_eq!(rt; report.begun, 1_600);
+    assert_eq!(rt; seen.acknowledged, 400);
+    assert_eq!(rt; seen.lacking, 0);
+    assert_eq!(rt; seen.kept, 1_600);
+    assert!(rt; seen.pending >= 400);
     Ok(())
 }
