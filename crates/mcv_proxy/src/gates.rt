@@ -20,7 +20,11 @@ pub enum LinkFault {
 
 /// The way to one server. Who asks over it shows a pass, so that it hasn't the hub's lock.
 pub trait Link: Drop {
-    /// Sends a leg, and waits for its reply.
+    /// Begins to send a leg, as far as that goes without its reply, so that legs to several servers are under way at once.
+    /// `send` of the same leg comes next.
+    fn start(&mut self, _pass: &Pass, _leg: &LegRequest) {}
+
+    /// Sends a leg, or what `start` left of it, and waits for its reply.
     fn send(&mut self, pass: &Pass, leg: &LegRequest) -> Result<Reply, LinkFault>;
 
     /// Whether the server answers at all.

@@ -1,8 +1,10 @@
 //! The replayer: deletes that are in the spool are sent again.
 
+use crate::agenda::Agenda;
 use crate::destination::{TURNS, probe, reply_of, report};
 use crate::ends::Ends;
 use crate::gates::{Link, Watch};
+use crate::lanes::Lanes;
 use mcv_base::{LegId, LegRequest, ServerId};
 use mcv_core::CoreFault;
 use mcv_hub::{Bell, Guard, Hub, LegReply, Pass};
@@ -128,14 +130,15 @@ fn ask<B: Ledger, T: Ledger, L: Link, R: Wait>(
 fn repeat_leg<B: Ledger, T: Ledger, L: Link, D: Disk, R: Wait>(
     rt: &R,
     alloc: Global,
-    hub: &Hub<B, T>,
+    lanes: &Lanes,
+    agenda: &mut Agenda<'_, B, T>,
     pass: &mut Pass,
     spool: &Mutex<Spool<D>>,
     link: &mut L,
     repeat: &Repeat,
 ) -> bool {
-    let reply = ask(rt, alloc, hub, pass, link, repeat);
-    let landing = report(rt, hub, pass, repeat.server, repeat.leg, reply);
+    let reply = ask(rt, alloc, agenda.hub(), pass, link, repeat);
+    let landing = report(rt, lanes, agenda, pass, repeat.server, repeat.leg, reply);
     if landing.marks {
         link.note_marked(pass);
     }
@@ -152,7 +155,8 @@ fn repeat_leg<B: Ledger, T: Ledger, L: Link, D: Disk, R: Wait>(
 fn go_round<B: Ledger, T: Ledger, L: Link, D: Disk, R: Wait>(
     rt: &R,
     alloc: Global,
-    hub: &Hub<B, T>,
+    lanes: &Lanes,
+    agenda: &mut Agenda<'_, B, T>,
     pass: &mut Pass,
     spool: &Mutex<Spool<D>>,
     links: &mut [L],
@@ -161,13 +165,13 @@ fn go_round<B: Ledger, T: Ledger, L: Link, D: Disk, R: Wait>(
     let count = u32::try_from(links.len()).unwrap_or(u32::MAX);
     let mut from = 0;
     for _turn in 0..TURNS {
-        match find(rt, alloc, hub, pass, (from, count), ends) {
+        match find(rt, alloc, agenda.hub(), pass, (from, count), ends) {
             Found::Leg(repeat) => {
                 from = repeat.server.0;
                 let Some(link) = links.get_mut(from as usize) else {
                     return false;
                 };
-                if !repeat_leg(rt, alloc, hub, pass, spool, link, &repeat) {
+                if !repeat_leg(rt, alloc, lanes, agenda, pass, spool, link, &repeat) {
                     from = from.saturating_add(1);
                 }
             }
@@ -185,14 +189,16 @@ pub fn serve_replay<B: Ledger, T: Ledger, L: Link, D: Disk, W: Watch, R: Wait>(
     rt: &R,
     alloc: Global,
     hub: &Hub<B, T>,
+    lanes: &Lanes,
     pass: &mut Pass,
     spool: &Mutex<Spool<D>>,
     links: &mut [L],
     watch: &mut W,
     ends: &Ends,
 ) {
+    let mut agenda = Agenda::new(alloc, hub);
     for _turn in 0..TURNS {
-        if !go_round(rt, alloc, hub, pass, spool, links, ends) {
+        if !go_round(rt, alloc, lanes, &mut agenda, pass, spool, links, ends) {
             return;
         }
         watch.pause();

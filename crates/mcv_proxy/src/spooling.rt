@@ -1,5 +1,6 @@
 //! The worker of the spool.
 
+use crate::agenda::Agenda;
 use crate::destination::TURNS;
 use crate::ends::Ends;
 use crate::events::{spool_refused, spooled};
@@ -8,6 +9,7 @@ use mcv_base::{LegId, ServerText};
 use mcv_core::Dispatcher;
 use mcv_hub::{Bell, Hub, Pass};
 use mcv_spool::{Disk, Spool, SpoolFault, SpoolRecord, Stored};
+use std::alloc::Global;
 use std::sync::ledger::Ledger;
 use std::sync::{Mutex, Wait};
 
@@ -61,22 +63,29 @@ fn reopen<D: Disk, R: Wait>(rt: &R, spool: &Mutex<Spool<D>>, fault: SpoolFault) 
     }
 }
 
-/// Reports a leg whose record is written.
+/// Reports a leg whose record is written, and notes whom to ring.
 fn keep<B: Ledger, T: Ledger, R: Wait>(
     rt: &R,
-    hub: &Hub<B, T>,
+    agenda: &mut Agenda<'_, B, T>,
     pass: &mut Pass,
     leg: LegId,
     stored: Stored,
 ) {
+    let hub = agenda.hub();
     let mut guard = hub.lock(rt, pass);
-    let _ = spooled(hub, &mut guard, leg, stored);
+    let _ = spooled(agenda, &mut guard, leg, stored);
 }
 
-/// Reports a leg whose record was refused.
-fn refuse<B: Ledger, T: Ledger, R: Wait>(rt: &R, hub: &Hub<B, T>, pass: &mut Pass, leg: LegId) {
+/// Reports a leg whose record was refused, and notes whom to ring.
+fn refuse<B: Ledger, T: Ledger, R: Wait>(
+    rt: &R,
+    agenda: &mut Agenda<'_, B, T>,
+    pass: &mut Pass,
+    leg: LegId,
+) {
+    let hub = agenda.hub();
     let mut guard = hub.lock(rt, pass);
-    let _ = spool_refused(hub, &mut guard, leg);
+    let _ = spool_refused(agenda, &mut guard, leg);
 }
 
 /// Notes whether the spool refuses records, where that is another answer than before.
@@ -97,6 +106,7 @@ fn note<W: Watch>(watch: &mut W, refuses: &mut bool, refused: bool) {
 /// second the first leg that is held then comes next; a worker that is to end does so.
 pub fn serve_spool<B: Ledger, T: Ledger, D: Disk, W: Watch, R: Wait>(
     rt: &R,
+    alloc: Global,
     texts: &[Option<ServerText>],
     hub: &Hub<B, T>,
     pass: &mut Pass,
@@ -104,6 +114,7 @@ pub fn serve_spool<B: Ledger, T: Ledger, D: Disk, W: Watch, R: Wait>(
     watch: &mut W,
     ends: &Ends,
 ) {
+    let mut agenda = Agenda::new(alloc, hub);
     let mut refuses = false;
     for _turn in 0..TURNS {
         let Some((leg, delete)) = next_held(rt, texts, hub, pass, ends) else {
@@ -111,11 +122,13 @@ pub fn serve_spool<B: Ledger, T: Ledger, D: Disk, W: Watch, R: Wait>(
         };
         match append(rt, spool, delete) {
             Ok(stored) => {
-                keep(rt, hub, pass, leg, stored);
+                keep(rt, &mut agenda, pass, leg, stored);
+                agenda.ring_all();
                 note(watch, &mut refuses, false);
             }
             Err(fault) => {
-                refuse(rt, hub, pass, leg);
+                refuse(rt, &mut agenda, pass, leg);
+                agenda.ring_all();
                 note(watch, &mut refuses, true);
                 reopen(rt, spool, fault);
                 if ends.are_asked() {
