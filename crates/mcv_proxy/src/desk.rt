@@ -40,7 +40,7 @@ struct Caller<'a, B: Ledger, T: Ledger, L: Link, W: Watch, R: Wait + Clock> {
     pass: Pass,
     seat: Seat<B, T>,
     watch: W,
-    errands: Errands<'a, B, T>,
+    errands: Errands<'a, B, T, L>,
 }
 
 /// How far a session has come with the replies to its calls.
@@ -212,13 +212,13 @@ fn confirmed(routes: &Routes, request: &Request, key: usize, fault: CoreFault) -
 /// Begins a call. Where the chapter has no place for it, a new chapter begins first. The first key of a request waits for
 /// that a second at most, while calls run or legs are queued; for another one the request's own calls run, so it is
 /// refused.
-fn begin_in_chapter<'a, B: Ledger, T: Ledger, R: Wait + Clock>(
+fn begin_in_chapter<'a, B: Ledger, T: Ledger, L: Link, R: Wait + Clock>(
     rt: &R,
     alloc: Global,
     hub: &Hub<B, T>,
     guard: Guard<'a, B, T>,
     seat: &mut Seat<B, T>,
-    errands: &mut Errands<'_, B, T>,
+    errands: &mut Errands<'_, B, T, L>,
     request: &Arc<Request>,
     key: usize,
 ) -> (Guard<'a, B, T>, Result<CallId, CoreFault>)
@@ -247,13 +247,13 @@ fn begin_in_chapter<'a, B: Ledger, T: Ledger, R: Wait + Clock>(
 }
 
 /// Begins the calls for the keys of a request, in their order, up to the first that is refused.
-fn begin_each<'a, B: Ledger, T: Ledger, R: Wait + Clock>(
+fn begin_each<'a, B: Ledger, T: Ledger, L: Link, R: Wait + Clock>(
     rt: &R,
     alloc: Global,
     hub: &Hub<B, T>,
     guard: Guard<'a, B, T>,
     seat: &mut Seat<B, T>,
-    errands: &mut Errands<'_, B, T>,
+    errands: &mut Errands<'_, B, T, L>,
     routes: &Routes,
     request: &Arc<Request>,
     count: usize,
@@ -319,14 +319,14 @@ fn take_ready<B: Ledger, T: Ledger>(
 }
 
 /// Goes on with calls under the lock until a leg is to be sent, or all replies were taken.
-fn go_on<B: Ledger, T: Ledger, R: Wait>(
+fn go_on<B: Ledger, T: Ledger, L: Link, R: Wait>(
     rt: &R,
     alloc: Global,
     hub: &Hub<B, T>,
     lanes: &Lanes,
     guard: Guard<'_, B, T>,
     seat: &mut Seat<B, T>,
-    errands: &mut Errands<'_, B, T>,
+    errands: &mut Errands<'_, B, T, L>,
     calls: &[CallId],
     progress: Progress,
     taken: &mut Vec<TakenReply>,

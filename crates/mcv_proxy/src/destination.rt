@@ -1,14 +1,19 @@
 //! The worker of a server.
 
+ghost use Rattle.std.specs.Prelude.{◌≡◌};
+
 use crate::agenda::Agenda;
+use crate::departure::take_next;
 use crate::ends::Ends;
-use crate::events::{landed, lost};
 use crate::gates::{Link, LinkFault};
+use crate::landing::{Landing, answer_of, land, land_again};
 use crate::lanes::Lanes;
-use mcv_base::{LegId, LegRequest, Reply, ServerId};
-use mcv_core::{CoreFault, Place};
+use crate::seen::{Departure, Flight, Landed};
+use mcv_base::{LegId, ServerId};
+use mcv_core::CoreFault;
 use mcv_hub::{Bell, Guard, Hub, LegReply, Pass};
 use std::alloc::Global;
+use std::marker::PhantomData;
 use std::sync::Wait;
 use std::sync::ledger::Ledger;
 
@@ -19,7 +24,7 @@ pub(crate) const TURNS: u64 = 1_000_000_000;
 #[derive(Drop)]
 enum Task {
     /// Send the leg, which is in flight.
-    Send(LegId, LegRequest),
+    Send(Flight),
     /// Note that the server is marked now.
     Marked,
     /// See whether the server, which is marked, answers again.
@@ -28,12 +33,6 @@ enum Task {
     Nothing,
     /// End.
     End,
-}
-
-/// What came back of a leg; None where that is nothing, or there is no memory for it.
-pub(crate) fn reply_of(alloc: Global, sent: Result<Reply, LinkFault>) -> Option<LegReply> {
-    let reply = sent.ok()?;
-    LegReply::new(alloc, reply).ok()
 }
 
 /// No leg of the server is in flight any more: who is next there is rung.
@@ -49,19 +48,18 @@ fn note_next<B: Ledger, T: Ledger, R: Wait>(
     }
 }
 
-/// A leg in flight won't be sent: it is lost, and who is next at its server is rung. A marked server is to be probed then.
-fn give_up<B: Ledger, T: Ledger, R: Wait>(
+/// A leg was lost without being sent: who is next at its server is rung. A server that was marked is to be probed then.
+fn after_loss<B: Ledger, T: Ledger, R: Wait>(
     rt: &R,
     lanes: &Lanes,
     agenda: &mut Agenda<'_, B, T>,
-    guard: &mut Guard<'_, B, T>,
+    guard: &Guard<'_, B, T>,
     server: ServerId,
-    leg: LegId,
+    was_marked: bool,
 ) -> Task {
-    if guard.core().marked(server) {
+    if was_marked {
         lanes.ask_probe(rt, server);
     }
-    let _ = lost(agenda, guard, &[], server, leg);
     let is_probed = lanes.take_probe(rt, server);
     note_next(rt, lanes, agenda, guard, server);
     if is_probed {
@@ -71,56 +69,19 @@ fn give_up<B: Ledger, T: Ledger, R: Wait>(
     }
 }
 
-/// What is to be done about a leg that is in flight now. That of a marked server is lost, as one is whose request gets no
-/// memory.
+/// What is to be done about a leg that came in flight.
 fn task_for<B: Ledger, T: Ledger, R: Wait>(
     rt: &R,
-    alloc: Global,
     lanes: &Lanes,
     agenda: &mut Agenda<'_, B, T>,
-    guard: &mut Guard<'_, B, T>,
+    guard: &Guard<'_, B, T>,
     server: ServerId,
-    leg: LegId,
+    was_marked: bool,
+    departure: Departure,
 ) -> Task {
-    if !guard.core().marked(server) {
-        if let Ok(Some(request)) = guard.core().to_request(alloc, leg) {
-            return Task::Send(leg, request);
-        }
-    }
-    give_up(rt, lanes, agenda, guard, server, leg)
-}
-
-/// What came of the leg that a worker sent.
-#[derive(Drop)]
-struct Landed {
-    leg: LegId,
-    reply: Option<LegReply>,
-}
-
-/// What a leg in flight came to.
-#[derive(Clone, Copy)]
-pub(crate) struct Landing {
-    pub(crate) is_performed: bool,
-    /// Its server is marked by that.
-    pub(crate) marks: bool,
-}
-
-/// Reports what came of a leg in flight.
-fn land<B: Ledger, T: Ledger>(
-    agenda: &mut Agenda<'_, B, T>,
-    guard: &mut Guard<'_, B, T>,
-    server: ServerId,
-    leg: LegId,
-    reply: Option<LegReply>,
-) -> Landing {
-    let was_marked = guard.core().marked(server);
-    let is_performed = match landed(agenda, guard, &[], server, leg, reply) {
-        Ok(step) => step.place == Place::Performed,
-        Err(_) => false,
-    };
-    Landing {
-        is_performed,
-        marks: !was_marked && guard.core().marked(server),
+    match departure {
+        Departure::Sent(flight) => Task::Send(flight),
+        Departure::Lost(_) => after_loss(rt, lanes, agenda, guard, server, was_marked),
     }
 }
 
@@ -139,8 +100,11 @@ fn next_task<B: Ledger, T: Ledger, R: Wait>(
     let mut guard = guard;
     for _turn in rt.forever() {
         lanes.attend(rt, guard.core(), server);
-        match guard.next(server) {
-            Ok(leg) => return task_for(rt, alloc, lanes, agenda, &mut guard, server, leg),
+        let was_marked = guard.core().marked(server);
+        match take_next(alloc, agenda, &mut guard, &[], server) {
+            Ok(departure) => {
+                return task_for(rt, lanes, agenda, &guard, server, was_marked, departure);
+            }
             Err(CoreFault::NothingWaiting) if ends.are_asked() => return Task::End,
             Err(CoreFault::Busy) => lanes.queue_worker(rt, server),
             Err(_) => {}
@@ -155,7 +119,7 @@ fn next_task<B: Ledger, T: Ledger, R: Wait>(
 }
 
 /// Reports what came of the leg that the worker sent, if there was one, and waits for its next task.
-fn turn<B: Ledger, T: Ledger, R: Wait>(
+fn turn<B: Ledger, T: Ledger, L: Link, R: Wait>(
     rt: &R,
     alloc: Global,
     lanes: &Lanes,
@@ -163,34 +127,34 @@ fn turn<B: Ledger, T: Ledger, R: Wait>(
     pass: &mut Pass,
     server: ServerId,
     ends: &Ends,
-    sent: Option<Landed>,
+    sent: Option<Landed<L>>,
 ) -> Task {
     let hub = agenda.hub();
     let mut guard = hub.lock(rt, pass);
-    if let Some(Landed { leg, reply }) = sent {
-        if land(agenda, &mut guard, server, leg, reply).marks {
+    if let Some(came) = sent {
+        if land(agenda, &mut guard, &[], came) {
             return Task::Marked;
         }
     }
     next_task(rt, alloc, lanes, agenda, guard, server, ends)
 }
 
-/// Reports what came of a leg in flight, and rings who is next at its server.
-pub(crate) fn report<B: Ledger, T: Ledger, R: Wait>(
+/// Reports what came of a leg in flight again, and rings who is next at its server.
+pub(crate) fn report_again<B: Ledger, T: Ledger, R: Wait>(
     rt: &R,
     lanes: &Lanes,
     agenda: &mut Agenda<'_, B, T>,
     pass: &mut Pass,
     server: ServerId,
     leg: LegId,
-    reply: Option<LegReply>,
+    reply: Result<LegReply, LinkFault>,
 ) -> Landing {
     let landing = land_for_next(rt, lanes, agenda, pass, server, leg, reply);
     agenda.ring_all();
     landing
 }
 
-/// Reports what came of a leg in flight, and notes whom to ring.
+/// Reports what came of a leg in flight again, and notes whom to ring.
 fn land_for_next<B: Ledger, T: Ledger, R: Wait>(
     rt: &R,
     lanes: &Lanes,
@@ -198,11 +162,11 @@ fn land_for_next<B: Ledger, T: Ledger, R: Wait>(
     pass: &mut Pass,
     server: ServerId,
     leg: LegId,
-    reply: Option<LegReply>,
+    reply: Result<LegReply, LinkFault>,
 ) -> Landing {
     let hub = agenda.hub();
     let mut guard = hub.lock(rt, pass);
-    let landing = land(agenda, &mut guard, server, leg, reply);
+    let landing = land_again(agenda, &mut guard, server, leg, reply);
     note_next(rt, lanes, agenda, &guard, server);
     landing
 }
@@ -213,15 +177,17 @@ fn send<B: Ledger, T: Ledger, L: Link>(
     agenda: &mut Agenda<'_, B, T>,
     pass: &Pass,
     link: &mut L,
-    leg: LegId,
-    request: &LegRequest,
-) -> Landed {
-    link.start(pass, request);
+    flight: Flight,
+) -> Landed<L>
+    ensures { result.flight ≡ flight }
+{
+    link.start(pass, &flight.request);
     agenda.ring_all();
-    let sent = link.send(pass, request);
+    let reply = answer_of(alloc, pass, link, &flight.request);
     Landed {
-        leg,
-        reply: reply_of(alloc, sent),
+        flight,
+        reply,
+        link: PhantomData,
     }
 }
 
@@ -291,7 +257,7 @@ pub fn serve_destination<B: Ledger, T: Ledger, L: Link, R: Wait>(
     for _turn in 0..TURNS {
         let task = turn(rt, alloc, lanes, &mut agenda, pass, server, ends, sent);
         sent = match task {
-            Task::Send(leg, request) => Some(send(alloc, &mut agenda, pass, link, leg, &request)),
+            Task::Send(flight) => Some(send(alloc, &mut agenda, pass, link, flight)),
             Task::End => break,
             other => {
                 agenda.ring_all();

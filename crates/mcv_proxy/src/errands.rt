@@ -1,25 +1,20 @@
 //! The legs that a session sends itself.
 
+ghost use Rattle.std.specs.Prelude.{◌≡◌, IfErr, IfOk};
+
 use crate::agenda::{Agenda, Owed};
-use crate::destination::reply_of;
-use crate::events::{landed, lost};
+use crate::departure::take_next;
 use crate::gates::Link;
+use crate::landing::{land, lose};
 use crate::lanes::{Lanes, Links};
-use mcv_base::{CallId, LegId, LegRequest, ServerId};
+use crate::seen::{Departure, Flight, Landed};
+use mcv_base::{CallId, ServerId};
 use mcv_core::Place;
-use mcv_hub::{Bell, Guard, Hub, LegReply, Pass};
+use mcv_hub::{Bell, Guard, Hub, Pass};
 use std::alloc::Global;
+use std::marker::PhantomData;
 use std::sync::Wait;
 use std::sync::ledger::Ledger;
-
-/// A leg in flight that the session sends, and what came back of it.
-#[derive(Drop)]
-struct Flight {
-    server: ServerId,
-    leg: LegId,
-    request: LegRequest,
-    reply: Option<LegReply>,
-}
 
 /// What becomes of a leg that is owed, once its server was looked at.
 #[derive(Clone, Copy, Debug, PartialEq, Eq)]
@@ -35,9 +30,12 @@ enum Attention {
 /// What a session has to do for the legs of its calls. It sends one leg at a time, so that no server waits for another one's
 /// reply; what is owed to other servers meanwhile is left to their workers.
 #[derive(Drop)]
-pub(crate) struct Errands<'a, B: Ledger, T: Ledger> {
+pub(crate) struct Errands<'a, B: Ledger, T: Ledger, L: Link> {
     pub(crate) agenda: Agenda<'a, B, T>,
+    /// A leg in flight that the session is to send.
     flight: Option<Flight>,
+    /// The leg in flight that it sent, until that is reported.
+    landed: Option<Landed<L>>,
     /// Legs that are still owed, while others are looked at.
     late: Vec<Owed>,
     /// A leg was lost without being sent, so that replies may be there.
@@ -46,12 +44,34 @@ pub(crate) struct Errands<'a, B: Ledger, T: Ledger> {
     marked: Option<ServerId>,
 }
 
-impl<'a, B: Ledger, T: Ledger> Errands<'a, B, T> {
+/// Sends a leg that is in flight over the link of its server; without a link the flight is given back.
+fn send_over<L: Link, R: Wait>(
+    rt: &R,
+    alloc: Global,
+    links: &Links<L>,
+    pass: &Pass,
+    flight: Flight,
+) -> Result<Landed<L>, Flight>
+    ensures sent { IfOk result (λ came. came.flight ≡ flight) }
+    ensures back { IfErr result (λ back. back ≡ flight) }
+{
+    match links.ask(rt, alloc, pass, flight.server, &flight.request) {
+        Some(reply) => Ok(Landed {
+            flight,
+            reply,
+            link: PhantomData,
+        }),
+        None => Err(flight),
+    }
+}
+
+impl<'a, B: Ledger, T: Ledger, L: Link> Errands<'a, B, T, L> {
     /// Nothing. It takes no memory.
-    pub(crate) fn new(alloc: Global, hub: &'a Hub<B, T>) -> Errands<'a, B, T> {
+    pub(crate) fn new(alloc: Global, hub: &'a Hub<B, T>) -> Errands<'a, B, T, L> {
         Errands {
             agenda: Agenda::new(alloc, hub),
             flight: None,
+            landed: None,
             late: Vec::new(alloc),
             has_lost: false,
             marked: None,
@@ -71,51 +91,54 @@ impl<'a, B: Ledger, T: Ledger> Errands<'a, B, T> {
         }
     }
 
-    /// A leg in flight won't be sent: it is lost. The worker of a marked server is to probe it, and who is next there is rung.
-    fn give_up<R: Wait>(
+    /// A leg was lost without being sent. The worker of a server that was marked is to probe it, and who is next there is rung.
+    fn after_loss<R: Wait>(
         &mut self,
         rt: &R,
         lanes: &Lanes,
-        guard: &mut Guard<'_, B, T>,
-        own: &[CallId],
+        guard: &Guard<'_, B, T>,
         server: ServerId,
-        leg: LegId,
+        was_marked: bool,
     ) {
-        if guard.core().marked(server) {
+        if was_marked {
             lanes.ask_probe(rt, server);
             self.agenda.add(Bell::Server(server));
         }
-        let _ = lost(&mut self.agenda, guard, own, server, leg);
         self.has_lost = true;
         if let Some(bell) = lanes.heir(rt, guard.core(), server) {
             self.agenda.add(bell);
         }
     }
 
-    /// A leg came in flight: it is to be sent, unless its server is marked or there is no memory for its request. Whether it is.
+    /// A leg came in flight to the server of one that is owed.
     fn take_up<R: Wait>(
         &mut self,
         rt: &R,
-        alloc: Global,
         lanes: &Lanes,
-        guard: &mut Guard<'_, B, T>,
-        own: &[CallId],
-        server: ServerId,
-        leg: LegId,
-    ) -> bool {
-        if !guard.core().marked(server) {
-            if let Ok(Some(request)) = guard.core().to_request(alloc, leg) {
-                self.flight = Some(Flight {
-                    server,
-                    leg,
-                    request,
-                    reply: None,
-                });
-                return true;
+        guard: &Guard<'_, B, T>,
+        owed: Owed,
+        was_marked: bool,
+        departure: Departure,
+    ) -> Attention {
+        match departure {
+            Departure::Sent(flight) => {
+                let is_own = flight.leg == owed.leg;
+                self.flight = Some(flight);
+                if is_own {
+                    Attention::None
+                } else {
+                    Attention::Later
+                }
+            }
+            Departure::Lost(leg) => {
+                self.after_loss(rt, lanes, guard, owed.server, was_marked);
+                if leg == owed.leg {
+                    Attention::None
+                } else {
+                    Attention::Now
+                }
             }
         }
-        self.give_up(rt, lanes, guard, own, server, leg);
-        false
     }
 
     /// Looks at the server of a leg that is owed and waits, while the session has no leg in flight.
@@ -128,16 +151,10 @@ impl<'a, B: Ledger, T: Ledger> Errands<'a, B, T> {
         own: &[CallId],
         owed: Owed,
     ) -> Attention {
-        let Ok(leg) = guard.next(owed.server) else {
-            return Attention::Later;
-        };
-        let is_sent = self.take_up(rt, alloc, lanes, guard, own, owed.server, leg);
-        if leg == owed.leg {
-            Attention::None
-        } else if is_sent {
-            Attention::Later
-        } else {
-            Attention::Now
+        let was_marked = guard.core().marked(owed.server);
+        match take_next(alloc, &mut self.agenda, guard, own, owed.server) {
+            Ok(departure) => self.take_up(rt, lanes, guard, owed, was_marked, departure),
+            Err(_) => Attention::Later,
         }
     }
 
@@ -275,18 +292,15 @@ impl<'a, B: Ledger, T: Ledger> Errands<'a, B, T> {
     }
 
     /// Sends the leg in flight, and reads its reply. Whoever is to be woken is, while it is under way.
-    pub(crate) fn carry<L: Link, R: Wait>(
-        &mut self,
-        rt: &R,
-        alloc: Global,
-        links: &Links<L>,
-        pass: &Pass,
-    ) {
-        if let Some(flight) = &mut self.flight {
-            links.start(rt, pass, flight.server, &flight.request);
-            self.agenda.ring_all();
-            let sent = links.send(rt, pass, flight.server, &flight.request);
-            flight.reply = reply_of(alloc, sent);
+    pub(crate) fn carry<R: Wait>(&mut self, rt: &R, alloc: Global, links: &Links<L>, pass: &Pass) {
+        let Some(flight) = self.flight.take() else {
+            return;
+        };
+        links.start(rt, pass, flight.server, &flight.request);
+        self.agenda.ring_all();
+        match send_over(rt, alloc, links, pass, flight) {
+            Ok(came) => self.landed = Some(came),
+            Err(flight) => self.flight = Some(flight),
         }
     }
 
@@ -297,6 +311,22 @@ impl<'a, B: Ledger, T: Ledger> Errands<'a, B, T> {
         })
     }
 
+    /// Reports what came of the leg that was sent; one that no link was there for is lost. Its server, and whether that is marked
+    /// by it; None where the session has no leg in flight.
+    fn report(
+        &mut self,
+        guard: &mut Guard<'_, B, T>,
+        own: &[CallId],
+    ) -> Option<(ServerId, bool)> {
+        if let Some(came) = self.landed.take() {
+            let server = came.flight.server;
+            return Some((server, land(&mut self.agenda, guard, own, came)));
+        }
+        let flight = self.flight.take()?;
+        let Flight { server, leg, .. } = flight;
+        Some((server, lose(&mut self.agenda, guard, own, server, leg)))
+    }
+
     /// Reports what came of the leg in flight. Where the session has no other leg for its server, who is next there is rung.
     pub(crate) fn land<R: Wait>(
         &mut self,
@@ -305,20 +335,10 @@ impl<'a, B: Ledger, T: Ledger> Errands<'a, B, T> {
         guard: &mut Guard<'_, B, T>,
         own: &[CallId],
     ) {
-        let Some(
-            Flight {
-                server,
-                leg,
-                reply,
-                ..
-            },
-        ) = self.flight.take()
-        else {
+        let Some((server, marks)) = self.report(guard, own) else {
             return;
         };
-        let was_marked = guard.core().marked(server);
-        let _ = landed(&mut self.agenda, guard, own, server, leg, reply);
-        if !was_marked && guard.core().marked(server) {
+        if marks {
             self.marked = Some(server);
         }
         if !self.owe_to(guard, server) {
@@ -329,7 +349,7 @@ impl<'a, B: Ledger, T: Ledger> Errands<'a, B, T> {
     }
 
     /// Rings all bells, and notes the server that is marked since the last time.
-    pub(crate) fn finish<L: Link, R: Wait>(&mut self, rt: &R, links: &Links<L>, pass: &Pass) {
+    pub(crate) fn finish<R: Wait>(&mut self, rt: &R, links: &Links<L>, pass: &Pass) {
         self.agenda.ring_all();
         if let Some(server) = self.marked.take() {
             links.note_marked(rt, pass, server);

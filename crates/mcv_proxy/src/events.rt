@@ -1,6 +1,6 @@
 //! Events on the lent state, and whom they let go on.
 
-ghost use Rattle.std.specs.Prelude.{◌≡◌, ◌+◌, IfErr, IfNone, IfOk, IfSome, OnErr, OnOk, Some};
+ghost use Rattle.std.specs.Prelude.{◌≡◌, ◌+◌, IfErr, IfOk, OnErr, OnOk, Some};
 ghost use Rattle.std.specs.Arc.{arc_value};
 ghost use Rattle.mcv_base.specs.Reply.{fixed_value, not_found};
 ghost use Rattle.mcv_base.specs.declared.reply.FixedReply.TheVariants.{Lost as lost_reply};
@@ -11,8 +11,10 @@ ghost use Rattle.mcv_core.specs.CoreView.{answer_at, refusing_at, spooling_at};
 ghost use Rattle.mcv_core.specs.View.{core_view, records_after, records_of};
 ghost use Rattle.mcv_hub.specs.State.{BeginsOne, IsLegEvent, IsSame, IsSameChapter};
 ghost use Rattle.mcv_proxy.specs.Events.{IsLoss};
+ghost use Rattle.mcv_proxy.specs.Steps.{IsLanding};
 
 use crate::agenda::Agenda;
+use crate::gates::LinkFault;
 use mcv_base::{CallId, LegId, Request, ServerId};
 use mcv_core::{CoreFault, Dispatcher, Place, Step};
 use mcv_hub::{Bell, Guard, LegReply, Seat};
@@ -146,14 +148,13 @@ pub(crate) fn landed<B: Ledger, T: Ledger>(
     own: &[CallId],
     server: ServerId,
     leg: LegId,
-    reply: Option<LegReply>,
+    reply: Result<LegReply, LinkFault>,
 ) -> Result<Step, CoreFault>
-    ensures answered { IfSome reply (λ r. IsLegEvent (answer_at (core_view guard.old.core) leg.0 r) r leg guard.old guard.new result) }
-    ensures lost { IfNone reply (IsLoss server leg guard.old guard.new result) }
+    ensures { IsLanding server leg reply guard.old guard.new result }
 {
     match reply {
-        Some(reply) => answered(agenda, guard, own, leg, reply),
-        None => lost(agenda, guard, own, server, leg),
+        Ok(reply) => answered(agenda, guard, own, leg, reply),
+        Err(_) => lost(agenda, guard, own, server, leg),
     }
 }
 

@@ -1,9 +1,13 @@
 //! The links over which sessions send their legs, and who waits while another leg of a server is in flight.
 
+ghost use Rattle.std.specs.Prelude.{IfSome};
+ghost use Rattle.mcv_proxy.specs.Flights.{IsAnswerTo};
+
 use crate::gates::{Link, LinkFault};
-use mcv_base::{CallId, LegId, LegRequest, Reply, ServerId};
+use crate::landing::answer_of;
+use mcv_base::{CallId, LegId, LegRequest, ServerId};
 use mcv_core::{Dispatcher, Place};
-use mcv_hub::{Bell, Pass};
+use mcv_hub::{Bell, LegReply, Pass};
 use std::alloc::{AllocError, Global};
 use std::collections::VecDeque;
 use std::sync::{Mutex, Wait};
@@ -198,18 +202,20 @@ impl<L: Link> Links<L> {
         }
     }
 
-    /// `Link::send`; Broken where there is no such server.
-    pub(crate) fn send<R: Wait>(
+    /// Asks the server's link: what is left of its answer; None where there is no such server.
+    pub(crate) fn ask<R: Wait>(
         &self,
         rt: &R,
+        alloc: Global,
         pass: &Pass,
         server: ServerId,
         leg: &LegRequest,
-    ) -> Result<Reply, LinkFault> {
-        match self.links.get(server.0 as usize) {
-            Some(link) => link.lock(rt).send(pass, leg),
-            None => Err(LinkFault::Broken),
-        }
+    ) -> Option<Result<LegReply, LinkFault>>
+        ensures { IfSome result (IsAnswerTo L.answers leg.now) }
+    {
+        let link = self.links.get(server.0 as usize)?;
+        let mut link = link.lock(rt);
+        Some(answer_of(alloc, pass, &mut *link, leg))
     }
 
     /// `Link::note_marked`.

@@ -8,6 +8,7 @@
 #![tactic(auto)]
 
 mod agenda;
+mod departure;
 mod desk;
 mod destination;
 mod ends;
@@ -15,8 +16,10 @@ mod errands;
 mod events;
 mod fault;
 mod gates;
+mod landing;
 mod lanes;
 mod replay;
+mod seen;
 mod spooling;
 mod threads;
 
