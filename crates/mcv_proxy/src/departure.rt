@@ -43,14 +43,15 @@ fn flight_of<B: Ledger, T: Ledger>(
     if guard.core().marked(server) {
         return None;
     }
-    match request_of(alloc, guard.core(), leg) {
-        Some(request) => Some(Flight {
-            server,
-            leg,
-            request,
-        }),
-        None => None,
-    }
+    let Some(request) = request_of(alloc, guard.core(), leg) else {
+        return None;
+    };
+    let flight = Flight {
+        server,
+        leg,
+        request,
+    };
+    Some(flight)
 }
 
 /// The first leg that waits for a server comes in flight: it is to be sent, or is lost at once, as that of a marked server

@@ -108,8 +108,12 @@ fn answer_again<B: Ledger, T: Ledger>(
     let Ok(step) = answered(agenda, guard, &[], leg, reply) else {
         return None;
     };
-    match step.place {
-        Place::Performed => Some(Performed { number }),
+    let place = step.place;
+    match place {
+        Place::Performed => {
+            let performed = Performed { number };
+            Some(performed)
+        }
         Place::Waiting | Place::Sent | Place::Held | Place::Spooled | Place::Gone => None,
     }
 }

@@ -52,10 +52,11 @@ fn held_leg<B: Ledger, T: Ledger>(
 {
     guard.deletes_are_kept();
     let leg = guard.core().held()?;
-    match record_of(texts, guard, leg) {
-        Some(delete) => Some(Some(HeldLeg { leg, delete })),
-        None => Some(None),
-    }
+    let Some(delete) = record_of(texts, guard, leg) else {
+        return Some(None);
+    };
+    let held = HeldLeg { leg, delete };
+    Some(Some(held))
 }
 
 /// Waits until the spool is to take a leg, and gives it with its record; None once there is none and the worker is to end.
