@@ -70,7 +70,11 @@ pub(crate) fn land<B: Ledger, T: Ledger, L: Link>(
     ensures event { IsReported came.flight.server came.flight.leg came.reply guard.old guard.new }
     ensures marks { result ≡ (not (is_marked guard.old came.flight.server) && is_marked guard.new came.flight.server) }
 {
-    let Landed { flight, reply, .. } = came;
+    let Landed {
+        flight,
+        reply,
+        link: _,
+    } = came;
     report(agenda, guard, own, flight.server, flight.leg, reply)
 }
 

@@ -36,10 +36,11 @@ pub(crate) struct Landed<L: Link> {
     ghost answered: { ∥ IsAnswerTo L.answers flight.request reply ∥₁ },
 }
 
-/// The number of the record of a leg that its server has performed.
+/// A leg in flight again that its server has performed.
 #[derive(Drop)]
 pub(crate) struct Performed {
-    pub(crate) number: u64,
+    /// The number of its record in the spool.
+    pub(crate) number: Option<u64>,
     ghost was_performed: { ∥ WasPerformed number ∥₁ },
 }
 
