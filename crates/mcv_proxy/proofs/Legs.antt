@@ -1,6 +1,8 @@
 -- What is read of legs.
-use Rattle.std.proofs.Common.{◌≡◌, ◌∙◌, ℕ, List, Option, None, Some, ap, sym, refl}
-use Rattle.std.specs.Prelude.{IfSome, option_map, slice_get}
+use Rattle.std.proofs.Common.{◌≡◌, ◌∙◌, ℕ, List, Option, None, Some, Result, Ok, Err, ap, sym, refl}
+use Rattle.std.specs.Prelude.{IfOk, IfSome, option_map, slice_get}
+use Rattle.mcv_base.specs.Reply.{ReplyValue}
+use Rattle.mcv_base.specs.declared.reply.Reply.{Reply}
 use Rattle.mcv_base.specs.declared.request.LegId.{LegId}
 use Rattle.mcv_base.specs.declared.request.LegRequest.{LegRequest}
 use Rattle.mcv_events.specs.Rows.{LegRow}
@@ -10,7 +12,8 @@ use Rattle.mcv_core.specs.View.{core_view}
 use Rattle.mcv_core.specs.declared.readers.LegView.{LegView}
 use Rattle.mcv_hub.specs.State.{HubView}
 use Rattle.mcv_spool.specs.declared.record.SpoolRecord.{SpoolRecord}
-use Rattle.mcv_proxy.specs.Flights.{IsRecordOf}
+use Rattle.mcv_proxy.specs.Flights.{HasReply, IsAnswerTo, IsRecordOf}
+use Rattle.mcv_proxy.specs.declared.gates.LinkFault.{LinkFault}
 
 -- a request that there is asks what the leg asks
 pub request_is : (o : Option LegRequest) (asked : Option AskedOf) → option_map asked_by o ≡ asked → IfSome o (λ r. asked ≡ Some (asked_by r))
@@ -40,3 +43,9 @@ record_is texts state leg v text delete e there server rest =
       text = ap (slice_get texts) (sym (ap (λ s. s.server.0) w.2)) ∙ there ∙ ap (λ t. Some (Some t)) (sym server);
       rest = rest ∙ ap (λ s. s.rest) w.2;
     }
+
+-- a reply that a link gave to the request that there is
+pub has_reply : {L : Type 0} (answers : L → LegRequest → Result Reply LinkFault → L → Type 0) (o : Option LegRequest) (asked : LegRequest) (reply : Result ReplyValue LinkFault)
+    → o ≡ Some asked → IsAnswerTo answers asked reply → IfOk reply (HasReply answers o)
+has_reply answers o asked (Ok x) there answer = record { asked = asked; there = there; answer = answer }
+has_reply answers o asked (Err fault) there answer = tt
