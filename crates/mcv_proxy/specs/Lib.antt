@@ -1,2 +1,4 @@
 pub mod Desk
 pub mod Events
+pub mod Flights
+pub mod Steps

@@ -7,6 +7,7 @@ use crate::destination::serve_destination;
 use crate::ends::Ends;
 use crate::fault::ProxyFault;
 use crate::gates::{Gates, Link, Watch};
+use crate::lanes::{Lanes, Links};
 use crate::replay::serve_replay;
 use crate::spooling::serve_spool;
 use mcv_base::{ServerId, ServerText};
@@ -44,6 +45,7 @@ struct Done<B: Ledger, T: Ledger> {
 struct Shared<B: Ledger, T: Ledger, D: Disk> {
     accepted: Arc<Accepted>,
     hub: Arc<Hub<B, T>>,
+    lanes: Arc<Lanes>,
     spool: Arc<Mutex<Spool<D>>>,
     /// How many records were pending in the spool when it was opened.
     pending: usize,
@@ -66,12 +68,13 @@ fn work<B: Ledger, T: Ledger, L: Link, R: Wait>(
     rt: &R,
     alloc: Global,
     hub: &Hub<B, T>,
+    lanes: &Lanes,
     ends: &Ends,
     mut pass: Pass,
     mut link: L,
     server: ServerId,
 ) {
-    serve_destination(rt, alloc, hub, &mut pass, &mut link, server, ends);
+    serve_destination(rt, alloc, hub, lanes, &mut pass, &mut link, server, ends);
 }
 
 /// Starts the worker of a server.
@@ -84,18 +87,20 @@ fn employ<
     rt: R,
     alloc: Global,
     hub: Arc<Hub<B, T>>,
+    lanes: Arc<Lanes>,
     ends: Arc<Ends>,
     pass: Pass,
     link: L,
     server: ServerId,
 ) -> Option<JoinHandle<()>> {
-    let job = move || work(&rt, alloc, &*hub, &*ends, pass, link, server);
+    let job = move || work(&rt, alloc, &*hub, &*lanes, &*ends, pass, link, server);
     thread::spawn(&rt, job).ok()
 }
 
 /// The work of the spool's worker.
 fn write_down<B: Ledger, T: Ledger, D: Disk, W: Watch, R: Wait>(
     rt: &R,
+    alloc: Global,
     texts: &[Option<ServerText>],
     hub: &Hub<B, T>,
     spool: &Mutex<Spool<D>>,
@@ -103,7 +108,7 @@ fn write_down<B: Ledger, T: Ledger, D: Disk, W: Watch, R: Wait>(
     mut pass: Pass,
     mut watch: W,
 ) {
-    serve_spool(rt, texts, hub, &mut pass, spool, &mut watch, ends);
+    serve_spool(rt, alloc, texts, hub, &mut pass, spool, &mut watch, ends);
 }
 
 /// Starts the spool's worker.
@@ -115,6 +120,7 @@ fn employ_spool<
     R: Threads + Wait + Clock + Copy + Send + 'static,
 >(
     rt: R,
+    alloc: Global,
     texts: Vec<Option<ServerText>>,
     hub: Arc<Hub<B, T>>,
     spool: Arc<Mutex<Spool<D>>>,
@@ -122,7 +128,16 @@ fn employ_spool<
     pass: Pass,
     watch: W,
 ) -> Option<JoinHandle<()>> {
-    let job = move || write_down(&rt, texts.as_slice(), &*hub, &*spool, &*ends, pass, watch);
+    let job = move || write_down(
+        &rt,
+        alloc,
+        texts.as_slice(),
+        &*hub,
+        &*spool,
+        &*ends,
+        pass,
+        watch,
+    );
     thread::spawn(&rt, job).ok()
 }
 
@@ -131,6 +146,7 @@ fn send_again<B: Ledger, T: Ledger, D: Disk, L: Link, W: Watch, R: Wait>(
     rt: &R,
     alloc: Global,
     hub: &Hub<B, T>,
+    lanes: &Lanes,
     spool: &Mutex<Spool<D>>,
     ends: &Ends,
     mut pass: Pass,
@@ -138,7 +154,9 @@ fn send_again<B: Ledger, T: Ledger, D: Disk, L: Link, W: Watch, R: Wait>(
     mut watch: W,
 ) {
     let links = links.as_mut_slice();
-    serve_replay(rt, alloc, hub, &mut pass, spool, links, &mut watch, ends);
+    serve_replay(
+        rt, alloc, hub, lanes, &mut pass, spool, links, &mut watch, ends,
+    );
 }
 
 /// Starts the replayer.
@@ -153,29 +171,34 @@ fn employ_replayer<
     rt: R,
     alloc: Global,
     hub: Arc<Hub<B, T>>,
+    lanes: Arc<Lanes>,
     spool: Arc<Mutex<Spool<D>>>,
     ends: Arc<Ends>,
     pass: Pass,
     links: Vec<L>,
     watch: W,
 ) -> Option<JoinHandle<()>> {
-    let job = move || send_again(&rt, alloc, &*hub, &*spool, &*ends, pass, links, watch);
+    let job = move || send_again(
+        &rt, alloc, &*hub, &*lanes, &*spool, &*ends, pass, links, watch,
+    );
     thread::spawn(&rt, job).ok()
 }
 
 /// Serves a client until its session ends.
-fn serve<B: Ledger, T: Ledger, I: Read + Drop, O: Write + Drop, W: Watch, R: Wait + Clock>(
+fn serve<B: Ledger, T: Ledger, L: Link, I: Read + Drop, O: Write + Drop, W: Watch, R: Wait + Clock>(
     rt: &R,
     alloc: Global,
     accepted: Arc<Accepted>,
     hub: &Hub<B, T>,
+    lanes: &Lanes,
+    links: &Links<L>,
     pass: Pass,
     seat: Seat<B, T>,
     mut reader: I,
     mut writer: O,
     watch: W,
 ) -> Done<B, T> {
-    let mut desk = HubDesk::new(rt, alloc, accepted, hub, pass, seat, watch);
+    let mut desk = HubDesk::new(rt, alloc, accepted, hub, lanes, links, pass, seat, watch);
     let _ = serve_session(alloc, &mut reader, &mut writer, &mut desk);
     let (seat, receipts) = desk.into_parts();
     Done { seat, receipts }
@@ -185,6 +208,7 @@ fn serve<B: Ledger, T: Ledger, I: Read + Drop, O: Write + Drop, W: Watch, R: Wai
 fn host<
     B: Ledger + Send + Sync + 'static,
     T: Ledger + Send + Sync + 'static,
+    L: Link + Send + 'static,
     I: Read + Drop + Send + 'static,
     O: Write + Drop + Send + 'static,
     W: Watch + Send + 'static,
@@ -194,6 +218,8 @@ fn host<
     alloc: Global,
     accepted: Arc<Accepted>,
     hub: Arc<Hub<B, T>>,
+    lanes: Arc<Lanes>,
+    links: Arc<Links<L>>,
     pass: Pass,
     seat: Seat<B, T>,
     reader: I,
@@ -201,7 +227,7 @@ fn host<
     watch: W,
 ) -> Option<JoinHandle<Done<B, T>>> {
     let job = move || serve(
-        &rt, alloc, accepted, &*hub, pass, seat, reader, writer, watch,
+        &rt, alloc, accepted, &*hub, &*lanes, &*links, pass, seat, reader, writer, watch,
     );
     thread::spawn(&rt, job).ok()
 }
@@ -210,6 +236,7 @@ fn host<
 fn admit<
     B: Ledger + Send + Sync + 'static,
     T: Ledger + Send + Sync + 'static,
+    L: Link + Send + 'static,
     I: Read + Drop + Send + 'static,
     O: Write + Drop + Send + 'static,
     W: Watch + Send + 'static,
@@ -219,6 +246,8 @@ fn admit<
     alloc: Global,
     accepted: &Arc<Accepted>,
     hub: &Arc<Hub<B, T>>,
+    lanes: &Arc<Lanes>,
+    links: &Arc<Links<L>>,
     pass: Pass,
     seat: Seat<B, T>,
     client: (I, O),
@@ -226,8 +255,12 @@ fn admit<
 ) -> Option<JoinHandle<Done<B, T>>> {
     let accepted = Arc::try_clone(accepted).ok()?;
     let hub = Arc::try_clone(hub).ok()?;
+    let lanes = Arc::try_clone(lanes).ok()?;
+    let links = Arc::try_clone(links).ok()?;
     let (reader, writer) = client;
-    host(rt, alloc, accepted, hub, pass, seat, reader, writer, watch)
+    host(
+        rt, alloc, accepted, hub, lanes, links, pass, seat, reader, writer, watch,
+    )
 }
 
 /// How many servers there are.
@@ -296,9 +329,10 @@ fn employ_all<
     let mut number = 0u32;
     for link in links {
         let hub = Arc::try_clone(&shared.hub)?;
+        let lanes = Arc::try_clone(&shared.lanes)?;
         let ends = Arc::try_clone(&shared.work_ends)?;
         let server = ServerId(number);
-        let worker = employ(rt, alloc, hub, ends, passes.pass(), link, server);
+        let worker = employ(rt, alloc, hub, lanes, ends, passes.pass(), link, server);
         enlist(workers, worker)?;
         number = number.saturating_add(1);
     }
@@ -323,7 +357,7 @@ fn staff_spool<
     let spool = Arc::try_clone(&shared.spool)?;
     let ends = Arc::try_clone(&shared.spool_ends)?;
     let watch = gates.watch();
-    match employ_spool(rt, texts, hub, spool, ends, passes.pass(), watch) {
+    match employ_spool(rt, alloc, texts, hub, spool, ends, passes.pass(), watch) {
         Some(worker) => Ok(Some(worker)),
         None => Err(AllocError),
     }
@@ -343,12 +377,13 @@ fn staff_replayer<
     gates: &mut G,
 ) -> Result<Option<JoinHandle<()>>, AllocError> {
     let hub = Arc::try_clone(&shared.hub)?;
+    let lanes = Arc::try_clone(&shared.lanes)?;
     let spool = Arc::try_clone(&shared.spool)?;
     let ends = Arc::try_clone(&shared.work_ends)?;
     let links = links_of(alloc, &shared.accepted, gates)?;
     let watch = gates.watch();
     let pass = passes.pass();
-    Ok(employ_replayer(rt, alloc, hub, spool, ends, pass, links, watch))
+    Ok(employ_replayer(rt, alloc, hub, lanes, spool, ends, pass, links, watch))
 }
 
 /// Starts all workers. Those that were started are in the crew also where one wasn't.
@@ -402,6 +437,8 @@ fn accept<
     alloc: Global,
     accepted: &Arc<Accepted>,
     hub: &Arc<Hub<B, T>>,
+    lanes: &Arc<Lanes>,
+    links: &Arc<Links<G::Link>>,
     passes: &mut Passes<B, T>,
     gates: &mut G,
 ) -> Vec<JoinHandle<Done<B, T>>> {
@@ -419,7 +456,9 @@ fn accept<
         };
         let watch = gates.watch();
         let pass = passes.pass();
-        match admit(rt, alloc, accepted, hub, pass, seat, client, watch) {
+        match admit(
+            rt, alloc, accepted, hub, lanes, links, pass, seat, client, watch,
+        ) {
             Some(session) => sessions.push_reserved(session),
             None => gates.note_unserved(),
         }
@@ -492,9 +531,11 @@ fn open<B: Ledger, T: Ledger, D: Disk>(
     else {
         return Err(ProxyFault::Memory);
     };
+    let lanes = Lanes::new(alloc, server_count(&accepted))?;
     let shared = Shared {
         accepted,
         hub: Arc::new(alloc, hub)?,
+        lanes: Arc::new(alloc, lanes)?,
         spool: Arc::new(alloc, Mutex::new(spool))?,
         pending: records.len(),
         work_ends: Arc::new(alloc, Ends::new())?,
@@ -521,12 +562,23 @@ fn run<
         workers: Vec::new(alloc),
         spool: None,
     };
+    let links = links_of(alloc, &shared.accepted, gates)?;
+    let links = Arc::new(alloc, Links::new(alloc, links)?)?;
     let mut pass = passes.pass();
     if let Err(fault) = ready(rt, alloc, shared, passes, gates, &mut crew) {
         dismiss(&rt, shared, &mut pass, crew);
         return Err(fault);
     }
-    let sessions = accept(rt, alloc, &shared.accepted, &shared.hub, passes, gates);
+    let sessions = accept(
+        rt,
+        alloc,
+        &shared.accepted,
+        &shared.hub,
+        &shared.lanes,
+        &links,
+        passes,
+        gates,
+    );
     let receipts = gather(&rt, alloc, sessions, seat);
     dismiss(&rt, shared, &mut pass, crew);
     Ok(receipts?)
