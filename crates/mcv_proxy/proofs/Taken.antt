@@ -35,10 +35,10 @@ found_was_taken v call (Ok (Some t)) keeps r p a = was_taken v call (Some t) t r
 found_was_taken v call (Err fault) keeps r p a = tt
 
 -- the replies to one call more
-pub one_more_call : (calls : List CallId) (done : ℕ) (call : CallId) (taken : List TakenReply) (t : TakenReply) → done < length calls → call ≡ get_or calls done call → t.receipt.call ≡ call
+pub one_more_call : (calls : List CallId) (done : ℕ) (d : CallId) (taken : List TakenReply) (t : TakenReply) → done < length calls → t.receipt.call ≡ get_or calls done d
     → map (λ t. t.receipt.call) taken ≡ take done calls → map (λ t. t.receipt.call) (taken ++ t ∷ []) ≡ take (done + 1) calls
-one_more_call calls done call taken t within is of so_far =
+one_more_call calls done d taken t within of so_far =
     map_push (λ t. t.receipt.call) taken t
     ∙ ap (λ xs. xs ++ t.receipt.call ∷ []) so_far
-    ∙ ap (λ c. take done calls ++ c ∷ []) (of ∙ is)
-    ∙ sym (take_more calls done call within)
+    ∙ ap (λ c. take done calls ++ c ∷ []) of
+    ∙ sym (take_more calls done d within)
