@@ -15,8 +15,8 @@ loop-done-preserved g c =
           record {
             most = grind (arith, common_steps);
             room = search rules;
-            each = subst (All WasTaken) (sym items) (All-push WasTaken c.loop-done.taken.items w.in-Ok-Some.reply c.loop-done.invariant.each w.in-Ok-Some.ensures.taken);
-            calls = λ m. ap (map (λ t. t.receipt.call)) items ∙ one_more_call c.args.calls.now c.loop-done.done _ c.loop-done.taken.items w.in-Ok-Some.reply c.loop-done-test.true w.in-Ok-Some.ensures.call (c.loop-done.invariant.calls (sym w.missed-is ∙ m));
+            each = subst (All WasTaken) (sym items) (All-push WasTaken c.loop-done.taken.items w.in-Ok-Some.reply c.loop-done.invariant.each (rw w.in-Ok-Some.field-0-is at w.in-Ok-Some.ensures.taken));
+            calls = λ m. ap (map (λ t. t.receipt.call)) items ∙ one_more_call c.args.calls.now c.loop-done.done _ c.loop-done.taken.items w.in-Ok-Some.reply c.loop-done-test.true (rw w.in-Ok-Some.field-0-is at w.in-Ok-Some.ensures.call) (c.loop-done.invariant.calls (sym w.missed-is ∙ m));
             missed = search rules;
             counted = grind (arith, common_steps);
             begun = search rules;
