@@ -2,7 +2,7 @@
 use denote.RattleType.{RattleType}
 use denote.Param.Send.{IsSend, IsSync, sendable}
 use Rattle.std.specs.declared.sync.ledger.Ledger.{Ghosts}
-use Rattle.std.proofs.Crossing.{crosses}
+use Rattle.std.proofs.Crossing.{Arc-send, crosses}
 use Rattle.std.proofs.MapsCrossing as maps
 use Rattle.std.proofs.sync.ledger.Book.TheSendSync as book
 use Rattle.std.proofs.sync.atomic.AtomicBool.TheSendSync as flag
@@ -39,8 +39,15 @@ use Rattle.mcv_hub.specs.contracts.hub.Hub as Hub
 use Rattle.mcv_hub.proofs.entry.Entry.TheSendSync as entry
 use Rattle.mcv_proxy.specs.contracts.ends.Ends as Ends
 use Rattle.mcv_proxy.specs.contracts.lanes.Lanes as Lanes
+use Rattle.mcv_proxy.specs.contracts.lanes.Links as Links
+use Rattle.mcv_proxy.proofs.lanes.Links.TheSendSync as links
+use Rattle.mcv_proxy.specs.contracts.threads.Visitor as Visitor
+use Rattle.mcv_proxy.proofs.threads.Visitor.TheSendSync as visitor
 use Rattle.mcv_proxy.proofs.lanes.Lane.TheSendSync as lane
 use Rattle.std.specs.contracts.option.Option as Option
+use Rattle.std.specs.contracts.sync.Arc as Arc
+use Rattle.std.specs.contracts.alloc.Global as Heap
+use Rattle.std.specs.contracts.impls.GlobalAllocator.TheImpl.{ghosts}
 use Rattle.mcv_base.specs.contracts.server.ServerText as ServerText
 use Rattle.mcv_base.proofs.server.ServerText.TheSendSync as text
 use Rattle.mcv_hub.specs.contracts.seat.Seat as Seat
@@ -95,6 +102,10 @@ module _ (B T : RattleType) (b : Ghosts B.Denot) (t : Ghosts T.Denot) where
   pub hub_sync : IsSync (Hub.the_row B T b t)
   hub_sync = search (state_send, sendable, crosses, maps.crosses) depth 24
 
+module _ (B T : RattleType) (b : Ghosts B.Denot) (t : Ghosts T.Denot) where
+  pub hub_shared : IsSend (Arc.the_row (Hub.the_row B T b t) Heap.the_row ghosts)
+  hub_shared = Arc-send (Hub.the_row B T b t) (hub_send B T b t) (hub_sync B T b t)
+
 pub ends_send : IsSend Ends.the_row
 ends_send = search (flag.the_send, flag.the_field_send, sendable, crosses) depth 24
 
@@ -107,6 +118,19 @@ lanes_send = search (lane.the_send, sendable, crosses, maps.crosses) depth 24
 pub lanes_sync : IsSync Lanes.the_row
 lanes_sync = search (lane.the_send, sendable, crosses, maps.crosses) depth 24
 
+pub ends_shared : IsSend (Arc.the_row Ends.the_row Heap.the_row ghosts)
+ends_shared = Arc-send Ends.the_row ends_send ends_sync
+
+pub lanes_shared : IsSend (Arc.the_row Lanes.the_row Heap.the_row ghosts)
+lanes_shared = Arc-send Lanes.the_row lanes_send lanes_sync
+
+module _ (L : RattleType) where
+  pub links_shared : IsSend L → IsSend (Arc.the_row (Links.the_row L) Heap.the_row ghosts)
+  links_shared s = Arc-send (Links.the_row L) (search (links.the_send, sendable, crosses) depth 24) (search (links.the_sync, sendable, crosses) depth 24)
+
+pub accepted_shared : IsSend (Arc.the_row Accepted.the_row Heap.the_row ghosts)
+accepted_shared = Arc-send Accepted.the_row accepted_send accepted_sync
+
 pub text_send : IsSend ServerText.the_row
 text_send = search (text.the_send, sendable, crosses) depth 24
 
@@ -116,3 +140,7 @@ maybe_text_send = search (text_send, sendable, crosses) depth 24
 module _ (B T : RattleType) (b : Ghosts B.Denot) (t : Ghosts T.Denot) where
   pub seat_send : IsSend (Seat.the_row B T b t)
   seat_send = search (seat.the_send, sendable, crosses) depth 24
+
+module _ (I O W : RattleType) where
+  pub visitor_send : IsSend I → IsSend O → IsSend W → IsSend (Visitor.the_row I O W)
+  visitor_send i o w = search (visitor.the_send, sendable, crosses) depth 24

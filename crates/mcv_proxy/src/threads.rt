@@ -184,6 +184,14 @@ fn employ_replayer<
     thread::spawn(&rt, job).ok()
 }
 
+/// A client that is to be served, and the watch of its session.
+#[derive(Drop)]
+struct Visitor<I: Read + Drop, O: Write + Drop, W: Watch> {
+    reader: I,
+    writer: O,
+    watch: W,
+}
+
 /// Serves a client until its session ends.
 fn serve<B: Ledger, T: Ledger, L: Link, I: Read + Drop, O: Write + Drop, W: Watch, R: Wait + Clock>(
     rt: &R,
@@ -194,10 +202,13 @@ fn serve<B: Ledger, T: Ledger, L: Link, I: Read + Drop, O: Write + Drop, W: Watc
     links: &Links<L>,
     pass: Pass,
     seat: Seat<B, T>,
-    mut reader: I,
-    mut writer: O,
-    watch: W,
+    visitor: Visitor<I, O, W>,
 ) -> Done<B, T> {
+    let Visitor {
+        mut reader,
+        mut writer,
+        watch,
+    } = visitor;
     let mut desk = HubDesk::new(rt, alloc, accepted, hub, lanes, links, pass, seat, watch);
     let _ = serve_session(alloc, &mut reader, &mut writer, &mut desk);
     let (seat, receipts) = desk.into_parts();
@@ -222,12 +233,10 @@ fn host<
     links: Arc<Links<L>>,
     pass: Pass,
     seat: Seat<B, T>,
-    reader: I,
-    writer: O,
-    watch: W,
+    visitor: Visitor<I, O, W>,
 ) -> Option<JoinHandle<Done<B, T>>> {
     let job = move || serve(
-        &rt, alloc, accepted, &*hub, &*lanes, &*links, pass, seat, reader, writer, watch,
+        &rt, alloc, accepted, &*hub, &*lanes, &*links, pass, seat, visitor,
     );
     thread::spawn(&rt, job).ok()
 }
@@ -258,9 +267,12 @@ fn admit<
     let lanes = Arc::try_clone(lanes).ok()?;
     let links = Arc::try_clone(links).ok()?;
     let (reader, writer) = client;
-    host(
-        rt, alloc, accepted, hub, lanes, links, pass, seat, reader, writer, watch,
-    )
+    let visitor = Visitor {
+        reader,
+        writer,
+        watch,
+    };
+    host(rt, alloc, accepted, hub, lanes, links, pass, seat, visitor)
 }
 
 /// How many servers there are.
