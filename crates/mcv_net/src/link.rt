@@ -1,10 +1,11 @@
 //! The way to one server, over one connection.
 
-ghost use Rattle.std.specs.Prelude.{◌≡◌, ◌++◌, ℕ, List, None, IfOk, codes};
+ghost use Rattle.std.specs.Prelude.{◌≡◌, ◌++◌, ◌⊎◌, ℕ, List, Err, None, IfNone, IfOk, IfSome, codes};
 ghost use Rattle.std.specs.Arc.{arc_value};
 ghost use Rattle.mcv_text.specs.Answer.{line_end};
+ghost use Rattle.mcv_text.specs.Leg.{leg_text, leg_value};
 ghost use Rattle.mcv_net.specs.Exchange.{AnswersProbe, SpellsReply};
-ghost use Rattle.mcv_net.specs.Sends.{AsksAnew, AsksOver, Sends, kept_behind};
+ghost use Rattle.mcv_net.specs.Sends.{AsksAnew, AsksOver, Begins, Finishes, GoesOn, Sends, kept_behind};
 
 use crate::dial::Dial;
 use crate::exchange::{ask, ask_version, read_reply, write_text};
@@ -111,7 +112,11 @@ impl<D: Dial, N: Notices> TcpLink<D, N> {
     }
 
     /// Writes a text to the kept connection, if there is one.
-    fn begin(&mut self, text: Vec<u8>) -> Begun<D::Stream> {
+    fn begin(&mut self, text: Vec<u8>) -> Begun<D::Stream>
+        ensures over { Begins D.Stream.contents text.items self.old.kept result.over }
+        ensures text { result.text ≡ text }
+        ensures kept { self.new.kept ≡ None }
+    {
         let Some(stream) = self.kept.take() else {
             return Begun { text, over: None };
         };
@@ -124,7 +129,10 @@ impl<D: Dial, N: Notices> TcpLink<D, N> {
     }
 
     /// Reads the reply to a leg from the connection to which it was written, and keeps that where the reply is there.
-    fn finish(&mut self, written: Written<D::Stream>, leg: &LegRequest) -> Result<Reply, Loss> {
+    fn finish(&mut self, written: Written<D::Stream>, leg: &LegRequest) -> Result<Reply, Loss>
+        requires { self.old.kept ≡ None }
+        ensures { Finishes D.Stream.remaining (SpellsReply leg.now.op (arc_value leg.now.rest)) written result self.new.kept }
+    {
         let Written {
             mut stream,
             outcome,
@@ -136,7 +144,10 @@ impl<D: Dial, N: Notices> TcpLink<D, N> {
     }
 
     /// Goes on with a leg that was begun; over a new connection where none was kept, and where the leg may be sent once more.
-    fn go_on(&mut self, begun: Begun<D::Stream>, leg: &LegRequest) -> Result<Reply, Loss> {
+    fn go_on(&mut self, begun: Begun<D::Stream>, leg: &LegRequest) -> Result<Reply, Loss>
+        requires { self.old.kept ≡ None }
+        ensures { GoesOn D.Stream.contents D.Stream.remaining (SpellsReply leg.now.op (arc_value leg.now.rest)) begun.text.items leg.now.op begun.over result self.new.kept }
+    {
         let Begun { text, over } = begun;
         let Some(written) = over else {
             return self.ask_anew(leg, text.as_slice());
@@ -156,11 +167,26 @@ impl<D: Dial, N: Notices> TcpLink<D, N> {
     }
 
     /// Sends a leg of which nothing was begun.
-    fn send_whole(&mut self, leg: &LegRequest) -> Result<Reply, Loss> {
+    fn send_whole(&mut self, leg: &LegRequest) -> Result<Reply, Loss>
+        ensures { ((result ≡ Err Loss.Memory) × (self.new.kept ≡ self.old.kept)) ⊎ Sends D.Stream.contents D.Stream.remaining (SpellsReply leg.now.op (arc_value leg.now.rest)) (leg_text (leg_value leg.now)) leg.now.op self.old.kept result self.new.kept }
+    {
         let Ok(text) = leg_text(self.alloc, leg) else {
             return Err(Loss::Memory);
         };
         self.ask(leg, text)
+    }
+
+    /// Goes on with the leg that was begun; where none was, sends this one.
+    fn send_leg(&mut self, leg: &LegRequest) -> Result<Reply, Loss>
+        ensures begun { IfSome self.old.begun (λ begun. GoesOn D.Stream.contents D.Stream.remaining (SpellsReply leg.now.op (arc_value leg.now.rest)) begun.text.items leg.now.op begun.over result self.new.kept) }
+        ensures whole { IfNone self.old.begun (((result ≡ Err Loss.Memory) × (self.new.kept ≡ self.old.kept)) ⊎ Sends D.Stream.contents D.Stream.remaining (SpellsReply leg.now.op (arc_value leg.now.rest)) (leg_text (leg_value leg.now)) leg.now.op self.old.kept result self.new.kept) }
+        ensures done { self.new.begun ≡ None }
+    {
+        let Some(begun) = self.begun.take() else {
+            return self.send_whole(leg);
+        };
+        self.kept = None;
+        self.go_on(begun, leg)
     }
 
     /// Probes over this connection, and keeps it where the answer is there.
@@ -199,7 +225,10 @@ impl<D: Dial, N: Notices> TcpLink<D, N> {
 }
 
 impl<D: Dial, N: Notices> Link for TcpLink<D, N> {
-    fn start(&mut self, _pass: &Pass, leg: &LegRequest) {
+    fn start(&mut self, _pass: &Pass, leg: &LegRequest)
+        ensures begun { IfSome self.new.begun (λ begun. (begun.text.items ≡ leg_text (leg_value leg.now)) × Begins D.Stream.contents begun.text.items self.old.kept begun.over × (self.new.kept ≡ None)) }
+        ensures unbegun { IfNone self.new.begun (self.new.kept ≡ self.old.kept) }
+    {
         self.begun = None;
         if let Ok(text) = leg_text(self.alloc, leg) {
             self.begun = Some(self.begin(text));
@@ -209,11 +238,7 @@ impl<D: Dial, N: Notices> Link for TcpLink<D, N> {
     fn send(&mut self, _pass: &Pass, leg: &LegRequest) -> Result<Reply, LinkFault>
         ensures { IfOk result (λ reply. (bytes : List ℕ) × SpellsReply leg.now.op (arc_value leg.now.rest) bytes reply) }
     {
-        let outcome = match self.begun.take() {
-            Some(begun) => self.go_on(begun, leg),
-            None => self.send_whole(leg),
-        };
-        match outcome {
+        match self.send_leg(leg) {
             Ok(reply) => Ok(reply),
             Err(loss) => Err(fault_of(loss)),
         }

@@ -38,6 +38,8 @@ use Rattle.mcv_hub.specs.contracts.state.HubState as HubState
 use Rattle.mcv_hub.specs.contracts.hub.Hub as Hub
 use Rattle.mcv_hub.proofs.entry.Entry.TheSendSync as entry
 use Rattle.mcv_proxy.specs.contracts.ends.Ends as Ends
+use Rattle.mcv_proxy.specs.contracts.lanes.Lanes as Lanes
+use Rattle.mcv_proxy.proofs.lanes.Lane.TheSendSync as lane
 use Rattle.std.specs.contracts.option.Option as Option
 use Rattle.mcv_base.specs.contracts.server.ServerText as ServerText
 use Rattle.mcv_base.proofs.server.ServerText.TheSendSync as text
@@ -98,6 +100,12 @@ ends_send = search (flag.the_send, flag.the_field_send, sendable, crosses) depth
 
 pub ends_sync : IsSync Ends.the_row
 ends_sync = search (flag.the_sync, flag.the_field_sync, sendable, crosses) depth 24
+
+pub lanes_send : IsSend Lanes.the_row
+lanes_send = search (lane.the_send, sendable, crosses, maps.crosses) depth 24
+
+pub lanes_sync : IsSync Lanes.the_row
+lanes_sync = search (lane.the_send, sendable, crosses, maps.crosses) depth 24
 
 pub text_send : IsSend ServerText.the_row
 text_send = search (text.the_send, sendable, crosses) depth 24

@@ -1,6 +1,6 @@
 //! The desk over a hub: a request's keys are calls of the hub.
 
-ghost use Rattle.std.specs.Prelude.{◌≡◌, ◌↔◌, ◌+◌, ◌<◌, ◌≤◌, [], None, fold, length, map, nat_le, option_map, take, vec_len, vec_capacity, true, IfErr, IfOk, IfSome, OnErr, OnOk};
+ghost use Rattle.std.specs.Prelude.{◌≡◌, ◌↔◌, ◌+◌, ◌<◌, ◌≤◌, [], None, fold, length, map, nat_le, option_map, take, vec_len, vec_capacity, true, IfErr, IfNone, IfOk, IfSome, OnErr, OnOk};
 ghost use Rattle.std.specs.Arc.{arc_value};
 ghost use Rattle.std.specs.List.{All, filter};
 ghost use Rattle.mcv_text.specs.Request.{request_value};
@@ -279,6 +279,24 @@ fn begin_each<'a, B: Ledger, T: Ledger, L: Link, R: Wait + Clock>(
     (guard, Ok(()))
 }
 
+/// Takes the reply to a call, if it is there.
+fn take_one<B: Ledger, T: Ledger>(
+    guard: &mut Guard<'_, B, T>,
+    seat: &mut Seat<B, T>,
+    call: CallId,
+) -> Result<Option<TakenReply>, CoreFault>
+    ensures taken { IfOk result (λ found. IfSome found WasTaken) }
+    ensures call { IfOk result (λ found. IfSome found (λ t. t.receipt.call ≡ call)) }
+    ensures counted { IfOk result (λ found. IfSome found (λ t. seat.new.taken.amount ≡ seat.old.taken.amount + 1)) }
+    ensures uncounted { IfOk result (λ found. IfNone found (seat.new.taken.amount ≡ seat.old.taken.amount)) }
+    ensures refused { OnErr result (seat.new.taken.amount ≡ seat.old.taken.amount) }
+    ensures begun { seat.new.begun.amount ≡ seat.old.begun.amount }
+    ensures err { IfErr result (λ fault. fault ≡ CoreFault.NoSuchCall) }
+{
+    guard.deletes_are_kept();
+    guard.take_reply(seat, call)
+}
+
 /// Takes the replies to calls that are there, in their order, up to the first that isn't. Where one won't come the others are
 /// taken too, and it is NoSuchCall.
 fn take_ready<B: Ledger, T: Ledger>(
@@ -305,8 +323,7 @@ fn take_ready<B: Ledger, T: Ledger>(
 {
     let mut missed = progress.missed;
     for done in progress.done..calls.len() {
-        guard.deletes_are_kept();
-        match guard.take_reply(seat, calls[done]) {
+        match take_one(guard, seat, calls[done]) {
             Ok(Some(reply)) => taken.push_reserved(reply),
             Ok(None) => return Progress { done, missed },
             Err(fault) => missed = Some(fault),
