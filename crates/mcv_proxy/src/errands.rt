@@ -313,11 +313,7 @@ impl<'a, B: Ledger, T: Ledger, L: Link> Errands<'a, B, T, L> {
 
     /// Reports what came of the leg that was sent; one that no link was there for is lost. Its server, and whether that is marked
     /// by it; None where the session has no leg in flight.
-    fn report(
-        &mut self,
-        guard: &mut Guard<'_, B, T>,
-        own: &[CallId],
-    ) -> Option<(ServerId, bool)> {
+    fn report(&mut self, guard: &mut Guard<'_, B, T>, own: &[CallId]) -> Option<(ServerId, bool)> {
         if let Some(came) = self.landed.take() {
             let server = came.flight.server;
             return Some((server, land(&mut self.agenda, guard, own, came)));

@@ -15,10 +15,7 @@ use std::alloc::Global;
 use std::sync::ledger::Ledger;
 
 /// What is left of a link's answer: a reply that gets no memory is lost.
-fn reply_of(
-    alloc: Global,
-    sent: Result<Reply, LinkFault>,
-) -> Result<LegReply, LinkFault>
+fn reply_of(alloc: Global, sent: Result<Reply, LinkFault>) -> Result<LegReply, LinkFault>
     ensures { IsLeftOf sent result }
 {
     match sent {
