@@ -1,5 +1,6 @@
 -- A reply that is given was read from a connection.
-use Rattle.std.proofs.Common.{◌≡◌, ℕ, Bool, true, false, List, Option, None, Some, Ok, Err, refl, sym, subst, inl, inr, Result, MatchResult}
+use Rattle.std.proofs.Common.{◌≡◌, ◌⊎◌, ℕ, Bool, true, false, List, Option, None, Some, Ok, Err, refl, sym, subst, inl, inr, Result, MatchResult}
+use Rattle.std.specs.Prelude.{IfNone, IfSome}
 use Rattle.mcv_base.specs.declared.operation.Op.{Op}
 use Rattle.mcv_net.specs.declared.loss.Loss.{Loss}
 use Rattle.mcv_net.specs.declared.loss.Loss.TheVariants.{Unwritten, Unread, Broken, Memory}
@@ -78,3 +79,18 @@ module _ {S X : Type 0} (contents remaining : S → Option (List ℕ)) (spells :
       none e = cc
   sends_of op (Some from) None result kept b g = absurd b
   sends_of op (Some from) (Some written) result kept b (first, then_kept, f, m) = (first, then_kept, over_of from written first then_kept b f, m)
+
+  pub whole_spelled : (op : Op) (old kept : Option S) (x : X) (Z : Type 0) → (◌≡◌ {A = Result X Loss} (Ok x) (Err Memory) × Z) ⊎ Sends contents remaining spells text op old (Ok x) kept → (bytes : List ℕ) × spells bytes x
+  whole_spelled op old kept x Z (inl l) = absurd (no_loss x Memory l.0)
+  whole_spelled op old kept x Z (inr s) = sends_spelled op old kept x s
+
+-- the text that was begun is this one
+pub sends_by : {S X : Type 0} (contents remaining : S → Option (List ℕ)) (spells : List ℕ → X → Type 0) (text other : List ℕ) (op : Op) (old : Option S) (over : Option (Written S)) (result : Result X Loss) (kept : Option S)
+    → other ≡ text → Begins contents text old over → GoesOn contents remaining spells other op over result kept → Sends contents remaining spells text op old result kept
+sends_by contents remaining spells text other op old over result kept e b g =
+    sends_of contents remaining spells text op old over result kept b (subst (λ t. GoesOn contents remaining spells t op over result kept) e g)
+
+-- by one of two facts, whichever there is
+pub either_way : {B : Type 0} (begun : Option B) (P : B → Type 0) (Q G : Type 0) → IfSome begun P → IfNone begun Q → ((b : B) → P b → G) → (Q → G) → G
+either_way None P Q G p q f h = h q
+either_way (Some b) P Q G p q f h = f b p
