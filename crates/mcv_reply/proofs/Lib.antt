@@ -13,4 +13,6 @@ pub mod Stages
 pub mod Steps
 pub mod Probing
 pub mod RepliesMayAnswer
+pub mod PlainLines
+pub mod PlainSteps
 mod Examples

@@ -3,5 +3,6 @@ pub mod Line
 pub mod Reply
 pub mod Place
 pub mod Reader
+pub mod Plain
 pub mod Progress
 pub mod Probe

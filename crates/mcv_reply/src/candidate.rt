@@ -9,7 +9,7 @@ ghost use Rattle.mcv_reply.specs.Place.{Ends, HasName, HasNumber, IsDigitOf, IsV
 use crate::word::{Tail, Word};
 
 /// The bytes that a line may have before its LF.
-const LINE_LIMIT: usize = 2048;
+pub const LINE_LIMIT: usize = 2048;
 
 /// The numbers of a value's line: 32 bits, at most 1,048,576, and 64 bits.
 #[derive(Clone, Copy, Debug, Default, PartialEq, Eq)]
@@ -93,7 +93,8 @@ impl Number {
     }
 }
 
-fn digit(byte: u8) -> Option<u64>
+/// The value of a digit.
+pub fn digit(byte: u8) -> Option<u64>
     ensures { IsDigitOf byte result }
 {
     if byte >= b'0' && byte <= b'9' {
@@ -230,7 +231,7 @@ fn behind_number(
 }
 
 /// The value with one more digit, if it is within the limit.
-fn with_digit(value: u64, digit: u64, limit: u64) -> Option<u64>
+pub fn with_digit(value: u64, digit: u64, limit: u64) -> Option<u64>
     requires { digit ≤ 9 }
     ensures { MatchOption result (limit < 10 * value + digit) (λ v. (v ≡ 10 * value + digit) × (v ≤ limit)) }
 {

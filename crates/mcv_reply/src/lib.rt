@@ -9,6 +9,7 @@ mod candidate;
 mod fault;
 mod laws;
 mod line;
+mod plain;
 mod probe;
 mod progress;
 mod reader;

@@ -3,10 +3,11 @@
 //! It keeps what the line so far has said, so that no byte is looked at again when the next piece
 //! comes; a value is taken by its length (specs/Progress.antt says what is kept so).
 
-ghost use Rattle.std.specs.Prelude.{◌≡◌, ◌<◌, ◌≤◌, ℕ, List, IfOk, MatchOption, length, true, Some, None};
+ghost use Rattle.std.specs.Prelude.{◌≡◌, ◌<◌, ◌≤◌, ◌+◌, ℕ, List, IfOk, IsTrue, MatchOption, length, true, Some, None};
 ghost use Rattle.mcv_base.specs.Reply.{reply_value};
 ghost use Rattle.mcv_reply.specs.Line.{IsLine};
 ghost use Rattle.mcv_reply.specs.Place.{IsKept, is_clean};
+ghost use Rattle.mcv_reply.specs.Plain.{EndsValue, StartsLine};
 ghost use Rattle.mcv_reply.specs.Reply.{said_alone};
 ghost use Rattle.mcv_reply.specs.Reader.{Fed};
 ghost use Rattle.mcv_reply.specs.Progress.{FirstEnds, HitMade, IsAt, IsAtStage, LastEnds, Steps, bytes_at, stands_at};
@@ -14,12 +15,16 @@ ghost use Rattle.mcv_reply.specs.Progress.{FirstEnds, HitMade, IsAt, IsAtStage, 
 use crate::candidate::Head;
 use crate::fault::ReplyFault;
 use crate::line::{Candidates, Meaning, candidates, go_on, said, without_return};
+use crate::plain::plain_line;
 use crate::word::{Row, Word};
 use mcv_base::{Op, Reply};
 use memchr::memchr;
 use std::alloc::Global;
 use std::mem;
 use std::sync::Arc;
+
+/// What servers write behind a value.
+const VALUE_END: &[u8] = b"\r\nEND\r\n";
 
 /// What of a reply is being read.
 #[derive(Clone, Copy, Debug, PartialEq, Eq)]
@@ -314,6 +319,104 @@ fn in_last(
     }
 }
 
+/// A piece that has the first line whole, which says this.
+fn line_whole(
+    alloc: Global,
+    op: Op,
+    key: &[u8],
+    progress: &mut Progress,
+    piece: &[u8],
+    end: usize,
+    said: Meaning,
+) -> Result<Step, ReplyFault>
+    requires { StartsLine op key.now progress.old.text.items piece.now end said }
+    ensures { Steps op key.now (bytes_at Stage.Line progress.old) piece.now result progress.new }
+{
+    let Ok(line) = Vec::from_slice(alloc, &piece[..end]) else {
+        return Err(ReplyFault::Memory);
+    };
+    let reply = line_said(alloc, op, key, progress, line, said)?;
+    Ok(Step {
+        used: end + 1,
+        reply,
+    })
+}
+
+/// A piece that comes while the first line is read, at a stroke where it has the line whole, as servers write it.
+fn first_line(
+    alloc: Global,
+    op: Op,
+    key: &[u8],
+    progress: &mut Progress,
+    piece: &[u8],
+) -> Result<Step, ReplyFault>
+    requires clean { is_clean key.now ≡ true }
+    requires some { 0 < length piece.now }
+    requires stage { progress.old.stage ≡ Stage.Line }
+    requires at { IsAtStage op key.now progress.old Stage.Line }
+    ensures { Steps op key.now (bytes_at Stage.Line progress.old) piece.now result progress.new }
+{
+    match plain_line(op, key, progress.text.as_slice(), piece) {
+        Some((end, said)) => line_whole(alloc, op, key, progress, piece, end, said),
+        None => in_line(alloc, op, key, progress, piece),
+    }
+}
+
+/// Whether the piece is what the value lacks, and the end as servers write it.
+fn ends_value(missing: usize, piece: &[u8]) -> bool
+    ensures { IsTrue result → EndsValue missing piece.now }
+{
+    missing < piece.len() && &piece[missing..] == VALUE_END
+}
+
+/// A piece that is all that a reply with a value lacks.
+fn value_whole(
+    alloc: Global,
+    op: Op,
+    key: &[u8],
+    progress: &mut Progress,
+    piece: &[u8],
+    missing: usize,
+) -> Result<Step, ReplyFault>
+    requires at { IsAtStage op key.now progress.old Stage.Value }
+    requires missing { length progress.old.body.items + missing ≡ progress.old.head.size }
+    requires ends { EndsValue missing piece.now }
+    ensures { Steps op key.now (bytes_at Stage.Value progress.old) piece.now result progress.new }
+{
+    let _key = key;
+    let mut body = mem::replace(&mut progress.body, Vec::new(alloc));
+    let Ok(()) = body.extend_from_slice(&piece[..missing]) else {
+        return Err(ReplyFault::Memory);
+    };
+    let reply = hit(alloc, op.is(Op::Gets), progress.head, body)?;
+    Ok(Step {
+        used: piece.len(),
+        reply: Some(reply),
+    })
+}
+
+/// A piece that comes while the value is read, at a stroke where the reply ends with it, as servers write it.
+fn value_piece(
+    alloc: Global,
+    op: Op,
+    key: &[u8],
+    progress: &mut Progress,
+    piece: &[u8],
+) -> Result<Step, ReplyFault>
+    requires clean { is_clean key.now ≡ true }
+    requires some { 0 < length piece.now }
+    requires stage { progress.old.stage ≡ Stage.Value }
+    requires at { IsAtStage op key.now progress.old Stage.Value }
+    ensures { Steps op key.now (bytes_at Stage.Value progress.old) piece.now result progress.new }
+{
+    let missing = progress.head.size as usize - progress.body.len();
+    if ends_value(missing, piece) {
+        value_whole(alloc, op, key, progress, piece, missing)
+    } else {
+        in_value(op, key, progress, piece)
+    }
+}
+
 /// A piece at any stage of a reply that has come in part.
 pub fn take_step(
     alloc: Global,
@@ -331,8 +434,8 @@ pub fn take_step(
     ensures steps { (bytes : List ℕ) → stands_at progress.old.stage progress.old ≡ Fed bytes → Steps op key.now bytes piece.now result progress.new }
 {
     match progress.stage {
-        Stage::Line => in_line(alloc, op, key, progress, piece),
-        Stage::Value => in_value(op, key, progress, piece),
+        Stage::Line => first_line(alloc, op, key, progress, piece),
+        Stage::Value => value_piece(alloc, op, key, progress, piece),
         Stage::Return => at_return(op, key, progress, piece),
         Stage::Last => in_last(alloc, op, key, progress, piece),
         Stage::Answered | Stage::Closed => Err(ReplyFault::Closed),

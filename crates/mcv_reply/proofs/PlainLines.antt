@@ -1,0 +1,81 @@
+-- Lines as servers write them.
+use Rattle.std.proofs.Common.{◌≡◌, ◌≢◌, ℕ, ◌+◌, ◌-◌, ◌*◌, ◌<◌, ◌≤◌, inl, inr, Bool, true, false, List, [], ◌∷◌, ◌++◌, length, take, drop, Option, Some, None, refl, sym, ap, subst, ◌∙◌, arith, append_assoc, IfSome}
+use Rattle.std.specs.Prelude.{codes}
+use Rattle.std.specs.List.{All, Contains}
+use Rattle.std.specs.Cmp.Lexicographic.{bytes_decides, pointwise}
+use Rattle.std.proofs.Common.{nat_eq}
+use Rattle.std.proofs.lemmas.List.{take-append-drop}
+use Rattle.mcv_base.specs.declared.operation.Op.{Op}
+use Rattle.mcv_base.specs.declared.operation.Op.TheVariants as ops
+use Rattle.mcv_base.specs.Operation.{is_reading}
+use Rattle.mcv_reply.specs.declared.word.Word.{Word}
+use Rattle.mcv_reply.specs.declared.word.Word.TheVariants.{Value}
+use Rattle.mcv_reply.specs.declared.word.Tail.{Tail}
+use Rattle.mcv_reply.specs.declared.word.Tail.TheVariants as tails
+use Rattle.mcv_reply.specs.declared.word.Row.TheVariants as rows
+use Rattle.mcv_reply.specs.declared.candidate.Head.{Head}
+use Rattle.mcv_reply.specs.Word.{answers, has_cas, tail_of, word_text}
+use Rattle.mcv_reply.specs.Line.{IsDigits, IsLine, IsWritten, Next, Writes, cas_forms, decimal_from, flags_forms, number, size_forms, tail_forms, word}
+use Rattle.mcv_reply.specs.Plain.{IsBareWord, SpacedNumber}
+
+-- a text that bytes begin with is taken off them
+pub prefix_parts : (bytes text left : List ℕ) → pointwise nat_eq (take (length text) bytes) text ≡ true → left ≡ drop (length text) bytes → bytes ≡ text ++ left
+prefix_parts bytes text left same is = sym (take-append-drop (length text) bytes) ∙ ap (λ t. t ++ drop (length text) bytes) ((bytes_decides (take (length text) bytes) text).0 same) ∙ ap (λ t. text ++ t) (sym is)
+
+pub digits_push : (digits : List ℕ) (b : ℕ) → IsDigits digits → 48 ≤ b → b ≤ 57 → IsDigits (digits ++ b ∷ [])
+digits_push [] b are low high = (low, high, tt)
+digits_push (d ∷ digits) b are low high = (are.0, are.1, digits_push digits b are.2 low high)
+
+pub decimal_push : (n : ℕ) (digits : List ℕ) (b : ℕ) → decimal_from n (digits ++ b ∷ []) ≡ 10 * decimal_from n digits + (b - 48)
+decimal_push n [] b = refl
+decimal_push n (d ∷ digits) b = decimal_push (10 * n + (d - 48)) digits b
+
+pub number_next : (limit n : ℕ) (Then : List ℕ → Type 0) (bytes left : List ℕ) → SpacedNumber limit n bytes left → Then left → Next (number limit n) 1 Then bytes
+number_next limit n Then bytes left s rest = record { gap = 1; written = s.digits; after = left; parts = s.parts; enough = omega arith; is = s.is; rest = rest }
+
+pub value_written : (cas : Bool) (key line named left : List ℕ) (r : Option Head) → line ≡ codes "VALUE " ++ named → named ≡ key ++ left → IfSome r (λ head. Writes (flags_forms cas head) 1 left)
+    → IfSome r (λ head. Writes (word (codes "VALUE") ∷ (word key ∷ flags_forms cas head)) 0 line)
+value_written cas key line named left None e f h = h
+value_written cas key line named left (Some head) e f h = record {
+  gap = 0;
+  written = codes "VALUE";
+  after = 32 ∷ named;
+  parts = e;
+  enough = omega arith;
+  is = refl;
+  rest = record { gap = 1; written = key; after = left; parts = ap (λ t. 32 ∷ t) f; enough = omega arith; is = refl; rest = h };
+}
+
+value_may : (op : Op) → is_reading op ≡ true → Contains (answers op) Value
+value_may ops.Get is = (1, omega arith, refl)
+value_may ops.Gets is = (1, omega arith, refl)
+value_may ops.Set is = absurd (cc)
+value_may ops.Add is = absurd (cc)
+value_may ops.Replace is = absurd (cc)
+value_may ops.Append is = absurd (cc)
+value_may ops.Prepend is = absurd (cc)
+value_may ops.Cas is = absurd (cc)
+value_may ops.Delete is = absurd (cc)
+value_may ops.Touch is = absurd (cc)
+
+pub value_line : (op : Op) (key line : List ℕ) (head : Head) (cas : Bool) → is_reading op ≡ true → cas ≡ has_cas (rows.Reply op) → All (λ b. b ≢ 10) line → length line ≤ 2048
+    → Writes (word (codes "VALUE") ∷ (word key ∷ flags_forms cas head)) 0 line → IsLine (rows.Reply op) key Value head line
+value_line op key line head cas reads cas_is no_end short writes = record {
+  may = value_may op reads;
+  writes = subst (λ (c : Bool). Writes (word (codes "VALUE") ∷ (word key ∷ flags_forms c head)) 0 line) cas_is writes;
+  no_end = no_end;
+  short = short;
+}
+
+bare_writes : (tail : Tail) (text line key : List ℕ) (has : Bool) (head : Head) → tail ≡ tails.Nothing → line ≡ text ++ 13 ∷ [] → Writes (word text ∷ tail_forms tail has key head) 0 line
+bare_writes tails.Nothing text line key has head is e = record { gap = 0; written = text; after = 13 ∷ []; parts = e; enough = omega arith; is = refl; rest = inr (refl, refl) }
+bare_writes tails.Text text line key has head is e = absurd (cc)
+bare_writes tails.Value text line key has head is e = absurd (cc)
+
+pub bare_line : (op : Op) (key line : List ℕ) (first : Word) (head : Head) → All (λ b. b ≢ 10) line → length line ≤ 2048 → IsBareWord op first line → IsLine (rows.Reply op) key first head line
+bare_line op key line first head no_end short bare = record {
+  may = bare.may;
+  writes = bare_writes (tail_of first) (word_text first) line key (has_cas (rows.Reply op)) head bare.tail bare.parts;
+  no_end = no_end;
+  short = short;
+}
