@@ -3,7 +3,7 @@
 use crate::disk::MemoryDisk;
 use crate::scene::{Manner, Scene, Server, number_of, play};
 use mcv_base::push_number;
-use mcv_spool::Spool;
+use mcv_spool::{Slot, Spool};
 use std::alloc::Global;
 use std::rt::Clock;
 use std::sync::{Arc, Mutex, Wait};
@@ -70,7 +70,7 @@ fn kept<R: Wait + Clock + Copy + Drop + Send + 'static>(
     let Ok(spool) = Spool::open(alloc, disk) else {
         return Err(Fail::from("the spool is refused"));
     };
-    for (_seq, delete) in spool.pending()? {
+    for delete in spool.pending().iter().filter_map(Slot::record) {
         for (place, text) in SERVERS.iter().enumerate() {
             if text.as_bytes() == delete.server.as_bytes() {
                 let number = number_of(delete.rest.as_bytes()).unwrap_or(usize::MAX);
