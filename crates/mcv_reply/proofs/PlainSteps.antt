@@ -2,7 +2,7 @@
 use Rattle.std.proofs.Common.{◌≡◌, ◌≢◌, ℕ, ◌+◌, ◌<◌, ◌≤◌, inr, Bool, List, [], ◌∷◌, ◌++◌, length, take, drop, Option, Some, None, Result, Ok, Err, refl, sym, ap, subst, ◌∙◌, arith, append_assoc, length-append}
 use Rattle.std.specs.Prelude.{codes}
 use Rattle.std.specs.List.{All}
-use Rattle.std.proofs.lemmas.List.{length-take, take_all}
+use Rattle.std.proofs.lemmas.List.{length-take, take-append-drop, take_all}
 use Rattle.std.proofs.lemmas.List.Elements.{All-push}
 use Rattle.mcv_base.specs.declared.operation.Op.{Op}
 use Rattle.mcv_base.specs.declared.reply.Reply.{Reply}
@@ -69,3 +69,6 @@ pub hit_fault : (op : Op) (key bytes piece made : List ℕ) (cas : Bool) (head :
 hit_fault op key bytes piece made cas head NotAReply new h = absurd h
 hit_fault op key bytes piece made cas head Closed new h = h
 hit_fault op key bytes piece made cas head Memory new h = tt
+
+pub value_ended : (missing : ℕ) (piece : List ℕ) → missing < length piece → drop missing piece ≡ value_end → EndsValue missing piece
+value_ended missing piece within is = record { within = within; parts = sym (take-append-drop missing piece) ∙ ap (λ t. take missing piece ++ t) is }

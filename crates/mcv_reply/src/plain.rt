@@ -1,8 +1,8 @@
 //! The first line of a reply as servers write it: single spaces, and a CR at its end. Such a line
 //! is read at a stroke; one that is written in another way goes through its candidates.
 
-ghost use Rattle.std.specs.Prelude.{◌≡◌, ◌≢◌, ◌∷◌, ◌++◌, [], All, IfSome, IsTrue, codes};
-ghost use Rattle.mcv_reply.specs.Line.{IsLine, Writes, cas_forms, flags_forms, word};
+ghost use Rattle.std.specs.Prelude.{◌≡◌, ◌≢◌, ◌≤◌, ◌∷◌, ◌++◌, [], All, IfSome, IsTrue, codes, length};
+ghost use Rattle.mcv_reply.specs.Line.{IsDigits, IsLine, Writes, cas_forms, decimal_from, flags_forms, word};
 ghost use Rattle.mcv_reply.specs.Plain.{IsBareWord, SpacedNumber, StartsLine};
 ghost use Rattle.mcv_reply.specs.Word.{tail_of, word_text};
 
@@ -22,42 +22,54 @@ fn behind<'a>(bytes: &'a [u8], text: &[u8]) -> Option<&'a [u8]>
     bytes.strip_prefix(text)
 }
 
-/// The number behind one space at the front of the bytes, and what stands behind it.
-fn spaced_number(bytes: &[u8], limit: u64) -> Option<(u64, &[u8])>
+/// The number that these digits write, if it is within the limit.
+fn digits_value(digits: &[u8], limit: u64) -> Option<u64>
+    ensures { IfSome result (λ n. IsDigits digits.now × (decimal_from 0 digits.now ≡ n) × (n ≤ limit)) }
+{
+    let mut value = 0;
+    for byte in digits {
+        let digit = digit(*byte)?;
+        value = with_digit(value, digit, limit)?;
+    }
+    Some(value)
+}
+
+/// The number behind one space at the front of the bytes, up to the first end byte, and what stands from there on.
+fn spaced_number(bytes: &[u8], end: u8, limit: u64) -> Option<(u64, &[u8])>
     ensures { IfSome result (λ r. SpacedNumber limit r.0 bytes.now r.1.now) }
 {
     let digits = behind(bytes, b" ")?;
-    let mut value = 0;
-    for (count, byte) in digits.iter().enumerate() {
-        let Some(digit) = digit(*byte) else {
-            return if count == 0 {
-                None
-            } else {
-                Some((value, &digits[count..]))
-            };
-        };
-        value = with_digit(value, digit, limit)?;
+    let count = memchr(end, digits)?;
+    if count == 0 {
+        return None;
     }
-    None
+    let value = digits_value(&digits[..count], limit)?;
+    Some((value, &digits[count..]))
 }
 
 /// The unique number at the end of a value's line, where it has one; else 0.
+#[tactic(auto, using(crate::proofs::PlainLines::no_number, crate::proofs::PlainLines::last_number))]
 fn last_number(cas: bool, bytes: &[u8]) -> Option<u64>
     ensures { IfSome result (λ n. Writes (cas_forms cas n) 1 bytes.now) }
 {
-    if !cas {
-        return if bytes == RETURN { Some(0) } else { None };
+    if cas {
+        let (number, left) = spaced_number(bytes, b'\r', 18_446_744_073_709_551_615)?;
+        if left == RETURN { Some(number) } else { None }
+    } else if bytes == RETURN {
+        Some(0)
+    } else {
+        None
     }
-    let (number, left) = spaced_number(bytes, 18_446_744_073_709_551_615)?;
-    if left == RETURN { Some(number) } else { None }
 }
 
 /// The numbers behind the key of a value's line.
+#[tactic(auto, using(crate::proofs::PlainLines::numbers_read))]
 fn numbers(cas: bool, bytes: &[u8]) -> Option<Head>
     ensures { IfSome result (λ head. Writes (flags_forms cas head) 1 bytes.now) }
 {
-    let (flags, sized) = spaced_number(bytes, 4_294_967_295)?;
-    let (size, left) = spaced_number(sized, 1_048_576)?;
+    let (flags, sized) = spaced_number(bytes, b' ', 4_294_967_295)?;
+    let end = if cas { b' ' } else { b'\r' };
+    let (size, left) = spaced_number(sized, end, 1_048_576)?;
     let number = last_number(cas, left)?;
     Some(Head {
         flags,
@@ -97,22 +109,31 @@ fn bare_word(op: Op, line: &[u8]) -> Option<Word>
     None
 }
 
-/// What the first line of a reply says, where it is written as servers write it. None says nothing of the line.
-fn plainly_said(op: Op, key: &[u8], line: &[u8]) -> Option<Meaning>
-    requires { All (λ b. b ≢ 10) line.now }
+/// What the line of a value says.
+#[tactic(auto, using(crate::proofs::PlainLines::value_line))]
+fn value_said(op: Op, key: &[u8], line: &[u8]) -> Option<Meaning>
+    requires no_end { All (λ b. b ≢ 10) line.now }
+    requires short { length line.now ≤ 2048 }
     ensures { IfSome result (λ said. IsLine (Row.Reply op) key.now said.first said.head line.now) }
 {
-    if line.len() > LINE_LIMIT {
-        return None;
-    }
     if op.is_reading() {
-        if let Some(head) = value_numbers(op.is(Op::Gets), key, line) {
-            return Some(Meaning {
-                first: Word::Value,
-                head,
-            });
-        }
+        let head = value_numbers(Row::Reply(op).has_cas(), key, line)?;
+        Some(Meaning {
+            first: Word::Value,
+            head,
+        })
+    } else {
+        None
     }
+}
+
+/// What the line of one word says.
+#[tactic(auto, using(crate::proofs::PlainLines::bare_line))]
+fn word_said(op: Op, key: &[u8], line: &[u8]) -> Option<Meaning>
+    requires no_end { All (λ b. b ≢ 10) line.now }
+    requires short { length line.now ≤ 2048 }
+    ensures { IfSome result (λ said. IsLine (Row.Reply op) key.now said.first said.head line.now) }
+{
     let first = bare_word(op, line)?;
     Some(Meaning {
         first,
@@ -122,6 +143,20 @@ fn plainly_said(op: Op, key: &[u8], line: &[u8]) -> Option<Meaning>
             cas: 0,
         },
     })
+}
+
+/// What the first line of a reply says, where it is written as servers write it. None says nothing of the line.
+fn plainly_said(op: Op, key: &[u8], line: &[u8]) -> Option<Meaning>
+    requires { All (λ b. b ≢ 10) line.now }
+    ensures { IfSome result (λ said. IsLine (Row.Reply op) key.now said.first said.head line.now) }
+{
+    if line.len() > LINE_LIMIT {
+        return None;
+    }
+    match value_said(op, key, line) {
+        Some(said) => Some(said),
+        None => word_said(op, key, line),
+    }
 }
 
 /// The place of the LF and what the line says, where the piece has the first line whole, as servers write it.

@@ -366,7 +366,10 @@ fn first_line(
 fn ends_value(missing: usize, piece: &[u8]) -> bool
     ensures { IsTrue result → EndsValue missing piece.now }
 {
-    missing < piece.len() && &piece[missing..] == VALUE_END
+    if missing >= piece.len() {
+        return false;
+    }
+    &piece[missing..] == VALUE_END
 }
 
 /// A piece that is all that a reply with a value lacks.
@@ -383,12 +386,11 @@ fn value_whole(
     requires ends { EndsValue missing piece.now }
     ensures { Steps op key.now (bytes_at Stage.Value progress.old) piece.now result progress.new }
 {
-    let _key = key;
     let mut body = mem::replace(&mut progress.body, Vec::new(alloc));
     let Ok(()) = body.extend_from_slice(&piece[..missing]) else {
         return Err(ReplyFault::Memory);
     };
-    let reply = hit(alloc, op.is(Op::Gets), progress.head, body)?;
+    let reply = hit(alloc, Row::Reply(op).has_cas(), progress.head, body)?;
     Ok(Step {
         used: piece.len(),
         reply: Some(reply),
