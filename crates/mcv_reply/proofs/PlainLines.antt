@@ -19,7 +19,7 @@ use Rattle.mcv_reply.specs.Word.{answers, has_cas, tail_of, word_text}
 use Rattle.mcv_reply.specs.declared.line.Meaning.{Meaning}
 use Rattle.mcv_reply.specs.Line.{IsBlank, IsDigits, IsLine, IsWritten, Next, Writes, cas_forms, decimal_from, flags_forms, number, size_forms, tail_forms, word}
 use Rattle.mcv_reply.specs.Plain.{IsBareWord, SpacedNumber, StartsLine}
-use Rattle.mcv_reply.proofs.Steps.{end_before, end_cut, end_taken, end_within}
+use Rattle.mcv_reply.proofs.Steps.{end_cut, end_taken, end_within}
 
 -- a text that bytes begin with is taken off them
 pub prefix_parts : (bytes text left : List ℕ) → pointwise nat_eq (take (length text) bytes) text ≡ true → left ≡ drop (length text) bytes → bytes ≡ text ++ left
@@ -47,10 +47,10 @@ all_read digits i n limit over are is within =
     let all : take i digits ≡ digits = take_all i digits over in
     (subst IsDigits all are, ap (decimal_from 0) (sym all) ∙ is, within)
 
-pub number_read : (limit n count : ℕ) (bytes digits : List ℕ) → bytes ≡ 32 ∷ digits → 0 < count → count < length digits → IsDigits (take count digits) × (decimal_from 0 (take count digits) ≡ n) × (n ≤ limit) → SpacedNumber limit n bytes (drop count digits)
-number_read limit n count bytes digits parts some within r = record {
+pub number_read : (limit n count : ℕ) (bytes digits left : List ℕ) → bytes ≡ 32 ∷ digits → 0 < count → count < length digits → IsDigits (take count digits) × (decimal_from 0 (take count digits) ≡ n) × (n ≤ limit) → left ≡ drop count digits → SpacedNumber limit n bytes left
+number_read limit n count bytes digits left parts some within r is = record {
   digits = take count digits;
-  parts = parts ∙ ap (λ t. 32 ∷ t) (sym (take-append-drop count digits));
+  parts = parts ∙ ap (λ t. 32 ∷ t) (sym (take-append-drop count digits) ∙ ap (λ t. take count digits ++ t) (sym is));
   is = (λ none. omega (arith, ap length none, length-take count digits), r.0, r.1, r.2);
 }
 
@@ -61,10 +61,10 @@ blank_return : (left : List ℕ) → left ≡ 13 ∷ [] → IsBlank left
 blank_return left is = subst IsBlank (sym is) (inr (refl, refl))
 
 pub no_number : (cas : Bool) (bytes : List ℕ) → cas ≡ false → bytes ≡ 13 ∷ [] → Writes (cas_forms cas 0) 1 bytes
-no_number cas bytes no is = subst (λ (h : Bool). Writes (cas_forms h 0) 1 bytes) (sym no) (blank_return bytes is)
+no_number cas bytes off is = subst (λ (h : Bool). Writes (cas_forms h 0) 1 bytes) (sym off) (blank_return bytes is)
 
 pub last_number : (cas : Bool) (n : ℕ) (bytes left : List ℕ) → cas ≡ true → SpacedNumber 18446744073709551615 n bytes left → left ≡ 13 ∷ [] → Writes (cas_forms cas n) 1 bytes
-last_number cas n bytes left yes s is = subst (λ (h : Bool). Writes (cas_forms h n) 1 bytes) (sym yes) (number_next 18446744073709551615 n (Writes [] 1) bytes left s (blank_return left is))
+last_number cas n bytes left on s is = subst (λ (h : Bool). Writes (cas_forms h n) 1 bytes) (sym on) (number_next 18446744073709551615 n (Writes [] 1) bytes left s (blank_return left is))
 
 pub numbers_read : (cas : Bool) (flags size n : ℕ) (bytes sized left : List ℕ) → SpacedNumber 4294967295 flags bytes sized → SpacedNumber 1048576 size sized left → Writes (cas_forms cas n) 1 left
     → Writes (flags_forms cas (record { flags = flags; size = size; cas = n })) 1 bytes
