@@ -1,5 +1,5 @@
 -- Lines as servers write them.
-use Rattle.std.proofs.Common.{◌≡◌, ◌≢◌, ℕ, ◌+◌, ◌-◌, ◌*◌, ◌<◌, ◌≤◌, inl, inr, Bool, true, false, List, [], ◌∷◌, ◌++◌, length, get_or, take, drop, Option, Some, None, refl, sym, ap, subst, ◌∙◌, arith, append_assoc, IfSome}
+use Rattle.std.proofs.Common.{◌≡◌, ◌≢◌, ℕ, ◌+◌, ◌-◌, ◌*◌, ◌<◌, ◌≤◌, inr, Bool, true, false, List, [], ◌∷◌, ◌++◌, length, get_or, take, drop, Option, Some, None, refl, sym, ap, subst, ◌∙◌, arith, IfSome}
 use Rattle.std.specs.Prelude.{codes}
 use Rattle.std.specs.List.{All, Contains}
 use Rattle.std.specs.Cmp.Lexicographic.{bytes_decides, pointwise}
@@ -17,7 +17,7 @@ use Rattle.mcv_reply.specs.declared.word.Row.TheVariants as rows
 use Rattle.mcv_reply.specs.declared.candidate.Head.{Head}
 use Rattle.mcv_reply.specs.Word.{answers, has_cas, tail_of, word_text}
 use Rattle.mcv_reply.specs.declared.line.Meaning.{Meaning}
-use Rattle.mcv_reply.specs.Line.{IsBlank, IsDigits, IsLine, IsWritten, Next, Writes, cas_forms, decimal_from, flags_forms, number, size_forms, tail_forms, word}
+use Rattle.mcv_reply.specs.Line.{IsBlank, IsDigits, IsLine, Next, Writes, cas_forms, decimal_from, flags_forms, number, size_forms, tail_forms, word}
 use Rattle.mcv_reply.specs.Plain.{IsBareWord, SpacedNumber, StartsLine}
 use Rattle.mcv_reply.proofs.Steps.{end_cut, end_taken, end_within}
 

@@ -1,4 +1,4 @@
-use Rattle.std.proofs.Common.{◌≡◌, ◌++◌, Option, Some, None, MatchOption, IfSome}
+use Rattle.std.proofs.Common.{Option, Some, None, MatchOption, IfSome}
 use Rattle.mcv_reply.proofs.PlainLines.{prefix_parts}
 use Rattle.mcv_reply.proofs.plain.behind.Goals as goal
 
