@@ -1,6 +1,7 @@
 //! Legs by number, and the links by which they form heaps.
 
-ghost use Rattle.std.specs.Prelude.{◌≡◌, ◌<◌, ◌≤◌, ◌+◌, ℕ, None, Some, OnOk, IsSome, option_map, option_copied};
+ghost use Rattle.std.specs.Prelude.{◌≡◌, ◌<◌, ◌≤◌, ◌+◌, ℕ, None, Some, OnOk, option_map, option_copied};
+ghost use Rattle.mcv_queues.specs.Forest.{cut, freed, raised, turned, unless};
 ghost use Rattle.mcv_queues.specs.Numbers.{put};
 ghost use Rattle.mcv_queues.specs.Legs.{is_in_flight, with_state, with_record, with_content, server_of};
 ghost use Rattle.mcv_queues.specs.Rows.{at, links, legs, room, content_of};
@@ -8,6 +9,16 @@ ghost use Rattle.mcv_queues.specs.Rows.{at, links, legs, room, content_of};
 use crate::leg::{Leg, State};
 use std::alloc::{AllocError, Global};
 use std::collections::HashMap;
+
+/// The number, unless it is this one.
+pub(crate) fn unless(number: Option<u64>, other: u64) -> Option<u64>
+    ensures { result ≡ unless number other }
+{
+    match number {
+        Some(number) if number == other => None,
+        _ => number,
+    }
+}
 
 /// The numbers of the legs below a leg in its heap, and of the one above it.
 #[derive(Clone, Copy)]
@@ -77,15 +88,53 @@ impl<T: Drop> Rows<T> {
         self.rows.get(&number).map(|row| row.link)
     }
 
-    /// Changes the links of the leg at a number.
-    pub fn set_link(&mut self, number: u64, link: Link)
-        requires { IsSome (links self.old number) }
-        ensures links { links self.new ≡ put (links self.old) number (Some link) }
+    /// The leg at a number hangs from another one.
+    pub fn raise(&mut self, number: u64, up: Option<u64>)
+        ensures links { links self.new ≡ raised (links self.old) number up }
         ensures legs { legs self.new ≡ legs self.old }
         ensures room { room self.new ≡ room self.old }
     {
         if let Some(row) = self.rows.get_mut(&number) {
-            row.link = link;
+            row.link.up = up;
+        }
+    }
+
+    /// What hung at the left of the leg at a number hangs at its right, and something else at its left.
+    pub fn turn(&mut self, number: u64, left: Option<u64>)
+        ensures links { links self.new ≡ turned (links self.old) number left }
+        ensures legs { legs self.new ≡ legs self.old }
+        ensures room { room self.new ≡ room self.old }
+    {
+        if let Some(row) = self.rows.get_mut(&number) {
+            row.link.right = row.link.left;
+            row.link.left = left;
+        }
+    }
+
+    /// Nothing hangs from the leg at a number, and it hangs from none.
+    pub fn free(&mut self, number: u64)
+        ensures links { links self.new ≡ freed (links self.old) number }
+        ensures legs { legs self.new ≡ legs self.old }
+        ensures room { room self.new ≡ room self.old }
+    {
+        if let Some(row) = self.rows.get_mut(&number) {
+            row.link = Link {
+                left: None,
+                right: None,
+                up: None,
+            };
+        }
+    }
+
+    /// The child doesn't hang from the leg at a number any more.
+    pub fn cut_one(&mut self, number: u64, child: u64)
+        ensures links { links self.new ≡ cut (links self.old) (Some number) child }
+        ensures legs { legs self.new ≡ legs self.old }
+        ensures room { room self.new ≡ room self.old }
+    {
+        if let Some(row) = self.rows.get_mut(&number) {
+            row.link.left = unless(row.link.left, child);
+            row.link.right = unless(row.link.right, child);
         }
     }
 
