@@ -116,10 +116,14 @@ fn settled<'a>(
         → IfOk result (λ r. IsAdded found (answers answer (plan_of plan.now)) (if_all answer (plan_of plan.now)) r before (history_of legs.new.items)) }
 {
     match added {
-        Added::Alike(_) if passed_on(after) != answer => {
-            Ok(Added::Alike(push_instead(plan, answer, start, legs)?))
+        Added::Hit => Ok(Added::Hit),
+        Added::Alike(reply) => {
+            if passed_on(after) == answer {
+                Ok(Added::Alike(reply))
+            } else {
+                Ok(Added::Alike(push_instead(plan, answer, start, legs)?))
+            }
         }
-        _ => Ok(added),
     }
 }
 
@@ -127,6 +131,7 @@ fn settled<'a>(
 
 /// Adds the answers by which the first leg that can hit hits; tells whether there is one. Where there is none, some
 /// answers may have been added.
+#[cycle(hits)]
 pub fn push_first_hit<'a>(plan: &'a Plan, legs: &mut Vec<LegAnswer<'a>>) -> Result<bool, AllocError>
     ensures { IfOk result (λ found. IsTried (first_hit (plan_of plan.now)) found (history_of legs.old.items) (history_of legs.new.items)) }
 {
@@ -153,6 +158,7 @@ pub fn push_first_hit<'a>(plan: &'a Plan, legs: &mut Vec<LegAnswer<'a>>) -> Resu
 }
 
 /// Adds the answers by which both hit; tells whether both can.
+#[cycle(hits)]
 fn push_both_hits<'a>(
     first: &'a Plan,
     second: &'a Plan,
@@ -168,6 +174,7 @@ fn push_both_hits<'a>(
 }
 
 /// Adds the answers by which the first leg that can hit hits; where there is none, those that are all alike.
+#[cycle(hits)]
 fn push_hit_or_answers<'a>(
     plan: &'a Plan,
     answer: Outcome,
@@ -207,6 +214,7 @@ fn push_hit_or_answers<'a>(
 }
 
 /// The same of a search among two, with the answers that pass it on.
+#[cycle(hits)]
 fn push_hit_in_turn<'a>(
     after: After,
     first: &'a Plan,
@@ -218,8 +226,14 @@ fn push_hit_in_turn<'a>(
 {
     let answer = passed_on(after);
     match push_hit_or_answers(first, answer, legs)? {
-        Added::Alike(reply) if after.goes_on(reply) => push_hit_or_answers(second, answer, legs),
-        added => Ok(added),
+        Added::Hit => Ok(Added::Hit),
+        Added::Alike(reply) => {
+            if after.goes_on(reply) {
+                push_hit_or_answers(second, answer, legs)
+            } else {
+                Ok(Added::Alike(reply))
+            }
+        }
     }
 }
 
@@ -262,6 +276,7 @@ fn led<'a>(
 
 /// Adds the answers by which the leg at the position hits, and its hit is the reply; where there are none, those by
 /// which the first leg that can hit hits.
+#[cycle(leads)]
 fn push_lead<'a>(
     plan: &'a Plan,
     leaf: &Position,
@@ -308,6 +323,7 @@ fn push_leg<'a>(
 }
 
 /// The same where both have to hit.
+#[cycle(leads)]
 fn push_both_leads<'a>(
     first: &'a Plan,
     second: &'a Plan,
@@ -332,6 +348,7 @@ fn push_both_leads<'a>(
 
 /// Adds the answers by which the leg at the position hits, and its hit is the reply; where there are none, those that
 /// are all alike.
+#[cycle(leads)]
 pub fn push_leading<'a>(
     plan: &'a Plan,
     leaf: &Position,
@@ -390,6 +407,7 @@ fn push_answer_of<'a>(
 }
 
 /// The same of a search among two, with the answers that pass it on.
+#[cycle(leads)]
 fn push_leading_in_turn<'a>(
     after: After,
     first: &'a Plan,
@@ -402,7 +420,13 @@ fn push_leading_in_turn<'a>(
 {
     let answer = passed_on(after);
     match push_leading(first, leaf, answer, legs)? {
-        Added::Alike(reply) if after.goes_on(reply) => push_leading(second, leaf, answer, legs),
-        added => Ok(added),
+        Added::Hit => Ok(Added::Hit),
+        Added::Alike(reply) => {
+            if after.goes_on(reply) {
+                push_leading(second, leaf, answer, legs)
+            } else {
+                Ok(Added::Alike(reply))
+            }
+        }
     }
 }
