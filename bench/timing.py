@@ -68,7 +68,7 @@ def check(text):
 
 def finding(text):
     """A call that judges the configuration, which has to lose deletes."""
-    return running(["check"], text, status=1)
+    return running(["check"], text, status=3)
 
 
 def print_beside_python(plain, whole, half):

@@ -13,7 +13,7 @@ use Rattle.mcv_rules.specs.declared.arrival.After.{After}
 use Rattle.mcv_rules.specs.declared.arrival.After.TheVariants as after
 use Rattle.mcv_symbolic.specs.Shown.{also, answers, first_hit, history_of, leading, one_after_other, or_else}
 use Rattle.mcv_symbolic.specs.Structure.{after_error, after_miss, if_all}
-use Rattle.mcv_symbolic.specs.Tried.{IsAdded, IsLead, IsTried, in_turn, passed_on}
+use Rattle.mcv_symbolic.specs.Tried.{IsAdded, IsLead, IsTried, in_turn, is_hit, passed_on}
 use Rattle.mcv_symbolic.specs.declared.shown.Added.{Added}
 use Rattle.mcv_symbolic.specs.declared.shown.Added.TheVariants as added
 use Rattle.mcv_symbolic.specs.declared.shown.Lead.{Lead}
@@ -54,6 +54,10 @@ added-hit (Some es) others y b old new t does = (refl, t.1)
 pub added-instead : (f : Option History) (b : Bool) (old mid others new : History) (n : ℕ) (y z : Outcome) → IsTried f b old mid → b ≡ false → n ≡ length old → new ≡ take n mid ++ others → z ≡ y → IsAdded f others y (added.Alike z) old new
 added-instead None b old mid others new n y z t isnt size is reply = (ap added.Alike reply, is ∙ ap (λ l. l ++ others) (kept old mid t.1.0 n t.1.1 size))
 added-instead (Some es) b old mid others new n y z t isnt size is reply = absurd (false≢true (sym isnt ∙ t.0))
+
+pub tried-added : (f : Option History) (others : History) (y : Outcome) (x : Added) (b : Bool) (old new : History) → IsAdded f others y x old new → b ≡ is_hit x → IsTried f b old new
+tried-added None others y x b old new t is = (is ∙ ap is_hit t.0, (others, t.1))
+tried-added (Some es) others y x b old new t is = (is ∙ ap is_hit t.0, t.1)
 
 pub added-none : (y : Outcome) (old : History) → IsAdded None [] y (added.Alike y) old old
 added-none y old = (refl, sym (append-nil old))
