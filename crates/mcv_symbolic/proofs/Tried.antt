@@ -1,5 +1,5 @@
 -- What the walks for a hit leave in their list, one combination at a time.
-use Rattle.std.proofs.Common.{◌≡◌, ◌⊎◌, inl, inr, ℕ, Bool, true, false, List, [], ◌++◌, length, take, Option, Some, None, refl, sym, ap, ◌∙◌, subst, append_assoc, append-nil}
+use Rattle.std.proofs.Common.{◌≡◌, ◌⊎◌, inl, inr, ℕ, Bool, true, false, List, [], ◌∷◌, ◌++◌, length, take, Option, Some, None, refl, sym, ap, ◌∙◌, subst, append_assoc, append-nil}
 use Rattle.std.specs.Prelude.{if◌then◌else◌}
 use Rattle.std.proofs.lemmas.Bool.{false≢true}
 use Rattle.std.proofs.lemmas.List.{length-map, take_at, take-map}
@@ -64,13 +64,13 @@ added-none y old = (refl, sym (append-nil old))
 
 -- what it says of its hit
 record Hits (f : Option History) (old new : History) : Type 0 where
-  answers : History
-  is : f ≡ Some answers
-  new_is : new ≡ old ++ answers
+  found : History
+  is : f ≡ Some found
+  new_is : new ≡ old ++ found
 
 hits-by : (f : Option History) (others : History) (y : Outcome) (old new : History) → IsAdded f others y added.Hit old new → Hits f old new
 hits-by None others y old new t = let e : added.Hit ≡ added.Alike y = t.0 in cc
-hits-by (Some es) others y old new t = record { answers = es; is = refl; new_is = t.1 }
+hits-by (Some es) others y old new t = record { found = es; is = refl; new_is = t.1 }
 
 -- what it says of answers that are alike
 record Misses (f : Option History) (others : History) (y r : Outcome) (old new : History) : Type 0 where
@@ -135,7 +135,7 @@ module _ (find : Plan → Option History) (law : (w : After) (t u : Plan) → fi
   pub turn-hit : IsAddedIn find w t added.Hit old mid → IsAddedIn find w (in_turn w t u) added.Hit old mid
   turn-hit a =
       let m = hits-by (find t) (answers passing t) (if_all passing t) old mid a in
-      let whole : find (in_turn w t u) ≡ Some m.answers = law w t u ∙ ap (λ f. or_else f (if goes_on w (if_all passing t) then also (answers passing t) (find u) else None)) m.is in
+      let whole : find (in_turn w t u) ≡ Some m.found = law w t u ∙ ap (λ f. or_else f (if goes_on w (if_all passing t) then also (answers passing t) (find u) else None)) m.is in
       subst (λ f. IsAdded f (answers passing (in_turn w t u)) (if_all passing (in_turn w t u)) added.Hit old mid) (sym whole) (refl, m.new_is)
 
   module _ (r : Outcome) (a : IsAddedIn find w t (added.Alike r) old mid) where
@@ -204,36 +204,36 @@ lead-none old = (refl, ([], sym (append-nil old)))
 
 -- what it says of a leg that hits, of another hit, and of none
 record Leads (f : Option History) (old new : History) : Type 0 where
-  answers : History
-  is : f ≡ Some answers
-  new_is : new ≡ old ++ answers
+  found : History
+  is : f ≡ Some found
+  new_is : new ≡ old ++ found
 
 record HitsInstead (f h : Option History) (old new : History) : Type 0 where
-  answers : History
+  found : History
   none : f ≡ None
-  is : h ≡ Some answers
-  new_is : new ≡ old ++ answers
+  is : h ≡ Some found
+  new_is : new ≡ old ++ found
 
 record Fails (f h : Option History) (old new : History) : Type 0 where
-  answers : History
+  found : History
   none : f ≡ None
   neither : h ≡ None
-  new_is : new ≡ old ++ answers
+  new_is : new ≡ old ++ found
 
 leads-by : (f h : Option History) (old new : History) → IsLead f h lead.Led old new → Leads f old new
-leads-by (Some es) h old new t = record { answers = es; is = refl; new_is = t.1 }
+leads-by (Some es) h old new t = record { found = es; is = refl; new_is = t.1 }
 leads-by None (Some es) old new t = let e : lead.Led ≡ lead.Hit = t.0 in cc
 leads-by None None old new t = let e : lead.Led ≡ lead.Neither = t.0 in cc
 
 instead-by : (f h : Option History) (old new : History) → IsLead f h lead.Hit old new → HitsInstead f h old new
 instead-by (Some es) h old new t = let e : lead.Hit ≡ lead.Led = t.0 in cc
-instead-by None (Some es) old new t = record { answers = es; none = refl; is = refl; new_is = t.1 }
+instead-by None (Some es) old new t = record { found = es; none = refl; is = refl; new_is = t.1 }
 instead-by None None old new t = let e : lead.Hit ≡ lead.Neither = t.0 in cc
 
 fails-by : (f h : Option History) (old new : History) → IsLead f h lead.Neither old new → Fails f h old new
 fails-by (Some es) h old new t = let e : lead.Neither ≡ lead.Led = t.0 in cc
 fails-by None (Some es) old new t = let e : lead.Neither ≡ lead.Hit = t.0 in cc
-fails-by None None old new t = record { answers = t.1.0; none = refl; neither = refl; new_is = t.1.1 }
+fails-by None None old new t = record { found = t.1.0; none = refl; neither = refl; new_is = t.1.1 }
 
 pub added-led : (f h : Option History) (others : History) (y : Outcome) (old new : History) → IsLead f h lead.Led old new → IsAdded f others y added.Hit old new
 added-led f h others y old new t = let m = leads-by f h old new t in subst (λ g. IsAdded g others y added.Hit old new) (sym m.is) (refl, m.new_is)
@@ -242,10 +242,10 @@ pub added-unled : (f h : Option History) (x : Lead) (old mid others new : Histor
     → IsAdded f others y (added.Alike z) old new
 added-unled f h x old mid others new n y z t (inl e) size is reply =
     let m = instead-by f h old mid (subst (λ v. IsLead f h v old mid) e t) in
-    subst (λ g. IsAdded g others y (added.Alike z) old new) (sym m.none) (ap added.Alike reply, is ∙ ap (λ l. l ++ others) (kept old mid m.answers n m.new_is size))
+    subst (λ g. IsAdded g others y (added.Alike z) old new) (sym m.none) (ap added.Alike reply, is ∙ ap (λ l. l ++ others) (kept old mid m.found n m.new_is size))
 added-unled f h x old mid others new n y z t (inr e) size is reply =
     let m = fails-by f h old mid (subst (λ v. IsLead f h v old mid) e t) in
-    subst (λ g. IsAdded g others y (added.Alike z) old new) (sym m.none) (ap added.Alike reply, is ∙ ap (λ l. l ++ others) (kept old mid m.answers n m.new_is size))
+    subst (λ g. IsAdded g others y (added.Alike z) old new) (sym m.none) (ap added.Alike reply, is ∙ ap (λ l. l ++ others) (kept old mid m.found n m.new_is size))
 
 -- ---- where nothing hits, no leg does
 
@@ -253,16 +253,16 @@ both-unled : (lt ft lu fu : Option History) → (ft ≡ None → lt ≡ None) �
 both-unled lt None lu fu first second none = ap (λ l. or_else (one_after_other l fu) None) (first refl)
 both-unled None (Some es) lu None first second none = ap (also es) (second refl)
 both-unled (Some ds) (Some es) lu None first second none = ap (also es) (second refl)
-both-unled lt (Some es) lu (Some fs) first second none = cc
+both-unled lt (Some es) lu (Some fs) first second none = let e : Some (es ++ fs) ≡ None = none in cc
 
 turn-unled : (lt ft lu fu : Option History) (go : Bool) (es : History) → (ft ≡ None → lt ≡ None) → (fu ≡ None → lu ≡ None) → or_else ft (if go then also es fu else None) ≡ None → or_else lt (if go then also es lu else None) ≡ None
 turn-unled lt None lu fu false es first second none = ap (λ l. or_else l None) (first refl)
 turn-unled lt None lu None true es first second none = ap (λ l. or_else l (also es lu)) (first refl) ∙ ap (also es) (second refl)
-turn-unled lt None lu (Some fs) true es first second none = cc
-turn-unled lt (Some ds) lu fu go es first second none = cc
+turn-unled lt None lu (Some fs) true es first second none = let e : Some (es ++ fs) ≡ None = none in cc
+turn-unled lt (Some ds) lu fu go es first second none = let e : Some ds ≡ None = none in cc
 
 unled : (p : List ℕ) (t : Plan) → first_hit t ≡ None → leading p t ≡ None
-unled p (Send l) none = cc
+unled p (Send l) none = let e : Some ((l.position, Good) ∷ []) ≡ None = none in cc
 unled p (Reply y) none = refl
 unled p (Both t u) none = both-unled (leading p t) (first_hit t) (leading p u) (first_hit u) (λ e. unled p t e) (λ e. unled p u e) none
 unled p (Beside t u) none = unled p t none
@@ -282,7 +282,7 @@ behind-lead None None es x old mid new is t = (t.0, (es ++ t.1.0, behind old mid
 module _ (p : List ℕ) (t u : Plan) (old mid : History) where
   module _ (new : History) (b : Bool) (a : IsLead (leading p t) (first_hit t) lead.Led old mid) (v : IsTried (first_hit u) b mid new) where
     pub both-led : b ≡ true → IsLead (leading p (Both t u)) (first_hit (Both t u)) lead.Led old new
-    both-led does = let m = leads-by (leading p t) (first_hit t) old mid a in led (first_hit u) (leading p t) m.answers m.is m.new_is v
+    both-led does = let m = leads-by (leading p t) (first_hit t) old mid a in led (first_hit u) (leading p t) m.found m.is m.new_is v
       where
         led : (f l : Option History) (es : History) → l ≡ Some es → mid ≡ old ++ es → IsTried f b mid new → IsLead (or_else (one_after_other l f) (one_after_other (first_hit t) (leading p u))) (one_after_other (first_hit t) f) lead.Led old new
         led None l es is mid_is w = absurd (false≢true (sym w.0 ∙ does))
@@ -295,7 +295,7 @@ module _ (p : List ℕ) (t u : Plan) (old mid : History) where
         let hit : first_hit u ≡ None = no-hit (first_hit u) v in
         let none : first_hit (Both t u) ≡ None = ap (one_after_other (first_hit t)) hit ∙ none-after (first_hit t) in
         subst (λ f. IsLead f (first_hit (Both t u)) lead.Neither old new) (sym (unled p (Both t u) none))
-        (subst (λ f. IsLead None f lead.Neither old new) (sym none) (refl, (m.answers ++ (rest (first_hit u) v).0, behind old mid new m.answers (rest (first_hit u) v).0 m.new_is (rest (first_hit u) v).1)))
+        (subst (λ f. IsLead None f lead.Neither old new) (sym none) (refl, (m.found ++ (rest (first_hit u) v).0, behind old mid new m.found (rest (first_hit u) v).0 m.new_is (rest (first_hit u) v).1)))
       where
         no-hit : (f : Option History) → IsTried f b mid new → f ≡ None
         no-hit None w = refl
@@ -312,21 +312,21 @@ module _ (p : List ℕ) (t u : Plan) (old mid : History) where
   pub both-hit : IsLead (leading p t) (first_hit t) lead.Hit old mid → (x : Lead) (new : History) → IsLead (leading p u) (first_hit u) x mid new → IsLead (leading p (Both t u)) (first_hit (Both t u)) x old new
   both-hit a x new v =
       let m = instead-by (leading p t) (first_hit t) old mid a in
-      let l : leading p (Both t u) ≡ also m.answers (leading p u) =
+      let l : leading p (Both t u) ≡ also m.found (leading p u) =
       ap (λ f. or_else (one_after_other f (first_hit u)) (one_after_other (first_hit t) (leading p u))) m.none ∙ ap (λ f. one_after_other f (leading p u)) m.is in
-      let f : first_hit (Both t u) ≡ also m.answers (first_hit u) = ap (λ h. one_after_other h (first_hit u)) m.is in
-      subst (λ g. IsLead g (first_hit (Both t u)) x old new) (sym l) (subst (λ h. IsLead (also m.answers (leading p u)) h x old new) (sym f) (behind-lead (leading p u) (first_hit u) m.answers x old mid new m.new_is v))
+      let f : first_hit (Both t u) ≡ also m.found (first_hit u) = ap (λ h. one_after_other h (first_hit u)) m.is in
+      subst (λ g. IsLead g (first_hit (Both t u)) x old new) (sym l) (subst (λ h. IsLead (also m.found (leading p u)) h x old new) (sym f) (behind-lead (leading p u) (first_hit u) m.found x old mid new m.new_is v))
 
   pub both-fail : IsLead (leading p t) (first_hit t) lead.Neither old mid → IsLead (leading p (Both t u)) (first_hit (Both t u)) lead.Neither old mid
   both-fail a =
       let m = fails-by (leading p t) (first_hit t) old mid a in
       let none : first_hit (Both t u) ≡ None = ap (λ h. one_after_other h (first_hit u)) m.neither in
-      subst (λ f. IsLead f (first_hit (Both t u)) lead.Neither old mid) (sym (unled p (Both t u) none)) (subst (λ f. IsLead None f lead.Neither old mid) (sym none) (refl, (m.answers, m.new_is)))
+      subst (λ f. IsLead f (first_hit (Both t u)) lead.Neither old mid) (sym (unled p (Both t u) none)) (subst (λ f. IsLead None f lead.Neither old mid) (sym none) (refl, (m.found, m.new_is)))
 
 -- ---- from an empty list
 
 pub found-some : (f : Option History) (others : History) (y : Outcome) (old new : History) → IsAdded f others y added.Hit old new → old ≡ [] → Some new ≡ f
-found-some f others y old new t empty = let m = hits-by f others y old new t in ap Some (m.new_is ∙ ap (λ l. l ++ m.answers) empty) ∙ sym m.is
+found-some f others y old new t empty = let m = hits-by f others y old new t in ap Some (m.new_is ∙ ap (λ l. l ++ m.found) empty) ∙ sym m.is
 
 pub found-none : (f : Option History) (others : History) (y r : Outcome) (old new : History) → IsAdded f others y (added.Alike r) old new → None ≡ f
 found-none f others y r old new t = sym (misses-by f others y r old new t).is
