@@ -125,7 +125,7 @@ reply-in_turn x after.Error t u = reply-error (if_all x t) (if_all x u)
 reply-in_turn x after.Miss t u = reply-miss (if_all x t) (if_all x u)
 
 -- what a walk that looks for this has added
-abbrev IsAddedIn : (Plan → Option History) → After → Plan → Added → History → History → Type 0
+abbrev pub IsAddedIn : (Plan → Option History) → After → Plan → Added → History → History → Type 0
 IsAddedIn find w t x old new = IsAdded (find t) (answers (passed_on w) t) (if_all (passed_on w) t) x old new
 
 module _ (find : Plan → Option History) (law : (w : After) (t u : Plan) → find (in_turn w t u) ≡ in_second find w t u) (w : After) (t u : Plan) (old mid : History) where
