@@ -53,13 +53,13 @@ push_hit_or_answers-returns-then-branch t c =
     (rw (tree-Both c.args.plan.now c.in-Both.first c.in-Both.second c.deref.result.now c.deref-in-Both.result.now c.in-Both.is c.deref.ensures c.deref-in-Both.ensures) c.in_ok-push_both_hits-in-Both.ensures)
     c.if-branch.true
 
-pub push_hit_or_answers-returns-in_ok-push_instead-else-branch : goal.push_hit_or_answers-returns-in_ok-push_instead-else-branch
-push_hit_or_answers-returns-in_ok-push_instead-else-branch t c =
+pub push_hit_or_answers-returns-in_ok-push_instead-in-Both : goal.push_hit_or_answers-returns-in_ok-push_instead-in-Both
+push_hit_or_answers-returns-in_ok-push_instead-in-Both t c =
     let p = plan_of c.args.plan.now in
     let start : c.len-start.result ≡ length c.args.legs.now.items = omega (arith, c.len-start.ensures, c.args.legs.now.ok.0) in
-    added-instead (first_hit p) c.in_ok-push_both_hits-in-Both.field-0 (history_of c.args.legs.now.items) (history_of c.push_both_hits.new.legs.items) (answers c.args.answer p) (history_of c.push_instead.new.legs.items) c.len-start.result (if_all c.args.answer p) c.in_ok-push_instead-else-branch.field-0
+    added-instead (first_hit p) c.in_ok-push_both_hits-in-Both.field-0 (history_of c.args.legs.now.items) (history_of c.push_both_hits.new.legs.items) (answers c.args.answer p) (history_of c.push_instead.new.legs.items) c.len-start.result (if_all c.args.answer p) c.in_ok-push_instead-in-Both.field-0
     (rw (tree-Both c.args.plan.now c.in-Both.first c.in-Both.second c.deref.result.now c.deref-in-Both.result.now c.in-Both.is c.deref.ensures c.deref-in-Both.ensures) c.in_ok-push_both_hits-in-Both.ensures)
-    c.if-branch.false (history-length c.len-start.result c.args.legs.now.items start) c.in_ok-push_instead-else-branch.ensures.legs c.in_ok-push_instead-else-branch.ensures.reply
+    c.if-branch.false (history-length c.len-start.result c.args.legs.now.items start) c.in_ok-push_instead-in-Both.ensures.legs c.in_ok-push_instead-in-Both.ensures.reply
 
 pub push_hit_or_answers-returns-in_ok-added-in-OnError : goal.push_hit_or_answers-returns-in_ok-added-in-OnError
 push_hit_or_answers-returns-in_ok-added-in-OnError t c =

@@ -32,13 +32,13 @@ push_lead-returns-in_ok-added-in-OnMiss t c =
 
 pub push_both_leads-returns-then-branch : goal.push_both_leads-returns-then-branch
 push_both_leads-returns-then-branch t c =
-    both-led c.args.leaf.now (plan_of c.args.first.now) (plan_of c.args.second.now) (history_of c.args.legs.now.items) (history_of c.push_lead.new.legs.items) (history_of c.push_first_hit.new.legs.items) c.in_ok-push_first_hit.field-0
-    (rw c.in-Led.is at c.in_ok-push_lead.ensures) c.in_ok-push_first_hit.ensures c.if-branch.true
+    both-led c.args.leaf.now (plan_of c.args.first.now) (plan_of c.args.second.now) (history_of c.args.legs.now.items) (history_of c.push_lead.new.legs.items) (history_of c.push_first_hit.new.legs.items) c.in_ok-push_first_hit-in-Led.field-0
+    (rw c.in-Led.is at c.in_ok-push_lead.ensures) c.in_ok-push_first_hit-in-Led.ensures c.if-branch.true
 
 pub push_both_leads-returns-else-branch : goal.push_both_leads-returns-else-branch
 push_both_leads-returns-else-branch t c =
-    led-alone c.args.leaf.now (plan_of c.args.first.now) (plan_of c.args.second.now) (history_of c.args.legs.now.items) (history_of c.push_lead.new.legs.items) (history_of c.push_first_hit.new.legs.items) c.in_ok-push_first_hit.field-0
-    (rw c.in-Led.is at c.in_ok-push_lead.ensures) c.in_ok-push_first_hit.ensures c.if-branch.false
+    led-alone c.args.leaf.now (plan_of c.args.first.now) (plan_of c.args.second.now) (history_of c.args.legs.now.items) (history_of c.push_lead.new.legs.items) (history_of c.push_first_hit.new.legs.items) c.in_ok-push_first_hit-in-Led.field-0
+    (rw c.in-Led.is at c.in_ok-push_lead.ensures) c.in_ok-push_first_hit-in-Led.ensures c.if-branch.false
 
 pub push_both_leads-returns-in-Hit : goal.push_both_leads-returns-in-Hit
 push_both_leads-returns-in-Hit t c =
@@ -64,13 +64,13 @@ push_leading-returns-in-Led t c =
     added-led (leading c.args.leaf.now p) (first_hit p) (answers c.args.answer p) (if_all c.args.answer p) (history_of c.args.legs.now.items) (history_of c.push_both_leads.new.legs.items)
     (rw tree (rw c.in-Led.is at c.in_ok-push_both_leads-in-Both.ensures))
 
-pub push_leading-returns-in_ok-push_instead : goal.push_leading-returns-in_ok-push_instead
-push_leading-returns-in_ok-push_instead t c =
+pub push_leading-returns-in_ok-push_instead-in-Hit : goal.push_leading-returns-in_ok-push_instead-in-Hit
+push_leading-returns-in_ok-push_instead-in-Hit t c =
     let p = plan_of c.args.plan.now in
     let tree = tree-Both c.args.plan.now c.in-Both.first c.in-Both.second c.deref.result.now c.deref-in-Both.result.now c.in-Both.is c.deref.ensures c.deref-in-Both.ensures in
     let start : c.len-start.result ≡ length c.args.legs.now.items = omega (arith, c.len-start.ensures, c.args.legs.now.ok.0) in
     added-unled (leading c.args.leaf.now p) (first_hit p) c.in_ok-push_both_leads-in-Both.field-0 (history_of c.args.legs.now.items) (history_of c.push_both_leads.new.legs.items) (answers c.args.answer p) (history_of c.push_instead.new.legs.items) c.len-start.result
-    (if_all c.args.answer p) c.in_ok-push_instead.field-0 (rw tree c.in_ok-push_both_leads-in-Both.ensures) c.in-Hit.is (history-length c.len-start.result c.args.legs.now.items start) c.in_ok-push_instead.ensures.legs c.in_ok-push_instead.ensures.reply
+    (if_all c.args.answer p) c.in_ok-push_instead-in-Hit.field-0 (rw tree c.in_ok-push_both_leads-in-Both.ensures) c.in-Hit.is (history-length c.len-start.result c.args.legs.now.items start) c.in_ok-push_instead-in-Hit.ensures.legs c.in_ok-push_instead-in-Hit.ensures.reply
 
 pub push_leading-returns-in_ok-added-in-OnError : goal.push_leading-returns-in_ok-added-in-OnError
 push_leading-returns-in_ok-added-in-OnError t c =
