@@ -15,8 +15,8 @@ returns-in-Hit c =
     found-some (leading c.args.leaf.now p) (answers Error p) (if_all Error p) (history_of c.new-legs.result.items) (history_of c.push_leading.new.legs.items) (rw c.in-Hit.is at c.in_ok-push_leading.ensures) (ap history_of c.new-legs.ensures.items)
     ∙ ap (leading c.args.leaf.now) (laid_for c.args.self.now (view e.route.now) e.asked.op e.asked.rest.now (option_map (λ m. m.0) e.asked.since) (plan_of e.plan) c.self.view_is c.self.invariant)
 
-pub returns-in-Alike : goal.returns-in-Alike
-returns-in-Alike c =
+pub returns : goal.returns
+returns c =
     let e = c.self.inside in
     let p = plan_of e.plan in
     found-none (leading c.args.leaf.now p) (answers Error p) (if_all Error p) c.in-Alike.field-0 (history_of c.new-legs.result.items) (history_of c.push_leading.new.legs.items) (rw c.in-Alike.is at c.in_ok-push_leading.ensures)
