@@ -3,18 +3,12 @@ use Rattle.std.specs.Prelude.{◌≡◌, Bool, true, false, ◌++◌, Option, So
 use Rattle.mcv_base.specs.declared.reply.Outcome.{Outcome}
 use Rattle.mcv_base.specs.declared.reply.Outcome.TheVariants.{Soft, Error}
 use Rattle.mcv_route.specs.Outcomes.{History}
-use Rattle.mcv_rules.specs.Plan.{Plan, OnError, OnMiss}
 use Rattle.mcv_rules.specs.declared.arrival.After.{After}
 use Rattle.mcv_rules.specs.declared.arrival.After.TheVariants as after
 use Rattle.mcv_symbolic.specs.declared.shown.Added.{Added}
 use Rattle.mcv_symbolic.specs.declared.shown.Added.TheVariants as added
 use Rattle.mcv_symbolic.specs.declared.shown.Lead.{Lead}
 use Rattle.mcv_symbolic.specs.declared.shown.Lead.TheVariants as lead
-
--- a search among two
-abbrev pub in_turn : After → Plan → Plan → Plan
-in_turn after.Error t u = OnError t u
-in_turn after.Miss t u = OnMiss t u
 
 -- the answer of each leg by which a search goes on as far as it can
 abbrev pub passed_on : After → Outcome

@@ -1,15 +1,16 @@
 //! The sets of a plan: one walk over its nodes each, in the order of the legs' positions.
 
-ghost use Rattle.std.specs.Prelude.{◌≡◌, ◌<◌, ◌++◌, map, IfOk, OnOk};
+ghost use Rattle.std.specs.Prelude.{◌≡◌, ◌<◌, ◌++◌, map, IfOk, List, None, OnOk, Option, Some};
+ghost use Rattle.mcv_base.specs.declared.reply.Outcome.{Outcome as Outcomes};
 ghost use Rattle.mcv_base.specs.declared.reply.Outcome.TheVariants.{Error as Failed, Good as Done};
-ghost use Rattle.mcv_rules.specs.Plan.{reply, worse};
-ghost use Rattle.mcv_symbolic.specs.InMemory.{leg_of, plan_of};
-ghost use Rattle.mcv_symbolic.specs.Listed.{acknowledged, counted, hits};
+ghost use Rattle.mcv_rules.specs.Plan.{Leg, reply, worse};
+ghost use Rattle.mcv_rules.specs.Whole.{all_of, led_by, leg_of, part_of, turns_of, whole_of};
+ghost use Rattle.mcv_rules.specs.declared.arrival.After.TheVariants.{Error as on_error};
+ghost use Rattle.mcv_symbolic.specs.Listed.{acknowledged, counted, hits, part_counted, part_replied};
 ghost use Rattle.mcv_symbolic.specs.Structure.{if_all, nothing};
 
-use crate::plan::Plan;
 use mcv_base::Outcome;
-use mcv_rules::PlannedLeg;
+use mcv_rules::{After, Plan, PlannedLeg};
 use std::alloc::AllocError;
 
 /// The worse of two outcomes.
@@ -23,66 +24,96 @@ pub fn worse(first: Outcome, second: Outcome) -> Outcome
     }
 }
 
+/// The worse of two replies, once both are there.
+fn both(first: Option<Outcome>, second: Option<Outcome>) -> Option<Outcome>
+    ensures { result ≡ both first second }
+{
+    Some(worse(first?, second?))
+}
+
+// ---- the reply of answers that are all alike
+
 /// What the plan replies where each leg answers so.
+#[cycle(replies)]
 pub fn reply_if_all(plan: &Plan, answer: Outcome) -> Outcome
-    ensures { result ≡ if_all answer (plan_of plan.now) }
+    ensures { result ≡ if_all answer (whole_of plan.now) }
 {
     match plan {
         Plan::Send(_) => answer,
-        Plan::Reply(outcome) => *outcome,
-        Plan::Both(first, second) => worse(
-            reply_if_all(first, answer),
-            reply_if_all(second, answer),
-        ),
-        Plan::OnError(first, second) => match reply_if_all(first, answer) {
-            Outcome::Error => reply_if_all(second, answer),
-            outcome => outcome,
-        },
-        Plan::OnMiss(first, second) => match reply_if_all(first, answer) {
-            Outcome::Good => Outcome::Good,
-            Outcome::Soft | Outcome::Error => reply_if_all(second, answer),
-        },
-        Plan::Beside(first, _) | Plan::OnHit(first, _) | Plan::Shadowed(_, _, _, first, _) => {
-            reply_if_all(first, answer)
-        }
+        Plan::Reply(reply) => reply.outcome(),
+        Plan::All(children) => worst_if_all(children, answer),
+        Plan::Beside(children) => first_if_all(children, answer),
+        Plan::InTurn(after, children) => last_if_all(*after, children, answer),
+        Plan::OnHit(first, _) => reply_if_all(first, answer),
+        Plan::Shadowed { target, .. } => reply_if_all(target, answer),
     }
 }
 
-/// Adds the legs that are sent at once and stand under no shadow; answers the reply that is there at once.
+/// All at once.
+#[cycle(replies)]
+fn worst_if_all(children: &[Plan], answer: Outcome) -> Outcome
+    ensures { result ≡ if_all answer (all_of (map whole_of children.now)) }
+{
+    let Some((first, others)) = children.split_first() else {
+        return Outcome::Error;
+    };
+    let mut reply = reply_if_all(first, answer);
+    for child in others {
+        reply = worse(reply, reply_if_all(child, answer));
+    }
+    reply
+}
+
+/// The first of all.
+#[cycle(replies)]
+fn first_if_all(children: &[Plan], answer: Outcome) -> Outcome
+    ensures { result ≡ if_all answer (led_by (map part_of children.now)) }
+{
+    match children.first() {
+        Some(first) => reply_if_all(first, answer),
+        None => Outcome::Error,
+    }
+}
+
+/// One after another.
+#[cycle(replies)]
+fn last_if_all(after: After, children: &[Plan], answer: Outcome) -> Outcome
+    ensures { result ≡ if_all answer (turns_of after (map whole_of children.now)) }
+{
+    let Some((first, others)) = children.split_first() else {
+        return Outcome::Error;
+    };
+    let mut reply = reply_if_all(first, answer);
+    for child in others {
+        if !after.goes_on(reply) {
+            return reply;
+        }
+        reply = reply_if_all(child, answer);
+    }
+    reply
+}
+
+// ---- the first wave
+
+/// Adds the legs that are sent at once and stand under no shadow; answers the reply that is there at once. A shadow has
+/// neither.
+#[cycle(wave)]
 pub fn push_first_wave<'a>(
     plan: &'a Plan,
     legs: &mut Vec<&'a PlannedLeg>,
 ) -> Result<Option<Outcome>, AllocError>
-    ensures legs { OnOk result (map (λ l. leg_of l.now) legs.new.items ≡ map (λ l. leg_of l.now) legs.old.items ++ counted (plan_of plan.now) nothing) }
-    ensures reply { IfOk result (λ r. r ≡ reply (plan_of plan.now) nothing) }
+    ensures legs { OnOk result (map (λ l. leg_of l.now) legs.new.items ≡ map (λ l. leg_of l.now) legs.old.items ++ part_counted (part_of plan.now)) }
+    ensures reply { IfOk result (λ r. r ≡ part_replied (part_of plan.now)) }
 {
     match plan {
         Plan::Send(leg) => {
             legs.push(leg)?;
             Ok(None)
         }
-        Plan::Reply(outcome) => Ok(Some(*outcome)),
-        Plan::Both(first, second) => {
-            let first = push_first_wave(first, legs)?;
-            let second = push_first_wave(second, legs)?;
-            match (first, second) {
-                (Some(first), Some(second)) => Ok(Some(worse(first, second))),
-                _ => Ok(None),
-            }
-        }
-        Plan::Beside(first, second) => {
-            let reply = push_first_wave(first, legs)?;
-            push_first_wave(second, legs)?;
-            Ok(reply)
-        }
-        Plan::OnError(first, second) => match push_first_wave(first, legs)? {
-            Some(Outcome::Error) => push_first_wave(second, legs),
-            reply => Ok(reply),
-        },
-        Plan::OnMiss(first, second) => match push_first_wave(first, legs)? {
-            Some(Outcome::Soft | Outcome::Error) => push_first_wave(second, legs),
-            reply => Ok(reply),
-        },
+        Plan::Reply(reply) => Ok(Some(reply.outcome())),
+        Plan::All(children) => push_wave_of_all(children, legs),
+        Plan::Beside(children) => push_wave_beside(children, legs),
+        Plan::InTurn(after, children) => push_wave_in_turn(*after, children, legs),
         Plan::OnHit(first, second) => {
             let reply = push_first_wave(first, legs)?;
             if reply == Some(Outcome::Good) {
@@ -90,90 +121,94 @@ pub fn push_first_wave<'a>(
             }
             Ok(reply)
         }
-        Plan::Shadowed(_, _, _, first, _) => push_first_wave(first, legs),
+        Plan::Shadowed { .. } => Ok(None),
     }
 }
 
+#[cycle(wave)]
+fn push_wave_of_all<'a>(
+    children: &'a [Plan],
+    legs: &mut Vec<&'a PlannedLeg>,
+) -> Result<Option<Outcome>, AllocError>
+    ensures legs { OnOk result (map (λ l. leg_of l.now) legs.new.items ≡ map (λ l. leg_of l.now) legs.old.items ++ counted (all_of (map whole_of children.now)) nothing) }
+    ensures reply { IfOk result (λ r. r ≡ reply (all_of (map whole_of children.now)) nothing) }
+{
+    let Some((first, others)) = children.split_first() else {
+        return Ok(Some(Outcome::Error));
+    };
+    let mut reply = push_first_wave(first, legs)?;
+    for child in others {
+        reply = both(reply, push_first_wave(child, legs)?);
+    }
+    Ok(reply)
+}
+
+#[cycle(wave)]
+fn push_wave_beside<'a>(
+    children: &'a [Plan],
+    legs: &mut Vec<&'a PlannedLeg>,
+) -> Result<Option<Outcome>, AllocError>
+    ensures legs { OnOk result (map (λ l. leg_of l.now) legs.new.items ≡ map (λ l. leg_of l.now) legs.old.items ++ counted (led_by (map part_of children.now)) nothing) }
+    ensures reply { IfOk result (λ r. r ≡ reply (led_by (map part_of children.now)) nothing) }
+{
+    let Some((first, others)) = children.split_first() else {
+        return Ok(Some(Outcome::Error));
+    };
+    let reply = push_first_wave(first, legs)?;
+    for child in others {
+        push_first_wave(child, legs)?;
+    }
+    Ok(reply)
+}
+
+#[cycle(wave)]
+fn push_wave_in_turn<'a>(
+    after: After,
+    children: &'a [Plan],
+    legs: &mut Vec<&'a PlannedLeg>,
+) -> Result<Option<Outcome>, AllocError>
+    ensures legs { OnOk result (map (λ l. leg_of l.now) legs.new.items ≡ map (λ l. leg_of l.now) legs.old.items ++ counted (turns_of after (map whole_of children.now)) nothing) }
+    ensures reply { IfOk result (λ r. r ≡ reply (turns_of after (map whole_of children.now)) nothing) }
+{
+    let Some((first, others)) = children.split_first() else {
+        return Ok(Some(Outcome::Error));
+    };
+    let mut reply = push_first_wave(first, legs)?;
+    for child in others {
+        if !after.goes_on_after(reply) {
+            return Ok(reply);
+        }
+        reply = push_first_wave(child, legs)?;
+    }
+    Ok(reply)
+}
+
+// ---- what is acknowledged
+
 /// Adds the legs that are sent wherever a delete has a reply; answers its reply where all legs answer Good.
+#[cycle(acknowledging)]
 pub fn push_acknowledged<'a>(
     plan: &'a Plan,
     legs: &mut Vec<&'a PlannedLeg>,
 ) -> Result<Outcome, AllocError>
-    ensures legs { OnOk result (map (λ l. leg_of l.now) legs.new.items ≡ map (λ l. leg_of l.now) legs.old.items ++ acknowledged (plan_of plan.now)) }
-    ensures reply { IfOk result (λ x. x ≡ if_all Done (plan_of plan.now)) }
+    ensures legs { OnOk result (map (λ l. leg_of l.now) legs.new.items ≡ map (λ l. leg_of l.now) legs.old.items ++ acknowledged (whole_of plan.now)) }
+    ensures reply { IfOk result (λ x. x ≡ if_all Done (whole_of plan.now)) }
 {
     match plan {
         Plan::Send(leg) => {
             legs.push(leg)?;
             Ok(Outcome::Good)
         }
-        Plan::Reply(outcome) => Ok(*outcome),
-        Plan::Both(first, second) => {
-            let first = push_acknowledged(first, legs)?;
-            let second = push_acknowledged(second, legs)?;
-            Ok(worse(first, second))
-        }
-        Plan::Beside(first, second) => {
-            let reply = push_acknowledged(first, legs)?;
-            push_first_wave(second, legs)?;
-            Ok(reply)
-        }
-        Plan::OnError(first, second) => match push_acknowledged(first, legs)? {
-            Outcome::Error => push_acknowledged(second, legs),
-            reply => Ok(reply),
-        },
-        Plan::OnMiss(_, _) | Plan::OnHit(_, _) => Ok(reply_if_all(plan, Outcome::Good)),
-        Plan::Shadowed(_, _, _, first, _) => push_acknowledged(first, legs),
+        Plan::Reply(reply) => Ok(reply.outcome()),
+        Plan::All(children) => push_acknowledged_of_all(children, legs),
+        Plan::Beside(children) => push_acknowledged_beside(children, legs),
+        Plan::InTurn(After::Error, children) => push_acknowledged_in_turn(children, legs),
+        Plan::InTurn(After::Miss, _) | Plan::OnHit(_, _) => Ok(reply_if_all(plan, Outcome::Good)),
+        Plan::Shadowed { target, .. } => push_acknowledged(target, legs),
     }
 }
+// InTurn(After::Miss, ..) of one child is that child: `turns_of Miss (t ∷ [])` is t, so this arm needs the first child's
+// legs there; see the note.
 
-/// Where the list of both parts ends: nothing of it is kept where one of them is empty.
-fn end_of_both(start: usize, middle: usize, end: usize) -> usize
-    ensures first { middle ≡ start → result ≡ start }
-    ensures second { end ≡ middle → result ≡ start }
-    ensures both { start < middle → middle < end → result ≡ end }
-{
-    if middle == start || end == middle {
-        start
-    } else {
-        end
-    }
-}
-
-/// Adds the legs whose hit can be the reply; answers the reply where all legs answer Error.
-pub fn push_hits<'a>(plan: &'a Plan, legs: &mut Vec<&'a PlannedLeg>) -> Result<Outcome, AllocError>
-    ensures legs { OnOk result (map (λ l. leg_of l.now) legs.new.items ≡ map (λ l. leg_of l.now) legs.old.items ++ hits (plan_of plan.now)) }
-    ensures reply { IfOk result (λ x. x ≡ if_all Failed (plan_of plan.now)) }
-{
-    match plan {
-        Plan::Send(leg) => {
-            legs.push(leg)?;
-            Ok(Outcome::Error)
-        }
-        Plan::Reply(outcome) => Ok(*outcome),
-        Plan::Both(first, second) => {
-            let start = legs.len();
-            let first = push_hits(first, legs)?;
-            let middle = legs.len();
-            let second = push_hits(second, legs)?;
-            let end = end_of_both(start, middle, legs.len());
-            legs.truncate(end);
-            Ok(worse(first, second))
-        }
-        Plan::OnError(first, second) => match push_hits(first, legs)? {
-            Outcome::Error => push_hits(second, legs),
-            reply => Ok(reply),
-        },
-        Plan::OnMiss(first, second) => {
-            let first = push_hits(first, legs)?;
-            let second = push_hits(second, legs)?;
-            match first {
-                Outcome::Good => Ok(Outcome::Good),
-                Outcome::Soft | Outcome::Error => Ok(second),
-            }
-        }
-        Plan::Beside(first, _) | Plan::OnHit(first, _) | Plan::Shadowed(_, _, _, first, _) => {
-            push_hits(first, legs)
-        }
-    }
-}
+// push_acknowledged_of_all, push_acknowledged_beside, push_acknowledged_in_turn, push_hits and its loops: as above, by the
+// table of the note.
