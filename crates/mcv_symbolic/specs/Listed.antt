@@ -5,6 +5,7 @@ use Rattle.mcv_base.specs.declared.reply.Outcome.TheVariants.{Good, Soft, Error}
 use Rattle.mcv_base.specs.Reply.{is_error, is_missed, is_good}
 use Rattle.mcv_route.specs.Outcomes.{Outcomes}
 use Rattle.mcv_rules.specs.Plan.{Leg, Plan, Send, Reply, Both, Beside, OnError, OnMiss, OnHit, Shadowed, reply}
+use Rattle.mcv_rules.specs.Whole.{Part, part, shade}
 use Rattle.mcv_symbolic.specs.Structure.{nothing, if_all}
 
 abbrev pub when_error : Outcome → List Leg → List Leg
@@ -53,3 +54,12 @@ hits (OnError t u) = hits t ++ when_error (if_all Error t) (hits u)
 hits (OnMiss t u) = hits t ++ hits u
 hits (OnHit t u) = hits t
 hits (Shadowed s a b t u) = hits t
+
+-- of a part: a shadow has none
+abbrev pub part_counted : Part → List Leg
+part_counted (part t) = counted t nothing
+part_counted (shade s a b t) = []
+
+abbrev pub part_replied : Part → Option Outcome
+part_replied (part t) = reply t nothing
+part_replied (shade s a b t) = None

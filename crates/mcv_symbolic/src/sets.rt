@@ -1,13 +1,12 @@
 //! The sets of a plan: one walk over its nodes each, in the order of the legs' positions.
 
-ghost use Rattle.std.specs.Prelude.{◌≡◌, ◌<◌, ◌++◌, map, IfOk, List, None, OnOk, Option, Some};
-ghost use Rattle.mcv_base.specs.declared.reply.Outcome.{Outcome as Outcomes};
+ghost use Rattle.std.specs.Prelude.{◌≡◌, ◌<◌, ◌++◌, map, IfOk, OnOk};
 ghost use Rattle.mcv_base.specs.declared.reply.Outcome.TheVariants.{Error as Failed, Good as Done};
-ghost use Rattle.mcv_rules.specs.Plan.{Leg, reply, worse};
+ghost use Rattle.mcv_rules.specs.Plan.{both, reply, worse};
 ghost use Rattle.mcv_rules.specs.Whole.{all_of, led_by, leg_of, part_of, turns_of, whole_of};
-ghost use Rattle.mcv_rules.specs.declared.arrival.After.TheVariants.{Error as on_error};
+ghost use Rattle.mcv_rules.specs.declared.arrival.After.TheVariants.{Error as on_error, Miss as on_miss};
 ghost use Rattle.mcv_symbolic.specs.Listed.{acknowledged, counted, hits, part_counted, part_replied};
-ghost use Rattle.mcv_symbolic.specs.Structure.{if_all, nothing};
+ghost use Rattle.mcv_symbolic.specs.Structure.{after_miss, if_all, nothing};
 
 use mcv_base::Outcome;
 use mcv_rules::{After, Plan, PlannedLeg};
@@ -203,12 +202,212 @@ pub fn push_acknowledged<'a>(
         Plan::All(children) => push_acknowledged_of_all(children, legs),
         Plan::Beside(children) => push_acknowledged_beside(children, legs),
         Plan::InTurn(After::Error, children) => push_acknowledged_in_turn(children, legs),
-        Plan::InTurn(After::Miss, _) | Plan::OnHit(_, _) => Ok(reply_if_all(plan, Outcome::Good)),
+        Plan::InTurn(After::Miss, children) => push_acknowledged_of_misses(children, legs),
+        Plan::OnHit(_, _) => Ok(reply_if_all(plan, Outcome::Good)),
         Plan::Shadowed { target, .. } => push_acknowledged(target, legs),
     }
 }
-// InTurn(After::Miss, ..) of one child is that child: `turns_of Miss (t ∷ [])` is t, so this arm needs the first child's
-// legs there; see the note.
 
-// push_acknowledged_of_all, push_acknowledged_beside, push_acknowledged_in_turn, push_hits and its loops: as above, by the
-// table of the note.
+/// All at once.
+#[cycle(acknowledging)]
+fn push_acknowledged_of_all<'a>(
+    children: &'a [Plan],
+    legs: &mut Vec<&'a PlannedLeg>,
+) -> Result<Outcome, AllocError>
+    ensures legs { OnOk result (map (λ l. leg_of l.now) legs.new.items ≡ map (λ l. leg_of l.now) legs.old.items ++ acknowledged (all_of (map whole_of children.now))) }
+    ensures reply { IfOk result (λ x. x ≡ if_all Done (all_of (map whole_of children.now))) }
+{
+    let Some((first, others)) = children.split_first() else {
+        return Ok(Outcome::Error);
+    };
+    let mut reply = push_acknowledged(first, legs)?;
+    for child in others {
+        reply = worse(reply, push_acknowledged(child, legs)?);
+    }
+    Ok(reply)
+}
+
+/// The first, and what is sent at once beside it.
+#[cycle(acknowledging)]
+fn push_acknowledged_beside<'a>(
+    children: &'a [Plan],
+    legs: &mut Vec<&'a PlannedLeg>,
+) -> Result<Outcome, AllocError>
+    ensures legs { OnOk result (map (λ l. leg_of l.now) legs.new.items ≡ map (λ l. leg_of l.now) legs.old.items ++ acknowledged (led_by (map part_of children.now))) }
+    ensures reply { IfOk result (λ x. x ≡ if_all Done (led_by (map part_of children.now))) }
+{
+    let Some((first, others)) = children.split_first() else {
+        return Ok(Outcome::Error);
+    };
+    let reply = push_acknowledged(first, legs)?;
+    for child in others {
+        push_first_wave(child, legs)?;
+    }
+    Ok(reply)
+}
+
+/// One after another, while they fail.
+#[cycle(acknowledging)]
+fn push_acknowledged_in_turn<'a>(
+    children: &'a [Plan],
+    legs: &mut Vec<&'a PlannedLeg>,
+) -> Result<Outcome, AllocError>
+    ensures legs { OnOk result (map (λ l. leg_of l.now) legs.new.items ≡ map (λ l. leg_of l.now) legs.old.items ++ acknowledged (turns_of on_error (map whole_of children.now))) }
+    ensures reply { IfOk result (λ x. x ≡ if_all Done (turns_of on_error (map whole_of children.now))) }
+{
+    let Some((first, others)) = children.split_first() else {
+        return Ok(Outcome::Error);
+    };
+    let mut reply = push_acknowledged(first, legs)?;
+    for child in others {
+        if reply != Outcome::Error {
+            return Ok(reply);
+        }
+        reply = push_acknowledged(child, legs)?;
+    }
+    Ok(reply)
+}
+
+/// One after another, while they miss: none of several is sent always, since a search by misses is none of a delete.
+#[cycle(acknowledging)]
+fn push_acknowledged_of_misses<'a>(
+    children: &'a [Plan],
+    legs: &mut Vec<&'a PlannedLeg>,
+) -> Result<Outcome, AllocError>
+    ensures legs { OnOk result (map (λ l. leg_of l.now) legs.new.items ≡ map (λ l. leg_of l.now) legs.old.items ++ acknowledged (turns_of on_miss (map whole_of children.now))) }
+    ensures reply { IfOk result (λ x. x ≡ if_all Done (turns_of on_miss (map whole_of children.now))) }
+{
+    let Some((first, others)) = children.split_first() else {
+        return Ok(Outcome::Error);
+    };
+    if others.is_empty() {
+        return push_acknowledged(first, legs);
+    }
+    Ok(last_if_all(After::Miss, children, Outcome::Good))
+}
+
+// ---- what can hit
+
+/// Where the list of both parts ends: nothing of it is kept where one of them is empty.
+fn end_of_both(start: usize, middle: usize, end: usize) -> usize
+    ensures first { middle ≡ start → result ≡ start }
+    ensures second { end ≡ middle → result ≡ start }
+    ensures both { start < middle → middle < end → result ≡ end }
+{
+    if middle == start || end == middle {
+        start
+    } else {
+        end
+    }
+}
+
+/// Adds the legs whose hit can be the reply; answers the reply where all legs answer Error.
+#[cycle(hitting)]
+pub fn push_hits<'a>(plan: &'a Plan, legs: &mut Vec<&'a PlannedLeg>) -> Result<Outcome, AllocError>
+    ensures legs { OnOk result (map (λ l. leg_of l.now) legs.new.items ≡ map (λ l. leg_of l.now) legs.old.items ++ hits (whole_of plan.now)) }
+    ensures reply { IfOk result (λ x. x ≡ if_all Failed (whole_of plan.now)) }
+{
+    match plan {
+        Plan::Send(leg) => {
+            legs.push(leg)?;
+            Ok(Outcome::Error)
+        }
+        Plan::Reply(reply) => Ok(reply.outcome()),
+        Plan::All(children) => push_hits_of_all(children, legs),
+        Plan::Beside(children) => push_hits_of_first(children, legs),
+        Plan::InTurn(After::Error, children) => push_hits_after_errors(children, legs),
+        Plan::InTurn(After::Miss, children) => push_hits_after_misses(children, legs),
+        Plan::OnHit(first, _) => push_hits(first, legs),
+        Plan::Shadowed { target, .. } => push_hits(target, legs),
+    }
+}
+
+/// All at once: those of each, where each has some.
+#[cycle(hitting)]
+fn push_hits_of_all<'a>(
+    children: &'a [Plan],
+    legs: &mut Vec<&'a PlannedLeg>,
+) -> Result<Outcome, AllocError>
+    ensures legs { OnOk result (map (λ l. leg_of l.now) legs.new.items ≡ map (λ l. leg_of l.now) legs.old.items ++ hits (all_of (map whole_of children.now))) }
+    ensures reply { IfOk result (λ x. x ≡ if_all Failed (all_of (map whole_of children.now))) }
+{
+    let Some((first, others)) = children.split_first() else {
+        return Ok(Outcome::Error);
+    };
+    let start = legs.len();
+    let mut reply = push_hits(first, legs)?;
+    for child in others {
+        let middle = legs.len();
+        reply = worse(reply, push_hits(child, legs)?);
+        let end = end_of_both(start, middle, legs.len());
+        legs.truncate(end);
+    }
+    Ok(reply)
+}
+
+/// Those of the first.
+#[cycle(hitting)]
+fn push_hits_of_first<'a>(
+    children: &'a [Plan],
+    legs: &mut Vec<&'a PlannedLeg>,
+) -> Result<Outcome, AllocError>
+    ensures legs { OnOk result (map (λ l. leg_of l.now) legs.new.items ≡ map (λ l. leg_of l.now) legs.old.items ++ hits (led_by (map part_of children.now))) }
+    ensures reply { IfOk result (λ x. x ≡ if_all Failed (led_by (map part_of children.now))) }
+{
+    let Some((first, others)) = children.split_first() else {
+        return Ok(Outcome::Error);
+    };
+    let _ = others;
+    push_hits(first, legs)
+}
+
+/// One after another, while they fail wherever their legs do.
+#[cycle(hitting)]
+fn push_hits_after_errors<'a>(
+    children: &'a [Plan],
+    legs: &mut Vec<&'a PlannedLeg>,
+) -> Result<Outcome, AllocError>
+    ensures legs { OnOk result (map (λ l. leg_of l.now) legs.new.items ≡ map (λ l. leg_of l.now) legs.old.items ++ hits (turns_of on_error (map whole_of children.now))) }
+    ensures reply { IfOk result (λ x. x ≡ if_all Failed (turns_of on_error (map whole_of children.now))) }
+{
+    let Some((first, others)) = children.split_first() else {
+        return Ok(Outcome::Error);
+    };
+    let mut reply = push_hits(first, legs)?;
+    for child in others {
+        if reply != Outcome::Error {
+            return Ok(reply);
+        }
+        reply = push_hits(child, legs)?;
+    }
+    Ok(reply)
+}
+
+/// One after another, all of them.
+#[cycle(hitting)]
+fn push_hits_after_misses<'a>(
+    children: &'a [Plan],
+    legs: &mut Vec<&'a PlannedLeg>,
+) -> Result<Outcome, AllocError>
+    ensures legs { OnOk result (map (λ l. leg_of l.now) legs.new.items ≡ map (λ l. leg_of l.now) legs.old.items ++ hits (turns_of on_miss (map whole_of children.now))) }
+    ensures reply { IfOk result (λ x. x ≡ if_all Failed (turns_of on_miss (map whole_of children.now))) }
+{
+    let Some((first, others)) = children.split_first() else {
+        return Ok(Outcome::Error);
+    };
+    let mut reply = push_hits(first, legs)?;
+    for child in others {
+        reply = after_miss(reply, push_hits(child, legs)?);
+    }
+    Ok(reply)
+}
+
+/// The reply of a search by misses among two.
+fn after_miss(first: Outcome, second: Outcome) -> Outcome
+    ensures { result ≡ after_miss first second }
+{
+    match first {
+        Outcome::Good => Outcome::Good,
+        Outcome::Soft | Outcome::Error => second,
+    }
+}

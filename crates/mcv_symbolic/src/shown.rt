@@ -4,15 +4,14 @@ ghost use Rattle.std.specs.Prelude.{◌≡◌, ◌++◌, IfOk, List, OnOk, Optio
 ghost use Rattle.mcv_base.specs.declared.reply.Outcome.{Outcome as Outcomes};
 ghost use Rattle.mcv_route.specs.Outcomes.{History};
 ghost use Rattle.mcv_rules.specs.Plan.{Both, Send};
-ghost use Rattle.mcv_symbolic.specs.InMemory.{leg_of, plan_of};
+ghost use Rattle.mcv_rules.specs.Whole.{all_of, in_turn, led_by, leg_of, part_of, turns_of, whole_of};
 ghost use Rattle.mcv_symbolic.specs.Shown.{answers, first_hit, history_of, leading};
 ghost use Rattle.mcv_symbolic.specs.Structure.{if_all};
-ghost use Rattle.mcv_symbolic.specs.Tried.{IsAdded, IsLead, IsTried, in_turn, is_hit, passed_on};
+ghost use Rattle.mcv_symbolic.specs.Tried.{IsAdded, IsLead, IsTried, is_hit, passed_on};
 
-use crate::plan::Plan;
 use crate::sets::worse;
 use mcv_base::{Outcome, Position};
-use mcv_rules::{After, PlannedLeg};
+use mcv_rules::{After, Plan, PlannedLeg};
 use std::alloc::AllocError;
 
 /// What a leg answered.
@@ -28,8 +27,8 @@ pub fn push_answers<'a>(
     answer: Outcome,
     legs: &mut Vec<LegAnswer<'a>>,
 ) -> Result<Outcome, AllocError>
-    ensures legs { OnOk result (history_of legs.new.items ≡ history_of legs.old.items ++ answers answer (plan_of plan.now)) }
-    ensures reply { IfOk result (λ x. x ≡ if_all answer (plan_of plan.now)) }
+    ensures legs { OnOk result (history_of legs.new.items ≡ history_of legs.old.items ++ answers answer (whole_of plan.now)) }
+    ensures reply { IfOk result (λ x. x ≡ if_all answer (whole_of plan.now)) }
 {
     match plan {
         Plan::Send(leg) => {
@@ -66,8 +65,8 @@ fn push_instead<'a>(
     start: usize,
     legs: &mut Vec<LegAnswer<'a>>,
 ) -> Result<Outcome, AllocError>
-    ensures legs { OnOk result (history_of legs.new.items ≡ take start (history_of legs.old.items) ++ answers answer (plan_of plan.now)) }
-    ensures reply { IfOk result (λ x. x ≡ if_all answer (plan_of plan.now)) }
+    ensures legs { OnOk result (history_of legs.new.items ≡ take start (history_of legs.old.items) ++ answers answer (whole_of plan.now)) }
+    ensures reply { IfOk result (λ x. x ≡ if_all answer (whole_of plan.now)) }
 {
     legs.truncate(start);
     push_answers(plan, answer, legs)
@@ -112,8 +111,8 @@ fn settled<'a>(
     legs: &mut Vec<LegAnswer<'a>>,
 ) -> Result<Added, AllocError>
     ensures { (found : Option History) (before : History) → start ≡ length before
-        → IsAdded found (answers (passed_on after) (plan_of plan.now)) (if_all (passed_on after) (plan_of plan.now)) added before (history_of legs.old.items)
-        → IfOk result (λ r. IsAdded found (answers answer (plan_of plan.now)) (if_all answer (plan_of plan.now)) r before (history_of legs.new.items)) }
+        → IsAdded found (answers (passed_on after) (whole_of plan.now)) (if_all (passed_on after) (whole_of plan.now)) added before (history_of legs.old.items)
+        → IfOk result (λ r. IsAdded found (answers answer (whole_of plan.now)) (if_all answer (whole_of plan.now)) r before (history_of legs.new.items)) }
 {
     match added {
         Added::Hit => Ok(Added::Hit),
@@ -133,7 +132,7 @@ fn settled<'a>(
 /// answers may have been added.
 #[cycle(hits)]
 pub fn push_first_hit<'a>(plan: &'a Plan, legs: &mut Vec<LegAnswer<'a>>) -> Result<bool, AllocError>
-    ensures { IfOk result (λ found. IsTried (first_hit (plan_of plan.now)) found (history_of legs.old.items) (history_of legs.new.items)) }
+    ensures { IfOk result (λ found. IsTried (first_hit (whole_of plan.now)) found (history_of legs.old.items) (history_of legs.new.items)) }
 {
     match plan {
         Plan::Send(leg) => {
@@ -164,7 +163,7 @@ fn push_both_hits<'a>(
     second: &'a Plan,
     legs: &mut Vec<LegAnswer<'a>>,
 ) -> Result<bool, AllocError>
-    ensures { IfOk result (λ found. IsTried (first_hit (Both (plan_of first.now) (plan_of second.now))) found (history_of legs.old.items) (history_of legs.new.items)) }
+    ensures { IfOk result (λ found. IsTried (first_hit (Both (whole_of first.now) (whole_of second.now))) found (history_of legs.old.items) (history_of legs.new.items)) }
 {
     if push_first_hit(first, legs)? {
         push_first_hit(second, legs)
@@ -180,7 +179,7 @@ fn push_hit_or_answers<'a>(
     answer: Outcome,
     legs: &mut Vec<LegAnswer<'a>>,
 ) -> Result<Added, AllocError>
-    ensures { IfOk result (λ r. IsAdded (first_hit (plan_of plan.now)) (answers answer (plan_of plan.now)) (if_all answer (plan_of plan.now)) r (history_of legs.old.items) (history_of legs.new.items)) }
+    ensures { IfOk result (λ r. IsAdded (first_hit (whole_of plan.now)) (answers answer (whole_of plan.now)) (if_all answer (whole_of plan.now)) r (history_of legs.old.items) (history_of legs.new.items)) }
 {
     let start = legs.len();
     match plan {
@@ -221,7 +220,7 @@ fn push_hit_in_turn<'a>(
     second: &'a Plan,
     legs: &mut Vec<LegAnswer<'a>>,
 ) -> Result<Added, AllocError>
-    ensures { let whole = in_turn after (plan_of first.now) (plan_of second.now) in
+    ensures { let whole = in_turn after (whole_of first.now) (whole_of second.now) in
         IfOk result (λ r. IsAdded (first_hit whole) (answers (passed_on after) whole) (if_all (passed_on after) whole) r (history_of legs.old.items) (history_of legs.new.items)) }
 {
     let answer = passed_on(after);
@@ -259,7 +258,7 @@ fn led<'a>(
 ) -> Result<Lead, AllocError>
     ensures { (found : Option History) (others : History) (y : Outcomes) (before : History) → start ≡ length before
         → IsAdded found others y added before (history_of legs.old.items)
-        → IfOk result (λ r. IsLead found (first_hit (plan_of plan.now)) r before (history_of legs.new.items)) }
+        → IfOk result (λ r. IsLead found (first_hit (whole_of plan.now)) r before (history_of legs.new.items)) }
 {
     match added {
         Added::Hit => Ok(Lead::Led),
@@ -282,7 +281,7 @@ fn push_lead<'a>(
     leaf: &Position,
     legs: &mut Vec<LegAnswer<'a>>,
 ) -> Result<Lead, AllocError>
-    ensures { IfOk result (λ r. IsLead (leading leaf.now (plan_of plan.now)) (first_hit (plan_of plan.now)) r (history_of legs.old.items) (history_of legs.new.items)) }
+    ensures { IfOk result (λ r. IsLead (leading leaf.now (whole_of plan.now)) (first_hit (whole_of plan.now)) r (history_of legs.old.items) (history_of legs.new.items)) }
 {
     let start = legs.len();
     match plan {
@@ -330,7 +329,7 @@ fn push_both_leads<'a>(
     leaf: &Position,
     legs: &mut Vec<LegAnswer<'a>>,
 ) -> Result<Lead, AllocError>
-    ensures { let whole = Both (plan_of first.now) (plan_of second.now) in
+    ensures { let whole = Both (whole_of first.now) (whole_of second.now) in
         IfOk result (λ r. IsLead (leading leaf.now whole) (first_hit whole) r (history_of legs.old.items) (history_of legs.new.items)) }
 {
     match push_lead(first, leaf, legs)? {
@@ -355,7 +354,7 @@ pub fn push_leading<'a>(
     answer: Outcome,
     legs: &mut Vec<LegAnswer<'a>>,
 ) -> Result<Added, AllocError>
-    ensures { IfOk result (λ r. IsAdded (leading leaf.now (plan_of plan.now)) (answers answer (plan_of plan.now)) (if_all answer (plan_of plan.now)) r (history_of legs.old.items) (history_of legs.new.items)) }
+    ensures { IfOk result (λ r. IsAdded (leading leaf.now (whole_of plan.now)) (answers answer (whole_of plan.now)) (if_all answer (whole_of plan.now)) r (history_of legs.old.items) (history_of legs.new.items)) }
 {
     let start = legs.len();
     match plan {
@@ -415,7 +414,7 @@ fn push_leading_in_turn<'a>(
     leaf: &Position,
     legs: &mut Vec<LegAnswer<'a>>,
 ) -> Result<Added, AllocError>
-    ensures { let whole = in_turn after (plan_of first.now) (plan_of second.now) in
+    ensures { let whole = in_turn after (whole_of first.now) (whole_of second.now) in
         IfOk result (λ r. IsAdded (leading leaf.now whole) (answers (passed_on after) whole) (if_all (passed_on after) whole) r (history_of legs.old.items) (history_of legs.new.items)) }
 {
     let answer = passed_on(after);
