@@ -3,6 +3,7 @@ use Rattle.std.specs.Prelude.{◌≡◌, Bool, true, false, ◌++◌, Option, So
 use Rattle.mcv_base.specs.declared.reply.Outcome.{Outcome}
 use Rattle.mcv_base.specs.declared.reply.Outcome.TheVariants.{Soft, Error}
 use Rattle.mcv_route.specs.Outcomes.{History}
+use Rattle.mcv_rules.specs.Arrivals.{goes_on}
 use Rattle.mcv_rules.specs.declared.arrival.After.{After}
 use Rattle.mcv_rules.specs.declared.arrival.After.TheVariants as after
 use Rattle.mcv_symbolic.specs.declared.shown.Added.{Added}
@@ -18,6 +19,11 @@ passed_on after.Miss = Soft
 abbrev pub is_hit : Added → Bool
 is_hit added.Hit = true
 is_hit (added.Alike y) = false
+
+-- whether a search goes on
+abbrev pub goes_on_after : After → Added → Bool
+goes_on_after w added.Hit = false
+goes_on_after w (added.Alike y) = goes_on w y
 
 -- what was looked for has been added; where there is none, something may have been
 abbrev pub IsTried : Option History → Bool → History → History → Type 0
