@@ -42,8 +42,8 @@ def best(*calls, runs=5):
     return [min(times) for times in zip(*rounds)]
 
 
-def running(words, given_text):
-    """A call that runs the program on words and a text. The program is built where it isn't yet."""
+def running(words, given_text, status=0):
+    """A call that runs the program on words and a text, and wants the exit status. The program is built where it isn't yet."""
     if not os.access(PROGRAM, os.X_OK):
         subprocess.run([os.path.join(TOP, "mcv"), "--help"], stdout=subprocess.DEVNULL, check=True)
     given = tempfile.TemporaryFile()
@@ -51,7 +51,9 @@ def running(words, given_text):
 
     def run():
         given.seek(0)
-        subprocess.run([PROGRAM] + words, stdin=given, stdout=subprocess.DEVNULL, check=True)
+        ended = subprocess.run([PROGRAM] + words, stdin=given, stdout=subprocess.DEVNULL)
+        if ended.returncode != status:
+            sys.exit("%s ended with status %d" % (" ".join(words), ended.returncode))
 
     return run
 
@@ -64,6 +66,11 @@ def legs(text):
 def check(text):
     """A call that judges the configuration, which has to be covered."""
     return running(["check"], text)
+
+
+def finding(text):
+    """A call that judges the configuration, which has to lose deletes."""
+    return running(["check"], text, status=3)
 
 
 def print_beside_python(plain, whole, half):

@@ -13,7 +13,7 @@ ghost use Rattle.mcv_symbolic.specs.Shown.{answers, history_of, leading};
 use crate::layout::laid_out;
 use crate::plan::Plan;
 use crate::sets::{push_acknowledged, push_hits, reply_if_all};
-use crate::shown::{LegAnswer, push_answers, push_leading};
+use crate::shown::{Added, LegAnswer, push_answers, push_leading};
 use mcv_base::{Mark, Moment, Op, Outcome, Position, Rest};
 use mcv_route::Route;
 use mcv_rules::{Asked, PlannedLeg};
@@ -116,10 +116,9 @@ impl<'a> Case<'a> {
         ensures { IfOk result (λ found. option_map (λ legs. history_of legs.items) found ≡ leading leaf.now (plan self.now.tree (situation_of self.now))) }
     {
         let mut legs = Vec::new(alloc);
-        if push_leading(&self.plan, leaf, &mut legs)? {
-            Ok(Some(legs))
-        } else {
-            Ok(None)
+        match push_leading(&self.plan, leaf, Outcome::Error, &mut legs)? {
+            Added::Hit => Ok(Some(legs)),
+            Added::Alike(_) => Ok(None),
         }
     }
 }
