@@ -1,4 +1,5 @@
 pub mod Desk
 pub mod Events
 pub mod Flights
+pub mod Pending
 pub mod Steps

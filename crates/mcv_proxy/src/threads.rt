@@ -1,6 +1,7 @@
 //! The threads of a proxy.
 
-ghost use Rattle.std.specs.Prelude.{◌≡◌, ◌+◌};
+ghost use Rattle.std.specs.Prelude.{◌≡◌, ◌+◌, IfOk};
+ghost use Rattle.mcv_proxy.specs.Pending.{numbered};
 
 use crate::desk::HubDesk;
 use crate::destination::serve_destination;
@@ -14,7 +15,7 @@ use mcv_base::{ServerId, ServerText};
 use mcv_check::Accepted;
 use mcv_hub::{Bell, Hub, Pass, Passes, Receipt, Report, Seat};
 use mcv_session::serve_session;
-use mcv_spool::{Disk, Spool};
+use mcv_spool::{Disk, Slot, Spool, SpoolRecord};
 use std::alloc::{AllocError, Global};
 use std::io::{Read, Write};
 use std::marker::Brand;
@@ -525,6 +526,22 @@ fn dismiss<B: Ledger, T: Ledger, D: Disk, R: Threads + Wait>(
     }
 }
 
+/// The records that are pending in these slots, each with its number, in the order of numbers.
+fn pending_records(
+    alloc: Global,
+    slots: &[Slot],
+) -> Result<Vec<(u64, SpoolRecord)>, AllocError>
+    ensures { IfOk result (λ records. records.items ≡ numbered 0 slots.now) }
+{
+    let mut records = Vec::new(alloc);
+    for (number, slot) in slots.iter().enumerate() {
+        if let Some(record) = slot.record() {
+            records.push((number as u64, record.copied()))?;
+        }
+    }
+    Ok(records)
+}
+
 /// What all threads share, with the spool of a disk, and what makes passes and seats.
 fn open<B: Ledger, T: Ledger, D: Disk>(
     alloc: Global,
@@ -537,7 +554,7 @@ fn open<B: Ledger, T: Ledger, D: Disk>(
     requires taken { (taken.name ≡ T.name) × (taken.parts ≡ T.parts) × (taken.parts ≡ SEATS + 1) }
 {
     let spool = Spool::open(alloc, disk)?;
-    let records = spool.pending()?;
+    let records = pending_records(alloc, spool.pending())?;
     let known = Arc::try_clone(&accepted)?;
     let Ok((hub, passes)) = Hub::new(alloc, known, records.as_slice(), BELLS, SEATS, begun, taken)
     else {

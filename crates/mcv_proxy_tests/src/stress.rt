@@ -4,7 +4,7 @@ use crate::disk::MemoryDisk;
 use crate::scene::{Manner, Scene, Server, number_of, play};
 use mcv_base::push_number;
 use mcv_hub::Report;
-use mcv_spool::Spool;
+use mcv_spool::{Slot, Spool};
 use std::alloc::Global;
 use std::rt::Clock;
 use std::sync::{Arc, Mutex, Wait};
@@ -138,9 +138,9 @@ fn count_pending<R: Wait + Clock + Copy + Drop + Send + 'static>(
     let Ok(spool) = Spool::open(alloc, disk) else {
         return Err(Fail::from("the spool is refused"));
     };
-    let records = spool.pending()?;
-    let count = records.len();
-    for (_seq, delete) in records {
+    let mut count = 0usize;
+    for delete in spool.pending().iter().filter_map(Slot::record) {
+        count = count.saturating_add(1);
         match place_of(delete.server.as_bytes(), delete.rest.as_bytes()) {
             Some(place) => count_at(table, place),
             None => return Err(Fail::from("a record of another server or key")),

@@ -2,7 +2,7 @@
 
 use super::disk::{Left, Lent, TestDisk, Trouble};
 use mcv_base::{Rest, ServerText};
-use mcv_spool::{Disk, FileDisk, Spool, SpoolFault, SpoolRecord};
+use mcv_spool::{Disk, FileDisk, Slot, Spool, SpoolFault, SpoolRecord};
 use std::alloc::Global;
 use std::io::ErrorKind;
 use std::process::Abort;
@@ -46,16 +46,20 @@ fn slots_of(alloc: Global, bytes: Vec<u8>) -> Option<u64> {
     slots_counted(&mut spool)
 }
 
-/// Whether so many records are pending, and their numbers are these digits.
+/// Whether the slot of this number is pending exactly when its digit is among these.
+fn is_as_said(number: usize, slot: &Slot, digits: &[u8]) -> bool {
+    let digit = b'0'.saturating_add(number.min(9) as u8);
+    slot.record().is_some() == digits.contains(&digit)
+}
+
+/// Whether the records of these digits are pending, and no others.
 fn are_pending<D: Disk>(spool: &Spool<D>, digits: &[u8]) -> bool {
-    let Ok(list) = spool.pending() else {
-        return false;
-    };
-    list.len() == digits.len()
-        && list
-            .iter()
-            .zip(digits)
-            .all(|(p, digit)| p.0 == u64::from(digit.saturating_sub(b'0')))
+    for (number, slot) in spool.pending().iter().enumerate() {
+        if !is_as_said(number, slot, digits) {
+            return false;
+        }
+    }
+    digits.iter().all(|digit| usize::from(digit.saturating_sub(b'0')) < spool.pending().len())
 }
 
 /// Whether nothing is pending in this file once it is opened, and it is one closed gate then.
@@ -79,15 +83,19 @@ fn two_are_appended<D: Disk>(spool: &mut Spool<D>) -> bool {
         && spool.done(0).is_ok()
 }
 
+/// Whether a slot has the record that is pending with this rest.
+fn has_rest(slot: Option<&Slot>, rest: &[u8]) -> bool {
+    match slot {
+        Some(slot) => slot
+            .record()
+            .is_some_and(|record| record.rest.as_bytes() == rest),
+        None => false,
+    }
+}
+
 /// Whether the second of these records alone is pending.
 fn is_second_pending<D: Disk>(spool: &Spool<D>) -> bool {
-    let Ok(list) = spool.pending() else {
-        return false;
-    };
-    list.len() == 1
-        && list
-            .iter()
-            .all(|p| p.0 == 1 && p.1.rest.as_bytes() == b"ab".as_slice())
+    are_pending(spool, b"1") && has_rest(spool.pending().get(1), b"ab")
 }
 
 /// Whether two records come into the file, and further calls of `done` change nothing.
@@ -281,17 +289,26 @@ fn run(alloc: Global, disk: &mut TestDisk) -> Told {
     }
 }
 
+/// Whether the record of a slot, if it is pending, is the one that the run appended under its number.
+fn is_of_the_run(number: usize, slot: &Slot) -> bool {
+    match slot.record() {
+        Some(record) => {
+            record.rest.as_bytes() == [b'a'.saturating_add(number.min(9) as u8)].as_slice()
+        }
+        None => true,
+    }
+}
+
 /// How many records are pending, if each is of the run.
 fn pending_of_the_run<D: Disk>(spool: &Spool<D>) -> Option<u64> {
-    let list = spool.pending().ok()?;
-    let are_of_the_run = list.iter().all(|p| {
-        p.1.rest.as_bytes() == [b'a'.saturating_add(p.0.min(9) as u8)].as_slice()
-    });
-    if are_of_the_run {
-        Some(list.len() as u64)
-    } else {
-        None
+    let mut count = 0u64;
+    for (number, slot) in spool.pending().iter().enumerate() {
+        if !is_of_the_run(number, slot) {
+            return None;
+        }
+        count = count.saturating_add(u64::from(slot.record().is_some()));
     }
+    Some(count)
 }
 
 /// Whether a file of so many slots, of which so many are pending, has the records that the run stored, none missing but
