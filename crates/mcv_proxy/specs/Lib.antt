@@ -2,4 +2,5 @@ pub mod Desk
 pub mod Events
 pub mod Flights
 pub mod Pending
+pub mod Reports
 pub mod Steps

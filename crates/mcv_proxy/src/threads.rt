@@ -2,6 +2,7 @@
 
 ghost use Rattle.std.specs.Prelude.{◌≡◌, ◌+◌, IfOk};
 ghost use Rattle.mcv_proxy.specs.Pending.{numbered};
+ghost use Rattle.mcv_proxy.specs.Reports.{IsReport, IsReportOf};
 
 use crate::desk::HubDesk;
 use crate::destination::serve_destination;
@@ -613,6 +614,24 @@ fn run<
     Ok(receipts?)
 }
 
+/// Closes the books once all sessions have ended.
+fn close<B: Ledger, T: Ledger, R: Wait>(
+    rt: &R,
+    alloc: Global,
+    hub: &Hub<B, T>,
+    pass: &mut Pass,
+    seat: &mut Seat<B, T>,
+    receipts: &[Receipt],
+) -> Result<Report, ProxyFault>
+    ensures { IfOk result (IsReportOf receipts.now) }
+{
+    let Seat { begun, taken } = seat;
+    let mut guard = hub.lock(rt, pass);
+    guard.deletes_are_kept();
+    let report = guard.close(alloc, begun, taken, receipts)?;
+    Ok(report)
+}
+
 /// As `start`, with the ledgers of calls begun and of replies taken.
 fn started<
     B: Ledger + Send + Sync + 'static,
@@ -629,6 +648,7 @@ fn started<
 ) -> Result<Report, ProxyFault>
     requires begun { (begun.name ≡ B.name) × (begun.parts ≡ B.parts) × (begun.parts ≡ SEATS + 1) }
     requires taken { (taken.name ≡ T.name) × (taken.parts ≡ T.parts) × (taken.parts ≡ SEATS + 1) }
+    ensures { IfOk result IsReport }
 {
     let Some(disk) = gates.disk() else {
         return Err(ProxyFault::Device);
@@ -639,9 +659,14 @@ fn started<
     };
     let receipts = run(rt, alloc, &shared, &mut passes, gates, &mut seat)?;
     let mut pass = passes.pass();
-    let Seat { begun, taken } = &mut seat;
-    let mut guard = shared.hub.lock(&rt, &mut pass);
-    let report = guard.close(alloc, begun, taken, receipts.as_slice())?;
+    let report = close(
+        &rt,
+        alloc,
+        &shared.hub,
+        &mut pass,
+        &mut seat,
+        receipts.as_slice(),
+    )?;
     Ok(report)
 }
 
@@ -653,7 +678,9 @@ pub fn start<G: Gates, R: Threads + Wait + Clock + Copy + Send + 'static>(
     alloc: Global,
     accepted: Arc<Accepted>,
     gates: G,
-) -> Result<Report, ProxyFault> {
+) -> Result<Report, ProxyFault>
+    ensures { IfOk result IsReport }
+{
     let mut gates = gates;
     let begun = Blank::new(SEATS + 1);
     let taken = Blank::new(SEATS + 1);
