@@ -225,6 +225,9 @@ impl<D: Dial, N: Notices> TcpLink<D, N> {
 }
 
 impl<D: Dial, N: Notices> Link for TcpLink<D, N> {
+    // A reply is one that bytes spell.
+    ghost answers = { λ _ leg result _. IfOk result (λ reply. (bytes : List ℕ) × SpellsReply leg.op (arc_value leg.rest) bytes reply) };
+
     fn start(&mut self, _pass: &Pass, leg: &LegRequest)
         ensures begun { IfSome self.new.begun (λ begun. (begun.text.items ≡ leg_text (leg_value leg.now)) × Begins D.Stream.contents begun.text.items self.old.kept begun.over × (self.new.kept ≡ None)) }
         ensures unbegun { IfNone self.new.begun (self.new.kept ≡ self.old.kept) }
@@ -235,9 +238,7 @@ impl<D: Dial, N: Notices> Link for TcpLink<D, N> {
         }
     }
 
-    fn send(&mut self, _pass: &Pass, leg: &LegRequest) -> Result<Reply, LinkFault>
-        ensures { IfOk result (λ reply. (bytes : List ℕ) × SpellsReply leg.now.op (arc_value leg.now.rest) bytes reply) }
-    {
+    fn send(&mut self, _pass: &Pass, leg: &LegRequest) -> Result<Reply, LinkFault> {
         match self.send_leg(leg) {
             Ok(reply) => Ok(reply),
             Err(loss) => Err(fault_of(loss)),

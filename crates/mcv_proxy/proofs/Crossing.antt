@@ -39,8 +39,8 @@ use Rattle.mcv_hub.specs.contracts.hub.Hub as Hub
 use Rattle.mcv_hub.proofs.entry.Entry.TheSendSync as entry
 use Rattle.mcv_proxy.specs.contracts.ends.Ends as Ends
 use Rattle.mcv_proxy.specs.contracts.lanes.Lanes as Lanes
-use Rattle.mcv_proxy.specs.contracts.lanes.Links as Links
 use Rattle.mcv_proxy.proofs.lanes.Links.TheSendSync as links
+use Rattle.mcv_proxy.specs.contracts.threads.SessionContext as Context
 use Rattle.mcv_proxy.specs.contracts.threads.Visitor as Visitor
 use Rattle.mcv_proxy.proofs.threads.Visitor.TheSendSync as visitor
 use Rattle.mcv_proxy.proofs.lanes.Lane.TheSendSync as lane
@@ -124,13 +124,6 @@ ends_shared = Arc-send Ends.the_row ends_send ends_sync
 pub lanes_shared : IsSend (Arc.the_row Lanes.the_row Heap.the_row ghosts)
 lanes_shared = Arc-send Lanes.the_row lanes_send lanes_sync
 
-module _ (L : RattleType) where
-  pub links_shared : IsSend L → IsSend (Arc.the_row (Links.the_row L) Heap.the_row ghosts)
-  links_shared s = Arc-send (Links.the_row L) (search (links.the_send, sendable, crosses) depth 24) (search (links.the_sync, sendable, crosses) depth 24)
-
-pub accepted_shared : IsSend (Arc.the_row Accepted.the_row Heap.the_row ghosts)
-accepted_shared = Arc-send Accepted.the_row accepted_send accepted_sync
-
 pub text_send : IsSend ServerText.the_row
 text_send = search (text.the_send, sendable, crosses) depth 24
 
@@ -144,3 +137,7 @@ module _ (B T : RattleType) (b : Ghosts B.Denot) (t : Ghosts T.Denot) where
 module _ (I O W : RattleType) where
   pub visitor_send : IsSend I → IsSend O → IsSend W → IsSend (Visitor.the_row I O W)
   visitor_send i o w = search (visitor.the_send, sendable, crosses) depth 24
+
+module _ (B T L : RattleType) (b : Ghosts B.Denot) (t : Ghosts T.Denot) where
+  pub context_send : IsSend L → IsSend (Context.the_row B T L b t)
+  context_send s = search (accepted_send, accepted_sync, hub_send, hub_sync, lanes_send, lanes_sync, links.the_send, links.the_sync, sendable, crosses) depth 24

@@ -21,13 +21,13 @@ use std::alloc::{AllocError, Global};
 use std::rt::Clock;
 use std::sync::ledger::Ledger;
 use std::sync::{Arc, Wait};
-use std::time::Duration;
+use std::time::{Duration, Instant};
 
-/// How often a call is begun anew that found no place in the chapter.
-const ATTEMPTS: u32 = 100;
+/// How long a call waits for a place in the chapter, in milliseconds.
+const PATIENCE: u64 = 1_000;
 
-/// How long such a call waits each time at most, in milliseconds.
-const PATIENCE: u64 = 10;
+/// How long it waits each time at most, in milliseconds.
+const PAUSE: u64 = 10;
 
 /// What calls of a hub take: the ways to the servers, the pass and the seat of one session, its watch and its errands.
 #[derive(Drop)]
@@ -209,6 +209,29 @@ fn confirmed(routes: &Routes, request: &Request, key: usize, fault: CoreFault) -
     }
 }
 
+/// When a call began to wait for a place in the chapter.
+#[derive(Clone, Copy)]
+struct Patience {
+    since: Option<Instant>,
+}
+
+impl Patience {
+    /// Whether a call has waited for `PATIENCE`; it begins to wait where it is asked first. Where the clock can't be read it
+    /// has.
+    fn is_over<R: Clock>(&mut self, rt: &R) -> bool {
+        let Ok(now) = Instant::now(rt) else {
+            return true;
+        };
+        match self.since {
+            Some(since) => now.duration_since(since) >= Duration::from_millis(PATIENCE),
+            None => {
+                self.since = Some(now);
+                false
+            }
+        }
+    }
+}
+
 /// Begins a call. Where the chapter has no place for it, a new chapter begins first. The first key of a request waits for
 /// that a second at most, while calls run or legs are queued; for another one the request's own calls run, so it is
 /// refused.
@@ -228,7 +251,8 @@ fn begin_in_chapter<'a, B: Ledger, T: Ledger, L: Link, R: Wait + Clock>(
     ensures taken { seat.new.taken.amount ≡ seat.old.taken.amount }
 {
     let mut guard = guard;
-    for _attempt in 0..ATTEMPTS {
+    let mut patience = Patience { since: None };
+    for _attempt in rt.forever() {
         let Ok(request) = Arc::try_clone(request) else {
             return (guard, Err(CoreFault::Memory));
         };
@@ -236,14 +260,15 @@ fn begin_in_chapter<'a, B: Ledger, T: Ledger, L: Link, R: Wait + Clock>(
             Err(CoreFault::ChapterFull) => {}
             answer => return (guard, answer),
         }
-        if guard.turn().is_err() {
-            if key > 0 {
-                return (guard, Err(CoreFault::ChapterFull));
-            }
-            guard = hub.wait_for(rt, guard, Bell::Chapter, Duration::from_millis(PATIENCE));
+        let has_turned = guard.turn().is_ok();
+        if !has_turned && key > 0 || patience.is_over(rt) {
+            return (guard, Err(CoreFault::ChapterFull));
+        }
+        if !has_turned {
+            guard = hub.wait_for(rt, guard, Bell::Chapter, Duration::from_millis(PAUSE));
         }
     }
-    (guard, Err(CoreFault::ChapterFull))
+    unreachable!()
 }
 
 /// Begins the calls for the keys of a request, in their order, up to the first that is refused.

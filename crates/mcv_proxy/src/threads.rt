@@ -1,6 +1,7 @@
 //! The threads of a proxy.
 
-ghost use Rattle.std.specs.Prelude.{◌≡◌, ◌+◌, IfOk};
+ghost use Rattle.std.specs.Prelude.{◌≡◌, ◌+◌, IfOk, length, map};
+ghost use Rattle.mcv_spool.specs.File.{slots, waiting};
 ghost use Rattle.mcv_proxy.specs.Pending.{numbered};
 ghost use Rattle.mcv_proxy.specs.Reports.{IsReport, IsReportOf};
 
@@ -186,6 +187,15 @@ fn employ_replayer<
     thread::spawn(&rt, job).ok()
 }
 
+/// What the threads of sessions share.
+#[derive(Drop)]
+struct SessionContext<B: Ledger, T: Ledger, L: Link> {
+    accepted: Arc<Accepted>,
+    hub: Arc<Hub<B, T>>,
+    lanes: Arc<Lanes>,
+    links: Arc<Links<L>>,
+}
+
 /// A client that is to be served, and the watch of its session.
 #[derive(Drop)]
 struct Visitor<I: Read + Drop, O: Write + Drop, W: Watch> {
@@ -198,20 +208,25 @@ struct Visitor<I: Read + Drop, O: Write + Drop, W: Watch> {
 fn serve<B: Ledger, T: Ledger, L: Link, I: Read + Drop, O: Write + Drop, W: Watch, R: Wait + Clock>(
     rt: &R,
     alloc: Global,
-    accepted: Arc<Accepted>,
-    hub: &Hub<B, T>,
-    lanes: &Lanes,
-    links: &Links<L>,
+    context: SessionContext<B, T, L>,
     pass: Pass,
     seat: Seat<B, T>,
     visitor: Visitor<I, O, W>,
 ) -> Done<B, T> {
+    let SessionContext {
+        accepted,
+        hub,
+        lanes,
+        links,
+    } = context;
     let Visitor {
         mut reader,
         mut writer,
         watch,
     } = visitor;
-    let mut desk = HubDesk::new(rt, alloc, accepted, hub, lanes, links, pass, seat, watch);
+    let mut desk = HubDesk::new(
+        rt, alloc, accepted, &*hub, &*lanes, &*links, pass, seat, watch,
+    );
     let _ = serve_session(alloc, &mut reader, &mut writer, &mut desk);
     let (seat, receipts) = desk.into_parts();
     Done { seat, receipts }
@@ -229,17 +244,12 @@ fn host<
 >(
     rt: R,
     alloc: Global,
-    accepted: Arc<Accepted>,
-    hub: Arc<Hub<B, T>>,
-    lanes: Arc<Lanes>,
-    links: Arc<Links<L>>,
+    context: SessionContext<B, T, L>,
     pass: Pass,
     seat: Seat<B, T>,
     visitor: Visitor<I, O, W>,
 ) -> Option<JoinHandle<Done<B, T>>> {
-    let job = move || serve(
-        &rt, alloc, accepted, &*hub, &*lanes, &*links, pass, seat, visitor,
-    );
+    let job = move || serve(&rt, alloc, context, pass, seat, visitor);
     thread::spawn(&rt, job).ok()
 }
 
@@ -255,26 +265,25 @@ fn admit<
 >(
     rt: R,
     alloc: Global,
-    accepted: &Arc<Accepted>,
-    hub: &Arc<Hub<B, T>>,
-    lanes: &Arc<Lanes>,
-    links: &Arc<Links<L>>,
+    context: &SessionContext<B, T, L>,
     pass: Pass,
     seat: Seat<B, T>,
     client: (I, O),
     watch: W,
 ) -> Option<JoinHandle<Done<B, T>>> {
-    let accepted = Arc::try_clone(accepted).ok()?;
-    let hub = Arc::try_clone(hub).ok()?;
-    let lanes = Arc::try_clone(lanes).ok()?;
-    let links = Arc::try_clone(links).ok()?;
+    let context = SessionContext {
+        accepted: Arc::try_clone(&context.accepted).ok()?,
+        hub: Arc::try_clone(&context.hub).ok()?,
+        lanes: Arc::try_clone(&context.lanes).ok()?,
+        links: Arc::try_clone(&context.links).ok()?,
+    };
     let (reader, writer) = client;
     let visitor = Visitor {
         reader,
         writer,
         watch,
     };
-    host(rt, alloc, accepted, hub, lanes, links, pass, seat, visitor)
+    host(rt, alloc, context, pass, seat, visitor)
 }
 
 /// How many servers there are.
@@ -449,10 +458,7 @@ fn accept<
 >(
     rt: R,
     alloc: Global,
-    accepted: &Arc<Accepted>,
-    hub: &Arc<Hub<B, T>>,
-    lanes: &Arc<Lanes>,
-    links: &Arc<Links<G::Link>>,
+    context: &SessionContext<B, T, G::Link>,
     passes: &mut Passes<B, T>,
     gates: &mut G,
 ) -> Vec<JoinHandle<Done<B, T>>> {
@@ -470,9 +476,7 @@ fn accept<
         };
         let watch = gates.watch();
         let pass = passes.pass();
-        match admit(
-            rt, alloc, accepted, hub, lanes, links, pass, seat, client, watch,
-        ) {
+        match admit(rt, alloc, context, pass, seat, client, watch) {
             Some(session) => sessions.push_reserved(session),
             None => gates.note_unserved(),
         }
@@ -553,9 +557,11 @@ fn open<B: Ledger, T: Ledger, D: Disk>(
 ) -> Result<(Shared<B, T, D>, Passes<B, T>), ProxyFault>
     requires begun { (begun.name ≡ B.name) × (begun.parts ≡ B.parts) × (begun.parts ≡ SEATS + 1) }
     requires taken { (taken.name ≡ T.name) × (taken.parts ≡ T.parts) × (taken.parts ≡ SEATS + 1) }
+    ensures pending { D.keeps_model → IfOk result (λ r. r.0.pending ≡ length (numbered 0 (map waiting (slots (D.seen disk))))) }
 {
     let spool = Spool::open(alloc, disk)?;
     let records = pending_records(alloc, spool.pending())?;
+    let pending = records.len();
     let known = Arc::try_clone(&accepted)?;
     let Ok((hub, passes)) = Hub::new(alloc, known, records.as_slice(), BELLS, SEATS, begun, taken)
     else {
@@ -567,7 +573,7 @@ fn open<B: Ledger, T: Ledger, D: Disk>(
         hub: Arc::new(alloc, hub)?,
         lanes: Arc::new(alloc, lanes)?,
         spool: Arc::new(alloc, Mutex::new(spool))?,
-        pending: records.len(),
+        pending,
         work_ends: Arc::new(alloc, Ends::new())?,
         spool_ends: Arc::new(alloc, Ends::new())?,
     };
@@ -593,22 +599,18 @@ fn run<
         spool: None,
     };
     let links = links_of(alloc, &shared.accepted, gates)?;
-    let links = Arc::new(alloc, Links::new(alloc, links)?)?;
+    let context = SessionContext {
+        accepted: Arc::try_clone(&shared.accepted)?,
+        hub: Arc::try_clone(&shared.hub)?,
+        lanes: Arc::try_clone(&shared.lanes)?,
+        links: Arc::new(alloc, Links::new(alloc, links)?)?,
+    };
     let mut pass = passes.pass();
     if let Err(fault) = ready(rt, alloc, shared, passes, gates, &mut crew) {
         dismiss(&rt, shared, &mut pass, crew);
         return Err(fault);
     }
-    let sessions = accept(
-        rt,
-        alloc,
-        &shared.accepted,
-        &shared.hub,
-        &shared.lanes,
-        &links,
-        passes,
-        gates,
-    );
+    let sessions = accept(rt, alloc, &context, passes, gates);
     let receipts = gather(&rt, alloc, sessions, seat);
     dismiss(&rt, shared, &mut pass, crew);
     Ok(receipts?)
