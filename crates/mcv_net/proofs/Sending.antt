@@ -1,5 +1,5 @@
 -- A reply that is given was read from a connection.
-use Rattle.std.proofs.Common.{◌≡◌, ◌⊎◌, ℕ, Bool, true, false, List, Option, None, Some, Ok, Err, refl, sym, subst, inl, inr, Result, MatchResult}
+use Rattle.std.proofs.Common.{◌≡◌, ◌∙◌, ◌⊎◌, ℕ, Bool, true, false, List, Option, None, Some, Ok, Err, refl, sym, subst, inl, inr, Result, MatchResult}
 use Rattle.std.specs.Prelude.{IfNone, IfSome}
 use Rattle.mcv_base.specs.declared.operation.Op.{Op}
 use Rattle.mcv_net.specs.declared.loss.Loss.{Loss}
@@ -50,6 +50,13 @@ module _ {S X : Type 0} (contents remaining : S → Option (List ℕ)) (spells :
   pub goes_on_spelled : (op : Op) (over : Option (Written S)) (kept : Option S) (x : X) → GoesOn contents remaining spells text op over (Ok x) kept → (bytes : List ℕ) × spells bytes x
   goes_on_spelled op None kept x g = anew_spelled kept x g
   goes_on_spelled op (Some written) kept x g = once_more_spelled op (Finishes remaining spells written) (λ k y. finished_spelled written k y) kept x g
+
+  -- a leg that was lost over the kept connection is sent once more
+  pub goes_on_again : (op : Op) (written : Written S) (over : Option (Written S)) (loss : Loss) (then_kept kept : Option S) (result : Result X Loss)
+      → over ≡ Some written → Finishes remaining spells written (Err loss) then_kept → may_repeat op loss ≡ true → AsksAnew contents remaining spells text result kept
+      → GoesOn contents remaining spells text op over result kept
+  goes_on_again op written over loss then_kept kept result is f again a =
+      subst (λ o. GoesOn contents remaining spells text op o result kept) (sym is) (Err loss, then_kept, f, ((λ _. a), (λ never. absurd (let g : true ≡ false = sym again ∙ never in cc))))
 
   lost_writing : (a b : Option (List ℕ)) (loss : Loss) → Writes {X = Unit {0}} a b text (Err loss) → Writes {X = X} a b text (Err loss)
   lost_writing a b Unwritten w = w

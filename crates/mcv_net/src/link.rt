@@ -180,7 +180,6 @@ impl<D: Dial, N: Notices> TcpLink<D, N> {
     fn send_leg(&mut self, leg: &LegRequest) -> Result<Reply, Loss>
         ensures begun { IfSome self.old.begun (λ begun. GoesOn D.Stream.contents D.Stream.remaining (SpellsReply leg.now.op (arc_value leg.now.rest)) begun.text.items leg.now.op begun.over result self.new.kept) }
         ensures whole { IfNone self.old.begun (((result ≡ Err Loss.Memory) × (self.new.kept ≡ self.old.kept)) ⊎ Sends D.Stream.contents D.Stream.remaining (SpellsReply leg.now.op (arc_value leg.now.rest)) (leg_text (leg_value leg.now)) leg.now.op self.old.kept result self.new.kept) }
-        ensures done { self.new.begun ≡ None }
     {
         let Some(begun) = self.begun.take() else {
             return self.send_whole(leg);

@@ -532,10 +532,7 @@ fn dismiss<B: Ledger, T: Ledger, D: Disk, R: Threads + Wait>(
 }
 
 /// The records that are pending in these slots, each with its number, in the order of numbers.
-fn pending_records(
-    alloc: Global,
-    slots: &[Slot],
-) -> Result<Vec<(u64, SpoolRecord)>, AllocError>
+fn pending_records(alloc: Global, slots: &[Slot]) -> Result<Vec<(u64, SpoolRecord)>, AllocError>
     ensures { IfOk result (λ records. records.items ≡ numbered 0 slots.now) }
 {
     let mut records = Vec::new(alloc);
