@@ -391,8 +391,8 @@ impl<R: Wait + Clock + Copy + Drop + Send + 'static> Scene<R> {
 
     /// The same clients, of which the next one sends its first byte only once this is set.
     pub(crate) fn coming_with(mut self, sign: Arc<AtomicBool>) -> Scene<R> {
-        if let Some((client, _output)) = self.clients.last_mut() {
-            client.comes_with = Some(sign);
+        if let Some(next) = self.clients.last_mut() {
+            next.0.comes_with = Some(sign);
         }
         self
     }
