@@ -235,9 +235,9 @@ module _ (t u : whole.Plan) (y : Outcome) where
     hits_off off = ap (λ ls. hits t ++ ls) (ap (λ z. when_error z (hits u)) (sym is) ∙ when_error_off y (hits u) off) ∙ append-nil (hits t)
 
 -- of several of a search by misses nothing is acknowledged
-none_of : (t u : whole.Plan) (us : List whole.Plan) → acknowledged (fold whole.OnMiss (whole.OnMiss t u) us) ≡ []
+none_of : (t u : whole.Plan) (us : List whole.Plan) → acknowledged (fold (in_turn after.Miss) (in_turn after.Miss t u) us) ≡ []
 none_of t u [] = refl
-none_of t u (v ∷ us) = none_of (whole.OnMiss t u) v us
+none_of t u (v ∷ us) = none_of (in_turn after.Miss t u) v us
 
 module _ (children : List Plan) (first : Plan) (others : List Plan) (shape : children ≡ first ∷ others) where
   pub none_acknowledged : 0 < length others → acknowledged (turns_of after.Miss (map whole_of children)) ≡ []

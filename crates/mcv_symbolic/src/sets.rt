@@ -204,8 +204,10 @@ pub fn push_acknowledged<'a>(
         Plan::Reply(reply) => Ok(reply.outcome()),
         Plan::All(children) => push_acknowledged_of_all(children, legs),
         Plan::Beside(children) => push_acknowledged_beside(children, legs),
-        Plan::InTurn(After::Error, children) => push_acknowledged_on_error(children, legs),
-        Plan::InTurn(After::Miss, children) => push_acknowledged_on_miss(children, legs),
+        Plan::InTurn(after, children) => match after {
+            After::Error => push_acknowledged_on_error(children, legs),
+            After::Miss => push_acknowledged_on_miss(children, legs),
+        },
         Plan::OnHit(first, _) => Ok(reply_if_all(first, Outcome::Good)),
         Plan::Shadowed { .. } => Ok(Outcome::Error),
     }
@@ -244,8 +246,8 @@ fn push_acknowledged_beside<'a>(
         return Ok(Outcome::Error);
     };
     let reply = push_acknowledged(first, legs)?;
-    for child in others {
-        push_first_wave(child, legs)?;
+    for other in others {
+        push_first_wave(other, legs)?;
     }
     Ok(reply)
 }
@@ -262,14 +264,14 @@ fn push_acknowledged_on_error<'a>(
     let Some((first, others)) = children.split_first() else {
         return Ok(Outcome::Error);
     };
-    let mut reply = push_acknowledged(first, legs)?;
+    let mut last = push_acknowledged(first, legs)?;
     for child in others {
-        if !After::Error.goes_on(reply) {
-            return Ok(reply);
+        if !After::Error.goes_on(last) {
+            return Ok(last);
         }
-        reply = push_acknowledged(child, legs)?;
+        last = push_acknowledged(child, legs)?;
     }
-    Ok(reply)
+    Ok(last)
 }
 
 /// The same of a search by misses. No delete has one of several children: of these nothing is added.
@@ -322,8 +324,10 @@ pub fn push_hits<'a>(plan: &'a Plan, legs: &mut Vec<&'a PlannedLeg>) -> Result<O
         Plan::Reply(reply) => Ok(reply.outcome()),
         Plan::All(children) => push_hits_of_all(children, legs),
         Plan::Beside(children) => push_hits_of_first(children, legs),
-        Plan::InTurn(After::Error, children) => push_hits_on_error(children, legs),
-        Plan::InTurn(After::Miss, children) => push_hits_on_miss(children, legs),
+        Plan::InTurn(after, children) => match after {
+            After::Error => push_hits_on_error(children, legs),
+            After::Miss => push_hits_on_miss(children, legs),
+        },
         Plan::OnHit(first, _) => push_hits(first, legs),
         Plan::Shadowed { .. } => Ok(Outcome::Error),
     }
@@ -357,8 +361,8 @@ fn push_next_hits<'a>(
     start: usize,
     legs: &mut Vec<&'a PlannedLeg>,
 ) -> Result<Outcome, AllocError>
-    ensures legs { (before ones : List Leg) → start ≡ length before → map (λ l. leg_of l.now) legs.old.items ≡ before ++ ones
-        → OnOk result (map (λ l. leg_of l.now) legs.new.items ≡ before ++ of_both ones (hits (whole_of plan.now))) }
+    ensures legs { OnOk result ((before ones : List Leg) → start ≡ length before → map (λ l. leg_of l.now) legs.old.items ≡ before ++ ones
+        → map (λ l. leg_of l.now) legs.new.items ≡ before ++ of_both ones (hits (whole_of plan.now))) }
     ensures reply { IfOk result (λ x. x ≡ if_all Failed (whole_of plan.now)) }
 {
     let middle = legs.len();

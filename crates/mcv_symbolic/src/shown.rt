@@ -448,8 +448,8 @@ fn push_next_lead<'a>(
     leaf: &Position,
     legs: &mut Vec<LegAnswer<'a>>,
 ) -> Result<Lead, AllocError>
-    ensures { (so_far : Planned) (before : History) → IsLead (leading leaf.now so_far) (first_hit so_far) lead before (history_of legs.old.items)
-        → IfOk result (λ r. IsLead (leading leaf.now (Both so_far (whole_of next.now))) (first_hit (Both so_far (whole_of next.now))) r before (history_of legs.new.items)) }
+    ensures { IfOk result (λ r. (so_far : Planned) (before : History) → IsLead (leading leaf.now so_far) (first_hit so_far) lead before (history_of legs.old.items)
+        → IsLead (leading leaf.now (Both so_far (whole_of next.now))) (first_hit (Both so_far (whole_of next.now))) r before (history_of legs.new.items)) }
 {
     match lead {
         Lead::Led => {

@@ -25,13 +25,13 @@ pub push_acknowledged-returns-in-Beside : goal.push_acknowledged-returns-in-Besi
 push_acknowledged-returns-in-Beside t c =
     rw (c.in-Beside.is, part-Beside c.in-Beside.children) (rw c.deref-in-Beside.ensures.value at c.push_acknowledged_beside.ensures)
 
-pub push_acknowledged-returns-in-InTurn-Error : goal.push_acknowledged-returns-in-InTurn-Error
-push_acknowledged-returns-in-InTurn-Error t c =
-    rw (c.in-InTurn-Error.is, part-InTurn after.Error c.in-InTurn-Error.children) (rw c.deref-in-InTurn-Error.ensures.value at c.push_acknowledged_on_error.ensures)
+pub push_acknowledged-returns-in-Error : goal.push_acknowledged-returns-in-Error
+push_acknowledged-returns-in-Error t c =
+    rw (c.in-InTurn.is, c.in-Error.is, part-InTurn after.Error c.in-InTurn.children) (rw c.deref-in-Error.ensures.value at c.push_acknowledged_on_error.ensures)
 
-pub push_acknowledged-returns-in-InTurn-Miss : goal.push_acknowledged-returns-in-InTurn-Miss
-push_acknowledged-returns-in-InTurn-Miss t c =
-    rw (c.in-InTurn-Miss.is, part-InTurn after.Miss c.in-InTurn-Miss.children) (rw c.deref-in-InTurn-Miss.ensures.value at c.push_acknowledged_on_miss.ensures)
+pub push_acknowledged-returns-in-Miss : goal.push_acknowledged-returns-in-Miss
+push_acknowledged-returns-in-Miss t c =
+    rw (c.in-InTurn.is, c.in-Miss.is, part-InTurn after.Miss c.in-InTurn.children) (rw c.deref-in-Miss.ensures.value at c.push_acknowledged_on_miss.ensures)
 
 -- ---- all at once
 
@@ -63,24 +63,24 @@ push_acknowledged_of_all-returns t c =
 
 -- ---- beside
 
-pub push_acknowledged_beside-loop-child-init : goal.push_acknowledged_beside-loop-child-init
-push_acknowledged_beside-loop-child-init t c =
+pub push_acknowledged_beside-loop-other-init : goal.push_acknowledged_beside-loop-other-init
+push_acknowledged_beside-loop-other-init t c =
     let shape : c.args.children.now ≡ c.in-Some.first.now ∷ c.in-Some.others.now = search rules in
     c.in_ok-reply.ensures.legs ∙ ap (λ t. shown c.args.legs.now.items ++ acknowledged t) (sym (led_begun c.args.children.now c.in-Some.first.now c.in-Some.others.now shape))
 
-pub push_acknowledged_beside-loop-child-preserved : goal.push_acknowledged_beside-loop-child-preserved
-push_acknowledged_beside-loop-child-preserved t c =
+pub push_acknowledged_beside-loop-other-preserved : goal.push_acknowledged_beside-loop-other-preserved
+push_acknowledged_beside-loop-other-preserved t c =
     let shape : c.args.children.now ≡ c.in-Some.first.now ∷ c.in-Some.others.now = search rules in
-    let t = led_so_far c.args.children.now c.in-Some.first.now c.in-Some.others.now shape c.loop-child.child-index in
-    let y = part_of c.child-item.result in
-    grown (shown c.args.legs.now.items) (shown c.loop-child.legs.items) (shown c.push_first_wave.new.legs.items) (acknowledged t) (counted (alone y) nothing) (acknowledged (beside t y)) c.loop-child.invariant c.in_ok-push_first_wave.ensures.legs (acknowledged_beside t y)
-    ∙ ap (λ t. shown c.args.legs.now.items ++ acknowledged t) (sym (led_more c.args.children.now c.in-Some.first.now c.in-Some.others.now shape c.loop-child.child-index c.child-item.result c.loop-child-test.true c.child-item.is))
+    let t = led_so_far c.args.children.now c.in-Some.first.now c.in-Some.others.now shape c.loop-other.other-index in
+    let y = part_of c.other-item.result in
+    grown (shown c.args.legs.now.items) (shown c.loop-other.legs.items) (shown c.push_first_wave.new.legs.items) (acknowledged t) (counted (alone y) nothing) (acknowledged (beside t y)) c.loop-other.invariant c.in_ok-push_first_wave.ensures.legs (acknowledged_beside t y)
+    ∙ ap (λ t. shown c.args.legs.now.items ++ acknowledged t) (sym (led_more c.args.children.now c.in-Some.first.now c.in-Some.others.now shape c.loop-other.other-index c.other-item.result c.loop-other-test.true c.other-item.is))
 
 pub push_acknowledged_beside-returns : goal.push_acknowledged_beside-returns
 push_acknowledged_beside-returns t c =
     let shape : c.args.children.now ≡ c.in-Some.first.now ∷ c.in-Some.others.now = search rules in
     record {
-      legs = c.loop-child.invariant ∙ ap (λ t. shown c.args.legs.now.items ++ acknowledged t) (led_ended c.args.children.now c.in-Some.first.now c.in-Some.others.now shape c.loop-child.child-index c.loop-child-test.false);
+      legs = c.loop-other.invariant ∙ ap (λ t. shown c.args.legs.now.items ++ acknowledged t) (led_ended c.args.children.now c.in-Some.first.now c.in-Some.others.now shape c.loop-other.other-index c.loop-other-test.false);
       reply = c.in_ok-reply.ensures.reply ∙ sym (led_first (λ t. if_all Good t) (if_all_beside Good) c.args.children.now c.in-Some.first.now (first_is shape) (first_there shape));
     }
 
@@ -90,16 +90,16 @@ pub push_acknowledged_on_error-loop-child-init : goal.push_acknowledged_on_error
 push_acknowledged_on_error-loop-child-init t c =
     let shape : c.args.children.now ≡ c.in-Some.first.now ∷ c.in-Some.others.now = search rules in
     let is = sym (begun c.args.children.now c.in-Some.first.now c.in-Some.others.now shape (in_turn after.Error)) in
-    record { legs = c.in_ok-reply.ensures.legs ∙ ap (λ t. shown c.args.legs.now.items ++ acknowledged t) is; reply = c.in_ok-reply.ensures.reply ∙ ap (λ t. if_all Good t) is }
+    record { legs = c.in_ok-last.ensures.legs ∙ ap (λ t. shown c.args.legs.now.items ++ acknowledged t) is; reply = c.in_ok-last.ensures.reply ∙ ap (λ t. if_all Good t) is }
 
 pub push_acknowledged_on_error-loop-child-preserved : goal.push_acknowledged_on_error-loop-child-preserved
 push_acknowledged_on_error-loop-child-preserved t c =
     let shape : c.args.children.now ≡ c.in-Some.first.now ∷ c.in-Some.others.now = search rules in
     let t = so_far c.args.children.now c.in-Some.first.now c.in-Some.others.now shape (in_turn after.Error) c.loop-child.child-index in
     let u = whole_of c.child-item.result in
-    let y = c.loop-child.reply in
+    let y = c.loop-child.last in
     let here = c.loop-child.invariant in
-    let next = c.in_ok-reply-2.ensures in
+    let next = c.in_ok-last-2.ensures in
     let on : goes_on after.Error y ≡ true = sym c.goes_on.ensures ∙ c.if-not-goes_on.false in
     let is = sym (one_more c.args.children.now c.in-Some.first.now c.in-Some.others.now shape (in_turn after.Error) c.loop-child.child-index c.child-item.result c.loop-child-test.true c.child-item.is) in
     record {
@@ -110,11 +110,10 @@ push_acknowledged_on_error-loop-child-preserved t c =
 pub push_acknowledged_on_error-returns-then-not-goes_on : goal.push_acknowledged_on_error-returns-then-not-goes_on
 push_acknowledged_on_error-returns-then-not-goes_on t c =
     let shape : c.args.children.now ≡ c.in-Some.first.now ∷ c.in-Some.others.now = search rules in
-    let y = c.loop-child.reply in
+    let y = c.loop-child.last in
     let here = c.loop-child.invariant in
     let off : goes_on after.Error y ≡ false = sym c.goes_on.ensures ∙ c.if-not-goes_on.true in
-    let reply = λ (t u : Plan) (is : y ≡ if_all Good t). is ∙ sym (reply_off after.Error t u Good y is off) in
-    let all = stopped c.args.children.now c.in-Some.first.now c.in-Some.others.now shape (in_turn after.Error) (λ t. (shown c.loop-child.legs.items ≡ shown c.args.legs.now.items ++ acknowledged t) × (y ≡ if_all Good t)) (λ t u h. (ungrown (shown c.args.legs.now.items) (shown c.loop-child.legs.items) (acknowledged t) (acknowledged ((in_turn after.Error) t u)) h.0 (acknowledged_off t u y h.1 off), reply t u h.1)) c.loop-child.child-index (here.legs, here.reply) in
+    let all = stopped c.args.children.now c.in-Some.first.now c.in-Some.others.now shape (in_turn after.Error) (λ t. (shown c.loop-child.legs.items ≡ shown c.args.legs.now.items ++ acknowledged t) × (y ≡ if_all Good t)) (λ t u h. (ungrown (shown c.args.legs.now.items) (shown c.loop-child.legs.items) (acknowledged t) (acknowledged ((in_turn after.Error) t u)) h.0 (acknowledged_off t u y h.1 off), h.1 ∙ sym (reply_off after.Error t u Good y h.1 off))) c.loop-child.child-index (here.legs, here.reply) in
     record { legs = all.0; reply = all.1 }
 
 pub push_acknowledged_on_error-returns : goal.push_acknowledged_on_error-returns

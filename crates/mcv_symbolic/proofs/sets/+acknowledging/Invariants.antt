@@ -20,15 +20,15 @@ invariant-push_acknowledged_of_all-loop-child l =
       reply : l.reply ≡ if_all Good so_far;
     }
 
-abbrev pub invariant-push_acknowledged_beside-loop-child : goal.invariant-push_acknowledged_beside-loop-child
-invariant-push_acknowledged_beside-loop-child l = shown l.legs.items ≡ shown l.fn.legs.items ++ acknowledged (led_by (map part_of (take (suc l.child-index) l.fn.children)))
+abbrev pub invariant-push_acknowledged_beside-loop-other : goal.invariant-push_acknowledged_beside-loop-other
+invariant-push_acknowledged_beside-loop-other l = shown l.legs.items ≡ shown l.fn.legs.items ++ acknowledged (led_by (map part_of (take (suc l.other-index) l.fn.children)))
 
 abbrev pub invariant-push_acknowledged_on_error-loop-child : goal.invariant-push_acknowledged_on_error-loop-child
 invariant-push_acknowledged_on_error-loop-child l =
     let so_far = turns_of after.Error (map whole_of (take (suc l.child-index) l.fn.children)) in
     record {
       legs : shown l.legs.items ≡ shown l.fn.legs.items ++ acknowledged so_far;
-      reply : l.reply ≡ if_all Good so_far;
+      reply : l.last ≡ if_all Good so_far;
     }
 
 abbrev pub decreases-push_acknowledged : goal.decreases-push_acknowledged

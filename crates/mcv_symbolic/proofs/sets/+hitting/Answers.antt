@@ -26,17 +26,17 @@ pub push_hits-returns-in-Beside : goal.push_hits-returns-in-Beside
 push_hits-returns-in-Beside t c =
     rw (c.in-Beside.is, part-Beside c.in-Beside.children) (rw c.deref-in-Beside.ensures.value at c.push_hits_of_first.ensures)
 
-pub push_hits-returns-in-InTurn-Error : goal.push_hits-returns-in-InTurn-Error
-push_hits-returns-in-InTurn-Error t c =
-    rw (c.in-InTurn-Error.is, part-InTurn after.Error c.in-InTurn-Error.children) (rw c.deref-in-InTurn-Error.ensures.value at c.push_hits_on_error.ensures)
+pub push_hits-returns-in-Error : goal.push_hits-returns-in-Error
+push_hits-returns-in-Error t c =
+    rw (c.in-InTurn.is, c.in-Error.is, part-InTurn after.Error c.in-InTurn.children) (rw c.deref-in-Error.ensures.value at c.push_hits_on_error.ensures)
 
-pub push_hits-returns-in-InTurn-Miss : goal.push_hits-returns-in-InTurn-Miss
-push_hits-returns-in-InTurn-Miss t c =
-    rw (c.in-InTurn-Miss.is, part-InTurn after.Miss c.in-InTurn-Miss.children) (rw c.deref-in-InTurn-Miss.ensures.value at c.push_hits_on_miss.ensures)
+pub push_hits-returns-in-Miss : goal.push_hits-returns-in-Miss
+push_hits-returns-in-Miss t c =
+    rw (c.in-InTurn.is, c.in-Miss.is, part-InTurn after.Miss c.in-InTurn.children) (rw c.deref-in-Miss.ensures.value at c.push_hits_on_miss.ensures)
 
 pub push_hits-returns-in-OnHit : goal.push_hits-returns-in-OnHit
 push_hits-returns-in-OnHit t c =
-    rw (c.in-OnHit.is, part-OnHit c.in-OnHit.first _) (rw c.deref-in-OnHit.ensures at c.push_hits.ensures)
+    rw (c.in-OnHit.is, part-OnHit c.in-OnHit.first c.in-OnHit.field-1) (rw c.deref-in-OnHit.ensures at c.push_hits.ensures)
 
 -- ---- all at once
 
@@ -126,8 +126,7 @@ push_hits_on_error-returns-then-not-goes_on t c =
     let y = c.loop-child.reply in
     let here = c.loop-child.invariant in
     let off : goes_on after.Error y ≡ false = sym c.goes_on.ensures ∙ c.if-not-goes_on.true in
-    let reply = λ (t u : Plan) (is : y ≡ if_all Error t). is ∙ sym (reply_off after.Error t u Error y is off) in
-    let all = stopped c.args.children.now c.in-Some.first.now c.in-Some.others.now shape (in_turn after.Error) (λ t. (shown c.loop-child.legs.items ≡ shown c.args.legs.now.items ++ hits t) × (y ≡ if_all Error t)) (λ t u h. (ungrown (shown c.args.legs.now.items) (shown c.loop-child.legs.items) (hits t) (hits ((in_turn after.Error) t u)) h.0 (hits_off t u y h.1 off), reply t u h.1)) c.loop-child.child-index (here.legs, here.reply) in
+    let all = stopped c.args.children.now c.in-Some.first.now c.in-Some.others.now shape (in_turn after.Error) (λ t. (shown c.loop-child.legs.items ≡ shown c.args.legs.now.items ++ hits t) × (y ≡ if_all Error t)) (λ t u h. (ungrown (shown c.args.legs.now.items) (shown c.loop-child.legs.items) (hits t) (hits ((in_turn after.Error) t u)) h.0 (hits_off t u y h.1 off), h.1 ∙ sym (reply_off after.Error t u Error y h.1 off))) c.loop-child.child-index (here.legs, here.reply) in
     record { legs = all.0; reply = all.1 }
 
 pub push_hits_on_error-returns : goal.push_hits_on_error-returns

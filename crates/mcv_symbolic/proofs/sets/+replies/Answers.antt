@@ -21,7 +21,7 @@ reply_if_all-returns-in-InTurn t c =
     rw (c.in-InTurn.is, part-InTurn c.in-InTurn.after c.in-InTurn.children) (rw c.deref-in-InTurn.ensures.value at c.last_if_all.ensures)
 
 pub reply_if_all-returns-in-OnHit : goal.reply_if_all-returns-in-OnHit
-reply_if_all-returns-in-OnHit t c = rw (c.in-OnHit.is, part-OnHit c.in-OnHit.first _) (rw c.deref-in-OnHit.ensures at c.reply_if_all.ensures)
+reply_if_all-returns-in-OnHit t c = rw (c.in-OnHit.is, part-OnHit c.in-OnHit.first c.in-OnHit.field-1) (rw c.deref-in-OnHit.ensures at c.reply_if_all.ensures)
 
 -- ---- all at once
 

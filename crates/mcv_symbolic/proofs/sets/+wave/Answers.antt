@@ -67,7 +67,7 @@ push_wave_beside-loop-child-preserved t c =
     let shape : c.args.children.now ≡ c.in-Some.first.now ∷ c.in-Some.others.now = search rules in
     let t = led_so_far c.args.children.now c.in-Some.first.now c.in-Some.others.now shape c.loop-child.child-index in
     let y = part_of c.child-item.result in
-    grown (shown c.args.legs.now.items) (shown c.loop-child.legs.items) (shown c.push_first_wave-in-loop-child.new.legs.items) (counted t nothing) (counted (alone y) nothing) (counted (beside t y) nothing) c.loop-child.invariant c.in_ok-push_first_wave-in-loop-child.ensures.legs (counted_beside t y)
+    grown (shown c.args.legs.now.items) (shown c.loop-child.legs.items) (shown c.push_first_wave-in-loop-child.new.legs.items) (counted t nothing) (counted (alone y) nothing) (counted (beside t y) nothing) c.loop-child.invariant c.in_ok-push_first_wave.ensures.legs (counted_beside t y)
     ∙ ap (λ t. shown c.args.legs.now.items ++ counted t nothing) (sym (led_more c.args.children.now c.in-Some.first.now c.in-Some.others.now shape c.loop-child.child-index c.child-item.result c.loop-child-test.true c.child-item.is))
 
 pub push_wave_beside-returns : goal.push_wave_beside-returns
@@ -107,8 +107,7 @@ push_wave_in_turn-returns-then-not-goes_on_after t c =
     let y = c.loop-child.reply in
     let here = c.loop-child.invariant in
     let off : goes_on_after c.args.after y ≡ false = sym c.goes_on_after.ensures ∙ c.if-not-goes_on_after.true in
-    let reply = λ (t u : Plan) (is : y ≡ reply t nothing). is ∙ sym (wave_off t u c.args.after y is off) in
-    let all = stopped c.args.children.now c.in-Some.first.now c.in-Some.others.now shape (in_turn c.args.after) (λ t. (shown c.loop-child.legs.items ≡ shown c.args.legs.now.items ++ counted t nothing) × (y ≡ reply t nothing)) (λ t u h. (ungrown (shown c.args.legs.now.items) (shown c.loop-child.legs.items) (counted t nothing) (counted ((in_turn c.args.after) t u) nothing) h.0 (counted_off t u c.args.after y h.1 off), reply t u h.1)) c.loop-child.child-index (here.legs, here.reply) in
+    let all = stopped c.args.children.now c.in-Some.first.now c.in-Some.others.now shape (in_turn c.args.after) (λ t. (shown c.loop-child.legs.items ≡ shown c.args.legs.now.items ++ counted t nothing) × (y ≡ reply t nothing)) (λ t u h. (ungrown (shown c.args.legs.now.items) (shown c.loop-child.legs.items) (counted t nothing) (counted ((in_turn c.args.after) t u) nothing) h.0 (counted_off t u c.args.after y h.1 off), h.1 ∙ sym (wave_off t u c.args.after y h.1 off))) c.loop-child.child-index (here.legs, here.reply) in
     record { legs = all.0; reply = all.1 }
 
 pub push_wave_in_turn-returns : goal.push_wave_in_turn-returns

@@ -25,7 +25,7 @@ push_answers-returns-in-InTurn t c =
 
 pub push_answers-returns-in-OnHit : goal.push_answers-returns-in-OnHit
 push_answers-returns-in-OnHit t c =
-    rw (c.in-OnHit.is, part-OnHit c.in-OnHit.first _) (rw c.deref-in-OnHit.ensures at c.push_answers.ensures)
+    rw (c.in-OnHit.is, part-OnHit c.in-OnHit.first c.in-OnHit.field-1) (rw c.deref-in-OnHit.ensures at c.push_answers.ensures)
 
 -- ---- all at once
 
@@ -97,8 +97,7 @@ push_answers_in_turn-returns-then-not-goes_on t c =
     let y = c.loop-child.reply in
     let here = c.loop-child.invariant in
     let off : goes_on c.args.after y ≡ false = sym c.goes_on.ensures ∙ c.if-not-goes_on.true in
-    let reply = λ (t u : Plan) (is : y ≡ if_all c.args.answer t). is ∙ sym (reply_off c.args.after t u c.args.answer y is off) in
-    let all = stopped c.args.children.now c.in-Some.first.now c.in-Some.others.now shape (in_turn c.args.after) (λ t. (history_of c.loop-child.legs.items ≡ history_of c.args.legs.now.items ++ answers c.args.answer t) × (y ≡ if_all c.args.answer t)) (λ t u h. (ungrown (history_of c.args.legs.now.items) (history_of c.loop-child.legs.items) (answers c.args.answer t) (answers c.args.answer ((in_turn c.args.after) t u)) h.0 (answers_off c.args.after t u c.args.answer y h.1 off), reply t u h.1)) c.loop-child.child-index (here.legs, here.reply) in
+    let all = stopped c.args.children.now c.in-Some.first.now c.in-Some.others.now shape (in_turn c.args.after) (λ t. (history_of c.loop-child.legs.items ≡ history_of c.args.legs.now.items ++ answers c.args.answer t) × (y ≡ if_all c.args.answer t)) (λ t u h. (ungrown (history_of c.args.legs.now.items) (history_of c.loop-child.legs.items) (answers c.args.answer t) (answers c.args.answer ((in_turn c.args.after) t u)) h.0 (answers_off c.args.after t u c.args.answer y h.1 off), h.1 ∙ sym (reply_off c.args.after t u c.args.answer y h.1 off))) c.loop-child.child-index (here.legs, here.reply) in
     record { legs = all.0; reply = all.1 }
 
 pub push_answers_in_turn-returns : goal.push_answers_in_turn-returns

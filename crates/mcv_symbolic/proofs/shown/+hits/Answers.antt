@@ -22,7 +22,7 @@ push_first_hit-returns-in-Beside t c =
 
 pub push_first_hit-returns-in-OnHit : goal.push_first_hit-returns-in-OnHit
 push_first_hit-returns-in-OnHit t c =
-    rw (c.in-OnHit.is, part-OnHit c.in-OnHit.first _) (rw c.deref-in-OnHit.ensures at c.push_first_hit.ensures)
+    rw (c.in-OnHit.is, part-OnHit c.in-OnHit.first c.in-OnHit.field-1) (rw c.deref-in-OnHit.ensures at c.push_first_hit.ensures)
 
 pub push_first_hit-returns-in_ok-push_hit_in_turn-in-InTurn : goal.push_first_hit-returns-in_ok-push_hit_in_turn-in-InTurn
 push_first_hit-returns-in_ok-push_hit_in_turn-in-InTurn t c =
@@ -76,7 +76,7 @@ push_hit_or_answers-returns-in-Beside t c =
 
 pub push_hit_or_answers-returns-in-OnHit : goal.push_hit_or_answers-returns-in-OnHit
 push_hit_or_answers-returns-in-OnHit t c =
-    rw (c.in-OnHit.is, part-OnHit c.in-OnHit.first _) (rw c.deref-in-OnHit.ensures at c.push_hit_or_answers.ensures)
+    rw (c.in-OnHit.is, part-OnHit c.in-OnHit.first c.in-OnHit.field-1) (rw c.deref-in-OnHit.ensures at c.push_hit_or_answers.ensures)
 
 pub push_hit_or_answers-returns-then-branch : goal.push_hit_or_answers-returns-then-branch
 push_hit_or_answers-returns-then-branch t c =

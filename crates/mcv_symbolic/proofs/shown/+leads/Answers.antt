@@ -1,7 +1,9 @@
 use Rattle.std.proofs.Common.{◌≡◌, [], ◌∷◌, ◌∙◌, append-nil, arith, false, length, refl, rules, subst, sym, true}
 use Rattle.std.proofs.lemmas.Result.{IfOk-weaker}
 use Rattle.mcv_base.specs.declared.reply.Outcome.TheVariants.{Error}
+use Rattle.mcv_route.specs.Outcomes.{History}
 use Rattle.mcv_rules.specs.Plan as whole
+use Rattle.mcv_rules.specs.Plan.{Plan}
 use Rattle.mcv_rules.specs.Whole.{in_turn, whole_of}
 use Rattle.mcv_rules.proofs.Whole.{part-All, part-Beside, part-OnHit}
 use Rattle.mcv_symbolic.specs.Shown.{answers, first_hit, history_of, leading}
@@ -23,7 +25,7 @@ push_lead-returns-in-Beside t c =
 
 pub push_lead-returns-in-OnHit : goal.push_lead-returns-in-OnHit
 push_lead-returns-in-OnHit t c =
-    rw (c.in-OnHit.is, part-OnHit c.in-OnHit.first _) (rw c.deref-in-OnHit.ensures at c.push_lead.ensures)
+    rw (c.in-OnHit.is, part-OnHit c.in-OnHit.first c.in-OnHit.field-1) (rw c.deref-in-OnHit.ensures at c.push_lead.ensures)
 
 pub push_lead-returns-in_ok-added-in-InTurn : goal.push_lead-returns-in_ok-added-in-InTurn
 push_lead-returns-in_ok-added-in-InTurn t c =
@@ -77,13 +79,13 @@ push_next_lead-returns-else-branch t c =
 
 pub push_next_lead-returns-in-Hit : goal.push_next_lead-returns-in-Hit
 push_next_lead-returns-in-Hit t c =
-    λ t before h.
     let p = c.args.leaf.now in
     let u = whole_of c.args.next.now in
     let mid = (history_of c.args.legs.now.items) in
     let new = history_of c.push_lead.new.legs.items in
-    IfOk-weaker c.push_lead.result (λ x. IsLead (leading p u) (first_hit u) x mid new) (λ x. IsLead (leading p (whole.Both t u)) (first_hit (whole.Both t u)) x before new)
-    (λ x v. both-hit p t u before mid (rw c.in-Hit.is at h) x new v) c.push_lead.ensures
+    IfOk-weaker c.push_lead.result (λ x. IsLead (leading p u) (first_hit u) x mid new)
+    (λ x. (t : Plan) (before : History) → IsLead (leading p t) (first_hit t) c.args.lead before mid → IsLead (leading p (whole.Both t u)) (first_hit (whole.Both t u)) x before new)
+    (λ x v. λ t before h. both-hit p t u before mid (rw c.in-Hit.is at h) x new v) c.push_lead.ensures
 
 pub push_next_lead-returns-in-Neither : goal.push_next_lead-returns-in-Neither
 push_next_lead-returns-in-Neither t c =
@@ -97,7 +99,7 @@ push_leading-returns-in-Beside t c =
 
 pub push_leading-returns-in-OnHit : goal.push_leading-returns-in-OnHit
 push_leading-returns-in-OnHit t c =
-    rw (c.in-OnHit.is, part-OnHit c.in-OnHit.first _) (rw c.deref-in-OnHit.ensures at c.push_leading.ensures)
+    rw (c.in-OnHit.is, part-OnHit c.in-OnHit.first c.in-OnHit.field-1) (rw c.deref-in-OnHit.ensures at c.push_leading.ensures)
 
 pub push_leading-returns-in-Led : goal.push_leading-returns-in-Led
 push_leading-returns-in-Led t c =
