@@ -25,7 +25,7 @@ use Rattle.mcv_route.specs.Launched.{launched, launched_each}
 use Rattle.mcv_route.specs.Reply as definition
 use Rattle.mcv_route.specs.Reply.{reply, came, arrival, arrivals, last_worse, is_waiting}
 use Rattle.mcv_rules.specs.Plan as planned
-use Rattle.mcv_rules.specs.Places.{are_plain, is_plain, kind_of, places_of}
+use Rattle.mcv_rules.specs.Places.{are_plain, kind_of, places_of}
 use Rattle.mcv_rules.specs.Plans.{plan, plan_each}
 use Rattle.mcv_rules.specs.Sound.{positions}
 use Rattle.mcv_rules.specs.Whole.{all_of, alone, part, whole_of}

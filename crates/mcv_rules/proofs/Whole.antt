@@ -1,5 +1,5 @@
 -- The normal form of a plan in memory, one level at a time.
-use Rattle.std.proofs.Common.{◌≡◌, ℕ, ◌∙◌, ap, map, Vec, Box, Global, List, rules}
+use Rattle.std.proofs.Common.{◌≡◌, ℕ, ◌∙◌, ap, map, Vec, Box, Global, rules}
 use Rattle.std.proofs.lemmas.Simd.{map-map}
 use Rattle.mcv_base.specs.declared.reply.FixedReply.{FixedReply}
 use Rattle.mcv_base.specs.Reply.{fixed_value, outcome_of}
