@@ -153,6 +153,15 @@ take_all [] (suc n) is = refl
 take_all (x ∷ word) zero is = absurd (let h : ⊥ = omega arith in h)
 take_all (x ∷ word) (suc n) is = ap (λ xs. x ∷ xs) (take_all word n (omega arith))
 
+-- nothing is behind the last byte
+pub drop_whole : (xs : List ℕ) → drop (length xs) xs ≡ []
+drop_whole [] = refl
+drop_whole (x ∷ xs) = drop_whole xs
+
+-- what is behind a part of a key word is one, where there is something
+pub rest_is_key : (word : List ℕ) (n : ℕ) → length word ≤ 250 → list_all is_key_byte word ≡ true → n < length word → is_key_word (drop n word) ≡ true
+rest_is_key word n short all low = key_word_of (drop n word) (omega (arith, length-drop n word, low)) (omega (arith, length-drop n word, short)) (all_behind n word all)
+
 pub no_rest_behind : (word : List ℕ) (r : Option ℕ) (cut : ℕ) → MatchOption r (IsUnrouted word) (λ n. IsRoutingPrefix (take n word)) → MatchOption r ⊤ (λ n. n ≤ length word)
     → cut ≡ unwrap_or r 0 → 0 < length word → length word ≤ 250 → list_all is_key_byte word ≡ true → is_key_word (drop cut word) ≡ false
     → (is_key_word word ≡ true) × IsRoutingPrefix word
