@@ -4,7 +4,7 @@ import subprocess
 
 from pymemcache.client.base import Client as Pymemcache
 
-from parts import LIMIT, Failed, address_of, answer, case, deletes_to_all, expect, one_pool, value_answer
+from parts import LIMIT, Failed, address_of, answer, case, deletes_to_all, expect, one_pool, shown, value_answer
 from relays import ANSWERED, HANDED_ON, Relay
 
 # memccapable's cases of the ten operations and of version. Left out are those of commands that mcv hasn't (incr, decr,
@@ -142,3 +142,20 @@ def memccp_memccat_and_memcrm(machine):
     for name in files:
         for server in servers:
             expect(answer(server, b"get %s\r\n" % name.encode()), b"END\r\n", "after memcrm")
+
+
+@case()
+def memctouch_and_memcexist(machine):
+    servers = machine.servers(2)
+    mcv = machine.mcv(deletes_to_all(servers))
+    with mcv.client() as client:
+        client.ask(b"set a 0 0 1\r\nx\r\n", b"STORED\r\n")
+    for name, words, done in [
+        ("memctouch", ["--expire=1000", "a"], True),
+        ("memctouch", ["--expire=1000", "none"], False),
+        ("memcexist", ["a"], True),
+        ("memcexist", ["none"], False),
+    ]:
+        status, printed, errors = tool(mcv, name, *words)
+        if (status == 0) != done:
+            raise Failed("%s %s ends with %d: %s" % (name, words, status, shown(printed + errors)))
