@@ -21,7 +21,7 @@ pub struct LegAnswer<'a> {
     pub outcome: Outcome,
 }
 
-/// Adds the answers by which the plan has its reply where each leg that it needs answers so; tells the reply.
+/// Adds the answers by which the plan has its reply where each leg that it needs answers so; reports the reply.
 #[cycle(answering)]
 pub fn push_answers<'a>(
     plan: &'a Plan,
@@ -179,7 +179,7 @@ fn settled<'a>(
 
 // ---- the first hit
 
-/// Adds the answers by which the first leg that can hit hits; tells whether there is one. Where there is none, some
+/// Adds the answers by which the first leg that can hit hits; reports whether there is one. Where there is none, some
 /// answers may have been added.
 #[cycle(hits)]
 pub fn push_first_hit<'a>(plan: &'a Plan, legs: &mut Vec<LegAnswer<'a>>) -> Result<bool, AllocError>
@@ -202,7 +202,7 @@ pub fn push_first_hit<'a>(plan: &'a Plan, legs: &mut Vec<LegAnswer<'a>>) -> Resu
     }
 }
 
-/// Adds the answers by which all hit; tells whether all can.
+/// Adds the answers by which all hit; reports whether all can.
 #[cycle(hits)]
 fn push_all_hits<'a>(
     children: &'a [Plan],
@@ -385,7 +385,7 @@ fn push_lead<'a>(
     }
 }
 
-/// Adds a hit of the leg; tells whether it is the one at the position.
+/// Adds a hit of the leg; reports whether it is the one at the position.
 fn push_leg<'a>(
     leg: &'a PlannedLeg,
     leaf: &Position,
