@@ -47,6 +47,13 @@ fn moving(alloc: Global) -> Result<Route, AllocError> {
     migration(alloc, from, pool_of(alloc, 1)?, 100, 10)
 }
 
+/// A MissFailoverRoute of so many pools, which is sent and not waited for.
+fn async_miss_failover(alloc: Global, count: u32) -> Result<Route, AllocError> {
+    let mut children = Vec::new(alloc);
+    children.push(Route::MissFailover(pools(alloc, count)?))?;
+    Ok(Route::AllAsync(children))
+}
+
 /// The route that a row's first word names; behind a dot the number of its children, where they aren't two.
 fn route_of(alloc: Global, word: &str) -> Result<Route, Fail> {
     let (name, count) = word.split_once('.').unwrap_or((word, "2"));
@@ -58,6 +65,7 @@ fn route_of(alloc: Global, word: &str) -> Result<Route, Fail> {
         "async" => Route::AllAsync(pools(alloc, count)?),
         "failover" => Route::Failover(pools(alloc, count)?),
         "miss_failover" => Route::MissFailover(pools(alloc, count)?),
+        "async_miss_failover" => async_miss_failover(alloc, count)?,
         "warm_up" => filling(alloc)?,
         "migrate" => moving(alloc)?,
         _ => Route::Error,
@@ -286,6 +294,22 @@ fn are_launched(state: &EvalState, known: &[Option<Outcome>], launched: &[bool])
     !state.is_launched(known, launched.len())
 }
 
+/// Takes in the outcome of a leg. The result: whether the legs that were fresh so far are those that are launched.
+fn takes_in(
+    state: &mut EvalState,
+    known: &mut Vec<Option<Outcome>>,
+    launched: &mut Vec<bool>,
+    entry: usize,
+    outcome: Outcome,
+) -> bool {
+    if entry < state.legs() && entry < known.len() {
+        state.advance(entry, outcome);
+        known[entry] = Some(outcome);
+    }
+    mark_fresh(state, launched);
+    are_launched(state, known.as_slice(), launched.as_slice())
+}
+
 /// Takes in each outcome. The result: whether the legs that were fresh so far were those that are launched, each time.
 fn goes_on(
     state: &mut EvalState,
@@ -296,12 +320,7 @@ fn goes_on(
     let mut well = true;
     for word in outcomes.split(' ') {
         let (entry, outcome) = outcome(word)?;
-        if entry < state.legs() && entry < known.len() {
-            state.advance(entry, outcome);
-            known[entry] = Some(outcome);
-        }
-        mark_fresh(state, launched);
-        well = well && are_launched(state, known.as_slice(), launched.as_slice());
+        well = takes_in(state, known, launched, entry, outcome) && well;
     }
     Ok(well)
 }
@@ -331,6 +350,74 @@ fn what_was_fresh_is_launched(rt: HostRuntime) -> Result<(), Fail> {
         let (asked, outcomes) = row.split_once(": ").ok_or("no row")?;
         let plan = planned(rt.alloc(), asked)?;
         assert!(rt; agrees(rt.alloc(), &plan, outcomes)?, "{row}");
+    }
+    Ok(())
+}
+
+/// Routes of at most four legs, each with an operation and a break.
+const ORDERED: &str = "\
+sync.4 delete -
+initial.4 delete -
+failover.4 get -
+miss_failover.4 get -
+async_miss_failover.4 get -
+warm_up get -
+shadowed delete -
+migrate delete 105";
+
+/// Of the legs that are launched and have no outcome, the one with so many before it.
+fn awaited(known: &[Option<Outcome>], launched: &[bool], before: usize) -> Option<usize> {
+    let mut left = before;
+    for (entry, mark) in launched.iter().enumerate() {
+        if *mark && known.get(entry).copied() == Some(None) {
+            if left == 0 {
+                return Some(entry);
+            }
+            left -= 1;
+        }
+    }
+    None
+}
+
+fn outcome_of(digit: usize) -> Outcome {
+    match digit {
+        0 => Outcome::Good,
+        1 => Outcome::Soft,
+        _ => Outcome::Error,
+    }
+}
+
+/// Outcomes as the order's digits say: for each a leg among those awaited, of four, three, two and one, and one of three
+/// outcomes. The result: whether the legs that were fresh so far were those that are launched, each time.
+fn agrees_in_order(alloc: Global, plan: &Plan, order: usize) -> Result<bool, Fail> {
+    let (mut state, entries) = state_of(alloc, plan)?;
+    let mut known: Vec<Option<Outcome>> = vec![in alloc; None; entries.len()]?;
+    let mut launched = vec![in alloc; false; entries.len()]?;
+    mark_fresh(&state, &mut launched);
+    let mut well = are_launched(&state, &known, &launched);
+    let mut digits = order;
+    for done in 0..4 {
+        let legs = 4 - done;
+        let leg = digits % legs;
+        let outcome = outcome_of(digits / legs % 3);
+        digits = digits / legs / 3;
+        if let Some(entry) = awaited(&known, &launched, leg) {
+            well = takes_in(&mut state, &mut known, &mut launched, entry, outcome) && well;
+        }
+    }
+    Ok(well)
+}
+
+#[test]
+fn what_was_fresh_is_launched_in_every_order(rt: HostRuntime) -> Result<(), Fail> {
+    for row in ORDERED.lines() {
+        let plan = planned(rt.alloc(), row)?;
+        for order in 0..12 * 9 * 6 * 3 {
+            assert!(rt;
+                agrees_in_order(rt.alloc(), &plan, order)?,
+                "{row}: {order}"
+            );
+        }
     }
     Ok(())
 }

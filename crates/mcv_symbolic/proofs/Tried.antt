@@ -9,11 +9,12 @@ use Rattle.mcv_base.specs.declared.reply.Outcome.TheVariants.{Good, Soft, Error}
 use Rattle.mcv_route.specs.Outcomes.{History}
 use Rattle.mcv_rules.specs.Arrivals.{goes_on}
 use Rattle.mcv_rules.specs.Plan.{Plan, Send, Reply, Both, Beside, OnError, OnMiss, OnHit, Shadowed}
+use Rattle.mcv_rules.specs.Whole.{in_turn}
 use Rattle.mcv_rules.specs.declared.arrival.After.{After}
 use Rattle.mcv_rules.specs.declared.arrival.After.TheVariants as after
 use Rattle.mcv_symbolic.specs.Shown.{also, answers, first_hit, history_of, leading, one_after_other, or_else}
 use Rattle.mcv_symbolic.specs.Structure.{after_error, after_miss, if_all}
-use Rattle.mcv_symbolic.specs.Tried.{IsAdded, IsLead, IsTried, in_turn, is_hit, passed_on}
+use Rattle.mcv_symbolic.specs.Tried.{IsAdded, IsLead, IsTried, goes_on_after, is_hit, passed_on}
 use Rattle.mcv_symbolic.specs.declared.shown.Added.{Added}
 use Rattle.mcv_symbolic.specs.declared.shown.Added.TheVariants as added
 use Rattle.mcv_symbolic.specs.declared.shown.Lead.{Lead}
@@ -106,7 +107,7 @@ behind-added (Some fs) es others y x old mid new is t = (t.0, behind old mid new
 abbrev in_second : (Plan → Option History) → After → Plan → Plan → Option History
 in_second find w t u = or_else (find t) (if goes_on w (if_all (passed_on w) t) then also (answers (passed_on w) t) (find u) else None)
 
-answers-in_turn : (x : Outcome) (w : After) (t u : Plan) → answers x (in_turn w t u) ≡ answers x t ++ (if goes_on w (if_all x t) then answers x u else [])
+pub answers-in_turn : (x : Outcome) (w : After) (t u : Plan) → answers x (in_turn w t u) ≡ answers x t ++ (if goes_on w (if_all x t) then answers x u else [])
 answers-in_turn x after.Error t u = refl
 answers-in_turn x after.Miss t u = refl
 
@@ -120,7 +121,7 @@ reply-miss Good z = refl
 reply-miss Soft z = refl
 reply-miss Error z = refl
 
-reply-in_turn : (x : Outcome) (w : After) (t u : Plan) → if_all x (in_turn w t u) ≡ (if goes_on w (if_all x t) then if_all x u else if_all x t)
+pub reply-in_turn : (x : Outcome) (w : After) (t u : Plan) → if_all x (in_turn w t u) ≡ (if goes_on w (if_all x t) then if_all x u else if_all x t)
 reply-in_turn x after.Error t u = reply-error (if_all x t) (if_all x u)
 reply-in_turn x after.Miss t u = reply-miss (if_all x t) (if_all x u)
 
@@ -162,6 +163,16 @@ module _ (find : Plan → Option History) (law : (w : After) (t u : Plan) → fi
         let reply : if_all passing (in_turn w t u) ≡ if_all passing t = reply-in_turn passing w t u ∙ ap (λ (g : Bool). if g then if_all passing u else if_all passing t) go in
         as-added None (find (in_turn w t u)) (answers passing t) (answers passing (in_turn w t u)) (if_all passing t) (if_all passing (in_turn w t u)) (added.Alike r) old mid (sym whole) (sym all) (sym reply)
         (ap added.Alike m.reply, m.new_is)
+
+-- one more, where the search goes on, and where it has ended
+module _ (find : Plan → Option History) (law : (w : After) (t u : Plan) → find (in_turn w t u) ≡ in_second find w t u) (w : After) (t u : Plan) (old mid : History) where
+  pub turn-next : (x : Added) → goes_on_after w x ≡ true → IsAddedIn find w t x old mid → (y : Added) (new : History) → IsAddedIn find w u y mid new → IsAddedIn find w (in_turn w t u) y old new
+  turn-next added.Hit on a y new b = absurd (false≢true on)
+  turn-next (added.Alike r) on a y new b = turn-on find law w t u old mid r a on y new b
+
+  pub turn-ended : (x : Added) → goes_on_after w x ≡ false → IsAddedIn find w t x old mid → IsAddedIn find w (in_turn w t u) x old mid
+  turn-ended added.Hit off a = turn-hit find law w t u old mid a
+  turn-ended (added.Alike r) off a = turn-stop find law w t u old mid r a off
 
 pub hit-in_turn : (w : After) (t u : Plan) → first_hit (in_turn w t u) ≡ in_second first_hit w t u
 hit-in_turn after.Error t u = refl

@@ -3,18 +3,13 @@ use Rattle.std.specs.Prelude.{◌≡◌, Bool, true, false, ◌++◌, Option, So
 use Rattle.mcv_base.specs.declared.reply.Outcome.{Outcome}
 use Rattle.mcv_base.specs.declared.reply.Outcome.TheVariants.{Soft, Error}
 use Rattle.mcv_route.specs.Outcomes.{History}
-use Rattle.mcv_rules.specs.Plan.{Plan, OnError, OnMiss}
+use Rattle.mcv_rules.specs.Arrivals.{goes_on}
 use Rattle.mcv_rules.specs.declared.arrival.After.{After}
 use Rattle.mcv_rules.specs.declared.arrival.After.TheVariants as after
 use Rattle.mcv_symbolic.specs.declared.shown.Added.{Added}
 use Rattle.mcv_symbolic.specs.declared.shown.Added.TheVariants as added
 use Rattle.mcv_symbolic.specs.declared.shown.Lead.{Lead}
 use Rattle.mcv_symbolic.specs.declared.shown.Lead.TheVariants as lead
-
--- a search among two
-abbrev pub in_turn : After → Plan → Plan → Plan
-in_turn after.Error t u = OnError t u
-in_turn after.Miss t u = OnMiss t u
 
 -- the answer of each leg by which a search goes on as far as it can
 abbrev pub passed_on : After → Outcome
@@ -24,6 +19,11 @@ passed_on after.Miss = Soft
 abbrev pub is_hit : Added → Bool
 is_hit added.Hit = true
 is_hit (added.Alike y) = false
+
+-- whether a search goes on
+abbrev pub goes_on_after : After → Added → Bool
+goes_on_after w added.Hit = false
+goes_on_after w (added.Alike y) = goes_on w y
 
 -- what was looked for has been added; where there is none, something may have been
 abbrev pub IsTried : Option History → Bool → History → History → Type 0
