@@ -9,6 +9,11 @@ abbrev pub parted : ℕ → ℕ → Option ℕ → Option Step
 parted upper lower None = None
 parted upper lower (Some r) = cond (nat_lt upper r && nat_lt upper lower) (Some (cond (nat_lt r lower) (record { next = r; rest = lower }) (record { next = lower; rest = r }))) None
 
+-- what hangs at the left of the upper number after a step
+abbrev pub next_or : ℕ → Option Step → ℕ
+next_or lower None = lower
+next_or lower (Some s) = s.next
+
 abbrev pub stepped : (ℕ → Option Link) → ℕ → ℕ → Option Step → ℕ → Option Link
 stepped f upper lower None = raised (turned f upper (Some lower)) lower (Some upper)
 stepped f upper lower (Some s) = raised (raised (turned f upper (Some s.next)) s.next (Some upper)) s.rest None
