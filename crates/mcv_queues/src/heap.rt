@@ -6,7 +6,7 @@
 ghost use Rattle.std.specs.Prelude.{◌≡◌, ◌<◌, ℕ, Bool, true, false, Option, None, Some, IfSome, is_some};
 ghost use Rattle.mcv_queues.specs.Forest.{IsForest, cut, free_link, raised_some, right_of};
 ghost use Rattle.mcv_queues.specs.Rows.{links, legs, room};
-ghost use Rattle.mcv_queues.specs.Heap.{parted, stepped, AreApart, IsBefore, IsJoined, IsOut, IsIn};
+ghost use Rattle.mcv_queues.specs.Heap.{hung, parted, stepped, AreApart, IsBefore, IsJoined, IsOut, IsIn};
 
 use crate::rows::{Link, Rows, unless};
 
@@ -63,6 +63,19 @@ impl<T: Drop> Rows<T> {
         }
     }
 
+    /// The second half of a step: what hangs elsewhere from now on. Where `lower` stays to be hung up, the next number hung
+    /// from `upper` before.
+    fn hang(&mut self, upper: u64, lower: u64, step: Step)
+        ensures links { links self.new ≡ hung (links self.old) upper lower step }
+        ensures legs { legs self.new ≡ legs self.old }
+        ensures room { room self.new ≡ room self.old }
+    {
+        if step.rest != lower {
+            self.raise(step.next, Some(upper));
+            self.raise(step.rest, None);
+        }
+    }
+
     /// One step of making two trees one.
     fn step(&mut self, upper: u64, lower: u64) -> Option<Step>
         ensures step { result ≡ parted upper lower (right_of (links self.old upper)) }
@@ -73,10 +86,7 @@ impl<T: Drop> Rows<T> {
     {
         let step = self.part(upper, lower);
         match step {
-            Some(step) => {
-                self.raise(step.next, Some(upper));
-                self.raise(step.rest, None);
-            }
+            Some(step) => self.hang(upper, lower, step),
             None => self.raise(lower, Some(upper)),
         }
         step

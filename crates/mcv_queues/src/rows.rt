@@ -9,8 +9,10 @@ ghost use Rattle.mcv_queues.specs.Rows.{at, links, legs, room, content_of, seen_
 
 use crate::heap::{Step, parted};
 use crate::leg::{Leg, State};
+use crate::number_hasher::NumberHasher;
 use std::alloc::{AllocError, Global};
 use std::collections::HashMap;
+use std::hash::BuildHasherDefault;
 
 /// The number, unless it is this one.
 pub(crate) fn unless(number: Option<u64>, other: u64) -> Option<u64>
@@ -47,7 +49,7 @@ pub(crate) struct Row<T> {
 /// Legs by number.
 #[derive(Drop)]
 pub(crate) struct Rows<T> {
-    rows: HashMap<u64, Row<T>>,
+    rows: HashMap<u64, Row<T>, BuildHasherDefault<NumberHasher>>,
 }
 
 impl<T: Drop> Rows<T> {
@@ -55,7 +57,7 @@ impl<T: Drop> Rows<T> {
         ensures { at result ≡ (λ n. None) }
     {
         Rows {
-            rows: HashMap::new(alloc),
+            rows: HashMap::with_hasher(alloc, BuildHasherDefault::new()),
         }
     }
 
