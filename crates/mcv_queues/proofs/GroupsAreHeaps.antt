@@ -5,13 +5,11 @@ use Rattle.std.specs.Prelude.{option_map}
 use Rattle.std.proofs.lemmas.Bool.{cases_eq, eq-eqb, ne_eqb, eqb-true, lt-ltb, and_parts, and_left, and_right}
 use Rattle.mcv_queues.specs.declared.leg.Leg.{Leg}
 use Rattle.mcv_queues.specs.declared.rows.Link.{Link}
-use Rattle.mcv_queues.specs.declared.rows.Row.{Row}
 use Rattle.mcv_queues.specs.declared.leg.State.{State}
 use Rattle.mcv_queues.specs.declared.leg.State.TheVariants.{Waiting, Sent, Held, Refused, InSpool, InReplay}
 use Rattle.mcv_queues.specs.declared.roots.Group.{Group}
 use Rattle.mcv_queues.specs.declared.roots.Group.TheVariants.{WaitingFor, SpooledFor, HeldLegs, RefusedLegs, LegsInReplay}
 use Rattle.mcv_queues.specs.Forest.{left_of, right_of, up_of, IsForest}
-use Rattle.mcv_queues.specs.Rows.{leg_of, link_of}
 use Rattle.mcv_queues.specs.Heap.{without, with_one, IsOut, IsIn}
 use Rattle.mcv_queues.specs.Groups.{group_at, group_of, same_group, is_group, is_in}
 use Rattle.mcv_queues.specs.Legs.{in_state, with_state}

@@ -1,4 +1,4 @@
-use Rattle.std.proofs.Common.{◌∙◌, ap, sym, Some, None}
+use Rattle.std.proofs.Common.{◌∙◌, ap, sym, Some}
 use Rattle.mcv_queues.specs.Forest.{raised, turned}
 use Rattle.mcv_queues.specs.Rows.{links}
 use Rattle.mcv_queues.specs.Heap.{hung, next_or, stepped}
