@@ -369,11 +369,11 @@ migrate delete 105";
 fn awaited(known: &[Option<Outcome>], launched: &[bool], before: usize) -> Option<usize> {
     let mut left = before;
     for (entry, mark) in launched.iter().enumerate() {
-        if *mark && known.get(entry).copied() == Some(None) {
+        if *mark && known.get(entry).copied().unwrap_or(None).is_none() {
             if left == 0 {
                 return Some(entry);
             }
-            left -= 1;
+            left = left.saturating_sub(1);
         }
     }
     None
@@ -387,8 +387,8 @@ fn outcome_of(digit: usize) -> Outcome {
     }
 }
 
-/// Outcomes as the order's digits say: for each a leg among those awaited, of four, three, two and one, and one of three
-/// outcomes. The result: whether the legs that were fresh so far were those that are launched, each time.
+/// Four outcomes as the order's digits say: of one of four legs that are awaited, where there are so many, one of three.
+/// The result: whether the legs that were fresh so far were those that are launched, each time.
 fn agrees_in_order(alloc: Global, plan: &Plan, order: usize) -> Result<bool, Fail> {
     let (mut state, entries) = state_of(alloc, plan)?;
     let mut known: Vec<Option<Outcome>> = vec![in alloc; None; entries.len()]?;
@@ -396,14 +396,12 @@ fn agrees_in_order(alloc: Global, plan: &Plan, order: usize) -> Result<bool, Fai
     mark_fresh(&state, &mut launched);
     let mut well = are_launched(&state, &known, &launched);
     let mut digits = order;
-    for done in 0..4 {
-        let legs = 4 - done;
-        let leg = digits % legs;
-        let outcome = outcome_of(digits / legs % 3);
-        digits = digits / legs / 3;
-        if let Some(entry) = awaited(&known, &launched, leg) {
+    for _ in 0..4 {
+        let outcome = outcome_of(digits % 3);
+        if let Some(entry) = awaited(&known, &launched, digits / 3 % 4) {
             well = takes_in(&mut state, &mut known, &mut launched, entry, outcome) && well;
         }
+        digits /= 12;
     }
     Ok(well)
 }
@@ -412,7 +410,7 @@ fn agrees_in_order(alloc: Global, plan: &Plan, order: usize) -> Result<bool, Fai
 fn what_was_fresh_is_launched_in_every_order(rt: HostRuntime) -> Result<(), Fail> {
     for row in ORDERED.lines() {
         let plan = planned(rt.alloc(), row)?;
-        for order in 0..12 * 9 * 6 * 3 {
+        for order in 0..12 * 12 * 12 * 12 {
             assert!(rt;
                 agrees_in_order(rt.alloc(), &plan, order)?,
                 "{row}: {order}"
