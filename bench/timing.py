@@ -1,8 +1,11 @@
-"""What bench/legs, bench/config and bench/check share: pools of servers, and how long the program takes on a configuration."""
+"""What benches share: pools of servers and how long the program takes on a configuration, for bench/legs, bench/config and
+bench/check; a program over the crates of the repository, for bench/core and bench/hub."""
 import json
 import os
 import random
+import shutil
 import subprocess
+import sys
 import tempfile
 import time
 
@@ -39,8 +42,8 @@ def best(*calls, runs=5):
     return [min(times) for times in zip(*rounds)]
 
 
-def running(words, given_text):
-    """A call that runs the program on words and a text. The program is built where it isn't yet."""
+def running(words, given_text, status=0):
+    """A call that runs the program on words and a text, and wants the exit status. The program is built where it isn't yet."""
     if not os.access(PROGRAM, os.X_OK):
         subprocess.run([os.path.join(TOP, "mcv"), "--help"], stdout=subprocess.DEVNULL, check=True)
     given = tempfile.TemporaryFile()
@@ -48,7 +51,9 @@ def running(words, given_text):
 
     def run():
         given.seek(0)
-        subprocess.run([PROGRAM] + words, stdin=given, stdout=subprocess.DEVNULL, check=True)
+        ended = subprocess.run([PROGRAM] + words, stdin=given, stdout=subprocess.DEVNULL)
+        if ended.returncode != status:
+            sys.exit("%s ended with status %d" % (" ".join(words), ended.returncode))
 
     return run
 
@@ -63,6 +68,11 @@ def check(text):
     return running(["check"], text)
 
 
+def finding(text):
+    """A call that judges the configuration, which has to lose deletes."""
+    return running(["check"], text, status=3)
+
+
 def print_beside_python(plain, whole, half):
     """What the texts whole and half take, beside python's json.load of plain, which is whole without comments."""
     python, mcv, mcv_half = best(lambda: json.loads(plain), legs(whole), legs(half))
@@ -71,3 +81,40 @@ def print_beside_python(plain, whole, half):
     print("mcv legs:          %.3f s, on the half %.3f s" % (mcv, mcv_half))
     print("mcv / python: %.2f (goal at most 3)" % (mcv / python))
     print("whole / half: %.2f (goal at most 2.2)" % (mcv / mcv_half))
+
+
+def below(names, lines):
+    """The crates of these names and all below them."""
+    stands_on = {line.split(":")[0]: line.split(":")[1].split() for line in lines if ":" in line and not line.startswith("#")}
+    found = set()
+    left = list(names)
+    while left:
+        name = left.pop()
+        if name in stands_on and name not in found:
+            found.add(name)
+            left.extend(stands_on[name])
+    return found
+
+
+def built(program, uses, folder):
+    """The program of bench/PROGRAM.rattle over these crates, built in a copy of them, with their libraries where these are
+    built already."""
+    home = os.path.join(folder, "crates", program)
+    os.makedirs(os.path.join(home, "src"))
+    shutil.copy(os.path.join(TOP, "bench", program + ".rattle"), os.path.join(home, "src", "main.rt"))
+    shutil.copy(os.path.join(TOP, "HANDLES"), folder)
+    with open(os.path.join(TOP, "crates.txt")) as given:
+        lines = given.readlines()
+    names = below(uses, lines)
+    # what checks keep for later ones is large, and no part of a library
+    kept = shutil.ignore_patterns("incremental")
+    for name in names:
+        shutil.copytree(os.path.join(TOP, "crates", name), os.path.join(folder, "crates", name), ignore=kept)
+    with open(os.path.join(folder, "crates.txt"), "w") as listed:
+        listed.writelines(line for line in lines if line.split(":")[0] in names)
+        listed.write("%s: %s\n" % (program, " ".join(uses)))
+    run = subprocess.run(["rt", "run"], cwd=home, stdin=subprocess.DEVNULL, capture_output=True, text=True)
+    binary = os.path.join(home, "out", program)
+    if not os.access(binary, os.X_OK):
+        sys.exit(run.stdout + run.stderr)
+    return binary

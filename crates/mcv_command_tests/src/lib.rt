@@ -1,5 +1,13 @@
-//! Tests of `mcv_command`, apart from it, so that it isn't proved a second time for them.
+//! Tests of what the program does short of serving: `mcv_input`, `mcv_legs`, `mcv_verdict` and `mcv_command`, apart from them, so that they aren't proved a second time for them.
 #![tactic(auto)]
 
 #[cfg(test)]
 mod commands;
+#[cfg(test)]
+mod devices;
+#[cfg(test)]
+mod input;
+#[cfg(test)]
+mod legs;
+#[cfg(test)]
+mod verdict;

@@ -1,7 +1,13 @@
-//! Tests of `mcv_config`, apart from it, so that it isn't proved a second time for them.
+//! Tests of `mcv_config`, and of the routes and the classes of keys that are made of what it reads, apart from those crates, so that they aren't proved a second time for them.
 #![tactic(auto)]
 
+#[cfg(test)]
+mod built;
+#[cfg(test)]
+mod classes;
 #[cfg(test)]
 mod contents;
 #[cfg(test)]
 mod page;
+#[cfg(test)]
+mod route;

@@ -11,7 +11,7 @@ use Rattle.mcv_events.specs.Rows as rows
 use Rattle.mcv_events.specs.Rows.{LegRow, awaits, leg_of}
 use Rattle.mcv_core.specs.declared.fault.CoreFault.{CoreFault}
 use Rattle.mcv_core.specs.declared.step.Step.{Step}
-use Rattle.mcv_core.specs.CoreView.{CoreView, Effect, HasEffect, answer_at, answer_in, at_row, does, finished, flies, held, is_record, loss_at, loss_in, refused, refuses, refusing_at, refusing_in, replayed_in, sent_in, spooling_at, spooling_in, stores, with_mark}
+use Rattle.mcv_core.specs.CoreView.{CoreView, Effect, HasEffect, answer_at, answer_in, at_row, does, finished, flies, held, is_record, loss_at, loss_in, refuses, refusing_at, refusing_in, replayed_in, sent_in, spooling_at, spooling_in, stores, with_mark}
 
 -- the effect leads to a view of the same chapter
 abbrev StaysIn : CoreView → Effect → Type 0

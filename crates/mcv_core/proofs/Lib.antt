@@ -15,6 +15,7 @@ pub mod Dispatchers
 pub mod Sendings
 pub mod Keeping
 pub mod Landings
+pub mod Owners
 pub mod Resting
 pub mod Taken
 pub mod HandingOut

@@ -12,7 +12,7 @@ use Rattle.mcv_route.specs.Tree.{Tree, error}
 use Rattle.mcv_world.specs.World.{Recorded, tree_of}
 use Rattle.mcv_asks.specs.Asks.{Fields, client_fields, fields_at, fields_in, fields_of}
 use Rattle.mcv_asks.specs.WarmUps.{warm_up_of}
-use Rattle.mcv_core.specs.Requests.{AskedOf, asked_by}
+use Rattle.mcv_core.specs.Requests.{asked_by}
 
 -- ErrorRoute sends no add
 adds_not : (p : List ℕ) → warm_up_of error p ≡ None

@@ -1,5 +1,5 @@
 -- A leg that its call awaits leaves its state, and the call records a reply of it (own).
-use Rattle.std.specs.Prelude.{◌≡◌, ◌+◌, ℕ, Bool, true, false, Option, Some, None, cond, option_map}
+use Rattle.std.specs.Prelude.{◌≡◌, ◌+◌, ℕ, Bool, true, false, Option, Some, None, cond, option_and_then, option_map, unwrap_or}
 use Rattle.mcv_base.specs.Reply.{ReplyValue}
 use Rattle.mcv_queues.specs.declared.leg.Leg.{Leg}
 use Rattle.mcv_queues.specs.declared.leg.State.TheVariants as states
@@ -11,9 +11,15 @@ use Rattle.mcv_events.specs.Events.{in_state, recorded_rows_for}
 use Rattle.mcv_core.specs.declared.call.Recording.{Recording}
 use Rattle.mcv_core.specs.declared.counts.Counts.{Counts}
 use Rattle.mcv_core.specs.declared.errand.Errand.{Errand}
+use Rattle.mcv_core.specs.declared.settle.Owner.{Owner}
 use Rattle.mcv_core.specs.declared.settle.Settling.{Settling}
 use Rattle.mcv_core.specs.declared.settle.Settling.TheVariants as to
 use Rattle.mcv_core.specs.CoreView.{CoreView}
+
+-- the call and the entry of a leg; both 0 where it has none
+pub record IsOwner (leg : Option (Leg Errand)) (owner : Owner) : Type 0 where
+  pub call : owner.call ≡ unwrap_or (option_and_then (λ l. l.content.call) leg) 0
+  pub entry : owner.entry ≡ unwrap_or (option_map (λ l. l.content.entry) leg) 0
 
 abbrev pub is_gone : Settling → Bool
 is_gone to.Gone = true

@@ -13,7 +13,6 @@ use Rattle.mcv_base.specs.declared.request.ServerId.{ServerId}
 use Rattle.mcv_base.specs.Reply.{ReplyValue, fixed_value, not_found, part_value}
 use Rattle.mcv_pools.specs.Symbol.{SymbolValue}
 use Rattle.mcv_queues.specs.Marks.{checked_mark, no_mark}
-use Rattle.mcv_route.specs.Routes.{RoutesValue}
 use Rattle.mcv_spool.specs.declared.record.Stored.{Stored}
 use Rattle.mcv_world.specs.Kept.{Kept}
 use Rattle.mcv_world.specs.Live.{live_of}

@@ -117,7 +117,13 @@ impl Dispatcher {
         ensures records { records_of self.new ≡ records_after result.place leg.0 (records_of self.old) }
     {
         let place = Place::after(facts.op, counted.is_error());
-        self.settle(leg, Settling::Gone, counted.outcome, counted.taken);
+        self.settle(
+            leg,
+            facts.owner(),
+            Settling::Gone,
+            counted.outcome,
+            counted.taken,
+        );
         Step {
             place,
             change: Change::Answered,

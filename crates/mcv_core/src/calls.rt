@@ -10,14 +10,15 @@ ghost use Rattle.mcv_core.specs.Facts.{records_in};
 use crate::call::{Call, Recording};
 use crate::errand::Errand;
 use mcv_base::Part;
-use mcv_queues::Queues;
+use mcv_queues::{NumberHasher, Queues};
 use std::alloc::{AllocError, Global};
 use std::collections::HashMap;
+use std::hash::BuildHasherDefault;
 
 /// The running calls by number.
 #[derive(Drop)]
 pub struct Calls {
-    pub(crate) calls: HashMap<u64, Call>,
+    pub(crate) calls: HashMap<u64, Call, BuildHasherDefault<NumberHasher>>,
 }
 
 impl Calls {
@@ -25,7 +26,7 @@ impl Calls {
         ensures { calls_at result ≡ (λ k. None) }
     {
         Calls {
-            calls: HashMap::new(alloc),
+            calls: HashMap::with_hasher(alloc, BuildHasherDefault::new()),
         }
     }
 

@@ -1,9 +1,13 @@
 //! What the core looks at of a leg, without a loan of it.
 
-ghost use Rattle.std.specs.Prelude.{◌≡◌};
+ghost use Rattle.std.specs.Prelude.{◌≡◌, Option, Some, option_map};
+ghost use Rattle.mcv_queues.specs.declared.leg.Leg.{Leg as Row};
+ghost use Rattle.mcv_core.specs.declared.errand.Errand.{Errand as Content};
+ghost use Rattle.mcv_core.specs.Settling.{IsOwner};
 ghost use Rattle.mcv_core.specs.Facts.{facts_of, is_counting_delete};
 
 use crate::errand::Errand;
+use crate::settle::Owner;
 use mcv_base::{Mark, Op, ServerId};
 use mcv_queues::{Leg, State};
 
@@ -17,6 +21,18 @@ pub struct LegFacts {
     pub counted_delete: bool,
     pub call: Option<u64>,
     pub entry: usize,
+}
+
+impl LegFacts {
+    /// The call and the entry of the leg; both 0 where it has none.
+    pub(crate) fn owner(self) -> Owner
+        ensures { (leg : Option (Row Content)) → option_map facts_of leg ≡ Some self → IsOwner leg result }
+    {
+        Owner {
+            call: self.call.unwrap_or(0),
+            entry: self.entry,
+        }
+    }
 }
 
 /// The facts of a leg.

@@ -12,6 +12,7 @@ use crate::dispatcher::Dispatcher;
 use crate::errand::Errand;
 use crate::step::Place;
 use mcv_base::{CallId, LegId, Mark, Op, Request, Rest, ServerId};
+use mcv_check::Accepted;
 use mcv_queues::State;
 
 /// What its server is sent of a leg.
@@ -94,6 +95,13 @@ impl Call {
 }
 
 impl Dispatcher {
+    /// The routes that it runs over, which the checker accepted: no event changes them.
+    pub fn accepted(&self) -> &Accepted
+        ensures { result.now ≡ (core_view self.now).routes }
+    {
+        &self.accepted
+    }
+
     /// What a running call asks; None where the call doesn't run.
     pub fn call(&self, call: CallId) -> Option<CallView<'_>>
         ensures { option_map call_asked result ≡ option_map row_asked ((core_view self.now).rows.calls call.0) }

@@ -1,11 +1,11 @@
 //! A leg leaves its state, and its call records a reply of it.
 
-ghost use Rattle.std.specs.Prelude.{◌≡◌, ◌≤◌, ◌+◌, ◌^◌, ◌<◌, ◌&&◌, ℕ, None, cond, option_and_then, option_map, unwrap_or};
+ghost use Rattle.std.specs.Prelude.{◌≡◌, ◌≤◌, ◌+◌, ◌^◌, ◌<◌, ◌&&◌, ℕ, None, cond, option_map};
 ghost use Rattle.mcv_base.specs.Reply.{part_value};
 ghost use Rattle.mcv_queues.specs.Legs.{is_in_flight, is_in_flight_to};
 ghost use Rattle.mcv_queues.specs.Queues.{in_flight, legs, room, servers as known};
 ghost use Rattle.mcv_world.specs.World.{put};
-ghost use Rattle.mcv_core.specs.Settling.{is_gone, records_to, settled_to};
+ghost use Rattle.mcv_core.specs.Settling.{IsOwner, is_gone, records_to, settled_to};
 ghost use Rattle.mcv_core.specs.Facts.{facts_of as facts_seen};
 ghost use Rattle.mcv_core.specs.View.{CanSettle, core_view, has_settled, records_of};
 
@@ -28,9 +28,9 @@ pub enum Settling {
 
 /// The call and the entry of a leg.
 #[derive(Clone, Copy)]
-struct Owner {
-    call: u64,
-    entry: usize,
+pub(crate) struct Owner {
+    pub call: u64,
+    pub entry: usize,
 }
 
 /// The leg leaves its state.
@@ -60,9 +60,8 @@ impl Dispatcher {
     }
 
     /// The call and the entry of a leg; both 0 where it has none.
-    fn owner_of(&self, leg: LegId) -> Owner
-        ensures call { result.call ≡ unwrap_or (option_and_then (λ l. l.content.call) (legs self.now.queues leg.0)) 0 }
-        ensures entry { result.entry ≡ unwrap_or (option_map (λ l. l.content.entry) (legs self.now.queues leg.0)) 0 }
+    pub(crate) fn owner_of(&self, leg: LegId) -> Owner
+        ensures { IsOwner (legs self.now.queues leg.0) result }
     {
         match self.queues.get(leg) {
             Some(row) => Owner {
@@ -74,13 +73,20 @@ impl Dispatcher {
     }
 
     /// A leg that its call awaits leaves its state, and the call records this reply of it. It takes no memory.
-    pub(crate) fn settle(&mut self, leg: LegId, to: Settling, outcome: Part, taken: Part)
+    pub(crate) fn settle(
+        &mut self,
+        leg: LegId,
+        owner: Owner,
+        to: Settling,
+        outcome: Part,
+        taken: Part,
+    )
+        requires owner { IsOwner (legs self.old.queues leg.0) owner }
         requires can { CanSettle self.old leg.0 to }
         requires one { part_value taken ≡ part_value outcome }
         ensures view { core_view self.new ≡ has_settled self.old leg.0 to (part_value outcome) }
         ensures records { records_of self.new ≡ records_to to leg.0 (records_of self.old) }
     {
-        let owner = self.owner_of(leg);
         leave(&mut self.queues, leg, to);
         let step = self.calls.hear(
             &mut self.queues,

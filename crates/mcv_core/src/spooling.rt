@@ -91,7 +91,14 @@ impl Dispatcher {
         ensures records { records_of self.new ≡ put (records_of self.old) leg.0 (Some seq) }
     {
         let reply = Counted::not_found();
-        self.settle(leg, Settling::InSpool(seq), reply.outcome, reply.taken);
+        let owner = self.owner_of(leg);
+        self.settle(
+            leg,
+            owner,
+            Settling::InSpool(seq),
+            reply.outcome,
+            reply.taken,
+        );
         Step {
             place: Place::Spooled,
             change: Change::Spooled,
@@ -119,7 +126,8 @@ impl Dispatcher {
         ensures records { records_of self.new ≡ records_of self.old }
     {
         let reply = Counted::lost();
-        self.settle(leg, Settling::Refused, reply.outcome, reply.taken);
+        let owner = self.owner_of(leg);
+        self.settle(leg, owner, Settling::Refused, reply.outcome, reply.taken);
         Step {
             place: Place::Held,
             change: Change::Refused,

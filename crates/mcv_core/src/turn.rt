@@ -56,7 +56,7 @@ impl Dispatcher {
     }
 
     /// Whether no call runs, no leg is queued and none is in replay.
-    fn is_at_rest(&self) -> bool
+    pub fn is_at_rest(&self) -> bool
         ensures { IsTrue result ↔ IsAtRest (core_view self.now) }
     {
         if !self.counts.are_quiet() {

@@ -402,6 +402,10 @@ impl<B: Ledger, T: Ledger> HubState<B, T> {
         ensures busy { IfErr result (λ fault. (fault ≡ CoreFault.Busy) × (CanTurn (core_view self.old.core) → (2 ^ 63 ≤ self.old.begun) ⊎ (2 ^ 63 ≤ self.old.taken))) }
         ensures err { OnErr result (IsSame self.old self.new) }
     {
+        // Asked first, since the totals go through the history.
+        if !self.core.state().is_at_rest() {
+            return Err(CoreFault::Busy);
+        }
         let Some(chapter) = self.chapter.checked_add(1) else {
             return Err(CoreFault::Busy);
         };

@@ -28,7 +28,7 @@ fn loss_at(written: usize) -> Loss
 }
 
 /// Writes a text, with one write where the connection takes all of it at once.
-fn write_text<S: Write>(stream: &mut S, text: &[u8]) -> Result<(), Loss>
+pub(crate) fn write_text<S: Write>(stream: &mut S, text: &[u8]) -> Result<(), Loss>
     ensures { Writes (S.contents stream.old) (S.contents stream.new) text.now result }
 {
     let mut written = 0;
@@ -77,7 +77,7 @@ fn next_piece<S: Read>(stream: &mut S, room: &mut [u8], has_read: bool) -> Resul
 }
 
 /// Reads the reply to a leg, with at most 2,000,000 reads.
-fn read_reply<S: Read>(
+pub(crate) fn read_reply<S: Read>(
     alloc: Global,
     stream: &mut S,
     room: &mut [u8],

@@ -1,13 +1,14 @@
 //! The way to one server, over one connection.
 
-ghost use Rattle.std.specs.Prelude.{◌≡◌, ◌++◌, ℕ, List, None, IfOk, codes};
+ghost use Rattle.std.specs.Prelude.{◌≡◌, ◌++◌, ◌⊎◌, ℕ, List, Err, None, IfNone, IfOk, IfSome, codes};
 ghost use Rattle.std.specs.Arc.{arc_value};
 ghost use Rattle.mcv_text.specs.Answer.{line_end};
+ghost use Rattle.mcv_text.specs.Leg.{leg_text, leg_value};
 ghost use Rattle.mcv_net.specs.Exchange.{AnswersProbe, SpellsReply};
-ghost use Rattle.mcv_net.specs.Sends.{AsksAnew, AsksOver, Sends, kept_behind};
+ghost use Rattle.mcv_net.specs.Sends.{AsksAnew, AsksOver, Begins, Finishes, GoesOn, Sends, kept_behind};
 
 use crate::dial::Dial;
-use crate::exchange::{ask, ask_version};
+use crate::exchange::{ask, ask_version, read_reply, write_text};
 use crate::loss::{Loss, may_ask_again};
 use crate::notice::{Notice, Notices};
 use mcv_base::{LegRequest, Op, Reply};
@@ -31,7 +32,23 @@ pub struct TcpLink<D: Dial, N: Notices> {
     dial: D,
     notices: N,
     kept: Option<D::Stream>,
+    /// The leg that is under way. Its connection isn't kept meanwhile.
+    begun: Option<Begun<D::Stream>>,
     room: Vec<u8>,
+}
+
+/// A connection to which a text was written, or that didn't take it.
+#[derive(Drop)]
+struct Written<S: Drop> {
+    stream: S,
+    outcome: Result<(), Loss>,
+}
+
+/// A leg's text, and the connection to which it was written, if one was kept.
+#[derive(Drop)]
+struct Begun<S: Drop> {
+    text: Vec<u8>,
+    over: Option<Written<S>>,
 }
 
 fn fault_of(loss: Loss) -> LinkFault {
@@ -68,6 +85,7 @@ impl<D: Dial, N: Notices> TcpLink<D, N> {
             dial,
             notices,
             kept: None,
+            begun: None,
             room,
         })
     }
@@ -93,17 +111,81 @@ impl<D: Dial, N: Notices> TcpLink<D, N> {
         }
     }
 
-    /// Sends a leg over the kept connection; over a new one where there is none, and where the leg may be sent once more.
-    fn ask(&mut self, leg: &LegRequest, text: &[u8]) -> Result<Reply, Loss>
-        ensures { Sends D.Stream.contents D.Stream.remaining (SpellsReply leg.now.op (arc_value leg.now.rest)) text.now leg.now.op self.old.kept result self.new.kept }
+    /// Writes a text to the kept connection, if there is one.
+    fn begin(&mut self, text: Vec<u8>) -> Begun<D::Stream>
+        ensures over { Begins D.Stream.contents text.items self.old.kept result.over }
+        ensures text { result.text ≡ text }
+        ensures kept { self.new.kept ≡ None }
     {
         let Some(stream) = self.kept.take() else {
-            return self.ask_anew(leg, text);
+            return Begun { text, over: None };
         };
-        match self.ask_over(stream, leg, text) {
-            Err(loss) if may_ask_again(leg.op, loss) => self.ask_anew(leg, text),
+        let mut stream = stream;
+        let outcome = write_text(&mut stream, text.as_slice());
+        Begun {
+            text,
+            over: Some(Written { stream, outcome }),
+        }
+    }
+
+    /// Reads the reply to a leg from the connection to which it was written, and keeps that where the reply is there.
+    fn finish(&mut self, written: Written<D::Stream>, leg: &LegRequest) -> Result<Reply, Loss>
+        requires { self.old.kept ≡ None }
+        ensures { Finishes D.Stream.remaining (SpellsReply leg.now.op (arc_value leg.now.rest)) written result self.new.kept }
+    {
+        let Written {
+            mut stream,
+            outcome,
+        } = written;
+        outcome?;
+        let outcome = read_reply(self.alloc, &mut stream, self.room.as_mut_slice(), leg);
+        self.kept = kept_behind(stream, &outcome);
+        outcome
+    }
+
+    /// Goes on with a leg that was begun; over a new connection where none was kept, and where the leg may be sent once more.
+    fn go_on(&mut self, begun: Begun<D::Stream>, leg: &LegRequest) -> Result<Reply, Loss>
+        requires { self.old.kept ≡ None }
+        ensures { GoesOn D.Stream.contents D.Stream.remaining (SpellsReply leg.now.op (arc_value leg.now.rest)) begun.text.items leg.now.op begun.over result self.new.kept }
+    {
+        let Begun { text, over } = begun;
+        let Some(written) = over else {
+            return self.ask_anew(leg, text.as_slice());
+        };
+        match self.finish(written, leg) {
+            Err(loss) if may_ask_again(leg.op, loss) => self.ask_anew(leg, text.as_slice()),
             outcome => outcome,
         }
+    }
+
+    /// Sends a leg over the kept connection; over a new one where there is none, and where the leg may be sent once more.
+    fn ask(&mut self, leg: &LegRequest, text: Vec<u8>) -> Result<Reply, Loss>
+        ensures { Sends D.Stream.contents D.Stream.remaining (SpellsReply leg.now.op (arc_value leg.now.rest)) text.items leg.now.op self.old.kept result self.new.kept }
+    {
+        let begun = self.begin(text);
+        self.go_on(begun, leg)
+    }
+
+    /// Sends a leg of which nothing was begun.
+    fn send_whole(&mut self, leg: &LegRequest) -> Result<Reply, Loss>
+        ensures { ((result ≡ Err Loss.Memory) × (self.new.kept ≡ self.old.kept)) ⊎ Sends D.Stream.contents D.Stream.remaining (SpellsReply leg.now.op (arc_value leg.now.rest)) (leg_text (leg_value leg.now)) leg.now.op self.old.kept result self.new.kept }
+    {
+        let Ok(text) = leg_text(self.alloc, leg) else {
+            return Err(Loss::Memory);
+        };
+        self.ask(leg, text)
+    }
+
+    /// Goes on with the leg that was begun; where none was, sends this one.
+    fn send_leg(&mut self, leg: &LegRequest) -> Result<Reply, Loss>
+        ensures begun { IfSome self.old.begun (λ begun. GoesOn D.Stream.contents D.Stream.remaining (SpellsReply leg.now.op (arc_value leg.now.rest)) begun.text.items leg.now.op begun.over result self.new.kept) }
+        ensures whole { IfNone self.old.begun (((result ≡ Err Loss.Memory) × (self.new.kept ≡ self.old.kept)) ⊎ Sends D.Stream.contents D.Stream.remaining (SpellsReply leg.now.op (arc_value leg.now.rest)) (leg_text (leg_value leg.now)) leg.now.op self.old.kept result self.new.kept) }
+    {
+        let Some(begun) = self.begun.take() else {
+            return self.send_whole(leg);
+        };
+        self.kept = None;
+        self.go_on(begun, leg)
     }
 
     /// Probes over this connection, and keeps it where the answer is there.
@@ -142,13 +224,21 @@ impl<D: Dial, N: Notices> TcpLink<D, N> {
 }
 
 impl<D: Dial, N: Notices> Link for TcpLink<D, N> {
-    fn send(&mut self, _pass: &Pass, leg: &LegRequest) -> Result<Reply, LinkFault>
-        ensures { IfOk result (λ reply. (bytes : List ℕ) × SpellsReply leg.now.op (arc_value leg.now.rest) bytes reply) }
+    // A reply is one that bytes spell.
+    ghost answers = { λ _ leg result _. IfOk result (λ reply. (bytes : List ℕ) × SpellsReply leg.op (arc_value leg.rest) bytes reply) };
+
+    fn start(&mut self, _pass: &Pass, leg: &LegRequest)
+        ensures begun { IfSome self.new.begun (λ begun. (begun.text.items ≡ leg_text (leg_value leg.now)) × Begins D.Stream.contents begun.text.items self.old.kept begun.over × (self.new.kept ≡ None)) }
+        ensures unbegun { IfNone self.new.begun (self.new.kept ≡ self.old.kept) }
     {
-        let Ok(text) = leg_text(self.alloc, leg) else {
-            return Err(LinkFault::Memory);
-        };
-        match self.ask(leg, text.as_slice()) {
+        self.begun = None;
+        if let Ok(text) = leg_text(self.alloc, leg) {
+            self.begun = Some(self.begin(text));
+        }
+    }
+
+    fn send(&mut self, _pass: &Pass, leg: &LegRequest) -> Result<Reply, LinkFault> {
+        match self.send_leg(leg) {
             Ok(reply) => Ok(reply),
             Err(loss) => Err(fault_of(loss)),
         }

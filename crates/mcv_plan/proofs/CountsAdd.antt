@@ -39,7 +39,7 @@ pub capped_more : (a b n m : ℕ) → a ≡ capped n → b ≡ capped m → min 
 capped_more a b n m e f = rw (e, f) (sum_within (2 ^ 64 - 1) n m)
 
 pub counts_as : (t u : Tree) (s v : Situation) (n : ℕ) → Does t s u v → n ≡ capped (legs_in u v) → n ≡ capped (legs_in t s)
-counts_as t u s v n d e = e ∙ ap (λ ps. capped (length ps)) (sym d.places)
+counts_as t u s v n d e = e ∙ ap (λ p. capped (length (positions p))) (sym d.whole)
 
 -- ---- handles of several children
 

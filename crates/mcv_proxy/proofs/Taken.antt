@@ -1,9 +1,11 @@
 -- Replies that were taken.
-use Rattle.std.proofs.Common.{◌≡◌, Option, None, Some, length, sym, subst}
-use Rattle.std.specs.Prelude.{IfSome}
+use Rattle.std.proofs.Common.{◌≡◌, ◌∙◌, ◌+◌, ◌<◌, ◌++◌, ◌∷◌, [], ℕ, List, Option, None, Some, Result, Ok, Err, ap, get_or, length, map, refl, sym, subst, take}
+use Rattle.std.specs.Prelude.{IfOk, IfSome}
+use Rattle.std.proofs.lemmas.List.{map_push, take_more}
 use Rattle.mcv_base.specs.Reply.{part_value}
 use Rattle.mcv_base.specs.declared.request.CallId.{CallId}
 use Rattle.mcv_core.specs.View.{core_view}
+use Rattle.mcv_core.specs.declared.fault.CoreFault.{CoreFault}
 use Rattle.mcv_hub.specs.State.{HistoryKeepsDeletes, HubView, IsCallOf, Replies}
 use Rattle.mcv_hub.specs.declared.seat.TakenReply.{TakenReply}
 use Rattle.mcv_proxy.specs.Desk.{WasTaken}
@@ -24,3 +26,19 @@ was_taken v call (Some x) t e keeps r p a =
   where
     one : Some x ≡ Some t → x ≡ t
     one n = cc
+
+pub found_was_taken : (v : HubView) (call : CallId) (r : Result (Option TakenReply) CoreFault) → HistoryKeepsDeletes (core_view v.core) v.history
+    → IfOk r (λ o. IfSome o (λ t. (t.receipt.chapter ≡ v.chapter) × (t.receipt.entry ≡ length v.history) × (t.receipt.call ≡ call))) → IfOk r (λ o. IfSome o (λ t. Replies v call.0 (part_value t.reply)))
+    → IfOk r (λ o. IfSome o (λ t. IsCallOf v call.0 t.asked.op t.asked.route t.asked.rest)) → IfOk r (λ o. IfSome o WasTaken)
+found_was_taken v call (Ok None) keeps r p a = tt
+found_was_taken v call (Ok (Some t)) keeps r p a = was_taken v call (Some t) t refl keeps r p a
+found_was_taken v call (Err fault) keeps r p a = tt
+
+-- the replies to one call more
+pub one_more_call : (calls : List CallId) (done : ℕ) (d : CallId) (taken : List TakenReply) (t : TakenReply) → done < length calls → t.receipt.call ≡ get_or calls done d
+    → map (λ t. t.receipt.call) taken ≡ take done calls → map (λ t. t.receipt.call) (taken ++ t ∷ []) ≡ take (done + 1) calls
+one_more_call calls done d taken t within of so_far =
+    map_push (λ t. t.receipt.call) taken t
+    ∙ ap (λ xs. xs ++ t.receipt.call ∷ []) so_far
+    ∙ ap (λ c. take done calls ++ c ∷ []) of
+    ∙ sym (take_more calls done d within)

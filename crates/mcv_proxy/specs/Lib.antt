@@ -1,2 +1,6 @@
 pub mod Desk
 pub mod Events
+pub mod Flights
+pub mod Pending
+pub mod Reports
+pub mod Steps

@@ -1,14 +1,16 @@
 //! The desk over a hub: a request's keys are calls of the hub.
 
-ghost use Rattle.std.specs.Prelude.{◌≡◌, ◌↔◌, ◌+◌, ◌<◌, ◌≤◌, [], fold, length, map, nat_le, option_map, vec_len, vec_capacity, true, IfErr, IfOk, OnErr, OnOk};
+ghost use Rattle.std.specs.Prelude.{◌≡◌, ◌↔◌, ◌+◌, ◌<◌, ◌≤◌, [], None, fold, length, map, nat_le, option_map, take, vec_len, vec_capacity, true, IfErr, IfNone, IfOk, IfSome, OnErr, OnOk};
 ghost use Rattle.std.specs.Arc.{arc_value};
 ghost use Rattle.std.specs.List.{All, filter};
 ghost use Rattle.mcv_text.specs.Request.{request_value};
 ghost use Rattle.mcv_session.specs.Desk.{keys_of};
 ghost use Rattle.mcv_proxy.specs.Desk.{AreFor, Asks, HasNoPlace, IsFor, IsPlace, IsRefusal, IsUnanswered, IsUnbegun, WasTaken, desk_fault, with_receipt, word_at};
 
+use crate::errands::Errands;
 use crate::events;
-use crate::gates::Watch;
+use crate::gates::{Link, Watch};
+use crate::lanes::{Lanes, Links};
 use mcv_base::{CallId, Op, Part, Request, Rest, key_words_have_one_reading, split_key};
 use mcv_check::Accepted;
 use mcv_core::CoreFault;
@@ -19,30 +21,41 @@ use std::alloc::{AllocError, Global};
 use std::rt::Clock;
 use std::sync::ledger::Ledger;
 use std::sync::{Arc, Wait};
-use std::time::Duration;
+use std::time::{Duration, Instant};
 
-/// How often a call is begun anew that found no place in the chapter.
-const ATTEMPTS: u32 = 100;
+/// How long a call waits for a place in the chapter, in milliseconds.
+const PATIENCE: u64 = 1_000;
 
-/// How long such a call waits each time at most, in milliseconds.
-const PATIENCE: u64 = 10;
+/// How long it waits each time at most, in milliseconds.
+const PAUSE: u64 = 10;
 
-/// What calls of a hub take: the pass and the seat of one session, and its watch.
+/// What calls of a hub take: the ways to the servers, the pass and the seat of one session, its watch and its errands.
 #[derive(Drop)]
-struct Caller<'a, B: Ledger, T: Ledger, W: Watch, R: Wait + Clock> {
+struct Caller<'a, B: Ledger, T: Ledger, L: Link, W: Watch, R: Wait + Clock> {
     rt: &'a R,
     alloc: Global,
     hub: &'a Hub<B, T>,
+    lanes: &'a Lanes,
+    links: &'a Links<L>,
     pass: Pass,
     seat: Seat<B, T>,
     watch: W,
+    errands: Errands<'a, B, T, L>,
+}
+
+/// How far a session has come with the replies to its calls.
+#[derive(Clone, Copy)]
+struct Progress {
+    /// How many calls are done with: their replies were taken, or won't come.
+    done: usize,
+    missed: Option<CoreFault>,
 }
 
 /// Answers the requests of one session by calls of a hub, one for each key.
 #[derive(Drop)]
-pub struct HubDesk<'a, B: Ledger, T: Ledger, W: Watch, R: Wait + Clock> {
+pub struct HubDesk<'a, B: Ledger, T: Ledger, L: Link, W: Watch, R: Wait + Clock> {
     accepted: Arc<Accepted>,
-    caller: Caller<'a, B, T, W, R>,
+    caller: Caller<'a, B, T, L, W, R>,
     kept: Kept,
 }
 
@@ -196,65 +209,202 @@ fn confirmed(routes: &Routes, request: &Request, key: usize, fault: CoreFault) -
     }
 }
 
+/// When a call began to wait for a place in the chapter.
+#[derive(Clone, Copy)]
+struct Patience {
+    since: Option<Instant>,
+}
+
+impl Patience {
+    /// Whether a call has waited for `PATIENCE`; it begins to wait where it is asked first. Where the clock can't be read it
+    /// has.
+    fn is_over<R: Clock>(&mut self, rt: &R) -> bool {
+        let Ok(now) = Instant::now(rt) else {
+            return true;
+        };
+        match self.since {
+            Some(since) => now.duration_since(since) >= Duration::from_millis(PATIENCE),
+            None => {
+                self.since = Some(now);
+                false
+            }
+        }
+    }
+}
+
 /// Begins a call. Where the chapter has no place for it, a new chapter begins first. The first key of a request waits for
 /// that a second at most, while calls run or legs are queued; for another one the request's own calls run, so it is
 /// refused.
-fn begin_in_chapter<B: Ledger, T: Ledger, R: Wait + Clock>(
+fn begin_in_chapter<'a, B: Ledger, T: Ledger, L: Link, R: Wait + Clock>(
     rt: &R,
     alloc: Global,
     hub: &Hub<B, T>,
-    guard: Guard<'_, B, T>,
+    guard: Guard<'a, B, T>,
     seat: &mut Seat<B, T>,
+    errands: &mut Errands<'_, B, T, L>,
     request: &Arc<Request>,
     key: usize,
-) -> Result<CallId, CoreFault>
-    ensures err { IfErr result IsRefusal }
-    ensures begun { OnOk result (seat.new.begun.amount ≡ seat.old.begun.amount + 1) }
-    ensures unbegun { OnErr result (seat.new.begun.amount ≡ seat.old.begun.amount) }
+) -> (Guard<'a, B, T>, Result<CallId, CoreFault>)
+    ensures err { IfErr result.1 IsRefusal }
+    ensures begun { OnOk result.1 (seat.new.begun.amount ≡ seat.old.begun.amount + 1) }
+    ensures unbegun { OnErr result.1 (seat.new.begun.amount ≡ seat.old.begun.amount) }
     ensures taken { seat.new.taken.amount ≡ seat.old.taken.amount }
 {
     let mut guard = guard;
-    for _attempt in 0..ATTEMPTS {
+    let mut patience = Patience { since: None };
+    for _attempt in rt.forever() {
         let Ok(request) = Arc::try_clone(request) else {
-            return Err(CoreFault::Memory);
+            return (guard, Err(CoreFault::Memory));
         };
-        match events::begin(alloc, hub, &mut guard, seat, request, key) {
+        match events::begin(alloc, &mut errands.agenda, &mut guard, seat, request, key) {
             Err(CoreFault::ChapterFull) => {}
-            answer => return answer,
+            answer => return (guard, answer),
         }
-        if guard.turn().is_err() {
-            if key > 0 {
-                return Err(CoreFault::ChapterFull);
-            }
-            guard = hub.wait_for(rt, guard, Bell::Chapter, Duration::from_millis(PATIENCE));
+        let has_turned = guard.turn().is_ok();
+        if !has_turned && key > 0 || patience.is_over(rt) {
+            return (guard, Err(CoreFault::ChapterFull));
+        }
+        if !has_turned {
+            guard = hub.wait_for(rt, guard, Bell::Chapter, Duration::from_millis(PAUSE));
         }
     }
-    Err(CoreFault::ChapterFull)
+    unreachable!()
 }
 
-/// Waits for the reply to a call, and takes it. An error is NoSuchCall, where the call doesn't run.
-fn take<B: Ledger, T: Ledger, R: Wait>(
+/// Begins the calls for the keys of a request, in their order, up to the first that is refused.
+fn begin_each<'a, B: Ledger, T: Ledger, L: Link, R: Wait + Clock>(
     rt: &R,
+    alloc: Global,
     hub: &Hub<B, T>,
-    pass: &mut Pass,
+    guard: Guard<'a, B, T>,
+    seat: &mut Seat<B, T>,
+    errands: &mut Errands<'_, B, T, L>,
+    routes: &Routes,
+    request: &Arc<Request>,
+    count: usize,
+    calls: &mut Vec<CallId>,
+) -> (Guard<'a, B, T>, Result<(), CoreFault>)
+    requires empty { calls.old.items ≡ [] }
+    requires room { count ≤ vec_capacity calls.old }
+    ensures all { OnOk result.1 (vec_len calls.new ≡ count) }
+    ensures most { vec_len calls.new ≤ count }
+    ensures begun { seat.new.begun.amount ≡ seat.old.begun.amount + vec_len calls.new }
+    ensures taken { seat.new.taken.amount ≡ seat.old.taken.amount }
+    ensures err { IfErr result.1 (IsUnbegun routes.now (request_value (arc_value request.now)) (vec_len calls.new)) }
+{
+    let mut guard = guard;
+    for key in 0..count {
+        let (next, begun) = begin_in_chapter(rt, alloc, hub, guard, seat, errands, request, key);
+        guard = next;
+        match begun {
+            Ok(call) => calls.push_reserved(call),
+            Err(fault) => return (guard, Err(confirmed(routes, request, key, fault))),
+        }
+    }
+    (guard, Ok(()))
+}
+
+/// Takes the reply to a call, if it is there.
+fn take_one<B: Ledger, T: Ledger>(
+    guard: &mut Guard<'_, B, T>,
     seat: &mut Seat<B, T>,
     call: CallId,
-) -> Result<TakenReply, CoreFault>
-    ensures taken { IfOk result WasTaken }
-    ensures call { IfOk result (λ taken. taken.receipt.call ≡ call) }
-    ensures counted { OnOk result (seat.new.taken.amount ≡ seat.old.taken.amount + 1) }
-    ensures uncounted { OnErr result (seat.new.taken.amount ≡ seat.old.taken.amount) }
+) -> Result<Option<TakenReply>, CoreFault>
+    ensures taken { IfOk result (λ found. IfSome found WasTaken) }
+    ensures call { IfOk result (λ found. IfSome found (λ t. t.receipt.call ≡ call)) }
+    ensures counted { IfOk result (λ found. IfSome found (λ t. seat.new.taken.amount ≡ seat.old.taken.amount + 1)) }
+    ensures uncounted { IfOk result (λ found. IfNone found (seat.new.taken.amount ≡ seat.old.taken.amount)) }
+    ensures refused { OnErr result (seat.new.taken.amount ≡ seat.old.taken.amount) }
     ensures begun { seat.new.begun.amount ≡ seat.old.begun.amount }
     ensures err { IfErr result (λ fault. fault ≡ CoreFault.NoSuchCall) }
 {
-    let mut guard = hub.lock(rt, pass);
-    for _turn in rt.forever() {
-        guard.deletes_are_kept();
-        if let Some(taken) = guard.take_reply(seat, call)? {
-            events::turn_where_full(hub, &mut guard);
-            return Ok(taken);
+    guard.deletes_are_kept();
+    guard.take_reply(seat, call)
+}
+
+/// Takes the replies to calls that are there, in their order, up to the first that isn't. Where one won't come the others are
+/// taken too, and it is NoSuchCall.
+fn take_ready<B: Ledger, T: Ledger>(
+    guard: &mut Guard<'_, B, T>,
+    seat: &mut Seat<B, T>,
+    calls: &[CallId],
+    progress: Progress,
+    taken: &mut Vec<TakenReply>,
+) -> Progress
+    requires within { progress.done ≤ length calls.now }
+    requires room { length calls.now ≤ vec_capacity taken.old }
+    requires few { vec_len taken.old ≤ progress.done }
+    requires each { All WasTaken taken.old.items }
+    requires calls { progress.missed ≡ None → map (λ t. t.receipt.call) taken.old.items ≡ take progress.done calls.now }
+    requires missed { IfSome progress.missed (λ fault. fault ≡ CoreFault.NoSuchCall) }
+    ensures on { (progress.done ≤ result.done) × (result.done ≤ length calls.now) }
+    ensures most { vec_len taken.new ≤ result.done }
+    ensures room { vec_capacity taken.new ≡ vec_capacity taken.old }
+    ensures each { All WasTaken taken.new.items }
+    ensures calls { result.missed ≡ None → map (λ t. t.receipt.call) taken.new.items ≡ take result.done calls.now }
+    ensures missed { IfSome result.missed (λ fault. fault ≡ CoreFault.NoSuchCall) }
+    ensures counted { seat.new.taken.amount + vec_len taken.old ≡ seat.old.taken.amount + vec_len taken.new }
+    ensures begun { seat.new.begun.amount ≡ seat.old.begun.amount }
+{
+    let mut missed = progress.missed;
+    for done in progress.done..calls.len() {
+        match take_one(guard, seat, calls[done]) {
+            Ok(Some(reply)) => taken.push_reserved(reply),
+            Ok(None) => return Progress { done, missed },
+            Err(fault) => missed = Some(fault),
         }
-        guard = hub.wait(rt, guard, Bell::Call(call));
+    }
+    Progress {
+        done: calls.len(),
+        missed,
+    }
+}
+
+/// Goes on with calls under the lock until a leg is to be sent, or all replies were taken.
+fn go_on<B: Ledger, T: Ledger, L: Link, R: Wait>(
+    rt: &R,
+    alloc: Global,
+    hub: &Hub<B, T>,
+    lanes: &Lanes,
+    guard: Guard<'_, B, T>,
+    seat: &mut Seat<B, T>,
+    errands: &mut Errands<'_, B, T, L>,
+    calls: &[CallId],
+    progress: Progress,
+    taken: &mut Vec<TakenReply>,
+) -> Progress
+    requires within { progress.done ≤ length calls.now }
+    requires room { length calls.now ≤ vec_capacity taken.old }
+    requires few { vec_len taken.old ≤ progress.done }
+    requires each { All WasTaken taken.old.items }
+    requires calls { progress.missed ≡ None → map (λ t. t.receipt.call) taken.old.items ≡ take progress.done calls.now }
+    requires missed { IfSome progress.missed (λ fault. fault ≡ CoreFault.NoSuchCall) }
+    ensures on { (progress.done ≤ result.done) × (result.done ≤ length calls.now) }
+    ensures most { vec_len taken.new ≤ result.done }
+    ensures room { vec_capacity taken.new ≡ vec_capacity taken.old }
+    ensures each { All WasTaken taken.new.items }
+    ensures calls { result.missed ≡ None → map (λ t. t.receipt.call) taken.new.items ≡ take result.done calls.now }
+    ensures missed { IfSome result.missed (λ fault. fault ≡ CoreFault.NoSuchCall) }
+    ensures counted { seat.new.taken.amount + vec_len taken.old ≡ seat.old.taken.amount + vec_len taken.new }
+    ensures begun { seat.new.begun.amount ≡ seat.old.begun.amount }
+{
+    let mut guard = guard;
+    let mut progress = progress;
+    for _turn in rt.forever() {
+        progress = take_ready(&mut guard, seat, calls, progress, taken);
+        let Some(call) = calls.get(progress.done) else {
+            errands.agenda.leave(guard.core());
+            events::turn_where_full(&mut errands.agenda, &mut guard);
+            return progress;
+        };
+        let has_lost = errands.set_off(rt, alloc, lanes, &mut guard, calls, *call);
+        if errands.have_flight() {
+            return progress;
+        }
+        if !has_lost {
+            errands.agenda.ring_all();
+            guard = hub.wait(rt, guard, Bell::Call(*call));
+        }
     }
     unreachable!()
 }
@@ -338,23 +488,9 @@ fn into_parts(taken: Vec<TakenReply>, parts: Vec<Part>) -> Vec<Part>
     parts
 }
 
-impl<'a, B: Ledger, T: Ledger, W: Watch, R: Wait + Clock> Caller<'a, B, T, W, R> {
-    /// Begins a call for one key of a request, at this moment.
-    fn begin(&mut self, request: &Arc<Request>, key: usize) -> Result<CallId, CoreFault>
-        ensures err { IfErr result IsRefusal }
-        ensures begun { OnOk result (self.new.seat.begun.amount ≡ self.old.seat.begun.amount + 1) }
-        ensures unbegun { OnErr result (self.new.seat.begun.amount ≡ self.old.seat.begun.amount) }
-        ensures taken { self.new.seat.taken.amount ≡ self.old.seat.taken.amount }
-    {
-        let moment = self.watch.moment();
-        let mut guard = self.hub.lock(self.rt, &mut self.pass);
-        // A moment before the hub's leaves its era as it is.
-        let _ = guard.clock(moment);
-        let (alloc, hub) = (self.alloc, self.hub);
-        begin_in_chapter(self.rt, alloc, hub, guard, &mut self.seat, request, key)
-    }
-
-    /// Begins the calls for the keys of a request, in their order, up to the first that is refused.
+impl<'a, B: Ledger, T: Ledger, L: Link, W: Watch, R: Wait + Clock> Caller<'a, B, T, L, W, R> {
+    /// Begins the calls for the keys of a request at this moment, in their order, up to the first that is refused, and puts a
+    /// leg of theirs in flight where that can be done at once.
     fn begin_all(
         &mut self,
         routes: &Routes,
@@ -370,28 +506,54 @@ impl<'a, B: Ledger, T: Ledger, W: Watch, R: Wait + Clock> Caller<'a, B, T, W, R>
         ensures taken { self.new.seat.taken.amount ≡ self.old.seat.taken.amount }
         ensures err { IfErr result (IsUnbegun routes.now (request_value (arc_value request.now)) (vec_len calls.new)) }
     {
-        for key in 0..count {
-            match self.begin(request, key) {
-                Ok(call) => calls.push_reserved(call),
-                Err(fault) => return Err(confirmed(routes, request, key, fault)),
-            }
-        }
-        Ok(())
+        let moment = self.watch.moment();
+        let (rt, alloc, hub, lanes) = (self.rt, self.alloc, self.hub, self.lanes);
+        let mut guard = hub.lock(rt, &mut self.pass);
+        // A moment before the hub's leaves its era as it is.
+        let _ = guard.clock(moment);
+        let seat = &mut self.seat;
+        let errands = &mut self.errands;
+        let (mut guard, begun) = begin_each(
+            rt, alloc, hub, guard, seat, errands, routes, request, count, calls,
+        );
+        errands.set_off_at_once(rt, alloc, lanes, &mut guard, calls.as_slice());
+        begun
     }
 
-    /// Waits for the reply to a call, and takes it.
-    fn take(&mut self, call: CallId) -> Result<TakenReply, CoreFault>
-        ensures taken { IfOk result WasTaken }
-        ensures call { IfOk result (λ taken. taken.receipt.call ≡ call) }
-        ensures counted { OnOk result (self.new.seat.taken.amount ≡ self.old.seat.taken.amount + 1) }
-        ensures uncounted { OnErr result (self.new.seat.taken.amount ≡ self.old.seat.taken.amount) }
+    /// Reports what came of the leg that was sent, if one was, and goes on with the calls.
+    fn round(
+        &mut self,
+        calls: &[CallId],
+        progress: Progress,
+        taken: &mut Vec<TakenReply>,
+    ) -> Progress
+        requires within { progress.done ≤ length calls.now }
+        requires room { length calls.now ≤ vec_capacity taken.old }
+        requires few { vec_len taken.old ≤ progress.done }
+        requires each { All WasTaken taken.old.items }
+        requires calls { progress.missed ≡ None → map (λ t. t.receipt.call) taken.old.items ≡ take progress.done calls.now }
+        requires missed { IfSome progress.missed (λ fault. fault ≡ CoreFault.NoSuchCall) }
+        ensures on { (progress.done ≤ result.done) × (result.done ≤ length calls.now) }
+        ensures most { vec_len taken.new ≤ result.done }
+        ensures room { vec_capacity taken.new ≡ vec_capacity taken.old }
+        ensures each { All WasTaken taken.new.items }
+        ensures calls { result.missed ≡ None → map (λ t. t.receipt.call) taken.new.items ≡ take result.done calls.now }
+        ensures missed { IfSome result.missed (λ fault. fault ≡ CoreFault.NoSuchCall) }
+        ensures counted { self.new.seat.taken.amount + vec_len taken.old ≡ self.old.seat.taken.amount + vec_len taken.new }
         ensures begun { self.new.seat.begun.amount ≡ self.old.seat.begun.amount }
-        ensures err { IfErr result (λ fault. fault ≡ CoreFault.NoSuchCall) }
     {
-        take(self.rt, self.hub, &mut self.pass, &mut self.seat, call)
+        let (rt, alloc, hub, lanes) = (self.rt, self.alloc, self.hub, self.lanes);
+        let mut guard = hub.lock(rt, &mut self.pass);
+        self.errands.land(rt, lanes, &mut guard, calls);
+        let seat = &mut self.seat;
+        let errands = &mut self.errands;
+        go_on(
+            rt, alloc, hub, lanes, guard, seat, errands, calls, progress, taken,
+        )
     }
 
-    /// Takes the replies to calls, in their order. Where one isn't there the others are taken too, and it is NoSuchCall.
+    /// Takes the replies to calls, in their order, and sends legs for that. Where one isn't there the others are taken too, and
+    /// it is NoSuchCall.
     fn take_all(&mut self, calls: &[CallId], taken: &mut Vec<TakenReply>) -> Result<(), CoreFault>
         requires empty { taken.old.items ≡ [] }
         requires room { length calls.now ≤ vec_capacity taken.old }
@@ -403,28 +565,39 @@ impl<'a, B: Ledger, T: Ledger, W: Watch, R: Wait + Clock> Caller<'a, B, T, W, R>
         ensures begun { self.new.seat.begun.amount ≡ self.old.seat.begun.amount }
         ensures err { IfErr result (λ fault. fault ≡ CoreFault.NoSuchCall) }
     {
-        let mut outcome = Ok(());
-        for call in calls {
-            match self.take(*call) {
-                Ok(reply) => taken.push_reserved(reply),
-                Err(fault) => outcome = Err(fault),
+        let mut progress = Progress {
+            done: 0,
+            missed: None,
+        };
+        for _turn in self.rt.forever() {
+            if progress.done >= calls.len() {
+                break;
             }
+            self.errands
+                .carry(self.rt, self.alloc, self.links, &self.pass);
+            progress = self.round(calls, progress, taken);
         }
-        outcome
+        self.errands.finish(self.rt, self.links, &self.pass);
+        match progress.missed {
+            Some(fault) => Err(fault),
+            None => Ok(()),
+        }
     }
 }
 
-impl<'a, B: Ledger, T: Ledger, W: Watch, R: Wait + Clock> HubDesk<'a, B, T, W, R> {
+impl<'a, B: Ledger, T: Ledger, L: Link, W: Watch, R: Wait + Clock> HubDesk<'a, B, T, L, W, R> {
     /// A desk over a hub of these routes that has answered nothing.
     pub fn new(
         rt: &'a R,
         alloc: Global,
         accepted: Arc<Accepted>,
         hub: &'a Hub<B, T>,
+        lanes: &'a Lanes,
+        links: &'a Links<L>,
         pass: Pass,
         seat: Seat<B, T>,
         watch: W,
-    ) -> HubDesk<'a, B, T, W, R>
+    ) -> HubDesk<'a, B, T, L, W, R>
         ensures receipts { result.kept.receipts.items ≡ [] }
         ensures routes { result.accepted ≡ accepted }
     {
@@ -434,9 +607,12 @@ impl<'a, B: Ledger, T: Ledger, W: Watch, R: Wait + Clock> HubDesk<'a, B, T, W, R
                 rt,
                 alloc,
                 hub,
+                lanes,
+                links,
                 pass,
                 seat,
                 watch,
+                errands: Errands::new(alloc, hub),
             },
             kept: Kept::new(alloc),
         }
@@ -506,7 +682,8 @@ impl<'a, B: Ledger, T: Ledger, W: Watch, R: Wait + Clock> HubDesk<'a, B, T, W, R
     }
 }
 
-impl<'a, B: Ledger, T: Ledger, W: Watch, R: Wait + Clock> Desk for HubDesk<'a, B, T, W, R> {
+impl<'a, B: Ledger, T: Ledger, L: Link, W: Watch, R: Wait + Clock> Desk
+    for HubDesk<'a, B, T, L, W, R> {
     // Its routes stay.
     ghost asks = { λ old request answer new. Asks (arc_value old.accepted) (record { receipts = old.kept.receipts.items; begun = old.caller.seat.begun.amount; taken = old.caller.seat.taken.amount }) request answer (record { receipts = new.kept.receipts.items; begun = new.caller.seat.begun.amount; taken = new.caller.seat.taken.amount }) × (new.accepted ≡ old.accepted) };
 

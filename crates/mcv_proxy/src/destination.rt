@@ -1,12 +1,19 @@
 //! The worker of a server.
 
+ghost use Rattle.std.specs.Prelude.{◌≡◌};
+
+use crate::agenda::Agenda;
+use crate::departure::take_next;
 use crate::ends::Ends;
-use crate::events::{landed, lost};
 use crate::gates::{Link, LinkFault};
-use mcv_base::{LegId, LegRequest, Reply, ServerId};
-use mcv_core::{CoreFault, Place};
+use crate::landing::{Landing, answer_of, land, land_again};
+use crate::lanes::Lanes;
+use crate::seen::{Departure, Flight, Landed};
+use mcv_base::{LegId, ServerId};
+use mcv_core::CoreFault;
 use mcv_hub::{Bell, Guard, Hub, LegReply, Pass};
 use std::alloc::Global;
+use std::marker::PhantomData;
 use std::sync::Wait;
 use std::sync::ledger::Ledger;
 
@@ -17,7 +24,9 @@ pub(crate) const TURNS: u64 = 1_000_000_000;
 #[derive(Drop)]
 enum Task {
     /// Send the leg, which is in flight.
-    Send(LegId, LegRequest),
+    Send(Flight),
+    /// Note that the server is marked now.
+    Marked,
     /// See whether the server, which is marked, answers again.
     Probe,
     /// Nothing more for this leg.
@@ -26,99 +35,159 @@ enum Task {
     End,
 }
 
-/// What came back of a leg; None where that is nothing, or there is no memory for it.
-pub(crate) fn reply_of(alloc: Global, sent: Result<Reply, LinkFault>) -> Option<LegReply> {
-    let reply = sent.ok()?;
-    LegReply::new(alloc, reply).ok()
-}
-
-/// What is to be done about a leg that is in flight now. That of a marked server is lost, as one is whose request gets no
-/// memory.
-fn task_for<B: Ledger, T: Ledger>(
-    alloc: Global,
-    hub: &Hub<B, T>,
-    guard: &mut Guard<'_, B, T>,
+/// No leg of the server is in flight any more: who is next there is rung.
+fn note_next<B: Ledger, T: Ledger, R: Wait>(
+    rt: &R,
+    lanes: &Lanes,
+    agenda: &mut Agenda<'_, B, T>,
+    guard: &Guard<'_, B, T>,
     server: ServerId,
-    leg: LegId,
-) -> Task {
-    if guard.core().marked(server) {
-        let _ = lost(hub, guard, server, leg);
-        return Task::Probe;
-    }
-    match guard.core().to_request(alloc, leg) {
-        Ok(Some(request)) => Task::Send(leg, request),
-        Ok(None) | Err(_) => {
-            let _ = lost(hub, guard, server, leg);
-            Task::Nothing
-        }
+) {
+    if let Some(bell) = lanes.heir(rt, guard.core(), server) {
+        agenda.add(bell);
     }
 }
 
-/// Waits until a leg can be sent to the server, and sends it; or until none waits and the worker is to end.
+/// A leg was lost without being sent: who is next at its server is rung. A server that was marked is to be probed then.
+fn after_loss<B: Ledger, T: Ledger, R: Wait>(
+    rt: &R,
+    lanes: &Lanes,
+    agenda: &mut Agenda<'_, B, T>,
+    guard: &Guard<'_, B, T>,
+    server: ServerId,
+    was_marked: bool,
+) -> Task {
+    if was_marked {
+        lanes.ask_probe(rt, server);
+    }
+    let is_probed = lanes.take_probe(rt, server);
+    note_next(rt, lanes, agenda, guard, server);
+    if is_probed {
+        Task::Probe
+    } else {
+        Task::Nothing
+    }
+}
+
+/// What is to be done about a leg that came in flight.
+fn task_for<B: Ledger, T: Ledger, R: Wait>(
+    rt: &R,
+    lanes: &Lanes,
+    agenda: &mut Agenda<'_, B, T>,
+    guard: &Guard<'_, B, T>,
+    server: ServerId,
+    was_marked: bool,
+    departure: Departure,
+) -> Task {
+    match departure {
+        Departure::Sent(flight) => Task::Send(flight),
+        Departure::Lost(_) => after_loss(rt, lanes, agenda, guard, server, was_marked),
+    }
+}
+
+/// Waits until a leg can be sent to the server, and sends it; or until none waits and the worker is to end. A probe that is
+/// asked for comes behind the legs that can be sent.
 fn next_task<B: Ledger, T: Ledger, R: Wait>(
     rt: &R,
     alloc: Global,
-    hub: &Hub<B, T>,
-    pass: &mut Pass,
+    lanes: &Lanes,
+    agenda: &mut Agenda<'_, B, T>,
+    guard: Guard<'_, B, T>,
     server: ServerId,
     ends: &Ends,
 ) -> Task {
-    let mut guard = hub.lock(rt, pass);
+    let hub = agenda.hub();
+    let mut guard = guard;
     for _turn in rt.forever() {
-        match guard.next(server) {
-            Ok(leg) => return task_for(alloc, hub, &mut guard, server, leg),
+        lanes.attend(rt, guard.core(), server);
+        let was_marked = guard.core().marked(server);
+        match take_next(alloc, agenda, &mut guard, &[], server) {
+            Ok(departure) => {
+                return task_for(rt, lanes, agenda, &guard, server, was_marked, departure);
+            }
             Err(CoreFault::NothingWaiting) if ends.are_asked() => return Task::End,
+            Err(CoreFault::Busy) => lanes.queue_worker(rt, server),
             Err(_) => {}
         }
+        if lanes.take_probe(rt, server) {
+            return Task::Probe;
+        }
+        agenda.ring_all();
         guard = hub.wait(rt, guard, Bell::Server(server));
     }
     unreachable!()
 }
 
-/// What a leg in flight came to.
-#[derive(Clone, Copy)]
-pub(crate) struct Landing {
-    pub(crate) is_performed: bool,
-    /// Its server is marked by that.
-    pub(crate) marks: bool,
-}
-
-/// Reports what came of a leg in flight.
-pub(crate) fn report<B: Ledger, T: Ledger, R: Wait>(
-    rt: &R,
-    hub: &Hub<B, T>,
-    pass: &mut Pass,
-    server: ServerId,
-    leg: LegId,
-    reply: Option<LegReply>,
-) -> Landing {
-    let mut guard = hub.lock(rt, pass);
-    let was_marked = guard.core().marked(server);
-    let is_performed = match landed(hub, &mut guard, server, leg, reply) {
-        Ok(step) => step.place == Place::Performed,
-        Err(_) => false,
-    };
-    Landing {
-        is_performed,
-        marks: !was_marked && guard.core().marked(server),
-    }
-}
-
-/// Sends a leg that is in flight, and reports what came of it.
-fn send<B: Ledger, T: Ledger, L: Link, R: Wait>(
+/// Reports what came of the leg that the worker sent, if there was one, and waits for its next task.
+fn turn<B: Ledger, T: Ledger, L: Link, R: Wait>(
     rt: &R,
     alloc: Global,
-    hub: &Hub<B, T>,
+    lanes: &Lanes,
+    agenda: &mut Agenda<'_, B, T>,
     pass: &mut Pass,
-    link: &mut L,
+    server: ServerId,
+    ends: &Ends,
+    sent: Option<Landed<L>>,
+) -> Task {
+    let hub = agenda.hub();
+    let mut guard = hub.lock(rt, pass);
+    if let Some(came) = sent {
+        if land(agenda, &mut guard, &[], came) {
+            return Task::Marked;
+        }
+    }
+    next_task(rt, alloc, lanes, agenda, guard, server, ends)
+}
+
+/// Reports what came of a leg in flight again, and rings who is next at its server.
+pub(crate) fn report_again<B: Ledger, T: Ledger, R: Wait>(
+    rt: &R,
+    lanes: &Lanes,
+    agenda: &mut Agenda<'_, B, T>,
+    pass: &mut Pass,
     server: ServerId,
     leg: LegId,
-    request: &LegRequest,
-) {
-    let sent = link.send(pass, request);
-    let reply = reply_of(alloc, sent);
-    if report(rt, hub, pass, server, leg, reply).marks {
-        link.note_marked(pass);
+    reply: Result<LegReply, LinkFault>,
+) -> Landing {
+    let landing = land_for_next(rt, lanes, agenda, pass, server, leg, reply);
+    agenda.ring_all();
+    landing
+}
+
+/// Reports what came of a leg in flight again, and notes whom to ring.
+fn land_for_next<B: Ledger, T: Ledger, R: Wait>(
+    rt: &R,
+    lanes: &Lanes,
+    agenda: &mut Agenda<'_, B, T>,
+    pass: &mut Pass,
+    server: ServerId,
+    leg: LegId,
+    reply: Result<LegReply, LinkFault>,
+) -> Landing {
+    let hub = agenda.hub();
+    let mut guard = hub.lock(rt, pass);
+    let landing = land_again(agenda, &mut guard, server, leg, reply);
+    note_next(rt, lanes, agenda, &guard, server);
+    landing
+}
+
+/// Sends a leg that is in flight. Whoever is to be woken is, while it is under way.
+fn send<B: Ledger, T: Ledger, L: Link>(
+    alloc: Global,
+    agenda: &mut Agenda<'_, B, T>,
+    pass: &Pass,
+    link: &mut L,
+    flight: Flight,
+) -> Landed<L>
+    ensures { result.flight ≡ flight }
+{
+    link.start(pass, &flight.request);
+    agenda.ring_all();
+    let reply = answer_of(alloc, pass, link, &flight.request);
+    Landed {
+        flight,
+        reply,
+        link: PhantomData,
     }
 }
 
@@ -152,27 +221,50 @@ pub(crate) fn probe<B: Ledger, T: Ledger, L: Link, R: Wait>(
     true
 }
 
+/// Does a task that sends no leg.
+fn rest<B: Ledger, T: Ledger, L: Link, R: Wait>(
+    rt: &R,
+    hub: &Hub<B, T>,
+    pass: &mut Pass,
+    link: &mut L,
+    server: ServerId,
+    task: &Task,
+) {
+    match task {
+        Task::Marked => link.note_marked(pass),
+        Task::Probe => {
+            probe(rt, hub, pass, link, server);
+        }
+        Task::Send(..) | Task::Nothing | Task::End => {}
+    }
+}
+
 /// Sends the legs that wait for a server, one at a time, until none waits and the worker is to end, at most 1,000,000,000.
-/// The legs of a marked server are lost without being sent, and after each the server is probed once.
+/// The legs of a marked server are lost without being sent, and after each the server is probed once, as it is where a
+/// session lost one so.
 pub fn serve_destination<B: Ledger, T: Ledger, L: Link, R: Wait>(
     rt: &R,
     alloc: Global,
     hub: &Hub<B, T>,
+    lanes: &Lanes,
     pass: &mut Pass,
     link: &mut L,
     server: ServerId,
     ends: &Ends,
 ) {
+    let mut agenda = Agenda::new(alloc, hub);
+    let mut sent = None;
     for _turn in 0..TURNS {
-        match next_task(rt, alloc, hub, pass, server, ends) {
-            Task::Send(leg, request) => {
-                send(rt, alloc, hub, pass, link, server, leg, &request);
+        let task = turn(rt, alloc, lanes, &mut agenda, pass, server, ends, sent);
+        sent = match task {
+            Task::Send(flight) => Some(send(alloc, &mut agenda, pass, link, flight)),
+            Task::End => break,
+            other => {
+                agenda.ring_all();
+                rest(rt, hub, pass, link, server, &other);
+                None
             }
-            Task::Probe => {
-                probe(rt, hub, pass, link, server);
-            }
-            Task::Nothing => {}
-            Task::End => return,
-        }
+        };
     }
+    agenda.ring_all();
 }

@@ -1,6 +1,6 @@
 //! Events on the lent state, and whom they let go on.
 
-ghost use Rattle.std.specs.Prelude.{◌≡◌, ◌+◌, IfErr, IfNone, IfOk, IfSome, OnErr, OnOk, Some};
+ghost use Rattle.std.specs.Prelude.{◌≡◌, ◌+◌, IfErr, IfOk, OnErr, OnOk, Some};
 ghost use Rattle.std.specs.Arc.{arc_value};
 ghost use Rattle.mcv_base.specs.Reply.{fixed_value, not_found};
 ghost use Rattle.mcv_base.specs.declared.reply.FixedReply.TheVariants.{Lost as lost_reply};
@@ -11,20 +11,22 @@ ghost use Rattle.mcv_core.specs.CoreView.{answer_at, refusing_at, spooling_at};
 ghost use Rattle.mcv_core.specs.View.{core_view, records_after, records_of};
 ghost use Rattle.mcv_hub.specs.State.{BeginsOne, IsLegEvent, IsSame, IsSameChapter};
 ghost use Rattle.mcv_proxy.specs.Events.{IsLoss};
+ghost use Rattle.mcv_proxy.specs.Steps.{IsLanding};
 
+use crate::agenda::Agenda;
+use crate::gates::LinkFault;
 use mcv_base::{CallId, LegId, Request, ServerId};
 use mcv_core::{CoreFault, Dispatcher, Place, Step};
-use mcv_hub::{Bell, Guard, Hub, LegReply, Seat};
+use mcv_hub::{Bell, Guard, LegReply, Seat};
 use mcv_spool::Stored;
 use std::alloc::Global;
 use std::sync::Arc;
 use std::sync::ledger::Ledger;
 
-/// Who may go on after an event on a leg, as far as it is known before: its server, its call, and the number of the first
-/// leg that the event would launch.
+/// Who may go on after an event on a leg, as far as it is known before: its call, and the number of the first leg that the
+/// event would launch.
 #[derive(Clone, Copy)]
 struct Concerned {
-    server: Option<ServerId>,
     call: Option<CallId>,
     first: u64,
 }
@@ -34,15 +36,10 @@ fn concerned_by(core: &Dispatcher, leg: LegId) -> Concerned {
     let first = core.next_leg();
     match core.leg(leg) {
         Some(view) => Concerned {
-            server: Some(view.server),
             call: view.call,
             first,
         },
-        None => Concerned {
-            server: None,
-            call: None,
-            first,
-        },
+        None => Concerned { call: None, first },
     }
 }
 
@@ -50,45 +47,38 @@ fn concerned_by(core: &Dispatcher, leg: LegId) -> Concerned {
 const MANY_ENTRIES: usize = 500_000;
 
 /// Begins a new chapter where this one has many entries, and no call of it runs and no leg is queued.
-pub(crate) fn turn_where_full<B: Ledger, T: Ledger>(hub: &Hub<B, T>, guard: &mut Guard<'_, B, T>) {
+pub(crate) fn turn_where_full<B: Ledger, T: Ledger>(
+    agenda: &mut Agenda<'_, B, T>,
+    guard: &mut Guard<'_, B, T>,
+) {
     if guard.core().entries() >= MANY_ENTRIES {
         let _ = guard.turn();
-        hub.ring(Bell::Chapter);
+        agenda.add(Bell::Chapter);
     }
 }
 
-/// Rings the workers of the servers of all legs from this number on.
-fn ring_launched<B: Ledger, T: Ledger>(hub: &Hub<B, T>, core: &Dispatcher, first: u64) {
-    for leg in first..core.next_leg() {
-        if let Some(view) = core.leg(LegId(leg)) {
-            hub.ring(Bell::Server(view.server));
-        }
-    }
-}
-
-/// Rings whom an event on a leg let go on: the workers of legs that it launched, the leg's own one, which may send the next
-/// leg, who waits for the reply to its call, once that is there, and the spool's worker or the replayer, whose leg it now is.
-fn ring_after<B: Ledger, T: Ledger>(
-    hub: &Hub<B, T>,
+/// Notes whom an event on a leg let go on: who is to send the legs that it launched, who waits for the reply to its call, once
+/// that is there, unless that is the thread itself, whose calls these are, and the spool's worker or the replayer, whose leg
+/// it now is. Who may send the server's next leg isn't among them.
+fn note_after<B: Ledger, T: Ledger>(
+    agenda: &mut Agenda<'_, B, T>,
     core: &Dispatcher,
+    own: &[CallId],
     concerned: Concerned,
     place: Place,
 ) {
-    ring_launched(hub, core, concerned.first);
-    if let Some(server) = concerned.server {
-        hub.ring(Bell::Server(server));
-    }
+    agenda.note_launched(core, concerned.first, own);
     if let Some(call) = concerned.call {
-        if core.can_take(call) {
-            hub.ring(Bell::Call(call));
+        if !own.contains(&call) && core.can_take(call) {
+            agenda.add(Bell::Call(call));
         }
     }
     if core.entries() >= MANY_ENTRIES {
-        hub.ring(Bell::Chapter);
+        agenda.add(Bell::Chapter);
     }
     match place {
-        Place::Held => hub.ring(Bell::Spool),
-        Place::Spooled => hub.ring(Bell::Replayer),
+        Place::Held => agenda.add(Bell::Spool),
+        Place::Spooled => agenda.add(Bell::Replayer),
         Place::Waiting | Place::Sent | Place::Performed | Place::Gone => {}
     }
 }
@@ -96,7 +86,7 @@ fn ring_after<B: Ledger, T: Ledger>(
 /// Begins a call for one key of the request.
 pub(crate) fn begin<B: Ledger, T: Ledger>(
     alloc: Global,
-    hub: &Hub<B, T>,
+    agenda: &mut Agenda<'_, B, T>,
     guard: &mut Guard<'_, B, T>,
     seat: &mut Seat<B, T>,
     request: Arc<Request>,
@@ -113,14 +103,15 @@ pub(crate) fn begin<B: Ledger, T: Ledger>(
 {
     let first = guard.core().next_leg();
     let call = guard.begin(alloc, seat, request, key)?;
-    ring_launched(hub, guard.core(), first);
+    agenda.note_launched(guard.core(), first, &[call]);
     Ok(call)
 }
 
 /// A leg in flight was answered.
 pub(crate) fn answered<B: Ledger, T: Ledger>(
-    hub: &Hub<B, T>,
+    agenda: &mut Agenda<'_, B, T>,
     guard: &mut Guard<'_, B, T>,
+    own: &[CallId],
     leg: LegId,
     reply: LegReply,
 ) -> Result<Step, CoreFault>
@@ -129,14 +120,15 @@ pub(crate) fn answered<B: Ledger, T: Ledger>(
 {
     let concerned = concerned_by(guard.core(), leg);
     let step = guard.answered(leg, reply)?;
-    ring_after(hub, guard.core(), concerned, step.place);
+    note_after(agenda, guard.core(), own, concerned, step.place);
     Ok(step)
 }
 
 /// A leg in flight was lost, and its server is marked where it has failed too often.
 pub(crate) fn lost<B: Ledger, T: Ledger>(
-    hub: &Hub<B, T>,
+    agenda: &mut Agenda<'_, B, T>,
     guard: &mut Guard<'_, B, T>,
+    own: &[CallId],
     server: ServerId,
     leg: LegId,
 ) -> Result<Step, CoreFault>
@@ -145,30 +137,30 @@ pub(crate) fn lost<B: Ledger, T: Ledger>(
     let concerned = concerned_by(guard.core(), leg);
     let step = guard.lost(leg)?;
     guard.mark(server);
-    ring_after(hub, guard.core(), concerned, step.place);
+    note_after(agenda, guard.core(), own, concerned, step.place);
     Ok(step)
 }
 
 /// A leg in flight came to this: it was answered, or it was lost.
 pub(crate) fn landed<B: Ledger, T: Ledger>(
-    hub: &Hub<B, T>,
+    agenda: &mut Agenda<'_, B, T>,
     guard: &mut Guard<'_, B, T>,
+    own: &[CallId],
     server: ServerId,
     leg: LegId,
-    reply: Option<LegReply>,
+    reply: Result<LegReply, LinkFault>,
 ) -> Result<Step, CoreFault>
-    ensures answered { IfSome reply (λ r. IsLegEvent (answer_at (core_view guard.old.core) leg.0 r) r leg guard.old guard.new result) }
-    ensures lost { IfNone reply (IsLoss server leg guard.old guard.new result) }
+    ensures { IsLanding server leg reply guard.old guard.new result }
 {
     match reply {
-        Some(reply) => answered(hub, guard, leg, reply),
-        None => lost(hub, guard, server, leg),
+        Ok(reply) => answered(agenda, guard, own, leg, reply),
+        Err(_) => lost(agenda, guard, own, server, leg),
     }
 }
 
 /// A held leg is in the spool.
 pub(crate) fn spooled<B: Ledger, T: Ledger>(
-    hub: &Hub<B, T>,
+    agenda: &mut Agenda<'_, B, T>,
     guard: &mut Guard<'_, B, T>,
     leg: LegId,
     stored: Stored,
@@ -178,13 +170,13 @@ pub(crate) fn spooled<B: Ledger, T: Ledger>(
 {
     let concerned = concerned_by(guard.core(), leg);
     let step = guard.spooled(leg, stored)?;
-    ring_after(hub, guard.core(), concerned, step.place);
+    note_after(agenda, guard.core(), &[], concerned, step.place);
     Ok(step)
 }
 
 /// The spool refused a held leg.
 pub(crate) fn spool_refused<B: Ledger, T: Ledger>(
-    hub: &Hub<B, T>,
+    agenda: &mut Agenda<'_, B, T>,
     guard: &mut Guard<'_, B, T>,
     leg: LegId,
 ) -> Result<Step, CoreFault>
@@ -193,6 +185,6 @@ pub(crate) fn spool_refused<B: Ledger, T: Ledger>(
 {
     let concerned = concerned_by(guard.core(), leg);
     let step = guard.spool_refused(leg)?;
-    ring_after(hub, guard.core(), concerned, step.place);
+    note_after(agenda, guard.core(), &[], concerned, step.place);
     Ok(step)
 }

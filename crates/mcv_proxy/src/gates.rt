@@ -20,8 +20,22 @@ pub enum LinkFault {
 
 /// The way to one server. Who asks over it shows a pass, so that it hasn't the hub's lock.
 pub trait Link: Drop {
-    /// Sends a leg, and waits for its reply.
-    fn send(&mut self, pass: &Pass, leg: &LegRequest) -> Result<Reply, LinkFault>;
+    ghost use Rattle.std.specs.Prelude.{Result, ⊤};
+    ghost use Rattle.mcv_base.specs.declared.reply.Reply.{Reply};
+    ghost use Rattle.mcv_base.specs.declared.request.LegRequest.{LegRequest};
+    ghost use Rattle.mcv_proxy.specs.declared.gates.LinkFault.{LinkFault};
+
+    /// What the link says of an answer: the link before, what it was asked, the reply or the fault, the link after. One
+    /// that says nothing may answer anything.
+    ghost answers: { Self → LegRequest → Result Reply LinkFault → Self → Type 0 } = { λ _ _ _ _. ⊤ };
+
+    /// Begins to send a leg, as far as that goes without its reply, so that legs to several servers are under way at once.
+    /// `send` of the same leg comes next.
+    fn start(&mut self, _pass: &Pass, _leg: &LegRequest) {}
+
+    /// Sends a leg, or what `start` left of it, and waits for its reply.
+    fn send(&mut self, pass: &Pass, leg: &LegRequest) -> Result<Reply, LinkFault>
+        ensures { answers self.old leg.now result self.new };
 
     /// Whether the server answers at all.
     fn probe(&mut self, pass: &Pass) -> Result<(), LinkFault>;

@@ -7,13 +7,19 @@
 //! which rings those who can go on then. No thread waits for a server, a disk, a client or the clock while it has the lock.
 #![tactic(auto)]
 
+mod agenda;
+mod departure;
 mod desk;
 mod destination;
 mod ends;
+mod errands;
 mod events;
 mod fault;
 mod gates;
+mod landing;
+mod lanes;
 mod replay;
+mod seen;
 mod spooling;
 mod threads;
 
@@ -22,6 +28,7 @@ pub use crate::destination::serve_destination;
 pub use crate::ends::Ends;
 pub use crate::fault::ProxyFault;
 pub use crate::gates::{Gates, Link, LinkFault, Watch};
+pub use crate::lanes::{Lanes, Links};
 pub use crate::replay::serve_replay;
 pub use crate::spooling::serve_spool;
 pub use crate::threads::start;

@@ -1,12 +1,21 @@
 //! The replayer: deletes that are in the spool are sent again.
 
-use crate::destination::{TURNS, probe, reply_of, report};
+ghost use Rattle.std.specs.Prelude.{◌≡◌, None, Some, IfNone, IfOk, IfSome, OnErr, OnOk, set};
+ghost use Rattle.mcv_core.specs.Requests.{asked_at, asked_by};
+ghost use Rattle.mcv_proxy.specs.Flights.{HasReply, is_marked};
+
+use crate::agenda::Agenda;
+use crate::departure::request_of;
+use crate::destination::{TURNS, probe, report_again};
 use crate::ends::Ends;
-use crate::gates::{Link, Watch};
+use crate::gates::{Link, LinkFault, Watch};
+use crate::landing::answer_of;
+use crate::lanes::Lanes;
+use crate::seen::Performed;
 use mcv_base::{LegId, LegRequest, ServerId};
 use mcv_core::CoreFault;
 use mcv_hub::{Bell, Guard, Hub, LegReply, Pass};
-use mcv_spool::{Disk, Spool};
+use mcv_spool::{Disk, Spool, SpoolFault};
 use std::alloc::Global;
 use std::sync::ledger::Ledger;
 use std::sync::{Mutex, Wait};
@@ -18,8 +27,6 @@ struct Repeat {
     leg: LegId,
     /// None where it gets no memory.
     request: Option<LegRequest>,
-    /// The number of its record.
-    record: Option<u64>,
     /// Whether its server is marked.
     is_marked: bool,
 }
@@ -64,18 +71,18 @@ fn repeat_of<B: Ledger, T: Ledger>(
     guard: &Guard<'_, B, T>,
     server: ServerId,
     leg: LegId,
-) -> Repeat {
-    let core = guard.core();
-    let request = match core.to_request(alloc, leg) {
-        Ok(request) => request,
-        Err(_) => None,
-    };
+) -> Repeat
+    ensures its { (result.server ≡ server) × (result.leg ≡ leg) }
+    ensures asks { IfSome result.request (λ request. asked_at guard.now.core leg.0 ≡ Some (asked_by request)) }
+    ensures marked { result.is_marked ≡ is_marked guard.now server }
+{
+    let request = request_of(alloc, guard.core(), leg);
+    let is_marked = guard.core().marked(server);
     Repeat {
         server,
         leg,
         request,
-        record: core.record(leg),
-        is_marked: core.marked(server),
+        is_marked,
     }
 }
 
@@ -115,36 +122,52 @@ fn ask<B: Ledger, T: Ledger, L: Link, R: Wait>(
     pass: &mut Pass,
     link: &mut L,
     repeat: &Repeat,
-) -> Option<LegReply> {
+) -> Result<LegReply, LinkFault>
+    ensures { IfOk result (HasReply L.answers repeat.now.request) }
+{
     if repeat.is_marked && !probe(rt, hub, pass, link, repeat.server) {
-        return None;
+        return Err(LinkFault::Broken);
     }
-    let request = repeat.request.as_ref()?;
-    let sent = link.send(pass, request);
-    reply_of(alloc, sent)
+    match &repeat.request {
+        Some(request) => answer_of(alloc, pass, link, request),
+        None => Err(LinkFault::Memory),
+    }
+}
+
+/// The record of a leg that its server has performed is done.
+fn mark_done<D: Disk>(spool: &mut Spool<D>, performed: Performed) -> Result<(), SpoolFault>
+    ensures done { IfSome performed.number (λ number. OnOk result (spool.new.contents.pending.items ≡ set spool.old.contents.pending.items number None)) }
+    ensures pending { OnErr result (spool.new.contents.pending.items ≡ spool.old.contents.pending.items) }
+    ensures none { IfNone performed.number (spool.new ≡ spool.old) }
+{
+    match performed.number {
+        Some(number) => spool.done(number),
+        None => Ok(()),
+    }
 }
 
 /// Sends a leg again; once it is performed, its record is done. Whether it was performed.
 fn repeat_leg<B: Ledger, T: Ledger, L: Link, D: Disk, R: Wait>(
     rt: &R,
     alloc: Global,
-    hub: &Hub<B, T>,
+    lanes: &Lanes,
+    agenda: &mut Agenda<'_, B, T>,
     pass: &mut Pass,
     spool: &Mutex<Spool<D>>,
     link: &mut L,
     repeat: &Repeat,
 ) -> bool {
-    let reply = ask(rt, alloc, hub, pass, link, repeat);
-    let landing = report(rt, hub, pass, repeat.server, repeat.leg, reply);
+    let reply = ask(rt, alloc, agenda.hub(), pass, link, repeat);
+    let landing = report_again(rt, lanes, agenda, pass, repeat.server, repeat.leg, reply);
     if landing.marks {
         link.note_marked(pass);
     }
-    if landing.is_performed {
-        if let Some(seq) = repeat.record {
-            let _ = spool.lock(rt).done(seq);
-        }
-    }
-    landing.is_performed
+    let Some(performed) = landing.performed else {
+        return false;
+    };
+    let mut spool = spool.lock(rt);
+    let _ = mark_done(&mut *spool, performed);
+    true
 }
 
 /// Goes round the servers once, and sends the legs again that are in the spool: those of a server until one isn't
@@ -152,7 +175,8 @@ fn repeat_leg<B: Ledger, T: Ledger, L: Link, D: Disk, R: Wait>(
 fn go_round<B: Ledger, T: Ledger, L: Link, D: Disk, R: Wait>(
     rt: &R,
     alloc: Global,
-    hub: &Hub<B, T>,
+    lanes: &Lanes,
+    agenda: &mut Agenda<'_, B, T>,
     pass: &mut Pass,
     spool: &Mutex<Spool<D>>,
     links: &mut [L],
@@ -161,13 +185,13 @@ fn go_round<B: Ledger, T: Ledger, L: Link, D: Disk, R: Wait>(
     let count = u32::try_from(links.len()).unwrap_or(u32::MAX);
     let mut from = 0;
     for _turn in 0..TURNS {
-        match find(rt, alloc, hub, pass, (from, count), ends) {
+        match find(rt, alloc, agenda.hub(), pass, (from, count), ends) {
             Found::Leg(repeat) => {
                 from = repeat.server.0;
                 let Some(link) = links.get_mut(from as usize) else {
                     return false;
                 };
-                if !repeat_leg(rt, alloc, hub, pass, spool, link, &repeat) {
+                if !repeat_leg(rt, alloc, lanes, agenda, pass, spool, link, &repeat) {
                     from = from.saturating_add(1);
                 }
             }
@@ -185,14 +209,16 @@ pub fn serve_replay<B: Ledger, T: Ledger, L: Link, D: Disk, W: Watch, R: Wait>(
     rt: &R,
     alloc: Global,
     hub: &Hub<B, T>,
+    lanes: &Lanes,
     pass: &mut Pass,
     spool: &Mutex<Spool<D>>,
     links: &mut [L],
     watch: &mut W,
     ends: &Ends,
 ) {
+    let mut agenda = Agenda::new(alloc, hub);
     for _turn in 0..TURNS {
-        if !go_round(rt, alloc, hub, pass, spool, links, ends) {
+        if !go_round(rt, alloc, lanes, &mut agenda, pass, spool, links, ends) {
             return;
         }
         watch.pause();

@@ -1,24 +1,62 @@
 //! The worker of the spool.
 
+ghost use Rattle.std.specs.Prelude.{◌≡◌, false, None, Some, IfErr, IfNone, IfOk, IfSome, OnErr, OnOk, is_some};
+ghost use Rattle.mcv_base.specs.Reply.{fixed_value, not_found};
+ghost use Rattle.mcv_base.specs.declared.reply.FixedReply.TheVariants.{Lost as lost_reply};
+ghost use Rattle.mcv_core.specs.CoreView.{refusing_at, spooling_at};
+ghost use Rattle.mcv_core.specs.Readers.{IsFirstHeld};
+ghost use Rattle.mcv_core.specs.View.{core_view};
+ghost use Rattle.mcv_hub.specs.State.{IsLegEvent};
+ghost use Rattle.mcv_spool.specs.Found.{IsFound};
+ghost use Rattle.mcv_proxy.specs.Flights.{IsRecordOf};
+ghost use Rattle.mcv_proxy.specs.Steps.{breaks_spool};
+
+use crate::agenda::Agenda;
 use crate::destination::TURNS;
 use crate::ends::Ends;
 use crate::events::{spool_refused, spooled};
 use crate::gates::Watch;
+use crate::seen::HeldLeg;
 use mcv_base::{LegId, ServerText};
-use mcv_core::Dispatcher;
-use mcv_hub::{Bell, Hub, Pass};
+use mcv_core::{CoreFault, Step};
+use mcv_hub::{Bell, Guard, Hub, Pass};
 use mcv_spool::{Disk, Spool, SpoolFault, SpoolRecord, Stored};
+use std::alloc::Global;
 use std::sync::ledger::Ledger;
 use std::sync::{Mutex, Wait};
 
 /// The record of a leg, where these are the texts of the servers.
-fn record_of(texts: &[Option<ServerText>], core: &Dispatcher, leg: LegId) -> Option<SpoolRecord> {
-    let view = core.leg(leg)?;
+fn record_of<B: Ledger, T: Ledger>(
+    texts: &[Option<ServerText>],
+    guard: &Guard<'_, B, T>,
+    leg: LegId,
+) -> Option<SpoolRecord>
+    ensures { IfSome result (IsRecordOf texts.now guard.now leg) }
+{
+    let view = guard.core().leg(leg)?;
     let text = texts.get(view.server.0 as usize)?.as_ref()?;
     Some(SpoolRecord {
         server: text.copied(),
         rest: view.rest.copied(),
     })
+}
+
+/// The leg that the spool is to take next, with its record; None where there is none, and no leg where it has no record.
+fn held_leg<B: Ledger, T: Ledger>(
+    texts: &[Option<ServerText>],
+    guard: &Guard<'_, B, T>,
+) -> Option<Option<HeldLeg>>
+    ensures none { IfNone result (IsFirstHeld (core_view guard.now.core).rows None) }
+    ensures first { IfSome result (λ o. IfSome o (λ held. IsFirstHeld (core_view guard.now.core).rows (Some held.leg.0))) }
+    ensures delete { IfSome result (λ o. IfSome o (λ held. IsRecordOf texts.now guard.now held.leg held.delete)) }
+{
+    guard.deletes_are_kept();
+    let leg = guard.core().held()?;
+    let Some(delete) = record_of(texts, guard, leg) else {
+        return Some(None);
+    };
+    let held = HeldLeg { leg, delete };
+    Some(Some(held))
 }
 
 /// Waits until the spool is to take a leg, and gives it with its record; None once there is none and the worker is to end.
@@ -28,11 +66,11 @@ fn next_held<B: Ledger, T: Ledger, R: Wait>(
     hub: &Hub<B, T>,
     pass: &mut Pass,
     ends: &Ends,
-) -> Option<(LegId, SpoolRecord)> {
+) -> Option<HeldLeg> {
     let mut guard = hub.lock(rt, pass);
     for _turn in rt.forever() {
-        if let Some(leg) = guard.core().held() {
-            return Some((leg, record_of(texts, guard.core(), leg)?));
+        if let Some(held) = held_leg(texts, &guard) {
+            return held;
         }
         if ends.are_asked() {
             return None;
@@ -51,32 +89,61 @@ fn append<D: Disk, R: Wait>(
     spool.lock(rt).append(delete)
 }
 
-/// Opens the spool again where it answers nothing else before.
-fn reopen<D: Disk, R: Wait>(rt: &R, spool: &Mutex<Spool<D>>, fault: SpoolFault) {
+/// Opens the spool again where it answers nothing else before; None where it does.
+fn mend<D: Disk>(spool: &mut Spool<D>, fault: SpoolFault) -> Option<Result<(), SpoolFault>>
+    ensures asked { is_some result ≡ breaks_spool fault }
+    ensures ready { IfSome result (λ answer. OnOk answer (spool.new.needs_reopen ≡ false)) }
+    ensures found { D.keeps_model → IfSome result (λ answer. OnOk answer (IsFound (D.seen spool.old.disk) spool.new.contents.pending.items)) }
+    ensures pending { IfSome result (λ answer. OnErr answer (spool.new.contents.pending.items ≡ spool.old.contents.pending.items)) }
+    ensures none { IfNone result (spool.new ≡ spool.old) }
+{
     match fault {
-        SpoolFault::Device | SpoolFault::Reopen => {
-            let _ = spool.lock(rt).reopen();
-        }
-        SpoolFault::Full | SpoolFault::Memory | SpoolFault::Damaged(_) => {}
+        SpoolFault::Device | SpoolFault::Reopen => Some(spool.reopen()),
+        SpoolFault::Full | SpoolFault::Memory | SpoolFault::Damaged(_) => None,
     }
 }
 
-/// Reports a leg whose record is written.
-fn keep<B: Ledger, T: Ledger, R: Wait>(
-    rt: &R,
-    hub: &Hub<B, T>,
-    pass: &mut Pass,
-    leg: LegId,
-    stored: Stored,
-) {
-    let mut guard = hub.lock(rt, pass);
-    let _ = spooled(hub, &mut guard, leg, stored);
+/// Opens the spool again where it answers nothing else before.
+fn reopen<D: Disk, R: Wait>(rt: &R, spool: &Mutex<Spool<D>>, fault: SpoolFault) {
+    let mut spool = spool.lock(rt);
+    let _ = mend(&mut *spool, fault);
 }
 
-/// Reports a leg whose record was refused.
-fn refuse<B: Ledger, T: Ledger, R: Wait>(rt: &R, hub: &Hub<B, T>, pass: &mut Pass, leg: LegId) {
+/// Reports what came of writing the record of a held leg: the leg is in the spool, or the spool refused it.
+fn settle<B: Ledger, T: Ledger>(
+    agenda: &mut Agenda<'_, B, T>,
+    guard: &mut Guard<'_, B, T>,
+    leg: LegId,
+    outcome: Result<Stored, SpoolFault>,
+) -> Result<Step, CoreFault>
+    ensures stored { IfOk outcome (λ stored. IsLegEvent (spooling_at (core_view guard.old.core) leg.0 stored.«record».server stored.«record».rest) not_found leg guard.old guard.new result) }
+    ensures refused { OnErr outcome (IsLegEvent (refusing_at (core_view guard.old.core) leg.0) (fixed_value lost_reply) leg guard.old guard.new result) }
+{
+    match outcome {
+        Ok(stored) => spooled(agenda, guard, leg, stored),
+        Err(_) => spool_refused(agenda, guard, leg),
+    }
+}
+
+/// Reports what came of writing the record of a held leg, and notes whom to ring. Why the record was refused, if it was.
+fn report<B: Ledger, T: Ledger, R: Wait>(
+    rt: &R,
+    agenda: &mut Agenda<'_, B, T>,
+    pass: &mut Pass,
+    leg: LegId,
+    outcome: Result<Stored, SpoolFault>,
+) -> Option<SpoolFault>
+    ensures ok { IfOk outcome (λ stored. result ≡ None) }
+    ensures err { IfErr outcome (λ fault. result ≡ Some fault) }
+{
+    let fault = match &outcome {
+        Ok(_) => None,
+        Err(fault) => Some(*fault),
+    };
+    let hub = agenda.hub();
     let mut guard = hub.lock(rt, pass);
-    let _ = spool_refused(hub, &mut guard, leg);
+    let _ = settle(agenda, &mut guard, leg, outcome);
+    fault
 }
 
 /// Notes whether the spool refuses records, where that is another answer than before.
@@ -97,6 +164,7 @@ fn note<W: Watch>(watch: &mut W, refuses: &mut bool, refused: bool) {
 /// second the first leg that is held then comes next; a worker that is to end does so.
 pub fn serve_spool<B: Ledger, T: Ledger, D: Disk, W: Watch, R: Wait>(
     rt: &R,
+    alloc: Global,
     texts: &[Option<ServerText>],
     hub: &Hub<B, T>,
     pass: &mut Pass,
@@ -104,25 +172,22 @@ pub fn serve_spool<B: Ledger, T: Ledger, D: Disk, W: Watch, R: Wait>(
     watch: &mut W,
     ends: &Ends,
 ) {
+    let mut agenda = Agenda::new(alloc, hub);
     let mut refuses = false;
     for _turn in 0..TURNS {
-        let Some((leg, delete)) = next_held(rt, texts, hub, pass, ends) else {
+        let Some(HeldLeg { leg, delete }) = next_held(rt, texts, hub, pass, ends) else {
             return;
         };
-        match append(rt, spool, delete) {
-            Ok(stored) => {
-                keep(rt, hub, pass, leg, stored);
-                note(watch, &mut refuses, false);
+        let outcome = append(rt, spool, delete);
+        let fault = report(rt, &mut agenda, pass, leg, outcome);
+        agenda.ring_all();
+        note(watch, &mut refuses, fault.is_some());
+        if let Some(fault) = fault {
+            reopen(rt, spool, fault);
+            if ends.are_asked() {
+                return;
             }
-            Err(fault) => {
-                refuse(rt, hub, pass, leg);
-                note(watch, &mut refuses, true);
-                reopen(rt, spool, fault);
-                if ends.are_asked() {
-                    return;
-                }
-                watch.pause();
-            }
+            watch.pause();
         }
     }
 }

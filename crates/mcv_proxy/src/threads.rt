@@ -1,19 +1,23 @@
 //! The threads of a proxy.
 
-ghost use Rattle.std.specs.Prelude.{◌≡◌, ◌+◌};
+ghost use Rattle.std.specs.Prelude.{◌≡◌, ◌+◌, IfOk, length, map};
+ghost use Rattle.mcv_spool.specs.File.{slots, waiting};
+ghost use Rattle.mcv_proxy.specs.Pending.{numbered};
+ghost use Rattle.mcv_proxy.specs.Reports.{IsReport, IsReportOf};
 
 use crate::desk::HubDesk;
 use crate::destination::serve_destination;
 use crate::ends::Ends;
 use crate::fault::ProxyFault;
 use crate::gates::{Gates, Link, Watch};
+use crate::lanes::{Lanes, Links};
 use crate::replay::serve_replay;
 use crate::spooling::serve_spool;
 use mcv_base::{ServerId, ServerText};
 use mcv_check::Accepted;
 use mcv_hub::{Bell, Hub, Pass, Passes, Receipt, Report, Seat};
 use mcv_session::serve_session;
-use mcv_spool::{Disk, Spool};
+use mcv_spool::{Disk, Slot, Spool, SpoolRecord};
 use std::alloc::{AllocError, Global};
 use std::io::{Read, Write};
 use std::marker::Brand;
@@ -44,6 +48,7 @@ struct Done<B: Ledger, T: Ledger> {
 struct Shared<B: Ledger, T: Ledger, D: Disk> {
     accepted: Arc<Accepted>,
     hub: Arc<Hub<B, T>>,
+    lanes: Arc<Lanes>,
     spool: Arc<Mutex<Spool<D>>>,
     /// How many records were pending in the spool when it was opened.
     pending: usize,
@@ -66,12 +71,13 @@ fn work<B: Ledger, T: Ledger, L: Link, R: Wait>(
     rt: &R,
     alloc: Global,
     hub: &Hub<B, T>,
+    lanes: &Lanes,
     ends: &Ends,
     mut pass: Pass,
     mut link: L,
     server: ServerId,
 ) {
-    serve_destination(rt, alloc, hub, &mut pass, &mut link, server, ends);
+    serve_destination(rt, alloc, hub, lanes, &mut pass, &mut link, server, ends);
 }
 
 /// Starts the worker of a server.
@@ -84,18 +90,20 @@ fn employ<
     rt: R,
     alloc: Global,
     hub: Arc<Hub<B, T>>,
+    lanes: Arc<Lanes>,
     ends: Arc<Ends>,
     pass: Pass,
     link: L,
     server: ServerId,
 ) -> Option<JoinHandle<()>> {
-    let job = move || work(&rt, alloc, &*hub, &*ends, pass, link, server);
+    let job = move || work(&rt, alloc, &*hub, &*lanes, &*ends, pass, link, server);
     thread::spawn(&rt, job).ok()
 }
 
 /// The work of the spool's worker.
 fn write_down<B: Ledger, T: Ledger, D: Disk, W: Watch, R: Wait>(
     rt: &R,
+    alloc: Global,
     texts: &[Option<ServerText>],
     hub: &Hub<B, T>,
     spool: &Mutex<Spool<D>>,
@@ -103,7 +111,7 @@ fn write_down<B: Ledger, T: Ledger, D: Disk, W: Watch, R: Wait>(
     mut pass: Pass,
     mut watch: W,
 ) {
-    serve_spool(rt, texts, hub, &mut pass, spool, &mut watch, ends);
+    serve_spool(rt, alloc, texts, hub, &mut pass, spool, &mut watch, ends);
 }
 
 /// Starts the spool's worker.
@@ -115,6 +123,7 @@ fn employ_spool<
     R: Threads + Wait + Clock + Copy + Send + 'static,
 >(
     rt: R,
+    alloc: Global,
     texts: Vec<Option<ServerText>>,
     hub: Arc<Hub<B, T>>,
     spool: Arc<Mutex<Spool<D>>>,
@@ -122,7 +131,16 @@ fn employ_spool<
     pass: Pass,
     watch: W,
 ) -> Option<JoinHandle<()>> {
-    let job = move || write_down(&rt, texts.as_slice(), &*hub, &*spool, &*ends, pass, watch);
+    let job = move || write_down(
+        &rt,
+        alloc,
+        texts.as_slice(),
+        &*hub,
+        &*spool,
+        &*ends,
+        pass,
+        watch,
+    );
     thread::spawn(&rt, job).ok()
 }
 
@@ -131,6 +149,7 @@ fn send_again<B: Ledger, T: Ledger, D: Disk, L: Link, W: Watch, R: Wait>(
     rt: &R,
     alloc: Global,
     hub: &Hub<B, T>,
+    lanes: &Lanes,
     spool: &Mutex<Spool<D>>,
     ends: &Ends,
     mut pass: Pass,
@@ -138,7 +157,9 @@ fn send_again<B: Ledger, T: Ledger, D: Disk, L: Link, W: Watch, R: Wait>(
     mut watch: W,
 ) {
     let links = links.as_mut_slice();
-    serve_replay(rt, alloc, hub, &mut pass, spool, links, &mut watch, ends);
+    serve_replay(
+        rt, alloc, hub, lanes, &mut pass, spool, links, &mut watch, ends,
+    );
 }
 
 /// Starts the replayer.
@@ -153,29 +174,59 @@ fn employ_replayer<
     rt: R,
     alloc: Global,
     hub: Arc<Hub<B, T>>,
+    lanes: Arc<Lanes>,
     spool: Arc<Mutex<Spool<D>>>,
     ends: Arc<Ends>,
     pass: Pass,
     links: Vec<L>,
     watch: W,
 ) -> Option<JoinHandle<()>> {
-    let job = move || send_again(&rt, alloc, &*hub, &*spool, &*ends, pass, links, watch);
+    let job = move || send_again(
+        &rt, alloc, &*hub, &*lanes, &*spool, &*ends, pass, links, watch,
+    );
     thread::spawn(&rt, job).ok()
 }
 
+/// What the threads of sessions share.
+#[derive(Drop)]
+struct SessionContext<B: Ledger, T: Ledger, L: Link> {
+    accepted: Arc<Accepted>,
+    hub: Arc<Hub<B, T>>,
+    lanes: Arc<Lanes>,
+    links: Arc<Links<L>>,
+}
+
+/// A client that is to be served, and the watch of its session.
+#[derive(Drop)]
+struct Visitor<I: Read + Drop, O: Write + Drop, W: Watch> {
+    reader: I,
+    writer: O,
+    watch: W,
+}
+
 /// Serves a client until its session ends.
-fn serve<B: Ledger, T: Ledger, I: Read + Drop, O: Write + Drop, W: Watch, R: Wait + Clock>(
+fn serve<B: Ledger, T: Ledger, L: Link, I: Read + Drop, O: Write + Drop, W: Watch, R: Wait + Clock>(
     rt: &R,
     alloc: Global,
-    accepted: Arc<Accepted>,
-    hub: &Hub<B, T>,
+    context: SessionContext<B, T, L>,
     pass: Pass,
     seat: Seat<B, T>,
-    mut reader: I,
-    mut writer: O,
-    watch: W,
+    visitor: Visitor<I, O, W>,
 ) -> Done<B, T> {
-    let mut desk = HubDesk::new(rt, alloc, accepted, hub, pass, seat, watch);
+    let SessionContext {
+        accepted,
+        hub,
+        lanes,
+        links,
+    } = context;
+    let Visitor {
+        mut reader,
+        mut writer,
+        watch,
+    } = visitor;
+    let mut desk = HubDesk::new(
+        rt, alloc, accepted, &*hub, &*lanes, &*links, pass, seat, watch,
+    );
     let _ = serve_session(alloc, &mut reader, &mut writer, &mut desk);
     let (seat, receipts) = desk.into_parts();
     Done { seat, receipts }
@@ -185,6 +236,7 @@ fn serve<B: Ledger, T: Ledger, I: Read + Drop, O: Write + Drop, W: Watch, R: Wai
 fn host<
     B: Ledger + Send + Sync + 'static,
     T: Ledger + Send + Sync + 'static,
+    L: Link + Send + 'static,
     I: Read + Drop + Send + 'static,
     O: Write + Drop + Send + 'static,
     W: Watch + Send + 'static,
@@ -192,17 +244,12 @@ fn host<
 >(
     rt: R,
     alloc: Global,
-    accepted: Arc<Accepted>,
-    hub: Arc<Hub<B, T>>,
+    context: SessionContext<B, T, L>,
     pass: Pass,
     seat: Seat<B, T>,
-    reader: I,
-    writer: O,
-    watch: W,
+    visitor: Visitor<I, O, W>,
 ) -> Option<JoinHandle<Done<B, T>>> {
-    let job = move || serve(
-        &rt, alloc, accepted, &*hub, pass, seat, reader, writer, watch,
-    );
+    let job = move || serve(&rt, alloc, context, pass, seat, visitor);
     thread::spawn(&rt, job).ok()
 }
 
@@ -210,6 +257,7 @@ fn host<
 fn admit<
     B: Ledger + Send + Sync + 'static,
     T: Ledger + Send + Sync + 'static,
+    L: Link + Send + 'static,
     I: Read + Drop + Send + 'static,
     O: Write + Drop + Send + 'static,
     W: Watch + Send + 'static,
@@ -217,17 +265,25 @@ fn admit<
 >(
     rt: R,
     alloc: Global,
-    accepted: &Arc<Accepted>,
-    hub: &Arc<Hub<B, T>>,
+    context: &SessionContext<B, T, L>,
     pass: Pass,
     seat: Seat<B, T>,
     client: (I, O),
     watch: W,
 ) -> Option<JoinHandle<Done<B, T>>> {
-    let accepted = Arc::try_clone(accepted).ok()?;
-    let hub = Arc::try_clone(hub).ok()?;
+    let context = SessionContext {
+        accepted: Arc::try_clone(&context.accepted).ok()?,
+        hub: Arc::try_clone(&context.hub).ok()?,
+        lanes: Arc::try_clone(&context.lanes).ok()?,
+        links: Arc::try_clone(&context.links).ok()?,
+    };
     let (reader, writer) = client;
-    host(rt, alloc, accepted, hub, pass, seat, reader, writer, watch)
+    let visitor = Visitor {
+        reader,
+        writer,
+        watch,
+    };
+    host(rt, alloc, context, pass, seat, visitor)
 }
 
 /// How many servers there are.
@@ -296,9 +352,10 @@ fn employ_all<
     let mut number = 0u32;
     for link in links {
         let hub = Arc::try_clone(&shared.hub)?;
+        let lanes = Arc::try_clone(&shared.lanes)?;
         let ends = Arc::try_clone(&shared.work_ends)?;
         let server = ServerId(number);
-        let worker = employ(rt, alloc, hub, ends, passes.pass(), link, server);
+        let worker = employ(rt, alloc, hub, lanes, ends, passes.pass(), link, server);
         enlist(workers, worker)?;
         number = number.saturating_add(1);
     }
@@ -323,7 +380,7 @@ fn staff_spool<
     let spool = Arc::try_clone(&shared.spool)?;
     let ends = Arc::try_clone(&shared.spool_ends)?;
     let watch = gates.watch();
-    match employ_spool(rt, texts, hub, spool, ends, passes.pass(), watch) {
+    match employ_spool(rt, alloc, texts, hub, spool, ends, passes.pass(), watch) {
         Some(worker) => Ok(Some(worker)),
         None => Err(AllocError),
     }
@@ -343,12 +400,13 @@ fn staff_replayer<
     gates: &mut G,
 ) -> Result<Option<JoinHandle<()>>, AllocError> {
     let hub = Arc::try_clone(&shared.hub)?;
+    let lanes = Arc::try_clone(&shared.lanes)?;
     let spool = Arc::try_clone(&shared.spool)?;
     let ends = Arc::try_clone(&shared.work_ends)?;
     let links = links_of(alloc, &shared.accepted, gates)?;
     let watch = gates.watch();
     let pass = passes.pass();
-    Ok(employ_replayer(rt, alloc, hub, spool, ends, pass, links, watch))
+    Ok(employ_replayer(rt, alloc, hub, lanes, spool, ends, pass, links, watch))
 }
 
 /// Starts all workers. Those that were started are in the crew also where one wasn't.
@@ -400,8 +458,7 @@ fn accept<
 >(
     rt: R,
     alloc: Global,
-    accepted: &Arc<Accepted>,
-    hub: &Arc<Hub<B, T>>,
+    context: &SessionContext<B, T, G::Link>,
     passes: &mut Passes<B, T>,
     gates: &mut G,
 ) -> Vec<JoinHandle<Done<B, T>>> {
@@ -419,7 +476,7 @@ fn accept<
         };
         let watch = gates.watch();
         let pass = passes.pass();
-        match admit(rt, alloc, accepted, hub, pass, seat, client, watch) {
+        match admit(rt, alloc, context, pass, seat, client, watch) {
             Some(session) => sessions.push_reserved(session),
             None => gates.note_unserved(),
         }
@@ -474,6 +531,19 @@ fn dismiss<B: Ledger, T: Ledger, D: Disk, R: Threads + Wait>(
     }
 }
 
+/// The records that are pending in these slots, each with its number, in the order of numbers.
+fn pending_records(alloc: Global, slots: &[Slot]) -> Result<Vec<(u64, SpoolRecord)>, AllocError>
+    ensures { IfOk result (λ records. records.items ≡ numbered 0 slots.now) }
+{
+    let mut records = Vec::new(alloc);
+    for (number, slot) in slots.iter().enumerate() {
+        if let Some(record) = slot.record() {
+            records.push((number as u64, record.copied()))?;
+        }
+    }
+    Ok(records)
+}
+
 /// What all threads share, with the spool of a disk, and what makes passes and seats.
 fn open<B: Ledger, T: Ledger, D: Disk>(
     alloc: Global,
@@ -484,19 +554,23 @@ fn open<B: Ledger, T: Ledger, D: Disk>(
 ) -> Result<(Shared<B, T, D>, Passes<B, T>), ProxyFault>
     requires begun { (begun.name ≡ B.name) × (begun.parts ≡ B.parts) × (begun.parts ≡ SEATS + 1) }
     requires taken { (taken.name ≡ T.name) × (taken.parts ≡ T.parts) × (taken.parts ≡ SEATS + 1) }
+    ensures pending { D.keeps_model → IfOk result (λ r. r.0.pending ≡ length (numbered 0 (map waiting (slots (D.seen disk))))) }
 {
     let spool = Spool::open(alloc, disk)?;
-    let records = spool.pending()?;
+    let records = pending_records(alloc, spool.pending())?;
+    let pending = records.len();
     let known = Arc::try_clone(&accepted)?;
     let Ok((hub, passes)) = Hub::new(alloc, known, records.as_slice(), BELLS, SEATS, begun, taken)
     else {
         return Err(ProxyFault::Memory);
     };
+    let lanes = Lanes::new(alloc, server_count(&accepted))?;
     let shared = Shared {
         accepted,
         hub: Arc::new(alloc, hub)?,
+        lanes: Arc::new(alloc, lanes)?,
         spool: Arc::new(alloc, Mutex::new(spool))?,
-        pending: records.len(),
+        pending,
         work_ends: Arc::new(alloc, Ends::new())?,
         spool_ends: Arc::new(alloc, Ends::new())?,
     };
@@ -521,15 +595,40 @@ fn run<
         workers: Vec::new(alloc),
         spool: None,
     };
+    let links = links_of(alloc, &shared.accepted, gates)?;
+    let context = SessionContext {
+        accepted: Arc::try_clone(&shared.accepted)?,
+        hub: Arc::try_clone(&shared.hub)?,
+        lanes: Arc::try_clone(&shared.lanes)?,
+        links: Arc::new(alloc, Links::new(alloc, links)?)?,
+    };
     let mut pass = passes.pass();
     if let Err(fault) = ready(rt, alloc, shared, passes, gates, &mut crew) {
         dismiss(&rt, shared, &mut pass, crew);
         return Err(fault);
     }
-    let sessions = accept(rt, alloc, &shared.accepted, &shared.hub, passes, gates);
+    let sessions = accept(rt, alloc, &context, passes, gates);
     let receipts = gather(&rt, alloc, sessions, seat);
     dismiss(&rt, shared, &mut pass, crew);
     Ok(receipts?)
+}
+
+/// Closes the books once all sessions have ended.
+fn close<B: Ledger, T: Ledger, R: Wait>(
+    rt: &R,
+    alloc: Global,
+    hub: &Hub<B, T>,
+    pass: &mut Pass,
+    seat: &mut Seat<B, T>,
+    receipts: &[Receipt],
+) -> Result<Report, ProxyFault>
+    ensures { IfOk result (IsReportOf receipts.now) }
+{
+    let Seat { begun, taken } = seat;
+    let mut guard = hub.lock(rt, pass);
+    guard.deletes_are_kept();
+    let report = guard.close(alloc, begun, taken, receipts)?;
+    Ok(report)
 }
 
 /// As `start`, with the ledgers of calls begun and of replies taken.
@@ -548,6 +647,7 @@ fn started<
 ) -> Result<Report, ProxyFault>
     requires begun { (begun.name ≡ B.name) × (begun.parts ≡ B.parts) × (begun.parts ≡ SEATS + 1) }
     requires taken { (taken.name ≡ T.name) × (taken.parts ≡ T.parts) × (taken.parts ≡ SEATS + 1) }
+    ensures { IfOk result IsReport }
 {
     let Some(disk) = gates.disk() else {
         return Err(ProxyFault::Device);
@@ -558,9 +658,14 @@ fn started<
     };
     let receipts = run(rt, alloc, &shared, &mut passes, gates, &mut seat)?;
     let mut pass = passes.pass();
-    let Seat { begun, taken } = &mut seat;
-    let mut guard = shared.hub.lock(&rt, &mut pass);
-    let report = guard.close(alloc, begun, taken, receipts.as_slice())?;
+    let report = close(
+        &rt,
+        alloc,
+        &shared.hub,
+        &mut pass,
+        &mut seat,
+        receipts.as_slice(),
+    )?;
     Ok(report)
 }
 
@@ -572,7 +677,9 @@ pub fn start<G: Gates, R: Threads + Wait + Clock + Copy + Send + 'static>(
     alloc: Global,
     accepted: Arc<Accepted>,
     gates: G,
-) -> Result<Report, ProxyFault> {
+) -> Result<Report, ProxyFault>
+    ensures { IfOk result IsReport }
+{
     let mut gates = gates;
     let begun = Blank::new(SEATS + 1);
     let taken = Blank::new(SEATS + 1);

@@ -196,37 +196,191 @@ fn the_second_server_answers_for_a_broken_one(rt: HostRuntime) -> Result<(), Fai
 
 const FIVE_GETS: &str = "get a\r\nget a\r\nget a\r\nget a\r\nget a\r\n";
 
-fn five_failures(alloc: Global) -> Result<Vec<u8>, Fail> {
+const FOUR_GETS: &str = "get a\r\nget a\r\nget a\r\nget a\r\n";
+
+/// So many failures.
+fn failures(alloc: Global, count: usize) -> Result<Vec<u8>, Fail> {
     let mut text = Vec::new(alloc);
-    for _get in 0..5 {
+    for _get in 0..count {
         text.extend_from_slice(FAILED.as_bytes())?;
     }
     Ok(text)
 }
 
-/// How many legs a server is sent that breaks each of five.
-fn sent_of_five<R: Threads + Wait + Clock + Copy + Drop + Send + 'static>(
+/// Whether a client was answered so many failures.
+fn is_failed<R: Wait + Clock + Copy + Drop + Send + 'static>(
     rt: R,
     alloc: Global,
-    answers_probes: bool,
-) -> Result<u64, Fail> {
-    let server = Server::new(alloc, broken("a:11211", answers_probes), 0)?;
+    seen: &Scene<R>,
+    client: usize,
+    count: usize,
+) -> Result<bool, Fail> {
+    match seen.answers.get(client) {
+        Some(text) => Ok(text.lock(&rt).as_slice() == failures(alloc, count)?.as_slice()),
+        None => Ok(false),
+    }
+}
+
+/// A server that breaks each leg and doesn't answer probes is sent three of five.
+fn five_to_a_dead_one<R: Threads + Wait + Clock + Copy + Drop + Send + 'static>(
+    rt: R,
+    alloc: Global,
+) -> Result<bool, Fail> {
+    let server = Server::new(alloc, broken("a:11211", false), 0)?;
     let scene = Scene::new(rt, alloc)?
         .with_server(server)?
         .with_client(bytes(alloc, FIVE_GETS)?, None)?;
     let (_report, seen) = play(rt, alloc, ONE, scene)?;
-    match seen.answers.get(0) {
-        Some(text) if text.lock(&rt).as_slice() == five_failures(alloc)?.as_slice() => {
-            Ok(seen.legs(0))
-        }
-        _ => Err(Fail::from("other answers")),
-    }
+    Ok(is_failed(rt, alloc, &seen, 0, 5)? && seen.legs(0) == 3)
+}
+
+/// A server that breaks each leg and answers probes is sent three of four, and once its mark is taken away the next one.
+fn five_to_one_that_answers_probes<R: Threads + Wait + Clock + Copy + Drop + Send + 'static>(
+    rt: R,
+    alloc: Global,
+) -> Result<bool, Fail> {
+    let sign = Arc::new(alloc, AtomicBool::new(false))?;
+    let server = Server::new(alloc, broken("a:11211", true), 0)?;
+    let scene = Scene::new(rt, alloc)?
+        .with_server(server.unmarking(Arc::try_clone(&sign)?))?
+        .with_client(bytes(alloc, "get a\r\n")?, None)?
+        .coming_with(Arc::try_clone(&sign)?)
+        .with_client(bytes(alloc, FOUR_GETS)?, None)?;
+    let (_report, seen) = play(rt, alloc, ONE, scene)?;
+    Ok(
+        sign.load(Ordering::SeqCst)
+            && is_failed(rt, alloc, &seen, 1, 4)?
+            && is_failed(rt, alloc, &seen, 0, 1)?
+            && seen.legs(0) == 4,
+    )
 }
 
 #[test]
 fn a_marked_server_is_sent_nothing_until_it_answers_a_probe(rt: HostRuntime) -> Result<(), Fail> {
-    assert_eq!(rt; sent_of_five(rt, rt.alloc(), false)?, 3);
-    assert_eq!(rt; sent_of_five(rt, rt.alloc(), true)?, 4);
+    assert!(rt; five_to_a_dead_one(rt, rt.alloc())?);
+    assert!(rt; five_to_one_that_answers_probes(rt, rt.alloc())?);
+    Ok(())
+}
+
+/// Three clients of one server, which answers the first only once a client of another server has its answer: the legs of the
+/// two others wait until then.
+fn three_clients_of_one_server<R: Threads + Wait + Clock + Copy + Drop + Send + 'static>(
+    rt: R,
+    alloc: Global,
+) -> Result<bool, Fail> {
+    let sign = Arc::new(alloc, AtomicBool::new(false))?;
+    let first = Server::new(alloc, sound("a:11211", "a"), 0)?;
+    let first = first.waiting_for(Arc::try_clone(&sign)?);
+    let second = Server::new(alloc, sound("b:11211", "b"), 0)?;
+    let scene = Scene::new(rt, alloc)?
+        .with_server(first)?
+        .with_server(second)?
+        .with_client(bytes(alloc, "get b\r\n")?, Some(Arc::try_clone(&sign)?))?
+        .with_client(bytes(alloc, "get a\r\nget a a\r\n")?, None)?
+        .with_client(bytes(alloc, "set a 0 0 1\r\nx\r\nget a\r\n")?, None)?
+        .with_client(bytes(alloc, "get a\r\n")?, None)?;
+    let (report, seen) = play(rt, alloc, TWO, scene)?;
+    let twice = "VALUE a 0 1\r\nx\r\nEND\r\nVALUE a 0 1\r\nx\r\nVALUE a 0 1\r\nx\r\nEND\r\n";
+    Ok(
+        matches!(report, Ok(report) if is_report(report, 7))
+            && seen.is_answered(3, HIT_A)
+            && seen.is_answered(2, "STORED\r\nVALUE a 0 1\r\nx\r\nEND\r\n")
+            && seen.is_answered(1, twice)
+            && seen.legs(0) == 6,
+    )
+}
+
+#[test]
+fn sessions_wait_for_a_busy_server_in_turn(rt: HostRuntime) -> Result<(), Fail> {
+    assert!(rt; three_clients_of_one_server(rt, rt.alloc())?);
+    Ok(())
+}
+
+/// Deletes to both of two servers.
+const BOTH: &str =
+    "{\"pools\":{\"A\":{\"servers\":[\"a:11211\"]},\"B\":{\"servers\":[\"b:11211\"]}},\"route\":{\"type\":\"AllSyncRoute\",\"children\":[\"PoolRoute|A\",\"PoolRoute|B\"]}}";
+
+/// A delete to two servers, of which each answers only once the leg to the other one is under way.
+fn delete_at_once<R: Threads + Wait + Clock + Copy + Drop + Send + 'static>(
+    rt: R,
+    alloc: Global,
+) -> Result<bool, Fail> {
+    let first_sign = Arc::new(alloc, AtomicBool::new(false))?;
+    let second_sign = Arc::new(alloc, AtomicBool::new(false))?;
+    let first = Server::new(alloc, sound("a:11211", ""), 0)?;
+    let first = first.waiting_for(Arc::try_clone(&second_sign)?);
+    let second = Server::new(alloc, sound("b:11211", ""), 0)?;
+    let second = second.waiting_for(Arc::try_clone(&first_sign)?);
+    let scene = Scene::new(rt, alloc)?
+        .with_server(first.starting(first_sign))?
+        .with_server(second.starting(second_sign))?
+        .with_client(bytes(alloc, "delete a\r\n")?, None)?;
+    let (report, seen) = play(rt, alloc, BOTH, scene)?;
+    Ok(
+        matches!(report, Ok(report) if is_report(report, 1))
+            && seen.is_answered(0, "DELETED\r\n")
+            && was_sent(rt, &seen, 0, "delete a\r\n")
+            && was_sent(rt, &seen, 1, "delete a\r\n"),
+    )
+}
+
+#[test]
+fn legs_of_one_call_are_under_way_at_once(rt: HostRuntime) -> Result<(), Fail> {
+    assert!(rt; delete_at_once(rt, rt.alloc())?);
+    Ok(())
+}
+
+/// Deletes to both of two servers, gets to the second.
+const SECOND: &str =
+    "{\"pools\":{\"A\":{\"servers\":[\"a:11211\"]},\"B\":{\"servers\":[\"b:11211\"]}},\"route\":{\"type\":\"OperationSelectorRoute\",\"operation_policies\":{\"delete\":{\"type\":\"AllSyncRoute\",\"children\":[\"PoolRoute|A\",\"PoolRoute|B\"]}},\"default_policy\":\"PoolRoute|B\"}}";
+
+/// The same, with the servers of deletes in the other order.
+const SECOND_FIRST: &str =
+    "{\"pools\":{\"A\":{\"servers\":[\"a:11211\"]},\"B\":{\"servers\":[\"b:11211\"]}},\"route\":{\"type\":\"OperationSelectorRoute\",\"operation_policies\":{\"delete\":{\"type\":\"AllSyncRoute\",\"children\":[\"PoolRoute|B\",\"PoolRoute|A\"]}},\"default_policy\":\"PoolRoute|B\"}}";
+
+/// A delete to both servers, of which the first answers only once a client of the second, which came later, has its answer.
+fn slow_beside_quick<R: Threads + Wait + Clock + Copy + Drop + Send + 'static>(
+    rt: R,
+    alloc: Global,
+    config: &str,
+) -> Result<bool, Fail> {
+    let is_slow = Arc::new(alloc, AtomicBool::new(false))?;
+    let is_answered = Arc::new(alloc, AtomicBool::new(false))?;
+    let first = Server::new(alloc, sound("a:11211", ""), 0)?;
+    let first = first.waiting_for(Arc::try_clone(&is_answered)?);
+    let second = Server::new(alloc, sound("b:11211", "b"), 0)?;
+    let scene = Scene::new(rt, alloc)?
+        .with_server(first.starting(Arc::try_clone(&is_slow)?))?
+        .with_server(second)?
+        .with_client(bytes(alloc, "get b\r\n")?, Some(is_answered))?
+        .coming_with(is_slow)
+        .with_client(bytes(alloc, "delete a\r\n")?, None)?;
+    let (report, seen) = play(rt, alloc, config, scene)?;
+    Ok(
+        matches!(report, Ok(report) if is_report(report, 2))
+            && seen.is_answered(1, "DELETED\r\n")
+            && seen.is_answered(0, "VALUE b 0 1\r\nx\r\nEND\r\n"),
+    )
+}
+
+#[test]
+fn a_slow_server_holds_up_no_other_one(rt: HostRuntime) -> Result<(), Fail> {
+    assert!(rt; slow_beside_quick(rt, rt.alloc(), SECOND)?);
+    assert!(rt; slow_beside_quick(rt, rt.alloc(), SECOND_FIRST)?);
+    Ok(())
+}
+
+/// Sets to the first server at once and to the second without a reply.
+const INITIAL: &str =
+    "{\"pools\":{\"A\":{\"servers\":[\"a:11211\"]},\"B\":{\"servers\":[\"b:11211\"]}},\"route\":{\"type\":\"AllInitialRoute\",\"children\":[\"PoolRoute|A\",\"PoolRoute|B\"]}}";
+
+#[test]
+fn legs_without_a_reply_are_sent_too(rt: HostRuntime) -> Result<(), Fail> {
+    let alloc = rt.alloc();
+    let manners = [sound("a:11211", "a"), sound("b:11211", "a")];
+    let asks = "set a 0 0 1\r\nx\r\nset b 0 0 1\r\nx\r\ndelete c\r\n";
+    let answer = "STORED\r\nSTORED\r\nDELETED\r\n";
+    assert!(rt; one_client(rt, alloc, INITIAL, &manners, asks, answer, 3, &[3, 3])?);
     Ok(())
 }
 

@@ -63,6 +63,10 @@ pub(crate) struct Server {
     waits_for: Option<Arc<AtomicBool>>,
     /// It sets this once it has performed a delete.
     sets: Option<Arc<AtomicBool>>,
+    /// It sets this once a leg to it is under way.
+    starts: Option<Arc<AtomicBool>>,
+    /// It sets this once it isn't marked any more.
+    unmarks: Option<Arc<AtomicBool>>,
     pub(crate) notes: Mutex<Notes>,
 }
 
@@ -76,6 +80,8 @@ impl Server {
             legs: AtomicU64::new(0),
             waits_for: None,
             sets: None,
+            starts: None,
+            unmarks: None,
             notes: Mutex::new(Notes {
                 text: Vec::new(alloc),
                 deleted,
@@ -92,6 +98,18 @@ impl Server {
     /// The same, which sets this once it has performed a delete.
     pub(crate) fn setting(mut self, sign: Arc<AtomicBool>) -> Server {
         self.sets = Some(sign);
+        self
+    }
+
+    /// The same, which sets this once a leg to it is under way.
+    pub(crate) fn starting(mut self, sign: Arc<AtomicBool>) -> Server {
+        self.starts = Some(sign);
+        self
+    }
+
+    /// The same, which sets this once it isn't marked any more.
+    pub(crate) fn unmarking(mut self, sign: Arc<AtomicBool>) -> Server {
+        self.unmarks = Some(sign);
         self
     }
 
@@ -134,17 +152,18 @@ pub(crate) struct Wire<R: Wait + Clock + Drop> {
 }
 
 impl<R: Wait + Clock + Drop> Wire<R> {
-    /// Waits until the server may answer, for at most 20,000 turns.
-    fn hold(&self) {
+    /// Waits until the server may answer, for at most 20,000 turns. Whether it may.
+    fn hold(&self) -> bool {
         let Some(sign) = &self.server.waits_for else {
-            return;
+            return true;
         };
         for _turn in 0..20_000 {
             if sign.load(Ordering::SeqCst) {
-                return;
+                return true;
             }
             thread::sleep(&self.rt, Duration::from_millis(1));
         }
+        false
     }
 
     /// Notes a leg.
@@ -191,9 +210,14 @@ impl<R: Wait + Clock + Drop> Wire<R> {
 }
 
 impl<R: Wait + Clock + Drop> Link for Wire<R> {
+    fn start(&mut self, _pass: &Pass, _leg: &LegRequest) {
+        if let Some(sign) = &self.server.starts {
+            sign.store(true, Ordering::SeqCst);
+        }
+    }
+
     fn send(&mut self, _pass: &Pass, leg: &LegRequest) -> Result<Reply, LinkFault> {
-        self.hold();
-        if self.server.breaks() {
+        if !self.hold() || self.server.breaks() {
             return Err(LinkFault::Broken);
         }
         match self.answer(leg) {
@@ -209,21 +233,28 @@ impl<R: Wait + Clock + Drop> Link for Wire<R> {
             Err(LinkFault::Broken)
         }
     }
+
+    fn note_unmarked(&mut self, _pass: &Pass) {
+        if let Some(sign) = &self.server.unmarks {
+            sign.store(true, Ordering::SeqCst);
+        }
+    }
 }
 
-/// A client that sends these bytes, and goes once this is set.
+/// A client that sends these bytes, the first of them once this is set, and goes once that is.
 #[derive(Drop)]
 pub(crate) struct Client<R: Clock + Drop> {
     rt: R,
     bytes: Vec<u8>,
     at: usize,
+    comes_with: Option<Arc<AtomicBool>>,
     waits_for: Option<Arc<AtomicBool>>,
 }
 
 impl<R: Clock + Drop> Client<R> {
-    /// Waits until it may go, for at most 20,000 turns.
-    fn hold(&self) {
-        let Some(sign) = &self.waits_for else {
+    /// Waits until this is set, for at most 20,000 turns.
+    fn hold(&self, sign: &Option<Arc<AtomicBool>>) {
+        let Some(sign) = sign else {
             return;
         };
         for _turn in 0..20_000 {
@@ -237,8 +268,11 @@ impl<R: Clock + Drop> Client<R> {
 
 impl<R: Clock + Drop> Read for Client<R> {
     fn read(&mut self, buf: &mut [u8]) -> io::Result<usize> {
+        if self.at == 0 {
+            self.hold(&self.comes_with);
+        }
         if self.at >= self.bytes.len() {
-            self.hold();
+            self.hold(&self.waits_for);
         }
         let at = self.at.min(self.bytes.len());
         let count = (self.bytes.len() - at).min(buf.len()).min(100);
@@ -340,6 +374,7 @@ impl<R: Wait + Clock + Copy + Drop + Send + 'static> Scene<R> {
             rt: self.rt,
             bytes,
             at: 0,
+            comes_with: None,
             waits_for: None,
         };
         self.clients.push((client, output))?;
@@ -350,6 +385,14 @@ impl<R: Wait + Clock + Copy + Drop + Send + 'static> Scene<R> {
     pub(crate) fn held_by(mut self, sign: Arc<AtomicBool>) -> Scene<R> {
         if let Some(next) = self.clients.last_mut() {
             next.0.waits_for = Some(sign);
+        }
+        self
+    }
+
+    /// The same clients, of which the next one sends its first byte only once this is set.
+    pub(crate) fn coming_with(mut self, sign: Arc<AtomicBool>) -> Scene<R> {
+        if let Some(next) = self.clients.last_mut() {
+            next.0.comes_with = Some(sign);
         }
         self
     }

@@ -4,7 +4,7 @@ use crate::disk::MemoryDisk;
 use crate::scene::{Manner, Scene, Server, number_of, play};
 use mcv_base::push_number;
 use mcv_hub::Report;
-use mcv_spool::Spool;
+use mcv_spool::{Slot, Spool};
 use std::alloc::Global;
 use std::rt::Clock;
 use std::sync::{Arc, Mutex, Wait};
@@ -138,9 +138,9 @@ fn count_pending<R: Wait + Clock + Copy + Drop + Send + 'static>(
     let Ok(spool) = Spool::open(alloc, disk) else {
         return Err(Fail::from("the spool is refused"));
     };
-    let records = spool.pending()?;
-    let count = records.len();
-    for (_seq, delete) in records {
+    let mut count = 0usize;
+    for delete in spool.pending().iter().filter_map(Slot::record) {
+        count = count.saturating_add(1);
         match place_of(delete.server.as_bytes(), delete.rest.as_bytes()) {
             Some(place) => count_at(table, place),
             None => return Err(Fail::from("a record of another server or key")),
@@ -249,11 +249,14 @@ fn run<R: Threads + Wait + Clock + Copy + Drop + Send + 'static>(
 
 #[test]
 fn acknowledged_deletes_are_kept(rt: HostRuntime) -> Result<(), Fail> {
-    let (report, seen) = run(rt, rt.alloc(), None, 2_000)?;
-    assert_eq!(rt; seen.answers, 32_000);
-    assert_eq!(rt; report.begun, 32_000u64.saturating_sub(seen.refused as u64));
+    let (report, seen) = run(rt, rt.alloc(), None, 12_500)?;
+    assert_eq!(rt; seen.answers, 200_000);
+    assert_eq!(rt;
+        report.begun,
+        200_000u64.saturating_sub(seen.refused as u64)
+    );
     assert_eq!(rt; report.taken, report.begun);
-    assert!(rt; seen.acknowledged > 7_900);
+    assert!(rt; seen.acknowledged > 49_000);
     assert_eq!(rt; seen.lacking, 0);
     assert_eq!(rt; seen.kept, seen.acknowledged.saturating_mul(4));
     Ok(())

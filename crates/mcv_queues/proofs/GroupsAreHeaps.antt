@@ -5,13 +5,11 @@ use Rattle.std.specs.Prelude.{option_map}
 use Rattle.std.proofs.lemmas.Bool.{cases_eq, eq-eqb, ne_eqb, eqb-true, lt-ltb, and_parts, and_left, and_right}
 use Rattle.mcv_queues.specs.declared.leg.Leg.{Leg}
 use Rattle.mcv_queues.specs.declared.rows.Link.{Link}
-use Rattle.mcv_queues.specs.declared.rows.Row.{Row}
 use Rattle.mcv_queues.specs.declared.leg.State.{State}
 use Rattle.mcv_queues.specs.declared.leg.State.TheVariants.{Waiting, Sent, Held, Refused, InSpool, InReplay}
 use Rattle.mcv_queues.specs.declared.roots.Group.{Group}
 use Rattle.mcv_queues.specs.declared.roots.Group.TheVariants.{WaitingFor, SpooledFor, HeldLegs, RefusedLegs, LegsInReplay}
 use Rattle.mcv_queues.specs.Forest.{left_of, right_of, up_of, IsForest}
-use Rattle.mcv_queues.specs.Rows.{leg_of, link_of}
 use Rattle.mcv_queues.specs.Heap.{without, with_one, IsOut, IsIn}
 use Rattle.mcv_queues.specs.Groups.{group_at, group_of, same_group, is_group, is_in}
 use Rattle.mcv_queues.specs.Legs.{in_state, with_state}
@@ -25,7 +23,7 @@ inner_group a b e = cc
 none_group : {g : Group} → None ≡ Some g → ⊥
 none_group e = absurd (cc)
 
-known_state : (s : ℕ) (st : State) (g : Group) (k : ℕ) → s < k → group_at s st ≡ Some g → is_known k g ≡ true
+pub known_state : (s : ℕ) (st : State) (g : Group) (k : ℕ) → s < k → group_at s st ≡ Some g → is_known k g ≡ true
 known_state s Waiting g k h e = subst (λ j. is_known k j ≡ true) (inner_group (WaitingFor s) g e) (lt-ltb s k h)
 known_state s Sent g k h e = absurd (none_group e)
 known_state s Held g k h e = subst (λ j. is_known k j ≡ true) (inner_group HeldLegs g e) refl
@@ -113,13 +111,9 @@ left_none legs f roots x t is = λ h. carried (is_in legs h) (without (is_in leg
 
 -- ---- a leg enters its group
 
-pub row_there : {T : Type 0} (o : Option (Row T)) (g : Group) → group_of (option_map leg_of o) ≡ Some g → is_some (option_map link_of o) ≡ true
-row_there None g e = absurd (none_group e)
-row_there (Some r) g e = refl
-
-pub entered_group : {T : Type 0} (legs : ℕ → Option (Leg T)) (f f2 : ℕ → Option Link) (roots roots2 : Group → Option ℕ) (x : ℕ) (g : Group) (root : Option ℕ) → AreTreesBut x legs f roots → group_of (legs x) ≡ Some g → is_some (f x) ≡ true
-    → (a : Option ℕ) → a ≡ roots g → (IsForest (without (is_in legs g) x) f a None None → without (is_in legs g) x x ≡ false → is_some (f x) ≡ true → IsIn (without (is_in legs g) x) f f2 x root) → ((h : Group) → roots2 h ≡ put_root roots g root h) → AreTrees legs f2 roots2
-entered_group legs f f2 roots roots2 x g root t is there a ea k rs = λ h. elim (bool_cases (same_group g h)) [
+pub entered_group : {T : Type 0} (legs : ℕ → Option (Leg T)) (f f2 : ℕ → Option Link) (roots roots2 : Group → Option ℕ) (x : ℕ) (g : Group) (root : Option ℕ) → AreTreesBut x legs f roots → group_of (legs x) ≡ Some g
+    → (a : Option ℕ) → a ≡ roots g → (IsForest (without (is_in legs g) x) f a None None → without (is_in legs g) x x ≡ false → IsIn (without (is_in legs g) x) f f2 x root) → ((h : Group) → roots2 h ≡ put_root roots g root h) → AreTrees legs f2 roots2
+entered_group legs f f2 roots roots2 x g root t is a ea k rs = λ h. elim (bool_cases (same_group g h)) [
   | inl e ↦ subst (λ j. IsForest (is_in legs j) f2 (roots2 j) None None) (group_same g h e)
       (carried (with_one (without (is_in legs g) x) x) (is_in legs g) f2 f2 root (roots2 g) ins.forest (rs g ∙ ap (λ b. cond b root (roots g)) (same_self g)) again (λ n q. refl))
   | inr e ↦ carried (without (is_in legs h) x) (is_in legs h) f f2 (roots h) (roots2 h) (t h) (rs h ∙ ap (λ b. cond b root (roots h)) e) (λ n. sym (without_same (is_in legs h) x n (ap (λ o. is_group o h) is ∙ e)))
@@ -127,7 +121,7 @@ entered_group legs f f2 roots roots2 x g root t is there a ea k rs = λ h. elim 
 ]
   where
     ins : IsIn (without (is_in legs g) x) f f2 x root
-    ins = k (subst (λ o. IsForest (without (is_in legs g) x) f o None None) (sym ea) (t g)) (without_here (is_in legs g) x x refl) there
+    ins = k (subst (λ o. IsForest (without (is_in legs g) x) f o None None) (sym ea) (t g)) (without_here (is_in legs g) x x refl)
 
     here : is_in legs g x ≡ true
     here = ap (λ o. is_group o g) is ∙ same_self g

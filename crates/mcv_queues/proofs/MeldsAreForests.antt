@@ -1,7 +1,8 @@
 -- Each step that makes two heaps one leaves a forest, and the last one a heap.
 use Rattle.std.proofs.Common.{◌≡◌, ◌&&◌, ◌⊎◌, inl, inr, cond, ℕ, ◌<◌, ◌≤◌, Bool, true, false, nat_lt, is_some, Option, Some, None, refl, sym, ap, subst, ◌∙◌, arith}
+use Rattle.std.proofs.Math.Path.{fun_ext}
 use Rattle.std.specs.Prelude.{option_map}
-use Rattle.std.proofs.lemmas.Bool.{cases_eq, cases_lt, ltb-true, lt-ltb, and_from, and_parts}
+use Rattle.std.proofs.lemmas.Bool.{cases_eq, cases_lt, eq-eqb, ne_eqb, ltb-true, lt-ltb, and_from, and_parts}
 use Rattle.mcv_queues.specs.declared.rows.Link.{Link}
 use Rattle.mcv_queues.specs.declared.heap.Step.{Step}
 use Rattle.mcv_queues.specs.Forest.{left_of, right_of, up_of, IsForest, changed, raised, turned}
@@ -169,15 +170,49 @@ no_parts u d o r e ud q ur = some_none (sym (ap (λ b. cond b (Some (cond (nat_l
 pub same_stepped : (w : ℕ → Bool) (f : ℕ → Option Link) (n : ℕ) (g : Link → Link) (m : ℕ) → w n ≡ true → w m ≡ false → changed f n g m ≡ f m
 same_stepped w f n g m h e = put_there f n m (option_map g (f n)) (λ q. apart_bool (w m) (subst (λ j. w j ≡ true) q h) e)
 
+abbrev pub all_raised : (ℕ → Option Link) → ℕ → Step → ℕ → Option Link
+all_raised g u s = raised (raised (turned g u (Some s.next)) s.next (Some u)) s.rest None
+
+lift_same : (up : Option ℕ) (o : Option Link) → up_of o ≡ up → option_map (lift up) o ≡ o
+lift_same up None e = refl
+lift_same up (Some l) e = ap (λ v. Some (lift v l)) (sym e)
+
+-- nothing changes where a number hangs from this one already
+raised_same : (f : ℕ → Option Link) (n : ℕ) (up : Option ℕ) → up_of (f n) ≡ up → (m : ℕ) → raised f n up m ≡ f m
+raised_same f n up e m = elim (cases_eq n m) [
+  | inl q ↦ subst (λ j. raised f n up j ≡ f j) q (put_here f n (option_map (lift up) (f n)) ∙ lift_same up (f n) e)
+  | inr ne ↦ put_there f n m (option_map (lift up) (f n)) ne
+]
+
+-- a step that raises nothing is as one that does
+spared : (w : ℕ → Bool) (g : ℕ → Option Link) (a c : Option ℕ) (u d : ℕ) (s : Step) → IsForest w g a (Some d) c → w u ≡ true → Parts u d (right_of (g u)) s → stepped g u d (Some s) ≡ all_raised g u s
+spared w g a c u d s i wu (right_next o z un nr) = ap (λ b. cond b one (all_raised g u s)) (eq-eqb s.rest d (sym z)) ∙ fun_ext (λ n. sym (last n ∙ first n))
+  where
+    one : ℕ → Option Link
+    one = turned g u (Some s.next)
+
+    up_one : (n : ℕ) → up_of (one n) ≡ up_of (g n)
+    up_one n = keeps up_of g u (turn (Some s.next)) (turn_up (Some s.next)) n
+
+    first : (n : ℕ) → raised one s.next (Some u) n ≡ one n
+    first n = raised_same one s.next (Some u) (up_one s.next ∙ (i.right u s.next wu o).2) n
+
+    last : (n : ℕ) → all_raised g u s n ≡ raised one s.next (Some u) n
+    last n = raised_same (raised one s.next (Some u)) s.rest None (ap up_of (first s.rest) ∙ up_one s.rest ∙ ap (λ j. up_of (g j)) (sym z) ∙ (i.second d refl).1) n
+spared w g a c u d s i wu (right_rest o z un nr) = ap (λ b. cond b (turned g u (Some s.next)) (all_raised g u s)) (ne_eqb s.rest d differ)
+  where
+    differ : s.rest ≡ d → ⊥
+    differ q = none_some (sym (i.second d refl).1 ∙ ap (λ j. up_of (g j)) (sym q) ∙ (i.right u s.rest wu o).2)
+
 -- one step on the way
 pub melded_more : (w : ℕ → Bool) (f g h : ℕ → Option Link) (t u d : ℕ) (c : Option ℕ) (s : Step) → IsMelding w f g t u d c → parted u d (right_of (g u)) ≡ Some s → h ≡ stepped g u d (Some s) → IsMelding w f h t s.next s.rest c
-melded_more w f g h t u d c s m e q = subst (λ k. IsMelding w f k t s.next s.rest c) (sym q) (by_parts (parts u d (right_of (g u)) s e))
+melded_more w f g h t u d c s m e q = subst (λ k. IsMelding w f k t s.next s.rest c) (sym (q ∙ spared w g (Some t) c u d s i m.member (parts u d (right_of (g u)) s e))) (by_parts (parts u d (right_of (g u)) s e))
   where
     i : IsForest w g (Some t) (Some d) c
     i = m.forest
 
     new : ℕ → Option Link
-    new = stepped g u d (Some s)
+    new = all_raised g u s
 
     dw : w d ≡ true
     dw = (i.second d refl).0

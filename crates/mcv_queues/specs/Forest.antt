@@ -56,5 +56,8 @@ abbrev pub cut : (ℕ → Option Link) → Option ℕ → ℕ → ℕ → Option
 cut f None x = f
 cut f (Some n) x = changed f n (λ l. record { left = unless l.left x; right = unless l.right x; up = l.up })
 
+abbrev pub free_link : Link
+free_link = record { left = None; right = None; up = None }
+
 abbrev pub freed : (ℕ → Option Link) → ℕ → ℕ → Option Link
 freed f n = changed f n (λ l. record { left = None; right = None; up = None })

@@ -9,9 +9,18 @@ abbrev pub parted : ℕ → ℕ → Option ℕ → Option Step
 parted upper lower None = None
 parted upper lower (Some r) = cond (nat_lt upper r && nat_lt upper lower) (Some (cond (nat_lt r lower) (record { next = r; rest = lower }) (record { next = lower; rest = r }))) None
 
+-- what hangs at the left of the upper number after a step
+abbrev pub next_or : ℕ → Option Step → ℕ
+next_or lower None = lower
+next_or lower (Some s) = s.next
+
+-- what hangs elsewhere after a step; where the lower number stays to be hung up, the next one hangs where it did
+abbrev pub hung : (ℕ → Option Link) → ℕ → ℕ → Step → ℕ → Option Link
+hung f upper lower s = cond (nat_eq s.rest lower) f (raised (raised f s.next (Some upper)) s.rest None)
+
 abbrev pub stepped : (ℕ → Option Link) → ℕ → ℕ → Option Step → ℕ → Option Link
 stepped f upper lower None = raised (turned f upper (Some lower)) lower (Some upper)
-stepped f upper lower (Some s) = raised (raised (turned f upper (Some s.next)) s.next (Some upper)) s.rest None
+stepped f upper lower (Some s) = hung (turned f upper (Some s.next)) upper lower s
 
 -- all numbers without w have the same links as before
 abbrev pub SameBeyond : (ℕ → Bool) → (f g : ℕ → Option Link) → Type 0

@@ -1,4 +1,5 @@
 pub mod Numbers
+pub mod NumberHash
 pub mod Legs
 pub mod Forest
 pub mod Heap

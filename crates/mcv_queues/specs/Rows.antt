@@ -5,6 +5,7 @@ use Rattle.mcv_queues.specs.declared.leg.Leg.{Leg}
 use Rattle.mcv_queues.specs.declared.rows.Link.{Link}
 use Rattle.mcv_queues.specs.declared.rows.Row.{Row}
 use Rattle.mcv_queues.specs.declared.rows.Rows.{Rows}
+use Rattle.mcv_queues.specs.declared.rows.Seen.{Seen}
 
 abbrev pub at : {T : Type 0} → Rows T → ℕ → Option (Row T)
 at t = hash.get nat_eq t.rows
@@ -21,6 +22,9 @@ link_of r = r.link
 
 abbrev pub content_of : {T : Type 0} → Row T → T
 content_of r = r.leg.content
+
+abbrev pub seen_of : {T : Type 0} → Row T → Seen
+seen_of r = record { server = r.leg.server.0; state = r.leg.state; link = r.link }
 
 abbrev pub legs : {T : Type 0} → Rows T → ℕ → Option (Leg T)
 legs t n = option_map leg_of (at t n)

@@ -3,12 +3,12 @@
 //! Two heaps become one along their right sides, and on the way each number's left and right are swapped, which keeps the
 //! way short: a call takes O(log n) steps, taken over all calls. There is no recursion and no memory is taken.
 
-ghost use Rattle.std.specs.Prelude.{◌≡◌, ◌<◌, ◌≤◌, ◌+◌, ℕ, Bool, true, false, Option, None, Some, IfSome, is_some};
-ghost use Rattle.mcv_queues.specs.Forest.{IsForest, right_of, raised, raised_some, turned, cut, freed, unless};
+ghost use Rattle.std.specs.Prelude.{◌≡◌, ◌<◌, ℕ, Bool, true, false, Option, None, Some, IfSome, is_some};
+ghost use Rattle.mcv_queues.specs.Forest.{IsForest, cut, free_link, raised_some, right_of};
 ghost use Rattle.mcv_queues.specs.Rows.{links, legs, room};
-ghost use Rattle.mcv_queues.specs.Heap.{parted, stepped, AreApart, IsBefore, IsJoined, IsOut, IsIn};
+ghost use Rattle.mcv_queues.specs.Heap.{hung, parted, stepped, AreApart, IsBefore, IsJoined, IsOut, IsIn};
 
-use crate::rows::{Link, Rows};
+use crate::rows::{Link, Rows, unless};
 
 /// Where two trees become one next: what hangs up there, and what is still to be hung up.
 #[derive(Clone, Copy)]
@@ -18,7 +18,7 @@ pub(crate) struct Step {
 }
 
 /// The lesser one of what hangs at the right and of what is to be hung up, and the other one.
-fn parted(upper: u64, lower: u64, right: Option<u64>) -> Option<Step>
+pub(crate) fn parted(upper: u64, lower: u64, right: Option<u64>) -> Option<Step>
     ensures step { result ≡ parted upper lower right }
     ensures above { IfSome result (λ step. upper < step.next) }
 {
@@ -40,71 +40,7 @@ fn parted(upper: u64, lower: u64, right: Option<u64>) -> Option<Step>
     }
 }
 
-/// The number, unless it is this one.
-fn unless(number: Option<u64>, other: u64) -> Option<u64>
-    ensures { result ≡ unless number other }
-{
-    match number {
-        Some(number) if number == other => None,
-        _ => number,
-    }
-}
-
 impl<T: Drop> Rows<T> {
-    /// A number hangs from another one.
-    fn raise(&mut self, number: u64, up: Option<u64>)
-        ensures links { links self.new ≡ raised (links self.old) number up }
-        ensures legs { legs self.new ≡ legs self.old }
-        ensures room { room self.new ≡ room self.old }
-    {
-        if let Some(link) = self.link(number) {
-            self.set_link(
-                number,
-                Link {
-                    left: link.left,
-                    right: link.right,
-                    up,
-                },
-            );
-        }
-    }
-
-    /// What hung at the left of a number hangs at its right, and something else at its left.
-    fn turn(&mut self, number: u64, left: Option<u64>)
-        ensures links { links self.new ≡ turned (links self.old) number left }
-        ensures legs { legs self.new ≡ legs self.old }
-        ensures room { room self.new ≡ room self.old }
-    {
-        if let Some(link) = self.link(number) {
-            self.set_link(
-                number,
-                Link {
-                    left,
-                    right: link.left,
-                    up: link.up,
-                },
-            );
-        }
-    }
-
-    /// Nothing hangs from a number, and it hangs from none.
-    fn free(&mut self, number: u64)
-        ensures links { links self.new ≡ freed (links self.old) number }
-        ensures legs { legs self.new ≡ legs self.old }
-        ensures room { room self.new ≡ room self.old }
-    {
-        if let Some(_) = self.link(number) {
-            self.set_link(
-                number,
-                Link {
-                    left: None,
-                    right: None,
-                    up: None,
-                },
-            );
-        }
-    }
-
     /// As `raise`, if there is a number.
     fn raise_some(&mut self, number: Option<u64>, up: Option<u64>)
         ensures links { links self.new ≡ raised_some (links self.old) number up }
@@ -113,25 +49,6 @@ impl<T: Drop> Rows<T> {
     {
         if let Some(number) = number {
             self.raise(number, up);
-        }
-    }
-
-    /// The child doesn't hang from a number any more.
-    fn cut_one(&mut self, number: u64, child: u64)
-        ensures links { links self.new ≡ cut (links self.old) (Some number) child }
-        ensures legs { legs self.new ≡ legs self.old }
-        ensures room { room self.new ≡ room self.old }
-    {
-        if let Some(link) = self.link(number) {
-            let (left, right) = (unless(link.left, child), unless(link.right, child));
-            self.set_link(
-                number,
-                Link {
-                    left,
-                    right,
-                    up: link.up,
-                },
-            );
         }
     }
 
@@ -146,11 +63,17 @@ impl<T: Drop> Rows<T> {
         }
     }
 
-    /// What hangs at the right of a number.
-    fn right(&self, number: u64) -> Option<u64>
-        ensures { result ≡ right_of (links self.now number) }
+    /// The second half of a step: what hangs elsewhere from now on. Where `lower` stays to be hung up, the next number hung
+    /// from `upper` before.
+    fn hang(&mut self, upper: u64, lower: u64, step: Step)
+        ensures links { links self.new ≡ hung (links self.old) upper lower step }
+        ensures legs { legs self.new ≡ legs self.old }
+        ensures room { room self.new ≡ room self.old }
     {
-        self.link(number)?.right
+        if step.rest != lower {
+            self.raise(step.next, Some(upper));
+            self.raise(step.rest, None);
+        }
     }
 
     /// One step of making two trees one.
@@ -161,17 +84,10 @@ impl<T: Drop> Rows<T> {
         ensures legs { legs self.new ≡ legs self.old }
         ensures room { room self.new ≡ room self.old }
     {
-        let step = parted(upper, lower, self.right(upper));
+        let step = self.part(upper, lower);
         match step {
-            Some(step) => {
-                self.turn(upper, Some(step.next));
-                self.raise(step.next, Some(upper));
-                self.raise(step.rest, None);
-            }
-            None => {
-                self.turn(upper, Some(lower));
-                self.raise(lower, Some(upper));
-            }
+            Some(step) => self.hang(upper, lower, step),
+            None => self.raise(lower, Some(upper)),
         }
         step
     }
@@ -210,15 +126,13 @@ impl<T: Drop> Rows<T> {
         }
     }
 
-    /// Takes a number out of the tree with this root, and gives the root then.
-    pub fn take_out(&mut self, root: Option<u64>, number: u64) -> Option<u64>
+    /// Takes a number, whose links these are, out of the tree with this root, and gives the root then.
+    pub fn take_out(&mut self, root: Option<u64>, number: u64, link: Link) -> Option<u64>
+        requires { links self.old number ≡ Some link }
         ensures out { (w : ℕ → Bool) → IsForest w (links self.old) root None None → w number ≡ true → IsOut w (links self.old) (links self.new) number result }
         ensures legs { legs self.new ≡ legs self.old }
         ensures room { room self.new ≡ room self.old }
     {
-        let Some(link) = self.link(number) else {
-            return root;
-        };
         self.cut(link.up, number);
         self.raise_some(link.left, None);
         self.raise_some(link.right, None);
@@ -228,11 +142,22 @@ impl<T: Drop> Rows<T> {
 
     /// Puts a number into the tree with this root, and gives the root then.
     pub fn put_in(&mut self, root: Option<u64>, number: u64) -> Option<u64>
-        ensures in_it { (w : ℕ → Bool) → IsForest w (links self.old) root None None → w number ≡ false → is_some (links self.old number) ≡ true → IsIn w (links self.old) (links self.new) number result }
+        requires { is_some (links self.old number) ≡ true }
+        ensures in_it { (w : ℕ → Bool) → IsForest w (links self.old) root None None → w number ≡ false → IsIn w (links self.old) (links self.new) number result }
         ensures legs { legs self.new ≡ legs self.old }
         ensures room { room self.new ≡ room self.old }
     {
         self.free(number);
+        self.put_in_new(root, number)
+    }
+
+    /// As `put_in`, of a number that hangs from none, and from which nothing hangs.
+    pub fn put_in_new(&mut self, root: Option<u64>, number: u64) -> Option<u64>
+        requires { links self.old number ≡ Some free_link }
+        ensures in_it { (w : ℕ → Bool) → IsForest w (links self.old) root None None → w number ≡ false → IsIn w (links self.old) (links self.new) number result }
+        ensures legs { legs self.new ≡ legs self.old }
+        ensures room { room self.new ≡ room self.old }
+    {
         self.join(root, Some(number))
     }
 }

@@ -1,13 +1,28 @@
 //! Legs by number, and the links by which they form heaps.
 
-ghost use Rattle.std.specs.Prelude.{◌≡◌, ◌<◌, ◌≤◌, ◌+◌, ℕ, None, Some, OnOk, IsSome, option_map, option_copied};
+ghost use Rattle.std.specs.Prelude.{◌≡◌, ◌<◌, ◌≤◌, ◌+◌, ℕ, None, Some, OnOk, IfSome, option_map, option_copied};
+ghost use Rattle.mcv_queues.specs.Forest.{cut, freed, raised, right_of, turned, unless};
+ghost use Rattle.mcv_queues.specs.Heap.{parted, next_or};
 ghost use Rattle.mcv_queues.specs.Numbers.{put};
-ghost use Rattle.mcv_queues.specs.Legs.{is_in_flight, with_state, with_record, with_content, server_of};
-ghost use Rattle.mcv_queues.specs.Rows.{at, links, legs, room, content_of};
+ghost use Rattle.mcv_queues.specs.Legs.{is_in_flight, with_state, with_record, with_content};
+ghost use Rattle.mcv_queues.specs.Rows.{at, links, legs, room, content_of, seen_of};
 
+use crate::heap::{Step, parted};
 use crate::leg::{Leg, State};
+use crate::number_hasher::NumberHasher;
 use std::alloc::{AllocError, Global};
 use std::collections::HashMap;
+use std::hash::BuildHasherDefault;
+
+/// The number, unless it is this one.
+pub(crate) fn unless(number: Option<u64>, other: u64) -> Option<u64>
+    ensures { result ≡ unless number other }
+{
+    match number {
+        Some(number) if number == other => None,
+        _ => number,
+    }
+}
 
 /// The numbers of the legs below a leg in its heap, and of the one above it.
 #[derive(Clone, Copy)]
@@ -15,6 +30,14 @@ pub(crate) struct Link {
     pub left: Option<u64>,
     pub right: Option<u64>,
     pub up: Option<u64>,
+}
+
+/// The server, the state and the links of a leg.
+#[derive(Clone, Copy)]
+pub(crate) struct Seen {
+    pub server: usize,
+    pub state: State,
+    pub link: Link,
 }
 
 #[derive(Drop)]
@@ -26,7 +49,7 @@ pub(crate) struct Row<T> {
 /// Legs by number.
 #[derive(Drop)]
 pub(crate) struct Rows<T> {
-    rows: HashMap<u64, Row<T>>,
+    rows: HashMap<u64, Row<T>, BuildHasherDefault<NumberHasher>>,
 }
 
 impl<T: Drop> Rows<T> {
@@ -34,7 +57,7 @@ impl<T: Drop> Rows<T> {
         ensures { at result ≡ (λ n. None) }
     {
         Rows {
-            rows: HashMap::new(alloc),
+            rows: HashMap::with_hasher(alloc, BuildHasherDefault::new()),
         }
     }
 
@@ -70,22 +93,71 @@ impl<T: Drop> Rows<T> {
         self.rows.remove(&number).map(|row| row.leg.content)
     }
 
-    /// The links of the leg at a number.
-    pub fn link(&self, number: u64) -> Option<Link>
-        ensures { result ≡ links self.now number }
+    /// What is seen of the leg at a number.
+    pub fn seen(&self, number: u64) -> Option<Seen>
+        ensures { result ≡ option_map seen_of (at self.now number) }
     {
-        self.rows.get(&number).map(|row| row.link)
+        self.rows.get(&number).map(|row| Seen {
+            server: row.leg.server.0 as usize,
+            state: row.leg.state,
+            link: row.link,
+        })
     }
 
-    /// Changes the links of the leg at a number.
-    pub fn set_link(&mut self, number: u64, link: Link)
-        requires { IsSome (links self.old number) }
-        ensures links { links self.new ≡ put (links self.old) number (Some link) }
+    /// The leg at a number hangs from another one.
+    pub fn raise(&mut self, number: u64, up: Option<u64>)
+        ensures links { links self.new ≡ raised (links self.old) number up }
         ensures legs { legs self.new ≡ legs self.old }
         ensures room { room self.new ≡ room self.old }
     {
         if let Some(row) = self.rows.get_mut(&number) {
-            row.link = link;
+            row.link.up = up;
+        }
+    }
+
+    /// The first half of a step of making two trees one: what hung at the left of `upper` hangs at its right, and the lesser
+    /// one of what hung there and of `lower` at its left. Gives where the next step is; None where this one is the last.
+    pub fn part(&mut self, upper: u64, lower: u64) -> Option<Step>
+        ensures step { result ≡ parted upper lower (right_of (links self.old upper)) }
+        ensures above { IfSome result (λ step. upper < step.next) }
+        ensures links { links self.new ≡ turned (links self.old) upper (Some (next_or lower result)) }
+        ensures legs { legs self.new ≡ legs self.old }
+        ensures room { room self.new ≡ room self.old }
+    {
+        let row = self.rows.get_mut(&upper)?;
+        let step = parted(upper, lower, row.link.right);
+        row.link.right = row.link.left;
+        row.link.left = Some(match step {
+            Some(step) => step.next,
+            None => lower,
+        });
+        step
+    }
+
+    /// Nothing hangs from the leg at a number, and it hangs from none.
+    pub fn free(&mut self, number: u64)
+        ensures links { links self.new ≡ freed (links self.old) number }
+        ensures legs { legs self.new ≡ legs self.old }
+        ensures room { room self.new ≡ room self.old }
+    {
+        if let Some(row) = self.rows.get_mut(&number) {
+            row.link = Link {
+                left: None,
+                right: None,
+                up: None,
+            };
+        }
+    }
+
+    /// The child doesn't hang from the leg at a number any more.
+    pub fn cut_one(&mut self, number: u64, child: u64)
+        ensures links { links self.new ≡ cut (links self.old) (Some number) child }
+        ensures legs { legs self.new ≡ legs self.old }
+        ensures room { room self.new ≡ room self.old }
+    {
+        if let Some(row) = self.rows.get_mut(&number) {
+            row.link.left = unless(row.link.left, child);
+            row.link.right = unless(row.link.right, child);
         }
     }
 
@@ -94,16 +166,6 @@ impl<T: Drop> Rows<T> {
         ensures { option_copied result ≡ legs self.now number }
     {
         self.rows.get(&number).map(|row| &row.leg)
-    }
-
-    /// The number of the server of the leg at a number; 0 where there is no leg.
-    pub fn server_of(&self, number: u64) -> usize
-        ensures { result ≡ server_of (legs self.now number) }
-    {
-        match self.rows.get(&number) {
-            Some(row) => row.leg.server.0 as usize,
-            None => 0,
-        }
     }
 
     /// Whether the leg at a number is in flight.
@@ -116,15 +178,21 @@ impl<T: Drop> Rows<T> {
         }
     }
 
-    /// Changes the state of the leg at a number.
-    pub fn set_state(&mut self, number: u64, state: State)
+    /// Changes the state of the leg at a number. Gives what was seen of it before.
+    pub fn restate(&mut self, number: u64, state: State) -> Option<Seen>
+        ensures seen { result ≡ option_map seen_of (at self.old number) }
         ensures legs { legs self.new ≡ with_state (legs self.old) number state }
         ensures links { links self.new ≡ links self.old }
         ensures room { room self.new ≡ room self.old }
     {
-        if let Some(row) = self.rows.get_mut(&number) {
-            row.leg.state = state;
-        }
+        let row = self.rows.get_mut(&number)?;
+        let seen = Seen {
+            server: row.leg.server.0 as usize,
+            state: row.leg.state,
+            link: row.link,
+        };
+        row.leg.state = state;
+        Some(seen)
     }
 
     /// Changes the number of the record of the leg at a number.

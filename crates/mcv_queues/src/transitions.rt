@@ -84,7 +84,8 @@ impl<T: Drop> Queues<T> {
                 content,
             },
         );
-        self.rows.enter(&mut self.roots, leg.0);
+        self.rows
+            .enter_new(&mut self.roots, server.0 as usize, leg.0);
     }
 
     /// Changes what its caller keeps of a leg, if the leg is there.
@@ -132,8 +133,7 @@ impl<T: Drop> Queues<T> {
         ensures servers { servers self.new ≡ servers self.old }
         ensures room { room self.new ≡ room self.old }
     {
-        let server = self.rows.server_of(number);
-        self.rows.change_state(&mut self.roots, number, state);
+        let server = self.rows.change_state(&mut self.roots, number, state);
         self.roots.set_flight(server, None);
     }
 
@@ -146,8 +146,7 @@ impl<T: Drop> Queues<T> {
         ensures servers { servers self.new ≡ servers self.old }
         ensures room { room self.old ≤ room self.new }
     {
-        let server = self.rows.server_of(leg.0);
-        self.rows.leave(&mut self.roots, leg.0);
+        let server = self.rows.leave(&mut self.roots, leg.0);
         self.roots.set_flight(server, None);
         self.rows.remove(leg.0)
     }

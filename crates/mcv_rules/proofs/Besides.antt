@@ -1,5 +1,6 @@
 -- Plans of which the first is waited for serve the handles that send beside: shadows, and all children at once.
 use Rattle.std.proofs.Common.{◌≡◌, ◌<◌, ◌+◌, cond, ℕ, suc, List, [], ◌∷◌, ◌++◌, length, map, take, get_or, Vec, Box, Global, refl, sym, ap, ap₂, ◌∙◌, arith, add-one, append-nil, append_assoc, true}
+use Rattle.std.specs.Prelude.{fold}
 use Rattle.std.proofs.Math.Seq.{take-suc}
 use Rattle.std.proofs.lemmas.List.{length-take-le, length-map, map-append}
 use Rattle.mcv_route.specs.declared.launch.Launch.{Launch}
@@ -20,30 +21,36 @@ use Rattle.mcv_rules.specs.Places.{Kind, plain, shadow, misplaced, are_beside, i
 use Rattle.mcv_rules.specs.Plan as planned
 use Rattle.mcv_rules.specs.Plans.{leg_of, plan, plan_each, with_shadows}
 use Rattle.mcv_rules.specs.Sound.{positions}
+use Rattle.mcv_rules.specs.Whole.{Part, alone, beside, part, part_of, shade}
 use Rattle.mcv_rules.specs.Laid.{sent, legs_each, ranges_of, targets_of, Serves}
 use Rattle.mcv_rules.specs.declared.plan.Plan.{Plan, Beside, Shadowed}
 use Rattle.mcv_rules.proofs.Places.{kind-Beside, kind-Shadowed, places-Beside, places-Shadowed}
+use Rattle.mcv_rules.proofs.Whole.{part-Beside, part-Shadowed}
 use Rattle.mcv_rules.proofs.Plans.{sent-Beside, sent-Shadowed, arrived-Beside}
-use Rattle.mcv_rules.proofs.Serving.{positions-fold, seen-does}
+use Rattle.mcv_rules.proofs.Serving.{seen-does}
 
--- the legs of what goes beside, by choice and outcomes, and their positions
+-- the legs of what goes beside, by choice and outcomes, and its normal form
 pub record Legs : Type 0 where
   pub launches : Choice → Outcomes → List Launch
-  pub places : List (List ℕ)
+  pub part : Part
+
+abbrev pub parts_of : List Legs → List Part
+parts_of fs = map (λ f. f.part) fs
 
 -- the plan sends these legs, and is a shadow or none
 pub record SendsBeside (p : Plan) (f : Legs) : Type 0 where
   pub legs : (c : Choice) (o : Outcomes) → (sent c o p).legs ≡ f.launches c o
   pub kind : is_beside (kind_of p) ≡ true
-  pub places : places_of p ≡ f.places
+  pub places : places_of p ≡ positions (alone f.part)
+  pub whole : part_of p ≡ f.part
 
 plain_beside : (k : Kind) → is_plain k ≡ true → is_beside k ≡ true
 plain_beside plain e = refl
 plain_beside shadow e = absurd (cc)
 plain_beside misplaced e = absurd (cc)
 
-pub serves-beside_it : (p : Plan) (t : Tree) (s : Situation) → Serves p t s → SendsBeside p (record { launches = λ c o. launched t s c o; places = positions (plan t s) })
-serves-beside_it p t s f = record { legs = f.sends; kind = plain_beside (kind_of p) f.kind; places = f.places }
+pub serves-beside_it : (p : Plan) (t : Tree) (s : Situation) → Serves p t s → SendsBeside p (record { launches = λ c o. launched t s c o; part = part (plan t s) })
+serves-beside_it p t s f = record { legs = f.sends; kind = plain_beside (kind_of p) f.kind; places = f.places; whole = f.whole }
 
 -- each plan sends these legs; no one waits for its reply
 abbrev pub SendEach : List Plan → List Legs → Type 0
@@ -69,11 +76,27 @@ send-kinds [] fs a = refl
 send-kinds (p ∷ ps) [] a = absurd a
 send-kinds (p ∷ ps) (f ∷ fs) a = rw a.0.kind (send-kinds ps fs a.1)
 
-send-places : (ps : List Plan) (fs : List Legs) → SendEach ps fs → joined (map places_of ps) ≡ joined (map (λ f. f.places) fs)
+send-places : (ps : List Plan) (fs : List Legs) → SendEach ps fs → joined (map places_of ps) ≡ joined (map (λ x. positions (alone x)) (parts_of fs))
 send-places [] [] a = refl
 send-places [] (f ∷ fs) a = absurd a
 send-places (p ∷ ps) [] a = absurd a
 send-places (p ∷ ps) (f ∷ fs) a = ap₂ ◌++◌ a.0.places (send-places ps fs a.1)
+
+send-wholes : (ps : List Plan) (fs : List Legs) → SendEach ps fs → map part_of ps ≡ parts_of fs
+send-wholes [] [] a = refl
+send-wholes [] (f ∷ fs) a = absurd a
+send-wholes (p ∷ ps) [] a = absurd a
+send-wholes (p ∷ ps) (f ∷ fs) a = ap₂ ◌∷◌ a.0.whole (send-wholes ps fs a.1)
+
+-- the positions of what goes beside come after
+positions-beside : (t : planned.Plan) (xs : List Part) → positions (fold beside t xs) ≡ positions t ++ joined (map (λ x. positions (alone x)) xs)
+positions-beside t [] = sym (append-nil (positions t))
+positions-beside t (x ∷ xs) =
+    positions-beside (beside t x) xs ∙ ap (λ ps. ps ++ joined (map (λ x. positions (alone x)) xs)) (one x) ∙ append_assoc (positions t) (positions (alone x)) (joined (map (λ x. positions (alone x)) xs))
+  where
+    one : (x : Part) → positions (beside t x) ≡ positions t ++ positions (alone x)
+    one (part u) = refl
+    one (shade symbol first last u) = refl
 
 -- the first serves a route, and the rest sends beside it
 abbrev pub LedBy : (Plan → Type 0) → List Plan → List Legs → Type 0
@@ -88,7 +111,7 @@ led-append P (q ∷ ps) fs p f a h = (a.0, send-append ps fs p f a.1 h)
 pub record Beyond (t : Tree) (s : Situation) (u : Tree) (v : Situation) (fs : List Legs) : Type 0 where
   pub op : s.op ≡ v.op
   pub sends : (c : Choice) (o : Outcomes) → launched t s c o ≡ launched u v c o ++ joined (map (λ f. f.launches c o) fs)
-  pub places : positions (plan t s) ≡ positions (plan u v) ++ joined (map (λ f. f.places) fs)
+  pub whole : plan t s ≡ fold beside (plan u v) (parts_of fs)
   pub replies : (o : Outcomes) → replies.replies t s o ≡ replies.replies u v o
   pub reply : (es : History) → definition.reply t s es ≡ definition.reply u v es
 
@@ -98,7 +121,8 @@ led-serves w (p ∷ ps) t u s v fs is d a = record {
   sends = λ c o. rw (sent-Beside c o w, is, a.0.sends c o, send-legs ps fs c o a.1) (sym (d.sends c o));
   replies = λ c o. rw (sent-Beside c o w, is) (a.0.replies c o ∙ ap outcome_of_all (sym (d.replies o)));
   kind = rw (kind-Beside w, is, a.0.kind, send-kinds ps fs a.1) refl;
-  places = rw (places-Beside w, is, a.0.places, send-places ps fs a.1) (sym d.places);
+  places = rw (places-Beside w, is, a.0.places, send-places ps fs a.1) (sym (ap positions d.whole ∙ positions-beside (plan u v) (parts_of fs)));
+  whole = rw (part-Beside w, is, a.0.whole, send-wholes ps fs a.1) (ap part (sym d.whole));
   answers = λ xs. rw (arrived-Beside (own_arrived xs) w, is) (a.0.answers xs ∙ seen-does t u s v d.op d.replies d.reply xs);
 }
 
@@ -109,7 +133,7 @@ serves-beside w t u s v fs d a = led-serves w w.items t u s v fs refl d a
 
 -- those of child k
 abbrev pub child_leg : ℕ → Tree → Situation → Legs
-child_leg k t s = record { launches = λ c o. launched t (under k s) c o; places = positions (plan t (under k s)) }
+child_leg k t s = record { launches = λ c o. launched t (under k s) c o; part = part (plan t (under k s)) }
 
 -- the legs of each child, the first of which has number k
 abbrev pub child_legs : ℕ → List Tree → Situation → List Legs
@@ -124,9 +148,9 @@ child_legs-launched : (k : ℕ) (ts : List Tree) (s : Situation) (c : Choice) (o
 child_legs-launched k [] s c o = refl
 child_legs-launched k (t ∷ ts) s c o = ap (λ xs. launched t (under k s) c o ∷ xs) (child_legs-launched (suc k) ts s c o)
 
-child_legs-places : (k : ℕ) (ts : List Tree) (s : Situation) → map (λ f. f.places) (child_legs k ts s) ≡ map positions (plan_each k (trees_of ts) s)
-child_legs-places k [] s = refl
-child_legs-places k (t ∷ ts) s = ap (λ xs. positions (plan t (under k s)) ∷ xs) (child_legs-places (suc k) ts s)
+child_legs-whole : (k : ℕ) (u : planned.Plan) (ts : List Tree) (s : Situation) → fold planned.Beside u (plan_each k (trees_of ts) s) ≡ fold beside u (parts_of (child_legs k ts s))
+child_legs-whole k u [] s = refl
+child_legs-whole k u (t ∷ ts) s = child_legs-whole (suc k) (planned.Beside u (plan t (under k s))) ts s
 
 -- one child more; the first has number k
 pub child-grows : (P : Plan → Type 0) (k m : ℕ) (ps : List Plan) (routes : List Route) (n : ℕ) (route : Route) (p : Plan) (s : Situation) → n < length routes → route ≡ get_or routes n route
@@ -145,9 +169,7 @@ pub initial_beyond : (t : Tree) (ts : List Tree) (s : Situation) → Beyond (all
 initial_beyond t ts s = record {
   op = refl;
   sends = λ c o. ap (λ ls. launched t (under 0 s) c o ++ joined ls) (sym (child_legs-launched 1 ts (asynchronous s) c o));
-  places =
-      positions-fold planned.Beside (λ t u. refl) (plan t (under 0 s)) (plan_each 1 (trees_of ts) (asynchronous s))
-      ∙ ap (λ ps. positions (plan t (under 0 s)) ++ joined ps) (sym (child_legs-places 1 ts (asynchronous s)));
+  whole = child_legs-whole 1 (plan t (under 0 s)) ts (asynchronous s);
   replies = λ o. refl;
   reply = λ es. refl;
 }
@@ -156,7 +178,7 @@ pub async_beyond : (ts : List Tree) (s : Situation) → Beyond (all_async (trees
 async_beyond ts s = record {
   op = refl;
   sends = λ c o. ap joined (sym (child_legs-launched 0 ts (asynchronous s) c o));
-  places = positions-fold planned.Beside (λ t u. refl) (planned.Reply Soft) (plan_each 0 (trees_of ts) (asynchronous s)) ∙ ap joined (sym (child_legs-places 0 ts (asynchronous s)));
+  whole = child_legs-whole 0 (planned.Reply Soft) ts (asynchronous s);
   replies = λ o. refl;
   reply = λ es. refl;
 }
@@ -176,7 +198,7 @@ first_beyond routes first others s is = rw is (initial_beyond (view first) (map 
 
 -- those of target k, where the symbol's index is in its range
 abbrev pub shadow_leg : ℕ → ℕ → Range × Tree → Situation → Legs
-shadow_leg symbol k x s = record { launches = λ c o. cond (is_within x.0 (c symbol)) (launched x.1 (under k s) c o) []; places = positions (plan x.1 (under k s)) }
+shadow_leg symbol k x s = record { launches = λ c o. cond (is_within x.0 (c symbol)) (launched x.1 (under k s) c o) []; part = shade symbol x.0.first x.0.last (plan x.1 (under k s)) }
 
 -- the legs of each target, the first of which has number k, where the symbol's index is in its range
 abbrev pub shadow_legs : ℕ → ℕ → List (Range × Tree) → Situation → List Legs
@@ -196,12 +218,10 @@ shadow_legs-launched symbol k [] s c o = refl
 shadow_legs-launched symbol k (x ∷ shadows) s c o =
     ap (λ ls. cond (is_within x.0 (c symbol)) (launched x.1 (under k s) c o) [] ++ ls) (shadow_legs-launched symbol (suc k) shadows s c o)
 
-shadow_legs-places : (symbol k : ℕ) (t : planned.Plan) (shadows : List (Range × Tree)) (s : Situation)
-    → positions (with_shadows symbol t (map (λ x. x.0) shadows) (plan_each k (trees_of (map (λ x. x.1) shadows)) s)) ≡ positions t ++ joined (map (λ f. f.places) (shadow_legs symbol k shadows s))
-shadow_legs-places symbol k t [] s = sym (append-nil (positions t))
-shadow_legs-places symbol k t (x ∷ shadows) s =
-    shadow_legs-places symbol (suc k) (planned.Shadowed symbol x.0.first x.0.last t (plan x.1 (under k s))) shadows s
-    ∙ append_assoc (positions t) (positions (plan x.1 (under k s))) (joined (map (λ f. f.places) (shadow_legs symbol (suc k) shadows s)))
+shadow_legs-whole : (symbol k : ℕ) (t : planned.Plan) (shadows : List (Range × Tree)) (s : Situation)
+    → with_shadows symbol t (map (λ x. x.0) shadows) (plan_each k (trees_of (map (λ x. x.1) shadows)) s) ≡ fold beside t (parts_of (shadow_legs symbol k shadows s))
+shadow_legs-whole symbol k t [] s = refl
+shadow_legs-whole symbol k t (x ∷ shadows) s = shadow_legs-whole symbol (suc k) (planned.Shadowed symbol x.0.first x.0.last t (plan x.1 (under k s))) shadows s
 
 -- one shadow more
 pub shadow-grows : (P : Plan → Type 0) (symbol : ℕ) (ps : List Plan) (shadows : List Shadow) (n : ℕ) (copied : Shadow) (target : Box Plan Global) (s : Situation) → n < length shadows → copied ≡ get_or shadows n copied
@@ -217,13 +237,14 @@ shadow-grows P symbol ps shadows n copied target s h is a f =
       legs = λ c o. rw (sent-Shadowed c o symbol x.0.first x.0.last target, f.sends c o) refl;
       kind = rw (kind-Shadowed symbol x.0.first x.0.last target, f.kind) refl;
       places = places-Shadowed symbol x.0.first x.0.last target ∙ f.places;
+      whole = part-Shadowed symbol x.0.first x.0.last target ∙ ap (λ y. shade symbol x.0.first x.0.last (alone y)) f.whole;
     }))
 
 pub shadows_beyond : (q : Pool) (shadows : List Shadow) (s : Situation) → Beyond (pool q (ranges_of shadows) (targets_of shadows)) s (pool q [] none) s (shadow_legs q.symbol 0 (map shadow_view shadows) (shadowed s))
 shadows_beyond q shadows s = record {
   op = refl;
   sends = λ c o. ap (λ ls. launched (pool q [] none) s c o ++ ls) (sym (shadow_legs-launched q.symbol 0 (map shadow_view shadows) (shadowed s) c o));
-  places = shadow_legs-places q.symbol 0 (planned.Send (leg_of q s)) (map shadow_view shadows) (shadowed s);
+  whole = shadow_legs-whole q.symbol 0 (planned.Send (leg_of q s)) (map shadow_view shadows) (shadowed s);
   replies = λ o. refl;
   reply = λ es. refl;
 }

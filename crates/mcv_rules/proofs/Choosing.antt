@@ -21,7 +21,6 @@ use Rattle.mcv_route.proofs.Views.{prefix_view-out, operation_view-out, view-Pre
 use Rattle.mcv_base.specs.declared.reply.Outcome.TheVariants.{Error}
 use Rattle.mcv_rules.specs.Plan as planned
 use Rattle.mcv_rules.specs.Plans as normal
-use Rattle.mcv_rules.specs.Sound.{positions}
 use Rattle.mcv_rules.specs.Laid.{longer_of, operations_of, prefixes_of, Serves}
 use Rattle.mcv_rules.specs.declared.plan.Plan.{Plan, Reply}
 use Rattle.mcv_rules.proofs.Serving.{Does, serves-does, serves-error}
@@ -81,7 +80,7 @@ does_child n u ts s t d h is = record {
   sends = λ c o. d.sends c o ∙ rw (each-launched 0 ts s c o) (chosen (λ u v. launched u v c o) [] s ts 0 n n t h is (omega arith));
   replies = λ o. d.replies o ∙ rw (each-replies 0 ts s o) (chosen (λ u v. replies.replies u v o) (refused ∷ []) s ts 0 n n t h is (omega arith));
   reply = λ es. d.reply es ∙ rw (each-reply 0 ts s es) (chosen (λ u v. reply u v es) (Some refused) s ts 0 n n t h is (omega arith));
-  places = ap positions {y = normal.plan t (under n s)} (d.plans ∙ rw (each-plan 0 ts s) (chosen (λ u v. normal.plan u v) (planned.Reply Error) s ts 0 n n t h is (omega arith)));
+  whole = d.plans ∙ rw (each-plan 0 ts s) (chosen (λ u v. normal.plan u v) (planned.Reply Error) s ts 0 n n t h is (omega arith));
 }
 
 pub does_error : (n : ℕ) (u : Tree) (ts : List Tree) (s : Situation) → Chooses n u (trees_of ts) s → length ts ≤ n → Does u s error s
@@ -90,7 +89,7 @@ does_error n u ts s d h = record {
   sends = λ c o. d.sends c o ∙ rw (each-launched 0 ts s c o) (unchosen (λ u v. launched u v c o) [] s ts 0 n h);
   replies = λ o. d.replies o ∙ rw (each-replies 0 ts s o) (unchosen (λ u v. replies.replies u v o) (refused ∷ []) s ts 0 n h);
   reply = λ es. d.reply es ∙ rw (each-reply 0 ts s es) (unchosen (λ u v. reply u v es) (Some refused) s ts 0 n h);
-  places = ap positions {y = planned.Reply Error} (d.plans ∙ rw (each-plan 0 ts s) (unchosen (λ u v. normal.plan u v) (planned.Reply Error) s ts 0 n h));
+  whole = d.plans ∙ rw (each-plan 0 ts s) (unchosen (λ u v. normal.plan u v) (planned.Reply Error) s ts 0 n h);
 }
 
 -- ---- policies, with more routes after them
@@ -280,16 +279,16 @@ serves-no_child [] s h n = serves-does (Reply ErrorRoute) (miss_failover none) e
 serves-no_child (r ∷ routes) s h n = absurd (omega (arith, n))
 
 pub serves-no_initial : (routes : List Route) (s : Situation) → length routes ≡ 0 → Serves (Reply ErrorRoute) (all_initial (trees_of (map view routes))) s
-serves-no_initial [] s n = serves-does (Reply ErrorRoute) (all_initial none) error s s (record { op = refl; sends = λ c o. refl; replies = λ o. refl; reply = λ es. refl; places = refl }) (serves-error s)
+serves-no_initial [] s n = serves-does (Reply ErrorRoute) (all_initial none) error s s (record { op = refl; sends = λ c o. refl; replies = λ o. refl; reply = λ es. refl; whole = refl }) (serves-error s)
 serves-no_initial (r ∷ routes) s n = absurd (omega (arith, n))
 
 -- ---- migrations and warm-ups
 
 pub migrates_from : (from to : Tree) (start interval : ℕ) (s : Situation) → way_of s start interval ≡ to_from → Does (migrate from to start interval) s from (under 0 s)
-migrates_from from to start interval s w = record { op = refl; sends = λ c o. rw w refl; replies = λ o. rw w refl; reply = λ es. rw w refl; places = rw w refl }
+migrates_from from to start interval s w = record { op = refl; sends = λ c o. rw w refl; replies = λ o. rw w refl; reply = λ es. rw w refl; whole = rw w refl }
 
 pub migrates_to : (from to : Tree) (start interval : ℕ) (s : Situation) → way_of s start interval ≡ to_to → Does (migrate from to start interval) s to (under 1 s)
-migrates_to from to start interval s w = record { op = refl; sends = λ c o. rw w refl; replies = λ o. rw w refl; reply = λ es. rw w refl; places = rw w refl }
+migrates_to from to start interval s w = record { op = refl; sends = λ c o. rw w refl; replies = λ o. rw w refl; reply = λ es. rw w refl; whole = rw w refl }
 
 pub migrates_both : (from to : Tree) (start interval : ℕ) (s : Situation) → way_of s start interval ≡ to_both → Does (migrate from to start interval) s (all_sync (trees_of (from ∷ to ∷ []))) s
 migrates_both from to start interval s w = record {
@@ -297,8 +296,8 @@ migrates_both from to start interval s w = record {
   sends = λ c o. rw w (ap (λ ls. launched from (under 0 s) c o ++ ls) (sym (append-nil (launched to (under 1 s) c o))));
   replies = λ o. rw w refl;
   reply = λ es. rw w refl;
-  places = rw w refl;
+  whole = rw w refl;
 }
 
 pub warms_not : (cold warm : Tree) (exptime : ℕ) (s : Situation) → is_reading s.op ≡ false → Does (warm_up cold warm exptime) s cold (under 0 s)
-warms_not cold warm exptime s h = record { op = refl; sends = λ c o. rw h refl; replies = λ o. rw h refl; reply = λ es. rw h refl; places = rw h refl }
+warms_not cold warm exptime s h = record { op = refl; sends = λ c o. rw h refl; replies = λ o. rw h refl; reply = λ es. rw h refl; whole = rw h refl }

@@ -16,6 +16,7 @@ pub mod Times
 pub mod Own
 pub mod Plans
 pub mod Places
+pub mod Whole
 pub mod Serving
 pub mod Searching
 pub mod Besides

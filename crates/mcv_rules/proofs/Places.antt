@@ -1,5 +1,5 @@
 -- Where the legs and the shadows of a plan in memory are, one level at a time.
-use Rattle.std.proofs.Common.{◌≡◌, ℕ, true, ◌&&◌, [], ◌∷◌, ◌++◌, map, Vec, Box, Global, List, rules}
+use Rattle.std.proofs.Common.{◌≡◌, ℕ, true, ◌&&◌, [], ◌∷◌, ◌++◌, map, Vec, Box, Global, rules}
 use Rattle.mcv_base.specs.declared.reply.FixedReply.{FixedReply}
 use Rattle.mcv_route.specs.Children.{joined}
 use Rattle.mcv_rules.specs.Places.{are_led, are_plain, is_plain, kind_of, places_of, plain_if, shadow_if}

@@ -21,6 +21,8 @@ use Rattle.mcv_rules.specs.Laws.{IsOneOf}
 use Rattle.mcv_rules.specs.Plan as planned
 use Rattle.mcv_rules.specs.Plans.{plan, plan_each}
 use Rattle.mcv_rules.specs.Sound.{positions}
+use Rattle.mcv_rules.specs.Whole.{part, turns_of}
+use Rattle.mcv_rules.specs.Whole.{in_turn as join}
 use Rattle.mcv_rules.specs.Times.{time, IsStable}
 use Rattle.mcv_rules.specs.History.{history_of}
 use Rattle.mcv_rules.specs.Arrivals.{seen, own_arrived, arrived_at_once, goes_on, goes_on_after, next_arrived}
@@ -35,8 +37,9 @@ use Rattle.mcv_rules.proofs.Times.{came_time, no_cons}
 use Rattle.mcv_rules.proofs.Verdicts.{reply_is_planned, replies_are_alike}
 use Rattle.mcv_rules.proofs.Own.{apart, stable}
 use Rattle.mcv_rules.proofs.Places.{kind-InTurn, kind-OnHit, places-InTurn, places-OnHit}
+use Rattle.mcv_rules.proofs.Whole.{part-InTurn, part-OnHit}
 use Rattle.mcv_rules.proofs.Plans.{sent-InTurn, sent-OnHit, arrived-InTurn, arrived-OnHit}
-use Rattle.mcv_rules.proofs.Serving.{at_once, kinds-each, places-each, positions-together, replies-each, reply-together}
+use Rattle.mcv_rules.proofs.Serving.{at_once, kinds-each, places-each, positions-together, replies-each, reply-together, wholes-each}
 
 -- ---- the words of the handles, by what the search goes on after
 
@@ -47,10 +50,6 @@ or_after after.Miss = or_after_miss
 abbrev next_after : After → Option Answer → Option Answer → Option Answer
 next_after after.Error = next_after_error
 next_after after.Miss = next_after_miss
-
-abbrev join : After → planned.Plan → planned.Plan → planned.Plan
-join after.Error = planned.OnError
-join after.Miss = planned.OnMiss
 
 abbrev outcome : Option Answer → Option Outcome
 outcome r = option_map (λ a. a.outcome) r
@@ -202,7 +201,7 @@ pub record Searches (w : After) (t : Tree) (ts : Trees) (s : Situation) : Type 0
   pub answer : (es : History) → reply t s es ≡ together (next_after w) (Some refused) (answers_of (arrivals 0 ts s es))
   pub plans : plan t s ≡ together (join w) (planned.Reply Error) (plan_each 0 ts s)
 
-joined_reply : (w : After) (o : Outcomes) (t u : planned.Plan) → planned.reply (join w t u) o ≡ next_reply w (planned.reply t o) (planned.reply u o)
+pub joined_reply : (w : After) (o : Outcomes) (t u : planned.Plan) → planned.reply (join w t u) o ≡ next_reply w (planned.reply t o) (planned.reply u o)
 joined_reply after.Error o t u = by_reply (planned.reply t o)
   where
     by_reply : (r : Option Outcome) → planned.on_error r (planned.reply u o) ≡ next_reply after.Error r (planned.reply u o)
@@ -245,6 +244,7 @@ serves-search w v t ts s h a = record {
       rw (sent-InTurn c o w v, replies-each 0 v.items ts s c o a)
       (reply-together o (next_reply w) (join w) (joined_reply w o) (planned.Reply Error) (plan_each 0 (trees_of ts) s) ∙ ap (λ u. planned.reply u o) (sym h.plans) ∙ sym (reply_is_planned t s o));
   kind = rw (kind-InTurn w v, kinds-each 0 v.items ts s a) refl;
+  whole = part-InTurn w v ∙ ap (λ us. part (turns_of w us)) (wholes-each 0 v.items ts s a) ∙ ap part (sym h.plans);
   places =
       places-InTurn w v ∙ ap joined (places-each 0 v.items ts s a)
       ∙ sym (positions-together (join w) (joined_positions w) (plan_each 0 (trees_of ts) s)) ∙ ap positions (sym h.plans);
@@ -288,6 +288,7 @@ serves-warm_up v p q a cold warm exptime s is h f g i = record {
       rw (sent-InTurn c o after.Miss v, is, sent-OnHit c o q a, f.replies c o, g.replies c o, h)
       (miss_outcome (replies cold (under 0 s) o) (replies warm (under 1 s) o));
   kind = rw (kind-InTurn after.Miss v, is, f.kind, kind-OnHit q a, g.kind, i.kind) refl;
+  whole = rw (part-InTurn after.Miss v, is, f.whole, part-OnHit q a, g.whole, i.whole, h) refl;
   places =
       rw (places-InTurn after.Miss v, is, f.places, places-OnHit q a, g.places, i.places, h)
       (ap (λ ps. positions (plan cold (under 0 s)) ++ ps) (append-nil (positions (plan warm (under 1 s)) ++ positions (plan cold (under 2 (adding s))))));

@@ -25,9 +25,10 @@ use Rattle.mcv_route.specs.Launched.{launched, launched_each}
 use Rattle.mcv_route.specs.Reply as definition
 use Rattle.mcv_route.specs.Reply.{reply, came, arrival, arrivals, last_worse, is_waiting}
 use Rattle.mcv_rules.specs.Plan as planned
-use Rattle.mcv_rules.specs.Places.{are_plain, is_plain, kind_of, places_of}
+use Rattle.mcv_rules.specs.Places.{are_plain, kind_of, places_of}
 use Rattle.mcv_rules.specs.Plans.{plan, plan_each}
 use Rattle.mcv_rules.specs.Sound.{positions}
+use Rattle.mcv_rules.specs.Whole.{all_of, alone, part, whole_of}
 use Rattle.mcv_rules.specs.Times.{came_each}
 use Rattle.mcv_rules.specs.Status.{default_reply}
 use Rattle.mcv_rules.specs.History.{history_of}
@@ -40,6 +41,7 @@ use Rattle.mcv_rules.proofs.Times as times
 use Rattle.mcv_rules.proofs.Verdicts.{reply_is_planned}
 use Rattle.mcv_rules.proofs.Own.{own_seen}
 use Rattle.mcv_rules.proofs.Places.{kind-All, kind-Reply, kind-Send, places-All, places-Reply, places-Send}
+use Rattle.mcv_rules.proofs.Whole.{part-All, part-Reply, part-Send}
 use Rattle.mcv_rules.proofs.Plans.{sent-Send, sent-Reply, sent-All, arrived-Send, arrived-Reply, arrived-All}
 
 -- what is laid out serves the whole, where it serves the part
@@ -59,6 +61,7 @@ serves-pool l q s at symbol servers op mark = record {
   replies = λ c o. rw (sent-Send c o l, at) (own_reply s.position (o s.position));
   kind = kind-Send l;
   places = rw (places-Send l, at) refl;
+  whole = rw (part-Send l, at, symbol, servers, op, mark) refl;
   answers = λ xs. rw (arrived-Send (own_arrived xs) l, at) (own_seen q s xs);
 }
 
@@ -87,6 +90,7 @@ serves-null f s e = record {
   replies = λ c o. rw (sent-Reply c o f, e, default_is_soft s.op) refl;
   kind = kind-Reply f;
   places = places-Reply f;
+  whole = rw (part-Reply f, e, default_is_soft s.op) refl;
   answers = λ xs. rw (arrived-Reply (own_arrived xs) f, e, at_once null s (λ o. refl) (history_of xs), default_is_soft s.op) refl;
 }
 
@@ -96,6 +100,7 @@ serves-error s = record {
   replies = λ c o. rw (sent-Reply c o ErrorRoute) refl;
   kind = kind-Reply ErrorRoute;
   places = places-Reply ErrorRoute;
+  whole = part-Reply ErrorRoute;
   answers = λ xs. rw (arrived-Reply (own_arrived xs) ErrorRoute, at_once error s (λ o. refl) (history_of xs)) refl;
 }
 
@@ -106,7 +111,7 @@ pub record Does (t : Tree) (s : Situation) (u : Tree) (v : Situation) : Type 0 w
   pub sends : (c : Choice) (o : Outcomes) → launched t s c o ≡ launched u v c o
   pub replies : (o : Outcomes) → replies.replies t s o ≡ replies.replies u v o
   pub reply : (es : History) → definition.reply t s es ≡ definition.reply u v es
-  pub places : positions (plan t s) ≡ positions (plan u v)
+  pub whole : plan t s ≡ plan u v
 
 pub came-does : (t u : Tree) (s v : Situation) → ((o : Outcomes) → replies.replies t s o ≡ replies.replies u v o) → (es : History) → came t s es ≡ came u v es
 came-does t u s v h [] = refl
@@ -124,7 +129,8 @@ serves-does p t u s v d f = record {
   sends = λ c o. f.sends c o ∙ sym (d.sends c o);
   replies = λ c o. f.replies c o ∙ ap outcome_of_all (sym (d.replies o));
   kind = f.kind;
-  places = f.places ∙ sym d.places;
+  places = f.places ∙ ap positions (sym d.whole);
+  whole = f.whole ∙ ap part (sym d.whole);
   answers = λ xs. f.answers xs ∙ seen-does t u s v d.op d.replies d.reply xs;
 }
 
@@ -217,6 +223,13 @@ places-each k [] (t ∷ ts) s a = absurd a
 places-each k (p ∷ ps) [] s a = absurd a
 places-each k (p ∷ ps) (t ∷ ts) s a = ap₂ ◌∷◌ a.0.places (places-each (suc k) ps ts s a.1)
 
+-- the normal form of each
+pub wholes-each : (k : ℕ) (ps : List Plan) (ts : List Tree) (s : Situation) → ServeEach k ps ts s → map whole_of ps ≡ plan_each k (trees_of ts) s
+wholes-each k [] [] s a = refl
+wholes-each k [] (t ∷ ts) s a = absurd a
+wholes-each k (p ∷ ps) [] s a = absurd a
+wholes-each k (p ∷ ps) (t ∷ ts) s a = ap₂ ◌∷◌ (ap alone a.0.whole) (wholes-each (suc k) ps ts s a.1)
+
 -- the positions of plans joined two by two
 module _ (join : planned.Plan → planned.Plan → planned.Plan) (h : (t u : planned.Plan) → positions (join t u) ≡ positions t ++ positions u) where
   pub positions-fold : (t : planned.Plan) (us : List planned.Plan) → positions (fold join t us) ≡ positions t ++ children.joined (map positions us)
@@ -235,6 +248,7 @@ serves-all v ts s a = record {
       rw (sent-All c o v, replies-each 0 v.items ts s c o a)
       (reply-together o planned.both planned.Both (λ t u. refl) (planned.Reply Error) (plan_each 0 (trees_of ts) s) ∙ sym (reply_is_planned (all_sync (trees_of ts)) s o));
   kind = rw (kind-All v, kinds-each 0 v.items ts s a) refl;
+  whole = part-All v ∙ ap (λ us. part (all_of us)) (wholes-each 0 v.items ts s a);
   places = places-All v ∙ ap children.joined (places-each 0 v.items ts s a) ∙ sym (positions-together planned.Both (λ t u. refl) (plan_each 0 (trees_of ts) s));
   answers = λ xs. rw (arrived-All (own_arrived xs) v, arrived-each 0 v.items ts s xs a) (all-seen ts s xs);
 }

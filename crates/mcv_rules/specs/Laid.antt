@@ -26,6 +26,7 @@ use Rattle.mcv_rules.specs.Plan.{both}
 use Rattle.mcv_rules.specs.Plans.{plan}
 use Rattle.mcv_rules.specs.Sound.{positions}
 use Rattle.mcv_rules.specs.Places.{is_plain, kind_of, places_of}
+use Rattle.mcv_rules.specs.Whole.{part, part_of}
 use Rattle.mcv_rules.specs.declared.arrival.After.{After}
 use Rattle.mcv_rules.specs.declared.arrival.Arrival.{Arrival}
 use Rattle.mcv_rules.specs.declared.asked.Asked.{Asked}
@@ -138,6 +139,8 @@ pub record Serves (p : Plan) (t : Tree) (s : Situation) : Type 0 where
   pub kind : is_plain (kind_of p) ≡ true
   -- its legs have the positions of the normal form's, in order
   pub places : places_of p ≡ positions (plan t s)
+  -- it is the normal form
+  pub whole : part_of p ≡ part (plan t s)
   pub answers : (xs : List Answered) → arrived (own_arrived xs) p ≡ seen s.op xs (arrival (reply t s (history_of xs)) (came t s (history_of xs)))
 
 -- each plan serves the child with its number, the first of which is k

@@ -8,5 +8,6 @@ pub mod History
 pub mod Status
 pub mod Arrivals
 pub mod Places
+pub mod Whole
 pub mod Laid
 pub mod Rows

@@ -1,6 +1,6 @@
 -- The definitions at small files.
 use Rattle.std.proofs.Common.{◌≡◌, [], ◌∷◌, ◌++◌, length, map, take, set, codes, None, Some, refl}
-use Rattle.mcv_spool.specs.File.{damage, marked, numbered, read_record, slot_of, slots, slots_within, waiting}
+use Rattle.mcv_spool.specs.File.{damage, marked, read_record, slot_of, slots, slots_within, waiting}
 use Rattle.mcv_base.specs.Server.{is_host, is_port, is_server}
 use Rattle.mcv_spool.specs.declared.record.SpoolRecord.{SpoolRecord}
 
@@ -32,7 +32,7 @@ unfolding read_record is_server is_host is_port
 damaged = refl
 
 -- a slot whose record is done, and one whose is not
-pending_one : numbered 0 (map waiting (marked 0 (slot_of first ∷ []) ++ slot_of first ∷ [])) ≡ (1, first) ∷ []
+pending_one : map waiting (marked 0 (slot_of first ∷ []) ++ slot_of first ∷ []) ≡ None ∷ Some first ∷ []
 unfolding read_record is_server is_host is_port
 pending_one = refl
 

@@ -5,12 +5,11 @@ use Rattle.std.proofs.lemmas.Bool.Decides.{nat_tests}
 use Rattle.std.proofs.lemmas.List.{append-nil, length-map, map-append}
 use Rattle.std.specs.List.{Contains}
 use Rattle.mcv_spool.specs.Disk.{LeavesOnly}
-use Rattle.mcv_spool.specs.File.{damage, is_done, marked, numbered, read_record, slot_of, slots, slots_within, waiting}
+use Rattle.mcv_spool.specs.File.{damage, is_done, marked, read_record, slot_of, slots, slots_within, waiting}
 use Rattle.mcv_spool.specs.Version.{HasSlotsOf, IsBeforeOrAfter, IsVersion}
 use Rattle.mcv_spool.specs.History.{Told, HasNumber, IsKept, World, record_in, records_of, nothing_told, told_found, told_stored, told_tried, told_done, Call, History}
 use Rattle.mcv_spool.specs.declared.record.SpoolRecord.{SpoolRecord}
 use Rattle.mcv_spool.proofs.Marks.{records_marked}
-use Rattle.mcv_spool.proofs.Numbered.{is_listed}
 use Rattle.mcv_spool.proofs.Versions.{counted}
 
 -- a record that was just added isn't done
@@ -197,16 +196,12 @@ is_waiting zero (s ∷ all) (x ∷ recs) r same h at undone =
 is_waiting (suc k) (s ∷ all) (x ∷ recs) r same h at undone = is_waiting k all recs r (ap (drop 1) same) (omega (arith, h)) at undone
 
 -- a record that was told is pending, or `done` was called for it
-pub pending_or_done : (t : Told) (file : List ℕ) → Whole t (slots file) → IsKept t file → (r : SpoolRecord) (k : ℕ) → HasNumber t r k → Contains t.done k ⊎ Contains (numbered 0 (map waiting (slots file))) (k, r)
+pub pending_or_done : (t : Told) (file : List ℕ) → Whole t (slots file) → IsKept t file → (r : SpoolRecord) (k : ℕ) → HasNumber t r k → Contains t.done k ⊎ (get_or (map waiting (slots file)) k None ≡ Some r)
 pending_or_done t file whole kept r k number = by_done (is_done (get_or (slots file) k [])) refl
   where
-    there : k < length (map waiting (slots file))
-    there = omega (arith, number.0, length-map (slots file) waiting, length-map (slots file) read_record, ap length whole.0, length-map (t.found ++ t.stored) Some)
-
-    by_done : (b : Bool) → is_done (get_or (slots file) k []) ≡ b → Contains t.done k ⊎ Contains (numbered 0 (map waiting (slots file))) (k, r)
+    by_done : (b : Bool) → is_done (get_or (slots file) k []) ≡ b → Contains t.done k ⊎ (get_or (map waiting (slots file)) k None ≡ Some r)
     by_done true is = inl (kept.done k is)
-    by_done false is = let same : 0 + k ≡ k = omega arith in
-        inr (subst (λ n. Contains (numbered 0 (map waiting (slots file))) (n, r)) same (is_listed 0 k (map waiting (slots file)) r there (is_waiting k (slots file) (t.found ++ t.stored) r whole.0 number.0 number.1 is)))
+    by_done false is = inr (is_waiting k (slots file) (t.found ++ t.stored) r whole.0 number.0 number.1 is)
 
 -- what an `open` finds is what is kept
 pub found_kept : (t : Told) (file : List ℕ) (records : List SpoolRecord) → IsKept t file → map read_record (slots file) ≡ map Some records

@@ -2,7 +2,6 @@ pub mod Appends
 mod Examples
 pub mod Marks
 pub mod Moments
-pub mod Numbered
 pub mod Pieces
 pub mod Records
 pub mod Repair

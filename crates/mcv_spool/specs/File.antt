@@ -69,16 +69,6 @@ damage k (slot ∷ all) = if k == slot_limit || is_none (read_record slot) then 
 abbrev pub waiting : List ℕ → Option SpoolRecord
 waiting slot = if is_done slot then None else read_record slot
 
--- a record that is pending, with the number of its slot
-abbrev pub entry : ℕ → Option SpoolRecord → List (ℕ × SpoolRecord)
-entry k None = []
-entry k (Some r) = (k, r) ∷ []
-
--- the records that are pending, with the numbers of their slots, the first of which is k
-abbrev pub numbered : ℕ → List (Option SpoolRecord) → List (ℕ × SpoolRecord)
-numbered k [] = []
-numbered k (o ∷ all) = entry k o ++ numbered (k + 1) all
-
 -- the slots, with the record of slot k marked as done
 abbrev pub marked : ℕ → List (List ℕ) → List (List ℕ)
 marked k all = set all k (set (slice_index_or all k []) 1 1)

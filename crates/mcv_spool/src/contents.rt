@@ -1,7 +1,7 @@
 //! What a file holds: the slots before its end gate, and the records that are pending in them.
 
 ghost use Rattle.std.specs.Prelude.{◌≡◌, ℕ, ◌+◌, ◌*◌, ◌<◌, ◌≤◌, ◌↔◌, true, None, Some, IsTrue, IsSome, [], ◌∷◌, ◌++◌, length, map, set, slice_index_or, vec_len, vec_capacity, IfOk, OnOk, is_some, if◌then◌else◌, MatchOption};
-ghost use Rattle.mcv_spool.specs.File.{damage, is_done, numbered, read_record, slots, waiting};
+ghost use Rattle.mcv_spool.specs.File.{damage, is_done, read_record, slots, waiting};
 ghost use Rattle.mcv_spool.specs.Found.{IsFindFault};
 
 use crate::fault::SpoolFault;
@@ -17,7 +17,7 @@ pub(crate) const SLOT_LIMIT: usize = 1_000_000;
 
 /// What is kept of a slot: its record while it is pending, on the heap, and nothing once it is done.
 #[derive(Drop)]
-pub(crate) struct Slot {
+pub struct Slot {
     record: Option<Box<SpoolRecord>>,
 }
 
@@ -70,7 +70,7 @@ impl Slot {
     }
 
     /// The record, while it is pending.
-    fn record(&self) -> Option<&SpoolRecord>
+    pub fn record(&self) -> Option<&SpoolRecord>
         ensures { MatchOption result (self.now ≡ None) (λ r. self.now ≡ Some r.now) }
     {
         match &self.record {
@@ -184,16 +184,10 @@ impl Contents {
         self.pending[number] = Slot::done();
     }
 
-    /// The records that are pending, each with its number, in the order of numbers.
-    pub(crate) fn listed(&self) -> Result<Vec<(u64, SpoolRecord)>, AllocError>
-        ensures { IfOk result (λ list. list.items ≡ numbered 0 self.now.pending.items) }
+    /// The slots, each at its number.
+    pub(crate) fn slots(&self) -> &[Slot]
+        ensures { result.now ≡ self.now.pending.items }
     {
-        let mut list = Vec::new(self.alloc);
-        for (number, slot) in self.pending.iter().enumerate() {
-            if let Some(record) = slot.record() {
-                list.push((number as u64, record.copied()))?;
-            }
-        }
-        Ok(list)
+        self.pending.as_slice()
     }
 }

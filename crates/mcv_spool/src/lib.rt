@@ -16,6 +16,7 @@ mod recover;
 mod spool;
 mod write;
 
+pub use contents::Slot;
 pub use disk::{Disk, DiskFailed};
 pub use fault::SpoolFault;
 pub use file_disk::FileDisk;

@@ -3,7 +3,7 @@
 ghost use Rattle.std.specs.Prelude.{◌≡◌, ◌≢◌, ◌⊎◌, ◌↔◌, ℕ, ◌+◌, ◌*◌, ◌<◌, false, true, None, Some, IsSome, [], ◌∷◌, ◌++◌, length, set, slice_index_or, IfOk, IfErr, OnOk, OnErr, IsOk, IsErrOf};
 ghost use Rattle.std.specs.List.{Contains};
 ghost use Rattle.mcv_spool.specs.Disk.{LeavesOnly, Only};
-ghost use Rattle.mcv_spool.specs.File.{damage, marked, numbered, slot_of, slots};
+ghost use Rattle.mcv_spool.specs.File.{damage, marked, slot_of, slots};
 ghost use Rattle.mcv_spool.specs.Found.{IsAppendFault, IsDoneFault, IsFound, IsOpenFault, WritesNothing};
 ghost use Rattle.mcv_spool.specs.History.{Call, HasNumber, History, Told, append_stopped, append_told, done_told, records_of, reopen_told, shut, told_found, world};
 ghost use Rattle.mcv_spool.specs.declared.record.SpoolRecord.{SpoolRecord};
@@ -15,7 +15,7 @@ use crate::fault::SpoolFault;
 use crate::record::{SpoolRecord, Stored};
 use crate::recover::recover;
 use crate::write::{write_done, write_record};
-use std::alloc::{AllocError, Global};
+use std::alloc::Global;
 
 /// Records of deletes that their servers didn't take, in a file.
 #[derive(Drop)]
@@ -144,14 +144,14 @@ impl<D: Disk> Spool<D> {
         Ok(())
     }
 
-    /// The records that are pending, each with its number, in the order in which they were appended: a copy of each. It looks
-    /// through all slots, so it is for once after `open`.
-    pub fn pending(&self) -> Result<Vec<(u64, SpoolRecord)>, AllocError>
-        ensures value { IfOk result (λ list. list.items ≡ numbered 0 self.now.contents.pending.items) }
+    /// The slots of the file in their order: at the number of a record that is pending the record, and at any other number
+    /// nothing.
+    pub fn pending(&self) -> &[Slot]
+        ensures value { result.now ≡ self.now.contents.pending.items }
         // A record that was told is missing only where `done` was called for its number. This speaks of a spool that
         // doesn't answer Reopen; a call that is refused leaves all as they were (`still_pending`).
-        ensures kept { D.keeps_model → IfOk result (λ list. (told : Told) → History D.seen D.may_leave D.moment D.left_since told (world self.now.disk self.now.needs_reopen) → self.now.needs_reopen ≡ false → (r : SpoolRecord) (k : ℕ) → HasNumber told r k → Contains told.done k ⊎ Contains list.items (k, r)) }
+        ensures kept { D.keeps_model → (told : Told) → History D.seen D.may_leave D.moment D.left_since told (world self.now.disk self.now.needs_reopen) → self.now.needs_reopen ≡ false → (r : SpoolRecord) (k : ℕ) → HasNumber told r k → Contains told.done k ⊎ (slice_index_or result.now k None ≡ Some r) }
     {
-        self.contents.listed()
+        self.contents.slots()
     }
 }

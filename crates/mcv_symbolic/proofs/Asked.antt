@@ -13,7 +13,7 @@ use Rattle.mcv_rules.specs.Plans.{plan}
 use Rattle.mcv_rules.specs.Plan as whole
 use Rattle.mcv_rules.specs.declared.plan.PlannedLeg.{PlannedLeg}
 use Rattle.mcv_symbolic.specs.Case.{CaseValue, situation_of}
-use Rattle.mcv_symbolic.specs.InMemory.{leg_of}
+use Rattle.mcv_rules.specs.Whole.{leg_of}
 use Rattle.mcv_symbolic.specs.Listed.{acknowledged, hits}
 use Rattle.mcv_symbolic.specs.Sets.{AreLegsAt, CanBeAcknowledged, CanHitAt, IsAcknowledged}
 use Rattle.mcv_symbolic.specs.Structure.{if_all}

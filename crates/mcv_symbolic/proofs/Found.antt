@@ -14,7 +14,7 @@ use Rattle.mcv_rules.specs.Plans.{plan}
 use Rattle.mcv_rules.specs.declared.plan.PlannedLeg.{PlannedLeg}
 use Rattle.mcv_rules.proofs.Among.{Among}
 use Rattle.mcv_rules.proofs.Rising.{IsRising, pairs, places}
-use Rattle.mcv_symbolic.specs.InMemory.{leg_of}
+use Rattle.mcv_rules.specs.Whole.{leg_of}
 use Rattle.mcv_symbolic.specs.Listed.{acknowledged, hits}
 use Rattle.mcv_symbolic.specs.Sets.{AreLegsAt, CanHitAt, IsAcknowledged, positions_of}
 use Rattle.mcv_symbolic.proofs.Exactness.{acknowledged_is_exact, hits_are_exact}

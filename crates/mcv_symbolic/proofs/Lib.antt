@@ -1,6 +1,6 @@
 pub mod Later
-pub mod Pushed
 pub mod Tried
+pub mod Walked
 pub mod Exact
 pub mod Marks
 pub mod OnPlans
@@ -16,6 +16,5 @@ pub mod Alike
 pub mod Whole
 pub mod Rising
 pub mod Found
-pub mod Selected
 pub mod Asked
 mod Examples

@@ -10,13 +10,11 @@ ghost use Rattle.mcv_symbolic.specs.Case.{situation_of};
 ghost use Rattle.mcv_symbolic.specs.Sets.{AreLegsAt, CanBeAcknowledged, CanHitAt, IsAcknowledged};
 ghost use Rattle.mcv_symbolic.specs.Shown.{answers, history_of, leading};
 
-use crate::layout::laid_out;
-use crate::plan::Plan;
 use crate::sets::{push_acknowledged, push_hits, reply_if_all};
-use crate::shown::{LegAnswer, push_answers, push_leading};
+use crate::shown::{Added, LegAnswer, push_answers, push_leading};
 use mcv_base::{Mark, Moment, Op, Outcome, Position, Rest};
 use mcv_route::Route;
-use mcv_rules::{Asked, PlannedLeg};
+use mcv_rules::{Asked, Plan, PlannedLeg, laid_out};
 use std::alloc::{AllocError, Global};
 use std::marker::Model;
 
@@ -40,11 +38,11 @@ impl<'a> Model for Case<'a> {
     ghost use Rattle.mcv_route.specs.Situation.{asked as asking};
     ghost use Rattle.mcv_route.specs.View.{view as tree_of};
     ghost use Rattle.mcv_rules.specs.Plans.{plan as plan_for};
-    ghost use Rattle.mcv_symbolic.specs.InMemory.{plan_of};
+    ghost use Rattle.mcv_rules.specs.Whole.{whole_of};
 
     ghost view = { λ c. record { tree = tree_of c.route.now; op = c.asked.op; rest = c.asked.rest.now; since = option_map (λ m. m.0) c.asked.since } };
 
-    ghost invariant = { λ c. plan_of c.plan ≡ plan_for (tree_of c.route.now) (asking c.asked.op c.asked.rest.now (option_map (λ m. m.0) c.asked.since)) };
+    ghost invariant = { λ c. whole_of c.plan ≡ plan_for (tree_of c.route.now) (asking c.asked.op c.asked.rest.now (option_map (λ m. m.0) c.asked.since)) };
 }
 
 impl<'a> Case<'a> {
@@ -116,10 +114,9 @@ impl<'a> Case<'a> {
         ensures { IfOk result (λ found. option_map (λ legs. history_of legs.items) found ≡ leading leaf.now (plan self.now.tree (situation_of self.now))) }
     {
         let mut legs = Vec::new(alloc);
-        if push_leading(&self.plan, leaf, &mut legs)? {
-            Ok(Some(legs))
-        } else {
-            Ok(None)
+        match push_leading(&self.plan, leaf, Outcome::Error, &mut legs)? {
+            Added::Hit => Ok(Some(legs)),
+            Added::Alike(_) => Ok(None),
         }
     }
 }

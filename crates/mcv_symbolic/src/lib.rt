@@ -8,8 +8,6 @@
 
 mod case;
 mod laws;
-mod layout;
-mod plan;
 mod sets;
 mod shown;
 

@@ -4,12 +4,15 @@ import subprocess
 
 from pymemcache.client.base import Client as Pymemcache
 
-from parts import LIMIT, Failed, address_of, answer, case, deletes_to_all, expect, one_pool, value_answer
+from parts import LIMIT, Failed, address_of, answer, case, deletes_to_all, expect, one_pool, shown, value_answer
+from relays import ANSWERED, HANDED_ON, Relay
 
-# memccapable's cases of the ten operations. Left out are those of commands that mcv hasn't (incr, decr, flush_all, stats,
-# verbosity), and those that ask what mcv answers otherwise than memcached (docs/PROTOCOL.md): most end with `version noreply`,
-# or go on behind a line that is refused.
-CAPABLE = ["mget", "append", "prepend"]
+# memccapable's cases of the ten operations and of version. Left out are those of commands that mcv hasn't (incr, decr,
+# flush_all, stats, verbosity), and that of quit, which memcached 1.6 fails too where it is run alone.
+STORES = ["set", "add", "replace", "append", "prepend", "cas", "delete"]
+CAPABLE = ["version", "get", "gets", "mget", *STORES, *(name + " noreply" for name in STORES)]
+# Those that pass without a relay: no line of them is one that mcv refuses.
+CAPABLE_ALONE = ["mget", "append", "prepend"]
 
 
 def pymemcache_at(mcv, **how):
@@ -98,8 +101,17 @@ def capable(server, name):
 @case(120)
 def memccapable_passes_its_cases_of_what_is_answered_alike(machine):
     mcv = machine.mcv(one_pool(machine.servers(2)))
-    failed = [name for name in CAPABLE if not capable(mcv.address, name)]
+    failed = [name for name in CAPABLE_ALONE if not capable(mcv.address, name)]
     expect(failed, [], "memccapable's ASCII cases that fail")
+
+
+@case(120)
+def memccapable_passes_its_cases_behind_a_relay_for_the_lines_that_are_refused(machine):
+    mcv = machine.mcv(one_pool(machine.servers(2)))
+    relay = machine.fake(Relay(address_of(mcv.address)))
+    failed = [name for name in CAPABLE if not capable(relay.text, name)]
+    expect(failed, [], "memccapable's ASCII cases that fail")
+    expect(relay.changed, {*HANDED_ON, *ANSWERED}, "the lines that the relay changed")
 
 
 def tool(mcv, name, *words):
@@ -130,3 +142,20 @@ def memccp_memccat_and_memcrm(machine):
     for name in files:
         for server in servers:
             expect(answer(server, b"get %s\r\n" % name.encode()), b"END\r\n", "after memcrm")
+
+
+@case()
+def memctouch_and_memcexist(machine):
+    servers = machine.servers(2)
+    mcv = machine.mcv(deletes_to_all(servers))
+    with mcv.client() as client:
+        client.ask(b"set a 0 0 1\r\nx\r\n", b"STORED\r\n")
+    for name, words, done in [
+        ("memctouch", ["--expire=1000", "a"], True),
+        ("memctouch", ["--expire=1000", "none"], False),
+        ("memcexist", ["a"], True),
+        ("memcexist", ["none"], False),
+    ]:
+        status, printed, errors = tool(mcv, name, *words)
+        if (status == 0) != done:
+            raise Failed("%s %s ends with %d: %s" % (name, words, status, shown(printed + errors)))

@@ -1,4 +1,4 @@
-use Rattle.std.proofs.Common.{◌≡◌, [], subst, rules}
+use Rattle.std.proofs.Common.{[], subst}
 use Rattle.std.specs.Arc.{arc_value}
 use Rattle.mcv_symbolic.specs.Covered.{AreCovered}
 use Rattle.mcv_core.specs.Opening.{opened_view}

@@ -25,6 +25,7 @@ settle-requires c =
     let l = Landings.seen (legs d.queues c.args.leg.0) c.args.facts c.requires.at in
     let sent : l.leg.state ≡ states.Sent = ap (λ f. f.state) l.is ∙ c.requires.sent in
     record {
+      owner = c.owner.ensures (legs d.queues c.args.leg.0) c.requires.at;
       can = Landings.can_settle d c.args.leg.0 l.leg l.at kinds.Gone (ap (λ t. is_unanswered (awaiting_state t)) sent) (ap is_flight sent) (ap (λ t. count_in (state_of t)) sent) (λ e. absurd (true≢false e));
       one = c.requires.one;
     }

@@ -18,18 +18,18 @@ hear-step-requires c =
     let d = c.args.self.now in
     let n = c.args.leg.0 in
     let can = c.requires.can in
-    let call_is = Settled.owner_call d n c.args.to can c.owner_of-owner.result.call c.owner_of-owner.ensures.call in
-    let entry_is = Settled.owner_entry d n c.args.to can c.owner_of-owner.result.entry c.owner_of-owner.ensures.entry in
-    record { can = Settled.code_can_note d n c.args.to can c.leave.new.queues c.leave.ensures.legs c.leave.ensures.room c.leave.ensures.servers c.owner_of-owner.result.call c.owner_of-owner.result.entry call_is entry_is }
+    let call_is = Settled.owner_call d n c.args.to can c.args.owner.call c.requires.owner.call in
+    let entry_is = Settled.owner_entry d n c.args.to can c.args.owner.entry c.requires.owner.entry in
+    record { can = Settled.code_can_note d n c.args.to can c.leave.new.queues c.leave.ensures.legs c.leave.ensures.room c.leave.ensures.servers c.args.owner.call c.args.owner.entry call_is entry_is }
 
 pub number_after-self-requires : goal.number_after-self-requires
 number_after-self-requires c =
     let d = c.args.self.now in
     let n = c.args.leg.0 in
     let can = c.requires.can in
-    let call_is = Settled.owner_call d n c.args.to can c.owner_of-owner.result.call c.owner_of-owner.ensures.call in
-    let entry_is = Settled.owner_entry d n c.args.to can c.owner_of-owner.result.entry c.owner_of-owner.ensures.entry in
-    let recorded = Settled.code_recorded d n c.args.to can c.leave.new.queues c.owner_of-owner.result.call c.owner_of-owner.result.entry call_is entry_is c.args.outcome c.args.taken (calls_at c.hear-step.new.self) c.hear-step.new.queues
+    let call_is = Settled.owner_call d n c.args.to can c.args.owner.call c.requires.owner.call in
+    let entry_is = Settled.owner_entry d n c.args.to can c.args.owner.entry c.requires.owner.entry in
+    let recorded = Settled.code_recorded d n c.args.to can c.leave.new.queues c.args.owner.call c.args.owner.entry call_is entry_is c.args.outcome c.args.taken (calls_at c.hear-step.new.self) c.hear-step.new.queues
     c.hear-step.result c.hear-step.ensures.recorded in
     Settled.numbers_fit d n c.args.to can c.leave.new.queues c.leave.ensures.legs c.args.outcome c.args.taken c.requires.one (calls_at c.hear-step.new.self) c.hear-step.new.queues c.hear-step.result recorded
 
@@ -38,11 +38,11 @@ settled-self-requires c =
     let d = c.args.self.now in
     let n = c.args.leg.0 in
     let can = c.requires.can in
-    let call_is = Settled.owner_call d n c.args.to can c.owner_of-owner.result.call c.owner_of-owner.ensures.call in
-    let entry_is = Settled.owner_entry d n c.args.to can c.owner_of-owner.result.entry c.owner_of-owner.ensures.entry in
-    let recorded = Settled.code_recorded d n c.args.to can c.leave.new.queues c.owner_of-owner.result.call c.owner_of-owner.result.entry call_is entry_is c.args.outcome c.args.taken (calls_at c.hear-step.new.self) c.hear-step.new.queues
+    let call_is = Settled.owner_call d n c.args.to can c.args.owner.call c.requires.owner.call in
+    let entry_is = Settled.owner_entry d n c.args.to can c.args.owner.entry c.requires.owner.entry in
+    let recorded = Settled.code_recorded d n c.args.to can c.leave.new.queues c.args.owner.call c.args.owner.entry call_is entry_is c.args.outcome c.args.taken (calls_at c.hear-step.new.self) c.hear-step.new.queues
     c.hear-step.result c.hear-step.ensures.recorded in
-    let removed = Settled.code_removed d n c.args.to can c.owner_of-owner.result.call call_is (calls_at c.hear-step.new.self) (calls_at c.remove_if.new.self) c.hear-step.result.ended c.remove_if.ensures in
+    let removed = Settled.code_removed d n c.args.to can c.args.owner.call call_is (calls_at c.hear-step.new.self) (calls_at c.remove_if.new.self) c.hear-step.result.ended c.remove_if.ensures in
     record {
       spent = Settled.spent d n c.args.to can c.leave.new.queues c.leave.ensures.legs c.args.outcome c.args.taken c.requires.one (calls_at c.hear-step.new.self) c.hear-step.new.queues c.hear-step.result recorded;
       leaving = Settled.leaving d n c.args.to can;
@@ -56,11 +56,11 @@ invariant_of-self c =
     let d = c.args.self.now in
     let n = c.args.leg.0 in
     let can = c.requires.can in
-    let call_is = Settled.owner_call d n c.args.to can c.owner_of-owner.result.call c.owner_of-owner.ensures.call in
-    let entry_is = Settled.owner_entry d n c.args.to can c.owner_of-owner.result.entry c.owner_of-owner.ensures.entry in
-    let recorded = Settled.code_recorded d n c.args.to can c.leave.new.queues c.owner_of-owner.result.call c.owner_of-owner.result.entry call_is entry_is c.args.outcome c.args.taken (calls_at c.hear-step.new.self) c.hear-step.new.queues
+    let call_is = Settled.owner_call d n c.args.to can c.args.owner.call c.requires.owner.call in
+    let entry_is = Settled.owner_entry d n c.args.to can c.args.owner.entry c.requires.owner.entry in
+    let recorded = Settled.code_recorded d n c.args.to can c.leave.new.queues c.args.owner.call c.args.owner.entry call_is entry_is c.args.outcome c.args.taken (calls_at c.hear-step.new.self) c.hear-step.new.queues
     c.hear-step.result c.hear-step.ensures.recorded in
-    let removed = Settled.code_removed d n c.args.to can c.owner_of-owner.result.call call_is (calls_at c.hear-step.new.self) (calls_at c.remove_if.new.self) c.hear-step.result.ended c.remove_if.ensures in
+    let removed = Settled.code_removed d n c.args.to can c.args.owner.call call_is (calls_at c.hear-step.new.self) (calls_at c.remove_if.new.self) c.hear-step.result.ended c.remove_if.ensures in
     record {
       sound = subst (λ m. IsSound (arc_value d.accepted) (calls_at c.remove_if.new.self) (legs c.hear-step.new.queues) (since_of d) d.moment.0 d.next_call m c.settled-self.result.reserved c.settled-self.result.queued c.settled-self.result.spooled
           c.settled-self.result.running (room c.hear-step.new.queues) (servers c.hear-step.new.queues)) (sym c.number_after-self.ensures)
@@ -73,11 +73,11 @@ returns-clause-view c =
     let d = c.args.self.now in
     let n = c.args.leg.0 in
     let can = c.requires.can in
-    let call_is = Settled.owner_call d n c.args.to can c.owner_of-owner.result.call c.owner_of-owner.ensures.call in
-    let entry_is = Settled.owner_entry d n c.args.to can c.owner_of-owner.result.entry c.owner_of-owner.ensures.entry in
-    let recorded = Settled.code_recorded d n c.args.to can c.leave.new.queues c.owner_of-owner.result.call c.owner_of-owner.result.entry call_is entry_is c.args.outcome c.args.taken (calls_at c.hear-step.new.self) c.hear-step.new.queues
+    let call_is = Settled.owner_call d n c.args.to can c.args.owner.call c.requires.owner.call in
+    let entry_is = Settled.owner_entry d n c.args.to can c.args.owner.entry c.requires.owner.entry in
+    let recorded = Settled.code_recorded d n c.args.to can c.leave.new.queues c.args.owner.call c.args.owner.entry call_is entry_is c.args.outcome c.args.taken (calls_at c.hear-step.new.self) c.hear-step.new.queues
     c.hear-step.result c.hear-step.ensures.recorded in
-    let removed = Settled.code_removed d n c.args.to can c.owner_of-owner.result.call call_is (calls_at c.hear-step.new.self) (calls_at c.remove_if.new.self) c.hear-step.result.ended c.remove_if.ensures in
+    let removed = Settled.code_removed d n c.args.to can c.args.owner.call call_is (calls_at c.hear-step.new.self) (calls_at c.remove_if.new.self) c.hear-step.result.ended c.remove_if.ensures in
     ap (λ m. record (core_view d) { rows = rows_of (calls_at c.remove_if.new.self) (legs c.hear-step.new.queues) (since_of d) d.next_call m; flights = in_flight c.hear-step.new.queues }) c.number_after-self.ensures
     ∙ Settled.view_settled d n c.args.to can c.leave.new.queues c.leave.ensures.legs c.args.outcome c.args.taken c.requires.one (calls_at c.hear-step.new.self) c.hear-step.new.queues c.hear-step.result recorded c.remove_if.new.self removed c.leave.ensures.flights c.hear-step.ensures.flights
 

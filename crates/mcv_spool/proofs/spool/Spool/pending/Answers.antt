@@ -1,20 +1,14 @@
-use Rattle.std.proofs.Common.{⊎_elim, inl, inr, ap, sym, ◌∙◌, subst, not, IfOk, List, Result, Ok, Err, ℕ}
-use Rattle.mcv_spool.specs.File.{numbered}
-use Rattle.std.specs.List.{Contains}
+use Rattle.std.proofs.Common.{⊎_elim, inl, inr, ap, sym, ◌∙◌, not}
+use Rattle.std.specs.Prelude.{slice_index_or, None}
 use Rattle.mcv_spool.specs.History.{world}
-use Rattle.mcv_spool.specs.declared.record.SpoolRecord.{SpoolRecord}
 use Rattle.mcv_spool.proofs.Histories.{pending_or_done, sound}
 use Rattle.mcv_spool.proofs.spool.Spool.pending.Goals as goal
 
-listed : {E V : Type 0} (r : Result V E) (P Q : V → Type 0) → IfOk r P → ((v : V) → P v → Q v) → IfOk r Q
-listed (Ok v) P Q h f = f v h
-listed (Err e) P Q h f = h
-
 pub returns-clause-kept : goal.returns-clause-kept
-returns-clause-kept g c = λ model. listed c.listed.result _ _ c.listed.ensures (λ list is told so_far ready r k number.
+returns-clause-kept g c = λ model told so_far ready r k number.
     let w = world c.args.self.now.disk c.args.self.now.needs_reopen in
     let file = g.D.Disk.seen c.args.self.now.disk in
     let known = sound g.D.Disk.seen g.D.Disk.may_leave g.D.Disk.moment g.D.Disk.left_since (g.met.D.Disk.read_may_stay model) (g.met.D.Disk.counts_now model) (g.met.D.Disk.only_now model) told w so_far in
     let found = (c.args.self.now.settled model ready).found in
-    ⊎_elim (λ done. inl done) (λ there. inr (subst (λ (l : List (ℕ × SpoolRecord)). Contains l (k, r)) (sym (is ∙ ap (numbered 0) found.undone)) there))
-    (pending_or_done told file (known.whole (ap not ready)) (known.crash file (g.met.D.Disk.read_may_stay model c.args.self.now.disk)) r k number))
+    ⊎_elim (λ done. inl done) (λ there. inr (ap (λ slots. slice_index_or slots k None) (c.slots.ensures ∙ found.undone) ∙ there))
+    (pending_or_done told file (known.whole (ap not ready)) (known.crash file (g.met.D.Disk.read_may_stay model c.args.self.now.disk)) r k number)

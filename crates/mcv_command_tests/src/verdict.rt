@@ -1,0 +1,4 @@
+//! Verdicts on configurations, and on certificates of them.
+
+mod refused;
+mod verdicts;

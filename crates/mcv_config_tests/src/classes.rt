@@ -1,0 +1,4 @@
+//! Class words and their members.
+
+mod listing;
+mod words;

@@ -1,0 +1,10 @@
+use Rattle.std.proofs.Common.{◌∙◌, ap, length}
+use Rattle.mcv_proxy.specs.Pending.{numbered}
+use Rattle.mcv_proxy.proofs.threads.open.Goals as goal
+
+pub returns : goal.returns
+returns g c = record {
+  pending = λ keeps.
+      let found = c.in_ok-spool.ensures.found keeps in
+      c.len-pending.ensures ∙ c.in_ok-records.records.ok.0 ∙ ap length c.in_ok-records.ensures ∙ ap (λ s. length (numbered 0 s)) (c.pending.ensures.value ∙ found.undone);
+}

@@ -1,0 +1,108 @@
+-- What is known of legs that threads have in hand: what was seen under the lock, and what links answered (own).
+use Rattle.std.specs.Prelude.{◌≡◌, ℕ, Bool, false, List, Option, Some, None, Result, Ok, Err, ⊤, slice_get}
+use Rattle.mcv_base.specs.Reply.{ReplyValue, reply_value}
+use Rattle.mcv_base.specs.declared.reply.Reply.{Reply}
+use Rattle.mcv_base.specs.declared.request.LegId.{LegId}
+use Rattle.mcv_base.specs.declared.request.LegRequest.{LegRequest}
+use Rattle.mcv_base.specs.declared.request.ServerId.{ServerId}
+use Rattle.mcv_queues.specs.Numbers.{IsLeast}
+use Rattle.mcv_world.specs.World.{put}
+use Rattle.mcv_events.specs.Rows as rows
+use Rattle.mcv_events.specs.Rows.{LegRow}
+use Rattle.mcv_core.specs.CoreView.{answer_at, in_row_state, is_waiting}
+use Rattle.mcv_core.specs.Readers.{IsFirstHeld}
+use Rattle.mcv_core.specs.Requests.{asked_at, asked_by}
+use Rattle.mcv_core.specs.View.{core_view, records_of}
+use Rattle.mcv_core.specs.declared.step.Place.TheVariants.{Performed}
+use Rattle.mcv_core.specs.declared.step.Step.{Step}
+use Rattle.mcv_hub.specs.State.{HistoryKeepsDeletes, HubView, IsLegEvent, IsSameBooks}
+use Rattle.mcv_spool.specs.declared.record.SpoolRecord.{SpoolRecord}
+use Rattle.mcv_proxy.specs.declared.gates.LinkFault.{LinkFault}
+use Rattle.mcv_proxy.specs.declared.gates.LinkFault.TheVariants.{Broken, Memory}
+
+-- ---- which leg is sent
+
+-- the server has a mark
+abbrev pub is_marked : HubView → ServerId → Bool
+is_marked v server = ((core_view v.core).marks server.0).marked
+
+-- no leg of the server was in flight; now the first is that waited for it
+pub record IsNext (server : ServerId) (leg : LegId) (old new : HubView) : Type 0 where
+  pub free : (core_view old.core).flights server.0 ≡ None
+  pub first : IsLeast (λ n. is_waiting server.0 ((core_view old.core).rows.legs n)) (Some leg.0)
+  pub view : core_view new.core ≡ record (core_view old.core) { rows = in_row_state (core_view old.core).rows leg.0 rows.Sent; flights = put (core_view old.core).flights server.0 (Some leg.0) }
+  pub history : new.history ≡ old.history
+  pub books : IsSameBooks old new
+
+-- the leg came in flight so in this state, behind one in which deletes are kept
+pub record CameInFlight (server : ServerId) (leg : LegId) (state : HubView) : Type 0 where
+  pub before : HubView
+  pub keeps : HistoryKeepsDeletes (core_view before.core) before.history
+  pub next : IsNext server leg before state
+
+-- the leg may be sent: it came in flight while its server wasn't marked, and this is what it asks
+pub record MayBeSent (server : ServerId) (leg : LegId) (request : LegRequest) : Type 0 where
+  pub state : HubView
+  pub came : CameInFlight server leg state
+  pub unmarked : is_marked state server ≡ false
+  pub asks : asked_at state.core leg.0 ≡ Some (asked_by request)
+
+-- ---- what its link answered
+
+-- a link was asked this, and answered so
+pub record HasAnswered {L : Type 0} (answers : L → LegRequest → Result Reply LinkFault → L → Type 0) (request : LegRequest) (sent : Result Reply LinkFault) : Type 0 where
+  pub before : L
+  pub after : L
+  pub answer : answers before request sent after
+
+-- a fault stays, and a reply too; but memory for it may run out
+abbrev pub IsLeftOf : Result Reply LinkFault → Result ReplyValue LinkFault → Type 0
+IsLeftOf (Ok r) (Ok x) = x ≡ reply_value r
+IsLeftOf (Ok r) (Err Broken) = ⊥
+IsLeftOf (Ok r) (Err Memory) = ⊤
+IsLeftOf (Err f) (Ok x) = ⊥
+IsLeftOf (Err f) (Err g) = g ≡ f
+
+-- this is what a link answered to the request
+pub record IsAnswerTo {L : Type 0} (answers : L → LegRequest → Result Reply LinkFault → L → Type 0) (request : LegRequest) (reply : Result ReplyValue LinkFault) : Type 0 where
+  pub sent : Result Reply LinkFault
+  pub asked : HasAnswered answers request sent
+  pub left : IsLeftOf sent reply
+
+-- the request was one of these, and a link answered it with this reply
+pub record HasReply {L : Type 0} (answers : L → LegRequest → Result Reply LinkFault → L → Type 0) (request : Option LegRequest) (reply : ReplyValue) : Type 0 where
+  pub asked : LegRequest
+  pub there : request ≡ Some asked
+  pub answer : IsAnswerTo answers asked (Ok reply)
+
+-- ---- which record is done
+
+-- under the lock, where deletes are kept, a leg was answered, and performed by that; its record in the spool has this number
+pub record WasPerformed (number : Option ℕ) : Type 0 where
+  pub before : HubView
+  pub after : HubView
+  pub keeps : HistoryKeepsDeletes (core_view before.core) before.history
+  pub leg : LegId
+  pub stored : records_of before.core leg.0 ≡ number
+  pub reply : ReplyValue
+  pub step : Step
+  pub event : IsLegEvent (answer_at (core_view before.core) leg.0 reply) reply leg before after (Ok step)
+  pub performed : step.place ≡ Performed
+
+-- ---- which leg is spooled
+
+-- the record has the leg's rest, and the text of its server, where these are the texts of the servers
+pub record IsRecordOf (texts : List (Option (List ℕ))) (state : HubView) (leg : LegId) (delete : SpoolRecord) : Type 0 where
+  pub row : LegRow
+  pub there : (core_view state.core).rows.legs leg.0 ≡ Some row
+  pub text : slice_get texts row.launch.server.0 ≡ Some (Some delete.server)
+  pub rest : delete.rest ≡ row.rest
+
+-- under the lock, where deletes are kept, the leg was the one that the spool was to take next, and the record has its rest
+pub record IsHeldLeg (leg : LegId) (delete : SpoolRecord) : Type 0 where
+  pub state : HubView
+  pub keeps : HistoryKeepsDeletes (core_view state.core) state.history
+  pub first : IsFirstHeld (core_view state.core).rows (Some leg.0)
+  pub row : LegRow
+  pub there : (core_view state.core).rows.legs leg.0 ≡ Some row
+  pub rest : delete.rest ≡ row.rest

@@ -1,0 +1,95 @@
+//! What events leave to be done by the thread that had the lock.
+
+use mcv_base::{CallId, LegId, Mark, ServerId};
+use mcv_core::{Dispatcher, LegView, Place};
+use mcv_hub::{Bell, Hub};
+use std::alloc::Global;
+use std::sync::ledger::Ledger;
+
+/// A leg that waited for its server when it was launched, and that its session sends itself.
+#[derive(Clone, Copy, Debug, PartialEq, Eq)]
+pub(crate) struct Owed {
+    pub(crate) server: ServerId,
+    pub(crate) leg: LegId,
+}
+
+/// What events leave to be done: bells to be rung once the lock is let go, so that who wakes doesn't find it locked, and
+/// legs that a session owes its calls.
+#[derive(Drop)]
+pub(crate) struct Agenda<'a, B: Ledger, T: Ledger> {
+    hub: &'a Hub<B, T>,
+    bells: Vec<Bell>,
+    pub(crate) owed: Vec<Owed>,
+}
+
+/// Whether one of these calls may wait for the leg's reply.
+fn is_awaited(view: &LegView<'_>, own: &[CallId]) -> bool {
+    match view.call {
+        Some(call) => view.mark == Mark::Plain && own.contains(&call),
+        None => false,
+    }
+}
+
+/// A bell is to be rung. Where there is no memory to keep it in mind it is rung at once.
+fn keep_in_mind<B: Ledger, T: Ledger>(hub: &Hub<B, T>, bells: &mut Vec<Bell>, bell: Bell) {
+    if bells.push(bell).is_err() {
+        hub.ring(bell);
+    }
+}
+
+impl<'a, B: Ledger, T: Ledger> Agenda<'a, B, T> {
+    /// Nothing to be done. It takes no memory.
+    pub(crate) fn new(alloc: Global, hub: &'a Hub<B, T>) -> Agenda<'a, B, T> {
+        Agenda {
+            hub,
+            bells: Vec::new(alloc),
+            owed: Vec::new(alloc),
+        }
+    }
+
+    /// The hub.
+    pub(crate) fn hub(&self) -> &'a Hub<B, T> {
+        self.hub
+    }
+
+    /// This bell is to be rung.
+    pub(crate) fn add(&mut self, bell: Bell) {
+        keep_in_mind(self.hub, &mut self.bells, bell);
+    }
+
+    /// Rings all bells that are to be rung.
+    pub(crate) fn ring_all(&mut self) {
+        for bell in self.bells.iter() {
+            self.hub.ring(*bell);
+        }
+        self.bells.clear();
+    }
+
+    /// A leg was launched: the session owes it if one of its own calls may wait for it; else its server's worker is rung.
+    fn note_leg(&mut self, leg: LegId, view: &LegView<'_>, own: &[CallId]) {
+        let server = view.server;
+        if !is_awaited(view, own) || self.owed.push(Owed { server, leg }).is_err() {
+            self.add(Bell::Server(server));
+        }
+    }
+
+    /// All legs from this number on were launched.
+    pub(crate) fn note_launched(&mut self, core: &Dispatcher, first: u64, own: &[CallId]) {
+        for number in first..core.next_leg() {
+            let leg = LegId(number);
+            if let Some(view) = core.leg(leg) {
+                self.note_leg(leg, &view, own);
+            }
+        }
+    }
+
+    /// Leaves the legs that are owed and still wait to the workers of their servers.
+    pub(crate) fn leave(&mut self, core: &Dispatcher) {
+        for owed in self.owed.iter() {
+            if core.place(owed.leg) == Some(Place::Waiting) {
+                keep_in_mind(self.hub, &mut self.bells, Bell::Server(owed.server));
+            }
+        }
+        self.owed.clear();
+    }
+}

@@ -1,0 +1,81 @@
+//! The next leg of a server comes in flight.
+
+ghost use Rattle.std.specs.Prelude.{◌≡◌, ◌⊎◌, false, None, Some, IfErr, IfOk, IfSome, IsSome, OnErr};
+ghost use Rattle.mcv_queues.specs.Numbers.{IsLeast};
+ghost use Rattle.mcv_core.specs.CoreView.{is_waiting};
+ghost use Rattle.mcv_core.specs.Requests.{asked_at, asked_by};
+ghost use Rattle.mcv_core.specs.View.{core_view};
+ghost use Rattle.mcv_hub.specs.State.{IsSame};
+ghost use Rattle.mcv_proxy.specs.Flights.{CameInFlight, is_marked};
+ghost use Rattle.mcv_proxy.specs.Steps.{IsDeparture};
+
+use crate::agenda::Agenda;
+use crate::events::lost;
+use crate::seen::{Departure, Flight};
+use mcv_base::{CallId, LegId, LegRequest, ServerId};
+use mcv_core::{CoreFault, Dispatcher};
+use mcv_hub::Guard;
+use std::alloc::Global;
+use std::sync::ledger::Ledger;
+
+/// What a leg asks its server; None where it isn't there, or there is no memory for that.
+pub(crate) fn request_of(alloc: Global, core: &Dispatcher, leg: LegId) -> Option<LegRequest>
+    ensures { IfSome result (λ request. asked_at core.now leg.0 ≡ Some (asked_by request)) }
+{
+    match core.to_request(alloc, leg) {
+        Ok(request) => request,
+        Err(_) => None,
+    }
+}
+
+/// The flight of a leg that came in flight; None where its server is marked, or there is no memory for its request.
+fn flight_of<B: Ledger, T: Ledger>(
+    alloc: Global,
+    guard: &Guard<'_, B, T>,
+    server: ServerId,
+    leg: LegId,
+) -> Option<Flight>
+    requires { CameInFlight server leg guard.now }
+    ensures its { IfSome result (λ flight. (flight.server ≡ server) × (flight.leg ≡ leg)) }
+    ensures unmarked { IfSome result (λ flight. is_marked guard.now server ≡ false) }
+    ensures asks { IfSome result (λ flight. asked_at guard.now.core leg.0 ≡ Some (asked_by flight.request)) }
+{
+    if guard.core().marked(server) {
+        return None;
+    }
+    let Some(request) = request_of(alloc, guard.core(), leg) else {
+        return None;
+    };
+    let flight = Flight {
+        server,
+        leg,
+        request,
+    };
+    Some(flight)
+}
+
+/// The first leg that waits for a server comes in flight: it is to be sent, or is lost at once, as that of a marked server
+/// is. An error is Busy, where a leg of the server is in flight, or NothingWaiting.
+pub(crate) fn take_next<B: Ledger, T: Ledger>(
+    alloc: Global,
+    agenda: &mut Agenda<'_, B, T>,
+    guard: &mut Guard<'_, B, T>,
+    own: &[CallId],
+    server: ServerId,
+) -> Result<Departure, CoreFault>
+    ensures departs { IfOk result (IsDeparture server guard.old guard.new) }
+    ensures busy { IfErr result (λ fault. fault ≡ CoreFault.Busy → IsSome ((core_view guard.old.core).flights server.0)) }
+    ensures nothing { IfErr result (λ fault. fault ≡ CoreFault.NothingWaiting → ((core_view guard.old.core).flights server.0 ≡ None) × IsLeast (λ n. is_waiting server.0 ((core_view guard.old.core).rows.legs n)) None) }
+    ensures only { IfErr result (λ fault. (fault ≡ CoreFault.Busy) ⊎ (fault ≡ CoreFault.NothingWaiting)) }
+    ensures err { OnErr result (IsSame guard.old guard.new) }
+{
+    guard.deletes_are_kept();
+    let leg = guard.next(server)?;
+    match flight_of(alloc, guard, server, leg) {
+        Some(flight) => Ok(Departure::Sent(flight)),
+        None => {
+            let _ = lost(agenda, guard, own, server, leg);
+            Ok(Departure::Lost(leg))
+        }
+    }
+}

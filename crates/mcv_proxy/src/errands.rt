@@ -1,0 +1,354 @@
+//! The legs that a session sends itself.
+
+ghost use Rattle.std.specs.Prelude.{◌≡◌, IfErr, IfOk};
+
+use crate::agenda::{Agenda, Owed};
+use crate::departure::take_next;
+use crate::gates::Link;
+use crate::landing::{land, lose};
+use crate::lanes::{Lanes, Links};
+use crate::seen::{Departure, Flight, Landed};
+use mcv_base::{CallId, ServerId};
+use mcv_core::Place;
+use mcv_hub::{Bell, Guard, Hub, Pass};
+use std::alloc::Global;
+use std::marker::PhantomData;
+use std::sync::Wait;
+use std::sync::ledger::Ledger;
+
+/// What becomes of a leg that is owed, once its server was looked at.
+#[derive(Clone, Copy, Debug, PartialEq, Eq)]
+enum Attention {
+    /// It isn't owed any more.
+    None,
+    /// It is looked at again at once: another leg of its server was in the way, and isn't any more.
+    Now,
+    /// It is looked at again once the leg in flight to its server has landed.
+    Later,
+}
+
+/// What a session has to do for the legs of its calls. It sends one leg at a time, so that no server waits for another one's
+/// reply; what is owed to other servers meanwhile is left to their workers.
+#[derive(Drop)]
+pub(crate) struct Errands<'a, B: Ledger, T: Ledger, L: Link> {
+    pub(crate) agenda: Agenda<'a, B, T>,
+    /// A leg in flight that the session is to send.
+    flight: Option<Flight>,
+    /// The leg in flight that it sent, until that is reported.
+    landed: Option<Landed<L>>,
+    /// Legs that are still owed, while others are looked at.
+    late: Vec<Owed>,
+    /// A leg was lost without being sent, so that replies may be there.
+    has_lost: bool,
+    /// A server that is marked since the last notice.
+    marked: Option<ServerId>,
+}
+
+/// Sends a leg that is in flight over the link of its server; without a link the flight is given back.
+fn send_over<L: Link, R: Wait>(
+    rt: &R,
+    alloc: Global,
+    links: &Links<L>,
+    pass: &Pass,
+    flight: Flight,
+) -> Result<Landed<L>, Flight>
+    ensures sent { IfOk result (λ came. came.flight ≡ flight) }
+    ensures back { IfErr result (λ back. back ≡ flight) }
+{
+    match links.ask(rt, alloc, pass, flight.server, &flight.request) {
+        Some(reply) => Ok(Landed {
+            flight,
+            reply,
+            link: PhantomData,
+        }),
+        None => Err(flight),
+    }
+}
+
+impl<'a, B: Ledger, T: Ledger, L: Link> Errands<'a, B, T, L> {
+    /// Nothing. It takes no memory.
+    pub(crate) fn new(alloc: Global, hub: &'a Hub<B, T>) -> Errands<'a, B, T, L> {
+        Errands {
+            agenda: Agenda::new(alloc, hub),
+            flight: None,
+            landed: None,
+            late: Vec::new(alloc),
+            has_lost: false,
+            marked: None,
+        }
+    }
+
+    /// Whether a leg in flight is to be sent.
+    pub(crate) fn have_flight(&self) -> bool {
+        self.flight.is_some()
+    }
+
+    /// The server of the leg in flight that is to be sent.
+    fn flies_to(&self) -> Option<ServerId> {
+        match &self.flight {
+            Some(flight) => Some(flight.server),
+            None => None,
+        }
+    }
+
+    /// A leg was lost without being sent. The worker of a server that was marked is to probe it, and who is next there is rung.
+    fn after_loss<R: Wait>(
+        &mut self,
+        rt: &R,
+        lanes: &Lanes,
+        guard: &Guard<'_, B, T>,
+        server: ServerId,
+        was_marked: bool,
+    ) {
+        if was_marked {
+            lanes.ask_probe(rt, server);
+            self.agenda.add(Bell::Server(server));
+        }
+        self.has_lost = true;
+        if let Some(bell) = lanes.heir(rt, guard.core(), server) {
+            self.agenda.add(bell);
+        }
+    }
+
+    /// A leg came in flight to the server of one that is owed.
+    fn take_up<R: Wait>(
+        &mut self,
+        rt: &R,
+        lanes: &Lanes,
+        guard: &Guard<'_, B, T>,
+        owed: Owed,
+        was_marked: bool,
+        departure: Departure,
+    ) -> Attention {
+        match departure {
+            Departure::Sent(flight) => {
+                let is_own = flight.leg == owed.leg;
+                self.flight = Some(flight);
+                if is_own {
+                    Attention::None
+                } else {
+                    Attention::Later
+                }
+            }
+            Departure::Lost(leg) => {
+                self.after_loss(rt, lanes, guard, owed.server, was_marked);
+                if leg == owed.leg {
+                    Attention::None
+                } else {
+                    Attention::Now
+                }
+            }
+        }
+    }
+
+    /// Looks at the server of a leg that is owed and waits, while the session has no leg in flight.
+    fn try_server<R: Wait>(
+        &mut self,
+        rt: &R,
+        alloc: Global,
+        lanes: &Lanes,
+        guard: &mut Guard<'_, B, T>,
+        own: &[CallId],
+        owed: Owed,
+    ) -> Attention {
+        let was_marked = guard.core().marked(owed.server);
+        match take_next(alloc, &mut self.agenda, guard, own, owed.server) {
+            Ok(departure) => self.take_up(rt, lanes, guard, owed, was_marked, departure),
+            Err(_) => Attention::Later,
+        }
+    }
+
+    /// Looks at the server of a leg that is owed. While the session has a leg in flight to another server the leg is left to
+    /// its worker.
+    fn attend<R: Wait>(
+        &mut self,
+        rt: &R,
+        alloc: Global,
+        lanes: &Lanes,
+        guard: &mut Guard<'_, B, T>,
+        own: &[CallId],
+        owed: Owed,
+    ) -> Attention {
+        if guard.core().place(owed.leg) != Some(Place::Waiting) {
+            return Attention::None;
+        }
+        match self.flies_to() {
+            None => self.try_server(rt, alloc, lanes, guard, own, owed),
+            Some(server) if server == owed.server => Attention::Later,
+            Some(_) => {
+                lanes.leave(rt, owed.server, owed.leg);
+                self.agenda.add(Bell::Server(owed.server));
+                Attention::None
+            }
+        }
+    }
+
+    /// What is still owed of a leg is kept in mind. Without memory for that its server's worker sends it.
+    fn keep(&mut self, owed: Owed, attention: Attention) {
+        let kept = match attention {
+            Attention::None => return,
+            Attention::Now => self.agenda.owed.push(owed),
+            Attention::Later => self.late.push(owed),
+        };
+        if kept.is_err() {
+            self.agenda.add(Bell::Server(owed.server));
+        }
+    }
+
+    /// Looks at the servers of all legs that are owed.
+    fn attend_all<R: Wait>(
+        &mut self,
+        rt: &R,
+        alloc: Global,
+        lanes: &Lanes,
+        guard: &mut Guard<'_, B, T>,
+        own: &[CallId],
+    ) {
+        for _turn in rt.forever() {
+            let Some(owed) = self.agenda.owed.pop() else {
+                break;
+            };
+            let attention = self.attend(rt, alloc, lanes, guard, own, owed);
+            self.keep(owed, attention);
+        }
+    }
+
+    /// A leg is still owed. Where the session has none in flight it waits in the lane, at the bell of this call; where it has
+    /// one to another server it leaves the lane to the worker.
+    fn await_turn<R: Wait>(&mut self, rt: &R, lanes: &Lanes, call: CallId, owed: Owed) {
+        match self.flies_to() {
+            None => lanes.queue(rt, owed.server, owed.leg, call),
+            Some(server) if server == owed.server => {}
+            Some(_) => {
+                lanes.leave(rt, owed.server, owed.leg);
+                return;
+            }
+        }
+        if self.agenda.owed.push(owed).is_err() {
+            self.agenda.add(Bell::Server(owed.server));
+        }
+    }
+
+    /// Awaits the turn of all legs that are still owed.
+    fn await_turns<R: Wait>(&mut self, rt: &R, lanes: &Lanes, call: CallId) {
+        for _turn in rt.forever() {
+            let Some(owed) = self.late.pop() else {
+                break;
+            };
+            self.await_turn(rt, lanes, call, owed);
+        }
+    }
+
+    /// Puts a leg in flight to the server of one that is owed, if none is in flight there. Where that can't be done for any,
+    /// the session waits in their lanes, at the bell of this call. Whether one was lost without being sent, so that replies
+    /// may be there.
+    pub(crate) fn set_off<R: Wait>(
+        &mut self,
+        rt: &R,
+        alloc: Global,
+        lanes: &Lanes,
+        guard: &mut Guard<'_, B, T>,
+        own: &[CallId],
+        call: CallId,
+    ) -> bool {
+        self.has_lost = false;
+        self.attend_all(rt, alloc, lanes, guard, own);
+        self.await_turns(rt, lanes, call);
+        self.has_lost
+    }
+
+    /// Puts a leg in flight to the server of one that is owed, if none is in flight there. What else is owed the session looks
+    /// at again.
+    pub(crate) fn set_off_at_once<R: Wait>(
+        &mut self,
+        rt: &R,
+        alloc: Global,
+        lanes: &Lanes,
+        guard: &mut Guard<'_, B, T>,
+        own: &[CallId],
+    ) {
+        self.attend_all(rt, alloc, lanes, guard, own);
+        let server = self.flies_to();
+        for _turn in rt.forever() {
+            let Some(owed) = self.late.pop() else {
+                break;
+            };
+            self.keep_or_leave(rt, lanes, server, owed);
+        }
+    }
+
+    /// A leg is still owed. Where the session has one in flight to another server it is left to the worker.
+    fn keep_or_leave<R: Wait>(
+        &mut self,
+        rt: &R,
+        lanes: &Lanes,
+        flight: Option<ServerId>,
+        owed: Owed,
+    ) {
+        match flight {
+            Some(server) if server != owed.server => lanes.leave(rt, owed.server, owed.leg),
+            _ => self.keep(owed, Attention::Now),
+        }
+    }
+
+    /// Sends the leg in flight, and reads its reply. Whoever is to be woken is, while it is under way.
+    pub(crate) fn carry<R: Wait>(&mut self, rt: &R, alloc: Global, links: &Links<L>, pass: &Pass) {
+        let Some(flight) = self.flight.take() else {
+            return;
+        };
+        links.start(rt, pass, flight.server, &flight.request);
+        self.agenda.ring_all();
+        match send_over(rt, alloc, links, pass, flight) {
+            Ok(came) => self.landed = Some(came),
+            Err(flight) => self.flight = Some(flight),
+        }
+    }
+
+    /// Whether a leg of the session waits for the server.
+    fn owe_to(&self, guard: &Guard<'_, B, T>, server: ServerId) -> bool {
+        self.agenda.owed.iter().any(|owed| {
+            owed.server == server && guard.core().place(owed.leg) == Some(Place::Waiting)
+        })
+    }
+
+    /// Reports what came of the leg that was sent; one that no link was there for is lost. Its server, and whether that is marked
+    /// by it; None where the session has no leg in flight.
+    fn report(&mut self, guard: &mut Guard<'_, B, T>, own: &[CallId]) -> Option<(ServerId, bool)> {
+        if let Some(came) = self.landed.take() {
+            let server = came.flight.server;
+            return Some((server, land(&mut self.agenda, guard, own, came)));
+        }
+        let flight = self.flight.take()?;
+        let Flight { server, leg, .. } = flight;
+        Some((server, lose(&mut self.agenda, guard, own, server, leg)))
+    }
+
+    /// Reports what came of the leg in flight. Where the session has no other leg for its server, who is next there is rung.
+    pub(crate) fn land<R: Wait>(
+        &mut self,
+        rt: &R,
+        lanes: &Lanes,
+        guard: &mut Guard<'_, B, T>,
+        own: &[CallId],
+    ) {
+        let Some((server, marks)) = self.report(guard, own) else {
+            return;
+        };
+        if marks {
+            self.marked = Some(server);
+        }
+        if !self.owe_to(guard, server) {
+            if let Some(bell) = lanes.heir(rt, guard.core(), server) {
+                self.agenda.add(bell);
+            }
+        }
+    }
+
+    /// Rings all bells, and notes the server that is marked since the last time.
+    pub(crate) fn finish<R: Wait>(&mut self, rt: &R, links: &Links<L>, pass: &Pass) {
+        self.agenda.ring_all();
+        if let Some(server) = self.marked.take() {
+            links.note_marked(rt, pass, server);
+        }
+    }
+}

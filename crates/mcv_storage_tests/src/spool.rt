@@ -1,0 +1,4 @@
+//! Records in a file.
+
+mod disk;
+mod runs;

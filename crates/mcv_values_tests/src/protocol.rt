@@ -1,0 +1,5 @@
+//! Requests, legs and replies as bytes.
+
+mod items;
+mod replies;
+mod threads;

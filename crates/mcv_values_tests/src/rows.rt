@@ -1,0 +1,21 @@
+//! Rows of tables as bytes: `~` is CR LF and `^` a LF alone.
+
+use std::alloc::{AllocError, Global};
+
+/// Adds the bytes that a byte of a row stands for.
+fn push_meant(bytes: &mut Vec<u8>, byte: u8) -> Result<(), AllocError> {
+    match byte {
+        b'~' => bytes.extend_from_slice(b"\r\n"),
+        b'^' => bytes.extend_from_slice(b"\n"),
+        other => bytes.extend_from_slice(&[other]),
+    }
+}
+
+/// The bytes that a row of a table stands for.
+pub fn unfolded(alloc: Global, row: &str) -> Result<Vec<u8>, AllocError> {
+    let mut bytes = Vec::new(alloc);
+    for byte in row.as_bytes() {
+        push_meant(&mut bytes, *byte)?;
+    }
+    Ok(bytes)
+}

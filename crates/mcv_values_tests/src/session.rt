@@ -1,0 +1,5 @@
+//! Sessions, over a desk whose answers are given.
+
+mod script;
+mod served;
+mod sessions;
