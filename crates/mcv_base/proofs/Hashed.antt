@@ -1,4 +1,4 @@
--- What stands before the first separator: by the place where a search finds it, and as a cut.
+-- What comes before the first separator: by the place where a search finds it, and as a cut.
 use Rattle.std.proofs.Common.{◌≡◌, ◌∙◌, ℕ, ◌+◌, ◌<◌, ◌≤◌, Bool, true, false, true≢false, ◌==◌, List, [], ◌∷◌, ◌++◌, length, take, drop, zero, suc, None, refl, sym, ap, ap₂, subst, arith, if◌then◌else◌}
 use Rattle.std.proofs.lemmas.Bool.Decides.{Decides-eqb}
 use Rattle.memchr.specs.Find.{IsFirstByte, OccursAt, Passes, is_byte}

@@ -159,7 +159,7 @@ fn held(bytes: &[u8]) -> ArrayVec<u8, 250>
     }
 }
 
-/// The bytes up to and with the first slash, where something stands before it.
+/// The bytes up to and with the first slash, where something comes before it.
 fn name_len(bytes: &[u8]) -> Option<usize>
     ensures named { MatchOption result (IsUnnamed bytes.now) (λ n. IsNamed bytes.now n) }
     ensures within { MatchOption result ⊤ (λ n. n ≤ length bytes.now) }

@@ -55,7 +55,7 @@ pub enum FixedReply {
     Lost,
 }
 
-/// Stands for one reply, wherever it is kept.
+/// One reply, wherever it is kept.
 #[derive(Debug, Drop)]
 pub enum Part {
     Fixed(FixedReply),

@@ -4,12 +4,12 @@ use Rattle.mcv_cert.specs.declared.fault.CertFault.{CertFault}
 use Rattle.mcv_cert.specs.declared.fault.CertFault.TheVariants.{Syntax, Order, Limit, Memory}
 use Rattle.mcv_cert.specs.Reading.{Reading, broken, unordered, too_long}
 
--- what the fault tells is said; memory may run out at any text
-abbrev pub IsTold : (Reading → Type 0) → CertFault → Type 0
-IsTold says (Syntax line) = says (broken line)
-IsTold says (Order line) = says (unordered line)
-IsTold says Limit = says too_long
-IsTold says Memory = Unit {0}
+-- what the fault reports is what the text says; memory may run out at any text
+abbrev pub IsFaultOfText : (Reading → Type 0) → CertFault → Type 0
+IsFaultOfText says (Syntax line) = says (broken line)
+IsFaultOfText says (Order line) = says (unordered line)
+IsFaultOfText says Limit = says too_long
+IsFaultOfText says Memory = Unit {0}
 
 abbrev pub fault_number : CertFault → ℕ
 fault_number (Syntax line) = 1

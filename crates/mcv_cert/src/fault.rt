@@ -13,7 +13,7 @@ pub enum CertFault {
     /// The line of this number breaks the form, or is missing.
     #[error("line {0} is no line of a certificate")]
     Syntax(usize),
-    /// The pair in the line of this number doesn't stand behind the one before it.
+    /// The pair in the line of this number doesn't come behind the one before it.
     #[error("line {0} is out of order")]
     Order(usize),
     /// The text has more than 268,435,456 bytes.
@@ -36,7 +36,7 @@ impl CertFault {
         }
     }
 
-    /// The number of the line at fault, from 1. A text over the limit is at fault at line 1, and want of memory
+    /// The number of the line at fault, from 1. A text over the limit is at fault at line 1, and out of memory
     /// at none, which is 0.
     pub fn line(self) -> usize
         ensures { result ≡ fault_line self }

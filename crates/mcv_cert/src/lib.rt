@@ -1,7 +1,7 @@
 //! Certificates that each delete reaches the servers that are read, and their text, both ways.
 //!
 //! A `Certificate` is a list of pairs that rise; `Certificate::text` writes it, `read_certificate` reads it.
-//! The definitions stand in specs/: `Pair` says which pairs there are and in which order, `Text` how they are
+//! The definitions are in specs/: `Pair` says which pairs there are and in which order, `Text` how they are
 //! spelled, `Reading` what a text says or where it is at fault.
 #![tactic(auto)]
 

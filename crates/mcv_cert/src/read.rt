@@ -1,7 +1,7 @@
 //! Reading of a certificate's text.
 
 ghost use Rattle.std.specs.Prelude.{◌≡◌, ◌≢◌, [], IfErr, IfOk, MatchOption, MatchResult, OnOk};
-ghost use Rattle.mcv_cert.specs.Fault.{IsTold};
+ghost use Rattle.mcv_cert.specs.Fault.{IsFaultOfText};
 ghost use Rattle.mcv_cert.specs.Fronts.{IsFront};
 ghost use Rattle.mcv_cert.specs.Pair.{IsPair, PairValue, pair_of};
 ghost use Rattle.mcv_cert.specs.Reading.{Reads, Says, at_end, pairs};
@@ -25,7 +25,7 @@ struct Buffers {
     steps: Vec<usize>,
 }
 
-/// What stands at the front of a text.
+/// What is at the front of a text.
 #[derive(Drop)]
 enum Front<'a> {
     /// The line of a pair, and what follows.
@@ -38,7 +38,7 @@ enum Front<'a> {
 /// The certificate whose text it is, or the first line at fault: the form of a line before its order.
 pub fn read_certificate(alloc: Global, text: &[u8]) -> Result<Certificate, CertFault>
     ensures read { IfOk result (λ c. Says text.now (pairs c)) }
-    ensures faulty { IfErr result (λ fault. IsTold (Says text.now) fault) }
+    ensures faulty { IfErr result (λ fault. IsFaultOfText (Says text.now) fault) }
 {
     if text.len() > TEXT_LIMIT {
         return Err(CertFault::Limit);
@@ -51,11 +51,11 @@ pub fn read_certificate(alloc: Global, text: &[u8]) -> Result<Certificate, CertF
     Ok(certificate)
 }
 
-/// Reads what stands behind the first line.
+/// Reads what comes behind the first line.
 fn read_body(alloc: Global, body: &[u8], certificate: &mut Certificate) -> Result<(), CertFault>
     requires { certificate.old ≡ [] }
     ensures read { OnOk result (Reads body.now (pairs certificate.new)) }
-    ensures faulty { IfErr result (λ fault. IsTold (Reads body.now) fault) }
+    ensures faulty { IfErr result (λ fault. IsFaultOfText (Reads body.now) fault) }
 {
     let mut buffers = Buffers {
         line: Vec::new(alloc),
@@ -77,9 +77,9 @@ fn read_body(alloc: Global, body: &[u8], certificate: &mut Certificate) -> Resul
     }
 }
 
-/// Nothing may stand behind the last line.
+/// Nothing may come behind the last line.
 fn ended(certificate: &Certificate, behind: &[u8]) -> Result<(), CertFault>
-    ensures { MatchResult result (λ _. at_end certificate.now behind.now ≡ pairs certificate.now) (λ fault. IsTold (λ r. at_end certificate.now behind.now ≡ r) fault) }
+    ensures { MatchResult result (λ _. at_end certificate.now behind.now ≡ pairs certificate.now) (λ fault. IsFaultOfText (λ r. at_end certificate.now behind.now ≡ r) fault) }
 {
     if behind.is_empty() {
         Ok(())
@@ -88,7 +88,7 @@ fn ended(certificate: &Certificate, behind: &[u8]) -> Result<(), CertFault>
     }
 }
 
-/// What stands at the front of a text.
+/// What is at the front of a text.
 fn read_front<'a>(
     alloc: Global,
     text: &'a [u8],

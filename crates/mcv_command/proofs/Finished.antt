@@ -34,19 +34,19 @@ use Rattle.mcv_command.specs.Words.{AsksCheck, IsJobOf}
 
 pub legs_stop : (words : List Text) (held : Held) (input : Option Text) (at : Moment) (fault : LegsFault) → IsJobOf words (jobs.Legs at)
     → IfSome input (λ bytes. legs.IsRunFault bytes fault) → IsStop words held input (of_legs fault)
-legs_stop words held input at legs_faults.Line is stands = (at, is, stands)
-legs_stop words held input at legs_faults.NoRoute is stands = (at, is, stands)
-legs_stop words held input at (legs_faults.Config fault) is stands = (at, is, stands)
-legs_stop words held input at legs_faults.Memory is stands = tt
-legs_stop words held input at legs_faults.Device is stands = tt
+legs_stop words held input at legs_faults.Line is holds = (at, is, holds)
+legs_stop words held input at legs_faults.NoRoute is holds = (at, is, holds)
+legs_stop words held input at (legs_faults.Config fault) is holds = (at, is, holds)
+legs_stop words held input at legs_faults.Memory is holds = tt
+legs_stop words held input at legs_faults.Device is holds = tt
 
 pub check_stop : (held : Held) (cert : Option Text) (input : Option Text) (fault : CheckFault) → IfSome input (λ bytes. IfGiven held cert (λ certificate. check.IsRunFault bytes certificate fault))
     → IsJudgingFault held cert input (of_check fault)
-check_stop held cert input (check_faults.Config fault) stands = stands
-check_stop held cert input (check_faults.CertificateText fault) stands = stands
-check_stop held cert input (check_faults.Certificate fault) stands = stands
-check_stop held cert input check_faults.Memory stands = tt
-check_stop held cert input check_faults.Device stands = tt
+check_stop held cert input (check_faults.Config fault) holds = holds
+check_stop held cert input (check_faults.CertificateText fault) holds = holds
+check_stop held cert input (check_faults.Certificate fault) holds = holds
+check_stop held cert input check_faults.Memory holds = tt
+check_stop held cert input check_faults.Device holds = tt
 
 pub outside_stop : (held : Held) (cert : Option Text) (input : Option Text) (fault : InputFault) → IsOutside fault → IsJudgingFault held cert input (of_input fault)
 outside_stop held cert input (input_faults.Config fault) out = absurd out
@@ -55,18 +55,18 @@ outside_stop held cert input input_faults.Device out = tt
 
 pub judging_stop : (words : List Text) (held : Held) (input : Option Text) (cert : Option Text) (stop : Stop) → AsksCheck words cert → IsJudgingFault held cert input stop
     → IsStop words held input stop
-judging_stop words held input cert BadLine asks stands = absurd stands
-judging_stop words held input cert (Legs fault) asks stands = absurd stands
-judging_stop words held input cert (Check fault) asks stands = inl (cert, asks, stands)
-judging_stop words held input cert Memory asks stands = tt
-judging_stop words held input cert Device asks stands = tt
+judging_stop words held input cert BadLine asks holds = absurd holds
+judging_stop words held input cert (Legs fault) asks holds = absurd holds
+judging_stop words held input cert (Check fault) asks holds = inl (cert, asks, holds)
+judging_stop words held input cert Memory asks holds = tt
+judging_stop words held input cert Device asks holds = tt
 
 pub running_stop : (words : List Text) (held : Held) (input : Option Text) (stop : Stop) → AsksAnyRun words → IsJudgingFault held None input stop → IsStop words held input stop
-running_stop words held input BadLine asks stands = absurd stands
-running_stop words held input (Legs fault) asks stands = absurd stands
-running_stop words held input (Check fault) asks stands = inr (asks, stands)
-running_stop words held input Memory asks stands = tt
-running_stop words held input Device asks stands = tt
+running_stop words held input BadLine asks holds = absurd holds
+running_stop words held input (Legs fault) asks holds = absurd holds
+running_stop words held input (Check fault) asks holds = inr (asks, holds)
+running_stop words held input Memory asks holds = tt
+running_stop words held input Device asks holds = tt
 
 -- a proxy's fault is no fault of what was read
 pub serving_stop : (held : Held) (input : Option Text) (fault : ServeFault) → IsJudgingFault held None input (of_serve fault)
@@ -102,11 +102,11 @@ text_fault_by_all text first text_faults.Limit is says = says_all text first _ i
 text_fault_by_all text first text_faults.Memory is says = says
 
 pub fault_by_all : (input text first : List ℕ) (fault : CheckFault) → first ≡ take read_limit text → check.IsRunFault input (Some first) fault → check.IsRunFault input (Some text) fault
-fault_by_all input text first (check_faults.Config fault) is stands = stands
-fault_by_all input text first (check_faults.CertificateText fault) is stands = (stands.0, stands.1, text_fault_by_all text first fault is stands.2)
-fault_by_all input text first (check_faults.Certificate fault) is stands = (stands.0, stands.1, (stands.2.0, says_all text first _ is stands.2.1, stands.2.2))
-fault_by_all input text first check_faults.Memory is stands = tt
-fault_by_all input text first check_faults.Device is stands = tt
+fault_by_all input text first (check_faults.Config fault) is holds = holds
+fault_by_all input text first (check_faults.CertificateText fault) is holds = (holds.0, holds.1, text_fault_by_all text first fault is holds.2)
+fault_by_all input text first (check_faults.Certificate fault) is holds = (holds.0, holds.1, (holds.2.0, says_all text first _ is holds.2.1, holds.2.2))
+fault_by_all input text first check_faults.Memory is holds = tt
+fault_by_all input text first check_faults.Device is holds = tt
 
 -- what follows from the first bytes of a file follows from what it holds; where that isn't known, these are some bytes
 given_one : (known : Option Text) (first : List ℕ) (P : Option Text → Type 0) → IfSome known (λ all. first ≡ take read_limit all)
@@ -118,5 +118,5 @@ given_one (Some all) first P read more here = more all read here
 pub given_all : (held : Held) (name : Text) (first : List ℕ) (input : Option Text) (P : List ℕ → Option Text → Type 0) → IfSome (held name) (λ all. first ≡ take read_limit all)
     → ((bytes all : List ℕ) → first ≡ take read_limit all → P bytes (Some first) → P bytes (Some all)) → IfSome input (λ bytes. P bytes (Some first))
     → IfSome input (λ bytes. IfGiven held (Some name) (P bytes))
-given_all held name first input P read more stands =
-    IfSome_then input stands (λ bytes here. given_one (held name) first (P bytes) read (λ all is was. more bytes all is was) here)
+given_all held name first input P read more holds =
+    IfSome_then input holds (λ bytes here. given_one (held name) first (P bytes) read (λ all is was. more bytes all is was) here)

@@ -40,7 +40,7 @@ named_rows m name rows is at = some_pair (subcommand_rows_of m) name rows (name_
 pub name_of_rows : (m : ArgMatches) (name : Text) (rows : List Row) → subcommand_rows_of m ≡ Some (name, rows) → subcommand_name_of m ≡ Some name
 name_of_rows m name rows is = sym (name_part (out-ArgMatches m).subcommand) ∙ ap (λ (o : Option (Text × List Row)). option_map (λ p. p.0) o) is
 
--- a fault by clap's kind is one of the words, where that kind stands among theirs
+-- a fault by clap's kind is one of the words, where that kind is among theirs
 pub fault_of_kind : (words : List Text) (kind : ErrorKind) (fault : LineFault) → (kind ≡ OutOfMemory) ⊎ IsAmong kind (faults words) → IsFaultOfKind kind fault
     → IsLineFault words fault
 fault_of_kind words kind BadLine (inl memory) by = absurd (by.0 memory)

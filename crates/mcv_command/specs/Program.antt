@@ -40,7 +40,7 @@ IsJudged held cert input old new ending =
     (verdict : Verdict) × (text : Text) × IfSome input (λ bytes. IfGiven held cert (λ certificate. IsVerdictOn bytes certificate verdict text))
     × Appends old new text × (ending ≡ ending_of verdict)
 
--- the fault stands in the input or in the certificate that is given; or memory ran out, or a device failed
+-- the fault is in the input or in the certificate that is given; or memory ran out, or a device failed
 abbrev pub IsJudgingFault : Held → Option Text → (input : Option Text) → Stop → Type 0
 IsJudgingFault held cert input BadLine = ⊥
 IsJudgingFault held cert input (Legs fault) = ⊥
@@ -73,7 +73,7 @@ IsDone words held serves input old new ending =
     ⊎ (((cert : Option Text) × AsksCheck words cert × IsJudged held cert input old new ending)
     ⊎ ((listen : Text) × (spool : Text) × (sessions : ℕ) × AsksRun words listen spool sessions × IsServed held serves listen spool sessions input old new ending)))
 
--- the words are at fault; or they ask for legs, for a verdict or for a run, and the fault stands in what was read; or memory ran out, or
+-- the words are at fault; or they ask for legs, for a verdict or for a run, and the fault is in what was read; or memory ran out, or
 -- a device failed
 abbrev pub IsStop : List Text → Held → (input : Option Text) → Stop → Type 0
 IsStop words held input BadLine = IsLineFault words line_fault.BadLine

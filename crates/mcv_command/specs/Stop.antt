@@ -50,7 +50,7 @@ stop_text (Check fault) = check_text fault
 stop_text Memory = memory_text
 stop_text Device = device_text
 
--- 1: the command line or the request is at fault, 2: the configuration, 4: what the program stands on, 5: the certificate
+-- 1: the command line or the request is at fault, 2: the configuration, 4: what the program depends on, 5: the certificate
 abbrev pub stop_status : Stop → ℕ
 stop_status BadLine = 1
 stop_status (Legs fault) = legs_fault.run_fault_status fault
@@ -68,7 +68,7 @@ abbrev pub ended_status : Result Ending Stop → ℕ
 ended_status (Ok ending) = ending_status ending
 ended_status (Err stop) = stop_status stop
 
--- ---- what the parts' faults are to the program; want of memory is one and the same, and so are devices that fail
+-- ---- what the parts' faults are to the program; out of memory is one and the same, and so are devices that fail
 
 abbrev pub of_legs : LegsFault → Stop
 of_legs legs.Line = Legs legs.Line

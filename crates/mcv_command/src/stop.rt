@@ -38,9 +38,9 @@ impl Ending {
 pub enum Stop {
     /// The words of the command line ask for nothing.
     BadLine,
-    /// What was read gives no legs. Want of memory and failures of devices are told apart.
+    /// What was read gives no legs. Out of memory and failures of devices are kept apart.
     Legs(LegsFault),
-    /// What was read gives no verdict. Want of memory and failures of devices are told apart.
+    /// What was read gives no verdict. Out of memory and failures of devices are kept apart.
     Check(CheckFault),
     /// Memory ran out, in whatever part.
     Memory,
@@ -132,7 +132,7 @@ impl From<CheckFault> for Stop {
     }
 }
 
-/// Outside a configuration an input's fault is want of memory or a device's failure.
+/// Outside a configuration an input's fault is out of memory or a device's failure.
 impl From<InputFault> for Stop {
     ghost from_gives = { λ fault stop. stop ≡ of_input fault };
 

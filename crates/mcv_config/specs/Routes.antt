@@ -45,7 +45,7 @@ only_child x = (x.0 ∷ [], x.1)
 
 -- ---- texts
 
--- what stands before the first bar, and what follows it
+-- what comes before the first bar, and what follows it
 abbrev pub cut_at : List ℕ → Option ℕ → Option (List ℕ × List ℕ)
 cut_at text None = None
 cut_at text (Some i) = Some (take i text, drop (i + 1) text)
@@ -57,7 +57,7 @@ cut text = cut_at text (position (λ b. b == 124) text)
 abbrev pub pool_prefix : List ℕ
 pool_prefix = codes "Pool|"
 
--- the children that a text stands for: a pool's servers, or one route
+-- the children that a text names: a pool's servers, or one route
 unfoldable pub text_children : ℕ → Reader → SoFar → List ℕ → List ℕ → Children
 text_children depth reader w path text =
     if bytes_eq (take 5 text) pool_prefix then pool_named w.pools path (drop 5 text) >>= servers depth w path

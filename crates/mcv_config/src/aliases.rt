@@ -41,7 +41,7 @@ fn is_alias(text: &[u8]) -> bool
     }
 }
 
-/// The fault of an alias behind those that stand before it in the file, if it has one.
+/// The fault of an alias behind those that come before it in the file, if it has one.
 #[tactic(auto, unfolding(crate::specs::Aliases::alias_fault))]
 fn alias_fault(seen: &NameTable, text: &str) -> Option<FaultKind>
     ensures { result ≡ alias_fault seen.now text.now }

@@ -31,7 +31,7 @@ pub fn read_config(alloc: Global, text: &[u8]) -> Result<Config, ConfigFault>
     ensures named { IfOk result (λ config. Names text.now config) }
     // Where the text names a configuration, it is read, unless memory runs out.
     ensures only { (plan : Plan) → Names text.now plan → IfErr result (λ e. e ≡ Memory) }
-    // A fault is one that stands in the text.
+    // A fault is one of the text.
     ensures faulty { IfErr result (λ e. Refuses e (Faulty text.now)) }
     // Every number in it names something, and nothing is empty.
     ensures sound { IfOk result IsSound }

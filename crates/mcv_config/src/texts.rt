@@ -66,7 +66,7 @@ fn plain_pool(alloc: Global, pool: usize) -> NamedRoute
     }
 }
 
-/// The children that a text stands for: a pool's servers, or one route.
+/// The children that a text names: a pool's servers, or one route.
 #[tactic(auto, using(mcv_names::proofs::Faults::faults, crate::proofs::Levels::levels), unfolding(crate::specs::Routes::text_children))]
 #[cycle(text)]
 pub(crate) fn text_children(
@@ -103,7 +103,7 @@ pub(crate) fn with_children(many: Many, children: Vec<NamedRoute>) -> NamedRoute
     }
 }
 
-/// What stands before the first bar, and what follows it.
+/// What comes before the first bar, and what follows it.
 #[tactic(auto, unfolding(crate::specs::Routes::cut))]
 fn cut(text: &str) -> Option<(&str, &str)>
     ensures { option_map (λ x. (x.0.now, x.1.now)) result ≡ cut text.now }

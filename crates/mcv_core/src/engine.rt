@@ -8,7 +8,7 @@ ghost use Rattle.mcv_pools.specs.Choice.{HasIndexEach};
 ghost use Rattle.mcv_symbolic.specs.Covered.{AreCovered};
 ghost use Rattle.mcv_events.specs.Rows.{world_of};
 ghost use Rattle.mcv_core.specs.Asking.{HasBegunFor, HasNoKey, IsAsked, IsKeyOf, IsRefusedFor};
-ghost use Rattle.mcv_core.specs.Borrowed.{LendsEvents};
+ghost use Rattle.mcv_core.specs.Borrowed.{BorrowsEvents};
 ghost use Rattle.mcv_core.specs.KeptDeletes.{KeepsDeletes};
 ghost use Rattle.mcv_core.specs.Opening.{known_numbers, opened_view};
 ghost use Rattle.mcv_core.specs.View.{core_view, records_of};
@@ -53,7 +53,7 @@ impl<H: KeyHash + Drop> Core<H> {
 
     /// All events but `begin`. When the borrow ends, the core has the dispatcher as it was left, and its hash.
     pub fn events(&mut self) -> &mut Dispatcher
-        ensures* writes_back { sem 𝓛 (LendsEvents H.row self.entry result) }
+        ensures* writes_back { sem 𝓛 (BorrowsEvents H.row self.entry result) }
         ensures value { result.now ≡ self.old.dispatcher }
     {
         &mut self.dispatcher

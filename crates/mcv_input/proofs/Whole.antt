@@ -68,7 +68,7 @@ fault_of_all bytes (Config fault) is = config_fault_of_all bytes fault is (cases
 fault_of_all bytes Memory is = tt
 fault_of_all bytes Device is = absurd is
 
--- what was read is the first bytes of what there is, where that is known; and a fault that stands in what was read stands in it
+-- what was read is the first bytes of what there is, where that is known; and a fault of what was read is one of it
 pub fault_of_known : {X : Type 0} (known : Option (List ℕ)) (text : List ℕ) (r : Result X InputFault) → IfSome known (λ bytes. text ≡ take read_limit bytes)
     → IfErr r (IsRefusal text) → IfErr r (λ fault. IfSome known (λ bytes. IsInputFault bytes fault))
 fault_of_known known text (Ok x) read is = tt

@@ -1,4 +1,4 @@
--- What a configuration's text names, and which fault stands in it (own).
+-- What a configuration's text names, and which fault is in it (own).
 use Rattle.std.specs.Prelude.{◌≡◌, ℕ, List, ⊤, string_bytes}
 use Rattle.mcv_names.specs.declared.fault.ConfigFault.{ConfigFault}
 use Rattle.mcv_names.specs.declared.fault.ConfigFault.TheVariants as config_faults
@@ -13,12 +13,12 @@ use Rattle.mcv_input.specs.declared.fault.InputFault.TheVariants.{Config, Memory
 abbrev pub AreNamedBy : List ℕ → RoutesValue → Type 0
 AreNamedBy text routes = (plan : Plan) × Names text plan × (routes ≡ routes_named plan)
 
--- the fault stands in the text of a configuration; want of memory doesn't
+-- the fault is in the text of a configuration; out of memory isn't
 abbrev pub IsConfigFault : List ℕ → ConfigFault → Type 0
 IsConfigFault text config_faults.Memory = ⊥
 IsConfigFault text (config_faults.At kind path) = Faulty text (record { kind = kind; path = string_bytes path })
 
--- want of memory is no fault of a configuration
+-- out of memory is no fault of a configuration
 abbrev pub of_configuration : ConfigFault → InputFault
 of_configuration config_faults.Memory = Memory
 of_configuration (config_faults.At kind path) = Config (config_faults.At kind path)
@@ -29,13 +29,13 @@ IsOutside (Config fault) = ⊥
 IsOutside Memory = ⊤
 IsOutside Device = ⊤
 
--- memory ran out, or the fault stands in the text
+-- memory ran out, or the fault is in the text
 abbrev pub IsRefusal : List ℕ → InputFault → Type 0
 IsRefusal text (Config fault) = IsConfigFault text fault
 IsRefusal text Memory = ⊤
 IsRefusal text Device = ⊥
 
--- the fault stands in the text; want of memory and the failure of a device can come at any
+-- the fault is in the text; out of memory and the failure of a device can come at any
 abbrev pub IsInputFault : List ℕ → InputFault → Type 0
 IsInputFault text (Config fault) = IsConfigFault text fault
 IsInputFault text Memory = ⊤

@@ -10,7 +10,7 @@ use std::alloc::Global;
 use std::io;
 use std::io::{ErrorKind, Read, Write};
 
-/// Want of memory is told as such, and all else as a failure of the device.
+/// Out of memory is reported as such, and all else as a failure of the device.
 fn device_fault(error: &io::Error) -> InputFault
     ensures memory { error_kind error.now ≡ ErrorKind.OutOfMemory → result ≡ InputFault.Memory }
     ensures device { error_kind error.now ≢ ErrorKind.OutOfMemory → result ≡ InputFault.Device }

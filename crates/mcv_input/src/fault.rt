@@ -11,7 +11,7 @@ use thiserror::Error;
 /// Why an input isn't read, or a text isn't written.
 #[derive(Debug, Drop, Error)]
 pub enum InputFault {
-    /// A fault that stands in the configuration; want of memory isn't one.
+    /// A fault in the configuration; out of memory isn't one.
     #[error(transparent)]
     Config(ConfigFault),
     /// Memory ran out.

@@ -1,7 +1,7 @@
 //! What the commands read and write: a configuration from a reader, and a text to a writer.
 //!
 //! `read_configuration` reads all that a reader has left, up to the limit of a configuration, and gives the
-//! routes that it names, or the fault that stands in it (`specs/Fault.antt`). `write_text` writes a text whole.
+//! routes that it names, or the fault in it (`specs/Fault.antt`). `write_text` writes a text whole.
 #![tactic(auto)]
 
 mod configuration;

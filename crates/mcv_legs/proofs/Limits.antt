@@ -38,7 +38,7 @@ key_len key is =
     let short = (key_bytes key is).1 in
     grind (arith, nat_tests)
 
--- what stands before the configuration
+-- what comes before the configuration
 abbrev line_of : Op → List ℕ → List ℕ
 line_of op key = (op_name op ++ space ∷ key) ++ line_feed ∷ []
 
@@ -92,7 +92,7 @@ pub read_whole : (bytes : List ℕ) (op : Op) (prefix rest configuration : List 
 read_whole bytes op prefix rest configuration asks short =
     whole input_limit bytes (omega (arith, asks_len (take input_limit bytes) op prefix rest configuration asks))
 
--- ---- what stands in an input, by its first bytes
+-- ---- what is in an input, by its first bytes
 
 pub answer_of_all : (moment : ℕ) (bytes text : List ℕ) → IsAnswer moment (take input_limit bytes) text → IsAnswer moment bytes text
 answer_of_all moment bytes text answer =

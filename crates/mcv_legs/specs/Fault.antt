@@ -1,4 +1,4 @@
--- Which fault of a run stands in an input, the numbers of the faults, and the exit statuses of the program (own).
+-- Which fault of a run is in an input, the numbers of the faults, and the exit statuses of the program (own).
 use Rattle.std.specs.Prelude.{ℕ, List, ⊤}
 use Rattle.mcv_base.specs.declared.operation.Op.{Op}
 use Rattle.mcv_names.specs.declared.fault.ConfigFault.{ConfigFault}
@@ -17,7 +17,7 @@ run_fault_number (Config fault) = 3
 run_fault_number Memory = 6
 run_fault_number Device = 7
 
--- 1: the request is at fault, 2: the configuration, 4: what the program stands on
+-- 1: the request is at fault, 2: the configuration, 4: what the program depends on
 abbrev pub run_fault_status : RunFault → ℕ
 run_fault_status Line = 1
 run_fault_status NoRoute = 2
@@ -31,7 +31,7 @@ of_input (input_faults.Config fault) = Config fault
 of_input input_faults.Memory = Memory
 of_input input_faults.Device = Device
 
--- the input asks, and the fault stands in its configuration
+-- the input asks, and the fault is in its configuration
 pub record IsMisconfigured (input : List ℕ) (fault : ConfigFault) : Type 0 where
   pub op : Op
   pub prefix : List ℕ
@@ -40,7 +40,7 @@ pub record IsMisconfigured (input : List ℕ) (fault : ConfigFault) : Type 0 whe
   pub asks : Asks input op prefix rest configuration
   pub faulty : IsConfigFault configuration fault
 
--- the fault stands in the input; want of memory and the failure of a device can come at any
+-- the fault is in the input; out of memory and the failure of a device can come at any
 abbrev pub IsRunFault : List ℕ → RunFault → Type 0
 IsRunFault input Line = IsNoRequest input
 IsRunFault input NoRoute = IsWithoutRoute input

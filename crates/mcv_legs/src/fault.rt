@@ -18,7 +18,7 @@ pub enum RunFault {
     /// The request's prefix is an alias of no route.
     #[error("no route")]
     NoRoute,
-    /// A fault that stands in the configuration; want of memory isn't one.
+    /// A fault in the configuration; out of memory isn't one.
     #[error(transparent)]
     Config(ConfigFault),
     /// Memory ran out, in whatever part.

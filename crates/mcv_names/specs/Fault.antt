@@ -1,4 +1,4 @@
--- What reading a value gives: what it names, or the faults that stand in it (own).
+-- What reading a value gives: what it names, or the faults in it (own).
 use Rattle.std.specs.Prelude.{◌≡◌, ℕ, List, [], ◌∷◌, ◌++◌, ◌⊎◌, Result, Ok, Err, string_bytes}
 use Rattle.mcv_names.specs.declared.fault.FaultKind.{FaultKind}
 use Rattle.mcv_names.specs.declared.fault.FaultKind.TheVariants.{NotJson, UnknownKey, WrongKind, UnknownHandle, UnknownPool, Empty, Limit, BadServer, AliasTwice, LeftOut}
@@ -50,7 +50,7 @@ abbrev pub ◌>>=◌ : {A B : Type 0} → Read A → (A → Read B) → Read B
 (good x) >>= next = next x
 (bad faults) >>= next = bad faults
 
--- both are read, and the faults of both stand
+-- both are read, and the faults of both are kept
 abbrev pub also : {A B : Type 0} → Read A → Read B → Read B
 also (good x) second = second
 also (bad faults) (good y) = bad faults
@@ -60,16 +60,16 @@ abbrev pub IsOneOf : List Fault → Fault → Type 0
 IsOneOf [] f = ⊥
 IsOneOf (g ∷ gs) f = (g ≡ f) ⊎ IsOneOf gs f
 
-abbrev pub Stands : {A : Type 0} → Read A → Fault → Type 0
-Stands (good x) f = ⊥
-Stands (bad faults) f = IsOneOf faults f
+abbrev pub HasFault : {A : Type 0} → Read A → Fault → Type 0
+HasFault (good x) f = ⊥
+HasFault (bad faults) f = IsOneOf faults f
 
--- what a function refused stands, or memory ran out
+-- what a function refused is a fault, or memory ran out
 abbrev pub Fails : {A : Type 0} → ConfigFault → Read A → Type 0
 Fails Memory read = Unit {0}
-Fails (At kind path) read = Stands read (record { kind = kind; path = string_bytes path })
+Fails (At kind path) read = HasFault read (record { kind = kind; path = string_bytes path })
 
--- What a function answered, seen by view, is what reading gives, or it is a fault that stands, or memory ran out.
+-- What a function answered, seen by view, is what reading gives, or it is a fault of it, or memory ran out.
 abbrev pub Gives : {X A : Type 0} → (X → A) → Result X ConfigFault → Read A → Type 0
 Gives view (Ok x) read = read ≡ good (view x)
 Gives view (Err e) read = Fails e read

@@ -1,4 +1,4 @@
-//! Why a configuration is refused: a fault that stands in the text, with its path, or memory.
+//! Why a configuration is refused: a fault in the text, with its path, or memory.
 
 ghost use Rattle.std.specs.Prelude.{◌≡◌};
 ghost use Rattle.mcv_names.specs.declared.fault.ConfigFault.TheVariants.{Memory};
@@ -25,7 +25,7 @@ pub enum FaultKind {
     LeftOut = 10,
 }
 
-/// A fault that stands in the text, or a growth that was refused.
+/// A fault in the text, or a growth that was refused.
 #[derive(Debug, Drop, Error)]
 pub enum ConfigFault {
     #[error("out of memory")]
@@ -47,7 +47,7 @@ impl ConfigFault {
         }
     }
 
-    /// Where the fault stands: `/` and the key or the list number for each step, `.` for the root.
+    /// Where the fault is: `/` and the key or the list number for each step, `.` for the root.
     /// Empty where memory ran out.
     pub fn path(&self) -> &str
         ensures { result.now ≡ fault_path self.now }

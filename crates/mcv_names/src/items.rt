@@ -1,4 +1,4 @@
-//! The items of a list that stands in a JSON value.
+//! The items of a list in a JSON value.
 
 ghost use Rattle.std.specs.Prelude.{map, option_map};
 ghost use Rattle.serde_json.specs.View.{view, items_view};

@@ -246,7 +246,7 @@ pub fn check_names(
     Ok(())
 }
 
-/// Whether a text stands for an import or a macro.
+/// Whether a text is an import or a macro.
 #[tactic(auto, unfolding(crate::specs::Handles::is_elsewhere))]
 pub fn is_elsewhere(text: &str) -> bool
     ensures { result ≡ is_elsewhere text.now }

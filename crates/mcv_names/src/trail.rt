@@ -1,4 +1,4 @@
-//! Where in the JSON value the reader stands. The text of a path is made only where a fault is.
+//! Where in the JSON value the reader is. The text of a path is made only where a fault is.
 
 ghost use Rattle.std.specs.Prelude.{◌≡◌, ◌++◌, ◌+◌, ◌<◌, string_bytes, OnOk, IfOk};
 ghost use Rattle.std.specs.List.{flat_map};

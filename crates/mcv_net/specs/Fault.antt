@@ -9,7 +9,7 @@ abbrev pub fault_number : RunFault → ℕ
 fault_number Memory = 1
 fault_number Device = 2
 
--- wrong receipts are the proxy's own mistake: to who runs it something it stands on has failed
+-- wrong receipts are the proxy's own mistake: to who runs it something it depends on has failed
 abbrev pub run_fault : ProxyFault → RunFault
 run_fault proxy_faults.Memory = Memory
 run_fault proxy_faults.Device = Device

@@ -181,7 +181,7 @@ miss_matches o (b ∷ bs) cs t u m n =
           }))
     ]
 
--- ---- what stands beside
+-- ---- what is beside
 
 beside_matches : (o : Outcomes) (bs : List Answer) (t u : Plan) → Matches o bs t → Matches o bs (Beside t u)
 beside_matches o bs t u m = record { outcome = m.outcome; same = m.same; hits = m.hits; back = m.back }

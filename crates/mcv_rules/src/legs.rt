@@ -15,7 +15,7 @@ use mcv_pools::Choice;
 use mcv_route::Launch;
 use std::alloc::{AllocError, Global};
 
-/// Adds the legs that the plan has sent, in the order of their positions, and tells what its reply amounts to.
+/// Adds the legs that the plan has sent, in the order of their positions, and reports what its reply amounts to.
 #[cycle(sending)]
 pub fn send(
     alloc: Global,

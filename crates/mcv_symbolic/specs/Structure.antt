@@ -30,7 +30,7 @@ if_all x (OnMiss t u) = after_miss (if_all x t) (if_all x u)
 if_all x (OnHit t u) = if_all x t
 if_all x (Shadowed s a b t u) = if_all x t
 
--- the leg is sent, and stands under no shadow. No choice is needed to say so
+-- the leg is sent, and is under no shadow. No choice is needed to say so
 abbrev pub Counts : Plan → Outcomes → Leg → Type 0
 Counts (Send k) o l = k ≡ l
 Counts (Reply x) o l = ⊥

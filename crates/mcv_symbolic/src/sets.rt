@@ -94,7 +94,7 @@ fn both(first: Option<Outcome>, second: Option<Outcome>) -> Option<Outcome>
     Some(worse(first?, second?))
 }
 
-/// Adds the legs that are sent at once and stand under no shadow; answers the reply that is there at once.
+/// Adds the legs that are sent at once and are under no shadow; answers the reply that is there at once.
 #[cycle(wave)]
 pub fn push_first_wave<'a>(
     plan: &'a Plan,

@@ -13,7 +13,7 @@ fn a_path_has_its_steps(rt: HostRuntime) -> Result<(), Fail> {
 }
 
 #[test]
-fn a_fault_tells_its_number_and_path(rt: HostRuntime) -> Result<(), Fail> {
+fn a_fault_has_its_number_and_path(rt: HostRuntime) -> Result<(), Fail> {
     let fault = fault_at(
         rt.alloc(),
         FaultKind::LeftOut,

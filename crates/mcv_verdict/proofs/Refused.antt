@@ -21,13 +21,13 @@ input_fault_so input certificate (input_faults.Config fault) is = is
 input_fault_so input certificate input_faults.Memory is = tt
 input_fault_so input certificate input_faults.Device is = tt
 
-pub text_refused_so : (r : RoutesValue) (certificate : List ℕ) (fault : CertFault) → text.IsTold (Says certificate) fault → IsRefusedBy r certificate (of_text fault)
+pub text_refused_so : (r : RoutesValue) (certificate : List ℕ) (fault : CertFault) → text.IsFaultOfText (Says certificate) fault → IsRefusedBy r certificate (of_text fault)
 text_refused_so r certificate (text_faults.Syntax line) is = is
 text_refused_so r certificate (text_faults.Order line) is = is
 text_refused_so r certificate text_faults.Limit is = is
 text_refused_so r certificate text_faults.Memory is = tt
 
-pub check_refused_so : (r : RoutesValue) (certificate : List ℕ) (ps : List PairValue) (fault : CheckFault) → Says certificate (pairs ps) → check.IsTold r ps fault
+pub check_refused_so : (r : RoutesValue) (certificate : List ℕ) (ps : List PairValue) (fault : CheckFault) → Says certificate (pairs ps) → check.IsFaultOfPairs r ps fault
     → IsRefusedBy r certificate (of_check fault)
 check_refused_so r certificate ps (check_faults.Pair fault) says is = (ps, says, is)
 check_refused_so r certificate ps check_faults.Memory says is = tt

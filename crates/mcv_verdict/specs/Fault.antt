@@ -1,4 +1,4 @@
--- Which fault stands where there is no verdict, the numbers of the faults, and the exit statuses of the program (own).
+-- Which fault it is where there is no verdict, the numbers of the faults, and the exit statuses of the program (own).
 use Rattle.std.specs.Prelude.{◌≡◌, ℕ, List, Option, Some, None, ⊤, IsSomeAnd}
 use Rattle.mcv_cert.specs.Pair.{PairValue}
 use Rattle.mcv_cert.specs.Reading.{Says, broken, pairs, too_long, unordered}
@@ -22,7 +22,7 @@ run_fault_number (Certificate fault) = 5
 run_fault_number Memory = 6
 run_fault_number Device = 7
 
--- 2: the configuration is at fault, 5: the certificate, 4: what the program stands on
+-- 2: the configuration is at fault, 5: the certificate, 4: what the program depends on
 abbrev pub run_fault_status : RunFault → ℕ
 run_fault_status (Config fault) = 2
 run_fault_status (CertificateText fault) = 5
@@ -30,7 +30,7 @@ run_fault_status (Certificate fault) = 5
 run_fault_status Memory = 4
 run_fault_status Device = 4
 
--- ---- what the parts' faults are to a run; want of memory is one and the same
+-- ---- what the parts' faults are to a run; out of memory is one and the same
 
 abbrev pub of_input : InputFault → RunFault
 of_input (input_faults.Config fault) = Config fault
@@ -47,16 +47,16 @@ abbrev pub of_check : CheckFault → RunFault
 of_check (check_faults.Pair fault) = Certificate fault
 of_check check_faults.Memory = Memory
 
--- ---- which fault stands
+-- ---- which fault it is
 
--- the fault stands in a certificate's text; want of memory doesn't
+-- the fault is in a certificate's text; out of memory isn't
 abbrev pub IsTextFault : (certificate : List ℕ) → CertFault → Type 0
 IsTextFault certificate (text_faults.Syntax line) = Says certificate (broken line)
 IsTextFault certificate (text_faults.Order line) = Says certificate (unordered line)
 IsTextFault certificate text_faults.Limit = Says certificate too_long
 IsTextFault certificate text_faults.Memory = ⊥
 
--- the text says pairs, and the fault is the first that stands in a certificate with these
+-- the text says pairs, and the fault is the first of a certificate with these
 abbrev pub IsCertificateFault : RoutesValue → (certificate : List ℕ) → PairFault → Type 0
 IsCertificateFault r certificate fault = (ps : List PairValue) × Says certificate (pairs ps) × IsFirstFaultOf r ps fault
 
@@ -73,7 +73,7 @@ abbrev pub IsRefusedFor : RoutesValue → (certificate : Option (List ℕ)) → 
 IsRefusedFor r None fault = fault ≡ Memory
 IsRefusedFor r (Some certificate) fault = IsRefusedBy r certificate fault
 
--- the fault stands in the configuration; or that names routes, and the fault stands in the text of the certificate that is given, or else in the certificate. Want of memory and the failure of a device can come at any
+-- the fault is in the configuration; or that names routes, and the fault is in the text of the certificate that is given, or else in the certificate. Out of memory and the failure of a device can come at any
 abbrev pub IsRunFault : (input : List ℕ) → (certificate : Option (List ℕ)) → RunFault → Type 0
 IsRunFault input certificate (Config fault) = IsConfigFault input fault
 IsRunFault input certificate (CertificateText fault) = (r : RoutesValue) × AreNamedBy input r × IsSomeAnd certificate (λ text. IsTextFault text fault)

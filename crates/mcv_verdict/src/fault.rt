@@ -15,13 +15,13 @@ use thiserror::Error;
 /// Why there is no verdict.
 #[derive(Debug, Drop, Error)]
 pub enum RunFault {
-    /// A fault that stands in the configuration; want of memory isn't one.
+    /// A fault in the configuration; out of memory isn't one.
     #[error(transparent)]
     Config(ConfigFault),
-    /// The line at fault in the certificate's text; want of memory isn't one.
+    /// The line at fault in the certificate's text; out of memory isn't one.
     #[error("certificate text {} line {}", .0.number(), .0.line())]
     CertificateText(CertFault),
-    /// The first fault that stands in the certificate.
+    /// The first fault in the certificate.
     #[error("certificate fault {}", .0.number())]
     Certificate(PairFault),
     /// Memory ran out, in whatever part.

@@ -83,7 +83,7 @@ fn the_configuration_is_judged_before_the_certificate(rt: HostRuntime) -> Result
 }
 
 #[test]
-fn broken_devices_are_told(rt: HostRuntime) -> Result<(), Fail> {
+fn broken_devices_are_reported(rt: HostRuntime) -> Result<(), Fail> {
     let alloc = rt.alloc();
     let input = b"{\"route\":\"NullRoute\"}";
     let unread = run_check(alloc, &mut Broken, &mut Vec::new(alloc), None);

@@ -28,7 +28,7 @@ returns-in-Ok-Check-None-clause-stop g c =
     let held = g.F.NamedFiles.held c.args.files.now in
     let known = g.R.Read.remaining c.args.reader.now in
     let asks = rw (c.in-Ok-Check-None.field-0-is, c.in-Ok-Check-None.field-0-0-is) at c.in-Ok-Check-None.ensures.job in
-    IfErr-weaker c.judge.result _ _ (λ stop stands. judging_stop words held known None stop asks stands) (c.judge.ensures.stop held)
+    IfErr-weaker c.judge.result _ _ (λ stop holds. judging_stop words held known None stop asks holds) (c.judge.ensures.stop held)
 
 pub serve-requires-clause-most : goal.serve-requires-clause-most
 serve-requires-clause-most g c =
@@ -47,7 +47,7 @@ returns-in-Ok-Run-clause-stop g c =
     let held = g.F.NamedFiles.held c.args.files.now in
     let known = g.R.Read.remaining c.args.reader.now in
     let asks = rw c.in-Ok-Run.field-0-is at c.in-Ok-Run.ensures.job in
-    IfErr-weaker c.serve.result _ _ (λ stop stands. running_stop words held known stop (c.in-Ok-Run.listen.now, c.in-Ok-Run.spool.now, c.in-Ok-Run.sessions, asks) stands)
+    IfErr-weaker c.serve.result _ _ (λ stop holds. running_stop words held known stop (c.in-Ok-Run.listen.now, c.in-Ok-Run.spool.now, c.in-Ok-Run.sessions, asks) holds)
     (c.serve.ensures.stop held)
 
 pub returns-in-Ok-Run-clause-silent : goal.returns-in-Ok-Run-clause-silent

@@ -1,4 +1,4 @@
--- Which finding is told of a gap (own).
+-- Which finding is shown of a gap (own).
 use Rattle.std.specs.Prelude.{◌≡◌, ℕ, true, List, ◌++◌, Option, Some, slice_get}
 use Rattle.std.specs.List.{Contains}
 use Rattle.mcv_base.specs.Operation.{is_reading}
@@ -19,10 +19,10 @@ use Rattle.mcv_base.specs.Key.{IsRest}
 use Rattle.mcv_symbolic.specs.Sets.{AreLegsAt, CanHitAt, IsAcknowledged}
 use Rattle.mcv_witness.specs.Finding.{FindingValue}
 use Rattle.mcv_make.specs.Free.{free_indexes}
-use Rattle.mcv_symbolic.specs.Shown.{answers, leading}
+use Rattle.mcv_symbolic.specs.Shown.{answers, leaf_hit}
 
 -- the key is the prefix and the member of the class
-pub record IsToldWith (r : RoutesValue) (prefix : List ℕ) (f : FindingValue) : Type 0 where
+pub record IsShownWith (r : RoutesValue) (prefix : List ℕ) (f : FindingValue) : Type 0 where
   pub entry : RouteEntry
   pub rest : List ℕ
   pub since : Option ℕ
@@ -34,7 +34,7 @@ pub record IsToldWith (r : RoutesValue) (prefix : List ℕ) (f : FindingValue) :
   pub rest_is : IsRest rest
   pub opened : IsEraOf r f.era since
   pub key : f.key ≡ prefix ++ rest
-  pub stands : pool_at_position entry.tree f.leaf ≡ Some pool
+  pub pool_there : pool_at_position entry.tree f.leaf ≡ Some pool
   -- the least indexes at which no leg that each acknowledged delete has sent has the server
   pub are : (c : Choice) → AreLegsAt entry.tree (IsAcknowledged entry.tree rest since c) legs
   pub choice : f.choice ≡ free_indexes legs f.server pool.symbol f.at 0 r.symbols
@@ -42,10 +42,10 @@ pub record IsToldWith (r : RoutesValue) (prefix : List ℕ) (f : FindingValue) :
   pub reading : is_reading f.op ≡ true
   pub first : f.op ≡ Gets → (c : Choice) → CanHitAt entry.tree (asked Get rest since) c f.leaf → ⊥
   -- the leaf's hit is the answer
-  pub gets : leading f.leaf (plan entry.tree (asked f.op rest since)) ≡ Some f.gets
+  pub gets : leaf_hit f.leaf (plan entry.tree (asked f.op rest since)) ≡ Some f.gets
   -- each leg that the reply needs has deleted
   pub deletes : f.deletes ≡ answers Good (plan entry.tree (asked Delete rest since))
 
 -- the prefix is the first one that selects the route
-abbrev pub IsTold : RoutesValue → FindingValue → Type 0
-IsTold r f = (prefix : List ℕ) × (first_alias r f.route ≡ Some prefix) × IsToldWith r prefix f
+abbrev pub IsShown : RoutesValue → FindingValue → Type 0
+IsShown r f = (prefix : List ℕ) × (first_alias r f.route ≡ Some prefix) × IsShownWith r prefix f

@@ -24,23 +24,23 @@ the_entry (Some e) t is = (e, refl, inside)
     inside : t ≡ e.tree
     inside = cc
 
--- what a call's rules tell, as lines
-abbrev told : RoutesValue → Called → List ℕ
-told routes call = text_of routes.servers call.tree (situation_of call) (slice_index call.choice)
+-- what a call's rules say, as lines
+abbrev text_for : RoutesValue → Called → List ℕ
+text_for routes call = text_of routes.servers call.tree (situation_of call) (slice_index call.choice)
 
-pub text_is_told : (text : List ℕ) (servers : List (List ℕ)) (call : Called) (routes : RoutesValue) (entry : RouteEntry)
+pub text_is_answer : (text : List ℕ) (servers : List (List ℕ)) (call : Called) (routes : RoutesValue) (entry : RouteEntry)
     (moment : ℕ) (op : Op) (rest : List ℕ) (tree : Tree) (since : Option ℕ) (choice : List ℕ) (symbols : List SymbolValue) (part : List ℕ)
     → text ≡ text_of servers call.tree (situation_of call) (slice_index call.choice) → servers ≡ routes.servers
     → call ≡ record { tree = tree; op = op; rest = rest; since = since; choice = choice }
     → tree ≡ entry.tree → since ≡ since_at (breaks_of routes) moment
     → choice ≡ chosen_each fnv_index symbols part → symbols ≡ routes.symbols → part ≡ hashed_part rest
     → text ≡ text_of routes.servers entry.tree (situation_at moment routes op rest) (shipped_choice routes rest)
-text_is_told text servers call routes entry moment op rest tree since choice symbols part text_is servers_is call_is tree_is since_is choice_is symbols_is part_is =
+text_is_answer text servers call routes entry moment op rest tree since choice symbols part text_is servers_is call_is tree_is since_is choice_is symbols_is part_is =
     let chosen : choice ≡ chosen_each fnv_index routes.symbols (hashed_part rest) = choice_is ∙ ap₂ (chosen_each fnv_index) symbols_is part_is in
     let of : Tree → Option ℕ → List ℕ → Called = λ t s c. record { tree = t; op = op; rest = rest; since = s; choice = c } in
     let same : call ≡ of entry.tree (since_at (breaks_of routes) moment) (chosen_each fnv_index routes.symbols (hashed_part rest)) =
     call_is ∙ ap (λ t. of t since choice) tree_is ∙ ap (λ s. of entry.tree s choice) since_is ∙ ap (of entry.tree (since_at (breaks_of routes) moment)) chosen in
-    text_is ∙ ap (λ s. text_of s call.tree (situation_of call) (slice_index call.choice)) servers_is ∙ ap (told routes) same
+    text_is ∙ ap (λ s. text_of s call.tree (situation_of call) (slice_index call.choice)) servers_is ∙ ap (text_for routes) same
 
 -- ---- an input's fault, as one of a run
 

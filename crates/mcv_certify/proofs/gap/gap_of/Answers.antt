@@ -4,8 +4,8 @@ use Rattle.mcv_judge.specs.InMemory.{block_of, leg_of, numbers}
 use Rattle.mcv_judge.specs.Reason.{LegValue, server_at}
 use Rattle.mcv_judge.proofs.Servers.{servers_counted}
 use Rattle.mcv_pairs.proofs.Picked.{server_there}
-use Rattle.mcv_certify.proofs.Told.{leg_there, placed_at}
-use Rattle.mcv_certify.proofs.gap.told.Goals as goal
+use Rattle.mcv_certify.proofs.LeafOfGap.{leg_there, placed_at}
+use Rattle.mcv_certify.proofs.gap.gap_of.Goals as goal
 
 pub bounds-servers-gap : goal.bounds-servers-gap
 bounds-servers-gap c =

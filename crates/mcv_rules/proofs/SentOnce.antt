@@ -22,9 +22,9 @@ use Rattle.mcv_rules.proofs.Sent
 use Rattle.mcv_rules.proofs.Sound.{in_either, plan_apart, plan_marked}
 use Rattle.mcv_rules.proofs.Verdicts.{has_sends}
 
--- ---- positions that stand once
+-- ---- positions that come once
 
--- no member stands again behind itself
+-- no member comes again behind itself
 abbrev IsDistinct : List (List ℕ) → Type 0
 IsDistinct [] = Unit {0}
 IsDistinct (p ∷ ps) = (In ps p → ⊥) × IsDistinct ps

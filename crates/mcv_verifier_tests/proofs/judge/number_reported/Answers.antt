@@ -1,7 +1,7 @@
 use Rattle.std.proofs.Common.{sym, subst}
 use Rattle.mcv_cert.specs.Pair.{AreRising}
 use Rattle.mcv_verifier_tests.proofs.Order.{block_in_order}
-use Rattle.mcv_verifier_tests.proofs.judge.number_told.Goals as goal
+use Rattle.mcv_verifier_tests.proofs.judge.number_reported.Goals as goal
 
 pub judge-requires : goal.judge-requires
 judge-requires c = record {

@@ -1,4 +1,4 @@
--- The block that sets make stands at its spot.
+-- The block that sets make is at its spot.
 use Rattle.std.proofs.Common.{◌≡◌, ◌↔◌, ℕ, false, List, Option, Some, option_map, sym, ap, ◌∙◌, subst}
 use Rattle.std.specs.Prelude.{slice_get}
 use Rattle.std.specs.List.{Contains}
@@ -59,8 +59,8 @@ block_found r c is t member era since tree_is member_is opened b route class num
     }
 
 -- the block of the sets that were made for the spot
-pub block_stands : (r : RoutesValue) (c : RouteClass) (era : ℕ) → IsSpotOf r (spot c era) → (s want : SetsValue) → s ≡ want → Some want.tree ≡ option_map (λ (e : RouteEntry). e.tree) (slice_get r.entries c.route) → Some want.rest ≡ c.class.member
+pub block_is_there : (r : RoutesValue) (c : RouteClass) (era : ℕ) → IsSpotOf r (spot c era) → (s want : SetsValue) → s ≡ want → Some want.tree ≡ option_map (λ (e : RouteEntry). e.tree) (slice_get r.entries c.route) → Some want.rest ≡ c.class.member
     → (HasEra r era → IsEraOf r era want.since) → (b : BlockValue) → IsBlockWith s c era b → IsBlockFor r (spot c era) b
-block_stands r c era at s want same tree member opened b is =
+block_is_there r c era at s want same tree member opened b is =
     let has : IsBlockAt want.tree want.rest want.since b = subst (λ (x : SetsValue). IsBlockAt x.tree x.rest x.since b) same is.has in
     block_found r c at.0 want.tree want.rest era want.since tree member (opened at.1) b is.route is.class is.era has

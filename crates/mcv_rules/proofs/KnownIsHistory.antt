@@ -30,13 +30,13 @@ same_bytes (i ∷ p) (j ∷ q) = ap (λ b. nat_eq i j && b) (same_bytes p q)
 
 -- ---- the first entry at a position
 
-abbrev pub told : Answered → Outcome
-told a = outcome_of (part_value a.reply)
+abbrev pub outcome_of_answered : Answered → Outcome
+outcome_of_answered a = outcome_of (part_value a.reply)
 
 -- its outcome
 abbrev pub first_at : List ℕ → List Answered → Option Outcome
 first_at p [] = None
-first_at p (a ∷ xs) = cond (is_same a.position p) (Some (told a)) (first_at p xs)
+first_at p (a ∷ xs) = cond (is_same a.position p) (Some (outcome_of_answered a)) (first_at p xs)
 
 abbrev or_else : Option Outcome → Option Outcome → Option Outcome
 or_else None y = y
@@ -48,7 +48,7 @@ or_nothing (Some x) = refl
 
 -- the next entry is heard where its position has no outcome
 heard_first : (es : History) (a : Answered) (p : List ℕ) (r : Option Outcome) (b : Bool) → outcomes es a.position ≡ r → is_same a.position p ≡ b
-    → outcomes (cond (is_none r) (entry_of a ∷ es) es) p ≡ or_else (outcomes es p) (cond b (Some (told a)) None)
+    → outcomes (cond (is_none r) (entry_of a ∷ es) es) p ≡ or_else (outcomes es p) (cond b (Some (outcome_of_answered a)) None)
 heard_first es a p None true e w =
     let unheard : outcomes es p ≡ None = ap (outcomes es) (sym (same_is a.position p w)) ∙ e in
     rw (w, unheard) refl
@@ -68,7 +68,7 @@ fold_first es [] p = or_nothing (outcomes es p)
 fold_first es (a ∷ xs) p =
     fold_first (heard es a) xs p
     ∙ ap (λ r. or_else r (first_at p xs)) (heard_first es a p (outcomes es a.position) (is_same a.position p) refl refl)
-    ∙ or_else_once (outcomes es p) (is_same a.position p) (told a) (first_at p xs)
+    ∙ or_else_once (outcomes es p) (is_same a.position p) (outcome_of_answered a) (first_at p xs)
 
 pub outcome_first : (xs : List Answered) (p : List ℕ) → outcomes (history_of xs) p ≡ first_at p xs
 outcome_first xs p = fold_first [] xs p
@@ -79,7 +79,7 @@ place_before : (xs ys : List Answered) (p : List ℕ) (x : Outcome) → first_at
 place_before [] ys p x e = absurd (let f : None ≡ Some x = e in cc)
 place_before (a ∷ xs) ys p x e = by_test (is_same a.position p) (λ f. place_before xs ys p x f) e
   where
-    by_test : (b : Bool) → (first_at p xs ≡ Some x → place_of (xs ++ ys) p ≡ place_of xs p) → cond b (Some (told a)) (first_at p xs) ≡ Some x → cond b zero (suc (place_of (xs ++ ys) p)) ≡ cond b zero (suc (place_of xs p))
+    by_test : (b : Bool) → (first_at p xs ≡ Some x → place_of (xs ++ ys) p ≡ place_of xs p) → cond b (Some (outcome_of_answered a)) (first_at p xs) ≡ Some x → cond b zero (suc (place_of (xs ++ ys) p)) ≡ cond b zero (suc (place_of xs p))
     by_test true more e = refl
     by_test false more e = ap suc (more e)
 
@@ -87,16 +87,16 @@ place_last : (xs : List Answered) (a : Answered) (p : List ℕ) → first_at p x
 place_last [] a p e w = rw w refl
 place_last (y ∷ xs) a p e w = by_test (is_same y.position p) (λ f. place_last xs a p f w) e
   where
-    by_test : (b : Bool) → (first_at p xs ≡ None → place_of (xs ++ a ∷ []) p ≡ length xs) → cond b (Some (told y)) (first_at p xs) ≡ None → cond b zero (suc (place_of (xs ++ a ∷ []) p)) ≡ suc (length xs)
-    by_test true more e = absurd (let f : Some (told y) ≡ None = e in cc)
+    by_test : (b : Bool) → (first_at p xs ≡ None → place_of (xs ++ a ∷ []) p ≡ length xs) → cond b (Some (outcome_of_answered y)) (first_at p xs) ≡ None → cond b zero (suc (place_of (xs ++ a ∷ []) p)) ≡ suc (length xs)
+    by_test true more e = absurd (let f : Some (outcome_of_answered y) ≡ None = e in cc)
     by_test false more e = ap suc (more e)
 
 -- the entry at the place has the outcome
-pub told_at : (xs : List Answered) (p : List ℕ) → option_map told (slice_get xs (place_of xs p)) ≡ first_at p xs
-told_at [] p = refl
-told_at (a ∷ xs) p = by_test (is_same a.position p) (told_at xs p)
+pub outcome_at_place : (xs : List Answered) (p : List ℕ) → option_map outcome_of_answered (slice_get xs (place_of xs p)) ≡ first_at p xs
+outcome_at_place [] p = refl
+outcome_at_place (a ∷ xs) p = by_test (is_same a.position p) (outcome_at_place xs p)
   where
-    by_test : (b : Bool) → option_map told (slice_get xs (place_of xs p)) ≡ first_at p xs → option_map told (slice_get (a ∷ xs) (cond b zero (suc (place_of xs p)))) ≡ cond b (Some (told a)) (first_at p xs)
+    by_test : (b : Bool) → option_map outcome_of_answered (slice_get xs (place_of xs p)) ≡ first_at p xs → option_map outcome_of_answered (slice_get (a ∷ xs) (cond b zero (suc (place_of xs p)))) ≡ cond b (Some (outcome_of_answered a)) (first_at p xs)
     by_test true more = refl
     by_test false more = more
 
@@ -108,7 +108,7 @@ history_of-append xs a = fold-append heard [] xs (a ∷ [])
 -- what the table has at a position after an entry
 abbrev pub next_found : ℕ → ℕ → Answered → Option Arrival → Bool → Option Arrival → Option Arrival
 next_found place count a at_entry same before =
-    cond (is_some at_entry) before (cond same (Some (record { answer = Some (record { outcome = told a; source = placed place }); came = suc count })) before)
+    cond (is_some at_entry) before (cond same (Some (record { answer = Some (record { outcome = outcome_of_answered a; source = placed place }); came = suc count })) before)
 
 abbrev found_by : ℕ → ℕ → Option Outcome → Option Arrival
 found_by place came r = option_map (λ x. record { answer = Some (record { outcome = x; source = placed place }); came = came }) r
@@ -119,7 +119,7 @@ is_some-found place came (Some x) = refl
 
 -- by what the entry's position had, and the position itself
 found_next : (xs : List Answered) (a : Answered) (p : List ℕ) (r q : Option Outcome) (b : Bool) → outcomes (history_of xs) a.position ≡ r → outcomes (history_of xs) p ≡ q → is_same a.position p ≡ b
-    → own_found p (xs ++ a ∷ []) ≡ cond (is_some r) (own_found p xs) (cond b (Some (record { answer = Some (record { outcome = told a; source = placed (length xs) }); came = suc (length (history_of xs)) })) (own_found p xs))
+    → own_found p (xs ++ a ∷ []) ≡ cond (is_some r) (own_found p xs) (cond b (Some (record { answer = Some (record { outcome = outcome_of_answered a; source = placed (length xs) }); came = suc (length (history_of xs)) })) (own_found p xs))
 found_next xs a p (Some y) None b e f w = rw (history_of-append xs a, e, f) refl
 found_next xs a p (Some y) (Some x) b e f w =
     rw (history_of-append xs a, e, f, place_before xs (a ∷ []) p x (sym (outcome_first xs p) ∙ f)) refl

@@ -16,10 +16,10 @@ use Rattle.mcv_blocks.specs.Sets.{SetsValue}
 use Rattle.mcv_blocks.specs.Spots.{IsSpotOf, spot}
 use Rattle.mcv_blocks.specs.declared.classes.RouteClass.{RouteClass}
 use Rattle.mcv_blocks.proofs.PoolSizes.{entry_sized}
-use Rattle.mcv_blocks.proofs.Standing.{block_stands, tree_of}
-use Rattle.mcv_certify.specs.Made.{AddsFor, AddsWith, AreLegsSized, TellsGapAt, TellsGapWith}
+use Rattle.mcv_blocks.proofs.BlockOfSets.{block_is_there, tree_of}
+use Rattle.mcv_certify.specs.Made.{AddsFor, AddsWith, AreLegsSized, ReportsGapAt, ReportsGapWith}
 use Rattle.mcv_certify.specs.declared.gap.Gap.{Gap}
-use Rattle.mcv_certify.proofs.Along.{adds_one}
+use Rattle.mcv_certify.proofs.GapsOfSpots.{adds_one}
 
 -- leaves of the tree of a sound route
 legs_sized : (r : RoutesValue) → IsSoundRoutes r → (e : RouteEntry) → Contains r.entries e → (t : Tree) → e.tree ≡ t → (P : List ℕ → Type 0) (legs : List LegValue) → AreLeavesAt t P legs → IsSized legs
@@ -34,11 +34,11 @@ legs_sized r sound e there t root P legs are = (
 module _ (r : RoutesValue) (c : RouteClass) (era : ℕ) (at : IsSpotOf r (spot c era)) (s want : SetsValue) (same : s ≡ want) (tree : Some want.tree ≡ option_map (λ (e : RouteEntry). e.tree) (slice_get r.entries c.route)) where
   -- its pairs are those for the spot
   pub adds_with : Some want.rest ≡ c.class.member → (HasEra r era → IsEraOf r era want.since) → (old new : List PairValue) → AddsWith s c era old new → AddsFor r (spot c era ∷ []) old new
-  adds_with member opened old new h = adds_one r (spot c era) h.block old new (block_stands r c era at s want same tree member opened h.block h.is) h.adds h.picked
+  adds_with member opened old new h = adds_one r (spot c era) h.block old new (block_is_there r c era at s want same tree member opened h.block h.is) h.adds h.picked
 
   -- and its gap is that at the spot
-  pub tells_with : Some want.rest ≡ c.class.member → (HasEra r era → IsEraOf r era want.since) → (f : Gap) → TellsGapWith s c era f → TellsGapAt r (spot c era) f
-  tells_with member opened f h = record { block = h.block; stands = block_stands r c era at s want same tree member opened h.block h.is; tells = h.tells }
+  pub reports_with : Some want.rest ≡ c.class.member → (HasEra r era → IsEraOf r era want.since) → (f : Gap) → ReportsGapWith s c era f → ReportsGapAt r (spot c era) f
+  reports_with member opened f h = record { block = h.block; block_is = block_is_there r c era at s want same tree member opened h.block h.is; reports = h.reports }
 
   -- the legs of sets of sound routes
   pub sets_sized : IsSoundRoutes r → AreLegsSized s

@@ -1,4 +1,4 @@
--- What a call is told: its legs, and what its status says of the reply.
+-- What a call is answered: its legs, and what its status says of the reply.
 use Rattle.std.proofs.Common.{◌≡◌, ℕ, [], List, Option, Some, None, refl, sym, ap, ◌∙◌, subst}
 use Rattle.std.specs.Prelude.{option_map, slice_index}
 use Rattle.mcv_base.specs.declared.operation.Mark.TheVariants.{Plain}
@@ -14,7 +14,7 @@ use Rattle.mcv_route.specs.Reply.{reply}
 use Rattle.mcv_rules.specs.Arrivals.{known_at, outcome_in, own_arrived, seen_answer}
 use Rattle.mcv_rules.specs.Called.{Called, situation_of}
 use Rattle.mcv_rules.specs.Laid.{Serves, arrived, sent, situation_at}
-use Rattle.mcv_rules.specs.declared.arrival.Answer.{Answer as Told}
+use Rattle.mcv_rules.specs.declared.arrival.Answer.{Answer as SeenAnswer}
 use Rattle.mcv_rules.specs.declared.arrival.Arrival.{Arrival}
 use Rattle.mcv_rules.specs.declared.asked.Asked.{Asked}
 use Rattle.mcv_rules.specs.declared.known.Known.{Known}
@@ -25,28 +25,28 @@ use Rattle.mcv_rules.specs.Laws.{outcome_at, IsOneOf}
 use Rattle.mcv_rules.specs.History.{history_of}
 use Rattle.mcv_rules.specs.Status.{source_of, source_outcome, status_of, status_outcome}
 use Rattle.mcv_rules.proofs.One
-use Rattle.mcv_rules.proofs.Own.{own_outcome, told_at, outcome_first}
+use Rattle.mcv_rules.proofs.KnownIsHistory.{own_outcome, outcome_at_place, outcome_first}
 use Rattle.mcv_rules.proofs.Serving.{default_is_soft}
 use Rattle.mcv_rules.proofs.True
 
-source_told : (op : Op) (xs : List Answered) (source : Source) (x : Outcome) → outcome_at (outcomes (history_of xs)) source ≡ Some x → source_outcome xs (source_of op xs source) ≡ Some x
-source_told op xs (leg p) x e = told_at xs p ∙ sym (outcome_first xs p) ∙ e
-source_told op xs fixed x e = ap Some (default_is_soft op) ∙ e
-source_told op xs refusal x e = e
+source_of_reply : (op : Op) (xs : List Answered) (source : Source) (x : Outcome) → outcome_at (outcomes (history_of xs)) source ≡ Some x → source_outcome xs (source_of op xs source) ≡ Some x
+source_of_reply op xs (leg p) x e = outcome_at_place xs p ∙ sym (outcome_first xs p) ∙ e
+source_of_reply op xs fixed x e = ap Some (default_is_soft op) ∙ e
+source_of_reply op xs refusal x e = e
 
-answer_told : (op : Op) (xs : List Answered) (t : Tree) (s : Situation) (r : Option Answer) → reply t s (history_of xs) ≡ r → status_outcome xs (status_of op xs r) ≡ option_map (λ a. a.outcome) r
-answer_told op xs t s None e = refl
-answer_told op xs t s (Some a) e =
-    source_told op xs a.source a.outcome
+answer_of_reply : (op : Op) (xs : List Answered) (t : Tree) (s : Situation) (r : Option Answer) → reply t s (history_of xs) ≡ r → status_outcome xs (status_of op xs r) ≡ option_map (λ a. a.outcome) r
+answer_of_reply op xs t s None e = refl
+answer_of_reply op xs t s (Some a) e =
+    source_of_reply op xs a.source a.outcome
     (True.answers_are_true t s (outcomes (history_of xs)) a (subst (λ r. IsOneOf r (replies t s (outcomes (history_of xs)))) e (One.reply_is_one_of t s (history_of xs))))
 
-pub status_told : (op : Op) (xs : List Answered) (t : Tree) (s : Situation) → status_outcome xs (status_of op xs (reply t s (history_of xs))) ≡ option_map (λ a. a.outcome) (reply t s (history_of xs))
-status_told op xs t s = answer_told op xs t s (reply t s (history_of xs)) refl
+pub status_of_reply : (op : Op) (xs : List Answered) (t : Tree) (s : Situation) → status_outcome xs (status_of op xs (reply t s (history_of xs))) ≡ option_map (λ a. a.outcome) (reply t s (history_of xs))
+status_of_reply op xs t s = answer_of_reply op xs t s (reply t s (history_of xs)) refl
 
 -- ---- by the plan that serves the route
 
--- what an answer tells
-abbrev pub status_from : Option Told → Status
+-- what an answer says
+abbrev pub status_from : Option SeenAnswer → Status
 status_from None = Waits
 status_from (Some a) = Replied a.source
 

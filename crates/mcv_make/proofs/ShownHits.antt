@@ -9,7 +9,7 @@ use Rattle.mcv_route.specs.Outcomes.{History, is_same}
 use Rattle.mcv_rules.specs.Plan.{Leg, Plan, Send, Reply, Both, Beside, OnError, OnMiss, OnHit, Shadowed}
 use Rattle.mcv_rules.specs.Sound.{positions, IsApart, IsHonest}
 use Rattle.mcv_rules.proofs.Orders.{cond_at_true, same_is, same_self}
-use Rattle.mcv_symbolic.specs.Shown.{also, answers, first_hit, leading, one_after_other, or_else}
+use Rattle.mcv_symbolic.specs.Shown.{also, answers, first_hit, leaf_hit, one_after_other, or_else}
 use Rattle.mcv_symbolic.specs.Structure.{if_all, Hits}
 use Rattle.mcv_symbolic.proofs.Exact.{Shows, in_beside, in_on_error, in_on_hit, in_on_miss, in_shadowed, not_good, shows_both, shows_on_error, shows_on_miss, shows_send, soft≢good}
 use Rattle.mcv_make.proofs.Ordered.{IsOrdered, answers-ordered, one-outcome, ordered-both, ordered-first}
@@ -149,16 +149,16 @@ when-some : (b : Bool) (x all : History) → (if b then Some x else None) ≡ So
 when-some true x all e = (refl, same_Some x all e)
 when-some false x all e = absurd (none-some all e)
 
-pub leading_right : (p : List ℕ) (t : Plan) (es : History) → IsApart t → IsHonest t → leading p t ≡ Some es → HasHitAt p t es
-leading_right p (Send k) es a h e =
+pub leaf_hit_right : (p : List ℕ) (t : Plan) (es : History) → IsApart t → IsHonest t → leaf_hit p t ≡ Some es → HasHitAt p t es
+leaf_hit_right p (Send k) es a h e =
     let w = when-some (is_same k.position p) ((k.position, Good) ∷ []) es e in
     subst (HasHitAt p (Send k)) w.1 (record { leg = k; at = same_is k.position p w.0; shows = shows_send k; ordered = one-outcome k.position Good })
-leading_right p (Reply y) es a h e = absurd (none-some es e)
-leading_right p (Both t u) es a h e =
-    elim (or_some (one_after_other (leading p t) (first_hit u)) (one_after_other (first_hit t) (leading p u)) es e) [
+leaf_hit_right p (Reply y) es a h e = absurd (none-some es e)
+leaf_hit_right p (Both t u) es a h e =
+    elim (or_some (one_after_other (leaf_hit p t) (first_hit u)) (one_after_other (first_hit t) (leaf_hit p u)) es e) [
       | inl f ↦
-          let w = both_some (leading p t) (first_hit u) es f in
-          let x = leading_right p t w.0 a.0 h.0 w.2 in
+          let w = both_some (leaf_hit p t) (first_hit u) es f in
+          let x = leaf_hit_right p t w.0 a.0 h.0 w.2 in
           let y = first_right u w.1 a.1 h.1 w.3 in
           subst (HasHitAt p (Both t u)) w.4 (record {
             leg = x.leg;
@@ -167,9 +167,9 @@ leading_right p (Both t u) es a h e =
             ordered = ordered-both (positions t) (positions u) w.0 w.1 x.ordered y.ordered;
           })
       | inr f ↦
-          let w = both_some (first_hit t) (leading p u) es f.1 in
+          let w = both_some (first_hit t) (leaf_hit p u) es f.1 in
           let x = first_right t w.0 a.0 h.0 w.2 in
-          let y = leading_right p u w.1 a.1 h.1 w.3 in
+          let y = leaf_hit_right p u w.1 a.1 h.1 w.3 in
           subst (HasHitAt p (Both t u)) w.4 (record {
             leg = y.leg;
             at = y.at;
@@ -177,14 +177,14 @@ leading_right p (Both t u) es a h e =
             ordered = ordered-both (positions t) (positions u) w.0 w.1 x.ordered y.ordered;
           })
     ]
-leading_right p (Beside t u) es a h e =
-    let x = leading_right p t es a.0 h.0 e in record { leg = x.leg; at = x.at; shows = in_beside t u x.leg es x.shows; ordered = ordered-first (positions t) (positions u) es x.ordered }
-leading_right p (OnError t u) es a h e =
-    elim (or_some (leading p t) (after-error (if_all Error t) (answers Error t) (leading p u)) es e) [
-      | inl f ↦ let x = leading_right p t es a.0 h.0 f in record { leg = x.leg; at = x.at; shows = in_on_error t u x.leg es x.shows; ordered = ordered-first (positions t) (positions u) es x.ordered }
+leaf_hit_right p (Beside t u) es a h e =
+    let x = leaf_hit_right p t es a.0 h.0 e in record { leg = x.leg; at = x.at; shows = in_beside t u x.leg es x.shows; ordered = ordered-first (positions t) (positions u) es x.ordered }
+leaf_hit_right p (OnError t u) es a h e =
+    elim (or_some (leaf_hit p t) (after-error (if_all Error t) (answers Error t) (leaf_hit p u)) es e) [
+      | inl f ↦ let x = leaf_hit_right p t es a.0 h.0 f in record { leg = x.leg; at = x.at; shows = in_on_error t u x.leg es x.shows; ordered = ordered-first (positions t) (positions u) es x.ordered }
       | inr f ↦
-          let w = errors_some (if_all Error t) (answers Error t) (leading p u) es f.1 in
-          let y = leading_right p u w.1 a.1 h.1 w.2 in
+          let w = errors_some (if_all Error t) (answers Error t) (leaf_hit p u) es f.1 in
+          let y = leaf_hit_right p u w.1 a.1 h.1 w.2 in
           subst (HasHitAt p (OnError t u)) w.3 (record {
             leg = y.leg;
             at = y.at;
@@ -192,12 +192,12 @@ leading_right p (OnError t u) es a h e =
             ordered = ordered-both (positions t) (positions u) (answers Error t) w.1 (answers-ordered Error t) y.ordered;
           })
     ]
-leading_right p (OnMiss t u) es a h e =
-    elim (or_some (leading p t) (after-miss (if_all Soft t) (answers Soft t) (leading p u)) es e) [
-      | inl f ↦ let x = leading_right p t es a.0 h.0 f in record { leg = x.leg; at = x.at; shows = in_on_miss t u x.leg es x.shows; ordered = ordered-first (positions t) (positions u) es x.ordered }
+leaf_hit_right p (OnMiss t u) es a h e =
+    elim (or_some (leaf_hit p t) (after-miss (if_all Soft t) (answers Soft t) (leaf_hit p u)) es e) [
+      | inl f ↦ let x = leaf_hit_right p t es a.0 h.0 f in record { leg = x.leg; at = x.at; shows = in_on_miss t u x.leg es x.shows; ordered = ordered-first (positions t) (positions u) es x.ordered }
       | inr f ↦
-          let w = misses_some (if_all Soft t) (answers Soft t) (leading p u) es f.1 in
-          let y = leading_right p u w.0 a.1 h.1 w.1 in
+          let w = misses_some (if_all Soft t) (answers Soft t) (leaf_hit p u) es f.1 in
+          let y = leaf_hit_right p u w.0 a.1 h.1 w.1 in
           subst (HasHitAt p (OnMiss t u)) w.2 (record {
             leg = y.leg;
             at = y.at;
@@ -205,34 +205,34 @@ leading_right p (OnMiss t u) es a h e =
             ordered = ordered-both (positions t) (positions u) (answers Soft t) w.0 (answers-ordered Soft t) y.ordered;
           })
     ]
-leading_right p (OnHit t u) es a h e =
-    let x = leading_right p t es a.0 h.0 e in record { leg = x.leg; at = x.at; shows = in_on_hit t u x.leg es x.shows; ordered = ordered-first (positions t) (positions u) es x.ordered }
-leading_right p (Shadowed n b d t u) es a h e =
-    let x = leading_right p t es a.0 h.0 e in record { leg = x.leg; at = x.at; shows = in_shadowed t u x.leg es x.shows n b d; ordered = ordered-first (positions t) (positions u) es x.ordered }
+leaf_hit_right p (OnHit t u) es a h e =
+    let x = leaf_hit_right p t es a.0 h.0 e in record { leg = x.leg; at = x.at; shows = in_on_hit t u x.leg es x.shows; ordered = ordered-first (positions t) (positions u) es x.ordered }
+leaf_hit_right p (Shadowed n b d t u) es a h e =
+    let x = leaf_hit_right p t es a.0 h.0 e in record { leg = x.leg; at = x.at; shows = in_shadowed t u x.leg es x.shows n b d; ordered = ordered-first (positions t) (positions u) es x.ordered }
 
 -- no leg at the position can hit where nothing leads to its hit
-leading_left : (p : List ℕ) (t : Plan) (l : Leg) → IsHonest t → l.position ≡ p → leading p t ≡ None → Hits t l → ⊥
-leading_left p (Send k) l o at e h =
+leaf_hit_left : (p : List ℕ) (t : Plan) (l : Leg) → IsHonest t → l.position ≡ p → leaf_hit p t ≡ None → Hits t l → ⊥
+leaf_hit_left p (Send k) l o at e h =
     none-some ((k.position, Good) ∷ []) (sym e ∙ cond_at_true (is_same k.position p) (Some ((k.position, Good) ∷ [])) None (ap (is_same k.position) (sym (ap (λ (m : Leg). m.position) h ∙ at)) ∙ same_self k.position))
-leading_left p (Reply y) l o at e h = h
-leading_left p (Both t u) l o at e h =
-    let w = or_none (one_after_other (leading p t) (first_hit u)) (one_after_other (first_hit t) (leading p u)) e in
+leaf_hit_left p (Reply y) l o at e h = h
+leaf_hit_left p (Both t u) l o at e h =
+    let w = or_none (one_after_other (leaf_hit p t) (first_hit u)) (one_after_other (first_hit t) (leaf_hit p u)) e in
     elim h.2 [
-      | inl i ↦ ⊎_elim (λ f. leading_left p t l o.0 at f i) (λ f. first_left u h.1.0 o.1 f h.1.1) (both_none (leading p t) (first_hit u) w.0)
-      | inr i ↦ ⊎_elim (λ f. first_left t h.0.0 o.0 f h.0.1) (λ f. leading_left p u l o.1 at f i) (both_none (first_hit t) (leading p u) w.1)
+      | inl i ↦ ⊎_elim (λ f. leaf_hit_left p t l o.0 at f i) (λ f. first_left u h.1.0 o.1 f h.1.1) (both_none (leaf_hit p t) (first_hit u) w.0)
+      | inr i ↦ ⊎_elim (λ f. first_left t h.0.0 o.0 f h.0.1) (λ f. leaf_hit_left p u l o.1 at f i) (both_none (first_hit t) (leaf_hit p u) w.1)
     ]
-leading_left p (Beside t u) l o at e h = leading_left p t l o.0 at e h
-leading_left p (OnError t u) l o at e (inl h) = leading_left p t l o.0 at (or_none (leading p t) (after-error (if_all Error t) (answers Error t) (leading p u)) e).0 h
-leading_left p (OnError t u) l o at e (inr h) = leading_left p u l o.1 at (errors_none (if_all Error t) (answers Error t) (leading p u) (or_none (leading p t) (after-error (if_all Error t) (answers Error t) (leading p u)) e).1 h.0) h.1
-leading_left p (OnMiss t u) l o at e (inl h) = leading_left p t l o.0 at (or_none (leading p t) (after-miss (if_all Soft t) (answers Soft t) (leading p u)) e).0 h
-leading_left p (OnMiss t u) l o at e (inr h) = leading_left p u l o.1 at (misses_none (if_all Soft t) (answers Soft t) (leading p u) (or_none (leading p t) (after-miss (if_all Soft t) (answers Soft t) (leading p u)) e).1 (not_good Soft t soft≢good o.0)) h
-leading_left p (OnHit t u) l o at e h = leading_left p t l o.0 at e h
-leading_left p (Shadowed n b d t u) l o at e h = leading_left p t l o.0 at e h
+leaf_hit_left p (Beside t u) l o at e h = leaf_hit_left p t l o.0 at e h
+leaf_hit_left p (OnError t u) l o at e (inl h) = leaf_hit_left p t l o.0 at (or_none (leaf_hit p t) (after-error (if_all Error t) (answers Error t) (leaf_hit p u)) e).0 h
+leaf_hit_left p (OnError t u) l o at e (inr h) = leaf_hit_left p u l o.1 at (errors_none (if_all Error t) (answers Error t) (leaf_hit p u) (or_none (leaf_hit p t) (after-error (if_all Error t) (answers Error t) (leaf_hit p u)) e).1 h.0) h.1
+leaf_hit_left p (OnMiss t u) l o at e (inl h) = leaf_hit_left p t l o.0 at (or_none (leaf_hit p t) (after-miss (if_all Soft t) (answers Soft t) (leaf_hit p u)) e).0 h
+leaf_hit_left p (OnMiss t u) l o at e (inr h) = leaf_hit_left p u l o.1 at (misses_none (if_all Soft t) (answers Soft t) (leaf_hit p u) (or_none (leaf_hit p t) (after-miss (if_all Soft t) (answers Soft t) (leaf_hit p u)) e).1 (not_good Soft t soft≢good o.0)) h
+leaf_hit_left p (OnHit t u) l o at e h = leaf_hit_left p t l o.0 at e h
+leaf_hit_left p (Shadowed n b d t u) l o at e h = leaf_hit_left p t l o.0 at e h
 
 -- where a leg at the position can hit, outcomes that lead to its hit are shown
-pub shown : (p : List ℕ) (t : Plan) (l : Leg) → IsHonest t → l.position ≡ p → Hits t l → (es : History) × (leading p t ≡ Some es)
-shown p t l o at h = by-case (leading p t) refl
+pub shown : (p : List ℕ) (t : Plan) (l : Leg) → IsHonest t → l.position ≡ p → Hits t l → (es : History) × (leaf_hit p t ≡ Some es)
+shown p t l o at h = by-case (leaf_hit p t) refl
   where
-    by-case : (x : Option History) → leading p t ≡ x → (es : History) × (leading p t ≡ Some es)
-    by-case None e = absurd (leading_left p t l o at e h)
+    by-case : (x : Option History) → leaf_hit p t ≡ x → (es : History) × (leaf_hit p t ≡ Some es)
+    by-case None e = absurd (leaf_hit_left p t l o at e h)
     by-case (Some es) e = (es, e)
