@@ -1,8 +1,8 @@
 -- What the program does for the words of a command line.
-use Rattle.std.specs.Prelude.{◌≡◌, ◌⊎◌, ℕ, List, Option, Some, None, IfSome, MatchOption, ⊤}
+use Rattle.std.specs.Prelude.{◌≡◌, ◌⊎◌, ℕ, List, Option, Some, None, IfSome, MatchOption, ⊤, codes}
 use Rattle.std.specs.Io.KnownBytes.{Appends}
 use Rattle.clap.specs.Words.{IsAmong, Text}
-use Rattle.clap.specs.declared.error.kind.ErrorKind.TheVariants.{DisplayHelp}
+use Rattle.clap.specs.declared.error.kind.ErrorKind.TheVariants.{DisplayHelp, DisplayVersion}
 use Rattle.mcv_base.specs.declared.request.Moment.{Moment}
 use Rattle.mcv_input.specs.Fault.{AreNamedBy}
 use Rattle.mcv_legs.specs.Answer.{IsAnswer}
@@ -63,12 +63,19 @@ IsServed held serves listen spool sessions input old new ending =
 abbrev pub AsksAnyRun : List Text → Type 0
 AsksAnyRun words = (listen : Text) × (spool : Text) × (sessions : ℕ) × AsksRun words listen spool sessions
 
--- help was asked for and shown; or the words ask for legs at a moment, and what answers the input at that moment was written; or they
+abbrev pub version_line : Text
+version_line = codes "mcv 1\n"
+
+-- what is shown where words ask for it: help, whose text is left open, or the version
+abbrev pub IsShownFor : List Text → Text → Type 0
+IsShownFor words text = IsAmong DisplayHelp (faults words) ⊎ (IsAmong DisplayVersion (faults words) × (text ≡ version_line))
+
+-- help or the version was asked for and shown; or the words ask for legs at a moment, and what answers the input at that moment was written; or they
 -- ask for a verdict, and it was written; or they ask for a run, and the proxy served as they ask, or the verdict was written by which
 -- it doesn't
 abbrev pub IsDone : List Text → Held → Serves → (input old new : Option Text) → Ending → Type 0
 IsDone words held serves input old new ending =
-    (IsAmong DisplayHelp (faults words) × (text : Text) × Appends old new text × (ending ≡ Done))
+    ((text : Text) × IsShownFor words text × Appends old new text × (ending ≡ Done))
     ⊎ (((at : Moment) × IsJobOf words (jobs.Legs at) × (text : Text) × IfSome input (λ bytes. IsAnswer at.0 bytes text) × Appends old new text × (ending ≡ Done))
     ⊎ (((cert : Option Text) × AsksCheck words cert × IsJudged held cert input old new ending)
     ⊎ ((listen : Text) × (spool : Text) × (sessions : ℕ) × AsksRun words listen spool sessions × IsServed held serves listen spool sessions input old new ending)))

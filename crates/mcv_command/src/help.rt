@@ -16,7 +16,7 @@ key `a` reach? Serve clients at port 5000.
   mcv run --listen 127.0.0.1:5000 --spool mcv.spool < mcrouter.json
 
 Exit status:
-  0  done, or help was asked for
+  0  done, or help or the version was asked for
   1  bad command line, or bad request line
   2  the configuration is refused, or has no route for the key
   3  the configuration can lose a delete (never with --cert: 5 then)

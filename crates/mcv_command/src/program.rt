@@ -123,6 +123,10 @@ pub fn run_words<'a, R: Read, W: Write, F: NamedFiles, P: Proxy>(
             write_text(writer, text.as_bytes())?;
             Ok(Ending::Done)
         }
+        Err(LineFault::Version) => {
+            write_text(writer, b"mcv 1\n")?;
+            Ok(Ending::Done)
+        }
         Err(LineFault::BadLine) => Err(Stop::BadLine),
         Err(LineFault::Memory) => Err(Stop::Memory),
     }

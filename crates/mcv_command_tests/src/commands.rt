@@ -52,7 +52,6 @@ mcv: bad line
 mcv serve: bad line
 mcv legs x: bad line
 mcv legs legs: bad line
-mcv --version: bad line
 mcv help serve: bad line
 mcv --help: help
 mcv -h: help
@@ -64,7 +63,11 @@ mcv legs --help: help
 mcv run --help: help
 mcv run -h: help
 mcv help run: help
-mcv legs -h: help";
+mcv legs -h: help
+mcv --version: version
+mcv -V: version
+mcv legs --version: bad line
+mcv version: bad line";
 
 fn asked(alloc: Global, line: &str) -> Result<String, AllocError> {
     let words: Vec<&str> = line.split(' ').collect(alloc)?;
@@ -85,6 +88,7 @@ fn asked(alloc: Global, line: &str) -> Result<String, AllocError> {
         Err(LineFault::BadLine) => String::from_str(alloc, "bad line"),
         Err(LineFault::Memory) => String::from_str(alloc, "memory"),
         Err(LineFault::Help(_)) => String::from_str(alloc, "help"),
+        Err(LineFault::Version) => String::from_str(alloc, "version"),
     }
 }
 
@@ -159,6 +163,15 @@ fn help(alloc: Global, words: &[&str]) -> Result<String, AllocError> {
         Ok(_) => Ok(String::from_utf8(shown).unwrap_or(String::new(alloc))),
         Err(_) => Ok(String::new(alloc)),
     }
+}
+
+#[test]
+fn the_version_is_one_line(rt: HostRuntime) -> Result<(), Fail> {
+    for words in [["mcv", "--version"], ["mcv", "-V"]] {
+        let text = help(rt.alloc(), &words)?;
+        assert!(rt; text.as_str() == "mcv 1\n", "{text}");
+    }
+    Ok(())
 }
 
 #[test]
