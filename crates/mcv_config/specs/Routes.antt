@@ -7,8 +7,8 @@ use Rattle.serde_json.specs.Find.{get, as_str, as_array, as_object}
 use Rattle.mcv_pools.specs.declared.symbol.HashFunc.TheVariants.{Ch3}
 use Rattle.mcv_names.specs.declared.fault.FaultKind.{FaultKind}
 use Rattle.mcv_names.specs.declared.fault.FaultKind.TheVariants.{WrongKind, Limit, LeftOut}
-use Rattle.mcv_names.specs.declared.fault.ConfigFault.{ConfigFault}
-use Rattle.mcv_names.specs.declared.fault.ConfigFault.TheVariants.{Memory}
+use Rattle.mcv_names.specs.declared.fault.ReadFault.{ReadFault}
+use Rattle.mcv_names.specs.declared.fault.ReadFault.TheVariants.{Memory}
 use Rattle.mcv_config.specs.declared.config.NamedRoute.{NamedRoute}
 use Rattle.mcv_names.specs.declared.handle.Many.{Many}
 use Rattle.mcv_names.specs.declared.handle.Many.TheVariants as many_handles
@@ -209,6 +209,6 @@ route zero w path d = refused Limit path
 route (suc depth) w path d = in_room w.room path (handle_of depth (route depth) (taken 1 w) path d (as_str d) (as_object d))
 
 -- the child alone, or memory ran out
-abbrev pub IsOnly : NamedRoute → Result (Vec NamedRoute Global) ConfigFault → Type 0
+abbrev pub IsOnly : NamedRoute → Result (Vec NamedRoute Global) ReadFault → Type 0
 IsOnly child (Ok v) = v.items ≡ child ∷ []
 IsOnly child (Err e) = e ≡ Memory

@@ -3,7 +3,7 @@
 //! A row is what becomes of a text and the text: the first route's handle with the number of its children, policies or
 //! shadows, or the number and path of a fault. In the tables `'` means a double quote and `^` a LF.
 
-use mcv_config::{NamedRoute, Pool, read_config};
+use mcv_config::{NamedRoute, Pool, ReadFault, read_config};
 use std::alloc::{AllocError, Global};
 use std::process::Abort;
 use std::test::Fail;
@@ -48,11 +48,12 @@ fn outcome(alloc: Global, text: &str) -> Result<String, Fail> {
             let (name, count) = head(&entry.route);
             Ok(format!(in alloc; "{name} {count}")?)
         }
-        Err(fault) => {
+        Err(ReadFault::Config(fault)) => {
             let number = fault.number();
             let path = fault.path();
             Ok(format!(in alloc; "{number} at {path}")?)
         }
+        Err(ReadFault::Memory) => Ok(String::from_str(alloc, "out of memory")?),
     }
 }
 

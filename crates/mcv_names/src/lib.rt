@@ -1,7 +1,7 @@
 //! What a reader of configurations speaks of: the names of handles, keys and operations, the path of each value, and the
 //! faults there.
 //!
-//! A function that reads a value answers what the value names or a `ConfigFault`; its contract ties the answer to a
+//! A function that reads a value answers what the value names or a `ReadFault`; its contract ties the answer to a
 //! definition that gives what is named or all faults there (`Read` in specs/Fault.antt).
 #![tactic(auto)]
 
@@ -11,7 +11,7 @@ mod items;
 mod names;
 mod trail;
 
-pub use fault::{ConfigFault, FaultKind};
+pub use fault::{ConfigFault, FaultKind, ReadFault};
 pub use handle::{Handle, Many, Object, Selector};
 pub use items::{items_or_none, some_items};
 pub use names::{

@@ -1,4 +1,4 @@
-use mcv_names::{ConfigFault, FaultKind, Trail, fault_at};
+use mcv_names::{FaultKind, ReadFault, Trail, fault_at};
 use std::test::Fail;
 
 #[test]
@@ -19,9 +19,10 @@ fn a_fault_has_its_number_and_path(rt: HostRuntime) -> Result<(), Fail> {
         FaultKind::LeftOut,
         &Trail::Key(&Trail::Root, "macros"),
     );
+    let ReadFault::Config(fault) = fault else {
+        return Ok(assert!(rt; false, "out of memory"));
+    };
     assert_eq!(rt; fault.number(), 10);
     assert_eq!(rt; fault.path(), "/macros");
-    assert_eq!(rt; ConfigFault::Memory.number(), 11);
-    assert_eq!(rt; ConfigFault::Memory.path(), "");
     Ok(())
 }
