@@ -10,10 +10,10 @@ use Rattle.memchr.specs.Find.{IsFirstByte, is_byte}
 use Rattle.mcv_base.specs.Key.{lacks}
 use Rattle.mcv_base.proofs.Cuts.{first_at_cut, none_at_cut}
 use Rattle.mcv_cert.specs.Pair.{AreRising, IsPair, PairValue, is_behind}
-use Rattle.mcv_cert.specs.Reading.{IsNoLine, Reading, Reads, Stops, broken, too_long, unordered}
-use Rattle.mcv_cert.specs.Fault.{IsFaultOfText}
+use Rattle.mcv_cert.specs.Reading.{IsNoLine, Reading, Reads, Stops}
+use Rattle.mcv_cert.specs.Fault.{IsFaultOfText, reading_of}
 use Rattle.mcv_cert.specs.declared.fault.CertFault.{CertFault}
-use Rattle.mcv_cert.specs.declared.fault.CertFault.TheVariants.{Syntax, Order, Limit, Memory}
+use Rattle.mcv_cert.specs.declared.fault.CertFault.TheVariants.{Text, Memory}
 use Rattle.mcv_cert.specs.Text.{pair_line, pair_text}
 use Rattle.mcv_cert.proofs.Clean.{text_lacks}
 use Rattle.mcv_cert.proofs.Rising.{rising_push}
@@ -70,13 +70,9 @@ pub high_is : (a b r : Bool) → r ≡ (a && b) → r ≡ true → b ≡ true
 high_is a b r is all = (and_parts a b (sym is ∙ all)).1
 
 pub fault_of_reading : (f : CertFault) (x : Reading) (P : Reading → Type 0) → IsFaultOfText (λ s. x ≡ s) f → P x → IsFaultOfText P f
-fault_of_reading (Syntax n) x P e p = subst P e p
-fault_of_reading (Order n) x P e p = subst P e p
-fault_of_reading Limit x P e p = subst P e p
+fault_of_reading (Text fault) x P e p = subst P e p
 fault_of_reading Memory x P e p = tt
 
 pub fault_weaker : (f : CertFault) (P Q : Reading → Type 0) → ((r : Reading) → P r → Q r) → IsFaultOfText P f → IsFaultOfText Q f
-fault_weaker (Syntax n) P Q more p = more (broken n) p
-fault_weaker (Order n) P Q more p = more (unordered n) p
-fault_weaker Limit P Q more p = more too_long p
+fault_weaker (Text fault) P Q more p = more (reading_of fault) p
 fault_weaker Memory P Q more p = tt

@@ -17,7 +17,7 @@ mod write;
 
 pub use certificate::Certificate;
 pub use escape::push_escaped;
-pub use fault::CertFault;
+pub use fault::{CertFault, CertTextFault};
 pub use laws::{one_answer, text_is_read};
 pub use pair::{Pair, Reason};
 pub use read::read_certificate;

@@ -8,7 +8,7 @@ ghost use Rattle.mcv_cert.specs.Reading.{Reads, Says, at_end, pairs};
 ghost use Rattle.mcv_cert.specs.Text.{pair_text};
 
 use crate::certificate::Certificate;
-use crate::fault::CertFault;
+use crate::fault::{CertFault, CertTextFault};
 use crate::pair::Pair;
 use crate::parse::parse;
 use crate::write::push_pair;
@@ -41,10 +41,10 @@ pub fn read_certificate(alloc: Global, text: &[u8]) -> Result<Certificate, CertF
     ensures faulty { IfErr result (λ fault. IsFaultOfText (Says text.now) fault) }
 {
     if text.len() > TEXT_LIMIT {
-        return Err(CertFault::Limit);
+        return Err(CertFault::Text(CertTextFault::Limit));
     }
     let Some(body) = text.strip_prefix(b"mcv-cert 1\n") else {
-        return Err(CertFault::Syntax(1));
+        return Err(CertFault::Text(CertTextFault::Syntax(1)));
     };
     let mut certificate = Certificate::new(alloc);
     read_body(alloc, body, &mut certificate)?;
@@ -66,13 +66,15 @@ fn read_body(alloc: Global, body: &[u8], certificate: &mut Certificate) -> Resul
         match read_front(alloc, rest, &mut buffers)? {
             Front::Line(pair, later) => {
                 if !certificate.takes(&pair) {
-                    return Err(CertFault::Order(certificate.len() + 2));
+                    return Err(CertFault::Text(CertTextFault::Order(certificate.len() + 2)));
                 }
                 certificate.push(pair)?;
                 rest = later;
             }
             Front::Last(later) => return ended(certificate, later),
-            Front::Nothing => return Err(CertFault::Syntax(certificate.len() + 2)),
+            Front::Nothing => return Err(CertFault::Text(CertTextFault::Syntax(
+                certificate.len() + 2,
+            ))),
         }
     }
 }
@@ -84,7 +86,7 @@ fn ended(certificate: &Certificate, behind: &[u8]) -> Result<(), CertFault>
     if behind.is_empty() {
         Ok(())
     } else {
-        Err(CertFault::Syntax(certificate.len() + 3))
+        Err(CertFault::Text(CertTextFault::Syntax(certificate.len() + 3)))
     }
 }
 

@@ -1,7 +1,7 @@
 //! Texts that are read, and texts at fault. In the tables `^` is a LF and `~` a CR.
 
 use mcv_base::Position;
-use mcv_cert::{Certificate, Pair, Reason, read_certificate};
+use mcv_cert::{CertFault, Certificate, Pair, Reason, read_certificate};
 use std::alloc::{AllocError, Global};
 use std::test::Fail;
 
@@ -78,7 +78,8 @@ fn the_first_line_at_fault_is_reported(rt: HostRuntime) -> Result<(), Fail> {
         let text = unfolded(alloc, text)?;
         match read_certificate(alloc, text.as_slice()) {
             Ok(_) => assert!(rt; false, "{row}"),
-            Err(fault) => {
+            Err(CertFault::Memory) => assert!(rt; false, "out of memory"),
+            Err(CertFault::Text(fault)) => {
                 let number = fault.number();
                 let line = fault.line();
                 let reported = format!(in alloc; "{number} {line}")?;
