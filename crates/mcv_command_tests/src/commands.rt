@@ -3,8 +3,8 @@
 ghost use Rattle.std.specs.Prelude.{None, ⊤};
 
 use mcv_check::Accepted;
-use mcv_command::{Job, LineFault, NamedFiles, Proxy, ServeFault, read_words, run_words};
-use mcv_input::{InputFault, read_at_most};
+use mcv_command::{Job, LineFault, NamedFiles, Proxy, read_words, run_words};
+use mcv_input::{RunFault, read_at_most};
 use std::alloc::{AllocError, Global};
 use std::io::Write;
 use std::sync::Arc;
@@ -110,9 +110,9 @@ struct OneFile<'a> {
 impl<'a> NamedFiles for OneFile<'a> {
     ghost held = { λ _ _. None };
 
-    fn read_named(&self, alloc: Global, name: &str, limit: u64) -> Result<Vec<u8>, InputFault> {
+    fn read_named(&self, alloc: Global, name: &str, limit: u64) -> Result<Vec<u8>, RunFault> {
         if name != "a.cert" {
-            return Err(InputFault::Device);
+            return Err(RunFault::Device);
         }
         let mut held = self.held;
         read_at_most(alloc, &mut held, limit)
@@ -134,17 +134,17 @@ impl Proxy for Listed {
         spool: &str,
         sessions: u64,
         out: &mut W,
-    ) -> Result<(), ServeFault> {
+    ) -> Result<(), RunFault> {
         if listen == "full:1" {
-            return Err(ServeFault::Memory);
+            return Err(RunFault::Memory);
         }
         let servers = accepted.routes().servers().len();
         let Ok(line) = format!(in alloc; "{listen} {spool} {sessions} of {servers}\n") else {
-            return Err(ServeFault::Memory);
+            return Err(RunFault::Memory);
         };
         match out.write_all(line.as_bytes()) {
             Ok(()) if listen != "busy:1" => Ok(()),
-            _ => Err(ServeFault::Device),
+            _ => Err(RunFault::Device),
         }
     }
 }

@@ -2,7 +2,8 @@
 
 use crate::devices::{Broken, joined};
 use mcv_base::Moment;
-use mcv_legs::{RunFault, requests_have_one_reading, run_legs};
+use mcv_input::RunFault;
+use mcv_legs::{requests_have_one_reading, run_legs};
 use std::alloc::Global;
 use std::io;
 use std::io::Read;

@@ -9,10 +9,12 @@ use Rattle.mcv_route.specs.Eras.{breaks_of, since_at}
 use Rattle.mcv_route.specs.Routes.{RouteEntry, RoutesValue}
 use Rattle.mcv_route.specs.Tree.{Tree}
 use Rattle.mcv_rules.specs.Called.{Called, situation_of}
-use Rattle.mcv_input.specs.declared.fault.InputFault.{InputFault}
-use Rattle.mcv_input.specs.declared.fault.InputFault.TheVariants.{Config, Memory, Device}
-use Rattle.mcv_input.specs.Fault as inputs
-use Rattle.mcv_legs.specs.Fault.{IsRunFault, of_input}
+use Rattle.mcv_names.specs.declared.fault.ReadFault.{ReadFault}
+use Rattle.mcv_names.specs.declared.fault.ReadFault.TheVariants.{Config, Memory}
+use Rattle.mcv_names.specs.Fault.{Refuses}
+use Rattle.mcv_config.specs.Config.{Faulty}
+use Rattle.mcv_input.specs.Fault.{of_reading}
+use Rattle.mcv_legs.specs.Fault.{IsRunFault}
 use Rattle.mcv_legs.specs.Answer.{shipped_choice, situation_at, text_of}
 use Rattle.mcv_legs.specs.Request.{Asks}
 
@@ -42,10 +44,9 @@ text_is_answer text servers call routes entry moment op rest tree since choice s
     call_is ∙ ap (λ t. of t since choice) tree_is ∙ ap (λ s. of entry.tree s choice) since_is ∙ ap (of entry.tree (since_at (breaks_of routes) moment)) chosen in
     text_is ∙ ap (λ s. text_of s call.tree (situation_of call) (slice_index call.choice)) servers_is ∙ ap (text_for routes) same
 
--- ---- an input's fault, as one of a run
+-- ---- a configuration's fault, as one of a run
 
-pub refused_so : (text : List ℕ) (op : Op) (prefix rest configuration : List ℕ) → Asks text op prefix rest configuration → (fault : InputFault) → inputs.IsRefusal configuration fault
-    → IsRunFault text (of_input fault)
+pub refused_so : (text : List ℕ) (op : Op) (prefix rest configuration : List ℕ) → Asks text op prefix rest configuration → (fault : ReadFault) → Refuses fault (Faulty configuration)
+    → IsRunFault text (of_reading fault)
 refused_so text op prefix rest configuration asks (Config fault) is = record { op = op; prefix = prefix; rest = rest; configuration = configuration; asks = asks; faulty = is }
 refused_so text op prefix rest configuration asks Memory is = tt
-refused_so text op prefix rest configuration asks Device is = tt

@@ -5,11 +5,9 @@
 //! is in `specs/Verdict.antt`; which fault is in what was read, in `specs/Fault.antt`.
 #![tactic(auto)]
 
-mod fault;
 mod run;
 mod text;
 mod verdict;
 
-pub use fault::RunFault;
 pub use run::{judge_input, run_check};
 pub use verdict::{Judgement, Verdict};

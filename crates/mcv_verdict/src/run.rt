@@ -9,17 +9,16 @@ ghost use Rattle.mcv_make.specs.First.{IsFirstFinding};
 ghost use Rattle.mcv_make.specs.Shown.{IsShown};
 ghost use Rattle.mcv_route.specs.Routes.{RoutesValue};
 ghost use Rattle.mcv_symbolic.specs.Covered.{AreCovered};
-ghost use Rattle.mcv_verdict.specs.Fault.{IsRefusedBy, IsRefusedFor, IsRunFault};
+ghost use Rattle.mcv_verdict.specs.Fault.{IsRefusedBy, IsRefusedFor, IsRunFault, of_check};
 ghost use Rattle.mcv_verdict.specs.Text.{covered_line};
 ghost use Rattle.mcv_verdict.specs.Verdict.{IsJudgement, IsVerdict, IsVerdictBy, IsVerdictFor, IsVerdictOn};
 ghost use Rattle.mcv_witness.specs.Finding.{finding_of};
 
-use crate::fault::RunFault;
 use crate::text::covered_line;
 use crate::verdict::{Judgement, Verdict};
 use mcv_cert::{Certificate, read_certificate};
-use mcv_check::{Accepted, check};
-use mcv_input::{read_configuration, write_text};
+use mcv_check::{Accepted, CheckFault, check};
+use mcv_input::{RunFault, read_configuration, write_text};
 use mcv_make::{MakeFault, make};
 use mcv_route::Routes;
 use mcv_witness::{Finding, finding_text};
@@ -85,6 +84,16 @@ fn verdict_on(alloc: Global, routes: Routes) -> Result<Output, RunFault>
     }
 }
 
+/// What the checker's fault is to a run.
+fn refused(fault: CheckFault) -> RunFault
+    ensures { result ≡ of_check fault }
+{
+    match fault {
+        CheckFault::Pair(fault) => RunFault::Certificate(fault),
+        CheckFault::Memory => RunFault::Memory,
+    }
+}
+
 /// What is found of routes. Who made the certificate isn't trusted: it is checked like any other.
 fn judge_routes(alloc: Global, routes: Routes) -> Result<Judgement, RunFault>
     ensures judged { IfOk result (IsJudgement routes) }
@@ -92,7 +101,10 @@ fn judge_routes(alloc: Global, routes: Routes) -> Result<Judgement, RunFault>
 {
     match make(alloc, &routes) {
         Ok(certificate) => {
-            let accepted = check(alloc, routes, &certificate)?;
+            let accepted = match check(alloc, routes, &certificate) {
+                Ok(accepted) => accepted,
+                Err(fault) => return Err(refused(fault)),
+            };
             // The routes are covered, and the pairs are those of a certificate.
             let _ = accepted.routes();
             let _ = certificate.pairs();
@@ -122,8 +134,10 @@ fn verdict_by(alloc: Global, routes: Routes, text: &[u8]) -> Result<Output, RunF
     ensures fault { IfErr result (λ fault. IsRefusedBy routes text.now fault) }
 {
     let certificate = read_certificate(alloc, text)?;
-    let accepted = check(alloc, routes, &certificate)?;
-    Ok(covered(alloc, &accepted, &certificate)?)
+    match check(alloc, routes, &certificate) {
+        Ok(accepted) => Ok(covered(alloc, &accepted, &certificate)?),
+        Err(fault) => Err(refused(fault)),
+    }
 }
 
 /// That a certificate covers routes. Only what the checker accepted is said to be covered.

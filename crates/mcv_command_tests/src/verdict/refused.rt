@@ -2,7 +2,8 @@
 
 use super::verdicts::{by_operation, shown};
 use crate::devices::Broken;
-use mcv_verdict::{RunFault, Verdict, run_check};
+use mcv_input::RunFault;
+use mcv_verdict::{Verdict, run_check};
 use std::alloc::Global;
 use std::test::Fail;
 

@@ -3,7 +3,7 @@ use Rattle.std.proofs.lemmas.Result.{IfErr-weaker, IfOk-weaker, err_from_is_err_
 use Rattle.clap.specs.Words.{Text}
 use Rattle.mcv_command.specs.Program.{IsStop}
 use Rattle.mcv_command.specs.declared.stop.Stop.{Stop}
-use Rattle.mcv_command.proofs.Finished.{judging_stop, legs_stop, running_stop}
+use Rattle.mcv_command.proofs.Finished.{judging_stop, running_stop}
 use Rattle.mcv_command.proofs.program.run_words.Goals as goal
 
 pub returns-in_err-run_legs-in-Ok-Legs-clause-stop : goal.returns-in_err-run_legs-in-Ok-Legs-clause-stop
@@ -14,7 +14,7 @@ returns-in_err-run_legs-in-Ok-Legs-clause-stop g c =
     let gone = err_from_is_err_and c.from_residual.result c.from_residual.ensures.1 in
     rw (gone.1)
     (subst (λ (stop : Stop). IsStop words held (g.R.Read.remaining c.args.reader.now) stop) (sym gone.2)
-    (legs_stop words held (g.R.Read.remaining c.args.reader.now) c.in-Ok-Legs.at c.in_err-run_legs-in-Ok-Legs.field-0.0 asks c.in_err-run_legs-in-Ok-Legs.ensures.fault))
+    (inr (inl (c.in-Ok-Legs.at, asks, c.in_err-run_legs-in-Ok-Legs.ensures.fault))))
 
 pub returns-in-Ok-Check-None-clause-done : goal.returns-in-Ok-Check-None-clause-done
 returns-in-Ok-Check-None-clause-done g c =

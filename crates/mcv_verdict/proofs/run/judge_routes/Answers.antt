@@ -5,14 +5,12 @@ use Rattle.mcv_route.specs.Routes.{RoutesValue}
 use Rattle.mcv_verdict.specs.Fault.{of_check}
 use Rattle.mcv_verdict.proofs.run.judge_routes.Goals as goal
 
-pub returns-in_err-accepted-in-Ok-clause-fault : goal.returns-in_err-accepted-in-Ok-clause-fault
-returns-in_err-accepted-in-Ok-clause-fault c =
-    let gone = err_from_is_err_and c.from_residual.result c.from_residual.ensures.1 in
-    rw (gone.1) (gone.2 ∙ ap of_check (c.in_err-accepted-in-Ok.ensures.justified c.in-Ok.ensures.justified))
+pub returns-in-Ok-in-Err-clause-fault : goal.returns-in-Ok-in-Err-clause-fault
+returns-in-Ok-in-Err-clause-fault c = c.refused-in-Ok.ensures ∙ ap of_check (c.in-Ok-in-Err.ensures.justified c.in-Ok.ensures.justified)
 
 pub returns-in_err-lost-in-Err-Lost-clause-fault : goal.returns-in_err-lost-in-Err-Lost-clause-fault
 returns-in_err-lost-in-Err-Lost-clause-fault c =
-    let gone = err_from_is_err_and c.from_residual-in_err-lost-in-Err-Lost.result c.from_residual-in_err-lost-in-Err-Lost.ensures.1 in
+    let gone = err_from_is_err_and c.from_residual.result c.from_residual.ensures.1 in
     rw (gone.1) (gone.2)
 
 pub returns-in-Ok-clause-judged : goal.returns-in-Ok-clause-judged
