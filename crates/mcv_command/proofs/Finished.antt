@@ -1,11 +1,12 @@
 -- What the program did, by what the words asked for.
-use Rattle.std.proofs.Common.{◌≡◌, ◌∙◌, inl, inr, ◌+◌, ◌<◌, ◌≤◌, ℕ, List, length, take, Option, None, Some, subst, sym, arith}
+use Rattle.std.proofs.Common.{◌≡◌, ◌≢◌, ◌∙◌, ap, inl, inr, ◌+◌, ◌<◌, ◌≤◌, ℕ, List, length, take, Option, None, Some, subst, sym, arith}
 use Rattle.std.specs.Prelude.{IfSome, MatchOption}
 use Rattle.std.proofs.lemmas.List.{length-take}
 use Rattle.std.proofs.lemmas.Option.{IfSome_then}
 use Rattle.clap.specs.Words.{Text}
 use Rattle.mcv_cert.specs.Reading.{Reading, Says, headless, over, reads, text_limit}
 use Rattle.mcv_input.proofs.Whole.{whole}
+use Rattle.mcv_input.specs.Fault.{IsOutside}
 use Rattle.mcv_input.specs.declared.fault.RunFault.{RunFault}
 use Rattle.mcv_input.specs.declared.fault.RunFault.TheVariants.{Line, NoRoute, Config, CertificateText, Certificate, Memory, Device}
 use Rattle.mcv_verdict.specs.Fault as check
@@ -27,6 +28,11 @@ judging_stop words held input cert (Run fault) asks holds = inr (inr (inl (cert,
 pub running_stop : (words : List Text) (held : Held) (input : Option Text) (stop : Stop) → AsksAnyRun words → IsJudgingFault held None input stop → IsStop words held input stop
 running_stop words held input BadLine asks holds = absurd holds
 running_stop words held input (Run fault) asks holds = inr (inr (inr (asks, holds)))
+
+-- a fault that is outside is out of memory or a device's
+pub outside_stop : (stop : Stop) (fault : RunFault) → stop ≡ Run fault → IsOutside fault → stop ≢ Run Device → stop ≢ Run Memory → ⊥
+outside_stop stop fault is (inl memory) no_device no_memory = no_memory (is ∙ ap Run memory)
+outside_stop stop fault is (inr device) no_device no_memory = no_device (is ∙ ap Run device)
 
 -- ---- a certificate's text by its first bytes
 

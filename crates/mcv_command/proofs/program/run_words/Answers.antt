@@ -1,8 +1,9 @@
-use Rattle.std.proofs.Common.{List, None, inl, inr, map, sym, subst}
+use Rattle.std.proofs.Common.{◌∙◌, List, None, ap, inl, inr, map, refl, sym, subst}
 use Rattle.std.proofs.lemmas.Result.{IfErr-weaker, IfOk-weaker, err_from_is_err_and}
 use Rattle.clap.specs.Words.{Text}
 use Rattle.mcv_command.specs.Program.{IsStop}
 use Rattle.mcv_command.specs.declared.stop.Stop.{Stop}
+use Rattle.mcv_command.specs.declared.stop.Stop.TheVariants.{Run}
 use Rattle.mcv_command.proofs.Finished.{judging_stop, running_stop}
 use Rattle.mcv_command.proofs.program.run_words.Goals as goal
 
@@ -15,6 +16,30 @@ returns-in_err-run_legs-in-Ok-Legs-clause-stop g c =
     rw (gone.1)
     (subst (λ (stop : Stop). IsStop words held (g.R.Read.remaining c.args.reader.now) stop) (sym gone.2)
     (inr (inl (c.in-Ok-Legs.at, asks, c.in_err-run_legs-in-Ok-Legs.ensures.fault))))
+
+pub returns-in_err-run_legs-in-Ok-Legs-clause-silent : goal.returns-in_err-run_legs-in-Ok-Legs-clause-silent
+returns-in_err-run_legs-in-Ok-Legs-clause-silent g c =
+    let gone = err_from_is_err_and c.from_residual.result c.from_residual.ensures.1 in
+    rw (gone.1) (λ no_device unasked. c.in_err-run_legs-in-Ok-Legs.ensures.silent (λ device. no_device (gone.2 ∙ ap Run device)))
+
+pub returns-in_err-write_text-in-Err-Help-clause-stop : goal.returns-in_err-write_text-in-Err-Help-clause-stop
+returns-in_err-write_text-in-Err-Help-clause-stop g c =
+    let words : List Text = map (λ w. w.now) c.args.words.now in
+    let held = g.F.NamedFiles.held c.args.files.now in
+    let gone = err_from_is_err_and c.from_residual-in_err-write_text-in-Err-Help.result c.from_residual-in_err-write_text-in-Err-Help.ensures.1 in
+    rw (gone.1)
+    (subst (λ (stop : Stop). IsStop words held (g.R.Read.remaining c.args.reader.now) stop) (sym gone.2) (inl (inr c.in_err-write_text-in-Err-Help.ensures.fault)))
+
+pub returns-in_err-write_text-in-Err-Version-clause-stop : goal.returns-in_err-write_text-in-Err-Version-clause-stop
+returns-in_err-write_text-in-Err-Version-clause-stop g c =
+    let words : List Text = map (λ w. w.now) c.args.words.now in
+    let held = g.F.NamedFiles.held c.args.files.now in
+    let gone = err_from_is_err_and c.from_residual-in_err-write_text-in-Err-Version.result c.from_residual-in_err-write_text-in-Err-Version.ensures.1 in
+    rw (gone.1)
+    (subst (λ (stop : Stop). IsStop words held (g.R.Read.remaining c.args.reader.now) stop) (sym gone.2) (inl (inr c.in_err-write_text-in-Err-Version.ensures.fault)))
+
+pub returns-in-Err-Memory-clause-stop : goal.returns-in-Err-Memory-clause-stop
+returns-in-Err-Memory-clause-stop g c = inl (inl refl)
 
 pub returns-in-Ok-Check-None-clause-done : goal.returns-in-Ok-Check-None-clause-done
 returns-in-Ok-Check-None-clause-done g c =

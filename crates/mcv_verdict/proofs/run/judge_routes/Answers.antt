@@ -5,8 +5,8 @@ use Rattle.mcv_route.specs.Routes.{RoutesValue}
 use Rattle.mcv_verdict.specs.Fault.{of_check}
 use Rattle.mcv_verdict.proofs.run.judge_routes.Goals as goal
 
-pub returns-in-Err-in-Ok-clause-fault : goal.returns-in-Err-in-Ok-clause-fault
-returns-in-Err-in-Ok-clause-fault c = c.refused.ensures ∙ ap of_check (c.in-Err-in-Ok.ensures.justified c.in-Ok.ensures.justified)
+pub returns-in-Err-check-clause-fault : goal.returns-in-Err-check-clause-fault
+returns-in-Err-check-clause-fault c = c.refused.ensures ∙ ap of_check (c.in-Err-check.ensures.justified c.in-Ok.ensures.justified)
 
 pub returns-in_err-lost-in-Err-Lost-clause-fault : goal.returns-in_err-lost-in-Err-Lost-clause-fault
 returns-in_err-lost-in-Err-Lost-clause-fault c =
@@ -15,7 +15,7 @@ returns-in_err-lost-in-Err-Lost-clause-fault c =
 
 pub returns-in-Ok-clause-judged : goal.returns-in-Ok-clause-judged
 returns-in-Ok-clause-judged c =
-    let same = c.in-Ok-in-Ok.ensures.accepted.0 in (
+    let same = c.in-Ok-check.ensures.accepted.0 in (
       same,
       record {
         covered = subst (λ (r : RoutesValue). AreCovered r) same c.routes-in-Ok.ensures.covered;
