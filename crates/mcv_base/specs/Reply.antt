@@ -110,3 +110,16 @@ abbrev pub is_good : Outcome → Bool
 is_good Good = true
 is_good Soft = false
 is_good Error = false
+
+-- Error is worse than Soft, and Soft than Good
+abbrev pub badness : Outcome → ℕ
+badness Good = 0
+badness Soft = 1
+badness Error = 2
+
+abbrev pub worse : Outcome → Outcome → Outcome
+worse Good y = y
+worse Soft Good = Soft
+worse Soft Soft = Soft
+worse Soft Error = Error
+worse Error y = Error

@@ -100,11 +100,7 @@ fn send_all(
 fn worse(first: Option<Outcome>, second: Option<Outcome>) -> Option<Outcome>
     ensures { result ≡ both first second }
 {
-    match (first?, second?) {
-        (Outcome::Error, _) | (_, Outcome::Error) => Some(Outcome::Error),
-        (Outcome::Soft, _) | (_, Outcome::Soft) => Some(Outcome::Soft),
-        (Outcome::Good, Outcome::Good) => Some(Outcome::Good),
-    }
+    Some(first?.worse(second?))
 }
 
 /// The legs of all, and the first one's reply.

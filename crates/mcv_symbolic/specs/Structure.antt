@@ -1,9 +1,10 @@
 -- How the sets of a plan are found by its structure, one combination at a time. They are the sets that specs/Sets.antt defines (own).
 use Rattle.std.specs.Prelude.{◌≡◌, ◌⊎◌, Some, None}
+use Rattle.mcv_base.specs.Reply.{worse}
 use Rattle.mcv_base.specs.declared.reply.Outcome.{Outcome}
 use Rattle.mcv_base.specs.declared.reply.Outcome.TheVariants.{Good, Soft, Error}
 use Rattle.mcv_route.specs.Outcomes.{Outcomes}
-use Rattle.mcv_rules.specs.Plan.{Leg, Plan, Send, Reply, Both, Beside, OnError, OnMiss, OnHit, Shadowed, worse, reply, IsMissed}
+use Rattle.mcv_rules.specs.Plan.{Leg, Plan, Send, Reply, Both, Beside, OnError, OnMiss, OnHit, Shadowed, reply, IsMissed}
 
 -- no outcome is known
 abbrev pub nothing : Outcomes

@@ -9,7 +9,6 @@ ghost use Rattle.mcv_symbolic.specs.Shown.{answers, first_hit, history_of, leaf_
 ghost use Rattle.mcv_symbolic.specs.Structure.{if_all};
 ghost use Rattle.mcv_symbolic.specs.Tried.{IsAdded, IsLead, IsTried, goes_on_after, is_hit, passed_on};
 
-use crate::sets::worse;
 use mcv_base::{Outcome, Position};
 use mcv_rules::{After, Plan, PlannedLeg};
 use std::alloc::AllocError;
@@ -64,7 +63,7 @@ fn push_answers_of_all<'a>(
     let mut reply = push_answers(first, answer, legs)?;
     for child in others {
         let next = push_answers(child, answer, legs)?;
-        reply = worse(reply, next);
+        reply = reply.worse(next);
     }
     Ok(reply)
 }

@@ -6,9 +6,9 @@ use Rattle.std.proofs.lemmas.Bool.{false≢true}
 use Rattle.mcv_base.specs.declared.reply.Outcome.{Outcome}
 use Rattle.mcv_base.specs.declared.reply.Outcome.TheVariants.{Good, Soft, Error}
 use Rattle.mcv_base.specs.Operation.{is_counting}
-use Rattle.mcv_base.specs.Reply.{is_good, is_missed}
+use Rattle.mcv_base.specs.Reply.{is_good, is_missed, badness}
 use Rattle.mcv_route.specs.Outcomes.{History, is_same}
-use Rattle.mcv_route.specs.Replies.{Answer, Source, badness, fixed, leg, or_after_error, or_after_miss, refusal, the_worse}
+use Rattle.mcv_route.specs.Replies.{Answer, Source, fixed, leg, or_after_error, or_after_miss, refusal, the_worse}
 use Rattle.mcv_route.specs.declared.launch.Launch.{Launch}
 use Rattle.mcv_rules.proofs.Orders.{same_is}
 use Rattle.mcv_witness.specs.Walk.{finish, goes_on, joined_reply, worse_reply}

@@ -2,7 +2,6 @@
 
 ghost use Rattle.std.specs.Prelude.{◌≡◌};
 ghost use Rattle.mcv_base.specs.Reply.{is_error, is_good, is_missed};
-ghost use Rattle.mcv_route.specs.Replies.{badness};
 ghost use Rattle.mcv_witness.specs.Walk.{at_once, goes_on, joined_reply, joined_seen, reply_passes, worse_reply};
 
 use mcv_base::Outcome;
@@ -92,7 +91,7 @@ pub fn is_good(reply: Option<SeenReply>) -> bool
 {
     match reply {
         None => false,
-        Some(seen) => matches!(seen.outcome, Outcome::Good),
+        Some(seen) => seen.outcome.is_good(),
     }
 }
 
@@ -110,18 +109,7 @@ fn is_missed(reply: Option<SeenReply>) -> bool
 {
     match reply {
         None => false,
-        Some(seen) => !matches!(seen.outcome, Outcome::Good),
-    }
-}
-
-/// How bad an outcome is.
-fn badness(outcome: Outcome) -> u8
-    ensures { result ≡ badness outcome }
-{
-    match outcome {
-        Outcome::Good => 0,
-        Outcome::Soft => 1,
-        Outcome::Error => 2,
+        Some(seen) => !seen.outcome.is_good(),
     }
 }
 
@@ -130,10 +118,10 @@ fn worse(first: Option<SeenReply>, second: Option<SeenReply>) -> Option<SeenRepl
     ensures { result ≡ worse_reply first second }
 {
     let (first, second) = (first?, second?);
-    if badness(first.outcome) < badness(second.outcome) {
+    if first.outcome.badness() < second.outcome.badness() {
         return Some(second);
     }
-    if badness(second.outcome) < badness(first.outcome) {
+    if second.outcome.badness() < first.outcome.badness() {
         return Some(first);
     }
     Some(SeenReply {

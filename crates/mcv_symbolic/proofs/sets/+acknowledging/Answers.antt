@@ -1,8 +1,9 @@
 use Rattle.std.proofs.Common.{◌≡◌, ◌++◌, ◌∷◌, ◌∙◌, ap, ap₂, Bor, false, List, map, refl, rules, sym, true}
+use Rattle.mcv_base.specs.Reply.{worse}
 use Rattle.mcv_base.specs.declared.reply.Outcome.TheVariants.{Good}
 use Rattle.mcv_rules.specs.Arrivals.{goes_on}
 use Rattle.mcv_rules.specs.Plan as whole
-use Rattle.mcv_rules.specs.Plan.{Leg, Plan, worse}
+use Rattle.mcv_rules.specs.Plan.{Leg, Plan}
 use Rattle.mcv_rules.specs.Whole.{alone, beside, in_turn, leg_of, part_of, whole_of}
 use Rattle.mcv_rules.specs.declared.arrival.After.TheVariants as after
 use Rattle.mcv_rules.specs.declared.plan.PlannedLeg.{PlannedLeg}
