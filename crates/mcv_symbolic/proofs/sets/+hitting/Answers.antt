@@ -1,4 +1,4 @@
-use Rattle.std.proofs.Common.{◌≡◌, ◌++◌, ◌<◌, ◌∷◌, ◌∙◌, ap, ap₂, arith, Bor, false, length, List, map, refl, rules, sym, true}
+use Rattle.std.proofs.Common.{◌≡◌, ◌++◌, ◌∷◌, ◌∙◌, ap, ap₂, arith, Bor, false, length, List, map, refl, rules, sym, true}
 use Rattle.std.proofs.lemmas.List.{length-map, take-map}
 use Rattle.mcv_base.specs.Reply.{worse}
 use Rattle.mcv_base.specs.declared.reply.Outcome.TheVariants.{Error}
