@@ -57,7 +57,11 @@ pub fn run_check<R: Read, W: Write>(
 }
 
 /// The verdict on routes, by the certificate whose text is given, or else by one made here.
-fn verdict_for(alloc: Global, routes: Routes, certificate: Option<&[u8]>) -> Result<Output, RunFault>
+fn verdict_for(
+    alloc: Global,
+    routes: Routes,
+    certificate: Option<&[u8]>,
+) -> Result<Output, RunFault>
     ensures output { IfOk result (λ output. IsVerdictFor routes (option_map (λ given. given.now) certificate.entry) output.verdict output.text.items) }
     ensures fault { IfErr result (λ fault. IsRefusedFor routes (option_map (λ given. given.now) certificate.entry) fault) }
 {

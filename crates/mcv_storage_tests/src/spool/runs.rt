@@ -1,6 +1,6 @@
 //! What no clause says: the bytes of the worked rows, and runs that fail or stop at each of their calls.
 
-use super::disk::{Left, Borrowed, TestDisk, Trouble};
+use super::disk::{Borrowed, Left, TestDisk, Trouble};
 use mcv_base::{Rest, ServerText};
 use mcv_spool::{Disk, FileDisk, Slot, Spool, SpoolFault, SpoolRecord};
 use std::alloc::Global;
