@@ -89,7 +89,7 @@ impl<H: KeyHash + Drop> Core<H> {
 
     /// What a call for this key asks for.
     fn asked(&self, alloc: Global, request: Arc<Request>, key: usize) -> Result<Asked, CoreFault>
-        ensures asked { IfOk result (λ asked. IsAsked (core_view self.now.dispatcher).routes (H.chosen self.now.hash) (arc_value request) key asked.op asked.route asked.rest asked.choice) }
+        ensures asked { IfOk result (λ asked. IsAsked (core_view self.now.dispatcher).routes (H.chosen self.now.hash) (arc_value request) key asked.op asked.route (arc_value asked.rest) asked.choice) }
         ensures within { IfOk result (λ asked. HasIndexEach (core_view self.now.dispatcher).routes.symbols asked.choice) }
         ensures refused { IfErr result (IsRefusedFor (core_view self.now.dispatcher) (H.chosen self.now.hash) (arc_value request) key) }
     {
@@ -105,7 +105,7 @@ impl<H: KeyHash + Drop> Core<H> {
             request,
             op,
             route,
-            rest,
+            rest: Arc::new(alloc, rest)?,
             choice,
         })
     }
