@@ -38,3 +38,8 @@ returns-clause-ok c =
       selected = ap (entry_for asked.prefix) (sym is) ∙ found.1;
       is = answer_is ∙ ap (λ (r : RoutesValue). text_of r.servers found.0.tree (situation_at c.args.moment.0 r asked.op asked.rest) (shipped_choice r asked.rest)) is;
     }
+
+pub returns-in_err-first_text-clause-fault : goal.returns-in_err-first_text-clause-fault
+returns-in_err-first_text-clause-fault c =
+    let gone = err_from_is_err_and c.from_residual-in_err-first_text.result c.from_residual-in_err-first_text.ensures.1 in
+    rw (gone.1) (subst (IsRunFault c.args.input.now) (sym gone.2) tt)
