@@ -11,7 +11,7 @@ returns-in_err-certificate-clause-fault c =
     rw (gone.1) (subst (λ (fault : RunFault). IsRefusedBy c.args.routes c.args.text.now fault) (sym gone.2)
     (text_refused_so c.args.routes c.args.text.now c.in_err-certificate.field-0.0 c.in_err-certificate.ensures.faulty))
 
-pub returns-in-Err-clause-fault : goal.returns-in-Err-clause-fault
-returns-in-Err-clause-fault c =
+pub returns-clause-fault : goal.returns-clause-fault
+returns-clause-fault c =
     subst (λ (fault : RunFault). IsRefusedBy c.args.routes c.args.text.now fault) (sym c.refused.ensures)
     (check_refused_so c.args.routes c.args.text.now c.in_ok-certificate.certificate c.in-Err.fault c.in_ok-certificate.ensures.read c.in-Err.ensures.fault)
