@@ -5,8 +5,8 @@ use Rattle.mcv_route.specs.Routes.{RoutesValue}
 use Rattle.mcv_verdict.specs.Fault.{of_check}
 use Rattle.mcv_verdict.proofs.run.judge_routes.Goals as goal
 
-pub returns-in-Err-check-clause-fault : goal.returns-in-Err-check-clause-fault
-returns-in-Err-check-clause-fault c = c.refused.ensures ∙ ap of_check (c.in-Err-check.ensures.justified c.in-Ok.ensures.justified)
+pub returns-in-Err-clause-fault : goal.returns-in-Err-clause-fault
+returns-in-Err-clause-fault c = c.refused.ensures ∙ ap of_check (c.in-Err.ensures.justified c.in-Ok.ensures.justified)
 
 pub returns-in_err-lost-in-Err-Lost-clause-fault : goal.returns-in_err-lost-in-Err-Lost-clause-fault
 returns-in_err-lost-in-Err-Lost-clause-fault c =
