@@ -58,9 +58,9 @@ A first line that isn't a request is reported as `mcv: bad request line`, and a
 key with a routing prefix that selects no route of the configuration as
 `mcv: no route`.
 
-A configuration that isn't read is reported as `mcv: configuration NUMBER at PATH`.
-The path leads to the value at fault by keys and by list numbers from 0; `.` is
-the whole. The numbers:
+A configuration that isn't read is reported as
+`mcv: configuration NUMBER at PATH`. The path leads to the value at fault by
+keys and by list numbers from 0; `.` is the whole. The numbers:
 
    1  not JSON                          6  no servers, children, aliases, routes
    2  unknown key or operation name     7  over a limit
@@ -150,8 +150,8 @@ as `mcv: certificate fault NUMBER`:
   4  another hash, number of legs or server than the line says
   5  `never`, where a delete can be acknowledged
 
-A configuration that isn't read is reported as `mcv: configuration NUMBER at PATH`:
-`mcv legs --help` has the numbers.";
+A configuration that isn't read is reported as
+`mcv: configuration NUMBER at PATH`: `mcv legs --help` has the numbers.";
 
 pub(crate) const RUN_ABOUT: &str = "Serves clients by a configuration that can't lose a delete";
 
@@ -189,5 +189,5 @@ Exit status:
   4  out of memory, or a device failed: an address that isn't one or can't be
      bound, the spool file, standard input or standard output
 
-A configuration that isn't read is reported as `mcv: configuration NUMBER at PATH`:
-`mcv legs --help` has the numbers.";
+A configuration that isn't read is reported as
+`mcv: configuration NUMBER at PATH`: `mcv legs --help` has the numbers.";
