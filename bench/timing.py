@@ -85,14 +85,14 @@ def print_beside_python(plain, whole, half):
 
 def below(names, lines):
     """The crates of these names and all below them."""
-    stands_on = {line.split(":")[0]: line.split(":")[1].split() for line in lines if ":" in line and not line.startswith("#")}
+    depends_on = {line.split(":")[0]: line.split(":")[1].split() for line in lines if ":" in line and not line.startswith("#")}
     found = set()
     left = list(names)
     while left:
         name = left.pop()
-        if name in stands_on and name not in found:
+        if name in depends_on and name not in found:
             found.add(name)
-            left.extend(stands_on[name])
+            left.extend(depends_on[name])
     return found
 
 

@@ -1,4 +1,4 @@
--- Where a byte first stands in a list, and the two parts on its sides.
+-- Where a byte first is in a list, and the two parts on its sides.
 use Rattle.std.proofs.Common.{◌≡◌, ◌∙◌, ℕ, ◌<◌, Bool, true, false, not, ◌&&◌, ◌==◌, List, [], ◌∷◌, ◌++◌, length, take, drop, Some, None, zero, suc, refl, ap, sym, subst, arith, length-append}
 use Rattle.std.proofs.Math.Seq.{get_or-append_seam}
 use Rattle.std.proofs.lemmas.Bool.Decides.{Decides-eqb}
@@ -31,7 +31,7 @@ at_cut c ys zs = ap (λ b. b == c) (get_or-append_seam ys c zs 0) ∙ same_byte 
 cut_within : (c : ℕ) (ys zs : List ℕ) → length ys < length (ys ++ c ∷ zs)
 cut_within c ys zs = omega (arith, length-append ys (c ∷ zs))
 
--- the first byte c of a list stands at the first cut
+-- the first byte c of a list is at the first cut
 pub first_at_cut : (c : ℕ) (xs ys zs : List ℕ) (k : ℕ) → xs ≡ ys ++ c ∷ zs → lacks c ys ≡ true → IsFirstByte (is_byte c) xs (Some k) → k ≡ length ys
 first_at_cut c xs ys zs k is l first =
     let here : Passes (is_byte c) (ys ++ c ∷ zs) k = subst (λ (s : List ℕ). Passes (is_byte c) s k) is first.1 in
@@ -45,7 +45,7 @@ none_at_cut c xs ys zs is none =
     none (length ys) (omega arith) (subst (λ (s : List ℕ). length ys < length s) (sym is) (cut_within c ys zs))
     (subst (λ (s : List ℕ). Passes (is_byte c) s (length ys)) (sym is) (at_cut c ys zs))
 
--- a list is what stands before its first byte c, that byte, and the rest
+-- a list is what comes before its first byte c, that byte, and the rest
 pub first_cuts : (c : ℕ) (xs : List ℕ) (k : ℕ) → k < length xs → Passes (is_byte c) xs k → ((j : ℕ) → j < k → ¬ Passes (is_byte c) xs j)
     → (lacks c (take k xs) ≡ true) × (xs ≡ take k xs ++ c ∷ drop (suc k) xs)
 first_cuts c [] k lt here before = absurd (let h : ⊥ = omega arith in h)

@@ -1,7 +1,7 @@
--- What stands before the first separator: by the place where a search finds it, and as a cut.
-use Rattle.std.proofs.Common.{◌≡◌, ◌∙◌, ℕ, ◌<◌, ◌≤◌, Bool, true, false, true≢false, ◌==◌, List, [], ◌∷◌, ◌++◌, length, take, drop, zero, suc, refl, sym, ap, ap₂, arith, if◌then◌else◌}
+-- What comes before the first separator: by the place where a search finds it, and as a cut.
+use Rattle.std.proofs.Common.{◌≡◌, ◌∙◌, ℕ, ◌+◌, ◌<◌, ◌≤◌, Bool, true, false, true≢false, ◌==◌, List, [], ◌∷◌, ◌++◌, length, take, drop, zero, suc, None, refl, sym, ap, ap₂, subst, arith, if◌then◌else◌}
 use Rattle.std.proofs.lemmas.Bool.Decides.{Decides-eqb}
-use Rattle.memchr.specs.Find.{OccursAt}
+use Rattle.memchr.specs.Find.{IsFirstByte, OccursAt, Passes, is_byte}
 use Rattle.memchr.proofs.lemmas.MatchLemmas.{OccursAt-part, OccursAt-from_part}
 use Rattle.mcv_base.specs.Key.{IsHashedCut, IsUnseparated, begins_with, hashed_part, separator}
 use Rattle.mcv_base.proofs.Cuts.{both, joined}
@@ -58,6 +58,14 @@ part_whole [] none = refl
 part_whole (b ∷ bytes) none =
     ap (λ xs. b ∷ xs) (part_whole bytes (λ j le here. none (suc j) (omega arith) (later b bytes j here)))
     ∙ chosen_false (begins_with (b ∷ bytes) separator) [] (b ∷ hashed_part bytes) (λ begins. none 0 (omega arith) (occurs_first (b ∷ bytes) begins))
+
+-- bytes without a bar have no separator
+pub no_mark : (rest : List ℕ) → IsFirstByte (is_byte 124) rest None → (j : ℕ) → j ≤ length rest → ¬ OccursAt rest separator j
+no_mark rest none j le at =
+    let fits = at.fits in
+    let place : j + 0 ≡ j = omega arith in
+    let bar : Passes (is_byte 124) rest (j + 0) = ap (λ b. b == 124) (at.reads 0 (omega arith)) in
+    none j (omega arith) (omega arith) (subst (λ k. Passes (is_byte 124) rest k) place bar)
 
 -- ---- as a cut
 

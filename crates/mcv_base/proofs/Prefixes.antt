@@ -1,5 +1,5 @@
 -- What a key word's routing prefix is, by the slashes that are found in it.
-use Rattle.std.proofs.Common.{◌≡◌, ◌≢◌, ◌∙◌, ℕ, ◌+◌, ◌-◌, ◌<◌, ◌≤◌, true, false, not, nat_lt, nat_le, ◌&&◌, ◌==◌, MatchOption, unwrap_or, length-drop, List, [], ◌∷◌, ◌++◌, length, take, drop, Option, Some, None, zero, suc, refl, ap, ap₂, sym, subst, arith, length-append, append_assoc}
+use Rattle.std.proofs.Common.{◌≡◌, ◌≢◌, ◌∙◌, ℕ, ◌+◌, ◌<◌, ◌≤◌, true, not, nat_lt, nat_le, ◌&&◌, ◌==◌, MatchOption, unwrap_or, length-drop, List, [], ◌∷◌, ◌++◌, length, take, drop, Option, Some, None, zero, suc, refl, ap, ap₂, sym, arith, length-append, append_assoc}
 use Rattle.std.proofs.lemmas.List.{take_at}
 use Rattle.std.proofs.lemmas.Bool.Decides.{Decides-eqb, nat_tests}
 use Rattle.std.specs.List.{list_all}
@@ -139,26 +139,10 @@ key_word_of word some short all =
     joined (nat_lt 0 (length word)) (nat_le (length word) 250 && list_all is_key_byte word) low
     (joined (nat_le (length word) 250) (list_all is_key_byte word) high all)
 
-nothing_behind : (word : List ℕ) (cut : ℕ) → length word ≤ 250 → list_all is_key_byte word ≡ true → is_key_word (drop cut word) ≡ false → length word ≤ cut
-nothing_behind word cut short all is =
-    let len : length (drop cut word) ≡ length word - cut = length-drop cut word in
-    let not_more : ¬ (cut < length word) = λ more.
-    let key : is_key_word (drop cut word) ≡ true = key_word_of (drop cut word) (omega (arith, len)) (omega (arith, len)) (all_behind cut word all) in
-    cc in
-    omega arith
+pub prefix_within : (word : List ℕ) (r : Option ℕ) (cut : ℕ) → MatchOption r ⊤ (λ n. n ≤ length word) → cut ≡ unwrap_or r 0 → cut ≤ length word
+prefix_within word None cut within is = omega (arith, is)
+prefix_within word (Some n) cut within is = omega (arith, within, is)
 
-take_all : (word : List ℕ) (n : ℕ) → length word ≡ n → take n word ≡ word
-take_all [] zero is = refl
-take_all [] (suc n) is = refl
-take_all (x ∷ word) zero is = absurd (let h : ⊥ = omega arith in h)
-take_all (x ∷ word) (suc n) is = ap (λ xs. x ∷ xs) (take_all word n (omega arith))
-
-pub no_rest_behind : (word : List ℕ) (r : Option ℕ) (cut : ℕ) → MatchOption r (IsUnrouted word) (λ n. IsRoutingPrefix (take n word)) → MatchOption r ⊤ (λ n. n ≤ length word)
-    → cut ≡ unwrap_or r 0 → 0 < length word → length word ≤ 250 → list_all is_key_byte word ≡ true → is_key_word (drop cut word) ≡ false
-    → (is_key_word word ≡ true) × IsRoutingPrefix word
-no_rest_behind word None cut un within is some short all none =
-    let behind = nothing_behind word cut short all none in absurd (let h : ⊥ = omega arith in h)
-no_rest_behind word (Some n) cut routed within is some short all none =
-    let behind = nothing_behind word cut short all none in
-    let whole : length word ≡ n = omega arith in
-    (key_word_of word some short all, subst (λ (xs : List ℕ). IsRoutingPrefix xs) (take_all word n whole) routed)
+-- what is behind a part of a key word is one, where there is something
+pub rest_is_key : (word : List ℕ) (n : ℕ) → length word ≤ 250 → list_all is_key_byte word ≡ true → n < length word → is_key_word (drop n word) ≡ true
+rest_is_key word n short all low = key_word_of (drop n word) (omega (arith, length-drop n word, low)) (omega (arith, length-drop n word, short)) (all_behind n word all)

@@ -24,7 +24,7 @@ lacks c bytes = list_all (λ b. not (b == c)) bytes
 abbrev pub slash : ℕ
 slash = 47
 
--- what stands between two slashes of a routing prefix
+-- what is between two slashes of a routing prefix
 pub record IsName (name : List ℕ) : Type 0 where
   pub some : name ≢ []
   pub no_slash : lacks slash name ≡ true
@@ -63,7 +63,7 @@ key_fault_number TooLong = 2
 key_fault_number BadByte = 3
 key_fault_number NoRest = 4
 
--- `|#|` (mcrouter wiki: only what stands before it is hashed)
+-- `|#|` (mcrouter wiki: only what comes before it is hashed)
 abbrev pub separator : List ℕ
 separator = codes "|#|"
 
@@ -73,16 +73,16 @@ begins_with word [] = true
 begins_with [] (p ∷ prefix) = false
 begins_with (w ∷ word) (p ∷ prefix) = (w == p) && begins_with word prefix
 
--- what stands before the first `|#|`, or all where there is none
+-- what comes before the first `|#|`, or all where there is none
 abbrev pub hashed_part : List ℕ → List ℕ
 hashed_part [] = []
 hashed_part (b ∷ bytes) = if begins_with (b ∷ bytes) separator then [] else b ∷ hashed_part bytes
 
--- no `|#|` stands in the bytes
+-- no `|#|` is in the bytes
 abbrev pub IsUnseparated : List ℕ → Type 0
 IsUnseparated bytes = (front behind : List ℕ) → bytes ≢ front ++ separator ++ behind
 
--- the part is all of the rest, where no `|#|` stands in it; else the rest is the part, `|#|` and what is behind, and no `|#|` stands at an earlier place (own)
+-- the part is all of the rest, where no `|#|` is in it; else the rest is the part, `|#|` and what is behind, and no `|#|` is at an earlier place (own)
 pub data IsHashedCut (rest part : List ℕ) : Type 0 where
   whole : IsUnseparated rest → part ≡ rest → IsHashedCut rest part
   parted : (behind : List ℕ) → rest ≡ part ++ separator ++ behind → ((front more : List ℕ) → rest ≡ front ++ separator ++ more → length part ≤ length front) → IsHashedCut rest part

@@ -37,7 +37,7 @@ outcome_of deleted = Good
 outcome_of touched = Good
 outcome_of (fault line) = Error
 
--- which replies a server gives which operations (protocol.txt, "Retrieval command", "Storage commands", "Deletion", "Touch" and, for faults, "Error strings"); only gets is told the unique number of a value
+-- which replies a server gives which operations (protocol.txt, "Retrieval command", "Storage commands", "Deletion", "Touch" and, for faults, "Error strings"); only gets is answered the unique number of a value
 abbrev pub may_answer : Op → ReplyValue → Bool
 may_answer op (hit flags None body) = is_same_op op Get
 may_answer op (hit flags (Some cas) body) = is_same_op op Gets
@@ -110,3 +110,16 @@ abbrev pub is_good : Outcome → Bool
 is_good Good = true
 is_good Soft = false
 is_good Error = false
+
+-- Error is worse than Soft, and Soft than Good
+abbrev pub badness : Outcome → ℕ
+badness Good = 0
+badness Soft = 1
+badness Error = 2
+
+abbrev pub worse : Outcome → Outcome → Outcome
+worse Good y = y
+worse Soft Good = Soft
+worse Soft Soft = Soft
+worse Soft Error = Error
+worse Error y = Error

@@ -159,7 +159,7 @@ fn held(bytes: &[u8]) -> ArrayVec<u8, 250>
     }
 }
 
-/// The bytes up to and with the first slash, where something stands before it.
+/// The bytes up to and with the first slash, where something comes before it.
 fn name_len(bytes: &[u8]) -> Option<usize>
     ensures named { MatchOption result (IsUnnamed bytes.now) (λ n. IsNamed bytes.now n) }
     ensures within { MatchOption result ⊤ (λ n. n ≤ length bytes.now) }
@@ -205,9 +205,12 @@ pub fn is_key_word(word: &[u8]) -> bool
     !word.is_empty() && word.len() <= KEY_LIMIT && has_key_bytes(word)
 }
 
-/// The routing prefix and the rest of a key word. It takes no memory.
-pub fn split_key(word: &[u8]) -> Result<(Prefix, Rest), KeyFault>
-    ensures cut { IfOk result (λ key. IsCut word.now key.0 key.1) }
+/// The bytes of the routing prefix of a key word, and those of its rest. They lie in the word, but for the prefix of a word
+/// that names none.
+pub fn cut_key(word: &[u8]) -> Result<(&[u8], &[u8]), KeyFault>
+    ensures cut { IfOk result (λ key. IsCut word.now key.0.now key.1.now) }
+    ensures prefix { IfOk result (λ key. length key.0.now ≤ 250) }
+    ensures rest { IfOk result (λ key. is_key_word key.1.now ≡ true) }
     ensures word { OnOk result (is_key_word word.now ≡ true) }
     ensures fault { IfErr result (IsKeyFault word.now) }
 {
@@ -221,14 +224,27 @@ pub fn split_key(word: &[u8]) -> Result<(Prefix, Rest), KeyFault>
         return Err(KeyFault::BadByte);
     }
     let cut = prefix_len(word).unwrap_or(0);
-    let prefix = if cut == 0 {
-        DEFAULT_PREFIX
+    if cut == word.len() {
+        return Err(KeyFault::NoRest);
+    }
+    let rest = &word[cut..];
+    if cut == 0 {
+        Ok((DEFAULT_PREFIX, rest))
     } else {
-        &word[..cut]
-    };
-    match Rest::of(&word[cut..]) {
+        Ok((&word[..cut], rest))
+    }
+}
+
+/// The routing prefix and the rest of a key word. It takes no memory.
+pub fn split_key(word: &[u8]) -> Result<(Prefix, Rest), KeyFault>
+    ensures cut { IfOk result (λ key. IsCut word.now key.0 key.1) }
+    ensures word { OnOk result (is_key_word word.now ≡ true) }
+    ensures fault { IfErr result (IsKeyFault word.now) }
+{
+    let (prefix, rest) = cut_key(word)?;
+    match Rest::of(rest) {
         Some(rest) => Ok((Prefix::of(prefix), rest)),
-        None => Err(KeyFault::NoRest),
+        None => unreachable!(),
     }
 }
 
@@ -239,7 +255,17 @@ pub fn hashed_part(rest: &Rest) -> &[u8]
     part_before(rest.as_bytes())
 }
 
+/// Most keys have no bar, and one byte is found sooner than three.
 fn part_before(rest: &[u8]) -> &[u8]
+    ensures { result.now ≡ hashed_part rest.now }
+{
+    match memchr(b'|', rest) {
+        Some(_) => part_before_mark(rest),
+        None => rest,
+    }
+}
+
+fn part_before_mark(rest: &[u8]) -> &[u8]
     ensures { result.now ≡ hashed_part rest.now }
 {
     match memmem::find(rest, b"|#|") {

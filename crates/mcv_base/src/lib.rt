@@ -14,7 +14,7 @@ mod request;
 mod server;
 
 pub use key::{
-    KeyFault, Prefix, Rest, begins_with, hashed_part, hashed_part_is_a_cut, is_key_word,
+    KeyFault, Prefix, Rest, begins_with, cut_key, hashed_part, hashed_part_is_a_cut, is_key_word,
     key_words_have_one_reading, split_key,
 };
 pub use number::push_number;

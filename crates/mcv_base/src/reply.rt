@@ -1,7 +1,7 @@
 //! What a server says to a leg, and what that amounts to.
 
 ghost use Rattle.std.specs.Prelude.{◌≡◌, IfOk, IsOk, IsTrue};
-ghost use Rattle.mcv_base.specs.Reply.{fixed_value, is_small, may_answer, outcome_of, part_value, reply_value};
+ghost use Rattle.mcv_base.specs.Reply.{badness, fixed_value, is_good, is_small, may_answer, outcome_of, part_value, reply_value, worse};
 
 use crate::operation::Op;
 use std::alloc::{AllocError, Global};
@@ -17,6 +17,36 @@ pub enum Outcome {
     Soft,
     /// An error of the server, or of the way to it.
     Error,
+}
+
+impl Outcome {
+    pub fn is_good(self) -> bool
+        ensures { result ≡ is_good self }
+    {
+        matches!(self, Outcome::Good)
+    }
+
+    /// How bad it is: 0 is Good, 2 an Error.
+    pub fn badness(self) -> u8
+        ensures { result ≡ badness self }
+    {
+        match self {
+            Outcome::Good => 0,
+            Outcome::Soft => 1,
+            Outcome::Error => 2,
+        }
+    }
+
+    /// The worse of the two.
+    pub fn worse(self, other: Outcome) -> Outcome
+        ensures { result ≡ worse self other }
+    {
+        match (self, other) {
+            (Outcome::Error, _) | (_, Outcome::Error) => Outcome::Error,
+            (Outcome::Soft, _) | (_, Outcome::Soft) => Outcome::Soft,
+            (Outcome::Good, Outcome::Good) => Outcome::Good,
+        }
+    }
 }
 
 /// A server's reply to one leg.
@@ -55,7 +85,7 @@ pub enum FixedReply {
     Lost,
 }
 
-/// Stands for one reply, wherever it is kept.
+/// One reply, wherever it is kept.
 #[derive(Debug, Drop)]
 pub enum Part {
     Fixed(FixedReply),

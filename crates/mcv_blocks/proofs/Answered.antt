@@ -11,7 +11,7 @@ use Rattle.std.proofs.lemmas.List.Elements.{All-contains}
 use Rattle.std.proofs.lemmas.Option.{none-some, same_Some}
 use Rattle.mcv_route.specs.Routes.{RoutesValue}
 use Rattle.mcv_cert.specs.Pair.{AreRising, PairValue, Place, ReasonValue, never, twin, same, all, index_cmp, index_of, list_cmp, pair_cmp, place_cmp, place_of}
-use Rattle.mcv_judge.specs.Faults.{IsFaultless, Owed, fault_there, has_index, is_answered_whole, owe, owed_at, owed_by, pair_at, place_owed}
+use Rattle.mcv_judge.specs.Faults.{IsFaultless, Required, fault_there, has_index, is_answered_whole, require, required_at, required_by, pair_at, place_required}
 use Rattle.mcv_judge.specs.Reason.{BlockValue, HasReason, LegValue, fault_of, is_whole}
 use Rattle.mcv_judge.specs.declared.fault.PairFault.{PairFault}
 use Rattle.mcv_judge.specs.declared.fault.PairFault.TheVariants.{Missing, Stray}
@@ -69,35 +69,35 @@ index_itself s z i j e f =
 never_less : (o : Ordering) → o ≡ Equal → o ≡ Less → ⊥
 never_less o e less = let apart : Equal ≡ Less = sym e ∙ less in cc
 
--- ---- the leaf that is owed an answer at its place
+-- ---- the leaf that requires an answer at its place
 
 module _ (r : RoutesValue) (blocks : List BlockValue) (are : AreBlocksOf r blocks) (b : BlockValue) (at : Contains blocks b) (leaf : LegValue) (readable : Contains b.readable leaf) where
   is_block : IsBlockOf r b
   is_block = All-contains (IsBlockOf r) blocks b are.only at
 
   -- a block and a leaf of it at the place are these
-  same_owed : (c : BlockValue) (l : LegValue) → Contains blocks c → Contains c.readable l → place_owed (owe c l) ≡ place_owed (owe b leaf) → owe c l ≡ owe b leaf
-  same_owed c l there own e =
+  same_required : (c : BlockValue) (l : LegValue) → Contains blocks c → Contains c.readable l → place_required (require c l) ≡ place_required (require b leaf) → require c l ≡ require b leaf
+  same_required c l there own e =
       let block : c ≡ b = one_block r c b (All-contains (IsBlockOf r) blocks c are.only there) is_block (ap (λ (z : Place). z.route) e) (ap (λ (z : Place). z.class) e) (ap (λ (z : Place). z.era) e) in
       let here : Contains b.readable l = subst (λ x. Contains x.readable l) block own in
       let leg : l ≡ leaf = one_leg is_block.tree (IsReadableAt is_block.tree is_block.member is_block.since) b.readable is_block.has.readable l leaf here readable (ap (λ (z : Place). z.leaf) e) in
-      λ i. owe (block i) (leg i)
+      λ i. require (block i) (leg i)
 
-  one_owed : (o : Owed) → Contains (flat_map owed_by blocks) o → is_eq (place_cmp (place_owed o) (place_owed (owe b leaf))) ≡ true → o ≡ owe b leaf
-  one_owed o there equal =
-      let of = from_flat_map owed_by blocks o there in
-      let own = from_map (owe of.0) of.0.readable o of.2 in
-      let place : place_owed o ≡ place_owed (owe b leaf) = place_equal (place_owed o) (place_owed (owe b leaf)) (equal_of (place_cmp (place_owed o) (place_owed (owe b leaf))) equal) in
-      sym own.2 ∙ same_owed of.0 own.0 of.1 own.1 (ap place_owed own.2 ∙ place)
+  one_required : (o : Required) → Contains (flat_map required_by blocks) o → is_eq (place_cmp (place_required o) (place_required (require b leaf))) ≡ true → o ≡ require b leaf
+  one_required o there equal =
+      let of = from_flat_map required_by blocks o there in
+      let own = from_map (require of.0) of.0.readable o of.2 in
+      let place : place_required o ≡ place_required (require b leaf) = place_equal (place_required o) (place_required (require b leaf)) (equal_of (place_cmp (place_required o) (place_required (require b leaf))) equal) in
+      sym own.2 ∙ same_required of.0 own.0 of.1 own.1 (ap place_required own.2 ∙ place)
 
-  pub owed_there : owed_at (flat_map owed_by blocks) (place_owed (owe b leaf)) ≡ Some (owe b leaf)
-  owed_there =
-      finds_one (λ o. is_eq (place_cmp (place_owed o) (place_owed (owe b leaf)))) (flat_map owed_by blocks) (owe b leaf)
-      (into_flat_map owed_by blocks b (owe b leaf) at (into_map (owe b) b.readable leaf readable))
-      (ap is_eq (place_itself (place_owed (owe b leaf))))
-      one_owed
+  pub required_there : required_at (flat_map required_by blocks) (place_required (require b leaf)) ≡ Some (require b leaf)
+  required_there =
+      finds_one (λ o. is_eq (place_cmp (place_required o) (place_required (require b leaf)))) (flat_map required_by blocks) (require b leaf)
+      (into_flat_map required_by blocks b (require b leaf) at (into_map (require b) b.readable leaf readable))
+      (ap is_eq (place_itself (place_required (require b leaf))))
+      one_required
 
--- ---- what stands at a place without a fault
+-- ---- what is at a place without a fault
 
 fine_if : (c : Bool) (x : Option PairFault) → (if c then x else Some Stray) ≡ None → x ≡ None
 fine_if true x h = h
@@ -109,10 +109,10 @@ not_missing true false e h = absurd (none-some Missing (sym h))
 not_missing false whole e h = absurd (false≢true e)
 
 -- a pair, and then a fine one, or one for all
-there : (b : BlockValue) (leaf : LegValue) (o : Option PairValue) (whole : Bool) (i : ℕ) → i < length leaf.servers → fault_there (Some (owe b leaf)) o whole i ≡ None →
+there : (b : BlockValue) (leaf : LegValue) (o : Option PairValue) (whole : Bool) (i : ℕ) → i < length leaf.servers → fault_there (Some (require b leaf)) o whole i ≡ None →
     ((o ≡ None) × (whole ≡ true)) ⊎ ((p : PairValue) × (o ≡ Some p) × (fault_of b leaf p.reason ≡ None))
-there b leaf None whole i low h = inl (refl, not_missing (has_index (owe b leaf) i) whole (lt-ltb i (length leaf.servers) low) h)
-there b leaf (Some p) whole i low h = inr (p, refl, fine_if (has_index (owe b leaf) i && (nat_eq i 0 || not whole)) (fault_of b leaf p.reason) h)
+there b leaf None whole i low h = inl (refl, not_missing (has_index (require b leaf) i) whole (lt-ltb i (length leaf.servers) low) h)
+there b leaf (Some p) whole i low h = inr (p, refl, fine_if (has_index (require b leaf) i && (nat_eq i 0 || not whole)) (fault_of b leaf p.reason) h)
 
 whole_at_zero : (x : ReasonValue) → is_whole x ≡ true → index_of x ≡ 0
 whole_at_zero never h = refl
@@ -120,15 +120,15 @@ whole_at_zero (twin leg) h = refl
 whole_at_zero (same index leg) h = absurd (false≢true h)
 whole_at_zero (all index legs) h = absurd (false≢true h)
 
-module _ (pairs : List PairValue) (blocks : List BlockValue) (up : AreRising pairs) (fine : IsFaultless pairs blocks) (b : BlockValue) (leaf : LegValue) (owed : owed_at (flat_map owed_by blocks) (place_owed (owe b leaf)) ≡ Some (owe b leaf)) where
+module _ (pairs : List PairValue) (blocks : List BlockValue) (up : AreRising pairs) (fine : IsFaultless pairs blocks) (b : BlockValue) (leaf : LegValue) (required : required_at (flat_map required_by blocks) (place_required (require b leaf)) ≡ Some (require b leaf)) where
   abbrev s : Place
-  s = place_owed (owe b leaf)
+  s = place_required (require b leaf)
 
   abbrev is_at : ℕ → PairValue → Bool
   is_at i p = is_eq (index_cmp (place_of p) (index_of p.reason) s i)
 
-  here : (i : ℕ) → fault_there (Some (owe b leaf)) (pair_at pairs s i) (is_answered_whole pairs s) i ≡ None
-  here i = subst (λ o. fault_there o (pair_at pairs s i) (is_answered_whole pairs s) i ≡ None) owed (fine s i)
+  here : (i : ℕ) → fault_there (Some (require b leaf)) (pair_at pairs s i) (is_answered_whole pairs s) i ≡ None
+  here i = subst (λ o. fault_there o (pair_at pairs s i) (is_answered_whole pairs s) i ≡ None) required (fine s i)
 
   -- of two pairs at one index of the place, both are one
   one_pair : (i : ℕ) (p q : PairValue) → Contains pairs p → Contains pairs q → is_at i p ≡ true → is_at i q ≡ true → p ≡ q

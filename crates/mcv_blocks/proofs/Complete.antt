@@ -94,8 +94,8 @@ module _ (sizes : List ℕ) (t : Tree) (rest : List ℕ) (since : Option ℕ) (p
   leg_of_pool : (m : Pool) → IsAcknowledgedPool t rest since m → (d : LegValue) × Contains b.acknowledged d × (pool_for d ≡ m)
   leg_of_pool m is =
       let d = leg_there t (IsAcknowledgedAt t rest since) b.acknowledged block.acknowledged is.0 is.2 in
-      let stands = pool_of_leg t (IsAcknowledgedAt t rest since) b.acknowledged block.acknowledged d.0 d.1 in
-      (d.0, d.1, same_Some (pool_for d.0) m (sym stands ∙ ap (pool_at_position t) d.2 ∙ is.1))
+      let pool_there = pool_of_leg t (IsAcknowledgedAt t rest since) b.acknowledged block.acknowledged d.0 d.1 in
+      (d.0, d.1, same_Some (pool_for d.0) m (sym pool_there ∙ ap (pool_at_position t) d.2 ∙ is.1))
 
   module _ (leaf : LegValue) (i : ℕ) (low : i < length leaf.servers) where
     -- at an index of a symbol a leg has the leaf's server
@@ -128,10 +128,10 @@ module _ (sizes : List ℕ) (t : Tree) (rest : List ℕ) (since : Option ℕ) (p
     pub by_justified : Contains b.readable leaf → IsJustified sizes t rest since → HasReason b leaf i
     by_justified readable (inl none) = reason_by_none b leaf i (block.never.1 none)
     by_justified readable (inr answered) =
-        let stands = pool_of_leg t (IsReadableAt t rest since) b.readable block.readable leaf readable in
-        let size : slice_index sizes leaf.symbol ≡ length leaf.servers = (sized leaf.position (pool_for leaf) stands).1 in
+        let pool_there = pool_of_leg t (IsReadableAt t rest since) b.readable block.readable leaf readable in
+        let size : slice_index sizes leaf.symbol ≡ length leaf.servers = (sized leaf.position (pool_for leaf) pool_there).1 in
         let can_be_read : IsReadableAt t rest since leaf.position = has_property t (IsReadableAt t rest since) b.readable block.readable leaf readable in
-        by_answer size (answered leaf.position (pool_for leaf) i can_be_read stands (omega (arith, low, size)))
+        by_answer size (answered leaf.position (pool_for leaf) i can_be_read pool_there (omega (arith, low, size)))
 
 -- ---- the whole
 

@@ -1,4 +1,4 @@
--- Why a certificate's pairs have to stand in order: of two at one place the first alone is judged.
+-- Why a certificate's pairs have to come in order: of two at one place the first alone is judged.
 use Rattle.std.proofs.Common.{◌≡◌, true, [], ◌∷◌, Some, None, refl}
 use Rattle.mcv_cert.specs.Pair.{Place, PairValue, ReasonValue, never, same, place_cmp}
 use Rattle.mcv_judge.specs.Faults.{fault_at}

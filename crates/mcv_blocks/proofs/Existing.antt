@@ -31,7 +31,7 @@ use Rattle.mcv_symbolic.specs.Sets.{CanHitAt}
 use Rattle.mcv_symbolic.specs.Structure.{if_all}
 use Rattle.mcv_symbolic.proofs.Exactness.{acknowledged_is_exact, done_is_exact, hits_are_exact}
 use Rattle.mcv_symbolic.proofs.Marks as marks
-use Rattle.mcv_symbolic.proofs.Placed.{leaf_of, acknowledged_stands, hits_stand}
+use Rattle.mcv_symbolic.proofs.Placed.{leaf_of, acknowledged_are_there, hits_are_there}
 use Rattle.mcv_symbolic.proofs.Rising.{acknowledged_rise, hits_rise}
 use Rattle.mcv_blocks.specs.Blocks.{AreLeavesAt, IsAcknowledgedAt, pool_for, positions_of}
 use Rattle.mcv_blocks.specs.Merged.{merge}
@@ -89,14 +89,14 @@ hit-leaves : (t : Tree) (op : Op) (rest : List ℕ) (since : Option ℕ) → Are
 hit-leaves t op rest since =
     let s = asked op rest since in
     leaves-at t (CanHit t op rest since) (hits (plan t s)) (hits_rise t s)
-    (λ l i. let h = marks.hits_are (plan t s) l i in (hits_stand t s l refl h, (any, (hits_are_exact t op rest since any l.position).1 (l, h, refl))))
+    (λ l i. let h = marks.hits_are (plan t s) l i in (hits_are_there t s l refl h, (any, (hits_are_exact t op rest since any l.position).1 (l, h, refl))))
     (λ p h. let k = (hits_are_exact t op rest since h.0 p).0 h.1 in (k.0, marks.are_hits (plan t s) k.0 k.1, k.2))
 
 acknowledged-leaves : (t : Tree) (rest : List ℕ) (since : Option ℕ) → AreLeavesAt t (IsAcknowledgedAt t rest since) (leaves (acknowledged (plan t (asked Delete rest since))))
 acknowledged-leaves t rest since =
     let s = asked Delete rest since in
     leaves-at t (IsAcknowledgedAt t rest since) (acknowledged (plan t s)) (acknowledged_rise t s)
-    (λ l i. let h = marks.acknowledged_is (plan t s) l i in (acknowledged_stands t s l refl h, λ c. (acknowledged_is_exact t rest since c l.position).1 (l, h, refl)))
+    (λ l i. let h = marks.acknowledged_is (plan t s) l i in (acknowledged_are_there t s l refl h, λ c. (acknowledged_is_exact t rest since c l.position).1 (l, h, refl)))
     (λ p h. let k = (acknowledged_is_exact t rest since any p).0 (h any) in (k.0, marks.is_acknowledged (plan t s) k.0 k.1, k.2))
 
 -- a get or a gets

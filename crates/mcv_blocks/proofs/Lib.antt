@@ -6,9 +6,9 @@ pub mod Sound
 pub mod Complete
 pub mod Merging
 pub mod Listed
-pub mod Along
+pub mod BlocksOfSpots
 pub mod Existing
 pub mod Parts
-pub mod Standing
+pub mod BlockOfSets
 mod Examples
 mod CoveredExample

@@ -84,59 +84,59 @@ rise-merged (k ∷ ks) ls g h = rise-from k ks ls g.0 (λ ms i. rise-merged ks m
 
 -- ---- each position of the two is one of theirs
 
--- a leaf stands at the position
-abbrev Stands : List LegValue → List ℕ → Type 0
-Stands [] p = ⊥
-Stands (l ∷ ls) p = (l.position ≡ p) ⊎ Stands ls p
+-- a leaf is at the position
+abbrev IsPresent : List LegValue → List ℕ → Type 0
+IsPresent [] p = ⊥
+IsPresent (l ∷ ls) p = (l.position ≡ p) ⊎ IsPresent ls p
 
-stands-by : (p : List ℕ) (a b c : List LegValue) → Stands a p → Stands b p → Stands c p → (x : Ordering) → Stands (elim x [ Less ↦ a | Equal ↦ b | Greater ↦ c ]) p
-stands-by p a b c f g h Less = f
-stands-by p a b c f g h Equal = g
-stands-by p a b c f g h Greater = h
+present-by : (p : List ℕ) (a b c : List LegValue) → IsPresent a p → IsPresent b p → IsPresent c p → (x : Ordering) → IsPresent (elim x [ Less ↦ a | Equal ↦ b | Greater ↦ c ]) p
+present-by p a b c f g h Less = f
+present-by p a b c f g h Equal = g
+present-by p a b c f g h Greater = h
 
-first-stands : (p : List ℕ) (k : LegValue) (ks more : List LegValue) → (Stands ks p → Stands more p) → Stands (k ∷ ks) p → Stands (k ∷ more) p
-first-stands p k ks more f (inl e) = inl e
-first-stands p k ks more f (inr h) = inr (f h)
+first-present : (p : List ℕ) (k : LegValue) (ks more : List LegValue) → (IsPresent ks p → IsPresent more p) → IsPresent (k ∷ ks) p → IsPresent (k ∷ more) p
+first-present p k ks more f (inl e) = inl e
+first-present p k ks more f (inr h) = inr (f h)
 
-left-from : (p : List ℕ) (k : LegValue) (ks ls : List LegValue) → ((ms : List LegValue) → Stands ks p → Stands (merge ks ms) p) → Stands (k ∷ ks) p → Stands (merge_from k (merge ks) ls) p
-left-from p k ks [] rest h = first-stands p k ks (merge ks []) (rest []) h
+left-from : (p : List ℕ) (k : LegValue) (ks ls : List LegValue) → ((ms : List LegValue) → IsPresent ks p → IsPresent (merge ks ms) p) → IsPresent (k ∷ ks) p → IsPresent (merge_from k (merge ks) ls) p
+left-from p k ks [] rest h = first-present p k ks (merge ks []) (rest []) h
 left-from p k ks (l ∷ ls) rest h =
-    stands-by p (k ∷ merge ks (l ∷ ls)) (k ∷ merge ks ls) (l ∷ merge_from k (merge ks) ls) (first-stands p k ks (merge ks (l ∷ ls)) (rest (l ∷ ls)) h) (first-stands p k ks (merge ks ls) (rest ls) h) (inr (left-from p k ks ls rest h)) (list_cmp k.position l.position)
+    present-by p (k ∷ merge ks (l ∷ ls)) (k ∷ merge ks ls) (l ∷ merge_from k (merge ks) ls) (first-present p k ks (merge ks (l ∷ ls)) (rest (l ∷ ls)) h) (first-present p k ks (merge ks ls) (rest ls) h) (inr (left-from p k ks ls rest h)) (list_cmp k.position l.position)
 
-stands-left : (p : List ℕ) (ks ls : List LegValue) → Stands ks p → Stands (merge ks ls) p
-stands-left p [] ls h = absurd h
-stands-left p (k ∷ ks) ls h = left-from p k ks ls (λ ms i. stands-left p ks ms i) h
+present-left : (p : List ℕ) (ks ls : List LegValue) → IsPresent ks p → IsPresent (merge ks ls) p
+present-left p [] ls h = absurd h
+present-left p (k ∷ ks) ls h = left-from p k ks ls (λ ms i. present-left p ks ms i) h
 
-right-by : (p : List ℕ) (k l : LegValue) (ks ls : List LegValue) → ((ms : List LegValue) → Stands ms p → Stands (merge ks ms) p) → (Stands ls p → Stands (merge_from k (merge ks) ls) p) → Stands (l ∷ ls) p
-    → (x : Ordering) → list_cmp k.position l.position ≡ x → Stands (elim x [ Less ↦ k ∷ merge ks (l ∷ ls) | Equal ↦ k ∷ merge ks ls | Greater ↦ l ∷ merge_from k (merge ks) ls ]) p
+right-by : (p : List ℕ) (k l : LegValue) (ks ls : List LegValue) → ((ms : List LegValue) → IsPresent ms p → IsPresent (merge ks ms) p) → (IsPresent ls p → IsPresent (merge_from k (merge ks) ls) p) → IsPresent (l ∷ ls) p
+    → (x : Ordering) → list_cmp k.position l.position ≡ x → IsPresent (elim x [ Less ↦ k ∷ merge ks (l ∷ ls) | Equal ↦ k ∷ merge ks ls | Greater ↦ l ∷ merge_from k (merge ks) ls ]) p
 right-by p k l ks ls rest further h Less e = inr (rest (l ∷ ls) h)
 right-by p k l ks ls rest further (inl h) Equal e = inl (one_position k.position l.position e ∙ h)
 right-by p k l ks ls rest further (inr h) Equal e = inr (rest ls h)
 right-by p k l ks ls rest further (inl h) Greater e = inl h
 right-by p k l ks ls rest further (inr h) Greater e = inr (further h)
 
-right-from : (p : List ℕ) (k : LegValue) (ks ls : List LegValue) → ((ms : List LegValue) → Stands ms p → Stands (merge ks ms) p) → Stands ls p → Stands (merge_from k (merge ks) ls) p
+right-from : (p : List ℕ) (k : LegValue) (ks ls : List LegValue) → ((ms : List LegValue) → IsPresent ms p → IsPresent (merge ks ms) p) → IsPresent ls p → IsPresent (merge_from k (merge ks) ls) p
 right-from p k ks [] rest h = absurd h
 right-from p k ks (l ∷ ls) rest h = right-by p k l ks ls rest (λ i. right-from p k ks ls rest i) h (list_cmp k.position l.position) refl
 
-stands-right : (p : List ℕ) (ks ls : List LegValue) → Stands ls p → Stands (merge ks ls) p
-stands-right p [] ls h = h
-stands-right p (k ∷ ks) ls h = right-from p k ks ls (λ ms i. stands-right p ks ms i) h
+present-right : (p : List ℕ) (ks ls : List LegValue) → IsPresent ls p → IsPresent (merge ks ls) p
+present-right p [] ls h = h
+present-right p (k ∷ ks) ls h = right-from p k ks ls (λ ms i. present-right p ks ms i) h
 
 -- ---- the same by index
 
-contains-stands : (ls : List LegValue) (p : List ℕ) → Stands ls p → Contains (positions_of ls) p
-contains-stands [] p h = absurd h
-contains-stands (l ∷ ls) p (inl e) = (0, omega arith, e)
-contains-stands (l ∷ ls) p (inr h) = Contains-append_right (l.position ∷ []) (positions_of ls) p (contains-stands ls p h)
+contains-present : (ls : List LegValue) (p : List ℕ) → IsPresent ls p → Contains (positions_of ls) p
+contains-present [] p h = absurd h
+contains-present (l ∷ ls) p (inl e) = (0, omega arith, e)
+contains-present (l ∷ ls) p (inr h) = Contains-append_right (l.position ∷ []) (positions_of ls) p (contains-present ls p h)
 
-stands-at : (ls : List LegValue) (p : List ℕ) (k : ℕ) → k < length (positions_of ls) → get_or (positions_of ls) k p ≡ p → Stands ls p
-stands-at [] p k h e = absurd (omega arith)
-stands-at (l ∷ ls) p zero h e = inl e
-stands-at (l ∷ ls) p (suc k) h e = inr (stands-at ls p k (omega arith) e)
+present-at : (ls : List LegValue) (p : List ℕ) (k : ℕ) → k < length (positions_of ls) → get_or (positions_of ls) k p ≡ p → IsPresent ls p
+present-at [] p k h e = absurd (omega arith)
+present-at (l ∷ ls) p zero h e = inl e
+present-at (l ∷ ls) p (suc k) h e = inr (present-at ls p k (omega arith) e)
 
-stands-contains : (ls : List LegValue) (p : List ℕ) → Contains (positions_of ls) p → Stands ls p
-stands-contains ls p h = stands-at ls p h.0 h.1 h.2
+present-contains : (ls : List LegValue) (p : List ℕ) → Contains (positions_of ls) p → IsPresent ls p
+present-contains ls p h = present-at ls p h.0 h.1 h.2
 
 rise-rising : (ls : List LegValue) → Rise ls → AreLegsRising ls
 rise-rising [] h = λ i j d low high. absurd (omega (arith, high))
@@ -172,8 +172,8 @@ merged_leaves t P Q R first second either ks ls h g =
       rising = rise-rising (merge ks ls) (rise-merged ks ls (rising-rise ks h.rising) (rising-rise ls g.rising));
       only = all-positions R (merge ks ls) (all-merged T ks ls (weaker (λ l. P l.position) T (λ l i. first l.position i) ks (positions-all P ks h.only)) (weaker (λ l. Q l.position) T (λ l i. second l.position i) ls (positions-all Q ls g.only)));
       all = λ p i. elim (either p i) [
-        | inl a ↦ contains-stands (merge ks ls) p (stands-left p ks ls (stands-contains ks p (h.all p a)))
-        | inr a ↦ contains-stands (merge ks ls) p (stands-right p ks ls (stands-contains ls p (g.all p a)))
+        | inl a ↦ contains-present (merge ks ls) p (present-left p ks ls (present-contains ks p (h.all p a)))
+        | inr a ↦ contains-present (merge ks ls) p (present-right p ks ls (present-contains ls p (g.all p a)))
       ];
     }
 

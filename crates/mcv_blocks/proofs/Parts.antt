@@ -28,7 +28,7 @@ use Rattle.mcv_blocks.proofs.Existing.{either_hit}
 use Rattle.mcv_blocks.proofs.Merging.{merged_leaves, positions-all}
 use Rattle.mcv_route.proofs.RisingLists.{rises_behind}
 
--- ---- the legs of a plan, lent
+-- ---- the legs of a plan, borrowed
 
 abbrev looked-at : List (Bor PlannedLeg) → List PlannedLeg
 looked-at legs = map (λ (l : Bor PlannedLeg). l.now) legs

@@ -1,4 +1,4 @@
--- What a search finds, and what stands in a list that is made of others.
+-- What a search finds, and what is in a list that is made of others.
 use Rattle.std.proofs.Common.{◌≡◌, Bool, true, List, [], ◌∷◌, map, Some, inl, inr, refl, sym, ap, ◌∙◌, subst, true≢false}
 use Rattle.std.specs.Prelude.{find, flat_map}
 use Rattle.std.specs.List.{Contains, list_any}

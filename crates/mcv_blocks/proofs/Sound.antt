@@ -20,7 +20,7 @@ use Rattle.mcv_judge.specs.declared.fault.PairFault.{PairFault}
 use Rattle.mcv_judge.specs.declared.fault.PairFault.TheVariants.{CanBeAcknowledged, NotAcknowledged, OtherServer}
 use Rattle.mcv_blocks.specs.Blocks.{AreBlocksOf, IsAcknowledgedAt, IsBlockAt, IsBlockOf, IsPlaceOf, pool_for}
 use Rattle.mcv_blocks.specs.Coverage.{JustifiedIsCovered}
-use Rattle.mcv_blocks.proofs.Answered.{equal_of, has_reason, list_equal, owed_there}
+use Rattle.mcv_blocks.proofs.Answered.{equal_of, has_reason, list_equal, required_there}
 use Rattle.mcv_route.proofs.BreakTables.{era_numbered}
 use Rattle.mcv_blocks.proofs.PoolSizes.{AreSized, entry_sized}
 use Rattle.mcv_blocks.proofs.Searches.{found}
@@ -146,8 +146,8 @@ module _ (sizes : List ℕ) (t : Tree) (rest : List ℕ) (since : Option ℕ) (s
         | inr cannot ↦ inl (block.never.0 cannot)
         | inl can ↦ inr (λ p leaf i readable pool low.
             let l = leg_there t (IsReadableAt t rest since) b.readable block.readable p readable in
-            let stands = pool_of_leg t (IsReadableAt t rest since) b.readable block.readable l.0 l.1 in
-            let own : pool_for l.0 ≡ leaf = same_Some (pool_for l.0) leaf (sym stands ∙ ap (pool_at_position t) l.2 ∙ pool) in
+            let pool_there = pool_of_leg t (IsReadableAt t rest since) b.readable block.readable l.0 l.1 in
+            let own : pool_for l.0 ≡ leaf = same_Some (pool_for l.0) leaf (sym pool_there ∙ ap (pool_at_position t) l.2 ∙ pool) in
             let size = sized p leaf pool in
             let below : i < length l.0.servers = omega (arith, low, size.1, ap (λ (m : Pool). length m.servers) own) in
             let within : l.0.symbol < length sizes = subst (λ (m : Pool). m.symbol < length sizes) (sym own) size.0 in
@@ -169,7 +169,7 @@ module _ (r : RoutesValue) (pairs : List PairValue) (sound : IsSoundRoutes r) (u
       let own = All-contains (IsBlockOf r) blocks b.0 are.only b.1 in
       let block = block_has r at.0 word number.0 e.tree member since place b.0 own b.2 b.3 b.4 in
       justified (sizes_of r) e.tree member since (entry_sized r e sound at) b.0 block
-      (λ leaf readable i low. has_reason pairs blocks up fine b.0 leaf (owed_there r blocks are b.0 b.1 leaf readable) i low)
+      (λ leaf readable i low. has_reason pairs blocks up fine b.0 leaf (required_there r blocks are b.0 b.1 leaf readable) i low)
 
 pub justified_is_covered : CoveredByMembers → JustifiedIsCovered
 justified_is_covered by_members r pairs sound up given =

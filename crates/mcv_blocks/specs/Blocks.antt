@@ -16,14 +16,14 @@ use Rattle.mcv_judge.specs.Reason.{BlockValue, LegValue}
 use Rattle.mcv_judge.specs.declared.fault.PairFault.{PairFault}
 use Rattle.mcv_cert.specs.Pair.{PairValue}
 
--- the pool that a leaf stands for
+-- the pool of a leaf
 abbrev pub pool_for : LegValue → Pool
 pool_for l = record { symbol = l.symbol; servers = l.servers }
 
 abbrev pub positions_of : List LegValue → List (List ℕ)
 positions_of leaves = map (λ l. l.position) leaves
 
--- the leaves are those at the positions with the property, in the order of their positions, each with the symbol and the servers of the pool that stands there
+-- the leaves are those at the positions with the property, in the order of their positions, each with the symbol and the servers of the pool that is there
 pub record AreLeavesAt (t : Tree) (P : List ℕ → Type 0) (leaves : List LegValue) : Type 0 where
   pub pools : All (λ l. pool_at_position t l.position ≡ Some (pool_for l)) leaves
   pub rising : AreLegsRising leaves
@@ -67,10 +67,10 @@ pub record AreBlocksOf (r : RoutesValue) (blocks : List BlockValue) : Type 0 whe
   pub only : All (IsBlockOf r) blocks
   pub all : (route : ℕ) (class : List ℕ) (era : ℕ) (t : Tree) (member : List ℕ) (since : Option ℕ) → IsPlaceOf r route class era t member since → HasBlockFor blocks route class era
 
--- a certificate with these pairs is justified: no fault stands in it
+-- a certificate with these pairs is justified: it has no fault
 abbrev pub IsJustifiedBy : RoutesValue → List PairValue → Type 0
 IsJustifiedBy r pairs = (blocks : List BlockValue) × AreBlocksOf r blocks × IsFaultless pairs blocks
 
--- the fault is the first that stands in a certificate with these pairs
+-- the fault is the first of a certificate with these pairs
 abbrev pub IsFirstFaultOf : RoutesValue → List PairValue → PairFault → Type 0
 IsFirstFaultOf r pairs f = (blocks : List BlockValue) × AreBlocksOf r blocks × IsFirstFault pairs blocks f

@@ -11,7 +11,7 @@ use Rattle.mcv_blocks.specs.Blocks.{AreBlocksOf, IsBlockOf, IsJustifiedBy}
 abbrev pub OneListOfBlocks : Type 0
 OneListOfBlocks = (r : RoutesValue) (blocks others : List BlockValue) → AreBlocksOf r blocks → AreBlocksOf r others → blocks ≡ others
 
--- routes with a justified certificate are covered. A certificate's pairs stand in order: of two at one place only the first would be judged
+-- routes with a justified certificate are covered. A certificate's pairs come in order: of two at one place only the first would be judged
 abbrev pub JustifiedIsCovered : Type 0
 JustifiedIsCovered = (r : RoutesValue) (pairs : List PairValue) → IsSoundRoutes r → AreRising pairs → IsJustifiedBy r pairs → AreCovered r
 

@@ -13,7 +13,7 @@ use Rattle.mcv_blocks.specs.Places.{IsRouteClass}
 use Rattle.mcv_blocks.specs.Sets.{SetsValue}
 use Rattle.mcv_blocks.specs.declared.classes.RouteClass.{RouteClass}
 
--- a class of a route, in an era: a block stands there
+-- a class of a route, in an era: a block is there
 pub record Spot : Type 0 where
   pub class : RouteClass
   pub era : ℕ
@@ -34,7 +34,7 @@ spots_of (c ∷ cs) n = eras_from c 0 n ++ spots_of cs n
 abbrev pub IsSpotOf : RoutesValue → Spot → Type 0
 IsSpotOf r s = IsRouteClass r s.class × HasEra r s.era
 
--- as blocks stand: by route, word and era
+-- as blocks come: by route, word and era
 abbrev pub spot_cmp : Spot → Spot → Ordering
 spot_cmp s t = ordering_then (nat_cmp s.class.route t.class.route) (ordering_then (list_cmp s.class.class.word t.class.class.word) (nat_cmp s.era t.era))
 
@@ -43,7 +43,7 @@ abbrev pub AreSpotsOf : RoutesValue → List Spot → Type 0
 AreSpotsOf r [] = ⊤
 AreSpotsOf r (s ∷ ss) = IsSpotOf r s × AllByRecursion (λ t. spot_cmp s t ≡ Less) ss × AreSpotsOf r ss
 
--- the block that stands at the spot
+-- the block that is at the spot
 pub record IsBlockFor (r : RoutesValue) (s : Spot) (b : BlockValue) : Type 0 where
   pub route : b.route ≡ s.class.route
   pub class : b.class ≡ s.class.class.word

@@ -9,8 +9,8 @@ use mcv_rules::PlannedLeg;
 use std::alloc::{AllocError, Global};
 use std::cmp::Ordering;
 
-/// The leg, lent.
-fn lent<'a>(leg: &'a PlannedLeg) -> Leg<'a>
+/// The leg, borrowed.
+fn borrowed<'a>(leg: &'a PlannedLeg) -> Leg<'a>
     ensures { leg_of result ≡ leaf_of leg.now }
 {
     Leg {
@@ -20,18 +20,18 @@ fn lent<'a>(leg: &'a PlannedLeg) -> Leg<'a>
     }
 }
 
-/// The legs, lent, in their order.
-pub fn all_lent<'a>(alloc: Global, legs: &[&'a PlannedLeg]) -> Result<Vec<Leg<'a>>, AllocError>
+/// The legs, borrowed, in their order.
+pub fn all_borrowed<'a>(alloc: Global, legs: &[&'a PlannedLeg]) -> Result<Vec<Leg<'a>>, AllocError>
     ensures { IfOk result (λ all. legs_of all.items ≡ leaves_of legs.now) }
 {
     let mut all = Vec::with_capacity(alloc, legs.len())?;
     for leg in legs {
-        all.push(lent(*leg))?;
+        all.push(borrowed(*leg))?;
     }
     Ok(all)
 }
 
-/// The next leg of two lists, and how many of each it stands for.
+/// The next leg of two lists, and how many of each it is.
 #[derive(Clone, Copy)]
 struct Next<'a> {
     leg: Leg<'a>,
@@ -39,7 +39,7 @@ struct Next<'a> {
     second: usize,
 }
 
-/// The leg with the least position; where both lists have one there, it stands for both.
+/// The leg with the least position; where both lists have one there, it is that of both.
 fn next_of<'a>(first: &[&'a PlannedLeg], second: &[&'a PlannedLeg]) -> Option<Next<'a>>
     ensures legs { MatchOption result (merge (leaves_of first.now) (leaves_of second.now) ≡ [])
         (λ n. merge (leaves_of first.now) (leaves_of second.now) ≡ leg_of n.leg ∷ merge (drop n.first (leaves_of first.now)) (drop n.second (leaves_of second.now))) }
@@ -50,38 +50,38 @@ fn next_of<'a>(first: &[&'a PlannedLeg], second: &[&'a PlannedLeg]) -> Option<Ne
     let Some((one, _)) = first.split_first() else {
         let (other, _) = second.split_first()?;
         return Some(Next {
-            leg: lent(*other),
+            leg: borrowed(*other),
             first: 0,
             second: 1,
         });
     };
     let Some((other, _)) = second.split_first() else {
         return Some(Next {
-            leg: lent(*one),
+            leg: borrowed(*one),
             first: 1,
             second: 0,
         });
     };
     match one.position.steps().cmp(other.position.steps()) {
         Ordering::Less => Some(Next {
-            leg: lent(*one),
+            leg: borrowed(*one),
             first: 1,
             second: 0,
         }),
         Ordering::Equal => Some(Next {
-            leg: lent(*one),
+            leg: borrowed(*one),
             first: 1,
             second: 1,
         }),
         Ordering::Greater => Some(Next {
-            leg: lent(*other),
+            leg: borrowed(*other),
             first: 0,
             second: 1,
         }),
     }
 }
 
-/// The legs of two lists that rise by position, lent in one that rises; each position once.
+/// The legs of two lists that rise by position, borrowed in one that rises; each position once.
 pub fn merged<'a>(
     alloc: Global,
     first: &[&'a PlannedLeg],

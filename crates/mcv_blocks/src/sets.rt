@@ -6,7 +6,7 @@ ghost use Rattle.mcv_route.specs.View.{view};
 ghost use Rattle.mcv_symbolic.specs.Justified.{IsNeverAcknowledged, IsReadableAt};
 ghost use Rattle.mcv_blocks.specs.Blocks.{AreLeavesAt, IsAcknowledgedAt};
 
-use crate::legs::{all_lent, merged};
+use crate::legs::{all_borrowed, merged};
 use mcv_base::{Moment, Op, Rest};
 use mcv_judge::Leg;
 use mcv_route::Route;
@@ -64,7 +64,7 @@ impl<'a> Sets<'a> {
         ensures { IfOk result (λ legs. AreLeavesAt self.now.tree (IsAcknowledgedAt self.now.tree self.now.rest self.now.since) (legs_of legs.items)) }
     {
         let legs = self.delete.acknowledged_legs(alloc)?;
-        all_lent(alloc, legs.as_slice())
+        all_borrowed(alloc, legs.as_slice())
     }
 
     /// Whether a delete can have a reply that isn't an error.

@@ -20,7 +20,7 @@ others_are x y xs ys is = cc
 abbrev pub first_of : List ℕ → ℕ
 first_of xs = get_or xs 0 0
 
--- reasons are told apart by the first byte of their words
+-- reasons are distinguished by the first byte of their words
 abbrev pub first_byte : List (List ℕ) → ℕ
 first_byte [] = 0
 first_byte (w ∷ ws) = first_of w

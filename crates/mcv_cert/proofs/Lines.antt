@@ -10,10 +10,10 @@ use Rattle.memchr.specs.Find.{IsFirstByte, is_byte}
 use Rattle.mcv_base.specs.Key.{lacks}
 use Rattle.mcv_base.proofs.Cuts.{first_at_cut, none_at_cut}
 use Rattle.mcv_cert.specs.Pair.{AreRising, IsPair, PairValue, is_behind}
-use Rattle.mcv_cert.specs.Reading.{IsNoLine, Reading, Reads, Stops, broken, too_long, unordered}
-use Rattle.mcv_cert.specs.Fault.{IsTold}
+use Rattle.mcv_cert.specs.Reading.{IsNoLine, Reading, Reads, Stops}
+use Rattle.mcv_cert.specs.Fault.{IsFaultOfText, reading_of}
 use Rattle.mcv_cert.specs.declared.fault.CertFault.{CertFault}
-use Rattle.mcv_cert.specs.declared.fault.CertFault.TheVariants.{Syntax, Order, Limit, Memory}
+use Rattle.mcv_cert.specs.declared.fault.CertFault.TheVariants.{Text, Memory}
 use Rattle.mcv_cert.specs.Text.{pair_line, pair_text}
 use Rattle.mcv_cert.proofs.Clean.{text_lacks}
 use Rattle.mcv_cert.proofs.Rising.{rising_push}
@@ -61,7 +61,7 @@ stopped body rest ps r so_far stops = record { ps = ps; rest = rest; lines = so_
 
 -- ---- what the reader answers
 
--- a pair that isn't taken though it names its legs doesn't stand behind the others
+-- a pair that isn't taken though it names its legs doesn't come behind the others
 pub low_is : (a b r : Bool) → a ≡ true → r ≡ (a && b) → r ≡ false → b ≡ false
 low_is true b r named is none = sym is ∙ none
 low_is false b r named is none = absurd (true≢false (sym named))
@@ -69,14 +69,10 @@ low_is false b r named is none = absurd (true≢false (sym named))
 pub high_is : (a b r : Bool) → r ≡ (a && b) → r ≡ true → b ≡ true
 high_is a b r is all = (and_parts a b (sym is ∙ all)).1
 
-pub told_is : (f : CertFault) (x : Reading) (P : Reading → Type 0) → IsTold (λ s. x ≡ s) f → P x → IsTold P f
-told_is (Syntax n) x P e p = subst P e p
-told_is (Order n) x P e p = subst P e p
-told_is Limit x P e p = subst P e p
-told_is Memory x P e p = tt
+pub fault_of_reading : (f : CertFault) (x : Reading) (P : Reading → Type 0) → IsFaultOfText (λ s. x ≡ s) f → P x → IsFaultOfText P f
+fault_of_reading (Text fault) x P e p = subst P e p
+fault_of_reading Memory x P e p = tt
 
-pub told_more : (f : CertFault) (P Q : Reading → Type 0) → ((r : Reading) → P r → Q r) → IsTold P f → IsTold Q f
-told_more (Syntax n) P Q more p = more (broken n) p
-told_more (Order n) P Q more p = more (unordered n) p
-told_more Limit P Q more p = more too_long p
-told_more Memory P Q more p = tt
+pub fault_weaker : (f : CertFault) (P Q : Reading → Type 0) → ((r : Reading) → P r → Q r) → IsFaultOfText P f → IsFaultOfText Q f
+fault_weaker (Text fault) P Q more p = more (reading_of fault) p
+fault_weaker Memory P Q more p = tt

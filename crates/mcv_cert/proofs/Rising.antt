@@ -34,7 +34,7 @@ and_true false = refl
 later_rising : (q : PairValue) (ps : List PairValue) → AreRising (q ∷ ps) → AreRising ps
 later_rising q ps up = λ i j d lt l. up (suc i) (suc j) d (omega arith) (omega arith)
 
--- a pair stands behind those before it
+-- a pair comes behind those before it
 pub behind_front : (done : List PairValue) (p : PairValue) (ps : List PairValue) → AreRising (done ++ p ∷ ps) → is_behind done p ≡ true
 behind_front [] p ps up = refl
 behind_front (q ∷ done) p ps up =
@@ -49,7 +49,7 @@ rising_push ps p up behind = all_pairs_push (λ (q r : PairValue). pair_cmp q r 
     each : (k : ℕ) (d : PairValue) → k < length ps → is_lt (pair_cmp (get_or ps k d) p) ≡ true
     each k d l = true_from_ne_false (is_lt (pair_cmp (get_or ps k d) p)) (λ low. true≢false (sym behind ∙ list_all_at (λ q. is_lt (pair_cmp q p)) ps k d l low))
 
--- a pair that stands behind the last one stands behind all, since they rise
+-- a pair that comes behind the last one comes behind all, since they rise
 last_decides : (ps : List PairValue) (n : ℕ) (q p : PairValue) → length ps ≡ suc n → q ≡ get_or ps n q → AreRising ps → is_lt (pair_cmp q p) ≡ is_behind ps p
 last_decides [] n q p some is up = absurd (let h : ⊥ = omega arith in h)
 last_decides (r ∷ []) zero q p some is up = ap (λ x. is_lt (pair_cmp x p)) is ∙ sym (and_true (is_lt (pair_cmp r p)))

@@ -105,7 +105,7 @@ words_one p q f g e =
     behind_sign : (xs ys : List ℕ) → codes "=" ++ xs ≡ codes "=" ++ ys → xs ≡ ys
     behind_sign xs ys is = ap (drop 1) is
 
--- what stands before the end of a line, and the end
+-- what comes before the end of a line, and the end
 pub line_cut : (p : PairValue) (more : List ℕ) → pair_line p ++ more ≡ pair_text p ++ 10 ∷ more
 line_cut p more = append_assoc (pair_text p) (10 ∷ []) more
 

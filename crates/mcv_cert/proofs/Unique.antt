@@ -24,7 +24,7 @@ stops_one ps rest r s (falls p other f is low) (ended more is2) = absurd (not_la
 stops_one ps rest r s (falls p other f is low) (breaks none) = absurd (none.pair p other f is)
 stops_one ps rest r s (falls p other f is low) (falls q other2 g is2 low2) = refl
 
--- it doesn't stop before the line of a pair that stands behind the others
+-- it doesn't stop before the line of a pair that comes behind the others
 goes_on : (ps : List PairValue) (rest more : List ℕ) (r : Reading) (p : PairValue) → Stops ps rest r → IsPair p → rest ≡ pair_line p ++ more → is_behind ps p ≡ true → ⊥
 goes_on ps rest more r p (ended other is) f e behind = not_last p other more f (sym is ∙ e)
 goes_on ps rest more r p (breaks none) f e behind = none.pair p more f e

@@ -1,25 +1,29 @@
 -- Why a certificate's text isn't read.
 use Rattle.std.specs.Prelude.{ℕ}
 use Rattle.mcv_cert.specs.declared.fault.CertFault.{CertFault}
-use Rattle.mcv_cert.specs.declared.fault.CertFault.TheVariants.{Syntax, Order, Limit, Memory}
+use Rattle.mcv_cert.specs.declared.fault.CertFault.TheVariants.{Text, Memory}
+use Rattle.mcv_cert.specs.declared.fault.CertTextFault.{CertTextFault}
+use Rattle.mcv_cert.specs.declared.fault.CertTextFault.TheVariants.{Syntax, Order, Limit}
 use Rattle.mcv_cert.specs.Reading.{Reading, broken, unordered, too_long}
 
--- what the fault tells is said; memory may run out at any text
-abbrev pub IsTold : (Reading → Type 0) → CertFault → Type 0
-IsTold says (Syntax line) = says (broken line)
-IsTold says (Order line) = says (unordered line)
-IsTold says Limit = says too_long
-IsTold says Memory = Unit {0}
+-- what a text with this fault says
+abbrev pub reading_of : CertTextFault → Reading
+reading_of (Syntax line) = broken line
+reading_of (Order line) = unordered line
+reading_of Limit = too_long
 
-abbrev pub fault_number : CertFault → ℕ
+-- the text says what the fault reports; memory may run out at any text
+abbrev pub IsFaultOfText : (Reading → Type 0) → CertFault → Type 0
+IsFaultOfText says (Text fault) = says (reading_of fault)
+IsFaultOfText says Memory = Unit {0}
+
+abbrev pub fault_number : CertTextFault → ℕ
 fault_number (Syntax line) = 1
 fault_number (Order line) = 2
 fault_number Limit = 3
-fault_number Memory = 4
 
--- the line at fault, from 1; 0 where no line is
-abbrev pub fault_line : CertFault → ℕ
+-- the line at fault, from 1
+abbrev pub fault_line : CertTextFault → ℕ
 fault_line (Syntax line) = line
 fault_line (Order line) = line
 fault_line Limit = 1
-fault_line Memory = 0

@@ -28,7 +28,7 @@ pub record PairValue : Type 0 where
   pub leaf : List ℕ
   pub reason : ReasonValue
 
--- ---- what the code's values stand for
+-- ---- what the code's values mean
 
 abbrev pub reason_of : Reason → ReasonValue
 reason_of reasons.Never = never
@@ -41,7 +41,7 @@ pair_of p = record { route = p.route; class = p.class.items; era = p.era; leaf =
 
 -- ---- order
 
--- where a leaf stands: of which route, for the rests of which class, in which era, and at which position
+-- where a leaf is: of which route, for the rests of which class, in which era, and at which position
 pub record Place : Type 0 where
   pub route : ℕ
   pub class : List ℕ
@@ -59,7 +59,7 @@ list_cmp = slice_cmp nat_cmp
 unfoldable pub place_cmp : Place → Place → Ordering
 place_cmp p q = ordering_then (nat_cmp p.route q.route) (ordering_then (list_cmp p.class q.class) (ordering_then (nat_cmp p.era q.era) (list_cmp p.leaf q.leaf)))
 
--- a reason that speaks of all indexes stands at 0
+-- a reason that speaks of all indexes is at 0
 abbrev pub index_of : ReasonValue → ℕ
 index_of never = 0
 index_of (twin leg) = 0
@@ -73,11 +73,11 @@ index_cmp p i q j = ordering_then (place_cmp p q) (nat_cmp i j)
 abbrev pub pair_cmp : PairValue → PairValue → Ordering
 pair_cmp p q = index_cmp (place_of p) (index_of p.reason) (place_of q) (index_of q.reason)
 
--- each pair stands before all later ones
+-- each pair comes before all later ones
 abbrev pub AreRising : List PairValue → Type 0
 AreRising ps = AllPairs (λ (p q : PairValue). pair_cmp p q ≡ Less) ps
 
--- the pair stands behind all of them
+-- the pair comes behind all of them
 abbrev pub is_behind : List PairValue → PairValue → Bool
 is_behind ps p = list_all (λ (q : PairValue). is_lt (pair_cmp q p)) ps
 

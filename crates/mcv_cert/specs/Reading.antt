@@ -8,7 +8,7 @@ pub data Reading : Type 0 where
   pairs : List PairValue → Reading
   -- the line of this number, from 1, breaks the form, or is missing
   broken : (line : ℕ) → Reading
-  -- the pair in the line of this number doesn't stand behind those before it
+  -- the pair in the line of this number doesn't come behind those before it
   unordered : (line : ℕ) → Reading
   too_long : Reading
 
@@ -16,12 +16,12 @@ pub data Reading : Type 0 where
 abbrev pub text_limit : ℕ
 text_limit = 268435456
 
--- neither the line of a pair nor the last line stands at the front of the text
+-- neither the line of a pair nor the last line is at the front of the text
 pub record IsNoLine (text : List ℕ) : Type 0 where
   pub pair : (p : PairValue) (more : List ℕ) → IsPair p → text ≢ pair_line p ++ more
   pub last : (more : List ℕ) → text ≢ last_line ++ more
 
--- nothing may stand behind the last line
+-- nothing may come behind the last line
 abbrev pub at_end : List PairValue → List ℕ → Reading
 at_end ps [] = pairs ps
 at_end ps (b ∷ bs) = broken (length ps + 3)

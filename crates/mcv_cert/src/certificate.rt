@@ -44,7 +44,7 @@ impl Certificate {
         Certificate { pairs }
     }
 
-    /// Whether the pair may come next: it stands behind those that are there, and an `All` names a leg.
+    /// Whether the pair may come next: it comes behind those that are there, and an `All` names a leg.
     pub fn takes(&self, pair: &Pair) -> bool
         ensures { result ≡ (names_legs (reason_of pair.now.reason) && is_behind self.now (pair_of pair.now)) }
     {
@@ -90,7 +90,7 @@ impl Certificate {
     }
 }
 
-/// Whether the pair stands behind pairs that rise.
+/// Whether the pair comes behind pairs that rise.
 fn is_behind(pairs: &[Pair], pair: &Pair) -> bool
     requires { AreRising (map pair_of pairs.now) }
     ensures { result ≡ is_behind (map pair_of pairs.now) (pair_of pair.now) }

@@ -28,7 +28,7 @@ fn push_byte(text: &mut Vec<u8>, byte: u8) -> Result<(), AllocError>
     }
 }
 
-/// Adds the word with its other bytes than plain ones escaped. On an error it isn't said what stands there.
+/// Adds the word with its other bytes than plain ones escaped. On an error it isn't said what is there.
 pub fn push_escaped(text: &mut Vec<u8>, word: &[u8]) -> Result<(), AllocError>
     ensures { OnOk result (text.new.items ≡ text.old.items ++ escaped word.now) }
 {
@@ -38,7 +38,7 @@ pub fn push_escaped(text: &mut Vec<u8>, word: &[u8]) -> Result<(), AllocError>
     Ok(())
 }
 
-/// The number that a hexadecimal digit stands for.
+/// The number of a hexadecimal digit.
 fn hex_value(byte: u8) -> Option<u8>
     ensures value { (d : ℕ) → d < 16 → byte ≡ hex_digit d → result ≡ Some d }
     ensures small { IfSome result (λ d. d < 16) }

@@ -17,7 +17,7 @@ pub enum Reason {
     /// The leg has the leaf's symbol, and at the index the leaf's server.
     Same(usize, Position),
     /// The legs have one symbol, a leg for each of its indexes, and each has at its own index the server that
-    /// the leaf has at the index told.
+    /// the leaf has at the index named.
     All(usize, Vec<Position>),
 }
 
@@ -58,7 +58,7 @@ pub struct Pair {
 }
 
 impl Pair {
-    /// How the two stand in a certificate: by route, class, era, leaf and index.
+    /// How the two come in a certificate: by route, class, era, leaf and index.
     #[tactic(auto, unfolding(crate::specs::Pair::place_cmp))]
     pub fn compare(&self, other: &Pair) -> Ordering
         ensures { result ≡ pair_cmp (pair_of self.now) (pair_of other.now) }

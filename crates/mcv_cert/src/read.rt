@@ -1,14 +1,14 @@
 //! Reading of a certificate's text.
 
 ghost use Rattle.std.specs.Prelude.{◌≡◌, ◌≢◌, [], IfErr, IfOk, MatchOption, MatchResult, OnOk};
-ghost use Rattle.mcv_cert.specs.Fault.{IsTold};
+ghost use Rattle.mcv_cert.specs.Fault.{IsFaultOfText};
 ghost use Rattle.mcv_cert.specs.Fronts.{IsFront};
 ghost use Rattle.mcv_cert.specs.Pair.{IsPair, PairValue, pair_of};
 ghost use Rattle.mcv_cert.specs.Reading.{Reads, Says, at_end, pairs};
 ghost use Rattle.mcv_cert.specs.Text.{pair_text};
 
 use crate::certificate::Certificate;
-use crate::fault::CertFault;
+use crate::fault::{CertFault, CertTextFault};
 use crate::pair::Pair;
 use crate::parse::parse;
 use crate::write::push_pair;
@@ -25,7 +25,7 @@ struct Buffers {
     steps: Vec<usize>,
 }
 
-/// What stands at the front of a text.
+/// What is at the front of a text.
 #[derive(Drop)]
 enum Front<'a> {
     /// The line of a pair, and what follows.
@@ -38,24 +38,24 @@ enum Front<'a> {
 /// The certificate whose text it is, or the first line at fault: the form of a line before its order.
 pub fn read_certificate(alloc: Global, text: &[u8]) -> Result<Certificate, CertFault>
     ensures read { IfOk result (λ c. Says text.now (pairs c)) }
-    ensures faulty { IfErr result (λ fault. IsTold (Says text.now) fault) }
+    ensures faulty { IfErr result (λ fault. IsFaultOfText (Says text.now) fault) }
 {
     if text.len() > TEXT_LIMIT {
-        return Err(CertFault::Limit);
+        return Err(CertFault::Text(CertTextFault::Limit));
     }
     let Some(body) = text.strip_prefix(b"mcv-cert 1\n") else {
-        return Err(CertFault::Syntax(1));
+        return Err(CertFault::Text(CertTextFault::Syntax(1)));
     };
     let mut certificate = Certificate::new(alloc);
     read_body(alloc, body, &mut certificate)?;
     Ok(certificate)
 }
 
-/// Reads what stands behind the first line.
+/// Reads what comes behind the first line.
 fn read_body(alloc: Global, body: &[u8], certificate: &mut Certificate) -> Result<(), CertFault>
     requires { certificate.old ≡ [] }
     ensures read { OnOk result (Reads body.now (pairs certificate.new)) }
-    ensures faulty { IfErr result (λ fault. IsTold (Reads body.now) fault) }
+    ensures faulty { IfErr result (λ fault. IsFaultOfText (Reads body.now) fault) }
 {
     let mut buffers = Buffers {
         line: Vec::new(alloc),
@@ -66,29 +66,31 @@ fn read_body(alloc: Global, body: &[u8], certificate: &mut Certificate) -> Resul
         match read_front(alloc, rest, &mut buffers)? {
             Front::Line(pair, later) => {
                 if !certificate.takes(&pair) {
-                    return Err(CertFault::Order(certificate.len() + 2));
+                    return Err(CertFault::Text(CertTextFault::Order(certificate.len() + 2)));
                 }
                 certificate.push(pair)?;
                 rest = later;
             }
             Front::Last(later) => return ended(certificate, later),
-            Front::Nothing => return Err(CertFault::Syntax(certificate.len() + 2)),
+            Front::Nothing => return Err(CertFault::Text(CertTextFault::Syntax(
+                certificate.len() + 2,
+            ))),
         }
     }
 }
 
-/// Nothing may stand behind the last line.
+/// Nothing may come behind the last line.
 fn ended(certificate: &Certificate, behind: &[u8]) -> Result<(), CertFault>
-    ensures { MatchResult result (λ _. at_end certificate.now behind.now ≡ pairs certificate.now) (λ fault. IsTold (λ r. at_end certificate.now behind.now ≡ r) fault) }
+    ensures { MatchResult result (λ _. at_end certificate.now behind.now ≡ pairs certificate.now) (λ fault. IsFaultOfText (λ r. at_end certificate.now behind.now ≡ r) fault) }
 {
     if behind.is_empty() {
         Ok(())
     } else {
-        Err(CertFault::Syntax(certificate.len() + 3))
+        Err(CertFault::Text(CertTextFault::Syntax(certificate.len() + 3)))
     }
 }
 
-/// What stands at the front of a text.
+/// What is at the front of a text.
 fn read_front<'a>(
     alloc: Global,
     text: &'a [u8],

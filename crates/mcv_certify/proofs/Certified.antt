@@ -15,7 +15,7 @@ use Rattle.mcv_blocks.specs.Blocks.{IsJustifiedBy}
 use Rattle.mcv_blocks.specs.Places.{AreRouteClasses}
 use Rattle.mcv_blocks.specs.Spots.{spots_of}
 use Rattle.mcv_blocks.specs.declared.classes.RouteClass.{RouteClass}
-use Rattle.mcv_blocks.proofs.Along.{blocks_of_spots, in_order, spots_are}
+use Rattle.mcv_blocks.proofs.BlocksOfSpots.{blocks_of_spots, in_order, spots_are}
 use Rattle.mcv_certify.specs.Made.{AddsFor}
 use Rattle.mcv_certify.specs.Picked.{IsPickedOf}
 
@@ -44,15 +44,15 @@ module _ (r : RoutesValue) (cs : List RouteClass) (n : ℕ) (ps : List PairValue
 
   pub is_certificate : IsCertificate ps
   is_certificate = record {
-    rising = (answered_faultless h.blocks ps (in_order r (spots_of cs n) h.blocks sound (spots_are r cs n classes count) h.stand) answers).0;
+    rising = (answered_faultless h.blocks ps (in_order r (spots_of cs n) h.blocks sound (spots_are r cs n classes count) h.blocks_are) answers).0;
     legs = all_name h.blocks ps answers;
   }
 
   pub is_justified : IsJustifiedBy r ps
   is_justified = (
     h.blocks,
-    blocks_of_spots r cs n h.blocks classes count h.stand,
-    (answered_faultless h.blocks ps (in_order r (spots_of cs n) h.blocks sound (spots_are r cs n classes count) h.stand) answers).1,
+    blocks_of_spots r cs n h.blocks classes count h.blocks_are,
+    (answered_faultless h.blocks ps (in_order r (spots_of cs n) h.blocks sound (spots_are r cs n classes count) h.blocks_are) answers).1,
   )
 
 -- pairs that were added to none

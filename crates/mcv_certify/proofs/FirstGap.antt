@@ -1,4 +1,4 @@
--- The gap that is told is the first of all.
+-- The gap that is reported is the first of all.
 use Rattle.std.proofs.Common.{◌≡◌, ◌↔◌, ◌<◌, ℕ, List, ◌∷◌, length, Some, inl, inr, refl, sym, ◌∙◌, subst}
 use Rattle.std.specs.List.{All, Contains}
 use Rattle.std.specs.declared.cmp.Ordering.TheVariants.{Less}
@@ -13,11 +13,11 @@ use Rattle.mcv_blocks.specs.Blocks.{IsBlockOf}
 use Rattle.mcv_blocks.specs.Places.{AreRouteClasses}
 use Rattle.mcv_blocks.specs.Spots.{AreSpotsOf, IsBlockFor, Spot, spot, spot_cmp, spots_of}
 use Rattle.mcv_blocks.specs.declared.classes.RouteClass.{RouteClass}
-use Rattle.mcv_blocks.proofs.Along.{class-there, in-spots, same-cmp, spots_are, spots_behind}
+use Rattle.mcv_blocks.proofs.BlocksOfSpots.{class-there, in-spots, same-cmp, spots_are, spots_behind}
 use Rattle.mcv_route.proofs.RisingLists.{first_or_behind}
 use Rattle.mcv_blocks.proofs.Unique.{one_block}
 use Rattle.mcv_certify.specs.Gap.{IsFirstGap, IsGap, place_of_gap}
-use Rattle.mcv_certify.specs.Made.{TellsGapIn}
+use Rattle.mcv_certify.specs.Made.{ReportsGapIn}
 use Rattle.mcv_certify.specs.declared.gap.Gap.{Gap}
 use Rattle.mcv_certify.proofs.BlockGap.{before_gap}
 use Rattle.mcv_certify.proofs.Lists.{zip_there}
@@ -36,60 +36,60 @@ module _ (r : RoutesValue) (cs : List RouteClass) (n : ℕ) (classes : AreRouteC
   same_block : (s : Spot) (b c : BlockValue) → IsBlockFor r s b → IsBlockFor r s c → b ≡ c
   same_block s b c h g = one_block r b c h.is g.is (h.route ∙ sym g.route) (h.class ∙ sym g.class) (h.era ∙ sym g.era)
 
-  module _ (f : Gap) (t : TellsGapIn r (spots_of cs n) f) where
+  module _ (f : Gap) (t : ReportsGapIn r (spots_of cs n) f) where
     abbrev here : BlockValue
-    here = t.tells.block
+    here = t.reports.block
 
     abbrev leaf : LegValue
-    leaf = t.tells.tells.gap.leaf
+    leaf = t.reports.reports.gap.leaf
 
     pub own : IsGap r (place_of_gap f) f.at f.server.0
     own =
-        let told = t.tells.tells in
+        let reported = t.reports.reports in
         record {
           block = here;
           leaf = leaf;
-          stands = t.tells.stands.is;
-          readable = (told.number, slice_get_within here.readable told.number leaf told.gap.numbered, get_or_from_slice_get here.readable told.number leaf leaf told.gap.numbered);
-          placed = told.placed;
-          has = told.has;
-          unanswered = told.gap.first.gap;
+          block_is = t.reports.block_is.is;
+          readable = (reported.number, slice_get_within here.readable reported.number leaf reported.gap.numbered, get_or_from_slice_get here.readable reported.number leaf leaf reported.gap.numbered);
+          placed = reported.placed;
+          has = reported.has;
+          unanswered = reported.gap.first.gap;
         }
 
-    -- in the told block
+    -- in the reported block
     in_own : (b : BlockValue) → here ≡ b → (l : LegValue) (j : ℕ) → Contains b.readable l → j < length l.servers → index_cmp (place_in b l) j (place_in here leaf) f.at ≡ Less → HasReason b l j
     in_own b same =
         subst (λ (c : BlockValue). (l : LegValue) (j : ℕ) → Contains c.readable l → j < length l.servers → index_cmp (place_in c l) j (place_in here leaf) f.at ≡ Less → HasReason c l j) same
-        (λ l j has low less. before_gap here t.tells.stands.is.has.readable.rising t.tells.tells.number f.at t.tells.tells.gap l j has low less)
+        (λ l j has low less. before_gap here t.reports.block_is.is.has.readable.rising t.reports.reports.number f.at t.reports.reports.gap l j has low less)
 
     -- in a block before it
     in_before : (b : BlockValue) (s : Spot) → Contains t.before s → IsBlockFor r s b → (l : LegValue) (j : ℕ) → Contains b.readable l → j < length l.servers → HasReason b l j
-    in_before b s at stands l j has low =
-        let c = zip_there (IsBlockFor r) t.before t.blocks s t.stand at in
+    in_before b s at block_is l j has low =
+        let c = zip_there (IsBlockFor r) t.before t.blocks s t.blocks_are at in
         let reasons : All (HasReasons c.0) c.0.readable = All-contains (λ d. All (HasReasons d) d.readable) t.blocks c.0 t.reasons c.1 in
-        let same : c.0 ≡ b = same_block s c.0 b c.2 stands in
+        let same : c.0 ≡ b = same_block s c.0 b c.2 block_is in
         let own_reasons : All (HasReasons b) b.readable = subst (λ (d : BlockValue). All (HasReasons d) d.readable) same reasons in
         All-contains (HasReasons b) b.readable l own_reasons has j low
 
-    -- a block behind it stands behind
+    -- a block behind it comes behind
     in_behind : (b : BlockValue) (s : Spot) → Contains t.behind s → IsBlockFor r s b → block_cmp here b ≡ Less
-    in_behind b s at stands =
+    in_behind b s at block_is =
         let rise = spots_behind r t.before (t.spot ∷ t.behind) (subst (AreSpotsOf r) t.parts (spots_are r cs n classes count)) in
         let later : spot_cmp t.spot s ≡ Less = All-contains (λ u. spot_cmp t.spot u ≡ Less) t.behind s (All-from_recursion (λ u. spot_cmp t.spot u ≡ Less) t.behind rise.1) at in
-        same-cmp r t.spot s here b t.tells.stands stands ∙ later
+        same-cmp r t.spot s here b t.reports.block_is block_is ∙ later
 
     none_before : (s : Place) (j x : ℕ) → index_cmp s j (place_of_gap f) f.at ≡ Less → IsGap r s j x → ⊥
     none_before s j x less g =
         let b = g.block in
-        let at = spot_of b g.stands in
+        let at = spot_of b g.block_is in
         let low = slice_get_within g.leaf.servers j x g.has in
         let before : index_cmp (place_in b g.leaf) j (place_in here leaf) f.at ≡ Less =
-        subst (λ p. index_cmp p j (place_in here leaf) f.at ≡ Less) (sym g.placed) (subst (λ p. index_cmp s j p f.at ≡ Less) (sym t.tells.tells.placed) less) in
+        subst (λ p. index_cmp p j (place_in here leaf) f.at ≡ Less) (sym g.placed) (subst (λ p. index_cmp s j p f.at ≡ Less) (sym t.reports.reports.placed) less) in
         elim (Contains-append_cases t.before (t.spot ∷ t.behind) at.0 (subst (λ ss. Contains ss at.0) t.parts at.1)) [
           | inl h ↦ g.unanswered (in_before b at.0 h at.2 g.leaf j g.readable low)
           | inr h ↦ elim (first_or_behind t.spot t.behind at.0 h) [
             | inl is ↦
-                let same = same_block at.0 here b (subst (λ u. IsBlockFor r u here) is t.tells.stands) at.2 in
+                let same = same_block at.0 here b (subst (λ u. IsBlockFor r u here) is t.reports.block_is) at.2 in
                 g.unanswered (in_own b same g.leaf j g.readable low before)
             | inr later ↦ not_before (place_in b g.leaf) j (place_in here leaf) f.at before (in_two_blocks here b leaf g.leaf (in_behind b at.0 later at.2))
           ]

@@ -1,4 +1,4 @@
--- A server that is told is one of the table.
+-- A server that is reported is one of the table.
 use Rattle.std.proofs.Common.{◌≡◌, ◌<◌, ℕ, length, Some, subst}
 use Rattle.std.specs.List.{Contains}
 use Rattle.std.specs.Prelude.{slice_get}

@@ -1,12 +1,12 @@
 pub mod Lists
 pub mod Spots
-pub mod Along
+pub mod GapsOfSpots
 pub mod Places
 pub mod BlockGap
 pub mod FirstGap
-pub mod Standing
+pub mod MadeOfSets
 pub mod Known
-pub mod Told
+pub mod LeafOfGap
 pub mod Loss
 pub mod Lost
 pub mod Certified

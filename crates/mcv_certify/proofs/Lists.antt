@@ -13,7 +13,7 @@ zip_both R [] us (y ∷ ys) vs h g = absurd h
 zip_both R (x ∷ xs) us [] vs h g = absurd h
 zip_both R (x ∷ xs) us (y ∷ ys) vs h g = (h.0, zip_both R xs us ys vs h.1 g)
 
--- what stands beside one of them
+-- what is beside one of them
 pub zip_there : {A B : Type 0} (R : A → B → Type 0) (xs : List A) (ys : List B) (x : A) → AllZip R xs ys → Contains xs x → (y : B) × Contains ys y × R x y
 zip_there R [] ys x h at = absurd (none_there x at)
 zip_there R (z ∷ xs) [] x h at = absurd h

@@ -1,4 +1,4 @@
--- What is told of a gap tells more.
+-- What is reported of a gap says more.
 use Rattle.std.specs.Prelude.{OnOk}
 use Rattle.std.specs.declared.result.Result.{Result}
 use Rattle.std.specs.declared.result.Result.TheVariants.{Ok, Err}

@@ -1,11 +1,11 @@
--- How places stand to one another.
+-- How places compare.
 use Rattle.std.proofs.Common.{◌≡◌, ◌<◌, ℕ, sym, ap, ◌∙◌}
 use Rattle.std.specs.Cmp.{IsTotalOrder}
 use Rattle.std.specs.declared.cmp.Ordering.TheVariants.{Less}
 use Rattle.std.specs.Ordering.{nat_cmp, ordering_then}
 use Rattle.std.proofs.lemmas.Cmp.{nat_cmp_total, on_total, then_total, tied_itself}
 use Rattle.mcv_cert.specs.Pair.{Place, index_cmp, list_cmp, place_cmp}
-use Rattle.mcv_judge.specs.Faults.{block_cmp, owe, place_owed}
+use Rattle.mcv_judge.specs.Faults.{block_cmp, require, place_required}
 use Rattle.mcv_judge.specs.Reason.{BlockValue, LegValue}
 use Rattle.mcv_judge.proofs.First.{nat_less}
 use Rattle.mcv_judge.proofs.Order
@@ -13,7 +13,7 @@ use Rattle.mcv_judge.proofs.Order.{places_total}
 use Rattle.mcv_route.proofs.RisingLists.{not_both}
 
 abbrev pub place_in : BlockValue → LegValue → Place
-place_in b leaf = place_owed (owe b leaf)
+place_in b leaf = place_required (require b leaf)
 
 pub in_one_block : (b : BlockValue) (l m : LegValue) → place_cmp (place_in b l) (place_in b m) ≡ list_cmp l.position m.position
 in_one_block b l m = Order.in_one_block b l.position m.position
@@ -24,7 +24,7 @@ in_two_blocks b c l m h = Order.in_two_blocks b c l.position m.position h
 indexes_total : IsTotalOrder (λ (x y : Place × ℕ). ordering_then (place_cmp x.0 y.0) (nat_cmp x.1 y.1))
 indexes_total = then_total (on_total (λ (x : Place × ℕ). x.0) places_total) (on_total (λ (x : Place × ℕ). x.1) nat_cmp_total)
 
--- not before it, where it stands before
+-- not before it, where it comes before
 pub not_before : (s : Place) (i : ℕ) (t : Place) (j : ℕ) → index_cmp s i t j ≡ Less → place_cmp t s ≡ Less → ⊥
 not_before s i t j h g = not_both (index_cmp s i t j) (index_cmp t j s i) (indexes_total.antisymm (s, i) (t, j)) h (ap (λ x. ordering_then x (nat_cmp j i)) g)
 

@@ -3,7 +3,7 @@ use Rattle.std.specs.Prelude.{◌≡◌, ◌<◌, ℕ, Some}
 use Rattle.std.specs.List.{All, Contains}
 use Rattle.std.specs.declared.cmp.Ordering.TheVariants.{Less}
 use Rattle.mcv_cert.specs.Pair.{Place, index_cmp}
-use Rattle.mcv_judge.specs.Faults.{owe, place_owed}
+use Rattle.mcv_judge.specs.Faults.{place_required, require}
 use Rattle.mcv_judge.specs.Reason.{BlockValue, HasReason, LegValue, server_at}
 use Rattle.mcv_route.specs.Routes.{IsSoundRoutes, RoutesValue}
 use Rattle.mcv_symbolic.specs.Covered.{AreCovered, sizes_of}
@@ -12,13 +12,13 @@ use Rattle.mcv_certify.specs.declared.gap.Gap.{Gap}
 use Rattle.mcv_certify.specs.declared.gap.CertifyFault.{CertifyFault}
 use Rattle.mcv_certify.specs.declared.gap.CertifyFault.TheVariants.{Lost, Memory}
 
--- a leaf that can be read stands at the place and has the server at the index, and no reason says that each acknowledged delete was sent to it
+-- a leaf that can be read is at the place and has the server at the index, and no reason says that each acknowledged delete was sent to it
 pub record IsGap (r : RoutesValue) (s : Place) (i server : ℕ) : Type 0 where
   pub block : BlockValue
   pub leaf : LegValue
-  pub stands : IsBlockOf r block
+  pub block_is : IsBlockOf r block
   pub readable : Contains block.readable leaf
-  pub placed : place_owed (owe block leaf) ≡ s
+  pub placed : place_required (require block leaf) ≡ s
   pub has : server_at leaf i ≡ Some server
   pub unanswered : HasReason block leaf i → ⊥
 
@@ -30,7 +30,7 @@ pub record IsFirstGap (r : RoutesValue) (s : Place) (i server : ℕ) : Type 0 wh
 abbrev pub place_of_gap : Gap → Place
 place_of_gap f = record { route = f.route; class = f.class.items; era = f.era; leaf = f.leaf }
 
--- what is told to be lost is the first gap
+-- what is reported as lost is the first gap
 abbrev pub IsRightFault : RoutesValue → CertifyFault → Type 0
 IsRightFault r (Lost f) = IsFirstGap r (place_of_gap f) f.at f.server.0
 IsRightFault r Memory = Unit {0}

@@ -3,7 +3,7 @@ use Rattle.std.specs.Prelude.{All, ◌≡◌, ◌<◌, ◌++◌, ◌∷◌, ℕ,
 use Rattle.std.specs.List.{AllZip}
 use Rattle.mcv_cert.specs.Pair.{PairValue}
 use Rattle.mcv_judge.specs.Answers.{AnswersAll, AnswersBlock}
-use Rattle.mcv_judge.specs.Faults.{owe, place_owed}
+use Rattle.mcv_judge.specs.Faults.{place_required, require}
 use Rattle.mcv_judge.specs.Reason.{BlockValue, HasReasons, LegValue, server_at}
 use Rattle.mcv_route.specs.Routes.{RoutesValue}
 use Rattle.mcv_pairs.specs.Adds.{Adds}
@@ -31,37 +31,37 @@ pub record AddsWith (s : SetsValue) (c : RouteClass) (number : ℕ) (old new : L
 -- pairs were added that answer blocks at these spots
 pub record AddsFor (r : RoutesValue) (spots : List Spot) (old new : List PairValue) : Type 0 where
   pub blocks : List BlockValue
-  pub stand : AllZip (IsBlockFor r) spots blocks
+  pub blocks_are : AllZip (IsBlockFor r) spots blocks
   pub adds : Adds (AnswersAll blocks) old new
   pub picked : Adds (All (IsPickedOf r)) old new
 
--- the first gap of the block is told
-pub record TellsGapOf (b : BlockValue) (f : Gap) : Type 0 where
+-- the first gap of the block is reported
+pub record ReportsGapOf (b : BlockValue) (f : Gap) : Type 0 where
   pub number : ℕ
   pub gap : IsFirstGapIn b number f.at
-  pub placed : place_owed (owe b gap.leaf) ≡ place_of_gap f
+  pub placed : place_required (require b gap.leaf) ≡ place_of_gap f
   pub has : server_at gap.leaf f.at ≡ Some f.server.0
   pub bytes : All (λ c. c < 256) f.class.items
 
 -- that of the block of the sets
-pub record TellsGapWith (s : SetsValue) (c : RouteClass) (number : ℕ) (f : Gap) : Type 0 where
+pub record ReportsGapWith (s : SetsValue) (c : RouteClass) (number : ℕ) (f : Gap) : Type 0 where
   pub block : BlockValue
   pub is : IsBlockWith s c number block
-  pub tells : TellsGapOf block f
+  pub reports : ReportsGapOf block f
 
 -- that of the block at the spot
-pub record TellsGapAt (r : RoutesValue) (s : Spot) (f : Gap) : Type 0 where
+pub record ReportsGapAt (r : RoutesValue) (s : Spot) (f : Gap) : Type 0 where
   pub block : BlockValue
-  pub stands : IsBlockFor r s block
-  pub tells : TellsGapOf block f
+  pub block_is : IsBlockFor r s block
+  pub reports : ReportsGapOf block f
 
 -- that of the block at one of the spots, and blocks at those before it have a reason for each index
-pub record TellsGapIn (r : RoutesValue) (spots : List Spot) (f : Gap) : Type 0 where
+pub record ReportsGapIn (r : RoutesValue) (spots : List Spot) (f : Gap) : Type 0 where
   pub before : List Spot
   pub spot : Spot
   pub behind : List Spot
   pub parts : spots ≡ before ++ spot ∷ behind
   pub blocks : List BlockValue
-  pub stand : AllZip (IsBlockFor r) before blocks
+  pub blocks_are : AllZip (IsBlockFor r) before blocks
   pub reasons : All (λ b. All (HasReasons b) b.readable) blocks
-  pub tells : TellsGapAt r spot f
+  pub reports : ReportsGapAt r spot f

@@ -5,6 +5,6 @@ use Rattle.mcv_route.specs.Routes.{RoutesValue}
 use Rattle.mcv_blocks.specs.Blocks.{IsBlockOf}
 use Rattle.mcv_pairs.specs.Reasons.{IsPickedIn}
 
--- the pair stands at a readable leaf of a block of the routes, and its reason is the first for it in the order never, twin, same and all, with the least positions
+-- the pair is at a readable leaf of a block of the routes, and its reason is the first for it in the order never, twin, same and all, with the least positions
 abbrev pub IsPickedOf : RoutesValue → PairValue → Type 0
 IsPickedOf r p = (b : BlockValue) × IsBlockOf r b × IsPickedIn b p

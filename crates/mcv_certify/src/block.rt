@@ -8,30 +8,30 @@ ghost use Rattle.mcv_pairs.specs.Adds.{Adds};
 ghost use Rattle.mcv_pairs.specs.Gaps.{IsSized};
 ghost use Rattle.mcv_pairs.specs.Reasons.{IsPickedIn};
 ghost use Rattle.mcv_certify.specs.Gap.{IfLost};
-ghost use Rattle.mcv_certify.specs.Made.{AddsWith, AreLegsSized, TellsGapOf, TellsGapWith};
+ghost use Rattle.mcv_certify.specs.Made.{AddsWith, AreLegsSized, ReportsGapOf, ReportsGapWith};
 
-use crate::gap::{CertifyFault, told};
+use crate::gap::{CertifyFault, gap_of};
 use mcv_blocks::{RouteClass, Sets};
 use mcv_cert::Pair;
 use mcv_judge::Block;
 use mcv_pairs::push_block;
 use std::alloc::Global;
 
-/// Adds the pairs of the block, or tells its first gap.
-fn push_or_tell(alloc: Global, block: &Block, pairs: &mut Vec<Pair>) -> Result<(), CertifyFault>
+/// Adds the pairs of the block, or reports its first gap.
+fn push_or_report(alloc: Global, block: &Block, pairs: &mut Vec<Pair>) -> Result<(), CertifyFault>
     requires rising { AreLegsRising (legs_of block.now.acknowledged.now) }
     requires sized { IsSized (legs_of block.now.acknowledged.now) }
     ensures added { OnOk result (Adds (AnswersBlock (block_of block.now)) (pairs_of pairs.old.items) (pairs_of pairs.new.items)) }
     ensures picked { OnOk result (Adds (All (IsPickedIn (block_of block.now))) (pairs_of pairs.old.items) (pairs_of pairs.new.items)) }
-    ensures lost { IfErr result (λ f. IfLost f (TellsGapOf (block_of block.now))) }
+    ensures lost { IfErr result (λ f. IfLost f (ReportsGapOf (block_of block.now))) }
 {
     let Some(gap) = push_block(alloc, pairs, block)? else {
         return Ok(());
     };
-    Err(CertifyFault::Lost(told(alloc, block, gap)?))
+    Err(CertifyFault::Lost(gap_of(alloc, block, gap)?))
 }
 
-/// Adds the pairs of the block that the sets of a class make in an era, or tells its first gap.
+/// Adds the pairs of the block that the sets of a class make in an era, or reports its first gap.
 pub fn push_sets(
     alloc: Global,
     sets: &Sets,
@@ -41,7 +41,7 @@ pub fn push_sets(
 ) -> Result<(), CertifyFault>
     requires { AreLegsSized sets.now }
     ensures added { OnOk result (AddsWith sets.now class.now era (pairs_of pairs.old.items) (pairs_of pairs.new.items)) }
-    ensures lost { IfErr result (λ f. IfLost f (TellsGapWith sets.now class.now era)) }
+    ensures lost { IfErr result (λ f. IfLost f (ReportsGapWith sets.now class.now era)) }
 {
     let readable = sets.readable(alloc)?;
     let acknowledged = sets.acknowledged(alloc)?;
@@ -53,5 +53,5 @@ pub fn push_sets(
         acknowledged: acknowledged.as_slice(),
         can_be_acknowledged: sets.can_be_acknowledged(),
     };
-    push_or_tell(alloc, &block, pairs)
+    push_or_report(alloc, &block, pairs)
 }

@@ -3,7 +3,7 @@
 ghost use Rattle.std.specs.Prelude.{◌≡◌, ◌<◌, All, IfOk};
 ghost use Rattle.mcv_judge.specs.InMemory.{block_of};
 ghost use Rattle.mcv_pairs.specs.Gaps.{IsFirstGapIn};
-ghost use Rattle.mcv_certify.specs.Made.{TellsGapOf};
+ghost use Rattle.mcv_certify.specs.Made.{ReportsGapOf};
 ghost use Rattle.mcv_certify.specs.declared.gap.CertifyFault.TheVariants.{Memory as out_of_memory};
 
 use mcv_base::{Position, ServerId};
@@ -54,10 +54,10 @@ fn copied(alloc: Global, word: &[u8]) -> Result<Vec<u8>, AllocError>
     Vec::from_slice(alloc, word)
 }
 
-/// What is told of the first gap of a block.
-pub fn told(alloc: Global, block: &Block, gap: BlockGap) -> Result<Gap, AllocError>
+/// The first gap of a block, as it is reported.
+pub fn gap_of(alloc: Global, block: &Block, gap: BlockGap) -> Result<Gap, AllocError>
     requires { IsFirstGapIn (block_of block.now) gap.leaf gap.at }
-    ensures { IfOk result (λ f. TellsGapOf (block_of block.now) f) }
+    ensures { IfOk result (λ f. ReportsGapOf (block_of block.now) f) }
 {
     let leaf = &block.readable[gap.leaf];
     let servers = leaf.servers;

@@ -9,7 +9,7 @@ ghost use Rattle.mcv_judge.specs.InMemory.{pairs_of};
 ghost use Rattle.mcv_route.specs.Routes.{IsSoundRoutes};
 ghost use Rattle.mcv_symbolic.specs.Covered.{AreCovered};
 ghost use Rattle.mcv_certify.specs.Gap.{IfLost, IsRightFault};
-ghost use Rattle.mcv_certify.specs.Made.{AddsFor, TellsGapAt, TellsGapIn};
+ghost use Rattle.mcv_certify.specs.Made.{AddsFor, ReportsGapAt, ReportsGapIn};
 ghost use Rattle.mcv_certify.specs.Picked.{IsPickedOf};
 ghost use Rattle.mcv_certify.specs.declared.gap.CertifyFault.TheVariants.{Memory as out_of_memory};
 
@@ -20,7 +20,7 @@ use mcv_cert::{Certificate, Pair};
 use mcv_route::{Routes, era_count, opened};
 use std::alloc::Global;
 
-/// Adds the pairs of the block of a class in an era, or tells the first gap in it.
+/// Adds the pairs of the block of a class in an era, or reports the first gap in it.
 fn push_era(
     alloc: Global,
     routes: &Routes,
@@ -31,7 +31,7 @@ fn push_era(
     requires sound { IsSoundRoutes routes.now }
     requires spot { IsSpotOf routes.now (spot class.now era) }
     ensures added { OnOk result (AddsFor routes.now (spot class.now era ∷ []) (pairs_of pairs.old.items) (pairs_of pairs.new.items)) }
-    ensures lost { IfErr result (λ f. IfLost f (TellsGapAt routes.now (spot class.now era))) }
+    ensures lost { IfErr result (λ f. IfLost f (ReportsGapAt routes.now (spot class.now era))) }
 {
     let Some(route) = routes.route(class.route) else {
         unreachable!()
@@ -43,7 +43,7 @@ fn push_era(
     push_sets(alloc, &sets, class, era, pairs)
 }
 
-/// Adds the pairs of the blocks of a class, era by era, or tells the first gap in them.
+/// Adds the pairs of the blocks of a class, era by era, or reports the first gap in them.
 fn push_class(
     alloc: Global,
     routes: &Routes,
@@ -55,7 +55,7 @@ fn push_class(
     requires class { IsRouteClass routes.now class.now }
     requires eras { (era : ℕ) → era < eras → HasEra routes.now era }
     ensures added { OnOk result (AddsFor routes.now (eras_from class.now 0 eras) (pairs_of pairs.old.items) (pairs_of pairs.new.items)) }
-    ensures lost { IfErr result (λ f. IfLost f (TellsGapIn routes.now (eras_from class.now 0 eras))) }
+    ensures lost { IfErr result (λ f. IfLost f (ReportsGapIn routes.now (eras_from class.now 0 eras))) }
 {
     for era in 0..eras {
         push_era(alloc, routes, class, era, pairs)?;

@@ -10,8 +10,8 @@ use Rattle.mcv_blocks.specs.Blocks.{IsFirstFaultOf, IsJustifiedBy}
 use Rattle.mcv_blocks.specs.Places.{AreRouteClasses, IsRouteClass}
 use Rattle.mcv_blocks.specs.Spots.{AreSpotsOf, eras_from, spots_of}
 use Rattle.mcv_blocks.specs.declared.classes.RouteClass.{RouteClass}
-use Rattle.mcv_blocks.proofs.Along.{blocks_of_spots, spots_are, spots_behind}
-use Rattle.mcv_check.specs.Fault.{IsTold}
+use Rattle.mcv_blocks.proofs.BlocksOfSpots.{blocks_of_spots, spots_are, spots_behind}
+use Rattle.mcv_check.specs.Fault.{IsFaultOfPairs}
 use Rattle.mcv_check.specs.Judged.{IsJudged, Leaves, Stops}
 use Rattle.mcv_check.specs.declared.fault.CheckFault.{CheckFault}
 use Rattle.mcv_check.specs.declared.fault.CheckFault.TheVariants.{Memory, Pair}
@@ -43,14 +43,14 @@ module _ (r : RoutesValue) (cs : List RouteClass) (n : ℕ) (pairs : List PairVa
       }
 
   module _ (are : AreRouteClasses r cs) (count : (era : ℕ) → (era < n) ↔ HasEra r era) where
-    told : (fault : PairFault) → IsFirstAt r pairs (spots_of cs n) fault → IsFirstFaultOf r pairs fault
-    told fault h = (h.0, blocks_of_spots r cs n h.0 are count h.1, h.2)
+    reported : (fault : PairFault) → IsFirstAt r pairs (spots_of cs n) fault → IsFirstFaultOf r pairs fault
+    reported fault h = (h.0, blocks_of_spots r cs n h.0 are count h.1, h.2)
 
-    pub class_stops : (k : ℕ) (c : RouteClass) → k < length cs → c ≡ get_or cs k c → (rest : List PairValue) → IsJudgedBefore r cs n pairs (drop k cs) rest → (fault : CheckFault) → Stops r rest (eras_from c 0 n) fault → IsTold r pairs fault
+    pub class_stops : (k : ℕ) (c : RouteClass) → k < length cs → c ≡ get_or cs k c → (rest : List PairValue) → IsJudgedBefore r cs n pairs (drop k cs) rest → (fault : CheckFault) → Stops r rest (eras_from c 0 n) fault → IsFaultOfPairs r pairs fault
     class_stops k c low is rest so_far (Pair fault) stops =
         let later = spots_of (drop (k + 1) cs) n in
         let at = there k c low is rest so_far in
-        told fault (brought-back r pairs rest (spots_of cs n) (eras_from c 0 n ++ later) fault at.judged (stops later at.order))
+        reported fault (brought-back r pairs rest (spots_of cs n) (eras_from c 0 n ++ later) fault at.judged (stops later at.order))
     class_stops k c low is rest so_far Memory stops = tt
 
     -- no class is left
@@ -60,7 +60,7 @@ module _ (r : RoutesValue) (cs : List RouteClass) (n : ℕ) (pairs : List PairVa
         (w.0, blocks_of_spots r cs n w.0 are count w.1, λ s i. w.2 s i ∙ none s i)
 
     pub end_stops : (rest : List PairValue) → IsJudgedBefore r cs n pairs [] rest → (fault : PairFault) → IsFirstFault rest [] fault → IsFirstFaultOf r pairs fault
-    end_stops rest so_far fault first = told fault (brought-back r pairs rest (spots_of cs n) [] fault so_far.judged ([], tt, first))
+    end_stops rest so_far fault first = reported fault (brought-back r pairs rest (spots_of cs n) [] fault so_far.judged ([], tt, first))
 
 -- the class at a place of the list
 pub class_at : (r : RoutesValue) (cs : List RouteClass) → AreRouteClasses r cs → (k : ℕ) (c : RouteClass) → k < length cs → c ≡ get_or cs k c → IsRouteClass r c

@@ -1,5 +1,5 @@
 pub mod Steps
 pub mod Eras
 pub mod Classes
-pub mod Told
+pub mod NoFaultOfJustified
 pub mod Found

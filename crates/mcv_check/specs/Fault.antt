@@ -11,7 +11,7 @@ abbrev pub fault_number : CheckFault → ℕ
 fault_number (Pair fault) = number_of fault
 fault_number Memory = 6
 
--- what the fault tells of a certificate with these pairs: it is the first that stands there. Memory may run out at any certificate
-abbrev pub IsTold : RoutesValue → List PairValue → CheckFault → Type 0
-IsTold r pairs (Pair fault) = IsFirstFaultOf r pairs fault
-IsTold r pairs Memory = ⊤
+-- what the fault reports of a certificate with these pairs: it is the first there. Memory may run out at any certificate
+abbrev pub IsFaultOfPairs : RoutesValue → List PairValue → CheckFault → Type 0
+IsFaultOfPairs r pairs (Pair fault) = IsFirstFaultOf r pairs fault
+IsFaultOfPairs r pairs Memory = ⊤

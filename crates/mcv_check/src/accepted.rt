@@ -2,7 +2,7 @@
 
 ghost use Rattle.std.specs.Prelude.{◌≡◌, IfErr, IfOk};
 ghost use Rattle.mcv_blocks.specs.Blocks.{IsJustifiedBy};
-ghost use Rattle.mcv_check.specs.Fault.{IsTold};
+ghost use Rattle.mcv_check.specs.Fault.{IsFaultOfPairs};
 ghost use Rattle.mcv_check.specs.declared.fault.CheckFault.TheVariants.{Memory as OutOfMemory};
 
 use crate::fault::CheckFault;
@@ -45,8 +45,8 @@ impl Accepted {
     }
 }
 
-/// Judges the certificate against the routes: accepts it just where it is justified, or else tells the first fault that
-/// stands in it.
+/// Judges the certificate against the routes: accepts it exactly when it is justified, or else reports the first fault
+/// in it.
 ///
 /// An error drops the routes. `Memory` may come for any certificate.
 pub fn check(
@@ -55,7 +55,7 @@ pub fn check(
     certificate: &Certificate,
 ) -> Result<Accepted, CheckFault>
     ensures accepted { IfOk result (λ a. (a ≡ routes) × IsJustifiedBy routes certificate.now) }
-    ensures fault { IfErr result (IsTold routes certificate.now) }
+    ensures fault { IfErr result (IsFaultOfPairs routes certificate.now) }
     ensures justified { IsJustifiedBy routes certificate.now → IfErr result (λ f. f ≡ OutOfMemory) }
 {
     one_list_of_blocks();

@@ -11,7 +11,7 @@ use thiserror::Error;
 /// Why a certificate isn't accepted.
 #[derive(Clone, Copy, Debug, PartialEq, Eq, Error)]
 pub enum CheckFault {
-    /// The first fault that stands in it, in the order of its pairs.
+    /// The first fault in it, in the order of its pairs.
     #[error("{0}")]
     Pair(PairFault),
     #[error("out of memory")]

@@ -6,7 +6,7 @@ ghost use Rattle.mcv_blocks.specs.Blocks.{IsJustifiedBy};
 ghost use Rattle.mcv_blocks.specs.Places.{IsRouteClass};
 ghost use Rattle.mcv_blocks.specs.Spots.{IsSpotOf, eras_from, spot};
 ghost use Rattle.mcv_cert.specs.Pair.{AreRising};
-ghost use Rattle.mcv_check.specs.Fault.{IsTold};
+ghost use Rattle.mcv_check.specs.Fault.{IsFaultOfPairs};
 ghost use Rattle.mcv_check.specs.Judged.{AreSetsOf, Leaves, Stops};
 ghost use Rattle.mcv_judge.specs.InMemory.{pairs_of};
 ghost use Rattle.mcv_route.specs.Routes.{IsSoundRoutes};
@@ -24,7 +24,7 @@ use std::alloc::{AllocError, Global};
 pub fn judge_routes(alloc: Global, routes: &Routes, pairs: &[Pair]) -> Result<(), CheckFault>
     requires sound { IsSoundRoutes routes.now }
     requires pairs { AreRising (pairs_of pairs.now) }
-    ensures { MatchResult result (λ _. IsJustifiedBy routes.now (pairs_of pairs.now)) (IsTold routes.now (pairs_of pairs.now)) }
+    ensures { MatchResult result (λ _. IsJustifiedBy routes.now (pairs_of pairs.now)) (IsFaultOfPairs routes.now (pairs_of pairs.now)) }
 {
     let classes = route_classes(alloc, routes)?;
     let eras = era_count(routes);

@@ -104,7 +104,7 @@ class-word table bytes text place h is b below = record {
       length-begins text v ((λ i. begins_with (is i) (sym own i)) ∙ under);
 }
 
--- bytes are a word just where the longest with which they begin is all of them
+-- bytes are a word exactly when the longest with which they begin is all of them
 pub word-itself : (table : List (List ℕ)) (bytes word : List ℕ) → IsClassWord table bytes word → Contains table bytes → word ≡ bytes
 word-itself table bytes word c h =
     let long : length bytes ≤ length word = c.longest bytes h (begins-itself bytes) in

@@ -35,7 +35,7 @@ words-more-of made items i item beside x start before now h is made-is so_far mo
     words-more (λ y. (made y).1) items i item start before now h is (so_far ∙ ap (λ ts. start ++ prefixes_below (trees_of ts)) (map-map (λ p. p.1) made (take i items))) shown in
     each ∙ ap (λ ts. start ++ prefixes_below (trees_of ts)) (sym (map-map (λ p. p.1) made (take (i + 1) items)))
 
--- those of the selector itself, of its policies, and of what stands after them
+-- those of the selector itself, of its policies, and of what comes after them
 pub prefixes-of-PrefixSelector : (route : Route) (v : Vec PrefixPolicy Global) (d : Option (Box Route Global)) (policies again : List PrefixPolicy) (start own before : List (List ℕ)) → route ≡ PrefixSelector v d → policies ≡ v.items → again ≡ v.items
     → own ≡ start ++ map (λ p. p.0) (map prefix_view policies) → before ≡ own ++ prefixes_below (trees_of (map (λ p. p.1) (map prefix_view again))) → before ++ prefixes_below (trees_of (last_view d)) ≡ start ++ prefixes_in (view route)
 prefixes-of-PrefixSelector route v d policies again start own before is same too own-is so_far =

@@ -1,4 +1,4 @@
--- Classes of rests: those that the selectors of a route can't tell apart (own).
+-- Classes of rests: those that the selectors of a route can't distinguish (own).
 use Rattle.std.specs.Prelude.{◌≡◌, ℕ, ◌<◌, ◌≤◌, true, false, List, [], ◌∷◌, Option, Some, None, IsSome, length}
 use Rattle.std.specs.List.{All, AllPairs, Contains}
 use Rattle.std.specs.Cmp.Lexicographic.{slice_cmp}

@@ -1,4 +1,4 @@
-//! Classes of rests: all rests that the selectors of a route can't tell apart are one class.
+//! Classes of rests: all rests that the selectors of a route can't distinguish are one class.
 //!
 //! There are finitely many, one for each policy prefix of the route and one for the rest of the rests,
 //! and what holds of a member holds of its whole class: two rests of one class have the same legs and

@@ -1,7 +1,7 @@
 //! The class words of a route in byte order, each linked with the longest shorter one with which it begins.
 //!
 //! The longest word with which a rest begins is found among the links of the last word that isn't behind the
-//! rest: each word with which the rest begins stands there, since what lies between such a word and the rest
+//! rest: each word with which the rest begins is there, since what lies between such a word and the rest
 //! begins with it too.
 
 ghost use Rattle.std.specs.Prelude.{◌≡◌, ℕ, ◌<◌, ◌++◌, ◌∷◌, ◌↔◌, [], true, length, IfOk, OnOk, IsTrue, if◌then◌else◌};

@@ -3,11 +3,13 @@
 #![tactic(auto)]
 
 ghost use Rattle.std.specs.Prelude.{◌≡◌, ◌⊎◌, IfErr};
-ghost use Rattle.mcv_command.specs.declared.stop.Stop.TheVariants.{BadLine, Memory as out_of_memory};
+ghost use Rattle.mcv_command.specs.declared.stop.Stop.TheVariants.{BadLine, Run};
+ghost use Rattle.mcv_input.specs.declared.fault.RunFault.TheVariants.{Memory as out_of_memory};
 
 use mcv_check::Accepted;
-use mcv_command::{Ending, Proxy, ServeFault, Stop, SystemFiles, exit_status, run_words};
-use mcv_net::{RunFault, SpoolFiles, serve};
+use mcv_command::{Ending, Proxy, Stop, SystemFiles, exit_status, run_words};
+use mcv_input::RunFault;
+use mcv_net::{NetFault, SpoolFiles, serve};
 use std::alloc::{AllocError, Global};
 use std::cell::Cell;
 use std::fs::Files;
@@ -73,24 +75,26 @@ impl Proxy for Orders {
         spool: &str,
         sessions: u64,
         _out: &mut W,
-    ) -> Result<(), ServeFault> {
+    ) -> Result<(), RunFault> {
         match Order::new(alloc, accepted, listen, spool, sessions) {
             Ok(order) => {
                 self.order.set(Some(order));
                 Ok(())
             }
-            Err(_) => Err(ServeFault::Memory),
+            Err(_) => Err(RunFault::Memory),
         }
     }
 }
 
 /// The words of the command line, of which the first is the program's name; a bad line where one isn't UTF-8.
 fn given_words<R: Env + AllocGlobal>(rt: &R) -> Result<Vec<String>, Stop>
-    ensures { IfErr result (λ stop. (stop ≡ BadLine) ⊎ (stop ≡ out_of_memory)) }
+    ensures { IfErr result (λ stop. (stop ≡ BadLine) ⊎ (stop ≡ Run out_of_memory)) }
 {
     match env::args(rt) {
         Ok(words) => Ok(words.collect(rt.alloc())?),
-        Err(error) if error.kind() == io::ErrorKind::OutOfMemory => Err(Stop::Memory),
+        Err(error) if error.kind() == io::ErrorKind::OutOfMemory => Err(Stop::Run(
+            RunFault::Memory,
+        )),
         Err(_) => Err(Stop::BadLine),
     }
 }
@@ -137,8 +141,8 @@ where
     let (listen, spool) = (listen.as_str(), spool.as_str());
     match serve(rt, alloc, accepted, listen, spool, sessions, out) {
         Ok(()) => Ok(Ending::Done),
-        Err(RunFault::Memory) => Err(Stop::Memory),
-        Err(RunFault::Device) => Err(Stop::Device),
+        Err(NetFault::Memory) => Err(Stop::Run(RunFault::Memory)),
+        Err(NetFault::Device) => Err(Stop::Run(RunFault::Device)),
     }
 }
 

@@ -1,77 +1,38 @@
 -- What the program did, by what the words asked for.
-use Rattle.std.proofs.Common.{◌≡◌, ◌∙◌, inl, inr, ◌+◌, ◌<◌, ◌≤◌, ℕ, List, length, take, Option, None, Some, subst, sym, arith}
+use Rattle.std.proofs.Common.{◌≡◌, ◌≢◌, ◌∙◌, ap, inl, inr, ◌+◌, ◌<◌, ◌≤◌, ℕ, List, length, take, Option, None, Some, subst, sym, arith}
 use Rattle.std.specs.Prelude.{IfSome, MatchOption}
 use Rattle.std.proofs.lemmas.List.{length-take}
 use Rattle.std.proofs.lemmas.Option.{IfSome_then}
 use Rattle.clap.specs.Words.{Text}
-use Rattle.mcv_base.specs.declared.request.Moment.{Moment}
 use Rattle.mcv_cert.specs.Reading.{Reading, Says, headless, over, reads, text_limit}
 use Rattle.mcv_input.proofs.Whole.{whole}
 use Rattle.mcv_input.specs.Fault.{IsOutside}
-use Rattle.mcv_input.specs.declared.fault.InputFault.{InputFault}
-use Rattle.mcv_input.specs.declared.fault.InputFault.TheVariants as input_faults
-use Rattle.mcv_legs.specs.Fault as legs
-use Rattle.mcv_legs.specs.declared.fault.RunFault.{RunFault as LegsFault}
-use Rattle.mcv_legs.specs.declared.fault.RunFault.TheVariants as legs_faults
+use Rattle.mcv_input.specs.declared.fault.RunFault.{RunFault}
+use Rattle.mcv_input.specs.declared.fault.RunFault.TheVariants.{Line, NoRoute, Config, CertificateText, Certificate, Memory, Device}
 use Rattle.mcv_verdict.specs.Fault as check
 use Rattle.mcv_verdict.specs.Verdict.{IsVerdictOn}
-use Rattle.mcv_verdict.specs.declared.fault.RunFault.{RunFault as CheckFault}
-use Rattle.mcv_verdict.specs.declared.fault.RunFault.TheVariants as check_faults
 use Rattle.mcv_verdict.specs.declared.verdict.Verdict.{Verdict}
 use Rattle.mcv_verdict.specs.declared.verdict.Verdict.TheVariants.{Covered, Lost}
-use Rattle.mcv_cert.specs.declared.fault.CertFault.{CertFault}
-use Rattle.mcv_cert.specs.declared.fault.CertFault.TheVariants as text_faults
-use Rattle.mcv_command.specs.declared.proxy.ServeFault.{ServeFault}
-use Rattle.mcv_command.specs.declared.proxy.ServeFault.TheVariants as serve_faults
 use Rattle.mcv_command.specs.declared.stop.Stop.{Stop}
-use Rattle.mcv_command.specs.declared.stop.Stop.TheVariants.{BadLine, Legs, Check, Memory, Device}
-use Rattle.mcv_command.specs.declared.words.Job.TheVariants as jobs
+use Rattle.mcv_command.specs.declared.stop.Stop.TheVariants.{BadLine, Run}
 use Rattle.mcv_command.specs.Program.{AsksAnyRun, Held, IfGiven, IsJudgingFault, IsStop}
-use Rattle.mcv_command.specs.Stop.{of_check, of_input, of_legs, of_serve}
-use Rattle.mcv_command.specs.Words.{AsksCheck, IsJobOf}
+use Rattle.mcv_command.specs.Words.{AsksCheck}
 
--- ---- the faults of legs and of a verdict, as the program's
-
-pub legs_stop : (words : List Text) (held : Held) (input : Option Text) (at : Moment) (fault : LegsFault) → IsJobOf words (jobs.Legs at)
-    → IfSome input (λ bytes. legs.IsRunFault bytes fault) → IsStop words held input (of_legs fault)
-legs_stop words held input at legs_faults.Line is stands = (at, is, stands)
-legs_stop words held input at legs_faults.NoRoute is stands = (at, is, stands)
-legs_stop words held input at (legs_faults.Config fault) is stands = (at, is, stands)
-legs_stop words held input at legs_faults.Memory is stands = tt
-legs_stop words held input at legs_faults.Device is stands = tt
-
-pub check_stop : (held : Held) (cert : Option Text) (input : Option Text) (fault : CheckFault) → IfSome input (λ bytes. IfGiven held cert (λ certificate. check.IsRunFault bytes certificate fault))
-    → IsJudgingFault held cert input (of_check fault)
-check_stop held cert input (check_faults.Config fault) stands = stands
-check_stop held cert input (check_faults.CertificateText fault) stands = stands
-check_stop held cert input (check_faults.Certificate fault) stands = stands
-check_stop held cert input check_faults.Memory stands = tt
-check_stop held cert input check_faults.Device stands = tt
-
-pub outside_stop : (held : Held) (cert : Option Text) (input : Option Text) (fault : InputFault) → IsOutside fault → IsJudgingFault held cert input (of_input fault)
-outside_stop held cert input (input_faults.Config fault) out = absurd out
-outside_stop held cert input input_faults.Memory out = tt
-outside_stop held cert input input_faults.Device out = tt
+-- ---- the faults of a verdict, as the program's
 
 pub judging_stop : (words : List Text) (held : Held) (input : Option Text) (cert : Option Text) (stop : Stop) → AsksCheck words cert → IsJudgingFault held cert input stop
     → IsStop words held input stop
-judging_stop words held input cert BadLine asks stands = absurd stands
-judging_stop words held input cert (Legs fault) asks stands = absurd stands
-judging_stop words held input cert (Check fault) asks stands = inl (cert, asks, stands)
-judging_stop words held input cert Memory asks stands = tt
-judging_stop words held input cert Device asks stands = tt
+judging_stop words held input cert BadLine asks holds = absurd holds
+judging_stop words held input cert (Run fault) asks holds = inr (inr (inl (cert, asks, holds)))
 
 pub running_stop : (words : List Text) (held : Held) (input : Option Text) (stop : Stop) → AsksAnyRun words → IsJudgingFault held None input stop → IsStop words held input stop
-running_stop words held input BadLine asks stands = absurd stands
-running_stop words held input (Legs fault) asks stands = absurd stands
-running_stop words held input (Check fault) asks stands = inr (asks, stands)
-running_stop words held input Memory asks stands = tt
-running_stop words held input Device asks stands = tt
+running_stop words held input BadLine asks holds = absurd holds
+running_stop words held input (Run fault) asks holds = inr (inr (inr (asks, holds)))
 
--- a proxy's fault is no fault of what was read
-pub serving_stop : (held : Held) (input : Option Text) (fault : ServeFault) → IsJudgingFault held None input (of_serve fault)
-serving_stop held input serve_faults.Memory = tt
-serving_stop held input serve_faults.Device = tt
+-- a fault that is outside is out of memory or a device's
+pub outside_stop : (stop : Stop) (fault : RunFault) → stop ≡ Run fault → IsOutside fault → stop ≢ Run Device → stop ≢ Run Memory → ⊥
+outside_stop stop fault is (inl memory) no_device no_memory = no_memory (is ∙ ap Run memory)
+outside_stop stop fault is (inr device) no_device no_memory = no_device (is ∙ ap Run device)
 
 -- ---- a certificate's text by its first bytes
 
@@ -95,18 +56,14 @@ pub verdict_by_all : (input text first : List ℕ) (verdict : Verdict) (written 
 verdict_by_all input text first (Covered n) written is on = (on.0, on.1, (on.2.0, says_all text first _ is on.2.1, on.2.2, on.2.3, on.2.4))
 verdict_by_all input text first Lost written is on = absurd on.2
 
-text_fault_by_all : (text first : List ℕ) (fault : CertFault) → first ≡ take read_limit text → check.IsTextFault first fault → check.IsTextFault text fault
-text_fault_by_all text first (text_faults.Syntax line) is says = says_all text first _ is says
-text_fault_by_all text first (text_faults.Order line) is says = says_all text first _ is says
-text_fault_by_all text first text_faults.Limit is says = says_all text first _ is says
-text_fault_by_all text first text_faults.Memory is says = says
-
-pub fault_by_all : (input text first : List ℕ) (fault : CheckFault) → first ≡ take read_limit text → check.IsRunFault input (Some first) fault → check.IsRunFault input (Some text) fault
-fault_by_all input text first (check_faults.Config fault) is stands = stands
-fault_by_all input text first (check_faults.CertificateText fault) is stands = (stands.0, stands.1, text_fault_by_all text first fault is stands.2)
-fault_by_all input text first (check_faults.Certificate fault) is stands = (stands.0, stands.1, (stands.2.0, says_all text first _ is stands.2.1, stands.2.2))
-fault_by_all input text first check_faults.Memory is stands = tt
-fault_by_all input text first check_faults.Device is stands = tt
+pub fault_by_all : (input text first : List ℕ) (fault : RunFault) → first ≡ take read_limit text → check.IsRunFault input (Some first) fault → check.IsRunFault input (Some text) fault
+fault_by_all input text first Line is holds = holds
+fault_by_all input text first NoRoute is holds = holds
+fault_by_all input text first (Config fault) is holds = holds
+fault_by_all input text first (CertificateText fault) is holds = (holds.0, holds.1, says_all text first _ is holds.2)
+fault_by_all input text first (Certificate fault) is holds = (holds.0, holds.1, (holds.2.0, says_all text first _ is holds.2.1, holds.2.2))
+fault_by_all input text first Memory is holds = tt
+fault_by_all input text first Device is holds = tt
 
 -- what follows from the first bytes of a file follows from what it holds; where that isn't known, these are some bytes
 given_one : (known : Option Text) (first : List ℕ) (P : Option Text → Type 0) → IfSome known (λ all. first ≡ take read_limit all)
@@ -118,5 +75,5 @@ given_one (Some all) first P read more here = more all read here
 pub given_all : (held : Held) (name : Text) (first : List ℕ) (input : Option Text) (P : List ℕ → Option Text → Type 0) → IfSome (held name) (λ all. first ≡ take read_limit all)
     → ((bytes all : List ℕ) → first ≡ take read_limit all → P bytes (Some first) → P bytes (Some all)) → IfSome input (λ bytes. P bytes (Some first))
     → IfSome input (λ bytes. IfGiven held (Some name) (P bytes))
-given_all held name first input P read more stands =
-    IfSome_then input stands (λ bytes here. given_one (held name) first (P bytes) read (λ all is was. more bytes all is was) here)
+given_all held name first input P read more holds =
+    IfSome_then input holds (λ bytes here. given_one (held name) first (P bytes) read (λ all is was. more bytes all is was) here)

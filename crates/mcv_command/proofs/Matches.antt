@@ -16,7 +16,7 @@ use Rattle.mcv_command.specs.declared.words.Job.{Job}
 use Rattle.mcv_command.specs.declared.words.Job.TheVariants.{Legs, Check, Run}
 use Rattle.mcv_command.proofs.Given.{Passes, sessions_parser}
 use Rattle.mcv_command.specs.declared.words.LineFault.{LineFault}
-use Rattle.mcv_command.specs.declared.words.LineFault.TheVariants.{BadLine, Memory, Help}
+use Rattle.mcv_command.specs.declared.words.LineFault.TheVariants.{BadLine, Memory, Help, Version}
 
 inside : {X : Type 0} (a b : X) → Some a ≡ Some b → a ≡ b
 inside a b is = cc
@@ -40,14 +40,16 @@ named_rows m name rows is at = some_pair (subcommand_rows_of m) name rows (name_
 pub name_of_rows : (m : ArgMatches) (name : Text) (rows : List Row) → subcommand_rows_of m ≡ Some (name, rows) → subcommand_name_of m ≡ Some name
 name_of_rows m name rows is = sym (name_part (out-ArgMatches m).subcommand) ∙ ap (λ (o : Option (Text × List Row)). option_map (λ p. p.0) o) is
 
--- a fault by clap's kind is one of the words, where that kind stands among theirs
+-- a fault by clap's kind is one of the words, where that kind is among theirs
 pub fault_of_kind : (words : List Text) (kind : ErrorKind) (fault : LineFault) → (kind ≡ OutOfMemory) ⊎ IsAmong kind (faults words) → IsFaultOfKind kind fault
     → IsLineFault words fault
 fault_of_kind words kind BadLine (inl memory) by = absurd (by.0 memory)
-fault_of_kind words kind BadLine (inr among) by = (kind, by.1, among)
+fault_of_kind words kind BadLine (inr among) by = (kind, by.1, by.2, among)
 fault_of_kind words kind Memory among by = tt
 fault_of_kind words kind (Help text) (inl memory) by = absurd (cc)
 fault_of_kind words kind (Help text) (inr among) by = subst (λ (k : ErrorKind). IsAmong k (faults words)) by among
+fault_of_kind words kind Version (inl memory) by = absurd (cc)
+fault_of_kind words kind Version (inr among) by = subst (λ (k : ErrorKind). IsAmong k (faults words)) by among
 
 -- ---- numbers
 

@@ -1,10 +1,10 @@
 -- What the program does for the words of a command line.
-use Rattle.std.specs.Prelude.{◌≡◌, ◌⊎◌, ℕ, List, Option, Some, None, IfSome, MatchOption, ⊤}
+use Rattle.std.specs.Prelude.{◌≡◌, ◌⊎◌, ℕ, List, Option, Some, None, IfSome, MatchOption, codes}
 use Rattle.std.specs.Io.KnownBytes.{Appends}
 use Rattle.clap.specs.Words.{IsAmong, Text}
-use Rattle.clap.specs.declared.error.kind.ErrorKind.TheVariants.{DisplayHelp}
+use Rattle.clap.specs.declared.error.kind.ErrorKind.TheVariants.{DisplayHelp, DisplayVersion}
 use Rattle.mcv_base.specs.declared.request.Moment.{Moment}
-use Rattle.mcv_input.specs.Fault.{AreNamedBy}
+use Rattle.mcv_input.specs.Fault.{AreNamedBy, IsOutside}
 use Rattle.mcv_legs.specs.Answer.{IsAnswer}
 use Rattle.mcv_legs.specs.Fault as legs
 use Rattle.mcv_route.specs.Routes.{RoutesValue}
@@ -19,7 +19,7 @@ use Rattle.mcv_command.specs.declared.words.LineFault.TheVariants as line_fault
 use Rattle.mcv_command.specs.declared.stop.Ending.{Ending}
 use Rattle.mcv_command.specs.declared.stop.Ending.TheVariants.{Done, Lost}
 use Rattle.mcv_command.specs.declared.stop.Stop.{Stop}
-use Rattle.mcv_command.specs.declared.stop.Stop.TheVariants.{BadLine, Legs, Check, Memory, Device}
+use Rattle.mcv_command.specs.declared.stop.Stop.TheVariants.{BadLine, Run}
 
 -- what files hold by their names, where that is known
 abbrev pub Held : Type 0
@@ -40,13 +40,10 @@ IsJudged held cert input old new ending =
     (verdict : Verdict) × (text : Text) × IfSome input (λ bytes. IfGiven held cert (λ certificate. IsVerdictOn bytes certificate verdict text))
     × Appends old new text × (ending ≡ ending_of verdict)
 
--- the fault stands in the input or in the certificate that is given; or memory ran out, or a device failed
+-- memory ran out, or a device failed; or the fault is in the input or in the certificate that is given
 abbrev pub IsJudgingFault : Held → Option Text → (input : Option Text) → Stop → Type 0
 IsJudgingFault held cert input BadLine = ⊥
-IsJudgingFault held cert input (Legs fault) = ⊥
-IsJudgingFault held cert input (Check fault) = IfSome input (λ bytes. IfGiven held cert (λ certificate. check.IsRunFault bytes certificate fault))
-IsJudgingFault held cert input Memory = ⊤
-IsJudgingFault held cert input Device = ⊤
+IsJudgingFault held cert input (Run fault) = IsOutside fault ⊎ IfSome input (λ bytes. IfGiven held cert (λ certificate. check.IsRunFault bytes certificate fault))
 
 -- what it is that a proxy served routes: at an address, with the spool in the file of this name, until so many sessions had ended, from
 -- what the writer held to what it holds
@@ -63,22 +60,29 @@ IsServed held serves listen spool sessions input old new ending =
 abbrev pub AsksAnyRun : List Text → Type 0
 AsksAnyRun words = (listen : Text) × (spool : Text) × (sessions : ℕ) × AsksRun words listen spool sessions
 
--- help was asked for and shown; or the words ask for legs at a moment, and what answers the input at that moment was written; or they
+abbrev pub version_line : Text
+version_line = codes "mcv 1\n"
+
+-- what is shown where words ask for it: help, whose text is left open, or the version
+abbrev pub IsShownFor : List Text → Text → Type 0
+IsShownFor words text = IsAmong DisplayHelp (faults words) ⊎ (IsAmong DisplayVersion (faults words) × (text ≡ version_line))
+
+-- help or the version was asked for and shown; or the words ask for legs at a moment, and what answers the input at that moment was written; or they
 -- ask for a verdict, and it was written; or they ask for a run, and the proxy served as they ask, or the verdict was written by which
 -- it doesn't
 abbrev pub IsDone : List Text → Held → Serves → (input old new : Option Text) → Ending → Type 0
 IsDone words held serves input old new ending =
-    (IsAmong DisplayHelp (faults words) × (text : Text) × Appends old new text × (ending ≡ Done))
+    ((text : Text) × IsShownFor words text × Appends old new text × (ending ≡ Done))
     ⊎ (((at : Moment) × IsJobOf words (jobs.Legs at) × (text : Text) × IfSome input (λ bytes. IsAnswer at.0 bytes text) × Appends old new text × (ending ≡ Done))
     ⊎ (((cert : Option Text) × AsksCheck words cert × IsJudged held cert input old new ending)
     ⊎ ((listen : Text) × (spool : Text) × (sessions : ℕ) × AsksRun words listen spool sessions × IsServed held serves listen spool sessions input old new ending)))
 
--- the words are at fault; or they ask for legs, for a verdict or for a run, and the fault stands in what was read; or memory ran out, or
--- a device failed
+-- the words are at fault; or memory ran out, or a device failed; or the words ask for legs, for a verdict or for a run, and the fault is in
+-- what was read
 abbrev pub IsStop : List Text → Held → (input : Option Text) → Stop → Type 0
 IsStop words held input BadLine = IsLineFault words line_fault.BadLine
-IsStop words held input (Legs fault) = (at : Moment) × IsJobOf words (jobs.Legs at) × IfSome input (λ bytes. legs.IsRunFault bytes fault)
-IsStop words held input (Check fault) = ((cert : Option Text) × AsksCheck words cert × IsJudgingFault held cert input (Check fault))
-    ⊎ (AsksAnyRun words × IsJudgingFault held None input (Check fault))
-IsStop words held input Memory = ⊤
-IsStop words held input Device = ⊤
+IsStop words held input (Run fault) =
+    IsOutside fault
+    ⊎ (((at : Moment) × IsJobOf words (jobs.Legs at) × IfSome input (λ bytes. legs.IsRunFault bytes fault))
+    ⊎ (((cert : Option Text) × AsksCheck words cert × IsJudgingFault held cert input (Run fault))
+    ⊎ (AsksAnyRun words × IsJudgingFault held None input (Run fault))))

@@ -6,11 +6,11 @@ use Rattle.std.specs.Str.Parse.{IsNumeral, digits_value, without_leading_plus}
 use Rattle.clap.specs.Words.{App, IsAmong, Kinds, Row, Rule, Text, fault_of, first_of, new_app, new_rule, one_of, subcommand_of, with_rule, with_subcommand}
 use Rattle.clap.specs.declared.builder.value_parser.ValueParser.TheVariants as parsers
 use Rattle.clap.specs.declared.error.kind.ErrorKind.{ErrorKind}
-use Rattle.clap.specs.declared.error.kind.ErrorKind.TheVariants.{DisplayHelp, OutOfMemory}
+use Rattle.clap.specs.declared.error.kind.ErrorKind.TheVariants.{DisplayHelp, DisplayVersion, OutOfMemory}
 use Rattle.mcv_command.specs.declared.words.Job.{Job}
 use Rattle.mcv_command.specs.declared.words.Job.TheVariants.{Legs, Check, Run}
 use Rattle.mcv_command.specs.declared.words.LineFault.{LineFault}
-use Rattle.mcv_command.specs.declared.words.LineFault.TheVariants.{BadLine, Memory, Help}
+use Rattle.mcv_command.specs.declared.words.LineFault.TheVariants.{BadLine, Memory, Help, Version}
 
 -- ---- the commands
 
@@ -62,13 +62,17 @@ sessions_rule = record (option_rule (codes "sessions")) {
 abbrev pub run_app : App
 run_app = with_rule (with_rule (with_rule (new_app (codes "run")) listen_rule) spool_rule) sessions_rule
 
+-- a command that shows its version where that is asked for
+abbrev pub with_version : App → App
+with_version app = record app { top = record app.top { has_version = true } }
+
 -- a command that wants one of its subcommands
 abbrev pub wanting_a_command : App → App
 wanting_a_command app = record app { top = record app.top { subcommand_required = true } }
 
--- `mcv check [--cert FILE]`, `mcv legs [--at SECONDS]` and `mcv run --listen ADDRESS --spool FILE [--sessions N]`
+-- `mcv check [--cert FILE]`, `mcv legs [--at SECONDS]` and `mcv run --listen ADDRESS --spool FILE [--sessions N]`; `mcv --version`
 abbrev pub mcv_app : App
-mcv_app = with_subcommand (with_subcommand (with_subcommand (wanting_a_command (new_app (codes "mcv"))) check_app.top) legs_app.top) run_app.top
+mcv_app = with_subcommand (with_subcommand (with_subcommand (wanting_a_command (with_version (new_app (codes "mcv")))) check_app.top) legs_app.top) run_app.top
 
 -- ---- what words ask for
 
@@ -111,20 +115,23 @@ IsJobOf words (Check cert) = AsksCheck words (option_map (λ name. name.now) cer
 IsJobOf words (Legs at) = (faults words ≡ []) × (rows : List Row) × (named words ≡ Some (codes "legs", rows)) × IsNumberOf (codes "at") rows at.0
 IsJobOf words (Run listen spool sessions) = AsksRun words listen.now spool.now sessions
 
--- why words ask for no job: clap finds a fault with them that isn't the wish for help; memory ran
--- out; they ask for help
+-- why words ask for no job: clap finds a fault with them that isn't the wish for help or for the
+-- version; memory ran out; they ask for help; they ask for the version
 abbrev pub IsLineFault : List Text → LineFault → Type 0
-IsLineFault words BadLine = (kind : ErrorKind) × (kind ≢ DisplayHelp) × IsAmong kind (faults words)
+IsLineFault words BadLine = (kind : ErrorKind) × (kind ≢ DisplayHelp) × (kind ≢ DisplayVersion) × IsAmong kind (faults words)
 IsLineFault words Memory = ⊤
 IsLineFault words (Help text) = IsAmong DisplayHelp (faults words)
+IsLineFault words Version = IsAmong DisplayVersion (faults words)
 
 -- which fault clap's kind of error is; the text of the help takes memory too
 abbrev pub IsFaultOfKind : ErrorKind → LineFault → Type 0
-IsFaultOfKind kind BadLine = (kind ≢ OutOfMemory) × (kind ≢ DisplayHelp)
+IsFaultOfKind kind BadLine = (kind ≢ OutOfMemory) × (kind ≢ DisplayHelp) × (kind ≢ DisplayVersion)
 IsFaultOfKind kind Memory = (kind ≡ OutOfMemory) ⊎ (kind ≡ DisplayHelp)
 IsFaultOfKind kind (Help text) = kind ≡ DisplayHelp
+IsFaultOfKind kind Version = kind ≡ DisplayVersion
 
 abbrev pub line_fault_number : LineFault → ℕ
 line_fault_number BadLine = 1
 line_fault_number Memory = 2
 line_fault_number (Help text) = 3
+line_fault_number Version = 4

@@ -3,7 +3,7 @@
 ghost use Rattle.std.specs.Prelude.{◌≡◌, ℕ, List, None, Option, IfErr, IfOk, IfSome, take};
 ghost use Rattle.mcv_input.specs.Fault.{IsOutside};
 
-use mcv_input::{InputFault, read_at_most};
+use mcv_input::{RunFault, read_at_most};
 use std::alloc::Global;
 use std::fs;
 use std::fs::Files;
@@ -14,7 +14,7 @@ pub trait NamedFiles {
     ghost held: { Self → List ℕ → Option (List ℕ) };
 
     /// The first bytes of the file of this name, as many as the limit says; all of them where there are no more.
-    fn read_named(&self, alloc: Global, name: &str, limit: u64) -> Result<Vec<u8>, InputFault>
+    fn read_named(&self, alloc: Global, name: &str, limit: u64) -> Result<Vec<u8>, RunFault>
         ensures read { IfOk result (λ bytes. IfSome (held self.now name.now) (λ all. bytes.items ≡ take limit all)) }
         ensures fault { IfErr result IsOutside };
 }
@@ -28,10 +28,10 @@ pub struct SystemFiles<'a, R: Files> {
 impl<'a, R: Files> NamedFiles for SystemFiles<'a, R> {
     ghost held = { λ _ _. None };
 
-    fn read_named(&self, alloc: Global, name: &str, limit: u64) -> Result<Vec<u8>, InputFault> {
+    fn read_named(&self, alloc: Global, name: &str, limit: u64) -> Result<Vec<u8>, RunFault> {
         match fs::open(self.system, name) {
             Ok(mut file) => read_at_most(alloc, &mut file, limit),
-            Err(_) => Err(InputFault::Device),
+            Err(_) => Err(RunFault::Device),
         }
     }
 }

@@ -16,7 +16,7 @@ key `a` reach? Serve clients at port 5000.
   mcv run --listen 127.0.0.1:5000 --spool mcv.spool < mcrouter.json
 
 Exit status:
-  0  done, or help was asked for
+  0  done, or help or the version was asked for
   1  bad command line, or bad request line
   2  the configuration is refused, or has no route for the key
   3  the configuration can lose a delete (never with --cert: 5 then)
@@ -54,18 +54,18 @@ first), its server and its mark (`plain`; `async` where no reply waits for it;
 `shadow` of a copy). The reply is `none` while it waits for a server, and else
 `good`, `soft` (a miss, or nothing found or stored) or `error`.
 
-A first line that isn't a request is told as `mcv: bad request line`, and a key
-with a routing prefix that selects no route of the configuration as
+A first line that isn't a request is reported as `mcv: bad request line`, and a
+key with a routing prefix that selects no route of the configuration as
 `mcv: no route`.
 
-A configuration that isn't read is told as `mcv: configuration NUMBER at PATH`.
-The path leads to the value at fault by keys and by list numbers from 0; `.` is
-the whole. The numbers:
+A configuration that isn't read is reported as
+`mcv: configuration NUMBER at PATH`. The path leads to the value at fault by
+keys and by list numbers from 0; `.` is the whole. The numbers:
 
    1  not JSON                          6  no servers, children, aliases, routes
    2  unknown key or operation name     7  over a limit
    3  missing, or of the wrong kind     8  bad server text (host:port is wanted)
-   4  unknown route handle              9  an alias that stands twice
+   4  unknown route handle              9  an alias that comes twice
    5  unknown pool                     10  mcrouter's, but not read by mcv";
 
 pub(crate) const CHECK_ABOUT: &str = "Decides whether a configuration can lose a delete";
@@ -101,7 +101,7 @@ the delete:
   twin D         leg D has the same hash and servers as the leg that can be read
   same I D       leg D has the same hash, and at index I the same server
   all I D0 D1 .. the legs have one hash, D0 for its index 0, D1 for its index 1
-                 and so on, and each has there the server that stands at index I
+                 and so on, and each has there the server that is at index I
                  of the leg that can be read
 
 Any certificate can be checked again, also one that another program made:
@@ -135,8 +135,8 @@ the server, has for each leg that answered its place and `hit`, `miss` or
 `error`. `delete` has the places of the legs that answered `deleted` before the
 reply, and `-` where the reply waits for none.
 
-A certificate that isn't read is told by a number and by the line at fault, from
-1, as `mcv: certificate text NUMBER line LINE`:
+A certificate that isn't read is reported by a number and by the line at fault,
+from 1, as `mcv: certificate text NUMBER line LINE`:
 
   1  the line breaks the form     3  the text is over 268435456 bytes
   2  the line is out of order
@@ -150,8 +150,8 @@ as `mcv: certificate fault NUMBER`:
   4  another hash, number of legs or server than the line says
   5  `never`, where a delete can be acknowledged
 
-A configuration that isn't read is told as `mcv: configuration NUMBER at PATH`:
-`mcv legs --help` has the numbers.";
+A configuration that isn't read is reported as
+`mcv: configuration NUMBER at PATH`: `mcv legs --help` has the numbers.";
 
 pub(crate) const RUN_ABOUT: &str = "Serves clients by a configuration that can't lose a delete";
 
@@ -189,5 +189,5 @@ Exit status:
   4  out of memory, or a device failed: an address that isn't one or can't be
      bound, the spool file, standard input or standard output
 
-A configuration that isn't read is told as `mcv: configuration NUMBER at PATH`:
-`mcv legs --help` has the numbers.";
+A configuration that isn't read is reported as
+`mcv: configuration NUMBER at PATH`: `mcv legs --help` has the numbers.";

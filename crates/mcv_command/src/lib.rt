@@ -13,6 +13,6 @@ mod words;
 
 pub use files::{NamedFiles, SystemFiles};
 pub use program::run_words;
-pub use proxy::{Proxy, ServeFault};
+pub use proxy::Proxy;
 pub use stop::{Ending, Stop, exit_status};
 pub use words::{Job, LineFault, read_words};

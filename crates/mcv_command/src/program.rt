@@ -2,13 +2,14 @@
 
 ghost use Rattle.std.specs.Prelude.{◌≡◌, ◌≢◌, ◌≤◌, None, Some, IfErr, IfOk, map};
 ghost use Rattle.mcv_command.specs.Program.{AsksAnyRun, Held, IsDone, IsJudged, IsJudgingFault, IsServed, IsStop, ending_of};
-ghost use Rattle.mcv_command.specs.declared.stop.Stop.TheVariants.{Device, Memory};
+ghost use Rattle.mcv_command.specs.declared.stop.Stop.TheVariants.{Run};
+ghost use Rattle.mcv_input.specs.declared.fault.RunFault.TheVariants.{Device, Memory};
 
 use crate::files::NamedFiles;
 use crate::proxy::Proxy;
 use crate::stop::{Ending, Stop};
 use crate::words::{Job, LineFault, read_words};
-use mcv_input::write_text;
+use mcv_input::{RunFault, write_text};
 use mcv_legs::run_legs;
 use mcv_verdict::{Judgement, Verdict, judge_input, run_check};
 use std::alloc::Global;
@@ -32,7 +33,7 @@ fn ending_of(verdict: Verdict) -> Ending
 fn judge<R: Read, W: Write>(alloc: Global, reader: &mut R, writer: &mut W) -> Result<Ending, Stop>
     ensures done { (held : Held) → IfOk result (IsJudged held None (R.remaining reader.old) (W.contents writer.old) (W.contents writer.new)) }
     ensures stop { (held : Held) → IfErr result (IsJudgingFault held None (R.remaining reader.old)) }
-    ensures silent { IfErr result (λ stop. stop ≢ Device → W.contents writer.new ≡ W.contents writer.old) }
+    ensures silent { IfErr result (λ stop. stop ≢ Run Device → W.contents writer.new ≡ W.contents writer.old) }
 {
     let verdict = run_check(alloc, reader, writer, None)?;
     Ok(ending_of(verdict))
@@ -48,7 +49,7 @@ fn judge_by<R: Read, W: Write, F: NamedFiles>(
 ) -> Result<Ending, Stop>
     ensures done { IfOk result (IsJudged (F.held files.now) (Some name.now) (R.remaining reader.old) (W.contents writer.old) (W.contents writer.new)) }
     ensures stop { IfErr result (IsJudgingFault (F.held files.now) (Some name.now) (R.remaining reader.old)) }
-    ensures silent { IfErr result (λ stop. stop ≢ Device → W.contents writer.new ≡ W.contents writer.old) }
+    ensures silent { IfErr result (λ stop. stop ≢ Run Device → W.contents writer.new ≡ W.contents writer.old) }
 {
     let text = files.read_named(alloc, name, CERTIFICATE_LIMIT)?;
     let verdict = run_check(alloc, reader, writer, Some(text.as_slice()))?;
@@ -70,14 +71,14 @@ fn serve<R: Read, W: Write, P: Proxy>(
     ensures done { (held : Held) → IfOk result (IsServed held (P.serves proxy.now) listen.now spool.now sessions (R.remaining reader.old)
         (W.contents writer.old) (W.contents writer.new)) }
     ensures stop { (held : Held) → IfErr result (IsJudgingFault held None (R.remaining reader.old)) }
-    ensures silent { IfErr result (λ stop. stop ≢ Device → stop ≢ Memory → W.contents writer.new ≡ W.contents writer.old) }
+    ensures silent { IfErr result (λ stop. stop ≢ Run Device → stop ≢ Run Memory → W.contents writer.new ≡ W.contents writer.old) }
 {
     match judge_input(alloc, reader)? {
         Judgement::Covered { accepted, .. } => {
             // The routes are covered.
             let _ = accepted.routes();
             let Ok(shared) = Arc::new(alloc, accepted) else {
-                return Err(Stop::Memory);
+                return Err(Stop::Run(RunFault::Memory));
             };
             proxy.serve(alloc, shared, listen, spool, sessions, writer)?;
             Ok(Ending::Done)
@@ -102,7 +103,7 @@ pub fn run_words<'a, R: Read, W: Write, F: NamedFiles, P: Proxy>(
     ensures done { IfOk result (IsDone (map (λ w. w.now) words.entry.now) (F.held files.now) (P.serves proxy.now) (R.remaining reader.old)
         (W.contents writer.old) (W.contents writer.new)) }
     ensures stop { IfErr result (IsStop (map (λ w. w.now) words.entry.now) (F.held files.now) (R.remaining reader.old)) }
-    ensures silent { IfErr result (λ stop. stop ≢ Device → (stop ≡ Memory → ¬ AsksAnyRun (map (λ w. w.now) words.entry.now))
+    ensures silent { IfErr result (λ stop. stop ≢ Run Device → (stop ≡ Run Memory → ¬ AsksAnyRun (map (λ w. w.now) words.entry.now))
         → W.contents writer.new ≡ W.contents writer.old) }
 {
     match read_words(alloc, words) {
@@ -123,7 +124,11 @@ pub fn run_words<'a, R: Read, W: Write, F: NamedFiles, P: Proxy>(
             write_text(writer, text.as_bytes())?;
             Ok(Ending::Done)
         }
+        Err(LineFault::Version) => {
+            write_text(writer, b"mcv 1\n")?;
+            Ok(Ending::Done)
+        }
         Err(LineFault::BadLine) => Err(Stop::BadLine),
-        Err(LineFault::Memory) => Err(Stop::Memory),
+        Err(LineFault::Memory) => Err(Stop::Run(RunFault::Memory)),
     }
 }

@@ -1,24 +1,15 @@
 //! The proxy that `mcv run` starts.
 
-ghost use Rattle.std.specs.Prelude.{◌≤◌, OnOk};
+ghost use Rattle.std.specs.Prelude.{◌≤◌, IfErr, OnOk};
 ghost use Rattle.std.specs.Arc.{arc_value};
 ghost use Rattle.mcv_command.specs.Program.{Serves};
+ghost use Rattle.mcv_input.specs.Fault.{IsOutside};
 
 use mcv_check::Accepted;
+use mcv_input::RunFault;
 use std::alloc::Global;
 use std::io::Write;
 use std::sync::Arc;
-use thiserror::Error;
-
-/// Why a proxy ends before its sessions have.
-#[derive(Clone, Copy, Debug, PartialEq, Eq, Error)]
-pub enum ServeFault {
-    #[error("out of memory")]
-    Memory,
-    /// The address, the spool's file or the writer failed.
-    #[error("device failed")]
-    Device,
-}
 
 /// A proxy for clients.
 pub trait Proxy {
@@ -35,8 +26,9 @@ pub trait Proxy {
         spool: &str,
         sessions: u64,
         out: &mut W,
-    ) -> Result<(), ServeFault>
+    ) -> Result<(), RunFault>
         requires least { 1 ≤ sessions }
         requires most { sessions ≤ 1000000000 }
-        ensures { OnOk result (serves self.now (arc_value accepted) listen.now spool.now sessions (W.contents out.old) (W.contents out.new)) };
+        ensures served { OnOk result (serves self.now (arc_value accepted) listen.now spool.now sessions (W.contents out.old) (W.contents out.new)) }
+        ensures fault { IfErr result IsOutside };
 }

@@ -47,6 +47,9 @@ pub enum LineFault {
     /// Help was asked for: its text.
     #[error("{0}")]
     Help(String),
+    /// The version was asked for.
+    #[error("mcv 1")]
+    Version,
 }
 
 impl LineFault {
@@ -58,6 +61,7 @@ impl LineFault {
             LineFault::BadLine => 1,
             LineFault::Memory => 2,
             LineFault::Help(_) => 3,
+            LineFault::Version => 4,
         }
     }
 }
@@ -168,6 +172,7 @@ fn command<'a>(alloc: Global) -> Result<Command<'a>, AllocError>
     let legs = legs_command(alloc)?;
     let run = run_command(alloc)?;
     Command::new(alloc, "mcv")
+        .version("1")
         .about(ABOUT)
         .after_help(EXAMPLE)
         .subcommand_required(true)
@@ -187,6 +192,7 @@ fn line_fault(alloc: Global, error: &ClapError) -> LineFault
             Ok(text) => LineFault::Help(text),
             Err(_) => LineFault::Memory,
         },
+        ErrorKind::DisplayVersion => LineFault::Version,
         _ => LineFault::BadLine,
     }
 }

@@ -3,8 +3,8 @@
 ghost use Rattle.std.specs.Prelude.{None, ⊤};
 
 use mcv_check::Accepted;
-use mcv_command::{Job, LineFault, NamedFiles, Proxy, ServeFault, read_words, run_words};
-use mcv_input::{InputFault, read_at_most};
+use mcv_command::{Job, LineFault, NamedFiles, Proxy, read_words, run_words};
+use mcv_input::{RunFault, read_at_most};
 use std::alloc::{AllocError, Global};
 use std::io::Write;
 use std::sync::Arc;
@@ -52,7 +52,6 @@ mcv: bad line
 mcv serve: bad line
 mcv legs x: bad line
 mcv legs legs: bad line
-mcv --version: bad line
 mcv help serve: bad line
 mcv --help: help
 mcv -h: help
@@ -64,7 +63,11 @@ mcv legs --help: help
 mcv run --help: help
 mcv run -h: help
 mcv help run: help
-mcv legs -h: help";
+mcv legs -h: help
+mcv --version: version
+mcv -V: version
+mcv legs --version: bad line
+mcv version: bad line";
 
 fn asked(alloc: Global, line: &str) -> Result<String, AllocError> {
     let words: Vec<&str> = line.split(' ').collect(alloc)?;
@@ -85,6 +88,7 @@ fn asked(alloc: Global, line: &str) -> Result<String, AllocError> {
         Err(LineFault::BadLine) => String::from_str(alloc, "bad line"),
         Err(LineFault::Memory) => String::from_str(alloc, "memory"),
         Err(LineFault::Help(_)) => String::from_str(alloc, "help"),
+        Err(LineFault::Version) => String::from_str(alloc, "version"),
     }
 }
 
@@ -106,9 +110,9 @@ struct OneFile<'a> {
 impl<'a> NamedFiles for OneFile<'a> {
     ghost held = { λ _ _. None };
 
-    fn read_named(&self, alloc: Global, name: &str, limit: u64) -> Result<Vec<u8>, InputFault> {
+    fn read_named(&self, alloc: Global, name: &str, limit: u64) -> Result<Vec<u8>, RunFault> {
         if name != "a.cert" {
-            return Err(InputFault::Device);
+            return Err(RunFault::Device);
         }
         let mut held = self.held;
         read_at_most(alloc, &mut held, limit)
@@ -130,17 +134,17 @@ impl Proxy for Listed {
         spool: &str,
         sessions: u64,
         out: &mut W,
-    ) -> Result<(), ServeFault> {
+    ) -> Result<(), RunFault> {
         if listen == "full:1" {
-            return Err(ServeFault::Memory);
+            return Err(RunFault::Memory);
         }
         let servers = accepted.routes().servers().len();
         let Ok(line) = format!(in alloc; "{listen} {spool} {sessions} of {servers}\n") else {
-            return Err(ServeFault::Memory);
+            return Err(RunFault::Memory);
         };
         match out.write_all(line.as_bytes()) {
             Ok(()) if listen != "busy:1" => Ok(()),
-            _ => Err(ServeFault::Device),
+            _ => Err(RunFault::Device),
         }
     }
 }
@@ -159,6 +163,15 @@ fn help(alloc: Global, words: &[&str]) -> Result<String, AllocError> {
         Ok(_) => Ok(String::from_utf8(shown).unwrap_or(String::new(alloc))),
         Err(_) => Ok(String::new(alloc)),
     }
+}
+
+#[test]
+fn the_version_is_one_line(rt: HostRuntime) -> Result<(), Fail> {
+    for words in [["mcv", "--version"], ["mcv", "-V"]] {
+        let text = help(rt.alloc(), &words)?;
+        assert!(rt; text.as_str() == "mcv 1\n", "{text}");
+    }
+    Ok(())
 }
 
 #[test]

@@ -10,7 +10,7 @@ use std::test::Fail;
 
 const LONE: &str = "{\"pools\":{\"A\":{\"servers\":[\"a:11211\"]}},\"route\":\"PoolRoute|A\"}";
 
-/// A configuration, and the fault that stands in it.
+/// A configuration, and the fault in it.
 const REFUSED: &str = "\
 { = configuration 1 at .
 {} = configuration 3 at .
@@ -65,7 +65,7 @@ fn texts_are_written_whole_and_read_up_to_a_limit(rt: HostRuntime) -> Result<(),
 }
 
 #[test]
-fn broken_devices_are_told(rt: HostRuntime) -> Result<(), Fail> {
+fn broken_devices_are_reported(rt: HostRuntime) -> Result<(), Fail> {
     let alloc = rt.alloc();
     assert_eq!(rt; read(alloc, &mut Broken)?.as_str(), "device failed");
     let Err(fault) = write_text(&mut Broken, b"abc") else {

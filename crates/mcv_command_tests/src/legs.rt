@@ -2,7 +2,8 @@
 
 use crate::devices::{Broken, joined};
 use mcv_base::Moment;
-use mcv_legs::{RunFault, requests_have_one_reading, run_legs};
+use mcv_input::RunFault;
+use mcv_legs::{requests_have_one_reading, run_legs};
 use std::alloc::Global;
 use std::io;
 use std::io::Read;
@@ -106,7 +107,7 @@ fn each_handle_sends_by_its_rule(rt: HostRuntime) -> Result<(), Fail> {
 }
 
 #[test]
-fn faults_are_told_in_their_order(rt: HostRuntime) -> Result<(), Fail> {
+fn faults_are_reported_in_their_order(rt: HostRuntime) -> Result<(), Fail> {
     table_holds(&rt, REFUSED)?;
     let no_end = shown(rt.alloc(), &mut b"delete a {}".as_slice())?;
     assert_eq!(rt; no_end.as_str(), "1 1 bad request line");
@@ -125,7 +126,7 @@ fn an_input_without_end_is_too_long(rt: HostRuntime) -> Result<(), Fail> {
 }
 
 #[test]
-fn broken_devices_are_told(rt: HostRuntime) -> Result<(), Fail> {
+fn broken_devices_are_reported(rt: HostRuntime) -> Result<(), Fail> {
     let alloc = rt.alloc();
     let input = b"get a\n{\"route\":\"NullRoute\"}";
     let mut broken = input.as_slice().chain(Broken);

@@ -6,7 +6,7 @@ use Rattle.mcv_comments.specs.Comments.{Piece, plain, quoted, unended, block, li
 use Rattle.mcv_comments.proofs.Insides.{inside_byte, inside_escape, never_nil, never_byte, never_escape, never_last}
 use Rattle.mcv_comments.proofs.Pieces.{strips_none, strips_on, one_piece}
 
--- what stands before the quote that ends a text, and behind it
+-- what comes before the quote that ends a text, and behind it
 pub data QuoteEnds (body : List ℕ) : Type 0 where
   no_quote_ends : HasNoQuote body → QuoteEnds body
   quote_ends_it : (inside rest : List ℕ) → body ≡ inside ++ 34 ∷ rest → IsInside inside → QuoteEnds body
@@ -79,7 +79,7 @@ block_ends (b ∷ c ∷ body) =
       | inr no_star ↦ block_byte b c body (λ star _. no_star star) (block_ends (c ∷ body))
     ]
 
--- the line that a text begins with, and what stands behind it
+-- the line that a text begins with, and what comes behind it
 abbrev pub LineEnds : List ℕ → Type 0
 LineEnds body = (comment : List ℕ) × (rest : List ℕ) × (body ≡ comment ++ rest) × All (λ b. b ≢ 10) comment × ((rest ≡ []) ⊎ (get_or rest 0 0 ≡ 10))
 

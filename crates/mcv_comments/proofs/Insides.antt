@@ -1,4 +1,4 @@
--- What may stand between the quotes of a text, byte by byte.
+-- What may be between the quotes of a text, byte by byte.
 use Rattle.std.proofs.Common.{◌≡◌, ◌≢◌, ℕ, ◌+◌, ◌<◌, ◌≤◌, List, [], ◌∷◌, ◌++◌, length, get_or, take, drop, refl, sym, ap, subst, ◌∙◌, append_assoc, append-nil, inl, inr, arith}
 use Rattle.std.proofs.lemmas.List.{take_more, drop_more, drop_all}
 use Rattle.std.proofs.lemmas.Bool.{cases_lt}
@@ -22,7 +22,7 @@ inside_tail b [] is no_backslash = tt
 inside_tail b (c ∷ bytes) (inl escaped) no_backslash = absurd (no_backslash escaped.0)
 inside_tail b (c ∷ bytes) (inr plain) no_backslash = plain.2
 
--- the quote that ends a text stands at one place
+-- the quote that ends a text is at one place
 pub inside_one : (u v x y : List ℕ) → IsInside u → IsInside v → u ++ 34 ∷ x ≡ v ++ 34 ∷ y → (u ≡ v) × (x ≡ y)
 inside_one [] [] x y p q e = (refl, cc)
 inside_one [] (b ∷ v) x y p q e =

@@ -16,7 +16,7 @@ reads_on : (ps qs : List Piece) (text mid rest : List ℕ) → Reads text ps mid
 reads_on [] qs text mid rest a b = subst (λ (t : List ℕ). Reads t qs rest) (sym a) b
 reads_on (p ∷ ps) qs text mid rest a b = (a.0, a.1, reads_on ps qs a.0 mid rest a.2 b)
 
--- one front and what stands behind it
+-- one front and what comes behind it
 pub strips_on : (text mid rest out more : List ℕ) → StripsTo text mid out → StripsTo mid rest more → StripsTo text rest (out ++ more)
 strips_on text mid rest out more a b = (
   a.0 ++ b.0,
@@ -89,11 +89,11 @@ text_all (b ∷ more) first never =
     (cons_both b 34 more more first refl, never, none)
     (cons_both b 34 (take (length more) more) more first all)
 
--- what is lent of a list from a place on
+-- what is borrowed of a list from a place on
 pub rest_of : (xs : List ℕ) (n : ℕ) → take (length xs - n) (drop n xs) ≡ drop n xs
 rest_of xs n = take_all (length xs - n) (drop n xs) (omega (arith, length-drop n xs))
 
--- two known bytes and what stands behind them
+-- two known bytes and what comes behind them
 pub two_front : (text : List ℕ) (a b : ℕ) → get_or text 0 0 ≡ a → get_or text 1 0 ≡ b → 0 < b → text ≡ a ∷ b ∷ drop 2 text
 two_front [] a b first second some = absurd (omega (arith, second))
 two_front (x ∷ []) a b first second some = absurd (omega (arith, second))

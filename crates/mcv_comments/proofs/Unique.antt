@@ -5,7 +5,7 @@ use Rattle.std.proofs.lemmas.List.Elements.{All-head, All-tail}
 use Rattle.mcv_comments.specs.Comments.{Piece, plain, quoted, unended, block, line, remains, HasNoEnd, Begins, Reads, Strips, IsOpen}
 use Rattle.mcv_comments.proofs.Insides.{inside_one}
 
--- the first `*/` stands at one place
+-- the first `*/` is at one place
 block_one : (u v x y : List ℕ) → HasNoEnd u → HasNoEnd v → u ++ 42 ∷ 47 ∷ x ≡ v ++ 42 ∷ 47 ∷ y → (u ≡ v) × (x ≡ y)
 block_one [] [] x y p q e = (refl, cc)
 block_one [] (b ∷ []) x y p q e =
@@ -28,7 +28,7 @@ block_one (a ∷ u) (b ∷ v) x y p q e =
     let rest = block_one u v x y (λ front more is. p (a ∷ front) more (ap (λ t. a ∷ t) is)) (λ front more is. q (b ∷ front) more (ap (λ t. b ∷ t) is)) tails in
     (cc (heads, rest.0), rest.1)
 
--- nothing stands there, or a LF does
+-- nothing is there, or a LF is
 abbrev pub EndsLine : List ℕ → Type 0
 EndsLine after = (after ≡ []) ⊎ (get_or after 0 0 ≡ 10)
 
@@ -63,7 +63,7 @@ apart_second text x y s a b p q differ =
     let rest = (head_one text (a ∷ x) (b ∷ y) s s p q).1 in
     differ (head_one (a ∷ x) x y a b refl rest).0
 
--- a plain slash stands before no star and no slash
+-- a plain slash comes before no star and no slash
 slash_apart : (text x y : List ℕ) (b d : ℕ) → text ≡ b ∷ x → (b ≡ 47 → get_or x 0 0 ≡ d → ⊥) → text ≡ 47 ∷ d ∷ y → ⊥
 slash_apart text x y b d p differ q =
     let both = head_one text x (d ∷ y) b 47 p q in

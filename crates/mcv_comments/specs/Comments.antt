@@ -2,7 +2,7 @@
 use Rattle.std.specs.Prelude.{◌≡◌, ◌≢◌, ◌⊎◌, ℕ, List, [], ◌∷◌, ◌++◌, slice_index}
 use Rattle.std.specs.List.{flat_map, All}
 
--- a byte outside texts and comments, what stands between the quotes of a text, a text that never ends, what stands between `/*` and `*/`, what stands behind `//`
+-- a byte outside texts and comments, what is between the quotes of a text, a text that never ends, what is between `/*` and `*/`, what comes behind `//`
 pub data Piece : Type 0 where
   plain : ℕ → Piece
   quoted : List ℕ → Piece
@@ -18,7 +18,7 @@ remains (unended body) = 34 ∷ body
 remains (block body) = 32 ∷ []
 remains (line body) = []
 
--- what may stand between the quotes of a text: each quote and each backslash is behind a backslash that escapes it
+-- what may be between the quotes of a text: each quote and each backslash is behind a backslash that escapes it
 abbrev pub IsInside : List ℕ → Type 0
 IsInside [] = Unit {0}
 IsInside (b ∷ []) = (b ≢ 34) × (b ≢ 92)
@@ -28,7 +28,7 @@ IsInside (b ∷ c ∷ bytes) = ((b ≡ 92) × IsInside bytes) ⊎ ((b ≢ 34) ×
 abbrev pub HasNoQuote : List ℕ → Type 0
 HasNoQuote bytes = (inside more : List ℕ) → IsInside inside → bytes ≢ inside ++ 34 ∷ more
 
--- `*/` doesn't stand in the bytes
+-- `*/` isn't in the bytes
 abbrev pub HasNoEnd : List ℕ → Type 0
 HasNoEnd bytes = (front more : List ℕ) → bytes ≢ front ++ 42 ∷ 47 ∷ more
 
@@ -45,7 +45,7 @@ abbrev pub Reads : List ℕ → List Piece → List ℕ → Type 0
 Reads text [] rest = text ≡ rest
 Reads text (p ∷ ps) rest = (after : List ℕ) × Begins text p after × Reads after ps rest
 
--- `out` remains of the pieces that stand before `rest`
+-- `out` remains of the pieces that come before `rest`
 abbrev pub StripsTo : List ℕ → List ℕ → List ℕ → Type 0
 StripsTo text rest out = (ps : List Piece) × Reads text ps rest × (out ≡ flat_map remains ps)
 

@@ -1,8 +1,8 @@
-//! What stands at the front of a text: a run of plain bytes, a text between quotes or a comment.
+//! What is at the front of a text: a run of plain bytes, a text between quotes or a comment.
 
 ghost use Rattle.std.specs.Prelude.{◌≡◌, ◌<◌, ◌≤◌, ◌∷◌, ℕ, List, length, take, drop, slice_index, MatchOption};
 ghost use Rattle.mcv_comments.specs.Comments.{Begins, HasNoEnd, HasNoQuote, IsInside, OpensBlock, StripsTo, block, line};
-ghost use Rattle.mcv_comments.specs.Front.{Stands};
+ghost use Rattle.mcv_comments.specs.Front.{ShownAs};
 
 use memchr::{memchr, memchr2, memmem};
 
@@ -23,7 +23,7 @@ pub enum Kind {
 }
 
 fn kind_of(text: &[u8]) -> Kind
-    ensures { Stands text.now result }
+    ensures { ShownAs text.now result }
 {
     match text {
         [b'"', ..] => Kind::Quote,
@@ -33,7 +33,7 @@ fn kind_of(text: &[u8]) -> Kind
     }
 }
 
-/// The place of the quote that ends a text between quotes; `body` is all that stands behind its first quote.
+/// The place of the quote that ends a text between quotes; `body` is all that comes behind its first quote.
 fn text_end(body: &[u8]) -> Option<usize>
     ensures { MatchOption result (HasNoQuote body.now) (λ end. (end < length body.now) × (slice_index body.now end ≡ 34) × IsInside (take end body.now)) }
 {
@@ -50,7 +50,7 @@ fn text_end(body: &[u8]) -> Option<usize>
 
 /// The length of a text with its quotes.
 fn text_len(text: &[u8]) -> usize
-    requires { Stands text.now Kind.Quote }
+    requires { ShownAs text.now Kind.Quote }
     ensures some { 0 < result }
     ensures within { result ≤ length text.now }
     ensures kept { StripsTo text.now (drop result text.now) (take result text.now) }
@@ -64,7 +64,7 @@ fn text_len(text: &[u8]) -> usize
 /// The length of a run of plain bytes, up to the next quote or slash.
 fn run_len(text: &[u8]) -> usize
     requires some { 0 < length text.now }
-    requires begins { Stands text.now Kind.Plain }
+    requires begins { ShownAs text.now Kind.Plain }
     ensures some { 0 < result }
     ensures within { result ≤ length text.now }
     ensures kept { StripsTo text.now (drop result text.now) (take result text.now) }
@@ -75,7 +75,7 @@ fn run_len(text: &[u8]) -> usize
     }
 }
 
-/// What comes behind a comment's `*/`; `body` is all that stands behind its `/*`.
+/// What comes behind a comment's `*/`; `body` is all that comes behind its `/*`.
 fn behind_block(body: &[u8]) -> Option<&[u8]>
     ensures { MatchOption result (HasNoEnd body.now) (λ rest. ((comment : List ℕ) × Begins (47 ∷ 42 ∷ body.now) (block comment) rest.now) × (length rest.now ≤ length body.now)) }
 {
@@ -83,7 +83,7 @@ fn behind_block(body: &[u8]) -> Option<&[u8]>
     Some(&body[end + 2..])
 }
 
-/// What comes behind a comment up to the end of its line; `body` is all that stands behind its `//`.
+/// What comes behind a comment up to the end of its line; `body` is all that comes behind its `//`.
 fn behind_line(body: &[u8]) -> &[u8]
     ensures comment { (comment : List ℕ) × Begins (47 ∷ 47 ∷ body.now) (line comment) result.now }
     ensures within { length result.now ≤ length body.now }

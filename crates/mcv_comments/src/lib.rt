@@ -1,6 +1,6 @@
 //! The comments of a configuration, taken out of its text before it is read as JSON.
 //!
-//! The definitions stand in specs/: `Comments` says into which pieces a text falls, plain bytes,
+//! The definitions are in specs/: `Comments` says into which pieces a text falls, plain bytes,
 //! texts between quotes and comments, and what is kept of each.
 #![tactic(auto)]
 

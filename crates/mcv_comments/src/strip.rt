@@ -8,7 +8,7 @@ use crate::front::front_of;
 use std::alloc::Global;
 
 /// The text without its comments: a `/* .. */` becomes one space, and a `//` up to the next LF, which stays, or up to
-/// the end becomes nothing. What stands between double quotes is kept as it is, where a backslash escapes the next
+/// the end becomes nothing. What is between double quotes is kept as it is, where a backslash escapes the next
 /// byte, and so is a text that never ends. Open where a `/*` has no `*/` behind it; its own star doesn't end it.
 pub fn strip_comments(alloc: Global, text: &[u8]) -> Result<Vec<u8>, CommentFault>
     ensures stripped { IfOk result (λ out. Strips text.now out.items) }

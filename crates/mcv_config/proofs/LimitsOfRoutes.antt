@@ -1,4 +1,4 @@
--- The routes that are read keep to their limits: levels, handles, and what stands in each of them.
+-- The routes that are read keep to their limits: levels, handles, and what is in each of them.
 use Rattle.std.proofs.Common.{◌≡◌, ℕ, zero, suc, ◌+◌, ◌-◌, ◌≤◌, ◌==◌, nat_lt, false, List, [], ◌∷◌, ◌++◌, map, length, get_or, drop, take, Option, Some, None, Ok, Err, Result, bytes_eq, codes, refl, ap, true≢false, arith}
 use Rattle.std.specs.List.{AllByRecursion, range_with_len}
 use Rattle.std.proofs.lemmas.Bool.{ltb-false}

@@ -1,4 +1,4 @@
--- A text is a routing prefix just where its parts are nothing, a name, a name, nothing.
+-- A text is a routing prefix exactly when its parts are nothing, a name, a name, nothing.
 use Rattle.std.proofs.Common.{◌≡◌, ◌≢◌, ℕ, ◌≤◌, zero, suc, Bool, true, false, not, ◌==◌, cond, List, [], ◌∷◌, ◌++◌, length, refl, sym, ap, subst, ◌∙◌, append_assoc, arith}
 use Rattle.std.proofs.lemmas.Bool.Decides.{Decides-eqb}
 use Rattle.std.specs.List.{All, AllByRecursion, list_all, onto_first, join_with_byte}

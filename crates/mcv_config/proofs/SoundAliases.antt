@@ -1,4 +1,4 @@
--- The aliases that are read are routing prefixes, and none stands twice.
+-- The aliases that are read are routing prefixes, and none comes twice.
 use Rattle.std.proofs.Common.{◌≡◌, ℕ, ◌+◌, ◌<◌, ◌≤◌, nat_lt, ◌==◌, suc, Bool, true, false, cond, List, [], ◌∷◌, ◌++◌, length, Option, Some, None, bytes_eq, codes, refl, sym, ap, subst, ◌∙◌, arith, append_assoc}
 use Rattle.std.proofs.lemmas.Bool.Decides.{nat_tests}
 use Rattle.std.proofs.lemmas.List.{append-nil}
@@ -52,7 +52,7 @@ pub record IsNext (seen : List (List ℕ)) (x : List ℕ × List (List ℕ)) : T
   pub once : IsDistinct bytes_eq x.1
   pub alias : IsShortAlias x.0
 
--- so many aliases go behind those seen, and none stands twice
+-- so many aliases go behind those seen, and none comes twice
 pub record AreNext (seen : List (List ℕ)) (ds : List Data) (x : List (List ℕ) × List (List ℕ)) : Type 0 where
   pub behind : x.1 ≡ seen ++ x.0
   pub once : IsDistinct bytes_eq x.1

@@ -1,4 +1,4 @@
--- The routes that are read are sound, each has an alias, and no alias stands twice in all of them.
+-- The routes that are read are sound, each has an alias, and no alias comes twice in all of them.
 use Rattle.std.proofs.Common.{◌≡◌, ℕ, suc, ◌+◌, ◌<◌, List, [], ◌∷◌, ◌++◌, length, Option, Some, None, bytes_eq, codes, refl, sym, ap, subst, ◌∙◌, arith, append_assoc}
 use Rattle.std.proofs.lemmas.List.{append-nil}
 use Rattle.std.specs.List.{All, AllByRecursion, IsDistinct}

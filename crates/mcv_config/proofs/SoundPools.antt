@@ -24,7 +24,7 @@ apart_more : (y : List ℕ) (xs : Table) (x : List ℕ) → AllByRecursion (λ z
 apart_more y [] x h e = (e, tt)
 apart_more y (z ∷ xs) x h e = (h.0, apart_more y xs x h.1 e)
 
--- texts are told apart either way round
+-- texts are distinguished either way round
 other_way : (x y : List ℕ) → bytes_eq x y ≡ false → bytes_eq y x ≡ false
 other_way x y e = by (bytes_eq y x) refl
   where

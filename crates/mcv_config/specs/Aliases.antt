@@ -15,7 +15,7 @@ use Rattle.mcv_names.specs.Path.{key_step}
 
 -- ---- what an alias is
 
--- what stands before, between and behind the slashes
+-- what comes before, between and behind the slashes
 abbrev pub parts : List ℕ → List (List ℕ)
 parts text = slice_split (λ b. b == slash) text
 
@@ -46,7 +46,7 @@ is_no_rest NoRest = true
 abbrev pub alias_limit : ℕ
 alias_limit = 40
 
--- in a routing prefix a star stands for any name (mcrouter wiki, Routing Prefix), which is left out; elsewhere it is a byte
+-- in a routing prefix a star means any name (mcrouter wiki, Routing Prefix), which is left out; elsewhere it is a byte
 abbrev pub star : ℕ
 star = 42
 
@@ -54,7 +54,7 @@ abbrev pub twice : Option ℕ → Option FaultKind
 twice None = None
 twice (Some i) = Some AliasTwice
 
--- the fault of an alias behind those of the file that stand before it, if it has one
+-- the fault of an alias behind those of the file that come before it, if it has one
 unfoldable pub alias_fault : List (List ℕ) → List ℕ → Option FaultKind
 alias_fault seen text =
     if nat_lt alias_limit (length text) then Some Limit else

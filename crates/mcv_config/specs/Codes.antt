@@ -1,4 +1,4 @@
--- That a plan can be told from another, by which values that hold one may stand in clauses. It says nothing of what a plan means.
+-- That a plan can be distinguished from another, by which values that hold one may be in clauses. It says nothing of what a plan means.
 use Rattle.std.specs.Prelude.{◌≡◌, ℕ, ◌==◌, List, [], Option, if◌then◌else◌, refl}
 use Rattle.std.specs.Coded.{Coded, code_by, coded×, coded_ℕ, coded_list, coded_option}
 use Rattle.std.proofs.Common.{ap}

@@ -1,4 +1,4 @@
--- The configuration that a text names, and the faults that stand in it (mcrouter wiki, Config Files; faults and limits are own).
+-- The configuration that a text names, and the faults in it (mcrouter wiki, Config Files; faults and limits are own).
 use Rattle.std.specs.Prelude.{◌≡◌, ℕ, ◌≤◌, ◌<◌, ◌⊎◌, List, [], length, Option, Some, None, codes, IsUtf8}
 use Rattle.serde_json.specs.Data.{Data, Members}
 use Rattle.serde_json.specs.Find.{get, as_object}
@@ -6,7 +6,7 @@ use Rattle.serde_json.specs.Read.{read}
 use Rattle.mcv_comments.specs.Comments.{IsOpen, Strips}
 use Rattle.mcv_names.specs.declared.fault.FaultKind.TheVariants.{NotJson, WrongKind, Limit}
 use Rattle.mcv_names.specs.declared.handle.Object.TheVariants as objects
-use Rattle.mcv_names.specs.Fault.{Fault, Read, good, refused, ◌>>=◌, also, Stands}
+use Rattle.mcv_names.specs.Fault.{Fault, Read, good, refused, ◌>>=◌, also, HasFault}
 use Rattle.mcv_names.specs.Handles.{key_fault, keys_read}
 use Rattle.mcv_names.specs.Path.{key_step}
 use Rattle.mcv_config.specs.Entries.{routing_read}
@@ -52,11 +52,11 @@ NamesAsJson json plan = (d : Data) × IsUtf8 json × (read json ≡ Some d) × (
 abbrev pub IsJson : List ℕ → Type 0
 IsJson json = IsUtf8 json × (d : Data) × (read json ≡ Some d)
 
--- The text is no JSON, or is a value in which the fault stands.
+-- The text is no JSON, or is a value with the fault.
 abbrev pub FaultyAsJson : List ℕ → Fault → Type 0
 FaultyAsJson json fault =
     (¬ IsJson json × (fault ≡ record { kind = NotJson; path = codes "." }))
-    ⊎ ((d : Data) × IsUtf8 json × (read json ≡ Some d) × Stands (root [] d) fault)
+    ⊎ ((d : Data) × IsUtf8 json × (read json ≡ Some d) × HasFault (root [] d) fault)
 
 -- ---- texts with comments
 
@@ -64,7 +64,7 @@ FaultyAsJson json fault =
 abbrev pub Names : List ℕ → Plan → Type 0
 Names text plan = (length text ≤ size_limit) × (json : List ℕ) × Strips text json × NamesAsJson json plan
 
--- The fault stands in the text: the text is too long, and has no other fault; or it isn't, and a comment doesn't end, or the fault stands in what the text is without its comments.
+-- The fault is in the text: the text is too long, and has no other fault; or it isn't, and a comment doesn't end, or the fault is in what the text is without its comments.
 abbrev pub Faulty : List ℕ → Fault → Type 0
 Faulty text fault =
     ((size_limit < length text) × (fault ≡ record { kind = Limit; path = codes "." }))

@@ -36,7 +36,7 @@ entry_of_members turn path d (Some ms) = also (keys_read (key_fault objects.Entr
 unfoldable pub entry_read : Turn → List ℕ → Data → Read (EntryPlan × Turn)
 entry_read turn path d = entry_of_members turn path d (as_object d)
 
--- one route or more; no alias stands twice in all of them
+-- one route or more; no alias comes twice in all of them
 abbrev pub entries_of_list : SoFar → List ℕ → Option Items → Read (List EntryPlan × Turn)
 entries_of_list w path None = refused WrongKind path
 entries_of_list w path (Some ds) = some_items path (items_list ds) >>= each entry_read ([], w) path 0

@@ -1,4 +1,4 @@
--- Trees of labels, and that they can be told apart where their labels can. It says nothing of what a label means.
+-- Trees of labels, and that they can be distinguished where their labels can. It says nothing of what a label means.
 use Rattle.std.specs.Prelude.{◌≡◌, refl}
 use Rattle.std.specs.Coded.{Coded}
 use base.Stored.{Gv, gnil, gnum, gcons}

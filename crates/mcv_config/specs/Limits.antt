@@ -53,7 +53,7 @@ abbrev mutual
   AreWithin n no_named = Unit {0}
   AreWithin n (named t ts) = IsWithin n t × AreWithin n ts
 
--- The limits of aliases stand in `AreAliases`.
+-- The limits of aliases are in `AreAliases`.
 pub record IsWithinLimits (plan : Plan) : Type 0 where
   -- distinct servers, and the servers of each pool
   pub servers : length plan.servers ≤ server_limit

@@ -170,7 +170,7 @@ all_aliases entries = flat_map (λ e. e.aliases) entries
 pub record IsSound (plan : Plan) : Type 0 where
   -- each server's text is a host, a colon and a port
   pub texts : All (λ text. is_server text ≡ true) plan.servers
-  -- no server and no alias stands twice
+  -- no server and no alias comes twice
   pub once : IsOneToOne plan.servers
   pub apart : IsOneToOne (all_aliases plan.entries)
   pub pools : All (IsSoundPool (length plan.servers)) plan.pools

@@ -7,8 +7,8 @@ use Rattle.serde_json.specs.Find.{get, as_str, as_array, as_object}
 use Rattle.mcv_pools.specs.declared.symbol.HashFunc.TheVariants.{Ch3}
 use Rattle.mcv_names.specs.declared.fault.FaultKind.{FaultKind}
 use Rattle.mcv_names.specs.declared.fault.FaultKind.TheVariants.{WrongKind, Limit, LeftOut}
-use Rattle.mcv_names.specs.declared.fault.ConfigFault.{ConfigFault}
-use Rattle.mcv_names.specs.declared.fault.ConfigFault.TheVariants.{Memory}
+use Rattle.mcv_names.specs.declared.fault.ReadFault.{ReadFault}
+use Rattle.mcv_names.specs.declared.fault.ReadFault.TheVariants.{Memory}
 use Rattle.mcv_config.specs.declared.config.NamedRoute.{NamedRoute}
 use Rattle.mcv_names.specs.declared.handle.Many.{Many}
 use Rattle.mcv_names.specs.declared.handle.Many.TheVariants as many_handles
@@ -45,7 +45,7 @@ only_child x = (x.0 ∷ [], x.1)
 
 -- ---- texts
 
--- what stands before the first bar, and what follows it
+-- what comes before the first bar, and what follows it
 abbrev pub cut_at : List ℕ → Option ℕ → Option (List ℕ × List ℕ)
 cut_at text None = None
 cut_at text (Some i) = Some (take i text, drop (i + 1) text)
@@ -57,7 +57,7 @@ cut text = cut_at text (position (λ b. b == 124) text)
 abbrev pub pool_prefix : List ℕ
 pool_prefix = codes "Pool|"
 
--- the children that a text stands for: a pool's servers, or one route
+-- the children that a text names: a pool's servers, or one route
 unfoldable pub text_children : ℕ → Reader → SoFar → List ℕ → List ℕ → Children
 text_children depth reader w path text =
     if bytes_eq (take 5 text) pool_prefix then pool_named w.pools path (drop 5 text) >>= servers depth w path
@@ -209,6 +209,6 @@ route zero w path d = refused Limit path
 route (suc depth) w path d = in_room w.room path (handle_of depth (route depth) (taken 1 w) path d (as_str d) (as_object d))
 
 -- the child alone, or memory ran out
-abbrev pub IsOnly : NamedRoute → Result (Vec NamedRoute Global) ConfigFault → Type 0
+abbrev pub IsOnly : NamedRoute → Result (Vec NamedRoute Global) ReadFault → Type 0
 IsOnly child (Ok v) = v.items ≡ child ∷ []
 IsOnly child (Err e) = e ≡ Memory

@@ -1,4 +1,4 @@
--- What the reader's tables stand for.
+-- What the reader's tables mean.
 use Rattle.std.specs.Prelude.{map}
 use Rattle.mcv_config.specs.declared.pools.NamedPools.{NamedPools}
 use Rattle.mcv_config.specs.declared.progress.Progress.{Progress}

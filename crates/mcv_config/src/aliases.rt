@@ -11,7 +11,7 @@ ghost use Rattle.mcv_config.specs.Aliases.{IsAlias, alias_fault, alias_read, ali
 
 use crate::name_table::NameTable;
 use mcv_base::{KeyFault, Prefix, split_key};
-use mcv_names::{ConfigFault, FaultKind, Trail, fault_at, some_items};
+use mcv_names::{FaultKind, ReadFault, Trail, fault_at, some_items};
 use serde_json::Value;
 use std::alloc::Global;
 
@@ -41,7 +41,7 @@ fn is_alias(text: &[u8]) -> bool
     }
 }
 
-/// The fault of an alias behind those that stand before it in the file, if it has one.
+/// The fault of an alias behind those that come before it in the file, if it has one.
 #[tactic(auto, unfolding(crate::specs::Aliases::alias_fault))]
 fn alias_fault(seen: &NameTable, text: &str) -> Option<FaultKind>
     ensures { result ≡ alias_fault seen.now text.now }
@@ -69,7 +69,7 @@ fn read_alias(
     seen: &mut NameTable,
     trail: &Trail<'_>,
     value: &Value,
-) -> Result<Prefix, ConfigFault>
+) -> Result<Prefix, ReadFault>
     ensures { Gives (λ alias. (alias, seen.new)) result (alias_read seen.old (path_of trail.now) (view value.now)) }
 {
     let Some(text) = value.as_str() else {
@@ -88,7 +88,7 @@ fn read_each_alias(
     seen: &mut NameTable,
     trail: &Trail<'_>,
     list: &[Value],
-) -> Result<Vec<Prefix>, ConfigFault>
+) -> Result<Vec<Prefix>, ReadFault>
     ensures { Gives (λ v. (v.items, seen.new)) result (each alias_read seen.old (path_of trail.now) 0 (map view list.now)) }
 {
     let mut aliases = Vec::new(alloc);
@@ -106,7 +106,7 @@ pub(crate) fn read_aliases(
     seen: &mut NameTable,
     trail: &Trail<'_>,
     value: &Value,
-) -> Result<Vec<Prefix>, ConfigFault>
+) -> Result<Vec<Prefix>, ReadFault>
     ensures { Gives (λ v. (v.items, seen.new)) result (aliases_field seen.old (path_of trail.now) (view value.now)) }
 {
     let Some(aliases) = value.get("aliases") else {

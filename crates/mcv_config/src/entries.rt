@@ -15,7 +15,7 @@ use crate::name_table::NameTable;
 use crate::progress::Progress;
 use crate::routes::{read_field, read_route};
 use mcv_base::Prefix;
-use mcv_names::{ConfigFault, FaultKind, Object, Trail, check_keys, fault_at, some_items};
+use mcv_names::{FaultKind, Object, ReadFault, Trail, check_keys, fault_at, some_items};
 use serde_json::Value;
 use std::alloc::{AllocError, Global};
 
@@ -29,7 +29,7 @@ pub(crate) fn read_routing(
     so_far: &mut Progress,
     trail: &Trail<'_>,
     value: &Value,
-) -> Result<Vec<Entry>, ConfigFault>
+) -> Result<Vec<Entry>, ReadFault>
     ensures { Gives (λ v. (map entry_plan v.items, so_far_of so_far.new)) result (routing_read (so_far_of so_far.old) (path_of trail.now) (view value.now)) }
 {
     if let Some(entries) = value.get("routes") {
@@ -64,7 +64,7 @@ fn read_entries(
     so_far: &mut Progress,
     trail: &Trail<'_>,
     value: &Value,
-) -> Result<Vec<Entry>, ConfigFault>
+) -> Result<Vec<Entry>, ReadFault>
     ensures { Gives (λ v. (map entry_plan v.items, so_far_of so_far.new)) result (entries_read (so_far_of so_far.old) (path_of trail.now) (view value.now)) }
 {
     let Some(list) = value.as_array() else {
@@ -82,7 +82,7 @@ fn read_each_entry(
     so_far: &mut Progress,
     trail: &Trail<'_>,
     list: &[Value],
-) -> Result<Vec<Entry>, ConfigFault>
+) -> Result<Vec<Entry>, ReadFault>
     ensures { Gives (λ v. (map entry_plan v.items, (seen.new, so_far_of so_far.new))) result (each entry_read (seen.old, so_far_of so_far.old) (path_of trail.now) 0 (map view list.now)) }
 {
     let mut entries = Vec::new(alloc);
@@ -100,7 +100,7 @@ fn read_entry(
     so_far: &mut Progress,
     trail: &Trail<'_>,
     value: &Value,
-) -> Result<Entry, ConfigFault>
+) -> Result<Entry, ReadFault>
     ensures { Gives (λ e. (entry_plan e, (seen.new, so_far_of so_far.new))) result (entry_read (seen.old, so_far_of so_far.old) (path_of trail.now) (view value.now)) }
 {
     let Some(members) = value.as_object() else {
@@ -118,7 +118,7 @@ fn read_fields(
     so_far: &mut Progress,
     trail: &Trail<'_>,
     value: &Value,
-) -> Result<Entry, ConfigFault>
+) -> Result<Entry, ReadFault>
     ensures { Gives (λ e. (entry_plan e, (seen.new, so_far_of so_far.new))) result (entry_fields (seen.old, so_far_of so_far.old) (path_of trail.now) (view value.now)) }
 {
     let aliases = read_aliases(alloc, seen, trail, value)?;

@@ -6,7 +6,7 @@ ghost use Rattle.mcv_names.specs.Fault.{Gives};
 ghost use Rattle.mcv_config.specs.Hash.{func_field, func_named, func_read, hash_fields, hash_read, salt_field};
 ghost use Rattle.mcv_names.specs.Path.{path_of};
 
-use mcv_names::{ConfigFault, FaultKind, Object, Trail, check_keys, fault_at};
+use mcv_names::{FaultKind, Object, ReadFault, Trail, check_keys, fault_at};
 use mcv_pools::HashFunc;
 use serde_json::Value;
 use std::alloc::Global;
@@ -20,7 +20,7 @@ pub(crate) fn read_hash(
     alloc: Global,
     trail: &Trail<'_>,
     value: Option<&Value>,
-) -> Result<(HashFunc, Vec<u8>), ConfigFault>
+) -> Result<(HashFunc, Vec<u8>), ReadFault>
     ensures { Gives (λ hash. (hash.0, hash.1.items)) result (hash_read (path_of trail.now) (option_map (λ v. view v.now) value.entry)) }
 {
     let Some(hash) = value else {
@@ -41,7 +41,7 @@ fn read_fields(
     alloc: Global,
     trail: &Trail<'_>,
     value: &Value,
-) -> Result<(HashFunc, Vec<u8>), ConfigFault>
+) -> Result<(HashFunc, Vec<u8>), ReadFault>
     ensures { Gives (λ hash. (hash.0, hash.1.items)) result (hash_fields (path_of trail.now) (view value.now)) }
 {
     let in_func = Trail::Key(trail, "hash_func");
@@ -56,7 +56,7 @@ fn read_func_field(
     alloc: Global,
     trail: &Trail<'_>,
     value: Option<&Value>,
-) -> Result<HashFunc, ConfigFault>
+) -> Result<HashFunc, ReadFault>
     ensures { Gives (λ func. func) result (func_field (path_of trail.now) (option_map (λ v. view v.now) value.entry)) }
 {
     let Some(func) = value else {
@@ -69,7 +69,7 @@ fn read_func_field(
 }
 
 #[tactic(auto, using(mcv_names::proofs::Faults::faults), unfolding(crate::specs::Hash::func_read))]
-fn read_func(alloc: Global, trail: &Trail<'_>, name: &str) -> Result<HashFunc, ConfigFault>
+fn read_func(alloc: Global, trail: &Trail<'_>, name: &str) -> Result<HashFunc, ReadFault>
     ensures { Gives (λ func. func) result (func_read (path_of trail.now) name.now) }
 {
     match func_named(name) {
@@ -90,11 +90,7 @@ fn func_named(name: &str) -> Option<HashFunc>
 }
 
 #[tactic(auto, using(mcv_names::proofs::Faults::faults))]
-fn read_salt(
-    alloc: Global,
-    trail: &Trail<'_>,
-    value: Option<&Value>,
-) -> Result<Vec<u8>, ConfigFault>
+fn read_salt(alloc: Global, trail: &Trail<'_>, value: Option<&Value>) -> Result<Vec<u8>, ReadFault>
     ensures { Gives (λ salt. salt.items) result (salt_field (path_of trail.now) (option_map (λ v. view v.now) value.entry)) }
 {
     let Some(salt) = value else {

@@ -8,7 +8,7 @@ ghost use Rattle.mcv_names.specs.Path.{path_of};
 ghost use Rattle.mcv_config.specs.Routes.{start_read};
 ghost use Rattle.mcv_config.specs.Shadows.{range_of, range_read, range_value};
 
-use mcv_names::{ConfigFault, FaultKind, Trail, fault_at};
+use mcv_names::{FaultKind, ReadFault, Trail, fault_at};
 use serde_json::Value;
 use std::alloc::Global;
 
@@ -17,7 +17,7 @@ const SECONDS_LIMIT: u64 = 4_294_967_295;
 
 /// A number of seconds.
 #[tactic(auto, using(mcv_names::proofs::Faults::faults), unfolding(crate::specs::Numbers::seconds_read))]
-fn read_seconds(alloc: Global, trail: &Trail<'_>, value: &Value) -> Result<u32, ConfigFault>
+fn read_seconds(alloc: Global, trail: &Trail<'_>, value: &Value) -> Result<u32, ReadFault>
     ensures { Gives (λ n. n) result (seconds_read (path_of trail.now) (view value.now)) }
 {
     let Some(number) = value.as_u64() else {
@@ -36,7 +36,7 @@ pub(crate) fn read_seconds_or(
     missing: u32,
     trail: &Trail<'_>,
     value: Option<&Value>,
-) -> Result<u32, ConfigFault>
+) -> Result<u32, ReadFault>
     ensures { Gives (λ n. n) result (seconds_or missing (path_of trail.now) (option_map (λ v. view v.now) value.entry)) }
 {
     match value {
@@ -47,11 +47,7 @@ pub(crate) fn read_seconds_or(
 
 /// The start of a migration, which has to be there.
 #[tactic(auto, using(mcv_names::proofs::Faults::faults), unfolding(crate::specs::Routes::start_read))]
-pub(crate) fn read_start(
-    alloc: Global,
-    trail: &Trail<'_>,
-    value: &Value,
-) -> Result<u32, ConfigFault>
+pub(crate) fn read_start(alloc: Global, trail: &Trail<'_>, value: &Value) -> Result<u32, ReadFault>
     ensures { Gives (λ n. n) result (start_read (path_of trail.now) (view value.now)) }
 {
     let Some(start) = value.get("start_time") else {
@@ -66,7 +62,7 @@ pub(crate) fn read_range(
     alloc: Global,
     trail: &Trail<'_>,
     value: &Value,
-) -> Result<(u64, u64), ConfigFault>
+) -> Result<(u64, u64), ReadFault>
     ensures { Gives range_of result (range_read (path_of trail.now) (view value.now)) }
 {
     let Some(range) = value.get("index_range") else {
@@ -77,7 +73,7 @@ pub(crate) fn read_range(
 
 /// The two numbers of a list, the second no less than the first.
 #[tactic(auto, using(mcv_names::proofs::Faults::faults), unfolding(crate::specs::Shadows::range_value))]
-fn read_ends(alloc: Global, trail: &Trail<'_>, value: &Value) -> Result<(u64, u64), ConfigFault>
+fn read_ends(alloc: Global, trail: &Trail<'_>, value: &Value) -> Result<(u64, u64), ReadFault>
     ensures { Gives range_of result (range_value (path_of trail.now) (view value.now)) }
 {
     let Some(first) = value.get(0_usize) else {
@@ -98,7 +94,7 @@ fn read_ends(alloc: Global, trail: &Trail<'_>, value: &Value) -> Result<(u64, u6
 }
 
 #[tactic(auto, using(mcv_names::proofs::Faults::faults), unfolding(crate::specs::Numbers::index_read))]
-fn read_index(alloc: Global, trail: &Trail<'_>, value: &Value) -> Result<u64, ConfigFault>
+fn read_index(alloc: Global, trail: &Trail<'_>, value: &Value) -> Result<u64, ReadFault>
     ensures { Gives (λ n. n) result (index_read (path_of trail.now) (view value.now)) }
 {
     match value.as_u64() {

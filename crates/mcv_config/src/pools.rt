@@ -14,7 +14,7 @@ ghost use Rattle.mcv_config.specs.View.{pools_of};
 use crate::config::Pool;
 use crate::name_table::NameTable;
 use mcv_base::{ServerId, is_server};
-use mcv_names::{ConfigFault, FaultKind, Object, Trail, check_keys, fault_at, is_elsewhere};
+use mcv_names::{FaultKind, Object, ReadFault, Trail, check_keys, fault_at, is_elsewhere};
 use mcv_pools::{Servers, ServersFault};
 use serde_json::{Map, Value};
 use std::alloc::{AllocError, Global};
@@ -48,7 +48,7 @@ pub(crate) fn read_pools(
     servers: &mut Servers,
     trail: &Trail<'_>,
     value: Option<&Value>,
-) -> Result<NamedPools, ConfigFault>
+) -> Result<NamedPools, ReadFault>
     requires { servers.old ≡ [] }
     ensures { Gives (λ p. (pools_of p, servers.new)) result (pools_read (path_of trail.now) (option_map (λ v. view v.now) value.entry)) }
 {
@@ -72,7 +72,7 @@ fn read_each_pool(
     servers: &mut Servers,
     trail: &Trail<'_>,
     members: &Map<String, Value>,
-) -> Result<Vec<Pool>, ConfigFault>
+) -> Result<Vec<Pool>, ReadFault>
     ensures { Gives (λ v. (map pool_plan v.items, servers.new)) result (each_member pool_read servers.old (path_of trail.now) (members_view members.now.entries)) }
 {
     let mut pools = Vec::new(alloc);
@@ -101,7 +101,7 @@ pub(crate) fn read_pool(
     trail: &Trail<'_>,
     name: &str,
     value: &Value,
-) -> Result<Pool, ConfigFault>
+) -> Result<Pool, ReadFault>
     ensures { Gives (λ p. (pool_plan p, servers.new)) result (pool_read servers.old (path_of trail.now) name.now (view value.now)) }
 {
     let Some(members) = value.as_object() else {
@@ -130,7 +130,7 @@ fn no_pool(value: &Value) -> FaultKind
 
 /// A pool's name, where there is one, is a text. It isn't used.
 #[tactic(auto, using(mcv_names::proofs::Faults::faults))]
-fn check_name(alloc: Global, trail: &Trail<'_>, value: Option<&Value>) -> Result<(), ConfigFault>
+fn check_name(alloc: Global, trail: &Trail<'_>, value: Option<&Value>) -> Result<(), ReadFault>
     ensures { Gives (λ _. tt) result (name_read (path_of trail.now) (option_map (λ v. view v.now) value.entry)) }
 {
     let Some(name) = value else {
@@ -148,7 +148,7 @@ fn read_servers(
     servers: &mut Servers,
     trail: &Trail<'_>,
     value: &Value,
-) -> Result<Vec<ServerId>, ConfigFault>
+) -> Result<Vec<ServerId>, ReadFault>
     ensures { Gives (λ v. (map (λ s. s.0) v.items, servers.new)) result (servers_read servers.old (path_of trail.now) (view value.now)) }
 {
     let Some(listed) = value.get("servers") else {
@@ -167,7 +167,7 @@ fn read_server_list(
     servers: &mut Servers,
     trail: &Trail<'_>,
     list: &Vec<Value>,
-) -> Result<Vec<ServerId>, ConfigFault>
+) -> Result<Vec<ServerId>, ReadFault>
     ensures { Gives (λ v. (map (λ s. s.0) v.items, servers.new)) result (listed_servers servers.old (path_of trail.now) (items_list (items_view list.now.items))) }
 {
     if list.is_empty() {
@@ -185,7 +185,7 @@ fn read_each_server(
     servers: &mut Servers,
     trail: &Trail<'_>,
     list: &[Value],
-) -> Result<Vec<ServerId>, ConfigFault>
+) -> Result<Vec<ServerId>, ReadFault>
     ensures { Gives (λ v. (map (λ s. s.0) v.items, servers.new)) result (each (server_read (path_of trail.now)) servers.old (path_of trail.now) 0 (map view list.now)) }
 {
     let mut ids = Vec::new(alloc);
@@ -204,7 +204,7 @@ fn read_server(
     list: &Trail<'_>,
     trail: &Trail<'_>,
     value: &Value,
-) -> Result<ServerId, ConfigFault>
+) -> Result<ServerId, ReadFault>
     ensures { Gives (λ id. (id.0, servers.new)) result (server_read (path_of list.now) servers.old (path_of trail.now) (view value.now)) }
 {
     let Some(text) = value.as_str() else {
@@ -216,7 +216,7 @@ fn read_server(
     match servers.insert(text) {
         Ok(id) => Ok(id),
         Err(ServersFault::Full) => Err(fault_at(alloc, FaultKind::Limit, list)),
-        Err(ServersFault::Memory) => Err(ConfigFault::Memory),
+        Err(ServersFault::Memory) => Err(ReadFault::Memory),
     }
 }
 
@@ -227,7 +227,7 @@ pub(crate) fn pool_named(
     pools: &NamedPools,
     trail: &Trail<'_>,
     name: &str,
-) -> Result<usize, ConfigFault>
+) -> Result<usize, ReadFault>
     ensures { Gives (λ i. i) result (pool_named (pools_of pools.now) (path_of trail.now) name.now) }
 {
     if is_elsewhere(name) {

@@ -8,7 +8,7 @@ ghost use Rattle.mcv_config.specs.Routes.{pool_field, pool_object};
 ghost use Rattle.mcv_config.specs.View.{so_far_of};
 
 use crate::pools::{NamedPools, pool_named, read_pool};
-use mcv_names::{ConfigFault, FaultKind, Trail, fault_at};
+use mcv_names::{FaultKind, ReadFault, Trail, fault_at};
 use mcv_pools::Servers;
 use serde_json::Value;
 use std::alloc::Global;
@@ -29,7 +29,7 @@ pub(crate) fn read_pool_field(
     so_far: &mut Progress,
     trail: &Trail<'_>,
     value: &Value,
-) -> Result<usize, ConfigFault>
+) -> Result<usize, ReadFault>
     ensures { Gives (λ i. (i, so_far_of so_far.new)) result (pool_field (so_far_of so_far.old) (path_of trail.now) (view value.now)) }
 {
     let Some(pool) = value.get("pool") else {
@@ -49,7 +49,7 @@ fn add_pool(
     so_far: &mut Progress,
     trail: &Trail<'_>,
     value: &Value,
-) -> Result<usize, ConfigFault>
+) -> Result<usize, ReadFault>
     ensures { Gives (λ i. (i, so_far_of so_far.new)) result (pool_object (so_far_of so_far.old) (path_of trail.now) (view value.now)) }
 {
     let pool = read_pool(alloc, &mut so_far.servers, trail, "", value)?;

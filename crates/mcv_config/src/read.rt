@@ -2,7 +2,7 @@
 
 ghost use Rattle.std.specs.Prelude.{◌≡◌, IfOk, IfErr};
 ghost use Rattle.serde_json.specs.View.{view};
-ghost use Rattle.mcv_names.specs.declared.fault.ConfigFault.TheVariants.{Memory};
+ghost use Rattle.mcv_names.specs.declared.fault.ReadFault.TheVariants.{Memory};
 ghost use Rattle.mcv_names.specs.Fault.{Gives, Refuses};
 ghost use Rattle.mcv_names.specs.Path.{path_of};
 ghost use Rattle.mcv_config.specs.Config.{Faulty, FaultyAsJson, Names, NamesAsJson, plan_read, root};
@@ -14,7 +14,7 @@ use crate::entries::read_routing;
 use crate::pools::{NamedPools, read_pools};
 use crate::progress::Progress;
 use mcv_comments::{CommentFault, strip_comments};
-use mcv_names::{ConfigFault, FaultKind, Object, Trail, check_keys, fault_at};
+use mcv_names::{FaultKind, Object, ReadFault, Trail, check_keys, fault_at};
 use mcv_pools::Servers;
 use serde_json::Value;
 use std::alloc::Global;
@@ -26,12 +26,12 @@ pub const SIZE_LIMIT: usize = 16_777_216;
 const NODE_LIMIT: usize = 4_096;
 
 /// The configuration that a text names, which may have comments. A text has at most 16,777,216 bytes with them.
-pub fn read_config(alloc: Global, text: &[u8]) -> Result<Config, ConfigFault>
+pub fn read_config(alloc: Global, text: &[u8]) -> Result<Config, ReadFault>
     // What is read is what the text names.
     ensures named { IfOk result (λ config. Names text.now config) }
     // Where the text names a configuration, it is read, unless memory runs out.
     ensures only { (plan : Plan) → Names text.now plan → IfErr result (λ e. e ≡ Memory) }
-    // A fault is one that stands in the text.
+    // A fault is one of the text.
     ensures faulty { IfErr result (λ e. Refuses e (Faulty text.now)) }
     // Every number in it names something, and nothing is empty.
     ensures sound { IfOk result IsSound }
@@ -44,12 +44,12 @@ pub fn read_config(alloc: Global, text: &[u8]) -> Result<Config, ConfigFault>
     match strip_comments(alloc, text) {
         Ok(json) => read_json(alloc, json.as_slice()),
         Err(CommentFault::Open) => Err(fault_at(alloc, FaultKind::NotJson, &Trail::Root)),
-        Err(CommentFault::Memory) => Err(ConfigFault::Memory),
+        Err(CommentFault::Memory) => Err(ReadFault::Memory),
     }
 }
 
 /// The configuration that a text without comments names.
-fn read_json(alloc: Global, json: &[u8]) -> Result<Config, ConfigFault>
+fn read_json(alloc: Global, json: &[u8]) -> Result<Config, ReadFault>
     ensures named { IfOk result (λ config. NamesAsJson json.now config) }
     ensures only { (plan : Plan) → NamesAsJson json.now plan → IfErr result (λ e. e ≡ Memory) }
     ensures faulty { IfErr result (λ e. Refuses e (FaultyAsJson json.now)) }
@@ -63,7 +63,7 @@ fn read_json(alloc: Global, json: &[u8]) -> Result<Config, ConfigFault>
         }
         Err(e) => {
             if e.is_memory() {
-                return Err(ConfigFault::Memory);
+                return Err(ReadFault::Memory);
             }
             Err(fault_at(alloc, FaultKind::NotJson, &Trail::Root))
         }
@@ -71,7 +71,7 @@ fn read_json(alloc: Global, json: &[u8]) -> Result<Config, ConfigFault>
 }
 
 #[tactic(auto, using(mcv_names::proofs::Faults::faults), unfolding(crate::specs::Config::root))]
-fn read_root(alloc: Global, trail: &Trail<'_>, value: &Value) -> Result<ConfigParts, ConfigFault>
+fn read_root(alloc: Global, trail: &Trail<'_>, value: &Value) -> Result<ConfigParts, ReadFault>
     ensures { Gives plan_of result (root (path_of trail.now) (view value.now)) }
 {
     let Some(members) = value.as_object() else {
@@ -83,7 +83,7 @@ fn read_root(alloc: Global, trail: &Trail<'_>, value: &Value) -> Result<ConfigPa
 
 /// The pools, and then the routes.
 #[tactic(auto, using(mcv_names::proofs::Faults::faults), unfolding(crate::specs::Config::plan_read))]
-fn read_plan(alloc: Global, trail: &Trail<'_>, value: &Value) -> Result<ConfigParts, ConfigFault>
+fn read_plan(alloc: Global, trail: &Trail<'_>, value: &Value) -> Result<ConfigParts, ReadFault>
     ensures { Gives plan_of result (plan_read (path_of trail.now) (view value.now)) }
 {
     let in_pools = Trail::Key(trail, "pools");

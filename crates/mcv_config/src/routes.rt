@@ -20,7 +20,7 @@ use crate::selecting::selecting;
 use crate::texts::{only, read_text, text_children, with_children};
 use crate::timed::{read_exptime, read_interval};
 use mcv_names::{
-    ConfigFault, FaultKind, Handle, Object, Selector, Trail, check_keys, check_names, default_key,
+    FaultKind, Handle, Object, ReadFault, Selector, Trail, check_keys, check_names, default_key,
     fault_at, items_or_none, policies_key, read_type, some_items,
 };
 use serde_json::{Map, Value};
@@ -35,7 +35,7 @@ pub(crate) fn read_route(
     so_far: &mut Progress,
     trail: &Trail<'_>,
     value: &Value,
-) -> Result<NamedRoute, ConfigFault>
+) -> Result<NamedRoute, ReadFault>
     ensures { Gives (λ r. (named_of r, so_far_of so_far.new)) result (route depth (so_far_of so_far.old) (path_of trail.now) (view value.now)) }
 {
     if depth == 0 || so_far.room == 0 {
@@ -61,7 +61,7 @@ fn read_object(
     trail: &Trail<'_>,
     value: &Value,
     members: &Map<String, Value>,
-) -> Result<NamedRoute, ConfigFault>
+) -> Result<NamedRoute, ReadFault>
     ensures { Gives (λ r. (named_of r, so_far_of so_far.new)) result (object_route depth (route depth) (so_far_of so_far.old) (path_of trail.now) (view value.now) (members_view members.now.entries)) }
 {
     let handle = read_type(alloc, trail, value)?;
@@ -79,7 +79,7 @@ fn read_handle(
     trail: &Trail<'_>,
     handle: Handle,
     value: &Value,
-) -> Result<NamedRoute, ConfigFault>
+) -> Result<NamedRoute, ReadFault>
     ensures { Gives (λ r. (named_of r, so_far_of so_far.new)) result (fields depth (route depth) (so_far_of so_far.old) (path_of trail.now) (view value.now) handle) }
 {
     match handle {
@@ -105,7 +105,7 @@ fn read_warm_up(
     so_far: &mut Progress,
     trail: &Trail<'_>,
     value: &Value,
-) -> Result<NamedRoute, ConfigFault>
+) -> Result<NamedRoute, ReadFault>
     ensures { Gives (λ r. (named_of r, so_far_of so_far.new)) result (warm_up_fields (route depth) (so_far_of so_far.old) (path_of trail.now) (view value.now)) }
 {
     let (cold, warm) = read_two(alloc, depth, so_far, trail, "cold", "warm", value)?;
@@ -126,7 +126,7 @@ fn read_migration(
     so_far: &mut Progress,
     trail: &Trail<'_>,
     value: &Value,
-) -> Result<NamedRoute, ConfigFault>
+) -> Result<NamedRoute, ReadFault>
     ensures { Gives (λ r. (named_of r, so_far_of so_far.new)) result (migrate_fields (route depth) (so_far_of so_far.old) (path_of trail.now) (view value.now)) }
 {
     let (from, to) = read_two(alloc, depth, so_far, trail, "from", "to", value)?;
@@ -150,7 +150,7 @@ pub(crate) fn read_field(
     trail: &Trail<'_>,
     key: &str,
     value: &Value,
-) -> Result<NamedRoute, ConfigFault>
+) -> Result<NamedRoute, ReadFault>
     ensures { Gives (λ r. (named_of r, so_far_of so_far.new)) result (route_under (route depth) (so_far_of so_far.old) (path_of trail.now) key.now (view value.now)) }
 {
     let Some(route) = value.get(key) else {
@@ -171,7 +171,7 @@ fn read_two(
     first: &str,
     second: &str,
     value: &Value,
-) -> Result<(Box<NamedRoute>, Box<NamedRoute>), ConfigFault>
+) -> Result<(Box<NamedRoute>, Box<NamedRoute>), ReadFault>
     ensures { Gives (λ t. ((named_of t.0.value, named_of t.1.value), so_far_of so_far.new)) result (two_under (route depth) (so_far_of so_far.old) (path_of trail.now) first.now second.now (view value.now)) }
 {
     let one = read_field(alloc, depth, so_far, trail, first, value)?;
@@ -192,7 +192,7 @@ fn read_pool_route(
     so_far: &mut Progress,
     trail: &Trail<'_>,
     value: &Value,
-) -> Result<NamedRoute, ConfigFault>
+) -> Result<NamedRoute, ReadFault>
     ensures { Gives (λ r. (named_of r, so_far_of so_far.new)) result (pool_fields (route depth) (so_far_of so_far.old) (path_of trail.now) (view value.now)) }
 {
     let pool = read_pool_field(alloc, so_far, trail, value)?;
@@ -218,7 +218,7 @@ fn read_shadows(
     so_far: &mut Progress,
     trail: &Trail<'_>,
     list: &[Value],
-) -> Result<Vec<NamedShadow>, ConfigFault>
+) -> Result<Vec<NamedShadow>, ReadFault>
     ensures { Gives (λ v. (map shadow_of v.items, so_far_of so_far.new)) result (each (shadow_read (route depth)) (so_far_of so_far.old) (path_of trail.now) 0 (map view list.now)) }
 {
     let mut shadows = Vec::new(alloc);
@@ -237,7 +237,7 @@ fn read_shadow(
     so_far: &mut Progress,
     trail: &Trail<'_>,
     value: &Value,
-) -> Result<NamedShadow, ConfigFault>
+) -> Result<NamedShadow, ReadFault>
     ensures { Gives (λ s. (shadow_of s, so_far_of so_far.new)) result (shadow_read (route depth) (so_far_of so_far.old) (path_of trail.now) (view value.now)) }
 {
     let Some(members) = value.as_object() else {
@@ -263,7 +263,7 @@ fn read_children(
     so_far: &mut Progress,
     trail: &Trail<'_>,
     value: &Value,
-) -> Result<Vec<NamedRoute>, ConfigFault>
+) -> Result<Vec<NamedRoute>, ReadFault>
     ensures { Gives (λ v. (map named_of v.items, so_far_of so_far.new)) result (children_field depth (route depth) (so_far_of so_far.old) (path_of trail.now) (view value.now)) }
 {
     let Some(children) = value.get("children") else {
@@ -290,7 +290,7 @@ fn read_each(
     so_far: &mut Progress,
     trail: &Trail<'_>,
     list: &[Value],
-) -> Result<Vec<NamedRoute>, ConfigFault>
+) -> Result<Vec<NamedRoute>, ReadFault>
     ensures { Gives (λ v. (map named_of v.items, so_far_of so_far.new)) result (each (route depth) (so_far_of so_far.old) (path_of trail.now) 0 (map view list.now)) }
 {
     let mut children = Vec::new(alloc);
@@ -313,7 +313,7 @@ fn read_selector(
     trail: &Trail<'_>,
     selector: Selector,
     value: &Value,
-) -> Result<NamedRoute, ConfigFault>
+) -> Result<NamedRoute, ReadFault>
     ensures { Gives (λ r. (named_of r, so_far_of so_far.new)) result (selector_fields selector (route depth) (so_far_of so_far.old) (path_of trail.now) (view value.now)) }
 {
     let key = policies_key(selector);
@@ -336,7 +336,7 @@ fn read_policies(
     trail: &Trail<'_>,
     selector: Selector,
     value: Option<&Value>,
-) -> Result<Vec<NamedPrefix>, ConfigFault>
+) -> Result<Vec<NamedPrefix>, ReadFault>
     ensures { Gives (λ v. (map prefix_of v.items, so_far_of so_far.new)) result (policies_read selector (route depth) (so_far_of so_far.old) (path_of trail.now) (option_map (λ v. view v.now) value.entry)) }
 {
     let Some(policies) = value else {
@@ -358,7 +358,7 @@ fn read_each_policy(
     so_far: &mut Progress,
     trail: &Trail<'_>,
     members: &Map<String, Value>,
-) -> Result<Vec<NamedPrefix>, ConfigFault>
+) -> Result<Vec<NamedPrefix>, ReadFault>
     ensures { Gives (λ v. (map prefix_of v.items, so_far_of so_far.new)) result (each_member (policy_read (route depth)) (so_far_of so_far.old) (path_of trail.now) (members_view members.now.entries)) }
 {
     let mut policies = Vec::new(alloc);
@@ -378,7 +378,7 @@ fn read_policy(
     trail: &Trail<'_>,
     name: &str,
     value: &Value,
-) -> Result<NamedPrefix, ConfigFault>
+) -> Result<NamedPrefix, ReadFault>
     ensures { Gives (λ p. (prefix_of p, so_far_of so_far.new)) result (policy_read (route depth) (so_far_of so_far.old) (path_of trail.now) name.now (view value.now)) }
 {
     let prefix = Vec::from_slice(alloc, name.as_bytes())?;
@@ -395,7 +395,7 @@ fn read_default(
     so_far: &mut Progress,
     trail: &Trail<'_>,
     value: Option<&Value>,
-) -> Result<Option<Box<NamedRoute>>, ConfigFault>
+) -> Result<Option<Box<NamedRoute>>, ReadFault>
     ensures { Gives (λ o. (option_map (λ b. named_of b.value) o, so_far_of so_far.new)) result (default_read (route depth) (so_far_of so_far.old) (path_of trail.now) (option_map (λ v. view v.now) value.entry)) }
 {
     let Some(default) = value else {

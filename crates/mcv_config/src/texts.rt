@@ -10,9 +10,7 @@ ghost use Rattle.mcv_config.specs.View.{so_far_of};
 use crate::config::NamedRoute;
 use crate::pools::pool_named;
 use crate::progress::Progress;
-use mcv_names::{
-    ConfigFault, FaultKind, Handle, Many, Trail, fault_at, handle_named, is_elsewhere,
-};
+use mcv_names::{FaultKind, Handle, Many, ReadFault, Trail, fault_at, handle_named, is_elsewhere};
 use mcv_pools::HashFunc;
 use std::alloc::Global;
 
@@ -25,7 +23,7 @@ pub(crate) fn read_text(
     so_far: &mut Progress,
     trail: &Trail<'_>,
     text: &str,
-) -> Result<NamedRoute, ConfigFault>
+) -> Result<NamedRoute, ReadFault>
     ensures { Gives (λ r. (named_of r, so_far_of so_far.new)) result (text_route depth (route depth) (so_far_of so_far.old) (path_of trail.now) text.now) }
 {
     if is_elsewhere(text) {
@@ -66,7 +64,7 @@ fn plain_pool(alloc: Global, pool: usize) -> NamedRoute
     }
 }
 
-/// The children that a text stands for: a pool's servers, or one route.
+/// The children that a text names: a pool's servers, or one route.
 #[tactic(auto, using(mcv_names::proofs::Faults::faults, crate::proofs::Levels::levels), unfolding(crate::specs::Routes::text_children))]
 #[cycle(text)]
 pub(crate) fn text_children(
@@ -75,7 +73,7 @@ pub(crate) fn text_children(
     so_far: &mut Progress,
     trail: &Trail<'_>,
     text: &str,
-) -> Result<Vec<NamedRoute>, ConfigFault>
+) -> Result<Vec<NamedRoute>, ReadFault>
     ensures { Gives (λ v. (map named_of v.items, so_far_of so_far.new)) result (text_children depth (route depth) (so_far_of so_far.old) (path_of trail.now) text.now) }
 {
     if let Some(name) = text.strip_prefix("Pool|") {
@@ -103,7 +101,7 @@ pub(crate) fn with_children(many: Many, children: Vec<NamedRoute>) -> NamedRoute
     }
 }
 
-/// What stands before the first bar, and what follows it.
+/// What comes before the first bar, and what follows it.
 #[tactic(auto, unfolding(crate::specs::Routes::cut))]
 fn cut(text: &str) -> Option<(&str, &str)>
     ensures { option_map (λ x. (x.0.now, x.1.now)) result ≡ cut text.now }
@@ -119,7 +117,7 @@ fn servers_of(
     so_far: &mut Progress,
     trail: &Trail<'_>,
     pool: usize,
-) -> Result<Vec<NamedRoute>, ConfigFault>
+) -> Result<Vec<NamedRoute>, ReadFault>
     ensures { Gives (λ v. (map named_of v.items, so_far_of so_far.new)) result (servers depth (so_far_of so_far.old) (path_of trail.now) pool) }
 {
     let count = so_far.pools.size(pool);
@@ -135,7 +133,7 @@ fn servers_of(
 }
 
 /// One child.
-pub(crate) fn only(alloc: Global, child: NamedRoute) -> Result<Vec<NamedRoute>, ConfigFault>
+pub(crate) fn only(alloc: Global, child: NamedRoute) -> Result<Vec<NamedRoute>, ReadFault>
     ensures { IsOnly child result }
 {
     let mut children = Vec::new(alloc);

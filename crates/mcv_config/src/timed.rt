@@ -6,7 +6,7 @@ ghost use Rattle.mcv_names.specs.Path.{path_of};
 ghost use Rattle.mcv_config.specs.Routes.{exptime_read, interval_read};
 
 use crate::numbers::read_seconds_or;
-use mcv_names::{ConfigFault, Trail};
+use mcv_names::{ReadFault, Trail};
 use serde_json::Value;
 use std::alloc::Global;
 
@@ -22,7 +22,7 @@ pub(crate) fn read_exptime(
     alloc: Global,
     trail: &Trail<'_>,
     value: &Value,
-) -> Result<u32, ConfigFault>
+) -> Result<u32, ReadFault>
     ensures { Gives (λ n. n) result (exptime_read (path_of trail.now) (view value.now)) }
 {
     let here = Trail::Key(trail, "exptime");
@@ -35,7 +35,7 @@ pub(crate) fn read_interval(
     alloc: Global,
     trail: &Trail<'_>,
     value: &Value,
-) -> Result<u32, ConfigFault>
+) -> Result<u32, ReadFault>
     ensures { Gives (λ n. n) result (interval_read (path_of trail.now) (view value.now)) }
 {
     let here = Trail::Key(trail, "interval");

@@ -1,4 +1,4 @@
--- The number of a route that is lent is one of the routes' numbers.
+-- The number of a route that is borrowed is one of the routes' numbers.
 use Rattle.std.proofs.Common.{◌≡◌, ℕ, ◌<◌, length, Option, Some, None, option_map, refl, sym}
 use Rattle.std.specs.Prelude.{slice_get}
 use Rattle.std.proofs.lemmas.Option.{none-some, slice_get_within}

@@ -105,7 +105,7 @@ fn prefixes_and_salts_have_at_most_200_bytes(rt: HostRuntime) -> Result<(), Fail
 }
 
 #[test]
-fn handles_stand_on_at_most_32_levels(rt: HostRuntime) -> Result<(), Fail> {
+fn handles_are_on_at_most_32_levels(rt: HostRuntime) -> Result<(), Fail> {
     let alloc = rt.alloc();
     let (part, fault) = ("AllSyncRoute|", "configuration 7 at /route");
     check_limit(&rt, alloc, POOL_BELOW, part, 31, fault)?;
@@ -247,7 +247,7 @@ fn check_policies(
 }
 
 #[test]
-fn policies_stand_in_byte_order(rt: HostRuntime) -> Result<(), Fail> {
+fn policies_are_in_byte_order(rt: HostRuntime) -> Result<(), Fail> {
     let config = read_config(rt.alloc(), WHOLE.as_bytes())?;
     check_selector(&rt, config.parts())
 }
@@ -351,7 +351,7 @@ const BY_PREFIX: &str = "{
 }";
 
 #[test]
-fn prefixes_stand_in_byte_order(rt: HostRuntime) -> Result<(), Fail> {
+fn prefixes_are_in_byte_order(rt: HostRuntime) -> Result<(), Fail> {
     let config = read_config(rt.alloc(), BY_PREFIX.as_bytes())?;
     check_prefixes(&rt, config.parts())
 }

@@ -1,14 +1,14 @@
-//! What docs/CONFIGURATION.md says, in its order. Limits, and what a configuration holds, stand in `contents`.
+//! What docs/CONFIGURATION.md says, in its order. Limits, and what a configuration holds, are in `contents`.
 //!
 //! A row is what becomes of a text and the text: the first route's handle with the number of its children, policies or
-//! shadows, or the number and path of a fault. In the tables `'` stands for a double quote and `^` for a LF.
+//! shadows, or the number and path of a fault. In the tables `'` means a double quote and `^` a LF.
 
-use mcv_config::{NamedRoute, Pool, read_config};
+use mcv_config::{NamedRoute, Pool, ReadFault, read_config};
 use std::alloc::{AllocError, Global};
 use std::process::Abort;
 use std::test::Fail;
 
-/// The text that a row stands for.
+/// The text of a row.
 fn meant(alloc: Global, row: &str) -> Result<String, AllocError> {
     let mut text = String::new(alloc);
     for sign in row.chars() {
@@ -48,11 +48,12 @@ fn outcome(alloc: Global, text: &str) -> Result<String, Fail> {
             let (name, count) = head(&entry.route);
             Ok(format!(in alloc; "{name} {count}")?)
         }
-        Err(fault) => {
+        Err(ReadFault::Config(fault)) => {
             let number = fault.number();
             let path = fault.path();
             Ok(format!(in alloc; "{number} at {path}")?)
         }
+        Err(ReadFault::Memory) => Ok(String::from_str(alloc, "out of memory")?),
     }
 }
 
@@ -365,7 +366,7 @@ fn short_forms_and_operations(rt: HostRuntime) -> Result<(), Fail> {
     check_rows(&rt, alloc, OPERATIONS, before, "':'NullRoute'}}}")
 }
 
-/// Each name that is left out, where it stands: the path of its fault, and the text with `~` in place of the name.
+/// Each name that is left out, where it is: the path of its fault, and the text with `~` in place of the name.
 const LEFT_OUT: &str = "\
 /route/type = {'route':{'type':'~'}} = RandomRoute LatestRoute AllFastestRoute AllMajorityRoute FailoverWithExptimeRoute HostIdRoute ModifyKeyRoute ModifyExptimeRoute RateLimitRoute OutstandingLimitRoute LoggingRoute DevNullRoute HashRoute
 /route = {'route':'~'} = RandomRoute LatestRoute AllFastestRoute AllMajorityRoute FailoverWithExptimeRoute HostIdRoute ModifyKeyRoute ModifyExptimeRoute RateLimitRoute OutstandingLimitRoute LoggingRoute DevNullRoute HashRoute

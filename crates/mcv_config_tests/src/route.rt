@@ -122,7 +122,7 @@ const ELSEWHERE: &str = "\
 3 = none";
 
 #[test]
-fn no_leaf_stands_elsewhere(rt: HostRuntime) -> Result<(), Fail> {
+fn no_leaf_is_elsewhere(rt: HostRuntime) -> Result<(), Fail> {
     let alloc = rt.alloc();
     let routes = routes(&rt, alloc, TEXT)?;
     check_leaves(&rt, alloc, &routes, 0, ELSEWHERE)?;
@@ -185,7 +185,7 @@ const SELECTED: &str = "\
 3 = none";
 
 #[test]
-fn the_wildcard_stands_after_all_prefixes(rt: HostRuntime) -> Result<(), Fail> {
+fn the_wildcard_comes_after_all_prefixes(rt: HostRuntime) -> Result<(), Fail> {
     let alloc = rt.alloc();
     let routes = routes(&rt, alloc, PREFIXES)?;
     check_leaves(&rt, alloc, &routes, 0, SELECTED)

@@ -49,7 +49,7 @@ no_place : {X : Type 0} (p : X → Bool) (xs : List X) (i : ℕ) → position p 
 no_place p [] i e n = no_some e
 no_place p (x ∷ xs) i e n = no_some (sym n ∙ slice_get-get_or (x ∷ xs) i x (position-Some p (x ∷ xs) i x e).0)
 
-module _ (v : CoreView) (chosen : SymbolValue → List ℕ → ℕ) (request : Request) (key : ℕ) (asks : Asked) (a : IsAsked v.routes chosen request key asks.op asks.route asks.rest asks.choice) where
+module _ (v : CoreView) (chosen : SymbolValue → List ℕ → ℕ) (request : Request) (key : ℕ) (asks : Asked) (a : IsAsked v.routes chosen request key asks.op asks.route (arc_value asks.rest) asks.choice) where
   refused_by : (fault : CoreFault) → IsFull v asks fault → IsRefusedFor v chosen request key fault
   refused_by UnknownPrefix f = absurd (no_place (is_alias a.prefix) v.routes.entries asks.route a.routed f)
   refused_by BadKey f = absurd f
@@ -67,10 +67,10 @@ module _ (v : CoreView) (chosen : SymbolValue → List ℕ → ℕ) (request : R
   refused_for (Err fault) f = refused_by fault f
 
 -- the call that is asked for began
-pub begun_for : (v w : CoreView) (chosen : SymbolValue → List ℕ → ℕ) (request : Request) (key : ℕ) (asks : Asked) → IsAsked v.routes chosen request key asks.op asks.route asks.rest asks.choice
-    → (r : Result CallId CoreFault) → IfOk r (λ call. Moved v w (Began asks.op asks.route asks.rest asks.choice)) → OnOk r (DeletesStayKept v w (Some (Began asks.op asks.route asks.rest asks.choice)))
-    → OnOk r (HasBegun v w asks.op asks.route asks.rest asks.choice) → IfOk r (λ call. HasBegunFor v chosen request key w)
-begun_for v w chosen request key asks a (Ok call) moves keeps view = record { op = asks.op; route = asks.route; rest = asks.rest; choice = asks.choice; asked = a; moves = moves; keeps = keeps; view = view }
+pub begun_for : (v w : CoreView) (chosen : SymbolValue → List ℕ → ℕ) (request : Request) (key : ℕ) (asks : Asked) → IsAsked v.routes chosen request key asks.op asks.route (arc_value asks.rest) asks.choice
+    → (r : Result CallId CoreFault) → IfOk r (λ call. Moved v w (Began asks.op asks.route (arc_value asks.rest) asks.choice)) → OnOk r (DeletesStayKept v w (Some (Began asks.op asks.route (arc_value asks.rest) asks.choice)))
+    → OnOk r (HasBegun v w asks.op asks.route (arc_value asks.rest) asks.choice) → IfOk r (λ call. HasBegunFor v chosen request key w)
+begun_for v w chosen request key asks a (Ok call) moves keeps view = record { op = asks.op; route = asks.route; rest = arc_value asks.rest; choice = asks.choice; asked = a; moves = moves; keeps = keeps; view = view }
 begun_for v w chosen request key asks a (Err fault) moves keeps view = tt
 
 module _ (chosen : SymbolValue → List ℕ → ℕ) (v w : CoreView) where

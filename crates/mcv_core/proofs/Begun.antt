@@ -366,11 +366,11 @@ sound_roomier d calls2 q2 calls_are legs_are wide known =
 -- ---- why a call doesn't begin
 
 pub laid_for : (d : Dispatcher) (asks : Asked) (state : EvalState) (launches : List Launch) (tree : Tree) → option_map (λ t. t) (Some tree) ≡ option_map (λ e. e.tree) (slice_get (arc_value d.accepted).entries asks.route)
-    → HasOpened tree (asked asks.op asks.rest (option_map (λ m. m.0) d.since)) (slice_index asks.choice) launches state
-    → IsLaidOut (arc_value d.accepted) (new_call (world_of (core_view d).rows) asks.op asks.route asks.rest asks.choice) launches
+    → HasOpened tree (asked asks.op (arc_value asks.rest) (option_map (λ m. m.0) d.since)) (slice_index asks.choice) launches state
+    → IsLaidOut (arc_value d.accepted) (new_call (world_of (core_view d).rows) asks.op asks.route (arc_value asks.rest) asks.choice) launches
 laid_for d asks state launches tree at opened =
     let same : tree_of (arc_value d.accepted) asks.route ≡ tree = ap (λ o. unwrap_or o error) (sym at) in
-    let laid2 = subst (λ t. plans.IsLaidOut t (asked asks.op asks.rest (option_map (λ m. m.0) d.since)) (slice_index asks.choice) launches) (sym same) opened.laid in
+    let laid2 = subst (λ t. plans.IsLaidOut t (asked asks.op (arc_value asks.rest) (option_map (λ m. m.0) d.since)) (slice_index asks.choice) launches) (sym same) opened.laid in
     record { all = laid2.all; rising = laid2.rising }
 
 -- the counts say what fits
@@ -390,7 +390,7 @@ legs_have_room d count fit =
     let b = fit.leg_numbers in
     record { limit = omega (arith, a, queued, reserved); calls = fit.call_numbers; legs = omega (arith, b, reserved) }
 
-pub refused_as : (d : Dispatcher) (asks : Asked) (launches : List Launch) (fault : CoreFault) → IsLaidOut (arc_value d.accepted) (new_call (world_of (core_view d).rows) asks.op asks.route asks.rest asks.choice) launches
+pub refused_as : (d : Dispatcher) (asks : Asked) (launches : List Launch) (fault : CoreFault) → IsLaidOut (arc_value d.accepted) (new_call (world_of (core_view d).rows) asks.op asks.route (arc_value asks.rest) asks.choice) launches
     → (fault ≡ LegsFull) ⊎ (fault ≡ ChapterFull) → (fault ≡ LegsFull → HasLegRoom d (length launches) → ⊥) → (fault ≡ ChapterFull → HasLegRoom d (length launches) × (1000000 < d.entries + (2 + 3 * length launches)))
     → IsFull (core_view d) asks fault
 refused_as d asks launches fault laid_out either many unrecorded =
@@ -407,7 +407,7 @@ entry_of None t e = no_some (sym e)
 entry_of (Some x) t e = (x, refl, same_some e)
 
 pub can_start : (d : Dispatcher) (asks : Asked) (state : EvalState) (launches : List Launch) (t : Tree) → Some t ≡ option_map (λ e. e.tree) (slice_get (arc_value d.accepted).entries asks.route)
-    → IsChoice (sizes_of (arc_value d.accepted)) (slice_index asks.choice) → HasOpened t (asked asks.op asks.rest (option_map (λ m. m.0) d.since)) (slice_index asks.choice) launches state → HasRoom d (length launches)
+    → IsChoice (sizes_of (arc_value d.accepted)) (slice_index asks.choice) → HasOpened t (asked asks.op (arc_value asks.rest) (option_map (λ m. m.0) d.since)) (slice_index asks.choice) launches state → HasRoom d (length launches)
     → CanStart d asks state launches
 can_start d asks state launches t at choice opened fits =
     let e = entry_of (slice_get (arc_value d.accepted).entries asks.route) t at in
@@ -415,7 +415,7 @@ can_start d asks state launches t at choice opened fits =
       entry = e.0;
       there = e.1;
       choice = choice;
-      opened = subst (λ z. HasOpened z (asked asks.op asks.rest (option_map (λ m. m.0) d.since)) (slice_index asks.choice) launches state) e.2 opened;
+      opened = subst (λ z. HasOpened z (asked asks.op (arc_value asks.rest) (option_map (λ m. m.0) d.since)) (slice_index asks.choice) launches state) e.2 opened;
       fits = fits;
     }
 
@@ -431,18 +431,18 @@ same_room d d2 count counts call leg entries h =
 
 -- ---- what contracts see of a call that began
 
-pub laid_start : (d : Dispatcher) (asks : Asked) (state : EvalState) (launches : List Launch) → CanStart d asks state launches → IsLaidOut (arc_value d.accepted) (new_call (world_of (core_view d).rows) asks.op asks.route asks.rest asks.choice) launches
+pub laid_start : (d : Dispatcher) (asks : Asked) (state : EvalState) (launches : List Launch) → CanStart d asks state launches → IsLaidOut (arc_value d.accepted) (new_call (world_of (core_view d).rows) asks.op asks.route (arc_value asks.rest) asks.choice) launches
 laid_start d asks state launches can = laid_for d asks state launches can.entry.tree (sym (ap (option_map (λ e. e.tree)) can.there)) can.opened
 
 pub moved_as : (d d2 : Dispatcher) (asks : Asked) (state : EvalState) (launches : List Launch) (c : Call) (new : CoreView) (number : ℕ) (since : Option Moment) → core_view d2 ≡ core_view d → IsNewCall number since asks state launches c
-    → Moved (core_view d2) new (began_by c) → Moved (core_view d) new (Began asks.op asks.route asks.rest asks.choice)
+    → Moved (core_view d2) new (began_by c) → Moved (core_view d) new (Began asks.op asks.route (arc_value asks.rest) asks.choice)
 moved_as d d2 asks state launches c new number since same made h =
-    subst (λ v. Moved v new (Began asks.op asks.route asks.rest asks.choice)) same
+    subst (λ v. Moved v new (Began asks.op asks.route (arc_value asks.rest) asks.choice)) same
     (subst (λ m. Moved (core_view d2) new m) (λ j. Began (made.op j) (made.route j) (made.rest j) (made.choice j)) h)
 
 pub has_begun_as : (d d2 : Dispatcher) (asks : Asked) (state : EvalState) (launches : List Launch) (c : Call) (new : CoreView) (number : ℕ) (since : Option Moment) → core_view d2 ≡ core_view d → IsNewCall number since asks state launches c
-    → new ≡ has_begun (core_view d2) c → IsLaidOut (arc_value d.accepted) (new_call (world_of (core_view d).rows) asks.op asks.route asks.rest asks.choice) launches → HasRoom d (length launches)
-    → HasBegun (core_view d) new asks.op asks.route asks.rest asks.choice
+    → new ≡ has_begun (core_view d2) c → IsLaidOut (arc_value d.accepted) (new_call (world_of (core_view d).rows) asks.op asks.route (arc_value asks.rest) asks.choice) launches → HasRoom d (length launches)
+    → HasBegun (core_view d) new asks.op asks.route (arc_value asks.rest) asks.choice
 has_begun_as d d2 asks state launches c new number since same made is laid_out fits = record {
   entries = launches;
   laid = laid_out;
@@ -458,16 +458,16 @@ has_begun_as d d2 asks state launches c new number since same made is laid_out f
 
 -- ---- a call that is made can be added
 
-pub can_add : (d : Dispatcher) (asks : Asked) (state : EvalState) (launches : List Launch) (c : Call) (entry : RouteEntry) → slice_get (arc_value d.accepted).entries asks.route ≡ Some entry → IsSoundRoutes (arc_value d.accepted) → IsRest asks.rest
+pub can_add : (d : Dispatcher) (asks : Asked) (state : EvalState) (launches : List Launch) (c : Call) (entry : RouteEntry) → slice_get (arc_value d.accepted).entries asks.route ≡ Some entry → IsSoundRoutes (arc_value d.accepted) → IsRest (arc_value asks.rest)
     → IsChoice (sizes_of (arc_value d.accepted)) (slice_index asks.choice) → IsNewCall d.next_call d.since asks state launches c
-    → HasOpened entry.tree (asked asks.op asks.rest (option_map (λ m. m.0) d.since)) (slice_index asks.choice) launches state → HasRoom d (length launches) → 0 < call_room d.calls → d.counts.reserved + length launches ≤ room d.queues → CanAdd d c
+    → HasOpened entry.tree (asked asks.op (arc_value asks.rest) (option_map (λ m. m.0) d.since)) (slice_index asks.choice) launches state → HasRoom d (length launches) → 0 < call_room d.calls → d.counts.reserved + length launches ≤ room d.queues → CanAdd d c
 can_add d asks state launches c entry at sound rest choice new opened fits calls_fit legs_fit =
     let r : RoutesValue = arc_value d.accepted in
     let tree : tree_of r asks.route ≡ entry.tree = ap (λ v. unwrap_or (option_map (λ e. e.tree) v) error) at in
     let count : length launches ≡ c.left = ap length (sym new.entries) ∙ sym new.unlaunched.left in
     let route_at : slice_get r.entries c.route ≡ Some entry = ap (slice_get r.entries) new.route ∙ at in
     let since : option_map (λ (m : Moment). m.0) c.since ≡ option_map (λ m. m.0) d.since = ap (option_map (λ m. m.0)) new.since_is in
-    let situations : asked asks.op asks.rest (option_map (λ m. m.0) d.since) ≡ situation_of (call_of c) = λ j. asked (sym new.op j) (sym new.rest j) (sym since j) in
+    let situations : asked asks.op (arc_value asks.rest) (option_map (λ m. m.0) d.since) ≡ situation_of (call_of c) = λ j. asked (sym new.op j) (sym new.rest j) (sym since j) in
     let choices : slice_index asks.choice ≡ choice_of (call_of c) = ap slice_index (sym new.choice) in
     let trees : entry.tree ≡ tree_of r c.route = sym tree ∙ ap (tree_of r) (sym new.route) in
     record {
@@ -480,13 +480,13 @@ can_add d asks state launches c entry at sound rest choice new opened fits calls
       since_is = new.since_is;
       opened = subst (λ t. HasOpened t (situation_of (call_of c)) (choice_of (call_of c)) (entries_of c) c.state) trees
           (subst (λ s. HasOpened entry.tree s (choice_of (call_of c)) (entries_of c) c.state) situations
-          (subst (λ h. HasOpened entry.tree (asked asks.op asks.rest (option_map (λ m. m.0) d.since)) h (entries_of c) c.state) choices
-          (subst (λ es. HasOpened entry.tree (asked asks.op asks.rest (option_map (λ m. m.0) d.since)) (slice_index asks.choice) es c.state) (sym new.entries)
-          (subst (λ z. HasOpened entry.tree (asked asks.op asks.rest (option_map (λ m. m.0) d.since)) (slice_index asks.choice) launches z) (sym new.state_is) opened))));
+          (subst (λ h. HasOpened entry.tree (asked asks.op (arc_value asks.rest) (option_map (λ m. m.0) d.since)) h (entries_of c) c.state) choices
+          (subst (λ es. HasOpened entry.tree (asked asks.op (arc_value asks.rest) (option_map (λ m. m.0) d.since)) (slice_index asks.choice) es c.state) (sym new.entries)
+          (subst (λ z. HasOpened entry.tree (asked asks.op (arc_value asks.rest) (option_map (λ m. m.0) d.since)) (slice_index asks.choice) launches z) (sym new.state_is) opened))));
       goes = subst (λ t. GoesToServers (length r.servers) t (situation_of (call_of c)) (choice_of (call_of c))) (ap (tree_of r) (sym new.route))
           (subst (λ s. GoesToServers (length r.servers) (tree_of r asks.route) s (choice_of (call_of c))) situations
-          (subst (λ h. GoesToServers (length r.servers) (tree_of r asks.route) (asked asks.op asks.rest (option_map (λ m. m.0) d.since)) h) choices
-          (goes_to_servers r asks.route entry at sound asks.op asks.rest (option_map (λ m. m.0) d.since) (slice_index asks.choice) choice)));
+          (subst (λ h. GoesToServers (length r.servers) (tree_of r asks.route) (asked asks.op (arc_value asks.rest) (option_map (λ m. m.0) d.since)) h) choices
+          (goes_to_servers r asks.route entry at sound asks.op (arc_value asks.rest) (option_map (λ m. m.0) d.since) (slice_index asks.choice) choice)));
       unlaunched = new.unlaunched;
       has_room = subst (HasRoom d) count fits;
       calls_fit = calls_fit;
@@ -495,10 +495,10 @@ can_add d asks state launches c entry at sound rest choice new opened fits calls
 
 -- after more room was made
 pub can_add_then : (d d2 : Dispatcher) (asks : Asked) (state : EvalState) (launches : List Launch) (c : Call) (can : CanStart d asks state launches) → d2.accepted ≡ d.accepted → d2.since ≡ d.since → d2.counts ≡ d.counts → d2.next_call ≡ d.next_call
-    → d2.next_leg ≡ d.next_leg → d2.entries ≡ d.entries → IsSoundRoutes (arc_value d2.accepted) → IsRest asks.rest → IsNewCall d2.next_call d2.since asks state launches c → 0 < call_room d2.calls → d.counts.reserved + length launches ≤ room d2.queues
+    → d2.next_leg ≡ d.next_leg → d2.entries ≡ d.entries → IsSoundRoutes (arc_value d2.accepted) → IsRest (arc_value asks.rest) → IsNewCall d2.next_call d2.since asks state launches c → 0 < call_room d2.calls → d.counts.reserved + length launches ≤ room d2.queues
     → CanAdd d2 c
 can_add_then d d2 asks state launches c can accepted since counts call leg entries sound rest made calls_fit legs_fit =
     let b : d2.counts.reserved ≡ d.counts.reserved = ap (λ v. v.reserved) counts in
     let routes : arc_value d2.accepted ≡ arc_value d.accepted = ap arc_value accepted in
     can_add d2 asks state launches c can.entry (ap (λ (r : RoutesValue). slice_get r.entries asks.route) routes ∙ can.there) sound rest (subst (λ (r : RoutesValue). IsChoice (sizes_of r) (slice_index asks.choice)) (sym routes) can.choice) made
-    (subst (λ s. HasOpened can.entry.tree (asked asks.op asks.rest (option_map (λ m. m.0) s)) (slice_index asks.choice) launches state) (sym since) can.opened) (same_room d d2 (length launches) counts call leg entries can.fits) calls_fit (omega (arith, b, legs_fit))
+    (subst (λ s. HasOpened can.entry.tree (asked asks.op (arc_value asks.rest) (option_map (λ m. m.0) s)) (slice_index asks.choice) launches state) (sym since) can.opened) (same_room d d2 (length launches) counts call leg entries can.fits) calls_fit (omega (arith, b, legs_fit))

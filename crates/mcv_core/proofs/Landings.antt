@@ -9,7 +9,7 @@ use Rattle.mcv_queues.specs.declared.leg.State.{State}
 use Rattle.mcv_queues.specs.declared.leg.State.TheVariants as states
 use Rattle.mcv_queues.specs.declared.marks.Mark.{Mark}
 use Rattle.mcv_queues.specs.declared.marks.Marks.{Marks}
-use Rattle.mcv_queues.specs.Legs.{is_flight, is_in_flight, with_stored}
+use Rattle.mcv_queues.specs.Legs.{IsSentTo, is_flight, is_in_flight, with_stored}
 use Rattle.mcv_queues.specs.Marks.{answered_mark, lost_mark, marks, put_mark, servers as marked_servers}
 use Rattle.mcv_queues.specs.declared.queues.Queues.{Queues}
 use Rattle.mcv_queues.specs.Queues.{in_flight, legs}
@@ -64,6 +64,13 @@ stated (Some l) t e = record { leg = l; at = refl; is = same_some e }
 pub state_of_seen : (o : Option (Leg Errand)) (facts : LegFacts) → option_map facts_of o ≡ Some facts → state_in o ≡ Some facts.state
 state_of_seen None facts e = no_some e
 state_of_seen (Some l) facts e = ap (λ f. Some f.state) (same_some e)
+
+abbrev at_server : ℕ → State → Option (ℕ × State)
+at_server s t = Some (s, t)
+
+pub sent_of_seen : (o : Option (Leg Errand)) (facts : LegFacts) → option_map facts_of o ≡ Some facts → facts.state ≡ states.Sent → IsSentTo facts.server.0 o
+sent_of_seen None facts e sent = no_some e
+sent_of_seen (Some l) facts e sent = ap (λ (f : LegFacts). at_server f.server.0 f.state) (same_some e) ∙ ap (at_server facts.server.0) sent
 
 pub counts_of_seen : (o : Option (Leg Errand)) (facts : LegFacts) → option_map facts_of o ≡ Some facts → counts_in o ≡ facts.counted_delete
 counts_of_seen None facts e = no_some e

@@ -11,7 +11,7 @@ use Rattle.mcv_route.specs.declared.launch.Launch.{Launch}
 use Rattle.mcv_route.specs.Outcomes.{Choice, is_same, outcomes}
 use Rattle.mcv_route.specs.Situation.{Situation}
 use Rattle.mcv_route.specs.Tree.{Tree}
-use Rattle.mcv_rules.specs.Rows.{StandsBefore}
+use Rattle.mcv_rules.specs.Rows.{ComesBefore}
 use Rattle.mcv_rules.proofs.Orders.{same_self}
 use Rattle.mcv_plan.specs.declared.state.EvalState.{EvalState}
 use Rattle.mcv_plan.specs.Evaluation.{IsAfter, IsAwaited, no_leg, shape}
@@ -67,8 +67,8 @@ below_numbers (suc n) from k h =
       | inr ne ↦ let m = below_numbers n (suc from) k (sym (ap (λ b. b || holds k (numbers (suc from) n)) (ne_eqb from k ne)) ∙ h) in omega (arith, m)
     ]
 
--- entries stand at positions of their own
-same_numbers : (es : List Launch) (xs ys : List ℕ) → AllPairs StandsBefore (map (λ l. l.position) es) → AreBelow (length es) xs → AreBelow (length es) ys → map (launch_at es) xs ≡ map (launch_at es) ys → xs ≡ ys
+-- entries have positions of their own
+same_numbers : (es : List Launch) (xs ys : List ℕ) → AllPairs ComesBefore (map (λ l. l.position) es) → AreBelow (length es) xs → AreBelow (length es) ys → map (launch_at es) xs ≡ map (launch_at es) ys → xs ≡ ys
 same_numbers es [] [] rising low low2 e = refl
 same_numbers es [] (y ∷ ys) rising low low2 e = absurd cc
 same_numbers es (x ∷ xs) [] rising low low2 e = absurd cc

@@ -1,4 +1,5 @@
 -- What a client's request asks of the core (own).
+use Rattle.std.specs.Arc.{arc_value}
 use Rattle.std.specs.Prelude.{◌≡◌, ◌⊎◌, ℕ, List, Option, None, Some, ⊤, option_map, slice_get}
 use Rattle.mcv_base.specs.declared.key.KeyFault.{KeyFault}
 use Rattle.mcv_base.specs.declared.operation.Op.{Op}
@@ -61,7 +62,7 @@ pub record HasNoRoute (r : RoutesValue) (request : Request) (key : ℕ) : Type 0
 -- the call that is asked for doesn't fit
 pub record HasNoRoom (v : CoreView) (chosen : SymbolValue → List ℕ → ℕ) (request : Request) (key : ℕ) (fault : CoreFault) : Type 0 where
   pub asks : Asked
-  pub asked : IsAsked v.routes chosen request key asks.op asks.route asks.rest asks.choice
+  pub asked : IsAsked v.routes chosen request key asks.op asks.route (arc_value asks.rest) asks.choice
   pub full : IsFull v asks fault
 
 module _ (v : CoreView) (chosen : SymbolValue → List ℕ → ℕ) (request : Request) (key : ℕ) where

@@ -64,7 +64,7 @@ IsFullFor v entries NoSuchCall = ⊥
 
 pub record IsRefused (v : CoreView) (asked : Asked) (fault : CoreFault) : Type 0 where
   pub entries : List Launch
-  pub laid : IsLaidOut v.routes (new_call (world_of v.rows) asked.op asked.route asked.rest asked.choice) entries
+  pub laid : IsLaidOut v.routes (new_call (world_of v.rows) asked.op asked.route (arc_value asked.rest) asked.choice) entries
   pub full : IsFullFor v entries fault
 
 -- why a call didn't begin
@@ -103,7 +103,7 @@ pub record IsNewCall (number : ℕ) (since : Option Moment) (asked : Asked) (sta
   pub route : c.route ≡ asked.route
   pub since_is : c.since ≡ since
   pub choice : c.choice ≡ asked.choice
-  pub rest : arc_value (arc_value c.laid).rest ≡ asked.rest
+  pub rest : arc_value (arc_value c.laid).rest ≡ arc_value asked.rest
   pub state_is : c.state ≡ state
   pub entries : entries_of c ≡ launches
   pub unlaunched : IsUnlaunched number c
@@ -141,5 +141,5 @@ pub record CanStart (d : Dispatcher) (asks : Asked) (state : EvalState) (launche
   pub entry : RouteEntry
   pub there : slice_get (arc_value d.accepted).entries asks.route ≡ Some entry
   pub choice : IsChoice (sizes_of (arc_value d.accepted)) (slice_index asks.choice)
-  pub opened : HasOpened entry.tree (asked asks.op asks.rest (option_map (λ m. m.0) d.since)) (slice_index asks.choice) launches state
+  pub opened : HasOpened entry.tree (asked asks.op (arc_value asks.rest) (option_map (λ m. m.0) d.since)) (slice_index asks.choice) launches state
   pub fits : HasRoom d (length launches)

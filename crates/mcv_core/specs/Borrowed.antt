@@ -6,5 +6,5 @@ use Rattle.mcv_core.specs.declared.dispatcher.Dispatcher.{Dispatcher}
 use Rattle.mcv_core.specs.declared.engine.Core.{Core}
 
 -- the core has the dispatcher as it was left, and its hash
-abbrev pub LendsEvents : (H : RattleType) → MutBor (Core H.Denot) → MutBor Dispatcher → Fml
-LendsEvents H core r = Lends (core_row H) dispatcher_row core r (λ d. record core.now { dispatcher = d })
+abbrev pub BorrowsEvents : (H : RattleType) → MutBor (Core H.Denot) → MutBor Dispatcher → Fml
+BorrowsEvents H core r = Lends (core_row H) dispatcher_row core r (λ d. record core.now { dispatcher = d })

@@ -58,7 +58,7 @@ pub struct Asked {
     pub request: Arc<Request>,
     pub op: Op,
     pub route: usize,
-    pub rest: Rest,
+    pub rest: Arc<Rest>,
     pub choice: Choice,
 }
 
@@ -120,7 +120,7 @@ fn new_call(
         alloc,
         Laid {
             launches,
-            rest: Arc::new(alloc, rest)?,
+            rest,
             request: Some(request),
         },
     )?;
@@ -165,11 +165,11 @@ impl Dispatcher {
     /// nothing that contracts see.
     pub(crate) fn begin(&mut self, alloc: Global, asked: Asked) -> Result<CallId, CoreFault>
         requires choice { IsChoice (sizes_of (core_view self.old).routes) (slice_index asked.choice) }
-        ensures moves { IfOk result (λ call. Moved (core_view self.old) (core_view self.new) (Began asked.op asked.route asked.rest asked.choice)) }
-        ensures keeps { OnOk result (DeletesStayKept (core_view self.old) (core_view self.new) (Some (Began asked.op asked.route asked.rest asked.choice))) }
+        ensures moves { IfOk result (λ call. Moved (core_view self.old) (core_view self.new) (Began asked.op asked.route (arc_value asked.rest) asked.choice)) }
+        ensures keeps { OnOk result (DeletesStayKept (core_view self.old) (core_view self.new) (Some (Began asked.op asked.route (arc_value asked.rest) asked.choice))) }
         ensures call { IfOk result (λ call. call.0 ≡ (core_view self.old).rows.next_call) }
         ensures records { records_of self.new ≡ records_of self.old }
-        ensures view { OnOk result (HasBegun (core_view self.old) (core_view self.new) asked.op asked.route asked.rest asked.choice) }
+        ensures view { OnOk result (HasBegun (core_view self.old) (core_view self.new) asked.op asked.route (arc_value asked.rest) asked.choice) }
         ensures refused { IfErr result (IsFull (core_view self.old) asked) }
         ensures err { OnErr result (core_view self.new ≡ core_view self.old) }
     {
@@ -199,10 +199,10 @@ impl Dispatcher {
         launches: Vec<Launch>,
     ) -> Result<CallId, CoreFault>
         requires can { CanStart self.old asked state launches.items }
-        ensures moves { IfOk result (λ call. Moved (core_view self.old) (core_view self.new) (Began asked.op asked.route asked.rest asked.choice)) }
+        ensures moves { IfOk result (λ call. Moved (core_view self.old) (core_view self.new) (Began asked.op asked.route (arc_value asked.rest) asked.choice)) }
         ensures call { IfOk result (λ call. call.0 ≡ (core_view self.old).rows.next_call) }
         ensures records { records_of self.new ≡ records_of self.old }
-        ensures view { OnOk result (HasBegun (core_view self.old) (core_view self.new) asked.op asked.route asked.rest asked.choice) }
+        ensures view { OnOk result (HasBegun (core_view self.old) (core_view self.new) asked.op asked.route (arc_value asked.rest) asked.choice) }
         ensures memory { IfErr result (λ fault. fault ≡ OutOfMemory) }
         ensures err { OnErr result (core_view self.new ≡ core_view self.old) }
     {

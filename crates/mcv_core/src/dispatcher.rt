@@ -1,4 +1,4 @@
-//! The running calls with their legs, and what is counted of them. Its events stand in the files beside.
+//! The running calls with their legs, and what is counted of them. Its events are in the files beside.
 
 ghost use Rattle.std.specs.Prelude.{◌≡◌, length, option_map};
 ghost use Rattle.std.specs.Arc.{arc_value};

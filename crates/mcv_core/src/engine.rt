@@ -1,13 +1,14 @@
 //! The core: the dispatcher with the hash that picks the servers of a key.
 
 ghost use Rattle.std.specs.Arc.{arc_value};
-ghost use Rattle.std.specs.Prelude.{◌≡◌, ℕ, Some, None, IfOk, IfErr, IfSome, OnErr, slice_get};
+ghost use Rattle.std.specs.Prelude.{◌≡◌, ◌≤◌, ℕ, Some, None, IfOk, IfErr, IfSome, OnErr, length, slice_get, true};
 ghost use Rattle.std.specs.Borrow.{sem};
+ghost use Rattle.mcv_base.specs.Key.{is_key_word};
 ghost use Rattle.mcv_pools.specs.Choice.{HasIndexEach};
 ghost use Rattle.mcv_symbolic.specs.Covered.{AreCovered};
 ghost use Rattle.mcv_events.specs.Rows.{world_of};
 ghost use Rattle.mcv_core.specs.Asking.{HasBegunFor, HasNoKey, IsAsked, IsKeyOf, IsRefusedFor};
-ghost use Rattle.mcv_core.specs.Borrowed.{LendsEvents};
+ghost use Rattle.mcv_core.specs.Borrowed.{BorrowsEvents};
 ghost use Rattle.mcv_core.specs.KeptDeletes.{KeepsDeletes};
 ghost use Rattle.mcv_core.specs.Opening.{known_numbers, opened_view};
 ghost use Rattle.mcv_core.specs.View.{core_view, records_of};
@@ -16,7 +17,7 @@ ghost use Rattle.mcv_core.specs.declared.fault.CoreFault.TheVariants.{Memory as 
 use crate::begin::Asked;
 use crate::dispatcher::Dispatcher;
 use crate::fault::CoreFault;
-use mcv_base::{CallId, Op, Prefix, Request, Rest, hashed_part, split_key};
+use mcv_base::{CallId, Op, Prefix, Request, Rest, cut_key, hashed_part};
 use mcv_check::Accepted;
 use mcv_pools::{KeyHash, choose};
 use mcv_spool::SpoolRecord;
@@ -52,7 +53,7 @@ impl<H: KeyHash + Drop> Core<H> {
 
     /// All events but `begin`. When the borrow ends, the core has the dispatcher as it was left, and its hash.
     pub fn events(&mut self) -> &mut Dispatcher
-        ensures* writes_back { sem 𝓛 (LendsEvents H.row self.entry result) }
+        ensures* writes_back { sem 𝓛 (BorrowsEvents H.row self.entry result) }
         ensures value { result.now ≡ self.old.dispatcher }
     {
         &mut self.dispatcher
@@ -89,15 +90,18 @@ impl<H: KeyHash + Drop> Core<H> {
 
     /// What a call for this key asks for.
     fn asked(&self, alloc: Global, request: Arc<Request>, key: usize) -> Result<Asked, CoreFault>
-        ensures asked { IfOk result (λ asked. IsAsked (core_view self.now.dispatcher).routes (H.chosen self.now.hash) (arc_value request) key asked.op asked.route asked.rest asked.choice) }
+        ensures asked { IfOk result (λ asked. IsAsked (core_view self.now.dispatcher).routes (H.chosen self.now.hash) (arc_value request) key asked.op asked.route (arc_value asked.rest) asked.choice) }
         ensures within { IfOk result (λ asked. HasIndexEach (core_view self.now.dispatcher).routes.symbols asked.choice) }
         ensures refused { IfErr result (IsRefusedFor (core_view self.now.dispatcher) (H.chosen self.now.hash) (arc_value request) key) }
     {
         let Some((op, prefix, rest)) = key_of(&request, key) else {
             return Err(CoreFault::BadKey);
         };
+        let Some(rest) = Rest::of(rest) else {
+            unreachable!();
+        };
         let routes = self.dispatcher.accepted.routes();
-        let Some(route) = routes.route_of(&prefix) else {
+        let Some(route) = routes.route_of(&Prefix::of(prefix)) else {
             return Err(CoreFault::UnknownPrefix);
         };
         let choice = choose(alloc, &self.hash, routes.symbols(), hashed_part(&rest))?;
@@ -105,7 +109,7 @@ impl<H: KeyHash + Drop> Core<H> {
             request,
             op,
             route,
-            rest,
+            rest: Arc::new(alloc, rest)?,
             choice,
         })
     }
@@ -119,15 +123,17 @@ fn deletes_are_covered(accepted: &Accepted)
 }
 
 /// The operation of a request, and the prefix and the rest of one of its keys.
-fn key_of(request: &Request, key: usize) -> Option<(Op, Prefix, Rest)>
-    ensures some { IfSome result (λ k. IsKeyOf request.now key k.0 k.1 k.2) }
+fn key_of(request: &Request, key: usize) -> Option<(Op, &[u8], &[u8])>
+    ensures some { IfSome result (λ k. IsKeyOf request.now key k.0 k.1.now k.2.now) }
+    ensures prefix { IfSome result (λ k. length k.1.now ≤ 250) }
+    ensures rest { IfSome result (λ k. is_key_word k.2.now ≡ true) }
     ensures none { result ≡ None → HasNoKey request.now key }
 {
     let Request::Ask(ask) = request else {
         return None;
     };
     let word = ask.keys.get(key)?;
-    match split_key(word.as_slice()) {
+    match cut_key(word.as_slice()) {
         Ok((prefix, rest)) => Some((ask.op, prefix, rest)),
         Err(_) => None,
     }

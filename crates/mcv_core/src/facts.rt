@@ -24,11 +24,13 @@ pub struct LegFacts {
 }
 
 impl LegFacts {
-    /// The call and the entry of the leg; both 0 where it has none.
+    /// The server of the leg, and its call and entry; 0 where it has none.
     pub(crate) fn owner(self) -> Owner
-        ensures { (leg : Option (Row Content)) → option_map facts_of leg ≡ Some self → IsOwner leg result }
+        ensures owner { (leg : Option (Row Content)) → option_map facts_of leg ≡ Some self → IsOwner leg result }
+        ensures server { result.server ≡ self.server }
     {
         Owner {
+            server: self.server,
             call: self.call.unwrap_or(0),
             entry: self.entry,
         }

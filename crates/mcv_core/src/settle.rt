@@ -1,8 +1,8 @@
 //! A leg leaves its state, and its call records a reply of it.
 
-ghost use Rattle.std.specs.Prelude.{◌≡◌, ◌≤◌, ◌+◌, ◌^◌, ◌<◌, ◌&&◌, ℕ, None, cond, option_map};
+ghost use Rattle.std.specs.Prelude.{◌≡◌, ◌≤◌, ◌+◌, ◌^◌, ◌<◌, ◌&&◌, ℕ, None, cond, option_map, true};
 ghost use Rattle.mcv_base.specs.Reply.{part_value};
-ghost use Rattle.mcv_queues.specs.Legs.{is_in_flight, is_in_flight_to};
+ghost use Rattle.mcv_queues.specs.Legs.{IsSentTo, is_in_flight, is_in_flight_to};
 ghost use Rattle.mcv_queues.specs.Queues.{in_flight, legs, room, servers as known};
 ghost use Rattle.mcv_world.specs.World.{put};
 ghost use Rattle.mcv_core.specs.Settling.{IsOwner, is_gone, records_to, settled_to};
@@ -12,7 +12,7 @@ ghost use Rattle.mcv_core.specs.View.{CanSettle, core_view, has_settled, records
 use crate::dispatcher::Dispatcher;
 use crate::errand::Errand;
 use crate::facts::{LegFacts, facts_of};
-use mcv_base::{LegId, Part};
+use mcv_base::{LegId, Part, ServerId};
 use mcv_queues::Queues;
 
 /// What becomes of a leg whose call records a reply of it.
@@ -26,16 +26,18 @@ pub enum Settling {
     Refused,
 }
 
-/// The call and the entry of a leg.
+/// The server of a leg, and its call and entry.
 #[derive(Clone, Copy)]
 pub(crate) struct Owner {
+    pub server: ServerId,
     pub call: u64,
     pub entry: usize,
 }
 
 /// The leg leaves its state.
-fn leave(queues: &mut Queues<Errand>, leg: LegId, to: Settling)
-    requires { is_in_flight (legs queues.old leg.0) ≡ is_gone to }
+fn leave(queues: &mut Queues<Errand>, leg: LegId, server: ServerId, to: Settling)
+    requires flies { is_in_flight (legs queues.old leg.0) ≡ is_gone to }
+    requires sent { is_gone to ≡ true → IsSentTo server.0 (legs queues.old leg.0) }
     ensures legs { legs queues.new ≡ put (legs queues.old) leg.0 (settled_to to (legs queues.old leg.0)) }
     ensures flights { (s : ℕ) → in_flight queues.new s ≡ cond (is_in_flight_to s (legs queues.old leg.0)) None (in_flight queues.old s) }
     ensures servers { known queues.new ≡ known queues.old }
@@ -43,7 +45,7 @@ fn leave(queues: &mut Queues<Errand>, leg: LegId, to: Settling)
 {
     match to {
         Settling::Gone => {
-            let _ = queues.gone(leg);
+            let _ = queues.sent_gone(leg, server);
         }
         Settling::InSpool(seq) => queues.spooled(leg, seq),
         Settling::Refused => queues.refused(leg),
@@ -59,16 +61,21 @@ impl Dispatcher {
         Some(facts_of(row))
     }
 
-    /// The call and the entry of a leg; both 0 where it has none.
+    /// The server of a leg, and its call and entry; each 0 where it has none.
     pub(crate) fn owner_of(&self, leg: LegId) -> Owner
         ensures { IsOwner (legs self.now.queues leg.0) result }
     {
         match self.queues.get(leg) {
             Some(row) => Owner {
+                server: row.server,
                 call: row.content.call.unwrap_or(0),
                 entry: row.content.entry,
             },
-            None => Owner { call: 0, entry: 0 },
+            None => Owner {
+                server: ServerId(0),
+                call: 0,
+                entry: 0,
+            },
         }
     }
 
@@ -83,11 +90,12 @@ impl Dispatcher {
     )
         requires owner { IsOwner (legs self.old.queues leg.0) owner }
         requires can { CanSettle self.old leg.0 to }
+        requires sent { is_gone to ≡ true → IsSentTo owner.server.0 (legs self.old.queues leg.0) }
         requires one { part_value taken ≡ part_value outcome }
         ensures view { core_view self.new ≡ has_settled self.old leg.0 to (part_value outcome) }
         ensures records { records_of self.new ≡ records_to to leg.0 (records_of self.old) }
     {
-        leave(&mut self.queues, leg, to);
+        leave(&mut self.queues, leg, owner.server, to);
         let step = self.calls.hear(
             &mut self.queues,
             owner.call,

@@ -134,31 +134,22 @@ impl Call {
 }
 
 impl Calls {
-    /// Whether the call runs.
-    fn has(&self, number: u64) -> bool
-        ensures { result ≡ is_some (calls_at self.now number) }
-    {
-        self.calls.contains_key(&number)
-    }
-
-    /// Takes the reply of a call, once it is there.
-    fn take(&mut self, number: u64) -> Taking
-        ensures { (c : Running) → calls_at self.old number ≡ Some c → IsTakenAt (calls_at self.old) (calls_at self.new) number c result }
+    /// Takes the reply of a call, once it is there; None where no call has the number.
+    fn take(&mut self, number: u64) -> Option<Taking>
+        ensures taken { IfSome result (λ taking. (c : Running) → calls_at self.old number ≡ Some c → IsTakenAt (calls_at self.old) (calls_at self.new) number c taking) }
+        ensures runs { is_some result ≡ is_some (calls_at self.old number) }
+        ensures none { IfNone result (calls_at self.new ≡ calls_at self.old) }
     {
         match self.calls.get_mut(&number) {
             Some(call) => {
                 let part = call.take();
-                Taking {
+                Some(Taking {
                     part,
                     left: call.left,
                     ended: call.has_ended(),
-                }
+                })
             }
-            None => Taking {
-                part: None,
-                left: 0,
-                ended: false,
-            },
+            None => None,
         }
     }
 }
@@ -196,10 +187,9 @@ impl Dispatcher {
         ensures none { IfOk result (λ o. IfNone o ((core_view self.new ≡ core_view self.old) × (is_move (core_view self.old).routes (world_of (core_view self.old).rows) (WasTaken call.0) ≡ false))) }
         ensures err { IfErr result (λ fault. (fault ≡ CoreFault.NoSuchCall) × (core_view self.new ≡ core_view self.old) × ((core_view self.old).rows.calls call.0 ≡ None)) }
     {
-        if !self.calls.has(call.0) {
+        let Some(taking) = self.calls.take(call.0) else {
             return Err(CoreFault::NoSuchCall);
-        }
-        let taking = self.calls.take(call.0);
+        };
         self.calls.remove_if(call.0, taking.ended);
         self.counts = self.counts.taken(taking.ended, taking.left);
         Ok(taking.part)

@@ -8,11 +8,11 @@ use Rattle.mcv_route.specs.declared.launch.Launch.{Launch}
 use Rattle.mcv_route.specs.Outcomes.{Outcomes, Choice, is_same, outcomes}
 use Rattle.mcv_rules.specs.Plan.{Leg, Plan, Send, Reply, Both, Beside, OnError, OnMiss, OnHit, Shadowed}
 use Rattle.mcv_rules.specs.Plans.{plan, launch_of}
-use Rattle.mcv_rules.specs.Rows.{StandsBefore}
+use Rattle.mcv_rules.specs.Rows.{ComesBefore}
 use Rattle.mcv_rules.specs.Sound.{positions}
 use Rattle.mcv_rules.proofs.Among.{Among, among_left, among_right}
 use Rattle.mcv_rules.proofs.Orders.{same_is, same_self}
-use Rattle.mcv_rules.proofs.Rising.{legs_stand_in_order, pairs, places, plan_rises, launched_places}
+use Rattle.mcv_rules.proofs.Rising.{legs_come_in_order, pairs, places, plan_rises, launched_places}
 use Rattle.mcv_rules.proofs.Sending.{Sends}
 use Rattle.mcv_rules.proofs.Verdicts.{has_sends}
 use Rattle.mcv_world.specs.World as world
@@ -25,17 +25,17 @@ use Rattle.mcv_world.proofs.Numbers.{at_some}
 
 abbrev Rises : List Launch → Type 0
 Rises [] = ⊤
-Rises (k ∷ ks) = ((l : Launch) → Among ks l → StandsBefore k.position l.position) × Rises ks
+Rises (k ∷ ks) = ((l : Launch) → Among ks l → ComesBefore k.position l.position) × Rises ks
 
 place_of : (ks : List Launch) (l : Launch) → Among ks l → (i : ℕ) × (i < length (map (λ k. k.position) ks)) × ((d : List ℕ) → get_or (map (λ k. k.position) ks) i d ≡ l.position)
 place_of [] l h = absurd h
 place_of (k ∷ ks) l (inl e) = (0, omega arith, λ d. ap (λ m. m.position) e)
 place_of (k ∷ ks) l (inr h) = let i = place_of ks l h in (suc i.0, omega (arith, i.1), i.2)
 
-rises : (ks : List Launch) → AllPairs StandsBefore (map (λ k. k.position) ks) → Rises ks
+rises : (ks : List Launch) → AllPairs ComesBefore (map (λ k. k.position) ks) → Rises ks
 rises [] h = tt
 rises (k ∷ ks) h = (
-  (λ l a. let i = place_of ks l a in subst (StandsBefore k.position) (i.2 []) (h 0 (suc i.0) [] (omega arith) (omega (arith, i.1)))),
+  (λ l a. let i = place_of ks l a in subst (ComesBefore k.position) (i.2 []) (h 0 (suc i.0) [] (omega arith) (omega (arith, i.1)))),
   rises ks (λ i j d low high. h (suc i) (suc j) d (omega (arith, low)) (omega (arith, high))),
 )
 
@@ -70,8 +70,8 @@ none_passes : (es : List Launch) → filter (λ l. false) es ≡ []
 none_passes [] = refl
 none_passes (e ∷ es) = none_passes es
 
-same_apart : (p q : List ℕ) → StandsBefore p q → is_same p q ≡ false
-same_apart p q h = not_true (is_same p q) (λ e. not-itself q (subst (λ v. StandsBefore v q) (same_is p q e) h))
+same_apart : (p q : List ℕ) → ComesBefore p q → is_same p q ≡ false
+same_apart p q h = not_true (is_same p q) (λ e. not-itself q (subst (λ v. ComesBefore v q) (same_is p q e) h))
 
 cond_true : {A : Type 0} (b : Bool) (x y : A) → b ≡ true → cond b x y ≡ x
 cond_true b x y e = ap (λ t. cond t x y) e
@@ -94,15 +94,15 @@ members (e ∷ es) (k ∷ ks) re rk sub = let fewer : Fewer es = λ ls a b. memb
     first fewer same =
         let here : is_at (k ∷ ks) e ≡ true = there_at (k ∷ ks) e (inl (sym same)) in
         let others : filter (is_at (k ∷ ks)) es ≡ filter (is_at ks) es =
-        filter_alike (is_at (k ∷ ks)) (is_at ks) es (λ l a. ap (λ b. b || is_at ks l) (same_apart k.position l.position (subst (λ m. StandsBefore m.position l.position) same (re.0 l a)))) in
+        filter_alike (is_at (k ∷ ks)) (is_at ks) es (λ l a. ap (λ b. b || is_at ks l) (same_apart k.position l.position (subst (λ m. ComesBefore m.position l.position) same (re.0 l a)))) in
         let down : (l : Launch) → Among ks l → Among es l = λ l a.
-        ⊎_elim (λ q. absurd (not-itself k.position (subst (λ m. StandsBefore k.position m.position) (sym q ∙ same) (rk.0 l a)))) (λ b. b) (sub l (inr a)) in
+        ⊎_elim (λ q. absurd (not-itself k.position (subst (λ m. ComesBefore k.position m.position) (sym q ∙ same) (rk.0 l a)))) (λ b. b) (sub l (inr a)) in
         ap (λ m. m ∷ ks) (sym same) ∙ ap (λ ls. e ∷ ls) (fewer ks rk.1 down ∙ sym others) ∙ sym (cond_true (is_at (k ∷ ks) e) (e ∷ filter (is_at (k ∷ ks)) es) (filter (is_at (k ∷ ks)) es) here)
 
     -- no member has the position of e
     apart : Among es k → (m : Launch) → Among (k ∷ ks) m → m.position ≡ e.position → ⊥
-    apart a m (inl q) p = not-itself e.position (subst (λ v. StandsBefore e.position v) (ap (λ v. v.position) q ∙ p) (re.0 k a))
-    apart a m (inr h) p = not-itself e.position (before-through e.position k.position e.position (re.0 k a) (subst (λ v. StandsBefore k.position v) p (rk.0 m h)))
+    apart a m (inl q) p = not-itself e.position (subst (λ v. ComesBefore e.position v) (ap (λ v. v.position) q ∙ p) (re.0 k a))
+    apart a m (inr h) p = not-itself e.position (before-through e.position k.position e.position (re.0 k a) (subst (λ v. ComesBefore k.position v) p (rk.0 m h)))
 
     later : Fewer es → Among es k → k ∷ ks ≡ filter (is_at (k ∷ ks)) (e ∷ es)
     later fewer a =
@@ -115,7 +115,7 @@ members (e ∷ es) (k ∷ ks) re rk sub = let fewer : Fewer es = λ ls a b. memb
 pub laid_out_by_members : LaidOutByMembers
 laid_out_by_members r call es rising all =
     record {
-      all = λ o. members es (launches_under r call o) (rises es rising) (rises (launches_under r call o) (legs_stand_in_order (tree_of r call.route) (situation_of call) (choice_of call) o)) (all o);
+      all = λ o. members es (launches_under r call o) (rises es rising) (rises (launches_under r call o) (legs_come_in_order (tree_of r call.route) (situation_of call) (choice_of call) o)) (all o);
       rising = rising;
     }
 
@@ -202,7 +202,7 @@ calls_are_laid_out r call =
     let es = map (launch_of c) (all_legs t) in (
       es,
       laid_out_by_members r call es
-          (subst (AllPairs StandsBefore) (sym (launched_places c (all_legs t) ∙ all_places t)) (pairs (positions t) (plan_rises (tree_of r call.route) (situation_of call))))
+          (subst (AllPairs ComesBefore) (sym (launched_places c (all_legs t) ∙ all_places t)) (pairs (positions t) (plan_rises (tree_of r call.route) (situation_of call))))
           (λ o l h.
           let s = has_sends (tree_of r call.route) (situation_of call) c o (λ m. m ≡ l) h in
           subst (Among es) s.2 (among_map (launch_of c) (all_legs t) s.0 (sends_one t c o s.0 s.1))),

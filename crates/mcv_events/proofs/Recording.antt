@@ -10,7 +10,7 @@ use Rattle.mcv_route.specs.declared.launch.Launch.{Launch}
 use Rattle.mcv_route.specs.Outcomes.{Outcomes, is_same, outcomes}
 use Rattle.mcv_route.specs.Routes.{RoutesValue}
 use Rattle.mcv_rules.specs.Laws.{Extends}
-use Rattle.mcv_rules.specs.Rows.{StandsBefore}
+use Rattle.mcv_rules.specs.Rows.{ComesBefore}
 use Rattle.mcv_rules.proofs.Among.{Among}
 use Rattle.mcv_rules.proofs.Orders.{one_more, same_is, same_self}
 use Rattle.mcv_rules.proofs.Verdicts.{sent_stays}
@@ -50,14 +50,14 @@ at_index [] i l e = no_some e
 at_index (m ∷ es) zero l e = (omega arith, λ d. ap (λ v. v.position) (same_some e))
 at_index (m ∷ es) (suc i) l e = let q = at_index es i l e in (omega (arith, q.0), q.1)
 
-before_not_same : (es : List Launch) (i j : ℕ) (l m : Launch) → AllPairs StandsBefore (map (λ m. m.position) es) → slice_get es i ≡ Some l → slice_get es j ≡ Some m → l.position ≡ m.position → i < j → ⊥
+before_not_same : (es : List Launch) (i j : ℕ) (l m : Launch) → AllPairs ComesBefore (map (λ m. m.position) es) → slice_get es i ≡ Some l → slice_get es j ≡ Some m → l.position ≡ m.position → i < j → ⊥
 before_not_same es i j l m rising a b same low =
     let x = at_index es i l a in
     let y = at_index es j m b in
-    not-itself m.position (subst (λ v. StandsBefore v m.position) (x.1 [] ∙ same) (subst (StandsBefore (get_or (map (λ m. m.position) es) i [])) (y.1 []) (rising i j [] low y.0)))
+    not-itself m.position (subst (λ v. ComesBefore v m.position) (x.1 [] ∙ same) (subst (ComesBefore (get_or (map (λ m. m.position) es) i [])) (y.1 []) (rising i j [] low y.0)))
 
 -- two entries have two positions
-pub one_entry : (es : List Launch) (i j : ℕ) (l m : Launch) → AllPairs StandsBefore (map (λ m. m.position) es) → slice_get es i ≡ Some l → slice_get es j ≡ Some m → l.position ≡ m.position → i ≡ j
+pub one_entry : (es : List Launch) (i j : ℕ) (l m : Launch) → AllPairs ComesBefore (map (λ m. m.position) es) → slice_get es i ≡ Some l → slice_get es j ≡ Some m → l.position ≡ m.position → i ≡ j
 one_entry es i j l m rising a b same =
     elim (cases_lt i j) [
       | inl low ↦ absurd (before_not_same es i j l m rising a b same low)

@@ -7,7 +7,7 @@ use Rattle.mcv_route.specs.Launched.{launched}
 use Rattle.mcv_route.specs.Outcomes.{Outcomes, is_same, outcomes}
 use Rattle.mcv_route.specs.Routes.{RoutesValue}
 use Rattle.mcv_route.specs.Verdict.{Has}
-use Rattle.mcv_rules.specs.Rows.{StandsBefore}
+use Rattle.mcv_rules.specs.Rows.{ComesBefore}
 use Rattle.mcv_world.specs.World.{Call, Leg, tree_of, situation_of, choice_of, history_of, launched_by, is_settled, put}
 use Rattle.mcv_world.specs.Moves.{queue, queued, with_reply, launched_since}
 
@@ -23,7 +23,7 @@ launches_under r call o = launched (tree_of r call.route) (situation_of call) (c
 -- positions are launched
 pub record IsLaidOut (r : RoutesValue) (call : Call) (es : List Launch) : Type 0 where
   pub all : (o : Outcomes) → launches_under r call o ≡ filter (λ l. has_leg_at (launches_under r call o) l.position) es
-  pub rising : AllPairs StandsBefore (map (λ l. l.position) es)
+  pub rising : AllPairs ComesBefore (map (λ l. l.position) es)
 
 -- the call has launched the entry
 abbrev pub is_launched : RoutesValue → Call → Launch → Bool
@@ -42,7 +42,7 @@ is_done_with r call l = not (is_launched r call l) || is_some (outcomes (history
 -- legs in order, among which is each that the call launches under some outcomes, are its entries
 abbrev pub LaidOutByMembers : Type 0
 LaidOutByMembers =
-    (r : RoutesValue) (call : Call) (es : List Launch) → AllPairs StandsBefore (map (λ l. l.position) es)
+    (r : RoutesValue) (call : Call) (es : List Launch) → AllPairs ComesBefore (map (λ l. l.position) es)
     → ((o : Outcomes) (l : Launch) → Has (launches_under r call o) (λ m. m ≡ l) → Has es (λ m. m ≡ l)) → IsLaidOut r call es
 
 -- each call has entries

@@ -1,4 +1,4 @@
-//! The locked state, lent to one thread.
+//! The locked state, borrowed by one thread.
 
 ghost use Rattle.std.specs.Prelude.{◌≡◌, ◌+◌, ◌-◌, ◌<◌, ◌≤◌, ◌^◌, ◌⊎◌, [], ◌∷◌, ◌++◌, length, IfOk, OnOk, IfErr, OnErr, IfSome, IfNone, IsSome, count_by, vec_len, vec_capacity, false, true, None, Some, MatchOption};
 ghost use Rattle.std.specs.Arc.{arc_value};

@@ -1,16 +1,18 @@
 -- What the first bytes of an input say of all of it.
-use Rattle.std.proofs.Common.{◌≡◌, ◌∙◌, ℕ, zero, suc, ◌+◌, ◌<◌, ◌≤◌, ◌⊎◌, inl, inr, List, [], ◌∷◌, ◌++◌, length, take, Option, Some, None, Result, Ok, Err, IfSome, IfErr, refl, ap, subst, arith}
+use Rattle.std.proofs.Common.{◌≡◌, ◌∙◌, ℕ, zero, suc, ◌+◌, ◌<◌, ◌≤◌, ◌⊎◌, inl, inr, List, [], ◌∷◌, ◌++◌, length, take, Option, Some, None, IfSome, refl, sym, ap, subst, arith}
 use Rattle.std.proofs.lemmas.Bool.{cases_lt}
 use Rattle.std.specs.Option.{option_map}
 use Rattle.std.specs.Io.Take.{take_limit, take_inner, take_remaining}
 use Rattle.std.specs.declared.io.traits.Take.{Take}
 use Rattle.mcv_names.specs.declared.fault.ConfigFault.{ConfigFault}
-use Rattle.mcv_names.specs.declared.fault.ConfigFault.TheVariants as config_faults
-use Rattle.mcv_config.specs.Config.{size_limit}
+use Rattle.mcv_names.specs.declared.fault.ReadFault.{ReadFault}
+use Rattle.mcv_names.specs.declared.fault.ReadFault.TheVariants as read_faults
+use Rattle.mcv_names.specs.Fault.{Refuses}
+use Rattle.mcv_config.specs.Config.{Faulty, size_limit}
 use Rattle.mcv_route.specs.Routes.{RoutesValue}
-use Rattle.mcv_input.specs.declared.fault.InputFault.{InputFault}
-use Rattle.mcv_input.specs.declared.fault.InputFault.TheVariants.{Config, Memory, Device}
-use Rattle.mcv_input.specs.Fault.{AreNamedBy, IsConfigFault, IsInputFault, IsRefusal}
+use Rattle.mcv_input.specs.declared.fault.RunFault.{RunFault}
+use Rattle.mcv_input.specs.declared.fault.RunFault.TheVariants.{Memory, Device}
+use Rattle.mcv_input.specs.Fault.{AreNamedBy, IsConfigFault, IsInputFault, IsOutside, of_reading}
 
 -- ---- reading through a limit
 
@@ -52,9 +54,8 @@ named_by_all bytes routes named = subst (λ (text : List ℕ). AreNamedBy text r
 
 -- a text that is too long has one fault, which is that of any other that is
 pub too_long_is_all : (bytes more : List ℕ) (fault : ConfigFault) → size_limit < length bytes → size_limit < length more → IsConfigFault bytes fault → IsConfigFault more fault
-too_long_is_all bytes more config_faults.Memory long longer is = absurd is
-too_long_is_all bytes more (config_faults.At kind path) long longer (inl too) = inl (longer, too.1)
-too_long_is_all bytes more (config_faults.At kind path) long longer (inr within) = let h : ⊥ = omega (arith, long, within.0) in absurd h
+too_long_is_all bytes more fault long longer (inl too) = inl (longer, too.1)
+too_long_is_all bytes more fault long longer (inr within) = let h : ⊥ = omega (arith, long, within.0) in absurd h
 
 config_fault_of_all : (bytes : List ℕ) (fault : ConfigFault) → IsConfigFault (take read_limit bytes) fault
     → (size_limit < length (take read_limit bytes)) ⊎ (length (take read_limit bytes) ≤ size_limit) → IsConfigFault bytes fault
@@ -63,14 +64,20 @@ config_fault_of_all bytes fault is (inl long) =
     let more = longer read_limit bytes in
     too_long_is_all (take read_limit bytes) bytes fault long (omega arith) is
 
-pub fault_of_all : (bytes : List ℕ) (fault : InputFault) → IsRefusal (take read_limit bytes) fault → IsInputFault bytes fault
-fault_of_all bytes (Config fault) is = config_fault_of_all bytes fault is (cases_lt size_limit (length (take read_limit bytes)))
-fault_of_all bytes Memory is = tt
-fault_of_all bytes Device is = absurd is
+fault_of_all : (bytes : List ℕ) (fault : ReadFault) → Refuses fault (Faulty (take read_limit bytes)) → IsInputFault bytes (of_reading fault)
+fault_of_all bytes (read_faults.Config fault) is = config_fault_of_all bytes fault is (cases_lt size_limit (length (take read_limit bytes)))
+fault_of_all bytes read_faults.Memory is = tt
 
--- what was read is the first bytes of what there is, where that is known; and a fault that stands in what was read stands in it
-pub fault_of_known : {X : Type 0} (known : Option (List ℕ)) (text : List ℕ) (r : Result X InputFault) → IfSome known (λ bytes. text ≡ take read_limit bytes)
-    → IfErr r (IsRefusal text) → IfErr r (λ fault. IfSome known (λ bytes. IsInputFault bytes fault))
-fault_of_known known text (Ok x) read is = tt
-fault_of_known None text (Err fault) read is = tt
-fault_of_known (Some bytes) text (Err fault) read is = fault_of_all bytes fault (subst (λ (xs : List ℕ). IsRefusal xs fault) read is)
+-- what was read is the first bytes of what there is, where that is known; and a fault of what was read is one of it
+pub fault_of_known : (known : Option (List ℕ)) (text : List ℕ) (fault : ReadFault) → IfSome known (λ bytes. text ≡ take read_limit bytes)
+    → Refuses fault (Faulty text) → IfSome known (λ bytes. IsInputFault bytes (of_reading fault))
+fault_of_known None text fault read is = tt
+fault_of_known (Some bytes) text fault read is = fault_of_all bytes fault (subst (λ (xs : List ℕ). Refuses fault (Faulty xs)) read is)
+
+-- ---- out of memory and the failure of a device, at any input
+
+pub outside_of_any : (P : List ℕ → RunFault → Type 0) (known : Option (List ℕ)) (fault : RunFault) → ((bytes : List ℕ) → P bytes Memory) → ((bytes : List ℕ) → P bytes Device)
+    → IsOutside fault → IfSome known (λ bytes. P bytes fault)
+outside_of_any P None fault memory device out = tt
+outside_of_any P (Some bytes) fault memory device (inl is) = subst (P bytes) (sym is) (memory bytes)
+outside_of_any P (Some bytes) fault memory device (inr is) = subst (P bytes) (sym is) (device bytes)

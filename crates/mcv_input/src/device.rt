@@ -5,29 +5,25 @@ ghost use Rattle.std.specs.Io.KnownBytes.{Appends};
 ghost use Rattle.std.specs.IoError.{error_kind};
 ghost use Rattle.mcv_input.specs.Fault.{IsOutside};
 
-use crate::fault::InputFault;
+use crate::fault::RunFault;
 use std::alloc::Global;
 use std::io;
 use std::io::{ErrorKind, Read, Write};
 
-/// Want of memory is told as such, and all else as a failure of the device.
-fn device_fault(error: &io::Error) -> InputFault
-    ensures memory { error_kind error.now ≡ ErrorKind.OutOfMemory → result ≡ InputFault.Memory }
-    ensures device { error_kind error.now ≢ ErrorKind.OutOfMemory → result ≡ InputFault.Device }
+/// Out of memory is reported as such, and all else as a failure of the device.
+fn device_fault(error: &io::Error) -> RunFault
+    ensures memory { error_kind error.now ≡ ErrorKind.OutOfMemory → result ≡ RunFault.Memory }
+    ensures device { error_kind error.now ≢ ErrorKind.OutOfMemory → result ≡ RunFault.Device }
     ensures outside { IsOutside result }
 {
     match error.kind() {
-        ErrorKind::OutOfMemory => InputFault::Memory,
-        _ => InputFault::Device,
+        ErrorKind::OutOfMemory => RunFault::Memory,
+        _ => RunFault::Device,
     }
 }
 
 /// The first bytes that the reader has left, as many as the limit says; all of them where there are no more.
-pub fn read_at_most<R: Read>(
-    alloc: Global,
-    reader: &mut R,
-    limit: u64,
-) -> Result<Vec<u8>, InputFault>
+pub fn read_at_most<R: Read>(alloc: Global, reader: &mut R, limit: u64) -> Result<Vec<u8>, RunFault>
     ensures read { IfOk result (λ input. IfSome (R.remaining reader.old) (λ bytes. input.items ≡ take limit bytes)) }
     ensures fault { IfErr result IsOutside }
 {
@@ -40,12 +36,12 @@ pub fn read_at_most<R: Read>(
 }
 
 /// Writes the whole text. Where the writer fails, part of it may be written.
-pub fn write_text<W: Write>(writer: &mut W, text: &[u8]) -> Result<(), InputFault>
+pub fn write_text<W: Write>(writer: &mut W, text: &[u8]) -> Result<(), RunFault>
     ensures written { OnOk result (Appends (W.contents writer.old) (W.contents writer.new) text.now) }
-    ensures fault { IfErr result (λ fault. fault ≡ InputFault.Device) }
+    ensures fault { IfErr result (λ fault. fault ≡ RunFault.Device) }
 {
     match writer.write_all(text) {
         Ok(()) => Ok(()),
-        Err(_) => Err(InputFault::Device),
+        Err(_) => Err(RunFault::Device),
     }
 }

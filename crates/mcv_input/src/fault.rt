@@ -1,42 +1,119 @@
-//! Why an input isn't read, or a text isn't written.
+//! Why a command ends before its work is done.
 
-ghost use Rattle.std.specs.Prelude.{◌≡◌};
-ghost use Rattle.mcv_input.specs.Fault.{of_configuration};
-ghost use Rattle.mcv_input.specs.declared.fault.InputFault.TheVariants.{Memory as out_of_memory};
+ghost use Rattle.std.specs.Prelude.{◌≡◌, Some};
+ghost use Rattle.mcv_input.specs.Fault.{of_reading, of_text, run_fault_number, run_fault_status, run_fault_text};
+ghost use Rattle.mcv_input.specs.declared.fault.RunFault.TheVariants.{Memory as out_of_memory};
 
-use mcv_config::ConfigFault;
+use mcv_cert::{CertFault, CertTextFault};
+use mcv_config::{ConfigFault, ReadFault};
+use mcv_judge::PairFault;
 use std::alloc::AllocError;
-use thiserror::Error;
+use std::error::Error;
+use std::fmt;
 
-/// Why an input isn't read, or a text isn't written.
-#[derive(Debug, Drop, Error)]
-pub enum InputFault {
-    /// A fault that stands in the configuration; want of memory isn't one.
-    #[error(transparent)]
+/// Why a command ends before its work is done.
+#[derive(Debug, Drop)]
+pub enum RunFault {
+    /// The input begins with no request line.
+    Line,
+    /// The request's prefix is an alias of no route.
+    NoRoute,
+    /// A fault in the configuration.
     Config(ConfigFault),
-    /// Memory ran out.
-    #[error("out of memory")]
+    /// A fault in the certificate's text.
+    CertificateText(CertTextFault),
+    /// The first fault in the certificate.
+    Certificate(PairFault),
+    /// Memory ran out, in whatever part.
     Memory,
-    /// The reader or the writer failed.
-    #[error("device failed")]
+    /// A reader, a writer, a file or the address of the proxy failed.
     Device,
 }
 
-impl From<AllocError> for InputFault {
-    ghost from_gives = { λ _ e. e ≡ out_of_memory };
+impl RunFault {
+    /// The number of the fault, from 1.
+    pub fn number(&self) -> u8
+        ensures { result ≡ run_fault_number self.now }
+    {
+        match self {
+            RunFault::Line => 1,
+            RunFault::NoRoute => 2,
+            RunFault::Config(_) => 3,
+            RunFault::CertificateText(_) => 4,
+            RunFault::Certificate(_) => 5,
+            RunFault::Memory => 6,
+            RunFault::Device => 7,
+        }
+    }
 
-    fn from(_error: AllocError) -> InputFault {
-        InputFault::Memory
+    /// The exit status of the program: 1, 2, 4 or 5.
+    pub fn status(&self) -> u8
+        ensures { result ≡ run_fault_status self.now }
+    {
+        match self {
+            RunFault::Line => 1,
+            RunFault::NoRoute | RunFault::Config(_) => 2,
+            RunFault::Memory | RunFault::Device => 4,
+            RunFault::CertificateText(_) | RunFault::Certificate(_) => 5,
+        }
     }
 }
 
-impl From<ConfigFault> for InputFault {
-    ghost from_gives = { λ fault e. e ≡ of_configuration fault };
+impl fmt::Display for RunFault {
+    ghost output = { λ fault. Some (run_fault_text fault) };
 
-    fn from(fault: ConfigFault) -> InputFault {
+    fn fmt<W: fmt::Write>(&self, f: &mut fmt::Formatter<W>) -> fmt::Result {
+        match self {
+            RunFault::Line => write!(f, "bad request line"),
+            RunFault::NoRoute => write!(f, "no route"),
+            RunFault::Config(fault) => {
+                let number = fault.number();
+                let path = fault.path();
+                write!(f, "configuration {number} at {path}")
+            }
+            RunFault::CertificateText(fault) => {
+                let number = fault.number();
+                let line = fault.line();
+                write!(f, "certificate text {number} line {line}")
+            }
+            RunFault::Certificate(fault) => {
+                let number = fault.number();
+                write!(f, "certificate fault {number}")
+            }
+            RunFault::Memory => write!(f, "out of memory"),
+            RunFault::Device => write!(f, "device failed"),
+        }
+    }
+}
+
+impl Error for RunFault {}
+
+impl From<AllocError> for RunFault {
+    ghost from_gives = { λ _ e. e ≡ out_of_memory };
+
+    fn from(_error: AllocError) -> RunFault {
+        RunFault::Memory
+    }
+}
+
+impl From<ReadFault> for RunFault {
+    ghost from_gives = { λ fault e. e ≡ of_reading fault };
+
+    fn from(fault: ReadFault) -> RunFault {
         match fault {
-            ConfigFault::Memory => InputFault::Memory,
-            ConfigFault::At { kind, path } => InputFault::Config(ConfigFault::At { kind, path }),
+            ReadFault::Config(fault) => RunFault::Config(fault),
+            ReadFault::Memory => RunFault::Memory,
+        }
+    }
+}
+
+impl From<CertFault> for RunFault {
+    ghost from_gives = { λ fault e. e ≡ of_text fault };
+
+    fn from(fault: CertFault) -> RunFault {
+        match fault {
+            CertFault::Text(fault) => RunFault::CertificateText(fault),
+            CertFault::Memory => RunFault::Memory,
         }
     }
 }

@@ -8,7 +8,7 @@ use Rattle.std.proofs.lemmas.Bool.{cases_Bool, le-leb, eqb-true}
 use Rattle.std.proofs.lemmas.List.{drop-map}
 use Rattle.mcv_cert.specs.Pair.{Place, PairValue, AreRising, pair_of, place_cmp}
 use Rattle.mcv_judge.specs.Reason.{BlockValue}
-use Rattle.mcv_judge.specs.Faults.{Owed, AreInOrder, HaveSameFaults, IsFaultless, IsFirstFault, IsInOrder, fault_at, fault_there, owed_at, owed_by, is_answered_whole, pair_at, place_owed}
+use Rattle.mcv_judge.specs.Faults.{Required, AreInOrder, HaveSameFaults, IsFaultless, IsFirstFault, IsInOrder, fault_at, fault_there, required_at, required_by, is_answered_whole, pair_at, place_required}
 use Rattle.mcv_judge.specs.InMemory.{block_of, pairs_of}
 use Rattle.mcv_judge.specs.Walk.{entries, entry_from, fault_in, walk, walked}
 use Rattle.mcv_judge.specs.Reason.{unless}
@@ -20,40 +20,40 @@ use Rattle.mcv_judge.proofs.Open.{Judges, IsFirst, AreEntriesRising, entry_at, f
 use Rattle.mcv_judge.proofs.Order.{places_total, all_rise, one_rises, ascending, rising, entries_both, in_order_from}
 use Rattle.mcv_judge.proofs.First.{judges, end_stray}
 
-entry_of_owed : (os : List Owed) (s : Place) → entry_at (entries os) s ≡ option_map (entry_from 0) (owed_at os s)
-entry_of_owed [] s = refl
-entry_of_owed (o ∷ os) s = elim (cases_Bool (is_eq (place_cmp (place_owed o) s))) [
+entry_of_required : (os : List Required) (s : Place) → entry_at (entries os) s ≡ option_map (entry_from 0) (required_at os s)
+entry_of_required [] s = refl
+entry_of_required (o ∷ os) s = elim (cases_Bool (is_eq (place_cmp (place_required o) s))) [
   | inl h ↦ rw h refl
-  | inr h ↦ rw h (entry_of_owed os s)
+  | inr h ↦ rw h (entry_of_required os s)
 ]
 
 -- before any pair all indexes are open
-all_open : (o : Option Owed) (r : Option PairValue) (whole : Bool) (i : ℕ) → fault_beside (option_map (entry_from 0) o) r whole i ≡ fault_there o r whole i
+all_open : (o : Option Required) (r : Option PairValue) (whole : Bool) (i : ℕ) → fault_beside (option_map (entry_from 0) o) r whole i ≡ fault_there o r whole i
 all_open None None whole i = refl
 all_open None (Some r) whole i = refl
 all_open (Some o) None whole i = rw (le-leb 0 i (omega arith)) refl
 all_open (Some o) (Some r) whole i = rw (le-leb 0 i (omega arith)) refl
 
-pub of_blocks : (pairs : List PairValue) (blocks : List BlockValue) (s : Place) (i : ℕ) → fault_from pairs (entries (flat_map owed_by blocks)) s i ≡ fault_at pairs blocks s i
+pub of_blocks : (pairs : List PairValue) (blocks : List BlockValue) (s : Place) (i : ℕ) → fault_from pairs (entries (flat_map required_by blocks)) s i ≡ fault_at pairs blocks s i
 of_blocks pairs blocks s i =
-    ap (λ e. fault_beside e (pair_at pairs s i) (is_answered_whole pairs s) i) (entry_of_owed (flat_map owed_by blocks) s)
-    ∙ all_open (owed_at (flat_map owed_by blocks) s) (pair_at pairs s i) (is_answered_whole pairs s) i
+    ap (λ e. fault_beside e (pair_at pairs s i) (is_answered_whole pairs s) i) (entry_of_required (flat_map required_by blocks) s)
+    ∙ all_open (required_at (flat_map required_by blocks) s) (pair_at pairs s i) (is_answered_whole pairs s) i
 
-first_of_blocks : (pairs : List PairValue) (blocks : List BlockValue) (f : PairFault) → IsFirst pairs (entries (flat_map owed_by blocks)) f → IsFirstFault pairs blocks f
+first_of_blocks : (pairs : List PairValue) (blocks : List BlockValue) (f : PairFault) → IsFirst pairs (entries (flat_map required_by blocks)) f → IsFirstFault pairs blocks f
 first_of_blocks pairs blocks f h = (h.0, h.1, sym (of_blocks pairs blocks h.0 h.1) ∙ h.2, λ t j l. sym (of_blocks pairs blocks t j) ∙ h.3 t j l)
 
 -- ---- one block
 
 module _ (b : BlockValue) (later : List BlockValue) (pairs : List PairValue) where
-  parted : entries (flat_map owed_by (b ∷ later)) ≡ entries (owed_by b) ++ entries (flat_map owed_by later)
-  parted = entries_both (owed_by b) (flat_map owed_by later)
+  parted : entries (flat_map required_by (b ∷ later)) ≡ entries (required_by b) ++ entries (flat_map required_by later)
+  parted = entries_both (required_by b) (flat_map required_by later)
 
-  judged : AreInOrder (b ∷ later) → AreRising pairs → (x : Result (List PairValue) PairFault) → x ≡ walk pairs (entries (owed_by b)) → Judges pairs (entries (owed_by b)) (entries (flat_map owed_by later)) x
+  judged : AreInOrder (b ∷ later) → AreRising pairs → (x : Result (List PairValue) PairFault) → x ≡ walk pairs (entries (required_by b)) → Judges pairs (entries (required_by b)) (entries (flat_map required_by later)) x
   judged order up x is =
-      subst (Judges pairs (entries (owed_by b)) (entries (flat_map owed_by later))) (sym is)
-      (judges places_total pairs (entries (owed_by b)) (entries (flat_map owed_by later)) (ascending pairs up) (subst AreEntriesRising parted (all_rise (b ∷ later) order)))
+      subst (Judges pairs (entries (required_by b)) (entries (flat_map required_by later))) (sym is)
+      (judges places_total pairs (entries (required_by b)) (entries (flat_map required_by later)) (ascending pairs up) (subst AreEntriesRising parted (all_rise (b ∷ later) order)))
 
-  pub left : AreInOrder (b ∷ later) → AreRising pairs → (x : Result (Bor (List Pair)) PairFault) → walked x ≡ walk pairs (entries (owed_by b)) → IfOk x (λ rest. HaveSameFaults pairs (b ∷ later) (pairs_of rest.now) later)
+  pub left : AreInOrder (b ∷ later) → AreRising pairs → (x : Result (Bor (List Pair)) PairFault) → walked x ≡ walk pairs (entries (required_by b)) → IfOk x (λ rest. HaveSameFaults pairs (b ∷ later) (pairs_of rest.now) later)
   left order up (Ok rest) is = λ s i.
       sym (of_blocks pairs (b ∷ later) s i)
       ∙ ap (λ es. fault_from pairs es s i) parted
@@ -61,14 +61,14 @@ module _ (b : BlockValue) (later : List BlockValue) (pairs : List PairValue) whe
       ∙ of_blocks (pairs_of rest.now) later s i
   left order up (Err f) is = tt
 
-  pub first : AreInOrder (b ∷ later) → AreRising pairs → (x : Result (Bor (List Pair)) PairFault) → walked x ≡ walk pairs (entries (owed_by b)) → IfErr x (λ f. IsFirstFault pairs (b ∷ later) f)
+  pub first : AreInOrder (b ∷ later) → AreRising pairs → (x : Result (Bor (List Pair)) PairFault) → walked x ≡ walk pairs (entries (required_by b)) → IfErr x (λ f. IsFirstFault pairs (b ∷ later) f)
   first order up (Ok rest) is = tt
   first order up (Err f) is = first_of_blocks pairs (b ∷ later) f (subst (λ es. IsFirst pairs es f) (sym parted) (judged order up (Err f) is))
 
-pub left_rise : (b : BlockValue) (pairs : List PairValue) → IsInOrder b → AreRising pairs → (x : Result (Bor (List Pair)) PairFault) → walked x ≡ walk pairs (entries (owed_by b)) → IfOk x (λ rest. AreRising (pairs_of rest.now))
+pub left_rise : (b : BlockValue) (pairs : List PairValue) → IsInOrder b → AreRising pairs → (x : Result (Bor (List Pair)) PairFault) → walked x ≡ walk pairs (entries (required_by b)) → IfOk x (λ rest. AreRising (pairs_of rest.now))
 left_rise b pairs order up (Ok rest) is =
-    let all = judges places_total pairs (entries (owed_by b)) [] (ascending pairs up) (one_rises b order) in
-    rising (pairs_of rest.now) (subst (Judges pairs (entries (owed_by b)) []) (sym is) all).0
+    let all = judges places_total pairs (entries (required_by b)) [] (ascending pairs up) (one_rises b order) in
+    rising (pairs_of rest.now) (subst (Judges pairs (entries (required_by b)) []) (sym is) all).0
 left_rise b pairs order up (Err f) is = tt
 
 -- ---- no block
@@ -80,12 +80,12 @@ some_left : (r : PairValue) (pairs : List PairValue) → AreRising (r ∷ pairs)
 some_left r pairs up = first_of_blocks (r ∷ pairs) [] Stray (end_stray places_total r pairs (ascending (r ∷ pairs) up))
 
 pub ended : (pairs : List Pair) → AreRising (pairs_of pairs) → (empty : Bool) → empty ≡ nat_eq (length pairs) 0 → (x : Result (Unit {0}) PairFault) → fault_in x ≡ unless empty Stray → MatchResult x (λ _. IsFaultless (pairs_of pairs) []) (λ f. IsFirstFault (pairs_of pairs) [] f)
-ended [] up empty is (Ok u) told = none_left
-ended [] up true is (Err f) told = absurd cc
-ended [] up false is (Err f) told = absurd cc
-ended (r ∷ pairs) up true is x told = let none = eqb-true (length (r ∷ pairs)) 0 (sym is) in absurd (omega arith)
-ended (r ∷ pairs) up false is (Ok u) told = absurd cc
-ended (r ∷ pairs) up false is (Err f) told = let stray : f ≡ Stray = cc in rw stray (some_left (pair_of r) (pairs_of pairs) up)
+ended [] up empty is (Ok u) reported = none_left
+ended [] up true is (Err f) reported = absurd cc
+ended [] up false is (Err f) reported = absurd cc
+ended (r ∷ pairs) up true is x reported = let none = eqb-true (length (r ∷ pairs)) 0 (sym is) in absurd (omega arith)
+ended (r ∷ pairs) up false is (Ok u) reported = absurd cc
+ended (r ∷ pairs) up false is (Err f) reported = let stray : f ≡ Stray = cc in rw stray (some_left (pair_of r) (pairs_of pairs) up)
 
 -- ---- all blocks
 

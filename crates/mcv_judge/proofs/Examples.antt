@@ -37,9 +37,9 @@ fine_at_the_last_index : fault_at (zeroth ∷ next ∷ []) (block ∷ []) place 
 unfolding place_cmp
 fine_at_the_last_index = refl
 
-nothing_is_owed_behind : fault_at (zeroth ∷ next ∷ []) (block ∷ []) place 2 ≡ None
+nothing_is_required_behind : fault_at (zeroth ∷ next ∷ []) (block ∷ []) place 2 ≡ None
 unfolding place_cmp
-nothing_is_owed_behind = refl
+nothing_is_required_behind = refl
 
 an_index_without_its_pair : fault_at (zeroth ∷ []) (block ∷ []) place 1 ≡ Some Missing
 unfolding place_cmp
@@ -58,7 +58,7 @@ another_leg : fault_at (pair (all 0 ((0 ∷ 1 ∷ []) ∷ [])) ∷ next ∷ []) 
 unfolding place_cmp
 another_leg = refl
 
--- a leg that isn't there is told before one with another server in front of it
+-- a leg that isn't there is reported before one with another server in front of it
 absent_before_other : fault_of block hashed (all 0 ((0 ∷ 1 ∷ []) ∷ (0 ∷ 2 ∷ []) ∷ [])) ≡ Some NotAcknowledged
 absent_before_other = refl
 

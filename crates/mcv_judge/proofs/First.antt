@@ -126,7 +126,7 @@ module _ (o : IsTotalOrder place_cmp) where
   below_level p i q j e [] h = h
   below_level p i q j e (r ∷ rows) h = (level p i q j (place_of r) (index_of r.reason) e ∙ h.0, below_level p i q j e rows h.1)
 
-  -- no row stands at a place below all of them
+  -- no row is at a place below all of them
   no_row : (p : Place) (i : ℕ) (rows : List PairValue) → IsBelowPairs p i rows → pair_at rows p i ≡ None
   no_row p i [] h = refl
   no_row p i (r ∷ rows) h = rw (other _ (turn p i (place_of r) (index_of r.reason) h.0)) (no_row p i rows h.1)
@@ -205,7 +205,7 @@ module _ (o : IsTotalOrder place_cmp) where
     λ q j h. rw (no_row q j (r ∷ rows) (h, below_more q j (place_of r) (index_of r.reason) h rows up.0)) refl,
   )
 
-  -- the first row stands before what the first leaf wants
+  -- the first row comes before what the first leaf wants
   stray : (r : PairValue) (rows : List PairValue) (e : Entry) (es : List Entry) → index_cmp (place_of r) (index_of r.reason) e.place e.from ≡ Less → ArePairsAscending (r ∷ rows) → AreEntriesRising (e ∷ es) → IsFirst (r ∷ rows) (e ∷ es) Stray
   stray r rows e es less up rising = (
     (place_of r),
@@ -249,7 +249,7 @@ module _ (o : IsTotalOrder place_cmp) where
       λ q j l. rw (no_row q j (r ∷ rows) (l, below_more q j (place_of r) (index_of r.reason) l rows up.0)) (early q j e es (is_answered_whole (r ∷ rows) q) rising.1 (sym (alike_right pairs ((place_of r), index_of r.reason) (e.place, e.from) (q, j) at) ∙ l)),
     )
 
-    -- nothing else stands there
+    -- nothing else is there
     no_more : (q : Place) (j : ℕ) → index_cmp (place_of r) (index_of r.reason) q j ≡ Equal → pair_at rows q j ≡ None
     no_more q j h = no_row q j rows (below_level q j (place_of r) (index_of r.reason) (tied_back pairs ((place_of r), index_of r.reason) (q, j) h) rows up.0)
 
@@ -324,7 +324,7 @@ module _ (o : IsTotalOrder place_cmp) where
         ]
       ]
 
-  -- the same faults stand in both
+  -- both have the same faults
   carry : (rows : List PairValue) (es : List Entry) (rows2 : List PairValue) (es2 fs : List Entry) → ((q : Place) (j : ℕ) → fault_from rows (es ++ fs) q j ≡ fault_from rows2 (es2 ++ fs) q j) → (x : Result (List PairValue) PairFault) → Judges rows2 es2 fs x → Judges rows es fs x
   carry rows es rows2 es2 fs alike (Ok rest) h = (h.0, λ q j. alike q j ∙ h.1 q j)
   carry rows es rows2 es2 fs alike (Err f) h = (h.0, h.1, alike h.0 h.1 ∙ h.2, λ q j l. alike q j ∙ h.3 q j l)

@@ -1,4 +1,4 @@
--- Which fault stands at a place while pairs are judged one by one: a leaf's indexes before the entry's first one want nothing more.
+-- Which fault is at a place while pairs are judged one by one: a leaf's indexes before the entry's first one want nothing more.
 use Rattle.std.specs.Prelude.{◌≡◌, ◌<◌, ◌&&◌, ◌||◌, not, ℕ, Bool, List, [], ◌∷◌, ◌++◌, Option, Some, None, Result, Ok, Err, nat_lt, nat_le, nat_eq, if◌then◌else◌, find, ⊤}
 use Rattle.std.specs.declared.cmp.Ordering.TheVariants.{Less}
 use Rattle.std.specs.Ordering.{is_eq}
@@ -26,7 +26,7 @@ fault_from pairs es s i = fault_beside (entry_at es s) (pair_at pairs s i) (is_a
 abbrev pub IsFirst : List PairValue → List Entry → PairFault → Type 0
 IsFirst pairs es f = (s : Place) × (i : ℕ) × (fault_from pairs es s i ≡ Some f) × ((t : Place) (j : ℕ) → index_cmp t j s i ≡ Less → fault_from pairs es t j ≡ None)
 
--- all pairs stand behind the place
+-- all pairs come behind the place
 abbrev pub IsBelowPairs : Place → ℕ → List PairValue → Type 0
 IsBelowPairs s i [] = ⊤
 IsBelowPairs s i (r ∷ pairs) = (index_cmp s i (place_of r) (index_of r.reason) ≡ Less) × IsBelowPairs s i pairs

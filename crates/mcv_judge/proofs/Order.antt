@@ -11,7 +11,7 @@ use Rattle.std.proofs.lemmas.List.Kept.{AllPairs-cons}
 use Rattle.std.proofs.lemmas.List.{map-append}
 use Rattle.mcv_cert.specs.Pair.{Place, PairValue, AreRising, index_of, place_of, list_cmp, place_cmp, index_cmp}
 use Rattle.mcv_judge.specs.Reason.{LegValue, BlockValue}
-use Rattle.mcv_judge.specs.Faults.{Owed, AreInOrder, AreLegsRising, IsInOrder, block_cmp, owe, owed_by}
+use Rattle.mcv_judge.specs.Faults.{Required, AreInOrder, AreLegsRising, IsInOrder, block_cmp, require, required_by}
 use Rattle.mcv_judge.specs.Walk.{Entry, entries}
 use Rattle.mcv_judge.proofs.Open.{IsBelowPairs, ArePairsAscending, IsBelowEntries, AreEntriesRising}
 
@@ -53,7 +53,7 @@ rising (r ∷ pairs) h = AllPairs-cons Later r pairs (all_below (place_of r) (in
 
 -- ---- blocks
 
--- where a leaf of the block stands
+-- where a leaf of the block is
 abbrev place_in : BlockValue → List ℕ → Place
 place_in b p = record { route = b.route; class = b.class; era = b.era; leaf = p }
 
@@ -74,19 +74,19 @@ pub in_two_blocks : (b c : BlockValue) (p q : List ℕ) → block_cmp b c ≡ Le
 unfolding place_cmp
 in_two_blocks b c p q h = then_more (nat_cmp b.route c.route) (list_cmp b.class c.class) (nat_cmp b.era c.era) (list_cmp p q) h
 
-abbrev owing : BlockValue → List LegValue → List Owed
-owing b ls = map (owe b) ls
+abbrev requiring : BlockValue → List LegValue → List Required
+requiring b ls = map (require b) ls
 
-below_leaves : (s : Place) (b : BlockValue) (ls : List LegValue) → ((l : LegValue) → place_cmp s (place_in b l.position) ≡ Less) → (es : List Entry) → IsBelowEntries s es → IsBelowEntries s (entries (owing b ls) ++ es)
+below_leaves : (s : Place) (b : BlockValue) (ls : List LegValue) → ((l : LegValue) → place_cmp s (place_in b l.position) ≡ Less) → (es : List Entry) → IsBelowEntries s es → IsBelowEntries s (entries (requiring b ls) ++ es)
 below_leaves s b [] h es more = more
 below_leaves s b (l ∷ ls) h es more = (h l, below_leaves s b ls h es more)
 
-below_own : (b : BlockValue) (p : List ℕ) (ls : List LegValue) → All (λ l. list_cmp p l.position ≡ Less) ls → (es : List Entry) → IsBelowEntries (place_in b p) es → IsBelowEntries (place_in b p) (entries (owing b ls) ++ es)
+below_own : (b : BlockValue) (p : List ℕ) (ls : List LegValue) → All (λ l. list_cmp p l.position ≡ Less) ls → (es : List Entry) → IsBelowEntries (place_in b p) es → IsBelowEntries (place_in b p) (entries (requiring b ls) ++ es)
 below_own b p [] h es more = more
 below_own b p (l ∷ ls) h es more = (in_one_block b p l.position ∙ All-head (λ m. list_cmp p m.position ≡ Less) l ls h, below_own b p ls (All-tail (λ m. list_cmp p m.position ≡ Less) l ls h) es more)
 
--- a block's leaves before entries that stand behind all of its places
-leaves_rise : (b : BlockValue) (ls : List LegValue) → AreLegsRising ls → All (λ l. 0 < length l.servers) ls → (es : List Entry) → ((p : List ℕ) → IsBelowEntries (place_in b p) es) → AreEntriesRising es → AreEntriesRising (entries (owing b ls) ++ es)
+-- a block's leaves before entries that come behind all of its places
+leaves_rise : (b : BlockValue) (ls : List LegValue) → AreLegsRising ls → All (λ l. 0 < length l.servers) ls → (es : List Entry) → ((p : List ℕ) → IsBelowEntries (place_in b p) es) → AreEntriesRising es → AreEntriesRising (entries (requiring b ls) ++ es)
 leaves_rise b [] up sized es below more = more
 leaves_rise b (l ∷ ls) up sized es below more = (
   All-head (λ m. 0 < length m.servers) l ls sized,
@@ -94,26 +94,26 @@ leaves_rise b (l ∷ ls) up sized es below more = (
   leaves_rise b ls (behind_first (λ m n. list_cmp m.position n.position ≡ Less) l ls up) (All-tail (λ m. 0 < length m.servers) l ls sized) es below more,
 )
 
-pub entries_both : (os ps : List Owed) → entries (os ++ ps) ≡ entries os ++ entries ps
+pub entries_both : (os ps : List Required) → entries (os ++ ps) ≡ entries os ++ entries ps
 entries_both os ps = map-append _ os ps
 
-below_blocks : (b : BlockValue) (p : List ℕ) (cs : List BlockValue) → All (λ c. block_cmp b c ≡ Less) cs → IsBelowEntries (place_in b p) (entries (flat_map owed_by cs))
+below_blocks : (b : BlockValue) (p : List ℕ) (cs : List BlockValue) → All (λ c. block_cmp b c ≡ Less) cs → IsBelowEntries (place_in b p) (entries (flat_map required_by cs))
 below_blocks b p [] h = tt
 below_blocks b p (c ∷ cs) h =
-    subst (IsBelowEntries (place_in b p)) (sym (entries_both (owed_by c) (flat_map owed_by cs)))
-    (below_leaves (place_in b p) c c.readable (λ l. in_two_blocks b c p l.position (All-head (λ d. block_cmp b d ≡ Less) c cs h)) (entries (flat_map owed_by cs)) (below_blocks b p cs (All-tail (λ d. block_cmp b d ≡ Less) c cs h)))
+    subst (IsBelowEntries (place_in b p)) (sym (entries_both (required_by c) (flat_map required_by cs)))
+    (below_leaves (place_in b p) c c.readable (λ l. in_two_blocks b c p l.position (All-head (λ d. block_cmp b d ≡ Less) c cs h)) (entries (flat_map required_by cs)) (below_blocks b p cs (All-tail (λ d. block_cmp b d ≡ Less) c cs h)))
 
-blocks_rise : (bs : List BlockValue) → AllPairs (λ b c. block_cmp b c ≡ Less) bs → All IsInOrder bs → AreEntriesRising (entries (flat_map owed_by bs))
+blocks_rise : (bs : List BlockValue) → AllPairs (λ b c. block_cmp b c ≡ Less) bs → All IsInOrder bs → AreEntriesRising (entries (flat_map required_by bs))
 blocks_rise [] up each = tt
 blocks_rise (b ∷ bs) up each =
     let own = All-head IsInOrder b bs each in
-    subst AreEntriesRising (sym (entries_both (owed_by b) (flat_map owed_by bs)))
-    (leaves_rise b b.readable own.readable own.indexed (entries (flat_map owed_by bs)) (λ p. below_blocks b p bs (from_first (λ c d. block_cmp c d ≡ Less) b bs up)) (blocks_rise bs (behind_first (λ c d. block_cmp c d ≡ Less) b bs up) (All-tail IsInOrder b bs each)))
+    subst AreEntriesRising (sym (entries_both (required_by b) (flat_map required_by bs)))
+    (leaves_rise b b.readable own.readable own.indexed (entries (flat_map required_by bs)) (λ p. below_blocks b p bs (from_first (λ c d. block_cmp c d ≡ Less) b bs up)) (blocks_rise bs (behind_first (λ c d. block_cmp c d ≡ Less) b bs up) (All-tail IsInOrder b bs each)))
 
-pub all_rise : (bs : List BlockValue) → AreInOrder bs → AreEntriesRising (entries (flat_map owed_by bs))
+pub all_rise : (bs : List BlockValue) → AreInOrder bs → AreEntriesRising (entries (flat_map required_by bs))
 all_rise bs h = blocks_rise bs h.rising h.each
 
-pub one_rises : (b : BlockValue) → IsInOrder b → AreEntriesRising (entries (owed_by b) ++ [])
+pub one_rises : (b : BlockValue) → IsInOrder b → AreEntriesRising (entries (required_by b) ++ [])
 one_rises b h = leaves_rise b b.readable h.readable h.indexed [] (λ p. tt) tt
 
 pairs_from : {X : Type 0} (P : X → X → Type 0) (n : ℕ) (xs : List X) → AllPairs P xs → AllPairs P (drop n xs)

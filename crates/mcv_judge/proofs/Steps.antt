@@ -9,7 +9,7 @@ use Rattle.std.specs.declared.cmp.Ordering.{Ordering}
 use Rattle.std.specs.declared.cmp.Ordering.TheVariants.{Less, Equal, Greater}
 use Rattle.mcv_cert.specs.Pair.{PairValue, ReasonValue, index_of, place_of, index_cmp}
 use Rattle.mcv_judge.specs.Reason.{BlockValue, is_whole}
-use Rattle.mcv_judge.specs.Faults.{owe}
+use Rattle.mcv_judge.specs.Faults.{require}
 use Rattle.mcv_judge.specs.InMemory.{leg_of, legs_of, pairs_of}
 use Rattle.mcv_judge.specs.Walk.{Entry, after, entries, entries_left, or_else, walk, walked}
 use Rattle.mcv_judge.specs.declared.block.Leg.{Leg}
@@ -17,7 +17,7 @@ use Rattle.mcv_cert.specs.declared.pair.Pair.{Pair}
 use Rattle.mcv_judge.specs.declared.fault.PairFault.{PairFault}
 use Rattle.mcv_judge.specs.declared.fault.PairFault.TheVariants.{Missing, Stray}
 
--- one step, by how the pair stands against the entry
+-- one step, by how the pair compares with the entry
 abbrev pub by : PairValue → List PairValue → Entry → List Entry → Ordering → Result (List PairValue) PairFault
 by r pairs e es x = elim x [ Less ↦ Err Stray | Equal ↦ or_else (e.judge r.reason) (walk pairs (after r.reason e es)) | Greater ↦ Err Missing ]
 
@@ -51,21 +51,21 @@ walk_both (r ∷ pairs) (e ∷ es) fs = turn (index_cmp (place_of r) (index_of r
 
 -- the first leaf and those behind it
 next_leaves : (b : BlockValue) (leaves : List Leg) (n : ℕ) (leaf : Leg) → n < length leaves → leaf ≡ get_or leaves n leaf → 0 < length (leg_of leaf).servers →
-    entries (map (owe b) (legs_of (drop n leaves))) ≡ entries_left 0 (owe b (leg_of leaf)) ++ entries (map (owe b) (legs_of (drop (n + 1) leaves)))
+    entries (map (require b) (legs_of (drop n leaves))) ≡ entries_left 0 (require b (leg_of leaf)) ++ entries (map (require b) (legs_of (drop (n + 1) leaves)))
 next_leaves b leaves n leaf l is some = rw (add-one, drop-cons leaves n leaf, ← is, lt-ltb 0 (length (leg_of leaf).servers) some) refl
 
 module _ (b : BlockValue) (leaves : List Leg) (n : ℕ) (leaf : Leg) (l : n < length leaves) (is : leaf ≡ get_or leaves n leaf) (some : 0 < length (leg_of leaf).servers) (pairs : List PairValue) where
-  walks : (x : Result (Bor (List Pair)) PairFault) → walked x ≡ walk pairs (entries_left 0 (owe b (leg_of leaf))) →
-      walk pairs (entries (map (owe b) (legs_of (drop n leaves)))) ≡ onward (walked x) (λ rest. walk rest (entries (map (owe b) (legs_of (drop (n + 1) leaves)))))
+  walks : (x : Result (Bor (List Pair)) PairFault) → walked x ≡ walk pairs (entries_left 0 (require b (leg_of leaf))) →
+      walk pairs (entries (map (require b) (legs_of (drop n leaves)))) ≡ onward (walked x) (λ rest. walk rest (entries (map (require b) (legs_of (drop (n + 1) leaves)))))
   walks x e =
       ap (walk pairs) (next_leaves b leaves n leaf l is some)
-      ∙ walk_both pairs (entries_left 0 (owe b (leg_of leaf))) (entries (map (owe b) (legs_of (drop (n + 1) leaves))))
-      ∙ ap (λ y. onward y (λ rest. walk rest (entries (map (owe b) (legs_of (drop (n + 1) leaves)))))) (sym e)
+      ∙ walk_both pairs (entries_left 0 (require b (leg_of leaf))) (entries (map (require b) (legs_of (drop (n + 1) leaves))))
+      ∙ ap (λ y. onward y (λ rest. walk rest (entries (map (require b) (legs_of (drop (n + 1) leaves)))))) (sym e)
 
-  pub leaf_passed : (rest : Bor (List Pair)) → walked (Ok rest) ≡ walk pairs (entries_left 0 (owe b (leg_of leaf))) → walk pairs (entries (map (owe b) (legs_of (drop n leaves)))) ≡ walk (pairs_of rest.now) (entries (map (owe b) (legs_of (drop (n + 1) leaves))))
+  pub leaf_passed : (rest : Bor (List Pair)) → walked (Ok rest) ≡ walk pairs (entries_left 0 (require b (leg_of leaf))) → walk pairs (entries (map (require b) (legs_of (drop n leaves)))) ≡ walk (pairs_of rest.now) (entries (map (require b) (legs_of (drop (n + 1) leaves))))
   leaf_passed rest e = walks (Ok rest) e
 
-  pub leaf_wrong : (f : PairFault) → walked (Err f) ≡ walk pairs (entries_left 0 (owe b (leg_of leaf))) → walk pairs (entries (map (owe b) (legs_of (drop n leaves)))) ≡ Err f
+  pub leaf_wrong : (f : PairFault) → walked (Err f) ≡ walk pairs (entries_left 0 (require b (leg_of leaf))) → walk pairs (entries (map (require b) (legs_of (drop n leaves)))) ≡ Err f
   leaf_wrong f e = walks (Err f) e
 
 -- a leaf of those that have a server

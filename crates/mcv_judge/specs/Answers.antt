@@ -1,12 +1,12 @@
--- Pairs that answer what blocks owe, leaf after leaf and block after block: how certificates are made (own).
+-- Pairs that answer what blocks require, leaf after leaf and block after block: how certificates are made (own).
 use Rattle.std.specs.Prelude.{◌≡◌, ◌⊎◌, ◌++◌, ◌∷◌, [], ℕ, true, false, List, Some, None, length, slice_get}
 use Rattle.mcv_cert.specs.Pair.{AreRising, PairValue, index_of, place_of}
 use Rattle.mcv_judge.specs.Reason.{LegValue, BlockValue, fault_of, is_whole}
-use Rattle.mcv_judge.specs.Faults.{AreInOrder, IsFaultless, owe, place_owed}
+use Rattle.mcv_judge.specs.Faults.{AreInOrder, IsFaultless, place_required, require}
 
--- the pair stands at the leaf, speaks of the index, and its reason has no fault
+-- the pair is at the leaf, speaks of the index, and its reason has no fault
 pub record IsAnswer (b : BlockValue) (leaf : LegValue) (i : ℕ) (p : PairValue) : Type 0 where
-  pub place : place_of p ≡ place_owed (owe b leaf)
+  pub place : place_of p ≡ place_required (require b leaf)
   pub index : index_of p.reason ≡ i
   pub faultless : fault_of b leaf p.reason ≡ None
 
@@ -36,6 +36,6 @@ AnswersBlock b ps = AnswersLeaves b b.readable ps
 abbrev pub AnswersAll : List BlockValue → List PairValue → Type 0
 AnswersAll blocks ps = AreInTurn AnswersBlock blocks ps
 
--- pairs that answer all that is owed rise, and no fault stands in them
+-- pairs that answer all that is required rise, and no fault is in them
 abbrev pub AnsweredIsFaultless : Type 0
 AnsweredIsFaultless = (blocks : List BlockValue) (ps : List PairValue) → AreInOrder blocks → AnswersAll blocks ps → AreRising ps × IsFaultless ps blocks

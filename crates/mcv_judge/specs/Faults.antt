@@ -1,4 +1,4 @@
--- Which fault of a certificate stands at which place. A certificate is justified where none stands anywhere (own).
+-- Which fault of a certificate is at which place. A certificate is justified where none is anywhere (own).
 use Rattle.std.specs.Prelude.{◌≡◌, ◌<◌, ◌&&◌, ◌||◌, not, ℕ, Bool, List, Option, Some, None, if◌then◌else◌, length, map, nat_lt, nat_eq, find, flat_map, All, AllPairs}
 use Rattle.std.specs.List.{list_any}
 use Rattle.std.specs.declared.cmp.Ordering.{Ordering}
@@ -9,22 +9,22 @@ use Rattle.mcv_judge.specs.Reason.{LegValue, BlockValue, fault_of, is_whole}
 use Rattle.mcv_judge.specs.declared.fault.PairFault.{PairFault}
 use Rattle.mcv_judge.specs.declared.fault.PairFault.TheVariants.{Missing, Stray}
 
--- a readable leaf of a block: what a certificate owes an answer
-pub record Owed : Type 0 where
+-- a readable leaf of a block: it requires an answer of a certificate
+pub record Required : Type 0 where
   pub block : BlockValue
   pub leaf : LegValue
 
-abbrev pub place_owed : Owed → Place
-place_owed o = record { route = o.block.route; class = o.block.class; era = o.block.era; leaf = o.leaf.position }
+abbrev pub place_required : Required → Place
+place_required o = record { route = o.block.route; class = o.block.class; era = o.block.era; leaf = o.leaf.position }
 
-abbrev pub owe : BlockValue → LegValue → Owed
-owe b l = record { block = b; leaf = l }
+abbrev pub require : BlockValue → LegValue → Required
+require b l = record { block = b; leaf = l }
 
-abbrev pub owed_by : BlockValue → List Owed
-owed_by b = map (owe b) b.readable
+abbrev pub required_by : BlockValue → List Required
+required_by b = map (require b) b.readable
 
-abbrev pub owed_at : List Owed → Place → Option Owed
-owed_at os s = find (λ o. is_eq (place_cmp (place_owed o) s)) os
+abbrev pub required_at : List Required → Place → Option Required
+required_at os s = find (λ o. is_eq (place_cmp (place_required o) s)) os
 
 abbrev pub pair_at : List PairValue → Place → ℕ → Option PairValue
 pair_at pairs s i = find (λ r. is_eq (index_cmp (place_of r) (index_of r.reason) s i)) pairs
@@ -33,32 +33,32 @@ pair_at pairs s i = find (λ r. is_eq (index_cmp (place_of r) (index_of r.reason
 abbrev pub is_answered_whole : List PairValue → Place → Bool
 is_answered_whole pairs s = list_any (λ r. is_whole r.reason && is_eq (place_cmp (place_of r) s)) pairs
 
-abbrev pub has_index : Owed → ℕ → Bool
+abbrev pub has_index : Required → ℕ → Bool
 has_index o i = nat_lt i (length o.leaf.servers)
 
--- a readable leaf has a pair at each index, or one that speaks of all and stands at index 0; beside such a one a further pair is too much, as is one where no readable leaf stands or at an index that it hasn't
-abbrev pub fault_there : Option Owed → Option PairValue → (whole : Bool) → ℕ → Option PairFault
+-- a readable leaf has a pair at each index, or one that speaks of all and is at index 0; beside such a one a further pair is too much, as is one where no readable leaf is or at an index that it hasn't
+abbrev pub fault_there : Option Required → Option PairValue → (whole : Bool) → ℕ → Option PairFault
 fault_there None None whole i = None
 fault_there None (Some r) whole i = Some Stray
 fault_there (Some o) None whole i = if has_index o i && not whole then Some Missing else None
 fault_there (Some o) (Some r) whole i = if has_index o i && (nat_eq i 0 || not whole) then fault_of o.block o.leaf r.reason else Some Stray
 
--- the fault that stands at a place, if any
+-- the fault at a place, if any
 abbrev pub fault_at : List PairValue → List BlockValue → Place → ℕ → Option PairFault
-fault_at pairs blocks s i = fault_there (owed_at (flat_map owed_by blocks) s) (pair_at pairs s i) (is_answered_whole pairs s) i
+fault_at pairs blocks s i = fault_there (required_at (flat_map required_by blocks) s) (pair_at pairs s i) (is_answered_whole pairs s) i
 
 abbrev pub IsFaultless : List PairValue → List BlockValue → Type 0
 IsFaultless pairs blocks = (s : Place) (i : ℕ) → fault_at pairs blocks s i ≡ None
 
--- the fault stands at some place, and none at an earlier one
+-- the fault is at some place, and none at an earlier one
 abbrev pub IsFirstFault : List PairValue → List BlockValue → PairFault → Type 0
 IsFirstFault pairs blocks f = (s : Place) × (i : ℕ) × (fault_at pairs blocks s i ≡ Some f) × ((t : Place) (j : ℕ) → index_cmp t j s i ≡ Less → fault_at pairs blocks t j ≡ None)
 
--- the same faults stand in both
+-- both have the same faults
 abbrev pub HaveSameFaults : List PairValue → List BlockValue → List PairValue → List BlockValue → Type 0
 HaveSameFaults pairs blocks rest later = (s : Place) (i : ℕ) → fault_at pairs blocks s i ≡ fault_at rest later s i
 
--- ---- what is judged stands in order
+-- ---- what is judged comes in order
 
 abbrev pub AreLegsRising : List LegValue → Type 0
 AreLegsRising leaves = AllPairs (λ l m. list_cmp l.position m.position ≡ Less) leaves

@@ -1,4 +1,4 @@
--- What pairs and blocks in memory stand for.
+-- What pairs and blocks in memory mean.
 use Rattle.std.specs.Prelude.{ℕ, List, map}
 use Rattle.mcv_base.specs.declared.request.ServerId.{ServerId}
 use Rattle.mcv_cert.specs.Pair.{PairValue, pair_of}

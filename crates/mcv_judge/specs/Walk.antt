@@ -4,7 +4,7 @@ use Rattle.std.specs.declared.cmp.Ordering.TheVariants.{Less, Equal, Greater}
 use Rattle.std.specs.Borrow.{Bor}
 use Rattle.mcv_cert.specs.Pair.{ReasonValue, Place, PairValue, index_of, place_of, index_cmp}
 use Rattle.mcv_judge.specs.Reason.{fault_of, is_whole}
-use Rattle.mcv_judge.specs.Faults.{Owed, place_owed}
+use Rattle.mcv_judge.specs.Faults.{Required, place_required}
 use Rattle.mcv_judge.specs.InMemory.{pairs_of}
 use Rattle.mcv_judge.specs.declared.fault.PairFault.{PairFault}
 use Rattle.mcv_judge.specs.declared.fault.PairFault.TheVariants.{Missing, Stray}
@@ -17,14 +17,14 @@ pub record Entry : Type 0 where
   pub size : ℕ
   pub judge : ReasonValue → Option PairFault
 
-abbrev pub entry_from : ℕ → Owed → Entry
-entry_from i o = record { place = place_owed o; from = i; size = length o.leaf.servers; judge = fault_of o.block o.leaf }
+abbrev pub entry_from : ℕ → Required → Entry
+entry_from i o = record { place = place_required o; from = i; size = length o.leaf.servers; judge = fault_of o.block o.leaf }
 
-abbrev pub entries : List Owed → List Entry
+abbrev pub entries : List Required → List Entry
 entries os = map (entry_from 0) os
 
 -- the entry of a leaf from an index on, if there are indexes left
-abbrev pub entries_left : ℕ → Owed → List Entry
+abbrev pub entries_left : ℕ → Required → List Entry
 entries_left i o = if nat_lt i (length o.leaf.servers) then entry_from i o ∷ [] else []
 
 -- what is left once a reason was given for the first entry's index

@@ -1,7 +1,7 @@
 //! The pairs of a certificate beside the readable leaves of blocks.
 
 ghost use Rattle.std.specs.Prelude.{◌≡◌, ◌∷◌, List, [], map, IfOk, IfErr, MatchResult};
-ghost use Rattle.mcv_judge.specs.Faults.{AreInOrder, AreLegsRising, HaveSameFaults, IsFaultless, IsFirstFault, IsInOrder, owe, owed_by, place_owed};
+ghost use Rattle.mcv_judge.specs.Faults.{AreInOrder, AreLegsRising, HaveSameFaults, IsFaultless, IsFirstFault, IsInOrder, place_required, require, required_by};
 ghost use Rattle.mcv_judge.specs.InMemory.{block_of, leg_of, legs_of, pairs_of};
 ghost use Rattle.mcv_cert.specs.Pair.{AreRising, index_of, index_cmp, pair_of, place_of};
 ghost use Rattle.mcv_judge.specs.Reason.{BlockValue};
@@ -13,10 +13,10 @@ use crate::reasons::{is_whole, judge_reason, unless};
 use mcv_cert::Pair;
 use std::cmp::Ordering;
 
-/// Where a pair stands against an index of a leaf.
+/// How a pair compares with an index of a leaf.
 #[tactic(auto, unfolding(mcv_cert::specs::Pair::place_cmp))]
 fn compare(pair: &Pair, block: &Block, leaf: &Leg, index: usize) -> Ordering
-    ensures { let r = pair_of pair.now in result ≡ index_cmp (place_of r) (index_of r.reason) (place_owed (owe (block_of block.now) (leg_of leaf.now))) index }
+    ensures { let r = pair_of pair.now in result ≡ index_cmp (place_of r) (index_of r.reason) (place_required (require (block_of block.now) (leg_of leaf.now))) index }
 {
     pair.route
         .cmp(&block.route)
@@ -30,7 +30,7 @@ fn compare(pair: &Pair, block: &Block, leaf: &Leg, index: usize) -> Ordering
 #[tactic(auto, using(crate::proofs::Servers::servers_counted))]
 fn walk_leaf<'a>(block: &Block, leaf: &Leg, pairs: &'a [Pair]) -> Result<&'a [Pair], PairFault>
     requires { AreLegsRising (legs_of block.now.acknowledged.now) }
-    ensures { walked result ≡ walk (pairs_of pairs.now) (entries_left 0 (owe (block_of block.now) (leg_of leaf.now))) }
+    ensures { walked result ≡ walk (pairs_of pairs.now) (entries_left 0 (require (block_of block.now) (leg_of leaf.now))) }
 {
     let mut pairs = pairs;
     for index in 0..leaf.servers.len() {
@@ -54,7 +54,7 @@ fn walk_leaf<'a>(block: &Block, leaf: &Leg, pairs: &'a [Pair]) -> Result<&'a [Pa
 /// The pairs behind those of the block.
 fn walk_block<'a>(block: &Block, pairs: &'a [Pair]) -> Result<&'a [Pair], PairFault>
     requires { IsInOrder (block_of block.now) }
-    ensures { walked result ≡ walk (pairs_of pairs.now) (entries (owed_by (block_of block.now))) }
+    ensures { walked result ≡ walk (pairs_of pairs.now) (entries (required_by (block_of block.now))) }
 {
     let mut pairs = pairs;
     let leaves = block.readable;
@@ -86,7 +86,7 @@ pub fn judge_end(pairs: &[Pair]) -> Result<(), PairFault>
     unless(pairs.is_empty(), PairFault::Stray)
 }
 
-/// Judges a certificate against all blocks of a configuration: Ok where no fault stands anywhere, else the first.
+/// Judges a certificate against all blocks of a configuration: Ok where no fault is anywhere, else the first.
 pub fn judge(blocks: &[Block], pairs: &[Pair]) -> Result<(), PairFault>
     requires blocks { AreInOrder (map block_of blocks.now) }
     requires pairs { AreRising (pairs_of pairs.now) }

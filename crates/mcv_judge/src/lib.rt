@@ -3,7 +3,7 @@
 //! What the routes have comes as blocks, one for each route, class and era: the readable leaves, the
 //! acknowledged ones, and whether a delete can be acknowledged. `judge_block` takes the pairs of one block, so
 //! blocks can be made and dropped one at a time; `judge_end` says what pairs that are left mean. Judging takes no
-//! memory: a leaf is found by binary search. Which fault stands at which place is `fault_at` (specs/Faults.antt).
+//! memory: a leaf is found by binary search. Which fault is at which place is `fault_at` (specs/Faults.antt).
 #![tactic(auto)]
 
 mod block;

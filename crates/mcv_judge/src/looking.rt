@@ -11,14 +11,14 @@ use crate::block::Leg;
 use mcv_base::{Position, ServerId};
 use std::cmp::Ordering;
 
-/// Where a leg stands against a position.
+/// How a leg compares with a position.
 fn by_position(leg: &Leg, position: &Position) -> Ordering
     ensures { result ≡ list_cmp leg.now.position.now position.now }
 {
     leg.position.steps().cmp(position.steps())
 }
 
-/// The number of the leg at a position, or where one would stand.
+/// The number of the leg at a position, or where one would be.
 fn search<'a>(legs: &'a [Leg<'a>], position: &Position) -> Result<usize, usize>
     requires { AreLegsRising (legs_of legs.now) }
     ensures { MatchResult result (λ i. (i < length legs.now) × ((d : Leg) → leg_at (legs_of legs.now) position.now ≡ Some (leg_of (slice_index_or legs.now i d)))) (λ _. leg_at (legs_of legs.now) position.now ≡ None) }

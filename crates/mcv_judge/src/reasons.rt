@@ -21,7 +21,7 @@ pub fn is_whole(reason: &Reason) -> bool
     matches!(reason, Reason::Never | Reason::Twin(_))
 }
 
-/// Whether no leg stands at one of the positions.
+/// Whether no leg is at one of the positions.
 fn is_one_missing<'a>(legs: &'a [Leg<'a>], positions: &[Position]) -> bool
     requires { AreLegsRising (legs_of legs.now) }
     ensures { result ≡ is_one_missing (legs_of legs.now) positions.now }

@@ -1,4 +1,4 @@
--- The first entry that passes a test stands at the first place that does.
+-- The first entry that passes a test is at the first place that does.
 use Rattle.std.proofs.Common.{◌≡◌, ◌∙◌, ℕ, zero, suc, ◌≤◌, Bool, true, false, nat_lt, List, [], ◌∷◌, length, Some, None, slice_get, refl, ap, arith, cond, find}
 use Rattle.std.specs.Prelude.{position}
 use Rattle.std.specs.List.{position_or_len}

@@ -11,8 +11,8 @@ use Rattle.mcv_base.specs.Key.{is_key_word}
 use Rattle.mcv_names.specs.declared.fault.ConfigFault.{ConfigFault}
 use Rattle.mcv_config.specs.Config.{size_limit}
 use Rattle.mcv_input.proofs.Whole.{too_long_is_all, whole}
-use Rattle.mcv_legs.specs.declared.fault.RunFault.{RunFault}
-use Rattle.mcv_legs.specs.declared.fault.RunFault.TheVariants.{Line, NoRoute, Config, Memory, Device}
+use Rattle.mcv_input.specs.declared.fault.RunFault.{RunFault}
+use Rattle.mcv_input.specs.declared.fault.RunFault.TheVariants.{Line, NoRoute, Config, CertificateText, Certificate, Memory, Device}
 use Rattle.mcv_legs.specs.Answer.{IsAnswer, IsWithoutRoute}
 use Rattle.mcv_legs.specs.Fault.{IsMisconfigured, IsRunFault}
 use Rattle.mcv_legs.specs.Limits.{input_limit, line_limit}
@@ -38,7 +38,7 @@ key_len key is =
     let short = (key_bytes key is).1 in
     grind (arith, nat_tests)
 
--- what stands before the configuration
+-- what comes before the configuration
 abbrev line_of : Op → List ℕ → List ℕ
 line_of op key = (op_name op ++ space ∷ key) ++ line_feed ∷ []
 
@@ -92,7 +92,7 @@ pub read_whole : (bytes : List ℕ) (op : Op) (prefix rest configuration : List 
 read_whole bytes op prefix rest configuration asks short =
     whole input_limit bytes (omega (arith, asks_len (take input_limit bytes) op prefix rest configuration asks))
 
--- ---- what stands in an input, by its first bytes
+-- ---- what is in an input, by its first bytes
 
 pub answer_of_all : (moment : ℕ) (bytes text : List ℕ) → IsAnswer moment (take input_limit bytes) text → IsAnswer moment bytes text
 answer_of_all moment bytes text answer =
@@ -129,5 +129,7 @@ pub fault_of_all : (bytes : List ℕ) (fault : RunFault) → IsRunFault (take in
 fault_of_all bytes Line is = no_request_of_all bytes is
 fault_of_all bytes NoRoute is = without_route_of_all bytes is
 fault_of_all bytes (Config fault) m = misconfigured_of_all bytes fault m (cases_lt size_limit (length m.configuration))
+fault_of_all bytes (CertificateText fault) is = is
+fault_of_all bytes (Certificate fault) is = is
 fault_of_all bytes Memory is = tt
 fault_of_all bytes Device is = tt

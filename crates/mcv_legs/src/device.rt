@@ -5,7 +5,7 @@ ghost use Rattle.mcv_input.specs.Fault.{IsOutside};
 ghost use Rattle.mcv_legs.specs.Limits.{input_limit};
 
 use mcv_config::SIZE_LIMIT;
-use mcv_input::{InputFault, read_at_most};
+use mcv_input::{RunFault, read_at_most};
 use std::alloc::Global;
 use std::io::Read;
 
@@ -16,7 +16,7 @@ const LINE_LIMIT: usize = 259;
 const INPUT_LIMIT: u64 = (LINE_LIMIT + SIZE_LIMIT + 1) as u64;
 
 /// The first bytes that the reader has left, as many as can matter.
-pub fn read_input<R: Read>(alloc: Global, reader: &mut R) -> Result<Vec<u8>, InputFault>
+pub fn read_input<R: Read>(alloc: Global, reader: &mut R) -> Result<Vec<u8>, RunFault>
     ensures read { IfOk result (λ input. IfSome (R.remaining reader.old) (λ bytes. input.items ≡ take input_limit bytes)) }
     ensures fault { IfErr result IsOutside }
 {

@@ -8,11 +8,10 @@ ghost use Rattle.mcv_legs.specs.Answer.{IsAnswer, entry_for, text_of};
 ghost use Rattle.mcv_legs.specs.Fault.{IsRunFault};
 
 use crate::device::read_input;
-use crate::fault::RunFault;
 use crate::request::read_request;
 use crate::text::legs_text;
 use mcv_base::{Moment, Prefix, hashed_part};
-use mcv_input::{read_routes, write_text};
+use mcv_input::{RunFault, read_routes, write_text};
 use mcv_pools::{Fnv, Servers, choose};
 use mcv_route::{Route, Routes};
 use mcv_rules::{Eval, Outcomes};
@@ -36,7 +35,8 @@ pub fn run_legs<R: Read, W: Write>(
 {
     let input = read_input(alloc, reader)?;
     let text = answer_text(alloc, input.as_slice(), moment)?;
-    Ok(write_text(writer, text.as_slice())?)
+    write_text(writer, text.as_slice())?;
+    Ok(())
 }
 
 /// The text that answers an input.

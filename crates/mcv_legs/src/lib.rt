@@ -6,11 +6,9 @@
 #![tactic(auto)]
 
 mod device;
-mod fault;
 mod legs;
 mod request;
 mod text;
 
-pub use fault::RunFault;
 pub use legs::run_legs;
 pub use request::requests_have_one_reading;

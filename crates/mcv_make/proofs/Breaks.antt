@@ -23,7 +23,7 @@ use Rattle.mcv_symbolic.specs.Justified.{IsNeverAcknowledged}
 use Rattle.mcv_symbolic.specs.Sets.{AreLegsAt, IsAcknowledged, positions_of}
 use Rattle.mcv_symbolic.specs.Structure.{if_all, Acknowledged}
 use Rattle.mcv_symbolic.proofs.Exactness.{acknowledged_is_exact, done_is_exact}
-use Rattle.mcv_symbolic.proofs.Placed.{acknowledged_stands, leaf_of}
+use Rattle.mcv_symbolic.proofs.Placed.{acknowledged_are_there, leaf_of}
 use Rattle.mcv_judge.specs.Reason.{BlockValue, HasReason, LegValue, has_server, is_same_server, server_at}
 use Rattle.mcv_blocks.specs.Blocks.{IsAcknowledgedAt, IsBlockAt, pool_for}
 use Rattle.mcv_blocks.proofs.Complete.{reason_by_leg, reason_by_none, reason_by_symbol}
@@ -66,9 +66,9 @@ module _ (sizes : List ℕ) (t : Tree) (rest : List ℕ) (since : Option ℕ) (p
   in-block l at =
       let acknowledged : IsAcknowledgedAt t rest since l.position = λ c. All-contains (IsAcknowledged t rest since c) (positions_of legs) l.position (are c).only (into_map (λ (m : PlannedLeg). m.position) legs l at) in
       let d = leg_there t (IsAcknowledgedAt t rest since) b.acknowledged block.acknowledged l.position acknowledged in
-      let stands = pool_of_leg t (IsAcknowledgedAt t rest since) b.acknowledged block.acknowledged d.0 d.1 in
+      let pool_there = pool_of_leg t (IsAcknowledgedAt t rest since) b.acknowledged block.acknowledged d.0 d.1 in
       let own = All-contains (λ (m : PlannedLeg). pool_at_position t m.position ≡ Some (pool_of m)) legs l (are any_choice).pools at in
-      (d.0, d.1, same_Some (pool_for d.0) (pool_of l) (sym stands ∙ ap (pool_at_position t) d.2 ∙ own))
+      (d.0, d.1, same_Some (pool_for d.0) (pool_of l) (sym pool_there ∙ ap (pool_at_position t) d.2 ∙ own))
 
   taken-there : (s j : ℕ) → is_taken legs x s j ≡ true → (d : LegValue) × Contains b.acknowledged d × (has_server s (server_at leaf i) j d ≡ true)
   taken-there s j e =
@@ -136,18 +136,18 @@ module _ (sizes : List ℕ) (t : Tree) (rest : List ℕ) (since : Option ℕ) (p
     -- the leg of the delete is one of the acknowledged legs
     in-legs : (l : Leg) → Acknowledged (plan t (asked Delete rest since)) l → (m : PlannedLeg) × Contains legs m × (pool_of m ≡ leaf_of l)
     in-legs l h =
-        let stands = acknowledged_stands t (asked Delete rest since) l refl h in
+        let pool_there = acknowledged_are_there t (asked Delete rest since) l refl h in
         let there = (are any_choice).all l.position ((acknowledged_is_exact t rest since any_choice l.position).1 (l, h, refl)) in
         let m = from_map (λ (k : PlannedLeg). k.position) legs l.position there in
         let pool = All-contains (λ (k : PlannedLeg). pool_at_position t k.position ≡ Some (pool_of k)) legs m.0 (are any_choice).pools m.1 in
-        (m.0, m.1, same_Some (pool_of m.0) (leaf_of l) (sym pool ∙ ap (pool_at_position t) m.2 ∙ stands))
+        (m.0, m.1, same_Some (pool_of m.0) (leaf_of l) (sym pool ∙ ap (pool_at_position t) m.2 ∙ pool_there))
 
     -- no leg of the delete has been sent to the server
     pub unsent : IsSent t rest since chosen (outcomes (answers Good (plan t (asked Delete rest since)))) x → ⊥
     unsent h =
         let l = Missed.sent t rest since chosen x h in
-        let stands = acknowledged_stands t (asked Delete rest since) l.0 refl l.1 in
-        let size = sized l.0.position (leaf_of l.0) stands in
+        let pool_there = acknowledged_are_there t (asked Delete rest since) l.0 refl l.1 in
+        let size = sized l.0.position (leaf_of l.0) pool_there in
         let r = right l.0.symbol size.0 in
         let m = in-legs l.0 l.1 in
         let there : slice_get l.0.servers (chosen l.0.symbol) ≡ Some x = slice_get-get_or l.0.servers (chosen l.0.symbol) 0 (omega (arith, r.0, size.1)) ∙ ap Some l.2 in

@@ -1,4 +1,4 @@
--- The finding of a gap as the code builds it: each part is what is told.
+-- The finding of a gap as the code builds it: each part is what is shown.
 use Rattle.std.proofs.Common.{◌≡◌, ℕ, true, List, ◌++◌, Option, Some, option_map, sym, ap, ◌∙◌}
 use Rattle.std.specs.Prelude.{option_and_then, slice_get}
 use Rattle.std.proofs.lemmas.Option.{same_Some}
@@ -23,8 +23,8 @@ use Rattle.mcv_symbolic.specs.Justified.{IsReadableAt}
 use Rattle.mcv_symbolic.specs.Sets.{AreLegsAt, CanHitAt, IsAcknowledged}
 use Rattle.mcv_witness.specs.Finding.{FindingValue}
 use Rattle.mcv_make.specs.Free.{free_indexes}
-use Rattle.mcv_symbolic.specs.Shown.{answers, leading}
-use Rattle.mcv_make.specs.Told.{IsToldWith}
+use Rattle.mcv_symbolic.specs.Shown.{answers, leaf_hit}
+use Rattle.mcv_make.specs.Shown.{IsShownWith}
 use Rattle.mcv_make.proofs.Gaps as gaps
 
 -- the finding at the gap with these parts
@@ -60,11 +60,11 @@ module _ (r : RoutesValue) (g : Gap) (gap : IsGap r (place_of_gap g) g.at g.serv
     pub reads : IsReadableAt t rest since g.leaf
     reads = gaps.readable r g gap entry rest since numbered (gaps.listed r g gap entry numbered) member opened
 
-    module _ (pool : Pool) (stands : Some pool ≡ leaf_in r g.route g.leaf) (prefix key choice : List ℕ) (op : Op) (read deleted : History) (legs : List PlannedLeg) where
-      pub told : IsRest rest → key ≡ prefix ++ rest → ((c : Choice) → AreLegsAt t (IsAcknowledged t rest since c) legs) → choice ≡ free_indexes legs g.server.0 pool.symbol g.at 0 r.symbols
-          → is_reading op ≡ true → (op ≡ Gets → (c : Choice) → CanHitAt t (asked Get rest since) c g.leaf → ⊥) → leading g.leaf (plan t (asked op rest since)) ≡ Some read
-          → deleted ≡ answers Good (plan t (asked Delete rest since)) → IsToldWith r prefix (finding_at g key choice op read deleted)
-      told rest_is is_key are is_choice reading first led done = record {
+    module _ (pool : Pool) (pool_there : Some pool ≡ leaf_in r g.route g.leaf) (prefix key choice : List ℕ) (op : Op) (read deleted : History) (legs : List PlannedLeg) where
+      pub is_shown : IsRest rest → key ≡ prefix ++ rest → ((c : Choice) → AreLegsAt t (IsAcknowledged t rest since c) legs) → choice ≡ free_indexes legs g.server.0 pool.symbol g.at 0 r.symbols
+          → is_reading op ≡ true → (op ≡ Gets → (c : Choice) → CanHitAt t (asked Get rest since) c g.leaf → ⊥) → leaf_hit g.leaf (plan t (asked op rest since)) ≡ Some read
+          → deleted ≡ answers Good (plan t (asked Delete rest since)) → IsShownWith r prefix (finding_at g key choice op read deleted)
+      is_shown rest_is is_key are is_choice reading first led done = record {
         entry = entry;
         rest = rest;
         since = since;
@@ -76,7 +76,7 @@ module _ (r : RoutesValue) (g : Gap) (gap : IsGap r (place_of_gap g) g.at g.serv
         rest_is = rest_is;
         opened = opened;
         key = is_key;
-        stands = sym (stands ∙ ap (option_and_then (λ (x : RouteEntry). pool_at_position x.tree g.leaf)) numbered);
+        pool_there = sym (pool_there ∙ ap (option_and_then (λ (x : RouteEntry). pool_at_position x.tree g.leaf)) numbered);
         are = are;
         choice = is_choice;
         reading = reading;

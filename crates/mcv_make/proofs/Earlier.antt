@@ -10,7 +10,7 @@ use Rattle.mcv_base.specs.declared.operation.Op.TheVariants.{Get, Gets, Set, Add
 use Rattle.mcv_base.specs.declared.reply.Outcome.TheVariants.{Good, Error}
 use Rattle.mcv_blocks.specs.Blocks.{IsBlockAt, IsPlaceOf, pool_for}
 use Rattle.mcv_blocks.specs.Spots.{IsBlockFor, Spot, spot}
-use Rattle.mcv_blocks.proofs.Along.{class-there}
+use Rattle.mcv_blocks.proofs.BlocksOfSpots.{class-there}
 use Rattle.mcv_blocks.proofs.Existing.{block_exists}
 use Rattle.mcv_blocks.proofs.PoolSizes.{AreSized, entry_sized}
 use Rattle.mcv_blocks.proofs.Sound.{answers}
@@ -23,10 +23,10 @@ use Rattle.mcv_classes.specs.Words.{class_words}
 use Rattle.mcv_classes.proofs.Alike.{alike_are_replied, alike_are_sent}
 use Rattle.mcv_classes.proofs.Existence.{rests_have_classes}
 use Rattle.mcv_classes.proofs.Members.{members_are_inside, one_class}
-use Rattle.mcv_judge.specs.Faults.{owe, place_owed}
+use Rattle.mcv_judge.specs.Faults.{require, place_required}
 use Rattle.mcv_judge.specs.Reason.{BlockValue, HasReason, LegValue, server_at}
 use Rattle.mcv_make.specs.First.{IsFirstFinding}
-use Rattle.mcv_make.specs.Place.{StandsAtGap, place_of}
+use Rattle.mcv_make.specs.Place.{IsAtGap, place_of}
 use Rattle.mcv_route.specs.Launched.{launched}
 use Rattle.mcv_route.specs.Outcomes.{Choice, History, Outcomes, outcomes}
 use Rattle.mcv_route.specs.Places.{pool_at_position}
@@ -120,33 +120,33 @@ module _ (r : RoutesValue) (sound : IsSoundRoutes r) (f : FindingValue) (b : Bre
   since = b.since
 
   entry : (e : RouteEntry) × (slice_get r.entries f.route ≡ Some e) × (e.tree ≡ t)
-  entry = entry_at r.entries f.route t b.stands.route
+  entry = entry_at r.entries f.route t b.placed.route
 
   member : (m : List ℕ) × IsMember (class_words t) f.class (Some m)
   member =
-      let h = rests_have_classes t b.rest b.stands.rest_is.key b.stands.rest_is.bytes in
-      (h.1, subst (λ w. IsMember (class_words t) w (Some h.1)) (one_class (class_words t) b.rest h.0 f.class h.2 b.stands.class) h.3)
+      let h = rests_have_classes t b.rest b.placed.rest_is.key b.placed.rest_is.bytes in
+      (h.1, subst (λ w. IsMember (class_words t) w (Some h.1)) (one_class (class_words t) b.rest h.0 f.class h.2 b.placed.class) h.3)
 
   abbrev rest : List ℕ
   rest = member.0
 
   inside : IsClassWord (class_words t) rest f.class
-  inside = (members_are_inside t f.class rest member.1 b.stands.class.listed).0
+  inside = (members_are_inside t f.class rest member.1 b.placed.class.listed).0
 
   alike : AreAlike t b.rest rest
-  alike = (f.class, b.stands.class, inside)
+  alike = (f.class, b.placed.class, inside)
 
   back : AreAlike t rest b.rest
-  back = (f.class, inside, b.stands.class)
+  back = (f.class, inside, b.placed.class)
 
   place : IsPlaceOf r f.route f.class f.era t rest since
-  place = record { entry = entry.0; numbered = entry.1; has_tree = entry.2; listed = b.stands.class.listed; has_member = member.1; opened = b.stands.era }
+  place = record { entry = entry.0; numbered = entry.1; has_tree = entry.2; listed = b.placed.class.listed; has_member = member.1; opened = b.placed.era }
 
   abbrev here : Spot
   here = spot (record { route = f.route; class = record { word = f.class; member = Some rest } }) f.era
 
   block : (d : BlockValue) × IsBlockFor r here d
-  block = block_exists r here (class-there r f.route f.class f.era t rest since place, (since, b.stands.era))
+  block = block_exists r here (class-there r f.route f.class f.era t rest since place, (since, b.placed.era))
 
   has : IsBlockAt t rest since block.0
   has = block_has r f.route f.class f.era t rest since place block.0 block.1.is block.1.route block.1.class block.1.era
@@ -160,11 +160,11 @@ module _ (r : RoutesValue) (sound : IsSoundRoutes r) (f : FindingValue) (b : Bre
   leaf : (l : LegValue) × Contains block.0.readable l × (l.position ≡ f.leaf)
   leaf = leg_there t (IsReadableAt t rest since) block.0.readable has.readable f.leaf readable
 
-  stands : pool_at_position t leaf.0.position ≡ Some (pool_for leaf.0)
-  stands = pool_of_leg t (IsReadableAt t rest since) block.0.readable has.readable leaf.0 leaf.1
+  pool_there : pool_at_position t leaf.0.position ≡ Some (pool_for leaf.0)
+  pool_there = pool_of_leg t (IsReadableAt t rest since) block.0.readable has.readable leaf.0 leaf.1
 
   same_pool : b.leaf.pool ≡ pool_for leaf.0
-  same_pool = same_Some b.leaf.pool (pool_for leaf.0) (sym b.leaf.stands ∙ ap (pool_at_position t) (sym leaf.2) ∙ stands)
+  same_pool = same_Some b.leaf.pool (pool_for leaf.0) (sym b.leaf.pool_there ∙ ap (pool_at_position t) (sym leaf.2) ∙ pool_there)
 
   server : server_at leaf.0 f.at ≡ Some f.server
   server = ap (λ (q : Pool). slice_get q.servers f.at) (sym same_pool) ∙ b.leaf.server
@@ -186,7 +186,7 @@ module _ (r : RoutesValue) (sound : IsSoundRoutes r) (f : FindingValue) (b : Bre
   -- a reason would have had the delete sent
   unanswered : HasReason block.0 leaf.0 f.at → ⊥
   unanswered h =
-      elim (answers (sizes_of r) t rest since sized block.0 has leaf.0 (sized leaf.0.position (pool_for leaf.0) stands).0 f.at h) [
+      elim (answers (sizes_of r) t rest since sized block.0 has leaf.0 (sized leaf.0.position (pool_for leaf.0) pool_there).0 f.at h) [
         | inl never ↦ never (chosen f) (outcomes f.deletes, reached, done)
         | inr answered ↦
             b.missed.unsent
@@ -194,11 +194,11 @@ module _ (r : RoutesValue) (sound : IsSoundRoutes r) (f : FindingValue) (b : Bre
             (answered_sent t rest since (chosen f) (outcomes f.deletes) reached done (sizes_of r) (pool_for leaf.0) f.at f.server b.choice index (get_or_from_slice_get leaf.0.servers f.at f.server 0 server) answered))
       ]
 
-  placed : place_owed (owe block.0 leaf.0) ≡ place_of f
+  placed : place_required (require block.0 leaf.0) ≡ place_of f
   placed = λ i. record { route = block.1.route i; class = block.1.class i; era = block.1.era i; leaf = leaf.2 i }
 
   pub finding_is_gap : IsGap r (place_of f) f.at f.server
-  finding_is_gap = record { block = block.0; leaf = leaf.0; stands = block.1.is; readable = leaf.1; placed = placed; has = server; unanswered = unanswered }
+  finding_is_gap = record { block = block.0; leaf = leaf.0; block_is = block.1.is; readable = leaf.1; placed = placed; has = server; unanswered = unanswered }
 
 -- ---- the first
 
@@ -206,5 +206,5 @@ pub first_finding : (r : RoutesValue) → IsSoundRoutes r → (f : FindingValue)
 first_finding r sound f gap breaks = record { breaks = breaks; first = λ g less other. gap.first (place_of g) g.at g.server less (finding_is_gap r sound g other) }
 
 -- the finding of the first gap
-pub first_of_gap : (r : RoutesValue) → IsSoundRoutes r → (g : Gap) (f : FindingValue) → IsFirstGap r (place_of_gap g) g.at g.server.0 → StandsAtGap g f → BreaksCoverage r f → IsFirstFinding r f
+pub first_of_gap : (r : RoutesValue) → IsSoundRoutes r → (g : Gap) (f : FindingValue) → IsFirstGap r (place_of_gap g) g.at g.server.0 → IsAtGap g f → BreaksCoverage r f → IsFirstFinding r f
 first_of_gap r sound g f gap at breaks = first_finding r sound f (at-finding (IsFirstGap r) g f at gap) breaks

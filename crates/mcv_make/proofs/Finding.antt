@@ -28,12 +28,12 @@ use Rattle.mcv_route.proofs.Selected.{is-alias, selects as selects-route}
 use Rattle.mcv_rules.specs.Plans.{plan}
 use Rattle.mcv_symbolic.specs.Covered.{sizes_of}
 use Rattle.mcv_symbolic.specs.Justified.{IsReadableAt}
-use Rattle.mcv_witness.specs.Breaks.{BreaksCoverage, IsLeafOf, IsMissed, IsRead, StandsAt}
+use Rattle.mcv_witness.specs.Breaks.{BreaksCoverage, IsLeafOf, IsMissed, IsRead, IsAtPlace}
 use Rattle.mcv_witness.specs.Finding.{FindingValue}
 use Rattle.mcv_make.specs.Free.{free_indexes}
 use Rattle.mcv_symbolic.specs.Shown.{answers}
-use Rattle.mcv_make.specs.Place.{StandsAtGap, place_of}
-use Rattle.mcv_make.specs.Told.{IsToldWith}
+use Rattle.mcv_make.specs.Place.{IsAtGap, place_of}
+use Rattle.mcv_make.specs.Shown.{IsShownWith}
 use Rattle.mcv_make.proofs.Breaks as gaps
 use Rattle.mcv_make.proofs.Gaps.{at-finding}
 use Rattle.mcv_make.proofs.KeyWord.{key-word}
@@ -48,7 +48,7 @@ prefix-some [] h = absurd (nil-cons slash (h.first ++ slash ∷ h.second ++ slas
 prefix-some (x ∷ p) h = omega arith
 
 module _ (r : RoutesValue) (sound : IsSoundRoutes r) (limits : AreWithinLimits r) (positive : All (λ n. 0 < n) (sizes_of r)) (f : FindingValue) (prefix : List ℕ) (gap : IsGap r (place_of f) f.at f.server)
-    (alias : IsAlias prefix) (short : length prefix ≤ alias_limit) (selects : route_of_prefix prefix r.entries ≡ Some f.route) (built : IsToldWith r prefix f) where
+    (alias : IsAlias prefix) (short : length prefix ≤ alias_limit) (selects : route_of_prefix prefix r.entries ≡ Some f.route) (built : IsShownWith r prefix f) where
   abbrev tree : Tree
   tree = built.entry.tree
 
@@ -68,19 +68,19 @@ module _ (r : RoutesValue) (sound : IsSoundRoutes r) (limits : AreWithinLimits r
   place = record { entry = built.entry; numbered = built.numbered; has_tree = refl; listed = built.listed; has_member = built.member; opened = built.opened }
 
   block : IsBlockAt tree built.rest built.since b
-  block = block_has r f.route f.class f.era tree built.rest built.since place b gap.stands (ap (λ (p : Place). p.route) gap.placed) (ap (λ (p : Place). p.class) gap.placed) (ap (λ (p : Place). p.era) gap.placed)
+  block = block_has r f.route f.class f.era tree built.rest built.since place b gap.block_is (ap (λ (p : Place). p.route) gap.placed) (ap (λ (p : Place). p.class) gap.placed) (ap (λ (p : Place). p.era) gap.placed)
 
-  leaf-stands : pool_at_position tree leaf.position ≡ Some (pool_for leaf)
-  leaf-stands = pool_of_leg tree (IsReadableAt tree built.rest built.since) b.readable block.readable leaf gap.readable
+  leaf-pool : pool_at_position tree leaf.position ≡ Some (pool_for leaf)
+  leaf-pool = pool_of_leg tree (IsReadableAt tree built.rest built.since) b.readable block.readable leaf gap.readable
 
   same-pool : built.pool ≡ pool_for leaf
-  same-pool = same_Some built.pool (pool_for leaf) (sym built.stands ∙ ap (pool_at_position tree) (sym at-leaf) ∙ leaf-stands)
+  same-pool = same_Some built.pool (pool_for leaf) (sym built.pool_there ∙ ap (pool_at_position tree) (sym at-leaf) ∙ leaf-pool)
 
   sized : AreSized (sizes_of r) tree
   sized = entry_sized r built.entry sound there
 
   size : (leaf.symbol < length (sizes_of r)) × (slice_index (sizes_of r) leaf.symbol ≡ length leaf.servers)
-  size = sized leaf.position (pool_for leaf) leaf-stands
+  size = sized leaf.position (pool_for leaf) leaf-pool
 
   low : f.at < slice_index (sizes_of r) leaf.symbol
   low = let within = slice_get_within leaf.servers f.at f.server gap.has in omega (arith, within, size.1)
@@ -88,8 +88,8 @@ module _ (r : RoutesValue) (sound : IsSoundRoutes r) (limits : AreWithinLimits r
   same-choice : free_indexes built.legs f.server leaf.symbol f.at 0 r.symbols ≡ f.choice
   same-choice = sym (built.choice ∙ ap (λ (q : Pool). free_indexes built.legs f.server q.symbol f.at 0 r.symbols) same-pool)
 
-  stands : StandsAt r f tree built.rest built.since
-  stands =
+  placed : IsAtPlace r f tree built.rest built.since
+  placed =
       let inside = members_are_inside tree f.class built.rest built.member built.listed in
       let within : IsWithin depth_limit tree = All-contains (λ (e : RouteEntry). IsWithin depth_limit e.tree) r.entries built.entry limits.levels there in
       let word = key-word depth_limit tree f.class built.rest prefix within built.listed built.member inside.1 alias (prefix-some prefix alias.prefix) short in
@@ -107,7 +107,7 @@ module _ (r : RoutesValue) (sound : IsSoundRoutes r) (limits : AreWithinLimits r
   is-leaf : IsLeafOf f tree
   is-leaf = record {
     pool = built.pool;
-    stands = built.stands;
+    pool_there = built.pool_there;
     index =
         ap (λ (q : Pool). slice_index f.choice q.symbol) same-pool
         ∙ ap (λ (ns : List ℕ). slice_index ns leaf.symbol) (sym same-choice)
@@ -139,7 +139,7 @@ module _ (r : RoutesValue) (sound : IsSoundRoutes r) (limits : AreWithinLimits r
     tree = tree;
     rest = built.rest;
     since = built.since;
-    stands = stands;
+    placed = placed;
     choice = subst (λ (ns : List ℕ). IsChoice (sizes_of r) (slice_index ns)) same-choice
         (gaps.is-choice (sizes_of r) tree built.rest built.since positive sized b block leaf f.at f.server gap.has gap.unanswered built.legs built.are r.symbols refl size.0 low);
     leaf = is-leaf;
@@ -147,10 +147,10 @@ module _ (r : RoutesValue) (sound : IsSoundRoutes r) (limits : AreWithinLimits r
     missed = missed;
   }
 
--- what is told of a gap with the first routing prefix of its route breaks coverage
-pub breaks-at : (r : RoutesValue) → IsSoundRoutes r → AreWithinLimits r → All (λ n. 0 < n) (sizes_of r) → (g : Gap) (f : FindingValue) (prefix : List ℕ) → IsGap r (place_of_gap g) g.at g.server.0 → StandsAtGap g f
-    → AreSelected r.entries → first_alias r g.route ≡ Some prefix → IsToldWith r prefix f → BreaksCoverage r f
-breaks-at r sound limits positive g f prefix gap at selected first told =
+-- the finding that is shown of a gap with the first routing prefix of its route breaks coverage
+pub breaks-at : (r : RoutesValue) → IsSoundRoutes r → AreWithinLimits r → All (λ n. 0 < n) (sizes_of r) → (g : Gap) (f : FindingValue) (prefix : List ℕ) → IsGap r (place_of_gap g) g.at g.server.0 → IsAtGap g f
+    → AreSelected r.entries → first_alias r g.route ≡ Some prefix → IsShownWith r prefix f → BreaksCoverage r f
+breaks-at r sound limits positive g f prefix gap at selected first shown =
     let alias = is-alias r g.route prefix selected first in
     let selects : route_of_prefix prefix r.entries ≡ Some f.route = subst (λ n. route_of_prefix prefix r.entries ≡ Some n) (sym at.route) (selects-route r g.route prefix selected first) in
-    breaks r sound limits positive f prefix (at-finding (IsGap r) g f at gap) alias.0 alias.1 selects told
+    breaks r sound limits positive f prefix (at-finding (IsGap r) g f at gap) alias.0 alias.1 selects shown

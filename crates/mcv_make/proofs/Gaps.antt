@@ -15,10 +15,10 @@ use Rattle.mcv_certify.specs.declared.gap.Gap.{Gap}
 use Rattle.mcv_route.specs.Routes.{RouteEntry, RoutesValue}
 use Rattle.mcv_symbolic.specs.Justified.{IsReadableAt}
 use Rattle.mcv_witness.specs.Finding.{FindingValue}
-use Rattle.mcv_make.specs.Place.{StandsAtGap, place_of}
+use Rattle.mcv_make.specs.Place.{IsAtGap, place_of}
 
--- what holds at the gap's place and index, of its server, holds at those of a finding that stands there
-pub at-finding : (P : Place → ℕ → ℕ → Type 0) (g : Gap) (f : FindingValue) → StandsAtGap g f → P (place_of_gap g) g.at g.server.0 → P (place_of f) f.at f.server
+-- what holds at the gap's place and index, of its server, holds at those of a finding that is there
+pub at-finding : (P : Place → ℕ → ℕ → Type 0) (g : Gap) (f : FindingValue) → IsAtGap g f → P (place_of_gap g) g.at g.server.0 → P (place_of f) f.at f.server
 at-finding P g f at h =
     let same_place : place_of_gap g ≡ place_of f = λ i. record { route = sym at.route i; class = sym at.class i; era = sym at.era i; leaf = sym at.leaf i } in
     subst (P (place_of f) f.at) (sym at.server) (subst (λ j. P (place_of f) j g.server.0) (sym at.at) (subst (λ p. P p g.at g.server.0) same_place h))
@@ -44,24 +44,24 @@ module _ (r : RoutesValue) (g : Gap) (gap : IsGap r (place_of_gap g) g.at g.serv
 
   -- the entry of the gap's route
   abbrev pub entry : RouteEntry
-  entry = gap.stands.place.entry
+  entry = gap.block_is.place.entry
 
   pub numbered : slice_get r.entries g.route ≡ Some entry
-  numbered = subst (λ n. slice_get r.entries n ≡ Some entry) at-route gap.stands.place.numbered
+  numbered = subst (λ n. slice_get r.entries n ≡ Some entry) at-route gap.block_is.place.numbered
 
   -- the gap's class is one of its route
   pub listed : (e : RouteEntry) → slice_get r.entries g.route ≡ Some e → Contains (class_words e.tree) g.class.items
   listed e here =
-      let place = gap.stands.place in
+      let place = gap.block_is.place in
       let same : entry ≡ e = same_Some entry e (sym numbered ∙ here) in
-      subst (λ x. Contains (class_words x.tree) g.class.items) same (subst (λ t. Contains (class_words t) g.class.items) (sym place.has_tree) (subst (Contains (class_words gap.stands.tree)) at-class place.listed))
+      subst (λ x. Contains (class_words x.tree) g.class.items) same (subst (λ t. Contains (class_words t) g.class.items) (sym place.has_tree) (subst (Contains (class_words gap.block_is.tree)) at-class place.listed))
 
   pub has_era : HasEra r g.era
-  has_era = (gap.stands.since, subst (λ n. IsEraOf r n gap.stands.since) at-era gap.stands.place.opened)
+  has_era = (gap.block_is.since, subst (λ n. IsEraOf r n gap.block_is.since) at-era gap.block_is.place.opened)
 
   module _ (e : RouteEntry) (rest : List ℕ) (since : Option ℕ) (here : slice_get r.entries g.route ≡ Some e) (listed : Contains (class_words e.tree) g.class.items) (member : IsMember (class_words e.tree) g.class.items (Some rest)) (opened : IsEraOf r g.era since) where
     block : IsBlockAt e.tree rest since b
-    block = block_has r g.route g.class.items g.era e.tree rest since (record { entry = e; numbered = here; has_tree = refl; listed = listed; has_member = member; opened = opened }) b gap.stands at-route at-class at-era
+    block = block_has r g.route g.class.items g.era e.tree rest since (record { entry = e; numbered = here; has_tree = refl; listed = listed; has_member = member; opened = opened }) b gap.block_is at-route at-class at-era
 
     -- the leaf can be read at the member
     pub readable : IsReadableAt e.tree rest since g.leaf

@@ -1,5 +1,5 @@
 pub mod Ordered
-pub mod Leading
+pub mod ShownHits
 pub mod Missed
 pub mod Reading
 pub mod Chosen

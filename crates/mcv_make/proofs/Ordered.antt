@@ -1,4 +1,4 @@
--- Outcomes stand in the order of their positions.
+-- Outcomes come in the order of their positions.
 use Rattle.std.proofs.Common.{ℕ, Bool, true, false, List, [], ◌∷◌, ◌++◌, map, sym, subst}
 use Rattle.std.specs.Prelude.{if◌then◌else◌}
 use Rattle.std.proofs.lemmas.List.{map-append}

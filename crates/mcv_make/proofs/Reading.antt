@@ -19,8 +19,8 @@ use Rattle.mcv_symbolic.specs.Sets.{CanHitAt}
 use Rattle.mcv_symbolic.proofs.Exactness.{hits_are_exact}
 use Rattle.mcv_symbolic.proofs.Sized.{formed, sizes_for}
 use Rattle.mcv_witness.specs.Breaks.{AreRising}
-use Rattle.mcv_symbolic.specs.Shown.{leading}
-use Rattle.mcv_make.proofs.Leading.{HasHitAt, leading_right, shown}
+use Rattle.mcv_symbolic.specs.Shown.{leaf_hit}
+use Rattle.mcv_make.proofs.ShownHits.{HasHitAt, leaf_hit_right, shown}
 use Rattle.mcv_make.proofs.Ordered.{are-rising}
 
 module _ (t : Tree) (op : Op) (rest : List ℕ) (since : Option ℕ) (p : List ℕ) where
@@ -28,16 +28,16 @@ module _ (t : Tree) (op : Op) (rest : List ℕ) (since : Option ℕ) (p : List �
   get = plan t (asked op rest since)
 
   -- where the leaf can hit, outcomes are shown
-  pub is-shown : (c : Choice) → CanHitAt t (asked op rest since) c p → (es : History) × (leading p get ≡ Some es)
+  pub is-shown : (c : Choice) → CanHitAt t (asked op rest since) c p → (es : History) × (leaf_hit p get ≡ Some es)
   is-shown c h = let k = (hits_are_exact t op rest since c p).0 h in shown p get k.0 (Sound.plan_sound (sizes_for t) t op rest since (formed t)).3 k.2 k.1
 
   -- where none are shown, it can't
-  pub cannot : (c : Choice) → leading p get ≡ None → CanHitAt t (asked op rest since) c p → ⊥
+  pub cannot : (c : Choice) → leaf_hit p get ≡ None → CanHitAt t (asked op rest since) c p → ⊥
   cannot c none h = let s = is-shown c h in none-some s.0 (sym none ∙ s.1)
 
-  module _ (es : History) (led : leading p get ≡ Some es) where
+  module _ (es : History) (led : leaf_hit p get ≡ Some es) where
     has : HasHitAt p get es
-    has = let s = Sound.plan_sound (sizes_for t) t op rest since (formed t) in leading_right p get es s.2 s.3 led
+    has = let s = Sound.plan_sound (sizes_for t) t op rest since (formed t) in leaf_hit_right p get es s.2 s.3 led
 
     pub reached : (c : Choice) → IsReachable t (asked op rest since) c (outcomes es)
     reached c = Verdicts.planned_reachable t (asked op rest since) c (outcomes es) (Orders.closed_reachable get c (outcomes es) (λ q y e. has.shows.sent c (outcomes es) (λ r j. refl) q y e))
@@ -49,6 +49,6 @@ module _ (t : Tree) (op : Op) (rest : List ℕ) (since : Option ℕ) (p : List �
     rises = are-rising (positions get) es (plan_rises t (asked op rest since)) has.ordered
 
 -- a leaf that can be read is shown to hit by get or by gets
-pub one-reads : (t : Tree) (rest : List ℕ) (since : Option ℕ) (p : List ℕ) → leading p (plan t (asked Get rest since)) ≡ None → leading p (plan t (asked Gets rest since)) ≡ None → IsReadableAt t rest since p → ⊥
+pub one-reads : (t : Tree) (rest : List ℕ) (since : Option ℕ) (p : List ℕ) → leaf_hit p (plan t (asked Get rest since)) ≡ None → leaf_hit p (plan t (asked Gets rest since)) ≡ None → IsReadableAt t rest since p → ⊥
 one-reads t rest since p by-get by-gets (c, inl h) = cannot t Get rest since p c by-get h
 one-reads t rest since p by-get by-gets (c, inr h) = cannot t Gets rest since p c by-gets h

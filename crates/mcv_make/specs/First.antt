@@ -1,4 +1,4 @@
--- What is told of routes that aren't covered: the first finding (own).
+-- What is shown of routes that aren't covered: the first finding (own).
 use Rattle.std.specs.Prelude.{◌≡◌}
 use Rattle.std.specs.declared.cmp.Ordering.TheVariants.{Less}
 use Rattle.mcv_cert.specs.Pair.{index_cmp}
@@ -15,7 +15,7 @@ pub record IsFirstFinding (r : RoutesValue) (f : FindingValue) : Type 0 where
   pub breaks : BreaksCoverage r f
   pub first : (g : FindingValue) → index_cmp (place_of g) g.at (place_of f) f.at ≡ Less → BreaksCoverage r g → ⊥
 
--- what is told to be lost is a first finding
+-- what is shown to be lost is a first finding
 abbrev pub IsRightLoss : RoutesValue → MakeFault → Type 0
 IsRightLoss r (Lost f) = IsFirstFinding r (finding_of f)
 IsRightLoss r Memory = Unit {0}

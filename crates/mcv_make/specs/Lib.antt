@@ -1,4 +1,4 @@
 pub mod Free
 pub mod Place
 pub mod First
-pub mod Told
+pub mod Shown

@@ -1,4 +1,4 @@
--- Where a finding stands, and that of a gap (own).
+-- Where a finding is, and that of a gap (own).
 use Rattle.std.specs.Prelude.{◌≡◌, ℕ, List, Some}
 use Rattle.mcv_cert.specs.Pair.{Place}
 use Rattle.mcv_classes.specs.Class.{IsMember}
@@ -10,7 +10,7 @@ abbrev pub place_of : FindingValue → Place
 place_of f = record { route = f.route; class = f.class; era = f.era; leaf = f.leaf }
 
 -- at the gap's route, class, era, leaf and index, and it loses the same server
-pub record StandsAtGap (g : Gap) (f : FindingValue) : Type 0 where
+pub record IsAtGap (g : Gap) (f : FindingValue) : Type 0 where
   pub route : f.route ≡ g.route
   pub class : f.class ≡ g.class.items
   pub era : f.era ≡ g.era

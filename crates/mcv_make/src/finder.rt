@@ -7,8 +7,8 @@ ghost use Rattle.mcv_certify.specs.Gap.{IsGap, place_of_gap};
 ghost use Rattle.mcv_route.specs.View.{view};
 ghost use Rattle.mcv_witness.specs.Breaks.{BreaksCoverage};
 ghost use Rattle.mcv_witness.specs.Finding.{finding_of};
-ghost use Rattle.mcv_make.specs.Place.{HasMember, StandsAtGap};
-ghost use Rattle.mcv_make.specs.Told.{IsTold, IsToldWith};
+ghost use Rattle.mcv_make.specs.Place.{HasMember, IsAtGap};
+ghost use Rattle.mcv_make.specs.Shown.{IsShown, IsShownWith};
 
 use crate::scene::{Reading, Scene};
 use mcv_base::{Prefix, Rest};
@@ -47,7 +47,7 @@ fn copied(alloc: Global, word: &[u8]) -> Result<Vec<u8>, AllocError>
     Vec::from_slice(alloc, word)
 }
 
-/// The finding that is told of a gap with a key behind the prefix.
+/// The finding that is shown of a gap with a key behind the prefix.
 fn find_behind(
     alloc: Global,
     routes: &Routes,
@@ -55,8 +55,8 @@ fn find_behind(
     gap: &Gap,
 ) -> Result<Finding, AllocError>
     requires gap { IsGap routes.now (place_of_gap gap.now) gap.now.at gap.now.server.0 }
-    ensures stands { IfOk result (λ f. StandsAtGap gap.now (finding_of f)) }
-    ensures told { IfOk result (λ f. IsToldWith routes.now prefix.now (finding_of f)) }
+    ensures at_gap { IfOk result (λ f. IsAtGap gap.now (finding_of f)) }
+    ensures shown { IfOk result (λ f. IsShownWith routes.now prefix.now (finding_of f)) }
 {
     let Some(route) = routes.route(gap.route) else {
         unreachable!()
@@ -91,13 +91,13 @@ fn find_behind(
 /// The finding that shows a gap: the member of its class behind the first routing prefix of its route.
 ///
 /// The leaf hits under get, or under gets where get can't read it. Takes time and memory in proportion to the route,
-/// its classes, the symbols and the servers of its legs; of a handle's n children that stand before the leaf, up to
+/// its classes, the symbols and the servers of its legs; of a handle's n children that come before the leaf, up to
 /// n times n steps.
 pub fn find(alloc: Global, routes: &Routes, gap: &Gap) -> Result<Finding, AllocError>
     requires gap { IsGap routes.now (place_of_gap gap.now) gap.now.at gap.now.server.0 }
     ensures breaks { IfOk result (λ f. BreaksCoverage routes.now (finding_of f)) }
-    ensures stands { IfOk result (λ f. StandsAtGap gap.now (finding_of f)) }
-    ensures told { IfOk result (λ f. IsTold routes.now (finding_of f)) }
+    ensures at_gap { IfOk result (λ f. IsAtGap gap.now (finding_of f)) }
+    ensures shown { IfOk result (λ f. IsShown routes.now (finding_of f)) }
 {
     // Both say of the routes what the proof wants: they are sound and within the limits, and each symbol has an index.
     let _servers = routes.servers();

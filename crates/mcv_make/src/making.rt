@@ -4,7 +4,7 @@ ghost use Rattle.std.specs.Prelude.{◌≡◌, ◌<◌, All, IfErr, IfOk, length
 ghost use Rattle.mcv_blocks.specs.Blocks.{IsJustifiedBy};
 ghost use Rattle.mcv_certify.specs.Picked.{IsPickedOf};
 ghost use Rattle.mcv_make.specs.First.{IfLost, IsRightLoss};
-ghost use Rattle.mcv_make.specs.Told.{IsTold};
+ghost use Rattle.mcv_make.specs.Shown.{IsShown};
 ghost use Rattle.mcv_make.specs.declared.fault.MakeFault.TheVariants.{Memory as out_of_memory};
 ghost use Rattle.mcv_symbolic.specs.Covered.{AreCovered};
 ghost use Rattle.mcv_witness.specs.Finding.{finding_of};
@@ -28,7 +28,7 @@ pub fn make(alloc: Global, routes: &Routes) -> Result<Certificate, MakeFault>
     ensures covered { AreCovered routes.now → IfErr result (λ f. f ≡ out_of_memory) }
     ensures lost { IfErr result (λ f. IsRightLoss routes.now f) }
     ensures uncovered { IfErr result (λ f. IfLost f (λ _. AreCovered routes.now → ⊥)) }
-    ensures told { IfErr result (λ f. IfLost f (λ g. IsTold routes.now (finding_of g))) }
+    ensures shown { IfErr result (λ f. IfLost f (λ g. IsShown routes.now (finding_of g))) }
     ensures known { IfErr result (λ f. IfLost f (λ g. g.server.0 < length routes.now.servers)) }
 {
     // What it takes that a finding of the first gap is the first: the routes are sound.

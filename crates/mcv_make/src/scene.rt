@@ -13,7 +13,7 @@ ghost use Rattle.mcv_symbolic.specs.Justified.{IsReadableAt};
 ghost use Rattle.mcv_symbolic.specs.Sets.{AreLegsAt, CanHitAt, IsAcknowledged};
 ghost use Rattle.mcv_witness.specs.Finding.{outcomes_of};
 ghost use Rattle.mcv_make.specs.Free.{free_indexes};
-ghost use Rattle.mcv_symbolic.specs.Shown.{answers, history_of, leading};
+ghost use Rattle.mcv_symbolic.specs.Shown.{answers, history_of, leaf_hit};
 
 use crate::free::free_choice;
 use mcv_base::{Moment, Op, Outcome, Position, Rest, ServerId};
@@ -61,7 +61,7 @@ impl<'a> Scene<'a> {
         op: Op,
         leaf: &Position,
     ) -> Result<Option<Vec<LegOutcome>>, AllocError>
-        ensures { IfOk result (λ found. option_map (λ legs. outcomes_of legs.items) found ≡ leading leaf.now (plan (view self.now.route.now) (asked op self.now.rest.now (option_map (λ m. m.0) self.now.since)))) }
+        ensures { IfOk result (λ found. option_map (λ legs. outcomes_of legs.items) found ≡ leaf_hit leaf.now (plan (view self.now.route.now) (asked op self.now.rest.now (option_map (λ m. m.0) self.now.since)))) }
     {
         let case = Case::new(alloc, self.route, op, self.rest, self.since)?;
         let Some(legs) = case.hit_of(alloc, leaf)? else {
@@ -74,7 +74,7 @@ impl<'a> Scene<'a> {
     pub fn reading(&self, alloc: Global, leaf: &Position) -> Result<Reading, AllocError>
         requires { IsReadableAt (view self.now.route.now) self.now.rest.now (option_map (λ m. m.0) self.now.since) leaf.now }
         ensures reading { IfOk result (λ r. is_reading r.op ≡ true) }
-        ensures led { IfOk result (λ r. leading leaf.now (plan (view self.now.route.now) (asked r.op self.now.rest.now (option_map (λ m. m.0) self.now.since))) ≡ Some (outcomes_of r.legs.items)) }
+        ensures led { IfOk result (λ r. leaf_hit leaf.now (plan (view self.now.route.now) (asked r.op self.now.rest.now (option_map (λ m. m.0) self.now.since))) ≡ Some (outcomes_of r.legs.items)) }
         ensures first { IfOk result (λ r. r.op ≡ ByGets → (c : Chosen) → CanHitAt (view self.now.route.now) (asked ByGet self.now.rest.now (option_map (λ m. m.0) self.now.since)) c leaf.now → ⊥) }
     {
         if let Some(legs) = self.hit(alloc, Op::Get, leaf)? {

@@ -1,18 +1,18 @@
 -- How a fault passes on.
 use Rattle.std.proofs.Common.{◌≡◌, ℕ, ◌<◌, length, List, [], ◌∷◌, ◌++◌, refl, inl, inr, arith}
 use Rattle.mcv_names.specs.declared.fault.FaultKind.{FaultKind}
-use Rattle.mcv_names.specs.declared.fault.ConfigFault.{ConfigFault}
-use Rattle.mcv_names.specs.declared.fault.ConfigFault.TheVariants.{Memory, At}
+use Rattle.mcv_names.specs.declared.fault.ReadFault.{ReadFault}
+use Rattle.mcv_names.specs.declared.fault.ReadFault.TheVariants.{Config, Memory}
 use Rattle.mcv_names.specs.Fault.{Fault, Read, good, bad, refused, ◌>>=◌, also, IsOneOf, Fails, IsFault, path_text}
 
-pub fails_refused : (A : Type 0) (kind : FaultKind) (path : List ℕ) (e : ConfigFault) → IsFault kind path e → Fails {A = A} e (refused kind path)
+pub fails_refused : (A : Type 0) (kind : FaultKind) (path : List ℕ) (e : ReadFault) → IsFault kind path e → Fails {A = A} e (refused kind path)
 fails_refused A kind path Memory h = tt
-fails_refused A kind path (At k p) h = inl (cc (h.0, h.1))
+fails_refused A kind path (Config f) h = inl (cc (h.0, h.1))
 
-pub fails_bind : {A B : Type 0} (e : ConfigFault) (r : Read A) (next : A → Read B) → Fails e r → Fails e (r >>= next)
+pub fails_bind : {A B : Type 0} (e : ReadFault) (r : Read A) (next : A → Read B) → Fails e r → Fails e (r >>= next)
 fails_bind Memory r next h = tt
-fails_bind (At k p) (good x) next h = absurd h
-fails_bind (At k p) (bad faults) next h = h
+fails_bind (Config f) (good x) next h = absurd h
+fails_bind (Config f) (bad faults) next h = h
 
 is_one_of_left : (fs gs : List Fault) (f : Fault) → IsOneOf fs f → IsOneOf (fs ++ gs) f
 is_one_of_left [] gs f h = absurd h
@@ -23,17 +23,17 @@ is_one_of_right : (fs gs : List Fault) (f : Fault) → IsOneOf gs f → IsOneOf 
 is_one_of_right [] gs f h = h
 is_one_of_right (g ∷ fs) gs f h = inr (is_one_of_right fs gs f h)
 
-pub fails_also_first : {A B : Type 0} (e : ConfigFault) (r : Read A) (s : Read B) → Fails e r → Fails e (also r s)
+pub fails_also_first : {A B : Type 0} (e : ReadFault) (r : Read A) (s : Read B) → Fails e r → Fails e (also r s)
 fails_also_first Memory r s h = tt
-fails_also_first (At k p) (good x) s h = absurd h
-fails_also_first (At k p) (bad fs) (good y) h = h
-fails_also_first (At k p) (bad fs) (bad gs) h = is_one_of_left fs gs _ h
+fails_also_first (Config f) (good x) s h = absurd h
+fails_also_first (Config f) (bad fs) (good y) h = h
+fails_also_first (Config f) (bad fs) (bad gs) h = is_one_of_left fs gs _ h
 
-pub fails_also_second : {A B : Type 0} (e : ConfigFault) (r : Read A) (s : Read B) → Fails e s → Fails e (also r s)
+pub fails_also_second : {A B : Type 0} (e : ReadFault) (r : Read A) (s : Read B) → Fails e s → Fails e (also r s)
 fails_also_second Memory r s h = tt
-fails_also_second (At k p) (good x) s h = h
-fails_also_second (At k p) (bad fs) (good y) h = absurd h
-fails_also_second (At k p) (bad fs) (bad gs) h = is_one_of_right fs gs _ h
+fails_also_second (Config f) (good x) s h = h
+fails_also_second (Config f) (bad fs) (good y) h = absurd h
+fails_also_second (Config f) (bad fs) (bad gs) h = is_one_of_right fs gs _ h
 
 pub ruleset faults = (fails_refused, fails_bind, fails_also_first, fails_also_second)
 

@@ -1,5 +1,5 @@
 pub mod Faults
-pub mod Turns
+pub mod ReadingEach
 pub mod Arrays
 pub mod Operations
 pub mod Holds

@@ -1,9 +1,10 @@
--- What reading a value gives: what it names, or the faults that stand in it (own).
+-- What reading a value gives: what it names, or the faults in it (own).
 use Rattle.std.specs.Prelude.{◌≡◌, ℕ, List, [], ◌∷◌, ◌++◌, ◌⊎◌, Result, Ok, Err, string_bytes}
 use Rattle.mcv_names.specs.declared.fault.FaultKind.{FaultKind}
 use Rattle.mcv_names.specs.declared.fault.FaultKind.TheVariants.{NotJson, UnknownKey, WrongKind, UnknownHandle, UnknownPool, Empty, Limit, BadServer, AliasTwice, LeftOut}
 use Rattle.mcv_names.specs.declared.fault.ConfigFault.{ConfigFault}
-use Rattle.mcv_names.specs.declared.fault.ConfigFault.TheVariants.{Memory, At}
+use Rattle.mcv_names.specs.declared.fault.ReadFault.{ReadFault}
+use Rattle.mcv_names.specs.declared.fault.ReadFault.TheVariants.{Config, Memory}
 
 -- what is wrong, and where
 pub record Fault : Type 0 where
@@ -24,13 +25,13 @@ kind_number AliasTwice = 9
 kind_number LeftOut = 10
 
 abbrev pub fault_number : ConfigFault → ℕ
-fault_number Memory = 11
-fault_number (At kind path) = kind_number kind
+fault_number fault = kind_number fault.kind
 
--- no path where memory ran out
 abbrev pub fault_path : ConfigFault → List ℕ
-fault_path Memory = []
-fault_path (At kind path) = string_bytes path
+fault_path fault = string_bytes fault.path
+
+abbrev pub fault_of : ConfigFault → Fault
+fault_of fault = record { kind = fault.kind; path = fault_path fault }
 
 pub data Read (A : Type 0) : Type 0 where
   good : A → Read A
@@ -50,7 +51,7 @@ abbrev pub ◌>>=◌ : {A B : Type 0} → Read A → (A → Read B) → Read B
 (good x) >>= next = next x
 (bad faults) >>= next = bad faults
 
--- both are read, and the faults of both stand
+-- both are read, and the faults of both are kept
 abbrev pub also : {A B : Type 0} → Read A → Read B → Read B
 also (good x) second = second
 also (bad faults) (good y) = bad faults
@@ -60,26 +61,26 @@ abbrev pub IsOneOf : List Fault → Fault → Type 0
 IsOneOf [] f = ⊥
 IsOneOf (g ∷ gs) f = (g ≡ f) ⊎ IsOneOf gs f
 
-abbrev pub Stands : {A : Type 0} → Read A → Fault → Type 0
-Stands (good x) f = ⊥
-Stands (bad faults) f = IsOneOf faults f
+abbrev pub HasFault : {A : Type 0} → Read A → Fault → Type 0
+HasFault (good x) f = ⊥
+HasFault (bad faults) f = IsOneOf faults f
 
--- what a function refused stands, or memory ran out
-abbrev pub Fails : {A : Type 0} → ConfigFault → Read A → Type 0
+-- what a function refused is a fault, or memory ran out
+abbrev pub Fails : {A : Type 0} → ReadFault → Read A → Type 0
 Fails Memory read = Unit {0}
-Fails (At kind path) read = Stands read (record { kind = kind; path = string_bytes path })
+Fails (Config fault) read = HasFault read (fault_of fault)
 
--- What a function answered, seen by view, is what reading gives, or it is a fault that stands, or memory ran out.
-abbrev pub Gives : {X A : Type 0} → (X → A) → Result X ConfigFault → Read A → Type 0
+-- What a function answered, seen by view, is what reading gives, or it is a fault of it, or memory ran out.
+abbrev pub Gives : {X A : Type 0} → (X → A) → Result X ReadFault → Read A → Type 0
 Gives view (Ok x) read = read ≡ good (view x)
 Gives view (Err e) read = Fails e read
 
 -- a fault of this kind at this path, or memory ran out
-abbrev pub IsFault : FaultKind → List ℕ → ConfigFault → Type 0
+abbrev pub IsFault : FaultKind → List ℕ → ReadFault → Type 0
 IsFault kind path Memory = Unit {0}
-IsFault kind path (At k p) = (k ≡ kind) × (string_bytes p ≡ path_text path)
+IsFault kind path (Config fault) = (fault.kind ≡ kind) × (fault_path fault ≡ path_text path)
 
 -- the fault is one of these, or memory ran out
-abbrev pub Refuses : ConfigFault → (Fault → Type 0) → Type 0
+abbrev pub Refuses : ReadFault → (Fault → Type 0) → Type 0
 Refuses Memory P = Unit {0}
-Refuses (At k p) P = P (record { kind = k; path = string_bytes p })
+Refuses (Config fault) P = P (fault_of fault)

@@ -61,12 +61,12 @@ type_read path d =
 
 -- ---- keys
 
--- where a selector's policies stand
+-- where a selector's policies are
 abbrev pub policies_key : Selector → List ℕ
 policies_key selectors.Prefix = codes "policies"
 policies_key selectors.Operation = codes "operation_policies"
 
--- where the route of all else stands
+-- where the route of all else is
 abbrev pub default_key : Selector → List ℕ
 default_key selectors.Prefix = codes "wildcard"
 default_key selectors.Operation = codes "default_policy"
@@ -160,7 +160,7 @@ unfoldable pub name_fault : Selector → List ℕ → Option FaultKind
 name_fault selectors.Prefix name = if nat_lt prefix_limit (length name) then Some Limit else None
 name_fault selectors.Operation name = op_fault (op_named name) name
 
--- ---- texts that stand for what lies elsewhere
+-- ---- texts that name what lies elsewhere
 
 -- imports begin with `@`, macros with `%` (mcrouter wiki, JSON macros and imports)
 unfoldable pub is_elsewhere : List ℕ → Bool

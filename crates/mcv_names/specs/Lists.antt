@@ -1,4 +1,4 @@
--- Reading what stands in a list or an object, each in turn. A state goes from one to the next: the room that is left,
+-- Reading what is in a list or an object, each in turn. A state goes from one to the next: the room that is left,
 -- or the table of servers.
 use Rattle.std.specs.Prelude.{ℕ, ◌+◌, List, [], ◌∷◌, Option, Some, None}
 use Rattle.serde_json.specs.Data.{Data, Items, no_items, item, Members, no_members, member}

@@ -1,7 +1,7 @@
-//! Why a configuration is refused: a fault that stands in the text, with its path, or memory.
+//! Why a configuration is refused: a fault in the text, with its path; and why it isn't read: that, or memory.
 
 ghost use Rattle.std.specs.Prelude.{◌≡◌};
-ghost use Rattle.mcv_names.specs.declared.fault.ConfigFault.TheVariants.{Memory};
+ghost use Rattle.mcv_names.specs.declared.fault.ReadFault.TheVariants.{Memory};
 
 use std::alloc::{AllocError, AllocFailed};
 use thiserror::Error;
@@ -25,52 +25,54 @@ pub enum FaultKind {
     LeftOut = 10,
 }
 
-/// A fault that stands in the text, or a growth that was refused.
+/// A fault in the text: what is wrong, and where.
 #[derive(Debug, Drop, Error)]
-pub enum ConfigFault {
+#[error("configuration {} at {path}", *kind as u8)]
+pub struct ConfigFault {
+    pub kind: FaultKind,
+    /// `/` and the key or the list number for each step, `.` for the root.
+    pub path: String,
+}
+
+/// Why a configuration, or a part of one, isn't read.
+#[derive(Debug, Drop, Error)]
+pub enum ReadFault {
+    #[error(transparent)]
+    Config(ConfigFault),
     #[error("out of memory")]
     Memory,
-    #[error("configuration {} at {path}", *kind as u8)]
-    At { kind: FaultKind, path: String },
 }
 
 impl ConfigFault {
     ghost use Rattle.mcv_names.specs.Fault.{fault_number, fault_path};
 
-    /// The number of the fault, 1 to 10; 11 where memory ran out.
+    /// The number of the fault, 1 to 10.
     pub fn number(&self) -> u8
         ensures { result ≡ fault_number self.now }
     {
-        match self {
-            ConfigFault::Memory => 11,
-            ConfigFault::At { kind, .. } => *kind as u8,
-        }
+        self.kind as u8
     }
 
-    /// Where the fault stands: `/` and the key or the list number for each step, `.` for the root.
-    /// Empty where memory ran out.
+    /// Where the fault is.
     pub fn path(&self) -> &str
         ensures { result.now ≡ fault_path self.now }
     {
-        match self {
-            ConfigFault::Memory => "",
-            ConfigFault::At { path, .. } => path.as_str(),
-        }
+        self.path.as_str()
     }
 }
 
-impl From<AllocError> for ConfigFault {
+impl From<AllocError> for ReadFault {
     ghost from_gives = { λ _ e. e ≡ Memory };
 
-    fn from(_e: AllocError) -> ConfigFault {
-        ConfigFault::Memory
+    fn from(_e: AllocError) -> ReadFault {
+        ReadFault::Memory
     }
 }
 
-impl<T: Drop> From<AllocFailed<T>> for ConfigFault {
+impl<T: Drop> From<AllocFailed<T>> for ReadFault {
     ghost from_gives = { λ _ e. e ≡ Memory };
 
-    fn from(_e: AllocFailed<T>) -> ConfigFault {
-        ConfigFault::Memory
+    fn from(_e: AllocFailed<T>) -> ReadFault {
+        ReadFault::Memory
     }
 }

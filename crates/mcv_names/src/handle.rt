@@ -1,4 +1,4 @@
-//! The handles and the objects of a configuration, by what they stand for.
+//! The handles and the objects of a configuration, by what they are.
 
 /// A handle that has `children`.
 #[derive(Clone, Copy, Debug, PartialEq, Eq)]
@@ -31,7 +31,7 @@ pub enum Handle {
     Selector(Selector),
 }
 
-/// An object of the configuration, by what it stands for.
+/// An object of the configuration, by what it is.
 #[derive(Clone, Copy, Debug, PartialEq, Eq)]
 pub enum Object {
     Root,

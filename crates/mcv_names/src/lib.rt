@@ -1,8 +1,8 @@
 //! What a reader of configurations speaks of: the names of handles, keys and operations, the path of each value, and the
-//! faults that stand there.
+//! faults there.
 //!
-//! A function that reads a value answers what the value names or a `ConfigFault`; its contract ties the answer to a
-//! definition that gives what is named or all faults that stand (`Read` in specs/Fault.antt).
+//! A function that reads a value answers what the value names or a `ReadFault`; its contract ties the answer to a
+//! definition that gives what is named or all faults there (`Read` in specs/Fault.antt).
 #![tactic(auto)]
 
 mod fault;
@@ -11,7 +11,7 @@ mod items;
 mod names;
 mod trail;
 
-pub use fault::{ConfigFault, FaultKind};
+pub use fault::{ConfigFault, FaultKind, ReadFault};
 pub use handle::{Handle, Many, Object, Selector};
 pub use items::{items_or_none, some_items};
 pub use names::{

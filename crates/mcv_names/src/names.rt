@@ -6,7 +6,7 @@ ghost use Rattle.mcv_names.specs.Fault.{Gives};
 ghost use Rattle.mcv_names.specs.Handles.{default_key, handle_named, is_elsewhere, is_listed, key_fault, keys, keys_read, left_out_handles, left_out_here, left_out_keys, name_fault, op_named, other_operations, policies_key, type_read};
 ghost use Rattle.mcv_names.specs.Path.{path_of};
 
-use crate::fault::{ConfigFault, FaultKind};
+use crate::fault::{FaultKind, ReadFault};
 use crate::handle::{Handle, Many, Object, Selector};
 use crate::trail::{Trail, fault_at};
 use mcv_base::Op;
@@ -46,7 +46,7 @@ pub fn handle_named(name: &str) -> Result<Handle, FaultKind>
 
 /// The handle that the `type` of an object names.
 #[tactic(auto, using(crate::proofs::Faults::faults), unfolding(crate::specs::Handles::type_read))]
-pub fn read_type(alloc: Global, trail: &Trail<'_>, value: &Value) -> Result<Handle, ConfigFault>
+pub fn read_type(alloc: Global, trail: &Trail<'_>, value: &Value) -> Result<Handle, ReadFault>
     ensures { Gives (λ handle. handle) result (type_read (path_of trail.now) (view value.now)) }
 {
     let Some(name) = value.get("type") else {
@@ -176,7 +176,7 @@ pub fn check_keys(
     trail: &Trail<'_>,
     object: Object,
     members: &Map<String, Value>,
-) -> Result<(), ConfigFault>
+) -> Result<(), ReadFault>
     ensures { Gives (λ _. tt) result (keys_read (key_fault object) (path_of trail.now) (members_view members.now.entries)) }
 {
     for (key, _) in members.iter() {
@@ -235,7 +235,7 @@ pub fn check_names(
     trail: &Trail<'_>,
     selector: Selector,
     members: &Map<String, Value>,
-) -> Result<(), ConfigFault>
+) -> Result<(), ReadFault>
     ensures { Gives (λ _. tt) result (keys_read (name_fault selector) (path_of trail.now) (members_view members.now.entries)) }
 {
     for (name, _) in members.iter() {
@@ -246,7 +246,7 @@ pub fn check_names(
     Ok(())
 }
 
-/// Whether a text stands for an import or a macro.
+/// Whether a text is an import or a macro.
 #[tactic(auto, unfolding(crate::specs::Handles::is_elsewhere))]
 pub fn is_elsewhere(text: &str) -> bool
     ensures { result ≡ is_elsewhere text.now }

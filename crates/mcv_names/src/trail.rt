@@ -1,11 +1,11 @@
-//! Where in the JSON value the reader stands. The text of a path is made only where a fault is.
+//! Where in the JSON value the reader is. The text of a path is made only where a fault is.
 
 ghost use Rattle.std.specs.Prelude.{◌≡◌, ◌++◌, ◌+◌, ◌<◌, string_bytes, OnOk, IfOk};
 ghost use Rattle.std.specs.List.{flat_map};
 ghost use Rattle.mcv_names.specs.Fault.{IsFault, path_text};
 ghost use Rattle.mcv_names.specs.Path.{path_of, escaped_byte, hex_digit};
 
-use crate::fault::{ConfigFault, FaultKind};
+use crate::fault::{ConfigFault, FaultKind, ReadFault};
 use std::alloc::{AllocError, Global};
 
 /// The steps from the root to a value, the last one first.
@@ -32,12 +32,12 @@ impl Trail<'_> {
 }
 
 /// The fault of this kind where the trail has led.
-pub fn fault_at(alloc: Global, kind: FaultKind, trail: &Trail<'_>) -> ConfigFault
+pub fn fault_at(alloc: Global, kind: FaultKind, trail: &Trail<'_>) -> ReadFault
     ensures { IsFault kind (path_of trail.now) result }
 {
     match trail.text(alloc) {
-        Ok(path) => ConfigFault::At { kind, path },
-        Err(_) => ConfigFault::Memory,
+        Ok(path) => ReadFault::Config(ConfigFault { kind, path }),
+        Err(_) => ReadFault::Memory,
     }
 }
 

@@ -9,7 +9,7 @@ use Rattle.mcv_base.specs.declared.reply.Reply.{Reply}
 use Rattle.mcv_base.specs.Reply.{reply_value}
 use Rattle.mcv_reply.specs.declared.fault.ReplyFault.{ReplyFault}
 use Rattle.mcv_reply.specs.declared.fault.ReplyFault.TheVariants as faults
-use Rattle.mcv_reply.specs.Reader.{Answers, Fed, Feeds, FeedsAt, Reading, Stands}
+use Rattle.mcv_reply.specs.Reader.{Answers, Fed, Feeds, FeedsAt, Reading, ReaderState}
 use Rattle.mcv_reply.specs.Reply.{SpellsVersion}
 use Rattle.mcv_reply.specs.Probe.{FeedsProbe, ProbeAnswers}
 use Rattle.mcv_net.specs.declared.loss.Loss.{Loss}
@@ -80,15 +80,15 @@ fed_answers old new op key bytes piece result is f =
 pub fed_on : (old new : Reading) (op : Op) (key bytes piece : List ℕ) → IsFed old op key bytes → Feeds old piece (Ok None) new → IsFed new op key (bytes ++ piece)
 fed_on old new op key bytes piece is f = record { op_is = f.op ∙ is.op_is; key_is = f.key ∙ is.key_is; state_is = (fed_answers old new op key bytes piece (Ok None) is f).1 }
 
-pub not_spelled : (op : Op) (key bytes : List ℕ) (fault : ReplyFault) (new : Stands) → Answers op key bytes (Err fault) new → UnlessMemory fault ((x : Reply) → SpellsReply op key bytes x → ⊥)
+pub not_spelled : (op : Op) (key bytes : List ℕ) (fault : ReplyFault) (new : ReaderState) → Answers op key bytes (Err fault) new → UnlessMemory fault ((x : Reply) → SpellsReply op key bytes x → ⊥)
 not_spelled op key bytes faults.NotAReply new a = λ x s. a.0 [] (reply_value x) (subst (λ b. SpellsReply op key b x) (sym (append-nil bytes)) s)
 not_spelled op key bytes faults.Closed new a = absurd a
 not_spelled op key bytes faults.Memory new a = tt
 
-pub probe_answers : (old new : Stands) (bytes piece : List ℕ) (result : Result (Option (Vec ℕ Global)) ReplyFault) → old ≡ Fed bytes → FeedsProbe old piece result new → ProbeAnswers (bytes ++ piece) result new
+pub probe_answers : (old new : ReaderState) (bytes piece : List ℕ) (result : Result (Option (Vec ℕ Global)) ReplyFault) → old ≡ Fed bytes → FeedsProbe old piece result new → ProbeAnswers (bytes ++ piece) result new
 probe_answers old new bytes piece result is f = subst (λ s. FeedsProbe s piece result new) is f
 
-pub not_answered : (X : Type 0) (bytes : List ℕ) (fault : ReplyFault) (new : Stands) → ProbeAnswers bytes (Err fault) new → UnlessMemory fault ((x : X) → AnswersProbe bytes x → ⊥)
+pub not_answered : (X : Type 0) (bytes : List ℕ) (fault : ReplyFault) (new : ReaderState) → ProbeAnswers bytes (Err fault) new → UnlessMemory fault ((x : X) → AnswersProbe bytes x → ⊥)
 not_answered X bytes faults.NotAReply new a = λ x s. a.0 [] s.0 (subst (λ b. SpellsVersion b s.0) (sym (append-nil bytes)) s.1)
 not_answered X bytes faults.Closed new a = absurd a
 not_answered X bytes faults.Memory new a = tt

@@ -2,15 +2,15 @@
 use Rattle.std.specs.Prelude.{ℕ}
 use Rattle.mcv_proxy.specs.declared.fault.ProxyFault.{ProxyFault}
 use Rattle.mcv_proxy.specs.declared.fault.ProxyFault.TheVariants as proxy_faults
-use Rattle.mcv_net.specs.declared.fault.RunFault.{RunFault}
-use Rattle.mcv_net.specs.declared.fault.RunFault.TheVariants.{Memory, Device}
+use Rattle.mcv_net.specs.declared.fault.NetFault.{NetFault}
+use Rattle.mcv_net.specs.declared.fault.NetFault.TheVariants.{Memory, Device}
 
-abbrev pub fault_number : RunFault → ℕ
+abbrev pub fault_number : NetFault → ℕ
 fault_number Memory = 1
 fault_number Device = 2
 
--- wrong receipts are the proxy's own mistake: to who runs it something it stands on has failed
-abbrev pub run_fault : ProxyFault → RunFault
-run_fault proxy_faults.Memory = Memory
-run_fault proxy_faults.Device = Device
-run_fault proxy_faults.Receipt = Device
+-- wrong receipts are the proxy's own mistake: to who runs it something it depends on has failed
+abbrev pub net_fault : ProxyFault → NetFault
+net_fault proxy_faults.Memory = Memory
+net_fault proxy_faults.Device = Device
+net_fault proxy_faults.Receipt = Device

@@ -3,8 +3,8 @@
 ghost use Rattle.std.specs.Prelude.{◌≡◌, ◌≢◌};
 ghost use Rattle.std.specs.IoError.{error_kind};
 ghost use Rattle.std.specs.declared.io.ErrorKind.TheVariants.{OutOfMemory};
-ghost use Rattle.mcv_net.specs.declared.fault.RunFault.TheVariants.{Device, Memory as out_of_memory};
-ghost use Rattle.mcv_net.specs.Fault.{fault_number, run_fault};
+ghost use Rattle.mcv_net.specs.declared.fault.NetFault.TheVariants.{Device, Memory as out_of_memory};
+ghost use Rattle.mcv_net.specs.Fault.{fault_number, net_fault};
 
 use mcv_proxy::ProxyFault;
 use std::alloc::AllocError;
@@ -13,7 +13,7 @@ use thiserror::Error;
 
 /// Why a proxy on sockets can't be run.
 #[derive(Clone, Copy, Debug, PartialEq, Eq, Error)]
-pub enum RunFault {
+pub enum NetFault {
     #[error("out of memory")]
     Memory = 1,
     /// The address, the spool's file or the writer failed, or the receipts of replies are wrong.
@@ -21,7 +21,7 @@ pub enum RunFault {
     Device = 2,
 }
 
-impl RunFault {
+impl NetFault {
     /// The number of the fault, from 1.
     pub fn number(self) -> u8
         ensures { result ≡ fault_number self }
@@ -30,33 +30,33 @@ impl RunFault {
     }
 }
 
-impl From<AllocError> for RunFault {
+impl From<AllocError> for NetFault {
     ghost from_gives = { λ _ fault. fault ≡ out_of_memory };
 
-    fn from(_fault: AllocError) -> RunFault {
-        RunFault::Memory
+    fn from(_fault: AllocError) -> NetFault {
+        NetFault::Memory
     }
 }
 
-impl From<ProxyFault> for RunFault {
-    ghost from_gives = { λ fault result. result ≡ run_fault fault };
+impl From<ProxyFault> for NetFault {
+    ghost from_gives = { λ fault result. result ≡ net_fault fault };
 
-    fn from(fault: ProxyFault) -> RunFault {
+    fn from(fault: ProxyFault) -> NetFault {
         match fault {
-            ProxyFault::Memory => RunFault::Memory,
-            ProxyFault::Device | ProxyFault::Receipt => RunFault::Device,
+            ProxyFault::Memory => NetFault::Memory,
+            ProxyFault::Device | ProxyFault::Receipt => NetFault::Device,
         }
     }
 }
 
-impl From<io::Error> for RunFault {
+impl From<io::Error> for NetFault {
     ghost from_gives = { λ error fault. (error_kind error ≡ OutOfMemory → fault ≡ out_of_memory) × (error_kind error ≢ OutOfMemory → fault ≡ Device) };
 
-    fn from(error: io::Error) -> RunFault {
+    fn from(error: io::Error) -> NetFault {
         if error.kind() == io::ErrorKind::OutOfMemory {
-            RunFault::Memory
+            NetFault::Memory
         } else {
-            RunFault::Device
+            NetFault::Device
         }
     }
 }

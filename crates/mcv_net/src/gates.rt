@@ -6,7 +6,7 @@ ghost use Rattle.mcv_net.specs.Lines.{listening_line};
 
 use crate::client::Client;
 use crate::dial::TcpDial;
-use crate::fault::RunFault;
+use crate::fault::NetFault;
 use crate::lines::{listening_line, print_line};
 use crate::link::TcpLink;
 use crate::notice::{Notice, Notices, StandardError};
@@ -103,7 +103,7 @@ impl<'a, D: Disk, W: Write, R: Clock + Eprint + Copy + Drop> NetGates<'a, D, W, 
     }
 
     /// Prints the line that says where clients may come, and how many records are pending.
-    fn print_listening(&mut self, pending: usize) -> Result<(), RunFault>
+    fn print_listening(&mut self, pending: usize) -> Result<(), NetFault>
         ensures { OnOk result ((address : List ℕ) × Appends (W.contents self.old.out.now) (W.contents self.new.out.now) (listening_line address pending)) }
     {
         let address = format!(in self.alloc; "{}", self.listener.local_addr()?)?;
@@ -170,8 +170,8 @@ where
     {
         match self.print_listening(pending) {
             Ok(()) => Ok(()),
-            Err(RunFault::Memory) => Err(ProxyFault::Memory),
-            Err(RunFault::Device) => Err(ProxyFault::Device),
+            Err(NetFault::Memory) => Err(ProxyFault::Memory),
+            Err(NetFault::Device) => Err(ProxyFault::Device),
         }
     }
 

@@ -18,7 +18,7 @@ mod system_watch;
 
 pub use client::Client;
 pub use dial::{Dial, TcpDial};
-pub use fault::RunFault;
+pub use fault::NetFault;
 pub use gates::NetGates;
 pub use link::TcpLink;
 pub use loss::{Loss, may_ask_again};

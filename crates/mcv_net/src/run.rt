@@ -2,7 +2,7 @@
 
 ghost use Rattle.std.specs.Prelude.{◌≡◌, IfErr};
 
-use crate::fault::RunFault;
+use crate::fault::NetFault;
 use crate::gates::NetGates;
 use crate::lines::{closed_line, print_line};
 use mcv_check::Accepted;
@@ -28,7 +28,7 @@ pub fn run_proxy<D, W, R>(
     disk: D,
     sessions: u64,
     out: &mut W,
-) -> Result<(), RunFault>
+) -> Result<(), NetFault>
 where
     D: Disk + Send + 'static,
     W: Write,
@@ -54,12 +54,12 @@ where
 pub fn listen<R: Net<Stream = TcpStream, Listener = TcpListener>>(
     rt: &R,
     address: &str,
-) -> Result<TcpListener, RunFault>
-    ensures { IfErr result (λ fault. fault ≡ RunFault.Device) }
+) -> Result<TcpListener, NetFault>
+    ensures { IfErr result (λ fault. fault ≡ NetFault.Device) }
 {
     match TcpListener::bind(rt, address) {
         Ok(listener) => Ok(listener),
-        Err(_) => Err(RunFault::Device),
+        Err(_) => Err(NetFault::Device),
     }
 }
 
@@ -87,7 +87,7 @@ pub fn serve<W, R>(
     spool: &str,
     sessions: u64,
     out: &mut W,
-) -> Result<(), RunFault>
+) -> Result<(), NetFault>
 where
     W: Write,
     R: Net<Stream = TcpStream, Listener = TcpListener>

@@ -58,4 +58,4 @@ leg_there leaves n item within is =
 
 -- the pairs of a further leaf of the block
 pub all_leaf : (b : BlockValue) (leaf : LegValue) (old now new : List PairValue) → Contains b.readable leaf → Adds (All (IsPickedIn b)) old now → Adds (All (IsPickedFor b leaf)) now new → Adds (All (IsPickedIn b)) old new
-all_leaf b leaf old now new stands so_far own = all_more (IsPickedIn b) (IsPickedFor b leaf) (λ p h. (leaf, stands, h)) old now new so_far own
+all_leaf b leaf old now new is_readable so_far own = all_more (IsPickedIn b) (IsPickedFor b leaf) (λ p h. (leaf, is_readable, h)) old now new so_far own

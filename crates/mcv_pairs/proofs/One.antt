@@ -11,7 +11,7 @@ use Rattle.std.proofs.lemmas.List.Elements.{All-cons, All-contains_itself, All-h
 use Rattle.std.proofs.lemmas.Option.{slice_get-get_or}
 use Rattle.mcv_cert.specs.Pair.{PairValue, Place, ReasonValue, all, index_of, list_cmp, never, place_of}
 use Rattle.mcv_judge.specs.Answers.{AnswersEach, AnswersLeaf, AnswersLeaves}
-use Rattle.mcv_judge.specs.Faults.{AreLegsRising, owe, place_owed}
+use Rattle.mcv_judge.specs.Faults.{AreLegsRising, require, place_required}
 use Rattle.mcv_judge.specs.Reason.{BlockValue, LegValue, is_whole, server_at}
 use Rattle.mcv_picks.specs.Picks.{IsFirstFilling, filling, first_with}
 use Rattle.mcv_picks.specs.Reasons.{IsReasonAt, IsReasonBeside, whole_reason}
@@ -104,8 +104,8 @@ module _ (b : BlockValue) (leaf : LegValue) where
 
   -- ---- the leaf of a pair
 
-  placed : (ps : List PairValue) → AnswersLeaf b leaf ps → All (λ p. place_of p ≡ place_owed (owe b leaf)) ps
-  placed ps (inl h) = subst (All (λ p. place_of p ≡ place_owed (owe b leaf))) (sym h.1) (All-cons (λ p. place_of p ≡ place_owed (owe b leaf)) h.0 [] h.2.place (All-nil (λ p. place_of p ≡ place_owed (owe b leaf))))
+  placed : (ps : List PairValue) → AnswersLeaf b leaf ps → All (λ p. place_of p ≡ place_required (require b leaf)) ps
+  placed ps (inl h) = subst (All (λ p. place_of p ≡ place_required (require b leaf))) (sym h.1) (All-cons (λ p. place_of p ≡ place_required (require b leaf)) h.0 [] h.2.place (All-nil (λ p. place_of p ≡ place_required (require b leaf))))
   placed ps (inr h) = λ i p l. (h.each i (get_or ps i p) (slice_get-get_or ps i p l)).0.place
 
 no_less : (p q : List ℕ) → p ≡ q → list_cmp p q ≡ Less → ⊥
@@ -135,10 +135,10 @@ all_parts P (p ∷ ps) qs h =
 
 module _ (b : BlockValue) (up : AreLegsRising b.readable) where
   own_picked : (leaf : LegValue) → Contains b.readable leaf → (ps : List PairValue) → AnswersLeaf b leaf ps → All (IsPickedIn b) ps → All (IsPickedFor b leaf) ps
-  own_picked leaf stands ps answers picked i p l =
+  own_picked leaf is_readable ps answers picked i p l =
       let h = picked i p l in
       let place = placed b leaf ps answers i p l in
-      let same : h.0 ≡ leaf = one_leaf b.readable up h.0 leaf h.1 stands (ap (λ (s : Place). s.leaf) (sym h.2.place ∙ place)) in
+      let same : h.0 ≡ leaf = one_leaf b.readable up h.0 leaf h.1 is_readable (ap (λ (s : Place). s.leaf) (sym h.2.place ∙ place)) in
       subst (λ d. IsPickedFor b d (get_or ps i p)) same h.2
 
   abbrev IsLeafOf : LegValue → Type 0

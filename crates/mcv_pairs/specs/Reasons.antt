@@ -3,7 +3,7 @@ use Rattle.std.specs.Prelude.{All, ◌≡◌, ℕ, List, Option, Some, None}
 use Rattle.std.specs.List.{Contains}
 use Rattle.mcv_cert.specs.Pair.{PairValue, ReasonValue, index_of, place_of}
 use Rattle.mcv_judge.specs.Answers.{AnswersBlock}
-use Rattle.mcv_judge.specs.Faults.{IsInOrder, owe, place_owed}
+use Rattle.mcv_judge.specs.Faults.{IsInOrder, place_required, require}
 use Rattle.mcv_judge.specs.Reason.{BlockValue, LegValue, server_at}
 use Rattle.mcv_picks.specs.Reasons.{IsReasonAt, whole_reason}
 
@@ -15,9 +15,9 @@ IsPickedBeside None b leaf reason = (server : ℕ) × (server_at leaf (index_of 
 abbrev pub IsPicked : BlockValue → LegValue → ReasonValue → Type 0
 IsPicked b leaf reason = IsPickedBeside (whole_reason b.can_be_acknowledged b.acknowledged leaf) b leaf reason
 
--- the pair stands at the leaf, and gives the reason that is picked for it
+-- the pair is at the leaf, and gives the reason that is picked for it
 pub record IsPickedFor (b : BlockValue) (leaf : LegValue) (p : PairValue) : Type 0 where
-  pub place : place_of p ≡ place_owed (owe b leaf)
+  pub place : place_of p ≡ place_required (require b leaf)
   pub reason : IsPicked b leaf p.reason
 
 -- it does so at a readable leaf of the block

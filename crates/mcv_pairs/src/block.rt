@@ -24,7 +24,7 @@ pub struct BlockGap {
 }
 
 /// Adds the pairs of a block in their order, each with the first reason that holds in the order never, twin, same, all
-/// and the first legs for it, or gives the first leaf and index without a reason. What stands in
+/// and the first legs for it, or gives the first leaf and index without a reason. What is in
 /// `pairs` then, and where memory runs out, isn't said.
 pub fn push_block(
     alloc: Global,

@@ -12,7 +12,7 @@ use Rattle.mcv_judge.specs.InMemory.{numbers}
 use Rattle.mcv_judge.proofs.First.{equal_is, nat_equal, then_equal}
 use Rattle.mcv_judge.proofs.Servers.{by_numbers}
 use Rattle.mcv_judge.specs.Reason.{LegValue, is_same_list, is_twin}
-use Rattle.mcv_picks.specs.Tables.{Class, Slot, TellsNoTwins, class_cmp, is_at, is_of, slot_cmp}
+use Rattle.mcv_picks.specs.Tables.{Class, Slot, IsSameOnTwins, class_cmp, is_at, is_of, slot_cmp}
 
 then_eq : (a b : Ordering) → is_eq (ordering_then a b) ≡ (is_eq a && is_eq b)
 then_eq Less b = refl
@@ -62,10 +62,10 @@ of_parts k d h =
     let both = and_parts (nat_eq d.symbol k.0) (is_same_list d.servers (numbers k.1.now)) h in
     (eqb-true d.symbol k.0 both.0, same_list d.servers (numbers k.1.now) both.1)
 
-pub is_of-twins : (k : Class) → TellsNoTwins (is_of k)
+pub is_of-twins : (k : Class) → IsSameOnTwins (is_of k)
 is_of-twins k d e h = let p = twin_parts d e h in rw (p.0, p.1) refl
 
-pub is_at-twins : (q : Slot) → TellsNoTwins (is_at q)
+pub is_at-twins : (q : Slot) → IsSameOnTwins (is_at q)
 is_at-twins q d e h = let p = twin_parts d e h in rw (p.0, p.1) refl
 
 -- two of one class are twins

@@ -8,7 +8,7 @@ use Rattle.std.proofs.lemmas.List.Folds.{find-append}
 use Rattle.mcv_judge.specs.declared.block.Leg.{Leg}
 use Rattle.mcv_judge.specs.InMemory.{leg_of, legs_of}
 use Rattle.mcv_judge.specs.Reason.{LegValue, is_twin}
-use Rattle.mcv_picks.specs.Tables.{Class, StandFor, TellsNoTwins, is_of}
+use Rattle.mcv_picks.specs.Tables.{Class, FindTheSame, IsSameOnTwins, is_of}
 use Rattle.mcv_picks.proofs.Equal.{is_of-twins, of_both}
 
 pub one_more : (legs : List Leg) (i : ℕ) (leg : Leg) → i < length legs → leg ≡ get_or legs i leg → legs_of (take (i + 1) legs) ≡ legs_of (take i legs) ++ leg_of leg ∷ []
@@ -40,18 +40,18 @@ also_found p q also (x ∷ xs) h = elim (cases_Bool (q x)) [
 pub last : {X : Type 0} (p : X → Bool) (xs : List X) (x : X) → find p (xs ++ x ∷ []) ≡ option_or (find p xs) (cond (p x) (Some x) None)
 last p xs x = find-append p xs (x ∷ [])
 
--- a leg that has a twin before it is found by no test that tells no twins apart
-pub twin_again : (test : LegValue → Bool) → TellsNoTwins test → (xs : List LegValue) (d : LegValue) → is_some (find (is_twin d) xs) ≡ true → find test (xs ++ d ∷ []) ≡ find test xs
+-- a leg that has a twin before it is found by no test that doesn't distinguish twins
+pub twin_again : (test : LegValue → Bool) → IsSameOnTwins test → (xs : List LegValue) (d : LegValue) → is_some (find (is_twin d) xs) ≡ true → find test (xs ++ d ∷ []) ≡ find test xs
 twin_again test alike xs d found = last test xs d ∙ elim (cases_Bool (test d)) [
   | inl is ↦ or_there (find test xs) (cond (test d) (Some d) None) (also_found (is_twin d) test (λ e twin. sym (alike d e twin) ∙ is) xs found)
   | inr isnt ↦ rw isnt (or_nothing (find test xs))
 ]
 
-pub stand_still : (firsts xs : List LegValue) (d : LegValue) → is_some (find (is_twin d) xs) ≡ true → StandFor firsts xs → StandFor firsts (xs ++ d ∷ [])
-stand_still firsts xs d found stand test alike = stand test alike ∙ sym (twin_again test alike xs d found)
+pub same_still : (firsts xs : List LegValue) (d : LegValue) → is_some (find (is_twin d) xs) ≡ true → FindTheSame firsts xs → FindTheSame firsts (xs ++ d ∷ [])
+same_still firsts xs d found find_same test alike = find_same test alike ∙ sym (twin_again test alike xs d found)
 
-pub stand_more : (firsts xs : List LegValue) (d : LegValue) → StandFor firsts xs → StandFor (firsts ++ d ∷ []) (xs ++ d ∷ [])
-stand_more firsts xs d stand test alike = last test firsts d ∙ ap (λ o. option_or o (cond (test d) (Some d) None)) (stand test alike) ∙ sym (last test xs d)
+pub same_more : (firsts xs : List LegValue) (d : LegValue) → FindTheSame firsts xs → FindTheSame (firsts ++ d ∷ []) (xs ++ d ∷ [])
+same_more firsts xs d find_same test alike = last test firsts d ∙ ap (λ o. option_or o (cond (test d) (Some d) None)) (find_same test alike) ∙ sym (last test xs d)
 
 -- a class that had no leg has this one
 pub class_begins : (k : Class) (xs : List LegValue) (d : LegValue) → is_some (find (is_twin d) xs) ≡ false → find (is_of k) (xs ++ d ∷ []) ≡ cond (is_of k d) (Some d) (find (is_of k) xs)
@@ -82,8 +82,8 @@ module _ (legs : List Leg) (i : ℕ) (leg : Leg) (l : i < length legs) (is : leg
   pub table_still : (k : Class) → is_some (find (is_twin (leg_of leg)) (legs_of (take i legs))) ≡ true → find (is_of k) (legs_of (take i legs)) ≡ find (is_of k) (legs_of (take (i + 1) legs))
   table_still k found = sym (twin_again (is_of k) (is_of-twins k) (legs_of (take i legs)) (leg_of leg) found) ∙ further (is_of k)
 
-  pub firsts_still : (firsts : List LegValue) → is_some (find (is_twin (leg_of leg)) (legs_of (take i legs))) ≡ true → StandFor firsts (legs_of (take i legs)) → StandFor firsts (legs_of (take (i + 1) legs))
-  firsts_still firsts found stand test alike = stand_still firsts (legs_of (take i legs)) (leg_of leg) found stand test alike ∙ further test
+  pub firsts_still : (firsts : List LegValue) → is_some (find (is_twin (leg_of leg)) (legs_of (take i legs))) ≡ true → FindTheSame firsts (legs_of (take i legs)) → FindTheSame firsts (legs_of (take (i + 1) legs))
+  firsts_still firsts found find_same test alike = same_still firsts (legs_of (take i legs)) (leg_of leg) found find_same test alike ∙ further test
 
   pub table_more : (k : Class) (b : Bool) (old : Option LegValue) → b ≡ is_of k (leg_of leg) → is_some (find (is_twin (leg_of leg)) (legs_of (take i legs))) ≡ false → old ≡ find (is_of k) (legs_of (take i legs)) → cond b (Some (leg_of leg)) old ≡ find (is_of k) (legs_of (take (i + 1) legs))
   table_more k b old same none before =
@@ -92,5 +92,5 @@ module _ (legs : List Leg) (i : ℕ) (leg : Leg) (l : i < length legs) (is : leg
       ∙ sym (class_begins k (legs_of (take i legs)) (leg_of leg) none)
       ∙ further (is_of k)
 
-  pub firsts_more : (firsts : List LegValue) → StandFor firsts (legs_of (take i legs)) → StandFor (firsts ++ leg_of leg ∷ []) (legs_of (take (i + 1) legs))
-  firsts_more firsts stand test alike = stand_more firsts (legs_of (take i legs)) (leg_of leg) stand test alike ∙ further test
+  pub firsts_more : (firsts : List LegValue) → FindTheSame firsts (legs_of (take i legs)) → FindTheSame (firsts ++ leg_of leg ∷ []) (legs_of (take (i + 1) legs))
+  firsts_more firsts find_same test alike = same_more firsts (legs_of (take i legs)) (leg_of leg) find_same test alike ∙ further test

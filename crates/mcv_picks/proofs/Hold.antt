@@ -164,9 +164,9 @@ refused (Some d) test h = elim (cases_Bool (test d)) [
   | inr isnt ↦ absurd (let some : ◌≡◌ {A = Option PairFault} (Some OtherServer) None = rw isnt at h in cc)
 ]
 
--- a leg that stands somewhere and passes is found
-stands : (legs : List LegValue) (p : List ℕ) (test : LegValue → Bool) → find test legs ≡ None → fault_of_leg (leg_at legs p) test ≡ None → ⊥
-stands legs p test none h =
+-- a leg that is somewhere and passes is found
+one_is_found : (legs : List LegValue) (p : List ℕ) (test : LegValue → Bool) → find test legs ≡ None → fault_of_leg (leg_at legs p) test ≡ None → ⊥
+one_is_found legs p test none h =
     let there = refused (leg_at legs p) test h in
     none_of (find test legs) none (found_too (λ d. is_same_list d.position p) test legs there.0 there.1 there.2)
 
@@ -248,10 +248,10 @@ none_holds sizes b leaf i x r sized server whole picked index h = by r index h
 
     by : (q : ReasonValue) → (index_of q ≡ i) ⊎ (is_whole q ≡ true) → fault_of b leaf q ≡ None → ⊥
     by never index h = absurd (let some : ◌≡◌ {A = Option PairFault} (Some CanBeAcknowledged) None = rw no.0 at h in cc)
-    by (twin p) index h = stands b.acknowledged p (is_twin leaf) no.1 h
+    by (twin p) index h = one_is_found b.acknowledged p (is_twin leaf) no.1 h
     by (same j p) index h =
         let own : j ≡ i = at_index (same j p) i refl index in
-        stands b.acknowledged p (has_server leaf.symbol (Some x) i) none.0
+        one_is_found b.acknowledged p (has_server leaf.symbol (Some x) i) none.0
         (rw (own, server) at h)
     by (all j ps) index h =
         let own : j ≡ i = at_index (all j ps) i refl index in

@@ -6,7 +6,7 @@ use Rattle.std.proofs.lemmas.Bool.{and_parts, cases_Bool, eqb-true, ltb-true, lt
 use Rattle.std.proofs.lemmas.List.Elements.{All-append, All-cons, All-head, All-nil, All-tail}
 use Rattle.mcv_judge.specs.Reason.{LegValue, is_same_server, server_at}
 use Rattle.mcv_picks.specs.Picks.{each_with, filling, first_with}
-use Rattle.mcv_picks.specs.Tables.{IsLeast, StandFor, is_at, is_filled_by, is_lesser, least}
+use Rattle.mcv_picks.specs.Tables.{IsLeast, FindTheSame, is_at, is_filled_by, is_lesser, least}
 use Rattle.mcv_picks.proofs.Equal.{is_at-twins}
 use Rattle.mcv_picks.proofs.Found.{none_there}
 
@@ -109,12 +109,12 @@ module _ (legs : List LegValue) (x : ℕ) where
     | inr isnt ↦ found_in p Q xs (rw isnt at h) (All-tail Q d xs all)
   ]
 
-  module _ (firsts : List LegValue) (stand : StandFor firsts legs) where
+  module _ (firsts : List LegValue) (find_same : FindTheSame firsts legs) where
     -- a symbol that fills isn't less than what is kept
     at_most : (o : Option ℕ) → All (IsNoLess legs x o) firsts → (t : ℕ) → is_some (filling legs t x) ≡ true → IsSomeAnd o (λ s. s ≤ t)
     at_most o all t fills =
         let there = and_then_some (λ d. each_with legs t x 0 d.servers) (first_with legs t x 0) fills in
-        let first = ap is_some (stand (is_at (t, 0, x)) (is_at-twins (t, 0, x))) ∙ there in
+        let first = ap is_some (find_same (is_at (t, 0, x)) (is_at-twins (t, 0, x))) ∙ there in
         let found = found_in (is_at (t, 0, x)) (IsNoLess legs x o) firsts first all in
         let both = and_parts (nat_eq found.0.symbol t) (is_same_server (server_at found.0 0) (Some x)) found.1 in
         let symbol = eqb-true found.0.symbol t both.0 in

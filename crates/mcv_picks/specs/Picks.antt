@@ -6,9 +6,9 @@ use Rattle.mcv_judge.specs.declared.block.Leg.{Leg}
 use Rattle.mcv_judge.specs.InMemory.{leg_of}
 use Rattle.mcv_judge.specs.Reason.{LegValue, is_twin, has_server}
 
--- a leg that is lent
-abbrev pub lent : Bor Leg → LegValue
-lent d = leg_of d.now
+-- a leg that is borrowed
+abbrev pub borrowed : Bor Leg → LegValue
+borrowed d = leg_of d.now
 
 -- the first twin of a leaf
 abbrev pub first_twin : List LegValue → LegValue → Option LegValue

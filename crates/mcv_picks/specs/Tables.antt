@@ -10,7 +10,7 @@ use Rattle.mcv_base.specs.declared.request.ServerId.{ServerId}
 use Rattle.mcv_judge.specs.declared.block.Leg.{Leg}
 use Rattle.mcv_judge.specs.InMemory.{numbers}
 use Rattle.mcv_judge.specs.Reason.{LegValue, is_same_list, is_same_server, is_twin, has_server, server_at}
-use Rattle.mcv_picks.specs.Picks.{filling, lent}
+use Rattle.mcv_picks.specs.Picks.{borrowed, filling}
 
 -- a symbol and a list of servers
 abbrev pub Class : Type 0
@@ -34,21 +34,21 @@ slot_cmp j k = ordering_then (ordering_then (nat_cmp j.0 k.0) (nat_cmp j.1 k.1))
 abbrev pub is_at : Slot → LegValue → Bool
 is_at q d = has_server q.0 (Some q.2) q.1 d
 
--- a test that tells no twins apart
-abbrev pub TellsNoTwins : (LegValue → Bool) → Type 0
-TellsNoTwins test = (d e : LegValue) → is_twin d e ≡ true → test d ≡ test e
+-- a test that doesn't distinguish twins
+abbrev pub IsSameOnTwins : (LegValue → Bool) → Type 0
+IsSameOnTwins test = (d e : LegValue) → is_twin d e ≡ true → test d ≡ test e
 
--- the first legs of all classes, to a test that tells no twins apart as good as all legs
-abbrev pub StandFor : List LegValue → List LegValue → Type 0
-StandFor firsts legs = (test : LegValue → Bool) → TellsNoTwins test → find test firsts ≡ find test legs
+-- the first legs of all classes, to a test that doesn't distinguish twins as good as all legs
+abbrev pub FindTheSame : List LegValue → List LegValue → Type 0
+FindTheSame firsts legs = (test : LegValue → Bool) → IsSameOnTwins test → find test firsts ≡ find test legs
 
 -- ---- the tables
 
 abbrev pub IsByClass : BTreeMap Class (Bor Leg) → List LegValue → Type 0
-IsByClass table legs = (k : Class) → option_map lent (get class_cmp table k) ≡ find (is_of k) legs
+IsByClass table legs = (k : Class) → option_map borrowed (get class_cmp table k) ≡ find (is_of k) legs
 
 abbrev pub IsBySlot : BTreeMap Slot (Bor Leg) → List LegValue → Type 0
-IsBySlot table legs = (q : Slot) → option_map lent (get slot_cmp table q) ≡ find (is_at q) legs
+IsBySlot table legs = (q : Slot) → option_map borrowed (get slot_cmp table q) ≡ find (is_at q) legs
 
 -- the symbol with the least number that has a leg with the server for each index
 abbrev pub IsLeast : List LegValue → (server : ℕ) → Option ℕ → Type 0

@@ -2,8 +2,8 @@
 
 ghost use Rattle.std.specs.Prelude.{IfOk, map};
 ghost use Rattle.mcv_judge.specs.InMemory.{legs_of};
-ghost use Rattle.mcv_picks.specs.Picks.{lent};
-ghost use Rattle.mcv_picks.specs.Tables.{IsByClass, StandFor};
+ghost use Rattle.mcv_picks.specs.Picks.{borrowed};
+ghost use Rattle.mcv_picks.specs.Tables.{FindTheSame, IsByClass};
 
 use mcv_base::ServerId;
 use mcv_judge::Leg;
@@ -22,7 +22,7 @@ pub fn classes<'a>(
     AllocError,
 >
     ensures table { IfOk result (λ r. IsByClass r.0 (legs_of legs.now)) }
-    ensures firsts { IfOk result (λ r. StandFor (map lent r.1.items) (legs_of legs.now)) }
+    ensures firsts { IfOk result (λ r. FindTheSame (map borrowed r.1.items) (legs_of legs.now)) }
 {
     let mut table = BTreeMap::new(alloc);
     let mut firsts = Vec::new(alloc);

@@ -4,8 +4,8 @@ ghost use Rattle.std.specs.BTreeMap.{get};
 ghost use Rattle.std.specs.Ordering.{nat_cmp};
 ghost use Rattle.std.specs.Prelude.{◌≡◌, ℕ, IfOk, OnOk, Some, if◌then◌else◌, map};
 ghost use Rattle.mcv_judge.specs.InMemory.{leg_of};
-ghost use Rattle.mcv_picks.specs.Picks.{lent};
-ghost use Rattle.mcv_picks.specs.Tables.{IsByServer, StandFor, is_filled_by, is_lesser, least};
+ghost use Rattle.mcv_picks.specs.Picks.{borrowed};
+ghost use Rattle.mcv_picks.specs.Tables.{FindTheSame, IsByServer, is_filled_by, is_lesser, least};
 
 use crate::tables::Tables;
 use mcv_judge::Leg;
@@ -35,13 +35,13 @@ fn keep(table: &mut BTreeMap<u32, usize>, tables: &Tables, leg: &Leg) -> Result<
     Ok(())
 }
 
-/// By server the symbol with the least number that has it at all indexes, told from the first legs of all classes.
+/// By server the symbol with the least number that has it at all indexes, found among the first legs of all classes.
 pub fn least_symbols(
     alloc: Global,
     tables: &Tables,
     firsts: &[&Leg],
 ) -> Result<BTreeMap<u32, usize>, AllocError>
-    requires { StandFor (map lent firsts.now) tables.now }
+    requires { FindTheSame (map borrowed firsts.now) tables.now }
     ensures { IfOk result (λ t. IsByServer t tables.now) }
 {
     let mut table = BTreeMap::new(alloc);

@@ -5,7 +5,7 @@ ghost use Rattle.std.specs.Prelude.{◌≡◌, IfOk, map};
 ghost use Rattle.mcv_judge.specs.InMemory.{leg_of, legs_of};
 ghost use Rattle.mcv_cert.specs.Pair.{reason_of};
 ghost use Rattle.mcv_picks.specs.Reasons.{IsReasonAt, whole_reason};
-ghost use Rattle.mcv_picks.specs.Picks.{IsFirstFilling, first_twin, first_with, lent};
+ghost use Rattle.mcv_picks.specs.Picks.{IsFirstFilling, borrowed, first_twin, first_with};
 
 use crate::least::least_symbols;
 use crate::tables::Tables;
@@ -48,14 +48,14 @@ impl<'a> Picks<'a> {
 
     /// The first leg with the leaf's symbol and servers.
     pub fn twin(&self, leaf: &Leg<'a>) -> Option<&'a Leg<'a>>
-        ensures { option_map lent result ≡ first_twin self.now (leg_of leaf.now) }
+        ensures { option_map borrowed result ≡ first_twin self.now (leg_of leaf.now) }
     {
         self.tables.twin(leaf)
     }
 
     /// The first leg of the symbol that has the server at the index.
     pub fn same(&self, symbol: usize, server: ServerId, index: usize) -> Option<&'a Leg<'a>>
-        ensures { option_map lent result ≡ first_with self.now symbol server.0 index }
+        ensures { option_map borrowed result ≡ first_with self.now symbol server.0 index }
     {
         self.tables.with(symbol, server, index)
     }
@@ -67,7 +67,7 @@ impl<'a> Picks<'a> {
         alloc: Global,
         server: ServerId,
     ) -> Result<Option<Vec<&'a Leg<'a>>>, AllocError>
-        ensures { IfOk result (λ o. IsFirstFilling self.now server.0 (option_map (λ v. map lent v.items) o)) }
+        ensures { IfOk result (λ o. IsFirstFilling self.now server.0 (option_map (λ v. map borrowed v.items) o)) }
     {
         let Some(symbol) = self.by_server.get(&server.0) else {
             return Ok(None);
@@ -116,7 +116,7 @@ impl<'a> Picks<'a> {
 
 /// The positions of the legs.
 fn positions<'a>(alloc: Global, legs: &[&'a Leg<'a>]) -> Result<Vec<Position>, AllocError>
-    ensures { IfOk result (λ v. v.items ≡ map (λ d. d.position) (map lent legs.now)) }
+    ensures { IfOk result (λ v. v.items ≡ map (λ d. d.position) (map borrowed legs.now)) }
 {
     let mut positions = Vec::new(alloc);
     for leg in legs {

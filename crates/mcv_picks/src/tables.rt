@@ -3,8 +3,8 @@
 ghost use Rattle.std.specs.Option.{option_map};
 ghost use Rattle.std.specs.Prelude.{◌≡◌, IfOk, is_some, map};
 ghost use Rattle.mcv_judge.specs.InMemory.{leg_of, legs_of, numbers};
-ghost use Rattle.mcv_picks.specs.Picks.{each_with, filling, first_twin, first_with, lent};
-ghost use Rattle.mcv_picks.specs.Tables.{StandFor};
+ghost use Rattle.mcv_picks.specs.Picks.{borrowed, each_with, filling, first_twin, first_with};
+ghost use Rattle.mcv_picks.specs.Tables.{FindTheSame};
 
 use crate::classes::classes;
 use crate::slots::slots;
@@ -41,7 +41,7 @@ impl<'a> Tables<'a> {
     /// The tables, and the first legs of all classes of twins.
     pub fn new(alloc: Global, legs: &'a [Leg<'a>]) -> Result<(Self, Vec<&'a Leg<'a>>), AllocError>
         ensures legs { IfOk result (λ r. r.0 ≡ legs_of legs.now) }
-        ensures firsts { IfOk result (λ r. StandFor (map lent r.1.items) (legs_of legs.now)) }
+        ensures firsts { IfOk result (λ r. FindTheSame (map borrowed r.1.items) (legs_of legs.now)) }
     {
         let (by_class, firsts) = classes(alloc, legs)?;
         let by_slot = slots(alloc, firsts.as_slice())?;
@@ -55,14 +55,14 @@ impl<'a> Tables<'a> {
 
     /// The first twin of a leaf.
     pub fn twin(&self, leaf: &Leg<'a>) -> Option<&'a Leg<'a>>
-        ensures { option_map lent result ≡ first_twin self.now (leg_of leaf.now) }
+        ensures { option_map borrowed result ≡ first_twin self.now (leg_of leaf.now) }
     {
         self.by_class.get(&(leaf.symbol, leaf.servers)).copied()
     }
 
     /// The first leg of the symbol that has the server at the index.
     pub fn with(&self, symbol: usize, server: ServerId, index: usize) -> Option<&'a Leg<'a>>
-        ensures { option_map lent result ≡ first_with self.now symbol server.0 index }
+        ensures { option_map borrowed result ≡ first_with self.now symbol server.0 index }
     {
         self.by_slot.get(&(symbol, index, server.0)).copied()
     }
@@ -84,7 +84,7 @@ impl<'a> Tables<'a> {
         symbol: usize,
         server: ServerId,
     ) -> Result<Option<Vec<&'a Leg<'a>>>, AllocError>
-        ensures { IfOk result (λ o. option_map (λ v. map lent v.items) o ≡ filling self.now symbol server.0) }
+        ensures { IfOk result (λ o. option_map (λ v. map borrowed v.items) o ≡ filling self.now symbol server.0) }
     {
         match self.with(symbol, server, 0) {
             Some(first) => each_with(alloc, self, symbol, server, first.servers),
@@ -113,7 +113,7 @@ fn each_with<'a>(
     server: ServerId,
     servers: &[ServerId],
 ) -> Result<Option<Vec<&'a Leg<'a>>>, AllocError>
-    ensures { IfOk result (λ o. option_map (λ v. map lent v.items) o ≡ each_with tables.now symbol server.0 0 (numbers servers.now)) }
+    ensures { IfOk result (λ o. option_map (λ v. map borrowed v.items) o ≡ each_with tables.now symbol server.0 0 (numbers servers.now)) }
 {
     let mut legs = Vec::new(alloc);
     for (index, _) in servers.iter().enumerate() {

@@ -1,9 +1,9 @@
--- The parts of a plan tell what the landed definitions say.
+-- The parts of a plan say what the landed definitions say.
 use Rattle.std.proofs.Common.{◌≡◌, ◌⊎◌, inl, inr, ◌<◌, ◌≤◌, cond, max, ℕ, suc, Bool, true, false, ◌&&◌, ◌||◌, nat_lt, nat_le, List, [], ◌∷◌, map, Option, Some, None, option_map, refl, sym, ap, ◌∙◌, arith}
 use Rattle.std.specs.Prelude.{◌==◌, fold}
+use Rattle.mcv_base.specs.Reply.{badness}
 use Rattle.mcv_base.specs.declared.reply.Outcome.{Outcome}
 use Rattle.mcv_base.specs.declared.reply.Outcome.TheVariants.{Good, Soft, Error}
-use Rattle.mcv_route.specs.Replies.{badness}
 use Rattle.mcv_rules.specs.Arrivals as arrivals
 use Rattle.mcv_rules.specs.declared.arrival.Answer as answers
 use Rattle.mcv_rules.specs.declared.arrival.Arrival.{Arrival}

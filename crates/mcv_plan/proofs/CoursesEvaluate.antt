@@ -26,7 +26,7 @@ use Rattle.mcv_rules.specs.declared.plan.Plan.{Plan}
 use Rattle.mcv_rules.specs.History.{history_of, place_of}
 use Rattle.mcv_rules.specs.Laid.{Serves, sent}
 use Rattle.mcv_rules.specs.Laws.{IsOneOf, outcome_at}
-use Rattle.mcv_rules.specs.Rows.{StandsBefore}
+use Rattle.mcv_rules.specs.Rows.{ComesBefore}
 use Rattle.mcv_rules.specs.Status.{source_of}
 use Rattle.mcv_rules.proofs.One.{reply_is_one_of}
 use Rattle.mcv_rules.proofs.True.{answers_are_true}
@@ -134,7 +134,7 @@ sublist_part ps qs (sublists.left_out q x y f) = both-parts [] x (q ∷ []) y (n
 
 -- ---- the law
 
-module _ (p : Plan) (t : Tree) (situation : Situation) (c : Choice) (s : State) (serves : Serves p t situation) (rise : AllPairs StandsBefore (map (λ l. l.position) (legs_of c p))) (course : IsCourseOf c p s) where
+module _ (p : Plan) (t : Tree) (situation : Situation) (c : Choice) (s : State) (serves : Serves p t situation) (rise : AllPairs ComesBefore (map (λ l. l.position) (legs_of c p))) (course : IsCourseOf c p s) where
   abbrev ls : List Launch
   ls = legs_of c p
 

@@ -7,7 +7,7 @@ use Rattle.std.specs.declared.cmp.Ordering.TheVariants.{Less, Equal}
 use Rattle.std.proofs.lemmas.Cmp.{nat_list_cmp_total, tied_itself}
 use Rattle.mcv_route.specs.declared.launch.Launch.{Launch}
 use Rattle.mcv_route.specs.Outcomes.{is_same}
-use Rattle.mcv_rules.specs.Rows.{StandsBefore}
+use Rattle.mcv_rules.specs.Rows.{ComesBefore}
 use Rattle.mcv_rules.proofs.Orders.{same_is, same_self}
 use Rattle.mcv_plan.specs.Built.{Follow}
 use Rattle.mcv_plan.specs.Entries.{numbers}
@@ -79,12 +79,12 @@ map_count : (ls : List Launch) → length (map (λ l. l.position) ls) ≡ length
 map_count [] = refl
 map_count (l ∷ ls) = ap suc (map_count ls)
 
-before_at : (ls : List Launch) (j k : ℕ) → AllPairs StandsBefore (map (λ l. l.position) ls) → j < k → k < length ls → StandsBefore (position_at ls j) (position_at ls k)
+before_at : (ls : List Launch) (j k : ℕ) → AllPairs ComesBefore (map (λ l. l.position) ls) → j < k → k < length ls → ComesBefore (position_at ls j) (position_at ls k)
 before_at ls j k rise h g =
     let n = map_count ls in
     (rw (places_at ls j [] (omega (arith, h, g)), places_at ls k [] g) at (rise j k [] h (omega (arith, g, n))))
 
-not_same : (p q : List ℕ) (t : Bool) → StandsBefore p q → is_same p q ≡ t → t ≡ false
+not_same : (p q : List ℕ) (t : Bool) → ComesBefore p q → is_same p q ≡ t → t ≡ false
 not_same p q true h e =
     let is = same_is p q e in
     let tied : slice_cmp nat_cmp p q ≡ Equal = ap (λ z. slice_cmp nat_cmp z q) is ∙ tied_itself nat_list_cmp_total q in
@@ -99,7 +99,7 @@ same_sym p q e = by_test (is_same q p) refl
     by_test false f = refl
 
 -- of entries whose positions rise no two have one position
-pub placed_apart : (ls : List Launch) → AllPairs StandsBefore (map (λ l. l.position) ls) → ArePlacedApart (λ k. (leg_at ls k).position) (numbers zero (length ls))
+pub placed_apart : (ls : List Launch) → AllPairs ComesBefore (map (λ l. l.position) ls) → ArePlacedApart (λ k. (leg_at ls k).position) (numbers zero (length ls))
 placed_apart ls rise j k h g = by_order (nat_eq j k) refl
   where
     j_below : j < length ls

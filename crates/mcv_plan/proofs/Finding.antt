@@ -39,6 +39,18 @@ found_at (e ∷ es) k (suc i) h p =
     let right : (j : ℕ) (d : ℕ) → i ≤ j → j < length es → nat_le (get_or es j d) k ≡ false = λ j d a b. p.1 (suc j) d (omega (arith, a)) (omega (arith, b)) in
     rw on (ap suc (found_at es k i less (left, right)))
 
+-- the leg lies behind the children before this one, and not behind it
+pub found_between : (from : ℕ) (es : List ℕ) (kss : List (List ℕ)) (k i : ℕ) → are_placed from es kss ≡ true → i < length es → k < get_or es i 0 → ((j : ℕ) → suc j ≡ i → get_or es j 0 ≤ k) → i ≡ child_at es k
+found_between from [] kss k i p h u l = absurd (omega (arith, h))
+found_between from (e ∷ es) [] k i p h u l = absurd (cc)
+found_between from (e ∷ es) (ks ∷ kss) k zero p h u l = let off : nat_le e k ≡ false = grind (arith, u) in rw off refl
+found_between from (e ∷ es) (ks ∷ kss) k (suc i) p h u l =
+    let q = and_both (nat_le from e && within from e ks) (are_placed e es kss) p in
+    let low = (rise from (e ∷ es) (ks ∷ kss) p 0 i 0 (omega arith) (omega (arith, h))).1 in
+    let here : get_or (e ∷ es) i 0 ≤ k = l i refl in
+    let on : nat_le e k ≡ true = grind (arith, low, here) in
+    rw on (ap suc (found_between e es kss k i q.1 (omega (arith, h)) u (λ j same. l (suc j) (ap suc same))))
+
 -- ---- the leg is one of that child
 
 pub within_not : (from end k : ℕ) (ks : List ℕ) → within from end ks ≡ true → end ≤ k → holds k ks ≡ false

@@ -225,14 +225,14 @@ heard_second e x r b a s end u v off h =
       reflects = λ o t n bf sent st.
           let q = put o e (reached e x t) in
           let second = sent_second o sent in
-          let stood : Reflects o u = (rw (second.0) at st.1) in
-          (reflects_local o q s (agree_put o e (reached e x t) (entries s) off) st.0, rw (← answered_local o q s (agree_put o e (reached e x t) (entries s) off), second.0) (h.reflects o t n bf second.1 stood));
+          let reflected : Reflects o u = (rw (second.0) at st.1) in
+          (reflects_local o q s (agree_put o e (reached e x t) (entries s) off) st.0, rw (← answered_local o q s (agree_put o e (reached e x t) (entries s) off), second.0) (h.reflects o t n bf second.1 reflected));
       reply = λ o t n bf sent st. sym (answered_local o (put o e (reached e x t)) s (agree_put o e (reached e x t) (entries s) off));
       fresh = λ o t n bf sent st.
           let q = put o e (reached e x t) in
           let second = sent_second o sent in
-          let stood : Reflects o u = (rw (second.0) at st.1) in
-          let f = h.fresh o t n bf second.1 stood in
+          let reflected : Reflects o u = (rw (second.0) at st.1) in
+          let f = h.fresh o t n bf second.1 reflected in
           let apart = agree_put o e (reached e x t) (entries s) off in
           (f.0, f.1, behind_merge (is_hit (answer_of (answered o s))) (is_hit (answer_of (answered q s))) (sends o s) (sends q s) (sends o u) f.0 (sends q u) second.0 (ap (λ z. is_hit (answer_of z)) (sym (answered_local o q s apart))) (sym (sends_local o q s apart)) f.2);
     }

@@ -5,7 +5,7 @@ pub mod Views
 pub mod Merges
 pub mod Lists
 pub mod Heard
-pub mod Turn
+pub mod OutcomeInSearch
 pub mod Children
 pub mod PastGrows
 pub mod ArrivalsAgree

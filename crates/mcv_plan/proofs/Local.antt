@@ -192,7 +192,7 @@ mutual
             (λ g. reflect_local_turn w o q ss behind g) (λ g. (g.0, unheard_local o q (joined (entries_each ss)) behind g.1)) f.1),
       )
 
--- before any outcome all children of a search stand
+-- before any outcome all children of a search are taken in
 pub turn_reflects : (w : After) (ss : States) → ReflectTurn w nothing ss → ReflectEach nothing ss
 turn_reflects w none f = f
 turn_reflects w (more s ss) f = (f.0, rest (goes_on_after w (answer_of (answered nothing s))) (λ g. turn_reflects w ss g) f.1)

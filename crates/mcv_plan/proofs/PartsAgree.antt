@@ -17,7 +17,7 @@ use Rattle.mcv_route.specs.Children.{is_within}
 use Rattle.mcv_route.specs.Outcomes.{Outcomes}
 use Rattle.mcv_route.specs.Reply.{arrival, came}
 use Rattle.mcv_rules.specs.Plan.{both}
-use Rattle.mcv_rules.proofs.Own.{own_outcome}
+use Rattle.mcv_rules.proofs.KnownIsHistory.{own_outcome}
 use Rattle.mcv_base.specs.declared.reply.Outcome.{Outcome}
 use Rattle.mcv_base.specs.declared.reply.Outcome.TheVariants.{Good, Soft, Error}
 use Rattle.mcv_rules.specs.declared.arrival.Answer as answers

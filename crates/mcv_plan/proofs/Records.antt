@@ -11,7 +11,7 @@ use Rattle.mcv_rules.specs.History.{entry_of, history_of, place_of}
 use Rattle.mcv_rules.specs.declared.status.Source.TheVariants.{Outcome as sources_place}
 use Rattle.mcv_rules.specs.declared.arrival.Arrival.{Arrival}
 use Rattle.mcv_rules.specs.declared.status.Source as sources
-use Rattle.mcv_rules.proofs.Own.{own_found-grows, count-grows, history_of-append, next_found, outcome_first, own_outcome, told, told_at}
+use Rattle.mcv_rules.proofs.KnownIsHistory.{own_found-grows, count-grows, history_of-append, next_found, outcome_first, own_outcome, outcome_of_answered, outcome_at_place}
 use Rattle.mcv_rules.proofs.Orders.{same_is}
 use Rattle.mcv_plan.specs.declared.answer.Source.{Source}
 use Rattle.mcv_plan.specs.Reached.{Reached, reached}
@@ -169,9 +169,9 @@ pub numbered_place : (number : ℕ → ℕ) (position : ℕ → List ℕ) (ks : 
     → (p : List ℕ) (x : Outcome) → outcomes (history_of xs) p ≡ Some x → IsNumbered number position ks (place_of xs p) p
 numbered_place number position ks apart es xs h p x e = by_entry (slice_get xs (place_of xs p)) refl
   where
-    seen_at : option_map told (slice_get xs (place_of xs p)) ≡ Some x
-    seen_at = told_at xs p ∙ sym (outcome_first xs p) ∙ e
+    seen_at : option_map outcome_of_answered (slice_get xs (place_of xs p)) ≡ Some x
+    seen_at = outcome_at_place xs p ∙ sym (outcome_first xs p) ∙ e
 
     by_entry : (r : Option Answered) → slice_get xs (place_of xs p) ≡ r → IsNumbered number position ks (place_of xs p) p
-    by_entry None f = absurd (let g : None ≡ Some x = ap (option_map told) (sym f) ∙ seen_at in cc)
+    by_entry None f = absurd (let g : None ≡ Some x = ap (option_map outcome_of_answered) (sym f) ∙ seen_at in cc)
     by_entry (Some a) f = let n = numbered_at number position ks apart es xs h (place_of xs p) a f in (n.0, n.1 ∙ found_place xs p a f)

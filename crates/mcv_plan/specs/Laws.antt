@@ -10,7 +10,7 @@ use Rattle.mcv_route.specs.Replies as definition
 use Rattle.mcv_route.specs.Reply.{reply}
 use Rattle.mcv_route.specs.Situation.{Situation}
 use Rattle.mcv_route.specs.Tree.{Tree}
-use Rattle.mcv_rules.specs.Rows.{StandsBefore}
+use Rattle.mcv_rules.specs.Rows.{ComesBefore}
 use Rattle.mcv_rules.specs.Status.{default_reply}
 use Rattle.mcv_plan.specs.declared.answer.Answer.{Answer}
 use Rattle.mcv_plan.specs.declared.answer.Source.{Source}
@@ -37,7 +37,7 @@ has_position ls p = list_any (λ l. is_same l.position p) ls
 -- what is launched at any outcomes are the entries at whose positions something is launched, in the order of positions
 pub record IsLaidOut (t : Tree) (s : Situation) (c : Choice) (ls : List Launch) : Type 0 where
   pub all : (o : Outcomes) → launched t s c o ≡ filter (λ l. has_position (launched t s c o) l.position) ls
-  pub rising : AllPairs StandsBefore (map (λ l. l.position) ls)
+  pub rising : AllPairs ComesBefore (map (λ l. l.position) ls)
 
 -- ---- the reply
 

@@ -2,8 +2,7 @@
 use Rattle.std.specs.Prelude.{◌≡◌, ℕ, suc, max, Bool, false, true, List, [], ◌∷◌, ◌++◌, Option, Some, None, option_map, nat_eq, nat_lt, nat_le, ◌&&◌, ◌||◌, ◌==◌, slice_get, slice_set, if◌then◌else◌}
 use Rattle.mcv_base.specs.declared.reply.Outcome.{Outcome}
 use Rattle.mcv_base.specs.declared.reply.FixedReply.{FixedReply}
-use Rattle.mcv_base.specs.Reply.{outcome_of, fixed_value, is_good}
-use Rattle.mcv_route.specs.Replies.{badness}
+use Rattle.mcv_base.specs.Reply.{outcome_of, fixed_value, is_good, badness}
 use Rattle.mcv_rules.specs.declared.arrival.After.{After}
 -- whether a search goes on after an outcome
 pub use Rattle.mcv_rules.specs.Arrivals.{goes_on}

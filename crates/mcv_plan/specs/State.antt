@@ -140,7 +140,7 @@ abbrev mutual
   ReflectEach o none = ⊤
   ReflectEach o (more s ss) = Reflects o s × ReflectEach o ss
 
-  -- those that a search has come to stand, and the others wait
+  -- those that a search has come to are taken in, and the others wait
   pub ReflectTurn : After → Own → States → Type 0
   ReflectTurn w o none = ⊤
   ReflectTurn w o (more s ss) = Reflects o s × Either (goes_on_after w (answer_of (answered o s))) (ReflectTurn w o ss) (ReflectEach nothing ss × IsUnheard o (joined (entries_each ss)))

@@ -1,7 +1,6 @@
 //! What a part of a plan replies.
 
 ghost use Rattle.std.specs.Prelude.{◌≡◌};
-ghost use Rattle.mcv_route.specs.Replies.{badness};
 ghost use Rattle.mcv_plan.specs.Reached.{fixed_answer, goes_on_after, is_hit, over};
 
 use mcv_base::{FixedReply, Outcome};
@@ -39,19 +38,9 @@ impl Answer {
         ensures { result ≡ over worst self }
     {
         match worst {
-            Some(worst) if badness(self.outcome) < badness(worst.outcome) => worst,
+            Some(worst) if self.outcome.badness() < worst.outcome.badness() => worst,
             _ => self,
         }
-    }
-}
-
-fn badness(outcome: Outcome) -> u8
-    ensures { result ≡ badness outcome }
-{
-    match outcome {
-        Outcome::Good => 0,
-        Outcome::Soft => 1,
-        Outcome::Error => 2,
     }
 }
 

@@ -176,10 +176,29 @@ fn advance_child(
     advance(&mut children[child], entry, outcome, fresh)
 }
 
-/// The number of the child to which the leg belongs.
+/// Whether the leg belongs to the child with this number: it lies behind those before it, and not behind this one.
+fn belongs(ends: &[usize], child: usize, entry: usize) -> bool
+    requires { (from : ℕ) × (kss : List (List ℕ)) × (are_placed from ends.now kss ≡ true) }
+    ensures { result ≡ true → child ≡ child_at ends.now entry }
+{
+    if child >= ends.len() || ends[child] <= entry {
+        return false;
+    }
+    child == 0 || ends[child - 1] <= entry
+}
+
+/// The number of the child to which the leg belongs. Where each child has one leg it is found at once.
 fn child_of(ends: &[usize], entry: usize) -> usize
     requires { (from : ℕ) × (kss : List (List ℕ)) × (are_placed from ends.now kss ≡ true) }
     ensures { result ≡ child_at ends.now entry }
 {
+    let first = match ends.first() {
+        Some(end) => end.saturating_sub(1),
+        None => 0,
+    };
+    let guess = entry.saturating_sub(first);
+    if belongs(ends, guess, entry) {
+        return guess;
+    }
     ends.partition_point(|end| *end <= entry)
 }

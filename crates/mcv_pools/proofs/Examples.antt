@@ -29,7 +29,7 @@ a_is_even = refl
 b_is_odd : fnv_index two (codes "b") ≡ 1
 b_is_odd = refl
 
--- the salt stands behind the part
+-- the salt comes behind the part
 part_and_salt : fnv_index salted (codes "foo") ≡ 9625390261332436968
 part_and_salt = refl
 

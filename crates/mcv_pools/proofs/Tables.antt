@@ -1,4 +1,4 @@
--- What stands where in a table, and what a table of texts has of the set that holds it.
+-- What is where in a table, and what a table of texts has of the set that holds it.
 use Rattle.std.proofs.Common.{◌≡◌, ℕ, ◌+◌, ◌<◌, ◌≤◌, Bool, true, false, cond, not, ◌||◌, List, [], ◌∷◌, ◌++◌, map, length, get_or, slice_get, position, Some, None, refl, sym, ap, ◌∙◌, true≢false, nat_lt, arith, length-append}
 use Rattle.std.specs.Bool.{Decides}
 use Rattle.std.specs.List.{position_or_len, list_any, IsDistinct, AllByRecursion}
@@ -99,8 +99,8 @@ module _ {A : Type 0} (same : A → A → Bool) (decides : (x y : A) → Decides
   pub kept : (i : ℕ) → number_in same table x ≡ Some i → table ≡ with_entry same table x
   kept i e = rw (there i e) refl
 
-  pub stands : (i : ℕ) → number_in same table x ≡ Some i → slice_get table i ≡ Some x
-  stands i e =
+  pub is_at_number : (i : ℕ) → number_in same table x ≡ Some i → slice_get table i ≡ Some x
+  is_at_number i e =
       let s = position-Some (same x) table i x e in
       let at : x ≡ get_or table i x = (decides x (get_or table i x)).0 s.1 in
       slice_get-get_or table i x s.0 ∙ ap Some (sym at)

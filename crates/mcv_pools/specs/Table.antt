@@ -2,7 +2,7 @@
 use Rattle.std.specs.Prelude.{◌≡◌, ℕ, Bool, List, [], ◌∷◌, ◌++◌, Option, Some, fold, position, slice_get, if◌then◌else◌}
 use Rattle.std.specs.List.{list_any}
 
--- nothing stands at two places
+-- nothing is at two places
 abbrev pub IsOneToOne : {A : Type 0} → List A → Type 0
 IsOneToOne {A} table = (i j : ℕ) (x : A) → slice_get table i ≡ Some x → slice_get table j ≡ Some x → i ≡ j
 

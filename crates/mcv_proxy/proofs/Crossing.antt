@@ -85,7 +85,7 @@ call_send : IsSend Call.the_row
 call_send = search (eval_send, op.the_field_send, moment.the_send, choice.the_send, laid.the_send, laid.the_sync, launched.the_send, recorded.the_send, sendable, crosses, maps.crosses) depth 24
 
 calls_send : IsSend Calls.the_field.row
-calls_send = search (call_send, hasher.the_send, hasher.the_field_send, sendable, crosses, maps.crosses) depth 24
+calls_send = search (call_send, hasher.the_send, sendable, crosses, maps.crosses) depth 24
 
 dispatcher_send : IsSend Dispatcher.the_field.row
 dispatcher_send = search (accepted_send, accepted_sync, calls_send, queues.the_field_send, errand.the_send, marks.the_field_send, counts.the_field_send, moment.the_send, moment.the_field_send, sendable, crosses, maps.crosses) depth 24

@@ -1,4 +1,4 @@
--- What events do to the lent state beyond the hub's own (own).
+-- What events do to the borrowed state beyond the hub's own (own).
 use Rattle.std.specs.Prelude.{◌≡◌, Result, OnOk, OnErr}
 use Rattle.mcv_base.specs.Reply.{fixed_value}
 use Rattle.mcv_base.specs.declared.reply.FixedReply.TheVariants.{Lost}

@@ -1,4 +1,4 @@
--- What one step of a thread does to the lent state (own).
+-- What one step of a thread does to the borrowed state (own).
 use Rattle.std.specs.Prelude.{◌≡◌, Bool, true, false, Some, Result, Ok, Err}
 use Rattle.mcv_base.specs.Reply.{ReplyValue}
 use Rattle.mcv_base.specs.declared.request.LegId.{LegId}

@@ -8,18 +8,18 @@ use std::sync::ledger::Ledger;
 
 /// A leg that waited for its server when it was launched, and that its session sends itself.
 #[derive(Clone, Copy, Debug, PartialEq, Eq)]
-pub(crate) struct Owed {
+pub(crate) struct Due {
     pub(crate) server: ServerId,
     pub(crate) leg: LegId,
 }
 
 /// What events leave to be done: bells to be rung once the lock is let go, so that who wakes doesn't find it locked, and
-/// legs that a session owes its calls.
+/// legs that a session has to send for its calls.
 #[derive(Drop)]
 pub(crate) struct Agenda<'a, B: Ledger, T: Ledger> {
     hub: &'a Hub<B, T>,
     bells: Vec<Bell>,
-    pub(crate) owed: Vec<Owed>,
+    pub(crate) due: Vec<Due>,
 }
 
 /// Whether one of these calls may wait for the leg's reply.
@@ -43,7 +43,7 @@ impl<'a, B: Ledger, T: Ledger> Agenda<'a, B, T> {
         Agenda {
             hub,
             bells: Vec::new(alloc),
-            owed: Vec::new(alloc),
+            due: Vec::new(alloc),
         }
     }
 
@@ -65,10 +65,10 @@ impl<'a, B: Ledger, T: Ledger> Agenda<'a, B, T> {
         self.bells.clear();
     }
 
-    /// A leg was launched: the session owes it if one of its own calls may wait for it; else its server's worker is rung.
+    /// A leg was launched: the session has to send it if one of its own calls may wait for it; else its server's worker is rung.
     fn note_leg(&mut self, leg: LegId, view: &LegView<'_>, own: &[CallId]) {
         let server = view.server;
-        if !is_awaited(view, own) || self.owed.push(Owed { server, leg }).is_err() {
+        if !is_awaited(view, own) || self.due.push(Due { server, leg }).is_err() {
             self.add(Bell::Server(server));
         }
     }
@@ -83,13 +83,13 @@ impl<'a, B: Ledger, T: Ledger> Agenda<'a, B, T> {
         }
     }
 
-    /// Leaves the legs that are owed and still wait to the workers of their servers.
+    /// Leaves the legs that are due and still wait to the workers of their servers.
     pub(crate) fn leave(&mut self, core: &Dispatcher) {
-        for owed in self.owed.iter() {
-            if core.place(owed.leg) == Some(Place::Waiting) {
-                keep_in_mind(self.hub, &mut self.bells, Bell::Server(owed.server));
+        for due in self.due.iter() {
+            if core.place(due.leg) == Some(Place::Waiting) {
+                keep_in_mind(self.hub, &mut self.bells, Bell::Server(due.server));
             }
         }
-        self.owed.clear();
+        self.due.clear();
     }
 }

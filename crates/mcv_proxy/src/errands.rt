@@ -2,7 +2,7 @@
 
 ghost use Rattle.std.specs.Prelude.{◌≡◌, IfErr, IfOk};
 
-use crate::agenda::{Agenda, Owed};
+use crate::agenda::{Agenda, Due};
 use crate::departure::take_next;
 use crate::gates::Link;
 use crate::landing::{land, lose};
@@ -16,10 +16,10 @@ use std::marker::PhantomData;
 use std::sync::Wait;
 use std::sync::ledger::Ledger;
 
-/// What becomes of a leg that is owed, once its server was looked at.
+/// What becomes of a leg that is due, once its server was looked at.
 #[derive(Clone, Copy, Debug, PartialEq, Eq)]
 enum Attention {
-    /// It isn't owed any more.
+    /// It isn't due any more.
     None,
     /// It is looked at again at once: another leg of its server was in the way, and isn't any more.
     Now,
@@ -28,7 +28,7 @@ enum Attention {
 }
 
 /// What a session has to do for the legs of its calls. It sends one leg at a time, so that no server waits for another one's
-/// reply; what is owed to other servers meanwhile is left to their workers.
+/// reply; what is due to other servers meanwhile is left to their workers.
 #[derive(Drop)]
 pub(crate) struct Errands<'a, B: Ledger, T: Ledger, L: Link> {
     pub(crate) agenda: Agenda<'a, B, T>,
@@ -36,8 +36,8 @@ pub(crate) struct Errands<'a, B: Ledger, T: Ledger, L: Link> {
     flight: Option<Flight>,
     /// The leg in flight that it sent, until that is reported.
     landed: Option<Landed<L>>,
-    /// Legs that are still owed, while others are looked at.
-    late: Vec<Owed>,
+    /// Legs that are still due, while others are looked at.
+    late: Vec<Due>,
     /// A leg was lost without being sent, so that replies may be there.
     has_lost: bool,
     /// A server that is marked since the last notice.
@@ -110,19 +110,19 @@ impl<'a, B: Ledger, T: Ledger, L: Link> Errands<'a, B, T, L> {
         }
     }
 
-    /// A leg came in flight to the server of one that is owed.
+    /// A leg came in flight to the server of one that is due.
     fn take_up<R: Wait>(
         &mut self,
         rt: &R,
         lanes: &Lanes,
         guard: &Guard<'_, B, T>,
-        owed: Owed,
+        due: Due,
         was_marked: bool,
         departure: Departure,
     ) -> Attention {
         match departure {
             Departure::Sent(flight) => {
-                let is_own = flight.leg == owed.leg;
+                let is_own = flight.leg == due.leg;
                 self.flight = Some(flight);
                 if is_own {
                     Attention::None
@@ -131,8 +131,8 @@ impl<'a, B: Ledger, T: Ledger, L: Link> Errands<'a, B, T, L> {
                 }
             }
             Departure::Lost(leg) => {
-                self.after_loss(rt, lanes, guard, owed.server, was_marked);
-                if leg == owed.leg {
+                self.after_loss(rt, lanes, guard, due.server, was_marked);
+                if leg == due.leg {
                     Attention::None
                 } else {
                     Attention::Now
@@ -141,7 +141,7 @@ impl<'a, B: Ledger, T: Ledger, L: Link> Errands<'a, B, T, L> {
         }
     }
 
-    /// Looks at the server of a leg that is owed and waits, while the session has no leg in flight.
+    /// Looks at the server of a leg that is due and waits, while the session has no leg in flight.
     fn try_server<R: Wait>(
         &mut self,
         rt: &R,
@@ -149,16 +149,16 @@ impl<'a, B: Ledger, T: Ledger, L: Link> Errands<'a, B, T, L> {
         lanes: &Lanes,
         guard: &mut Guard<'_, B, T>,
         own: &[CallId],
-        owed: Owed,
+        due: Due,
     ) -> Attention {
-        let was_marked = guard.core().marked(owed.server);
-        match take_next(alloc, &mut self.agenda, guard, own, owed.server) {
-            Ok(departure) => self.take_up(rt, lanes, guard, owed, was_marked, departure),
+        let was_marked = guard.core().marked(due.server);
+        match take_next(alloc, &mut self.agenda, guard, own, due.server) {
+            Ok(departure) => self.take_up(rt, lanes, guard, due, was_marked, departure),
             Err(_) => Attention::Later,
         }
     }
 
-    /// Looks at the server of a leg that is owed. While the session has a leg in flight to another server the leg is left to
+    /// Looks at the server of a leg that is due. While the session has a leg in flight to another server the leg is left to
     /// its worker.
     fn attend<R: Wait>(
         &mut self,
@@ -167,35 +167,35 @@ impl<'a, B: Ledger, T: Ledger, L: Link> Errands<'a, B, T, L> {
         lanes: &Lanes,
         guard: &mut Guard<'_, B, T>,
         own: &[CallId],
-        owed: Owed,
+        due: Due,
     ) -> Attention {
-        if guard.core().place(owed.leg) != Some(Place::Waiting) {
+        if guard.core().place(due.leg) != Some(Place::Waiting) {
             return Attention::None;
         }
         match self.flies_to() {
-            None => self.try_server(rt, alloc, lanes, guard, own, owed),
-            Some(server) if server == owed.server => Attention::Later,
+            None => self.try_server(rt, alloc, lanes, guard, own, due),
+            Some(server) if server == due.server => Attention::Later,
             Some(_) => {
-                lanes.leave(rt, owed.server, owed.leg);
-                self.agenda.add(Bell::Server(owed.server));
+                lanes.leave(rt, due.server, due.leg);
+                self.agenda.add(Bell::Server(due.server));
                 Attention::None
             }
         }
     }
 
-    /// What is still owed of a leg is kept in mind. Without memory for that its server's worker sends it.
-    fn keep(&mut self, owed: Owed, attention: Attention) {
+    /// What is still due of a leg is kept in mind. Without memory for that its server's worker sends it.
+    fn keep(&mut self, due: Due, attention: Attention) {
         let kept = match attention {
             Attention::None => return,
-            Attention::Now => self.agenda.owed.push(owed),
-            Attention::Later => self.late.push(owed),
+            Attention::Now => self.agenda.due.push(due),
+            Attention::Later => self.late.push(due),
         };
         if kept.is_err() {
-            self.agenda.add(Bell::Server(owed.server));
+            self.agenda.add(Bell::Server(due.server));
         }
     }
 
-    /// Looks at the servers of all legs that are owed.
+    /// Looks at the servers of all legs that are due.
     fn attend_all<R: Wait>(
         &mut self,
         rt: &R,
@@ -205,41 +205,41 @@ impl<'a, B: Ledger, T: Ledger, L: Link> Errands<'a, B, T, L> {
         own: &[CallId],
     ) {
         for _turn in rt.forever() {
-            let Some(owed) = self.agenda.owed.pop() else {
+            let Some(due) = self.agenda.due.pop() else {
                 break;
             };
-            let attention = self.attend(rt, alloc, lanes, guard, own, owed);
-            self.keep(owed, attention);
+            let attention = self.attend(rt, alloc, lanes, guard, own, due);
+            self.keep(due, attention);
         }
     }
 
-    /// A leg is still owed. Where the session has none in flight it waits in the lane, at the bell of this call; where it has
+    /// A leg is still due. Where the session has none in flight it waits in the lane, at the bell of this call; where it has
     /// one to another server it leaves the lane to the worker.
-    fn await_turn<R: Wait>(&mut self, rt: &R, lanes: &Lanes, call: CallId, owed: Owed) {
+    fn await_turn<R: Wait>(&mut self, rt: &R, lanes: &Lanes, call: CallId, due: Due) {
         match self.flies_to() {
-            None => lanes.queue(rt, owed.server, owed.leg, call),
-            Some(server) if server == owed.server => {}
+            None => lanes.queue(rt, due.server, due.leg, call),
+            Some(server) if server == due.server => {}
             Some(_) => {
-                lanes.leave(rt, owed.server, owed.leg);
+                lanes.leave(rt, due.server, due.leg);
                 return;
             }
         }
-        if self.agenda.owed.push(owed).is_err() {
-            self.agenda.add(Bell::Server(owed.server));
+        if self.agenda.due.push(due).is_err() {
+            self.agenda.add(Bell::Server(due.server));
         }
     }
 
-    /// Awaits the turn of all legs that are still owed.
+    /// Awaits the turn of all legs that are still due.
     fn await_turns<R: Wait>(&mut self, rt: &R, lanes: &Lanes, call: CallId) {
         for _turn in rt.forever() {
-            let Some(owed) = self.late.pop() else {
+            let Some(due) = self.late.pop() else {
                 break;
             };
-            self.await_turn(rt, lanes, call, owed);
+            self.await_turn(rt, lanes, call, due);
         }
     }
 
-    /// Puts a leg in flight to the server of one that is owed, if none is in flight there. Where that can't be done for any,
+    /// Puts a leg in flight to the server of one that is due, if none is in flight there. Where that can't be done for any,
     /// the session waits in their lanes, at the bell of this call. Whether one was lost without being sent, so that replies
     /// may be there.
     pub(crate) fn set_off<R: Wait>(
@@ -257,7 +257,7 @@ impl<'a, B: Ledger, T: Ledger, L: Link> Errands<'a, B, T, L> {
         self.has_lost
     }
 
-    /// Puts a leg in flight to the server of one that is owed, if none is in flight there. What else is owed the session looks
+    /// Puts a leg in flight to the server of one that is due, if none is in flight there. What else is due the session looks
     /// at again.
     pub(crate) fn set_off_at_once<R: Wait>(
         &mut self,
@@ -270,24 +270,24 @@ impl<'a, B: Ledger, T: Ledger, L: Link> Errands<'a, B, T, L> {
         self.attend_all(rt, alloc, lanes, guard, own);
         let server = self.flies_to();
         for _turn in rt.forever() {
-            let Some(owed) = self.late.pop() else {
+            let Some(due) = self.late.pop() else {
                 break;
             };
-            self.keep_or_leave(rt, lanes, server, owed);
+            self.keep_or_leave(rt, lanes, server, due);
         }
     }
 
-    /// A leg is still owed. Where the session has one in flight to another server it is left to the worker.
+    /// A leg is still due. Where the session has one in flight to another server it is left to the worker.
     fn keep_or_leave<R: Wait>(
         &mut self,
         rt: &R,
         lanes: &Lanes,
         flight: Option<ServerId>,
-        owed: Owed,
+        due: Due,
     ) {
         match flight {
-            Some(server) if server != owed.server => lanes.leave(rt, owed.server, owed.leg),
-            _ => self.keep(owed, Attention::Now),
+            Some(server) if server != due.server => lanes.leave(rt, due.server, due.leg),
+            _ => self.keep(due, Attention::Now),
         }
     }
 
@@ -305,9 +305,9 @@ impl<'a, B: Ledger, T: Ledger, L: Link> Errands<'a, B, T, L> {
     }
 
     /// Whether a leg of the session waits for the server.
-    fn owe_to(&self, guard: &Guard<'_, B, T>, server: ServerId) -> bool {
-        self.agenda.owed.iter().any(|owed| {
-            owed.server == server && guard.core().place(owed.leg) == Some(Place::Waiting)
+    fn has_due(&self, guard: &Guard<'_, B, T>, server: ServerId) -> bool {
+        self.agenda.due.iter().any(|due| {
+            due.server == server && guard.core().place(due.leg) == Some(Place::Waiting)
         })
     }
 
@@ -337,7 +337,7 @@ impl<'a, B: Ledger, T: Ledger, L: Link> Errands<'a, B, T, L> {
         if marks {
             self.marked = Some(server);
         }
-        if !self.owe_to(guard, server) {
+        if !self.has_due(guard, server) {
             if let Some(bell) = lanes.heir(rt, guard.core(), server) {
                 self.agenda.add(bell);
             }

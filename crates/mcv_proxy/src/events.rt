@@ -1,4 +1,4 @@
-//! Events on the lent state, and whom they let go on.
+//! Events on the borrowed state, and whom they let go on.
 
 ghost use Rattle.std.specs.Prelude.{◌≡◌, ◌+◌, IfErr, IfOk, OnErr, OnOk, Some};
 ghost use Rattle.std.specs.Arc.{arc_value};

@@ -1,6 +1,6 @@
 //! The links over which sessions send their legs, and who waits while another leg of a server is in flight.
 
-ghost use Rattle.std.specs.Prelude.{IfSome};
+ghost use Rattle.std.specs.Prelude.{◌≡◌, ◌<◌, [], false, vec_len, IfOk, IfSome, OnErr};
 ghost use Rattle.mcv_proxy.specs.Flights.{IsAnswerTo};
 
 use crate::gates::{Link, LinkFault};
@@ -47,7 +47,10 @@ pub struct Lanes {
 
 impl Lane {
     /// Nobody.
-    fn new(alloc: Global) -> Lane {
+    fn new(alloc: Global) -> Lane
+        ensures waiters { result.waiters.items ≡ [] }
+        ensures worker { (result.worker ≡ false) × (result.away ≡ false) × (result.probe ≡ false) }
+    {
         Lane {
             waiters: VecDeque::new(alloc),
             worker: false,
@@ -115,8 +118,11 @@ impl Lane {
 }
 
 impl Lanes {
-    /// The lanes of so many servers, with nobody in them.
-    pub fn new(alloc: Global, count: u32) -> Result<Lanes, AllocError> {
+    /// The lanes of so many servers, with nobody in them. An error is that memory ran out; with no servers there is none.
+    pub fn new(alloc: Global, count: u32) -> Result<Lanes, AllocError>
+        ensures count { IfOk result (λ made. vec_len made.lanes ≡ count) }
+        ensures err { OnErr result (0 < count) }
+    {
         let mut lanes = Vec::new(alloc);
         for _server in 0..count {
             lanes.push(Mutex::new(Lane::new(alloc)))?;
@@ -186,8 +192,11 @@ pub struct Links<L: Link> {
 }
 
 impl<L: Link> Links<L> {
-    /// These links, in the order of the servers' numbers.
-    pub fn new(alloc: Global, links: Vec<L>) -> Result<Links<L>, AllocError> {
+    /// These links, in the order of the servers' numbers. An error is that memory ran out; with no links there is none.
+    pub fn new(alloc: Global, links: Vec<L>) -> Result<Links<L>, AllocError>
+        ensures count { IfOk result (λ made. vec_len made.links ≡ vec_len links) }
+        ensures err { OnErr result (0 < vec_len links) }
+    {
         let mut locked = Vec::new(alloc);
         for link in links {
             locked.push(Mutex::new(link))?;

@@ -3,7 +3,7 @@
 //!
 //! A session begins a call for each key of a request, and waits at the bell of the call for its reply. The worker of a
 //! server sends the legs that wait for it, one at a time. The spool's worker writes down the deletes that their servers
-//! didn't perform, and the replayer sends these again. Whatever happens to the hub happens on a lent guard, in `events`,
+//! didn't perform, and the replayer sends these again. Whatever happens to the hub happens on a borrowed guard, in `events`,
 //! which rings those who can go on then. No thread waits for a server, a disk, a client or the clock while it has the lock.
 #![tactic(auto)]
 

@@ -112,7 +112,7 @@ fn performed<R: Wait + Clock + Copy + Drop + Send + 'static>(
     Ok(table)
 }
 
-/// Where the delete of a key stands in a table of all servers; None where there is no such server or key.
+/// Where the delete of a key is in a table of all servers; None where there is no such server or key.
 fn place_of(server: &[u8], rest: &[u8]) -> Option<usize> {
     let number = number_of(rest)?;
     for (place, text) in SERVERS.iter().enumerate() {

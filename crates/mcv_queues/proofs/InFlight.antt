@@ -4,8 +4,10 @@ use Rattle.std.specs.Prelude.{option_map}
 use Rattle.std.proofs.lemmas.Bool.{cases_eq, eq-eqb, ne_eqb, eqb-true, and_from, and_parts, and_left, and_right}
 use Rattle.mcv_queues.specs.declared.leg.Leg.{Leg}
 use Rattle.mcv_queues.specs.declared.leg.State.{State}
+use Rattle.mcv_queues.specs.declared.leg.State.TheVariants.{Sent}
+use Rattle.mcv_queues.specs.Groups.{group_at, group_of}
 use Rattle.mcv_queues.specs.Numbers.{put, names}
-use Rattle.mcv_queues.specs.Legs.{rests_at, is_flight, is_in_flight, is_in_flight_to, server_of, in_state}
+use Rattle.mcv_queues.specs.Legs.{IsSentTo, rests_at, is_flight, is_in_flight, is_in_flight_to, server_of, in_state}
 use Rattle.mcv_queues.proofs.Places.{put_here, put_there, names_some}
 
 pub rests_not_in_flight : {T : Type 0} (t : ℕ) (o : Option (Leg T)) → is_in_flight o ≡ false → is_in_flight_to t o ≡ false
@@ -92,3 +94,23 @@ own_servers (Some l) s e = sym (ap (λ b. nat_eq l.server.0 s && b) e ∙ and_tr
 pub flight_known : {T : Type 0} (k : ℕ) (o : Option (Leg T)) → ((l : Leg T) → o ≡ Some l → l.server.0 < k) → is_in_flight o ≡ true → server_of o < k
 flight_known k None h e = absurd (cc)
 flight_known k (Some l) h e = h l refl
+
+-- ---- a leg that was sent
+
+same_place : (a b : ℕ × State) → Some a ≡ Some b → a ≡ b
+same_place a b e = cc
+
+no_place : {a : ℕ × State} → None ≡ Some a → ⊥
+no_place e = absurd (cc)
+
+pub sent_server : {T : Type 0} (s : ℕ) (o : Option (Leg T)) → IsSentTo s o → server_of o ≡ s
+sent_server s None e = absurd (no_place e)
+sent_server s (Some l) e = ap (λ p. p.0) (same_place (l.server.0, l.state) (s, Sent) e)
+
+pub sent_flies : {T : Type 0} (s : ℕ) (o : Option (Leg T)) → IsSentTo s o → is_in_flight o ≡ true
+sent_flies s None e = absurd (no_place e)
+sent_flies s (Some l) e = ap (λ p. is_flight p.1) (same_place (l.server.0, l.state) (s, Sent) e)
+
+pub sent_group : {T : Type 0} (s : ℕ) (o : Option (Leg T)) → IsSentTo s o → group_of o ≡ None
+sent_group s None e = absurd (no_place e)
+sent_group s (Some l) e = ap (λ p. group_at p.0 p.1) (same_place (l.server.0, l.state) (s, Sent) e)

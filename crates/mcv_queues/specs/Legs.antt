@@ -1,5 +1,5 @@
 -- Legs and their states.
-use Rattle.std.specs.Prelude.{◌&&◌, not, ℕ, Bool, true, false, Option, Some, None, nat_eq, option_map}
+use Rattle.std.specs.Prelude.{◌≡◌, ◌&&◌, not, ℕ, Bool, true, false, Option, Some, None, nat_eq, option_map}
 use Rattle.mcv_queues.specs.declared.leg.Leg.{Leg}
 use Rattle.mcv_queues.specs.declared.leg.State.{State}
 use Rattle.mcv_queues.specs.declared.leg.State.TheVariants.{Waiting, Sent, Held, Refused, InSpool, InReplay}
@@ -23,6 +23,14 @@ is_in_flight (Some l) = is_flight l.state
 abbrev pub is_in_flight_to : {T : Type 0} → ℕ → Option (Leg T) → Bool
 is_in_flight_to s None = false
 is_in_flight_to s (Some l) = nat_eq l.server.0 s && is_flight l.state
+
+-- the server of a leg, and its state
+abbrev pub server_and_state : {T : Type 0} → Leg T → ℕ × State
+server_and_state l = (l.server.0, l.state)
+
+-- the leg was sent to this server
+abbrev pub IsSentTo : {T : Type 0} → ℕ → Option (Leg T) → Type 0
+IsSentTo s leg = option_map server_and_state leg ≡ Some (s, Sent)
 
 -- the leg is one of this server and not in flight
 abbrev pub rests_at : {T : Type 0} → ℕ → Option (Leg T) → Bool

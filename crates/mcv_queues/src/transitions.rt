@@ -5,7 +5,7 @@
 
 ghost use Rattle.std.specs.Prelude.{◌≡◌, ◌<◌, ◌≤◌, ◌+◌, ℕ, true, false, None, Some, OnOk, OnErr, IfOk, IfErr, IsSome, IfSome, option_map, option_copied, nat_eq, cond};
 ghost use Rattle.mcv_queues.specs.Numbers.{put, IsLeast, leg_number};
-ghost use Rattle.mcv_queues.specs.Legs.{is_in_flight, is_in_flight_to, is_flight, rests_at, with_state, with_stored, with_content, leg_content};
+ghost use Rattle.mcv_queues.specs.Legs.{IsSentTo, is_in_flight, is_in_flight_to, is_flight, rests_at, with_state, with_stored, with_content, leg_content};
 ghost use Rattle.mcv_queues.specs.Groups.{IsFirstHeld, is_in};
 ghost use Rattle.mcv_queues.specs.declared.roots.Group.TheVariants.{WaitingFor, SpooledFor, HeldLegs, RefusedLegs, LegsInReplay};
 ghost use Rattle.mcv_queues.specs.Queues.{legs, room, in_flight, servers};
@@ -148,6 +148,19 @@ impl<T: Drop> Queues<T> {
     {
         let server = self.rows.leave(&mut self.roots, leg.0);
         self.roots.set_flight(server, None);
+        self.rows.remove(leg.0)
+    }
+
+    /// As `gone`, of a leg that was sent to this server, which lies in no heap.
+    pub fn sent_gone(&mut self, leg: LegId, server: ServerId) -> Option<T>
+        requires { IsSentTo server.0 (legs self.old leg.0) }
+        ensures legs { legs self.new ≡ put (legs self.old) leg.0 None }
+        ensures content { result ≡ option_map leg_content (legs self.old leg.0) }
+        ensures flights { (s : ℕ) → in_flight self.new s ≡ cond (is_in_flight_to s (legs self.old leg.0)) None (in_flight self.old s) }
+        ensures servers { servers self.new ≡ servers self.old }
+        ensures room { room self.old ≤ room self.new }
+    {
+        self.roots.set_flight(server.0 as usize, None);
         self.rows.remove(leg.0)
     }
 

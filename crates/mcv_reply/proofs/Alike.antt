@@ -60,7 +60,7 @@ spaces_one (suc k) (suc n) x y ax ay e =
 starts_with : (w after : List ℕ) → ((h : ℕ) × (t : List ℕ) × (w ≡ h ∷ t) × (32 < h)) → (h : ℕ) × (t : List ℕ) × (w ++ after ≡ h ∷ t) × (32 < h)
 starts_with w after s = (s.0, s.1 ++ after, ap (λ t. t ++ after) s.2, s.3)
 
--- what is written for a form can be told from spaces
+-- what is written for a form can be distinguished from spaces
 abbrev pub Visible : Form → Type 0
 Visible form = (w : List ℕ) → IsWritten form w → is_visible w ≡ true
 
@@ -74,7 +74,7 @@ number_visible limit n w is = digits_visible w is.1
 pub word_visible : (bytes : List ℕ) → is_clean bytes ≡ true → Visible (word bytes)
 word_visible bytes clean w is = subst (λ (t : List ℕ). is_visible t ≡ true) (sym is) (and_parts _ _ clean).1
 
--- the same is written, and the same stands behind it
+-- the same is written, and the same comes behind it
 pub next_one : (f g : Form) (l m : ℕ) (fs gs : List Form) (line other : List ℕ) → Starts f → Starts g → Visible f → Visible g → line ≡ other → (x : Next f l (Writes fs 1) line) → (y : Next g m (Writes gs 1) other) → (x.written ≡ y.written) × (x.after ≡ y.after)
 next_one f g l m fs gs line other sf sg vf vg e x y =
     let both : spaces x.gap ++ (x.written ++ x.after) ≡ spaces y.gap ++ (y.written ++ y.after) = sym x.parts ∙ e ∙ y.parts in

@@ -1,4 +1,4 @@
--- Moves by the space that must stand between two words.
+-- Moves by the space that must be between two words.
 use Rattle.std.proofs.Common.{◌≡◌, ℕ, Bool, true, false, cond, eqb, List, [], ◌∷◌, Option, Some, None, refl, sym, ap, subst, arith}
 use Rattle.mcv_reply.specs.declared.word.Tail.{Tail}
 use Rattle.mcv_reply.specs.declared.word.Tail.TheVariants as tails

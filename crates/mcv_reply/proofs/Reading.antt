@@ -34,7 +34,7 @@ module _ (has : Bool) (key : List ℕ) (c : Candidate) (b : ℕ) (no_end : b ≢
       let short : length (b ∷ more) ≤ needed c.first has key c.place + c.spare = o.short in
       omega (arith, least, cost, short)
 
--- the candidate stands behind the first k bytes
+-- the candidate comes behind the first k bytes
 pub record IsReadTo (has : Bool) (key : List ℕ) (c : Candidate) (bytes : List ℕ) (k : ℕ) (next : Candidate) : Type 0 where
   pub on : (head : Head) (more : List ℕ) → Open has key c head (bytes ++ more) → Open has key next head (drop k bytes ++ more)
   pub back : (head : Head) (more : List ℕ) → Open has key next head (drop k bytes ++ more) → Open has key c head (bytes ++ more)

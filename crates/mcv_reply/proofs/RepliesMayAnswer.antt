@@ -14,7 +14,7 @@ use Rattle.mcv_reply.specs.declared.word.Word.{Word}
 use Rattle.mcv_reply.specs.declared.word.Word.TheVariants.{End, Value, Stored, NotStored, Exists, NotFound, Deleted, Touched, Error, ClientError, ServerError, Version}
 use Rattle.mcv_reply.specs.Word.{answers}
 use Rattle.mcv_reply.specs.Reply.{Spells, alone, with_value, cas_said, said_alone}
-use Rattle.mcv_reply.specs.Reader.{FeedsAt, Stands, Fed, Answered, Closed}
+use Rattle.mcv_reply.specs.Reader.{FeedsAt, ReaderState, Fed, Answered, Closed}
 
 -- what a first word says may answer the operation
 abbrev fits : Op → Word → Bool
@@ -79,7 +79,7 @@ pub spelled_may_answer : (op : Op) (key bytes : List ℕ) (reply : ReplyValue) �
 spelled_may_answer op key bytes reply (alone s) = alone_may op s.first s.line reply (fit op s.first s.line_is.may) s.says
 spelled_may_answer op key bytes reply (with_value s) = ap (may_answer op) s.says ∙ hit_may op s.head.flags s.head.cas s.value (fit op Value s.line_is.may)
 
-pub given_may_answer : (op : Op) (key : List ℕ) (state : Stands) (piece : List ℕ) (reply : Reply) (new : Stands) → FeedsAt op key state piece (Ok (Some reply)) new → may_answer op (reply_value reply) ≡ true
+pub given_may_answer : (op : Op) (key : List ℕ) (state : ReaderState) (piece : List ℕ) (reply : Reply) (new : ReaderState) → FeedsAt op key state piece (Ok (Some reply)) new → may_answer op (reply_value reply) ≡ true
 given_may_answer op key (Fed bytes) piece reply new answers = spelled_may_answer op key (bytes ++ piece) (reply_value reply) answers.0
 given_may_answer op key Answered piece reply new is = absurd (let e : ◌≡◌ {A = Result (Option Reply) ReplyFault} (Ok (Some reply)) (Err faults.NotAReply) = is.0 in cc)
 given_may_answer op key Closed piece reply new is = absurd (let e : ◌≡◌ {A = Result (Option Reply) ReplyFault} (Ok (Some reply)) (Err faults.Closed) = is.0 in cc)

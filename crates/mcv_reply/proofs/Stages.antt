@@ -155,7 +155,7 @@ one_word : (first : Word) (k : ℕ) → k < 1 → get_or (End ∷ []) k first �
 one_word first zero l e = sym e
 one_word first (suc k) l e = absurd (omega arith)
 
--- behind a value stands END
+-- behind a value comes END
 pub only_end : (key : List ℕ) (first : Word) (head : Head) (line : List ℕ) → IsLine rows.AfterValue key first head line → IsLine rows.AfterValue key End head line
 only_end key first head line is = subst (λ (w : Word). IsLine rows.AfterValue key w head line) (one_word first is.may.0 is.may.1 is.may.2) is
 

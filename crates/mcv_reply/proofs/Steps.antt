@@ -21,13 +21,13 @@ use Rattle.mcv_reply.specs.declared.fault.ReplyFault.TheVariants.{NotAReply, Clo
 use Rattle.mcv_reply.specs.declared.progress.Progress.{Progress}
 use Rattle.mcv_reply.specs.declared.progress.Stage.{Stage}
 use Rattle.mcv_reply.specs.declared.progress.Stage.TheVariants as stages
-use Rattle.mcv_reply.specs.Reader as standing
+use Rattle.mcv_reply.specs.Reader as reader_states
 use Rattle.mcv_reply.specs.Word.{answers, has_cas}
 use Rattle.mcv_reply.specs.Line.{IsLine}
 use Rattle.mcv_reply.specs.Place.{GoesOn, IsKept, is_clean, zero_head}
 use Rattle.mcv_reply.specs.Reply.{Spells, cas_said}
-use Rattle.mcv_reply.specs.Reader.{Stands, Fed, Answered, Answers, FeedsAt, IsFront, BeginsNone}
-use Rattle.mcv_reply.specs.Progress.{bytes_at, HitMade, IsAt, IsAtStage, LastEnds, FirstEnds, ReadsPiece, StepMakes, Steps, stands_at}
+use Rattle.mcv_reply.specs.Reader.{ReaderState, Fed, Answered, Answers, FeedsAt, IsFront, BeginsNone}
+use Rattle.mcv_reply.specs.Progress.{bytes_at, HitMade, IsAt, IsAtStage, LastEnds, FirstEnds, ReadsPiece, StepMakes, Steps, reader_state_at}
 use Rattle.mcv_reply.proofs.Spelling.{replies_one}
 use Rattle.mcv_reply.proofs.Open.{clean_ends}
 use Rattle.mcv_reply.proofs.Stages.{front_last, front_line, front_return, front_value, begins_more, end_line, last_right, last_whole, no_last_begins, no_line_begins, only_end}
@@ -169,14 +169,14 @@ step_more op key now left whole used o reply new clean makes is some e more othe
     let one = replies_one op key clean (now ++ take used left) (drop used left ++ more) (reply_value reply) other s (subst (λ (t : List ℕ). Spells op key t other) cut t) in
     some (omega (arith, ap length one.0, length-append (drop used left) more))
 
-pub step_none : (op : Op) (key now left : List ℕ) (used : ℕ) (o : Option Reply) (new : Progress) → StepMakes op key now (take used left) o new → o ≡ None → IsAt op key new × (stands_at new.stage new ≡ Fed (now ++ take used left))
+pub step_none : (op : Op) (key now left : List ℕ) (used : ℕ) (o : Option Reply) (new : Progress) → StepMakes op key now (take used left) o new → o ≡ None → IsAt op key new × (reader_state_at new.stage new ≡ Fed (now ++ take used left))
 step_none op key now left used o new makes is = subst (λ (t : Option Reply). StepMakes op key now (take used left) t new) is makes
 
 pub step_rest : (now left whole : List ℕ) (used : ℕ) → now ++ left ≡ whole → (now ++ take used left) ++ drop used left ≡ whole
 step_rest now left whole used e = append_assoc now (take used left) (drop used left) ∙ ap (λ t. now ++ t) (take-append-drop used left) ∙ e
 
 -- what has been fed is the front of a reply
-pub is_front : (op : Op) (key : List ℕ) (p : Progress) (stage : Stage) (bytes : List ℕ) → is_clean key ≡ true → IsAtStage op key p stage → stands_at stage p ≡ Fed bytes → IsFront op key bytes
+pub is_front : (op : Op) (key : List ℕ) (p : Progress) (stage : Stage) (bytes : List ℕ) → is_clean key ≡ true → IsAtStage op key p stage → reader_state_at stage p ≡ Fed bytes → IsFront op key bytes
 is_front op key p stages.Line bytes clean at e = subst (λ (t : List ℕ). IsFront op key t) (same_fed _ bytes e) (front_line op key clean p.text.items p.candidates.items at.0 at.1)
 is_front op key p stages.Value bytes clean at e = subst (λ (t : List ℕ). IsFront op key t) (same_fed _ bytes e) (front_value op key clean p.head p.first.items p.body.items at.0 at.1)
 is_front op key p stages.Return bytes clean at e = subst (λ (t : List ℕ). IsFront op key t) (same_fed _ bytes e) (front_return op key clean p.head p.first.items p.body.items at.0 at.1)
@@ -185,24 +185,24 @@ is_front op key p stages.Answered bytes clean at e = absurd (cc)
 is_front op key p stages.Closed bytes clean at e = absurd (cc)
 
 -- bytes have been fed, and no answer has been given
-pub fed_at : (p : Progress) (stage : Stage) → (stage ≡ stages.Line) ⊎ (stage ≡ stages.Value) ⊎ (stage ≡ stages.Return) ⊎ (stage ≡ stages.Last) → (bytes : List ℕ) × (stands_at stage p ≡ Fed bytes)
-fed_at p stage (inl e) = (bytes_at stages.Line p, ap (λ (s : Stage). stands_at s p) e)
-fed_at p stage (inr (inl e)) = (bytes_at stages.Value p, ap (λ (s : Stage). stands_at s p) e)
-fed_at p stage (inr (inr (inl e))) = (bytes_at stages.Return p, ap (λ (s : Stage). stands_at s p) e)
-fed_at p stage (inr (inr (inr e))) = (bytes_at stages.Last p, ap (λ (s : Stage). stands_at s p) e)
+pub fed_at : (p : Progress) (stage : Stage) → (stage ≡ stages.Line) ⊎ (stage ≡ stages.Value) ⊎ (stage ≡ stages.Return) ⊎ (stage ≡ stages.Last) → (bytes : List ℕ) × (reader_state_at stage p ≡ Fed bytes)
+fed_at p stage (inl e) = (bytes_at stages.Line p, ap (λ (s : Stage). reader_state_at s p) e)
+fed_at p stage (inr (inl e)) = (bytes_at stages.Value p, ap (λ (s : Stage). reader_state_at s p) e)
+fed_at p stage (inr (inr (inl e))) = (bytes_at stages.Return p, ap (λ (s : Stage). reader_state_at s p) e)
+fed_at p stage (inr (inr (inr e))) = (bytes_at stages.Last p, ap (λ (s : Stage). reader_state_at s p) e)
 
 -- what has been fed, of a reader that has answered nothing, answers the piece
-pub feeds_at : (op : Op) (key : List ℕ) (old new : Stands) (piece : List ℕ) (result : Result (Option Reply) ReplyFault) (fed : (bytes : List ℕ) × (old ≡ Fed bytes)) → ((bytes : List ℕ) → old ≡ Fed bytes → Answers op key (bytes ++ piece) result new) → FeedsAt op key old piece result new
-feeds_at op key old new piece result fed answers = subst (λ (s : Stands). FeedsAt op key s piece result new) (sym fed.1) (answers fed.0 fed.1)
+pub feeds_at : (op : Op) (key : List ℕ) (old new : ReaderState) (piece : List ℕ) (result : Result (Option Reply) ReplyFault) (fed : (bytes : List ℕ) × (old ≡ Fed bytes)) → ((bytes : List ℕ) → old ≡ Fed bytes → Answers op key (bytes ++ piece) result new) → FeedsAt op key old piece result new
+feeds_at op key old new piece result fed answers = subst (λ (s : ReaderState). FeedsAt op key s piece result new) (sym fed.1) (answers fed.0 fed.1)
 
-pub piece_fault : (op : Op) (key bytes : List ℕ) (fault : ReplyFault) (p : Progress) → ReadsPiece op key bytes (Err fault) p → Answers op key bytes (Err fault) standing.Closed
+pub piece_fault : (op : Op) (key bytes : List ℕ) (fault : ReplyFault) (p : Progress) → ReadsPiece op key bytes (Err fault) p → Answers op key bytes (Err fault) reader_states.Closed
 piece_fault op key bytes NotAReply p r = (r, refl)
 piece_fault op key bytes Closed p r = r
 piece_fault op key bytes Memory p r = refl
 
-pub piece_none : (op : Op) (key bytes : List ℕ) (reply : Option Reply) (p : Progress) → is_clean key ≡ true → reply ≡ None → ReadsPiece op key bytes (Ok reply) p → IsAt op key p × Answers op key bytes (Ok None) (stands_at p.stage p)
+pub piece_none : (op : Op) (key bytes : List ℕ) (reply : Option Reply) (p : Progress) → is_clean key ≡ true → reply ≡ None → ReadsPiece op key bytes (Ok reply) p → IsAt op key p × Answers op key bytes (Ok None) (reader_state_at p.stage p)
 piece_none op key bytes reply p clean is r =
-    let at : IsAt op key p × (stands_at p.stage p ≡ Fed bytes) = subst (λ (t : Option Reply). ReadsPiece op key bytes (Ok t) p) is r in
+    let at : IsAt op key p × (reader_state_at p.stage p ≡ Fed bytes) = subst (λ (t : Option Reply). ReadsPiece op key bytes (Ok t) p) is r in
     (at.0, (is_front op key p p.stage bytes clean at.0 at.1, at.1))
 
 pub piece_some : (op : Op) (key bytes : List ℕ) (o : Option Reply) (reply : Reply) (p : Progress) → o ≡ Some reply → ReadsPiece op key bytes (Ok o) p → Spells op key bytes (reply_value reply)

@@ -16,7 +16,7 @@ module _ (form : Form) (Then : List ℕ → Type 0) (b : ℕ) (more : List ℕ) 
       let parts : b ∷ more ≡ 32 ∷ (spaces gap ++ (w ++ after)) = e in
       (cc, record { gap = gap; written = w; after = after; parts = cc; enough = omega arith; is = is; rest = rest })
 
-  -- a space stands before it
+  -- a space comes before it
   pub space_on : Next form 1 Then (b ∷ more) → (b ≡ 32) × Next form 0 Then more
   space_on n = space_parts n.gap n.written n.after n.parts n.enough n.is n.rest
 
@@ -26,7 +26,7 @@ module _ (form : Form) (Then : List ℕ → Type 0) (b : ℕ) (more : List ℕ) 
       let parts : b ∷ more ≡ 32 ∷ (spaces gap ++ (w ++ after)) = e in
       absurd (ne (cc))
 
-  -- no space stands before it
+  -- no space comes before it
   pub here : b ≢ 32 → Next form 0 Then (b ∷ more) → (v : List ℕ) × (a : List ℕ) × (b ∷ more ≡ v ++ a) × IsWritten form v × Then a
   here ne n = here_parts n.gap n.written n.after ne n.parts n.is n.rest
 
@@ -59,7 +59,7 @@ module _ (bytes : List ℕ) (Then : List ℕ → Type 0) (b : ℕ) (more : List 
   pub word_back : Goes bytes Then (b ∷ more) → Next (word bytes) 0 Then (b ∷ more)
   word_back g = record { gap = 0; written = bytes; after = g.after; parts = g.parts; enough = omega arith; is = refl; rest = g.rest }
 
--- behind what is written stands a space or the CR of the end
+-- behind what is written comes a space or the CR of the end
 pub behind_first : (forms : List Form) (b : ℕ) (more : List ℕ) → Writes forms 1 (b ∷ more) → (b ≡ 32) ⊎ (b ≡ 13)
 behind_first [] b more (inl p) = inl p.0
 behind_first [] b more (inr p) = inr p.0
@@ -141,6 +141,6 @@ digit_limit Flags value l = omega arith
 digit_limit Size value l = omega arith
 digit_limit Cas value l = omega arith
 
--- no digit stands behind what is written
+-- no digit comes behind what is written
 pub digit_never : (forms : List Form) (b : ℕ) (more : List ℕ) → 48 ≤ b → b ≤ 57 → Writes forms 1 (b ∷ more) → ⊥
 digit_never forms b more low high rest = elim (behind_first forms b more rest) [ inl e ↦ omega arith | inr e ↦ omega arith ]

@@ -1,5 +1,5 @@
--- How a line that has come in part stands to the lines that it may become. The reader keeps this
--- true; what a reply is stands in Reply alone.
+-- How a line that has come in part matches the lines that it may become. The reader keeps this
+-- true; what a reply is, Reply alone says.
 use Rattle.std.specs.Prelude.{◌≡◌, ◌≢◌, ℕ, ◌+◌, ◌-◌, ◌<◌, ◌≤◌, Bool, true, false, List, [], ◌∷◌, ◌++◌, length, drop, All, Any, Option, Some, None, nat_lt, ◌&&◌, Result, Ok, Err, if◌then◌else◌}
 use Rattle.std.specs.List.{list_all}
 use Rattle.mcv_reply.specs.declared.word.Word.{Word}
@@ -183,11 +183,11 @@ Ends has key c (Some read) = Follows c.first has key c.head c.place read []
 abbrev pub new_candidate : Bool → List ℕ → Word → Candidate
 new_candidate has key first = record { first = first; place = BeforeName First; head = zero_head; spare = 2048 - needed first has key (BeforeName First) }
 
--- a word that can be told from spaces and the end of a line
+-- a word that can be distinguished from spaces and the end of a line
 abbrev pub is_clean : List ℕ → Bool
 is_clean bytes = nat_lt 0 (length bytes) && list_all (λ b. nat_lt 32 b) bytes
 
--- the candidates stand for the lines that the text may become
+-- the candidates are the lines that the text may become
 pub record IsKept (row : Row) (key bytes : List ℕ) (candidates : List Candidate) : Type 0 where
   pub to : (first : Word) (head : Head) (more : List ℕ) → IsLine row key first head (bytes ++ more) → Any (λ c. (c.first ≡ first) × Open (has_cas row) key c head more) candidates
   pub back : All (λ c. (head : Head) (more : List ℕ) → Open (has_cas row) key c head more → IsLine row key c.first head (bytes ++ more)) candidates

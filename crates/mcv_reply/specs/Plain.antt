@@ -1,4 +1,4 @@
--- The first line of a reply as servers write it: single spaces, and a CR at its end. Only private functions speak of this; what a line is stands in Line alone.
+-- The first line of a reply as servers write it: single spaces, and a CR at its end. Only private functions speak of this; what a line is, Line alone says.
 use Rattle.std.specs.Prelude.{◌≡◌, ℕ, ◌+◌, ◌<◌, List, [], ◌∷◌, ◌++◌, length, take, drop, Contains, codes}
 use Rattle.mcv_base.specs.declared.operation.Op.{Op}
 use Rattle.mcv_reply.specs.declared.word.Word.{Word}

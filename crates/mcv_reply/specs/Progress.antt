@@ -1,5 +1,5 @@
 -- A reply that has come in part, and what each step makes of it. Only private functions speak of
--- this, and a reader's view and invariant; what the reader answers stands in Reader alone.
+-- this, and a reader's view and invariant; what the reader answers, Reader alone says.
 use Rattle.std.specs.Prelude.{◌≡◌, ℕ, ◌<◌, ◌≤◌, Bool, List, [], ◌∷◌, ◌++◌, length, take, Option, Some, None, Result, Ok, Err}
 use Rattle.mcv_base.specs.declared.operation.Op.{Op}
 use Rattle.mcv_base.specs.declared.reply.Reply.{Reply}
@@ -16,7 +16,7 @@ use Rattle.mcv_reply.specs.declared.progress.Step.{Step}
 use Rattle.mcv_reply.specs.Line.{IsLine}
 use Rattle.mcv_reply.specs.Place.{IsKept}
 use Rattle.mcv_reply.specs.Reply.{Spells, cas_said}
-use Rattle.mcv_reply.specs.Reader.{BeginsNone, Stands, Fed, Answered, Closed}
+use Rattle.mcv_reply.specs.Reader.{BeginsNone, ReaderState, Fed, Answered, Closed}
 
 -- the line of a value, and what it says
 abbrev pub IsHead : Op → List ℕ → Progress → Type 0
@@ -30,13 +30,13 @@ bytes_at stages.Last p = p.first.items ++ 10 ∷ (p.body.items ++ 13 ∷ 10 ∷ 
 bytes_at stages.Answered p = []
 bytes_at stages.Closed p = []
 
-abbrev pub stands_at : Stage → Progress → Stands
-stands_at stages.Line p = Fed (bytes_at stages.Line p)
-stands_at stages.Value p = Fed (bytes_at stages.Value p)
-stands_at stages.Return p = Fed (bytes_at stages.Return p)
-stands_at stages.Last p = Fed (bytes_at stages.Last p)
-stands_at stages.Answered p = Answered
-stands_at stages.Closed p = Closed
+abbrev pub reader_state_at : Stage → Progress → ReaderState
+reader_state_at stages.Line p = Fed (bytes_at stages.Line p)
+reader_state_at stages.Value p = Fed (bytes_at stages.Value p)
+reader_state_at stages.Return p = Fed (bytes_at stages.Return p)
+reader_state_at stages.Last p = Fed (bytes_at stages.Last p)
+reader_state_at stages.Answered p = Answered
+reader_state_at stages.Closed p = Closed
 
 -- what is true of a reply that has come in part
 abbrev pub IsAtStage : Op → List ℕ → Progress → Stage → Type 0
@@ -52,7 +52,7 @@ IsAt op key p = IsAtStage op key p p.stage
 
 -- a step from bytes by a piece: the bytes used have been read, or are the end of a reply, or no reply goes on
 abbrev pub StepMakes : Op → List ℕ → List ℕ → List ℕ → Option Reply → Progress → Type 0
-StepMakes op key bytes used None new = IsAt op key new × (stands_at new.stage new ≡ Fed (bytes ++ used))
+StepMakes op key bytes used None new = IsAt op key new × (reader_state_at new.stage new ≡ Fed (bytes ++ used))
 StepMakes op key bytes used (Some reply) new = Spells op key (bytes ++ used) (reply_value reply)
 
 abbrev pub Steps : Op → List ℕ → List ℕ → List ℕ → Result Step ReplyFault → Progress → Type 0
@@ -70,7 +70,7 @@ HitMade cas head value (Err faults.Memory) = Unit {0}
 
 -- the first line has ended: a value is to come, it is a reply, or none goes on from it
 abbrev pub FirstEnds : Op → List ℕ → List ℕ → Result (Option Reply) ReplyFault → Progress → Type 0
-FirstEnds op key line (Ok None) new = IsAt op key new × (stands_at new.stage new ≡ Fed (line ++ 10 ∷ []))
+FirstEnds op key line (Ok None) new = IsAt op key new × (reader_state_at new.stage new ≡ Fed (line ++ 10 ∷ []))
 FirstEnds op key line (Ok (Some reply)) new = Spells op key (line ++ 10 ∷ []) (reply_value reply)
 FirstEnds op key line (Err faults.NotAReply) new = (rest : List ℕ) → BeginsNone op key (line ++ 10 ∷ rest)
 FirstEnds op key line (Err faults.Closed) new = ⊥
@@ -85,7 +85,7 @@ LastEnds op key bytes (Err faults.Memory) = Unit {0}
 
 -- a whole piece has been read, and these are all bytes
 abbrev pub ReadsPiece : Op → List ℕ → List ℕ → Result (Option Reply) ReplyFault → Progress → Type 0
-ReadsPiece op key bytes (Ok None) new = IsAt op key new × (stands_at new.stage new ≡ Fed bytes)
+ReadsPiece op key bytes (Ok None) new = IsAt op key new × (reader_state_at new.stage new ≡ Fed bytes)
 ReadsPiece op key bytes (Ok (Some reply)) new = Spells op key bytes (reply_value reply)
 ReadsPiece op key bytes (Err faults.NotAReply) new = BeginsNone op key bytes
 ReadsPiece op key bytes (Err faults.Closed) new = ⊥

@@ -1,4 +1,4 @@
--- What a reader of one reply stands for, and what it answers.
+-- The state of a reader of one reply, and what it answers.
 use Rattle.std.specs.Prelude.{◌≡◌, ℕ, List, ◌++◌, Option, Some, None, Result, Ok, Err}
 use Rattle.mcv_base.specs.declared.operation.Op.{Op}
 use Rattle.mcv_base.specs.declared.reply.Reply.{Reply}
@@ -13,16 +13,16 @@ fault_number faults.Closed = 2
 fault_number faults.Memory = 3
 
 -- the bytes fed, or that a reply was given, or a fault
-pub data Stands : Type 0 where
-  Fed : List ℕ → Stands
-  Answered : Stands
-  Closed : Stands
+pub data ReaderState : Type 0 where
+  Fed : List ℕ → ReaderState
+  Answered : ReaderState
+  Closed : ReaderState
 
 -- a reader for a leg of this operation and rest
 pub record Reading : Type 0 where
   pub op : Op
   pub key : List ℕ
-  pub state : Stands
+  pub state : ReaderState
 
 -- no reply goes on from the bytes
 abbrev pub BeginsNone : Op → List ℕ → List ℕ → Type 0
@@ -32,15 +32,15 @@ BeginsNone op key bytes = (more : List ℕ) (reply : ReplyValue) → Spells op k
 abbrev pub IsFront : Op → List ℕ → List ℕ → Type 0
 IsFront op key bytes = ((reply : ReplyValue) → Spells op key bytes reply → ⊥) × ((more : List ℕ) × (reply : ReplyValue) × Spells op key (bytes ++ more) reply)
 
--- what the reader answers where these are all bytes fed, and what it stands for then
-abbrev pub Answers : Op → List ℕ → List ℕ → Result (Option Reply) ReplyFault → Stands → Type 0
+-- what the reader answers where these are all bytes fed, and its state then
+abbrev pub Answers : Op → List ℕ → List ℕ → Result (Option Reply) ReplyFault → ReaderState → Type 0
 Answers op key bytes (Ok (Some reply)) new = Spells op key bytes (reply_value reply) × (new ≡ Answered)
 Answers op key bytes (Ok None) new = IsFront op key bytes × (new ≡ Fed bytes)
 Answers op key bytes (Err faults.NotAReply) new = BeginsNone op key bytes × (new ≡ Closed)
 Answers op key bytes (Err faults.Closed) new = ⊥
 Answers op key bytes (Err faults.Memory) new = new ≡ Closed
 
-abbrev pub FeedsAt : Op → List ℕ → Stands → List ℕ → Result (Option Reply) ReplyFault → Stands → Type 0
+abbrev pub FeedsAt : Op → List ℕ → ReaderState → List ℕ → Result (Option Reply) ReplyFault → ReaderState → Type 0
 FeedsAt op key (Fed bytes) piece result new = Answers op key (bytes ++ piece) result new
 FeedsAt op key Answered piece result new = (result ≡ Err faults.NotAReply) × (new ≡ Closed)
 FeedsAt op key Closed piece result new = (result ≡ Err faults.Closed) × (new ≡ Closed)

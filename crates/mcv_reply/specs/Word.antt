@@ -1,4 +1,4 @@
--- The first words of a server's lines, and which of them may stand where (memcached, protocol.txt).
+-- The first words of a server's lines, and which of them may be where (memcached, protocol.txt).
 use Rattle.std.specs.Prelude.{ℕ, List, [], ◌∷◌, Bool, false, codes}
 use Rattle.mcv_base.specs.declared.operation.Op.{Op}
 use Rattle.mcv_base.specs.declared.operation.Op.TheVariants as ops
@@ -24,7 +24,7 @@ word_text ClientError = codes "CLIENT_ERROR"
 word_text ServerError = codes "SERVER_ERROR"
 word_text Version = codes "VERSION"
 
--- what stands behind a first word
+-- what comes behind a first word
 abbrev pub tail_of : Word → Tail
 tail_of End = tails.Nothing
 tail_of Value = tails.Value

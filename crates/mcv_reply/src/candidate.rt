@@ -104,7 +104,7 @@ pub fn digit(byte: u8) -> Option<u64>
     }
 }
 
-/// A byte where a space must stand.
+/// A byte where a space must be.
 fn separated(candidate: Candidate, place: Place, byte: u8) -> Option<Move>
     ensures { result ≡ (if byte == 32 then Some (record { next = record candidate { place = place }; free = false }) else None) }
 {

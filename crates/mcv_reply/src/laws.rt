@@ -4,7 +4,7 @@
 ghost use Rattle.std.specs.Prelude.{◌≡◌, ◌++◌, ℕ, List, [], true, Ok, Err, Some};
 ghost use Rattle.mcv_base.specs.Key.{is_key_word};
 ghost use Rattle.mcv_base.specs.Reply.{ReplyValue, may_answer, reply_value};
-ghost use Rattle.mcv_reply.specs.Reader.{Closed, Feeds, Reading, Stands};
+ghost use Rattle.mcv_reply.specs.Reader.{Closed, Feeds, ReaderState, Reading};
 ghost use Rattle.mcv_reply.specs.Probe.{FeedsProbe};
 ghost use Rattle.mcv_reply.specs.Reply.{Spells, SpellsVersion};
 
@@ -26,7 +26,7 @@ pub fn replies_may_answer()
 /// A fault closes a reader, where memory is refused too: the bytes fed are lost, and no reply comes of them.
 pub fn faults_close_readers()
     ensures reply { (old new : Reading) (piece : List ℕ) (fault : ReplyFault) → Feeds old piece (Err fault) new → new.state ≡ Closed }
-    ensures probe { (old new : Stands) (piece : List ℕ) (fault : ReplyFault) → FeedsProbe old piece (Err fault) new → new ≡ Closed }
+    ensures probe { (old new : ReaderState) (piece : List ℕ) (fault : ReplyFault) → FeedsProbe old piece (Err fault) new → new ≡ Closed }
 {}
 
 /// A list of bytes is at most one answer to a probe, and an answer begins with no other.

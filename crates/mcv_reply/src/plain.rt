@@ -15,7 +15,7 @@ use memchr::memchr;
 /// The end of a line before its LF.
 const RETURN: &[u8] = b"\r";
 
-/// What stands behind this text at the front of the bytes.
+/// What comes behind this text at the front of the bytes.
 fn behind<'a>(bytes: &'a [u8], text: &[u8]) -> Option<&'a [u8]>
     ensures { IfSome result (λ left. bytes.now ≡ text.now ++ left.now) }
 {
@@ -34,7 +34,7 @@ fn digits_value(digits: &[u8], limit: u64) -> Option<u64>
     Some(value)
 }
 
-/// The number behind one space at the front of the bytes, up to the first end byte, and what stands from there on.
+/// The number behind one space at the front of the bytes, up to the first end byte, and what comes from there on.
 fn spaced_number(bytes: &[u8], end: u8, limit: u64) -> Option<(u64, &[u8])>
     ensures { IfSome result (λ r. SpacedNumber limit r.0 bytes.now r.1.now) }
 {

@@ -2,7 +2,7 @@
 
 ghost use Rattle.std.specs.Prelude.{◌≡◌, [], codes};
 ghost use Rattle.mcv_reply.specs.Place.{IsKept};
-ghost use Rattle.mcv_reply.specs.Probe.{FeedsProbe, IsProbeAt, ReadsProbe, stands_in};
+ghost use Rattle.mcv_reply.specs.Probe.{FeedsProbe, IsProbeAt, ReadsProbe, probe_state_in};
 ghost use Rattle.mcv_reply.specs.Reader.{Fed};
 
 use crate::fault::ReplyFault;
@@ -65,12 +65,12 @@ pub struct ProbeReader {
 }
 
 impl Model for ProbeReader {
-    ghost use Rattle.mcv_reply.specs.Reader.{Stands};
-    ghost use Rattle.mcv_reply.specs.Probe.{IsProbeAt, stands_in};
+    ghost use Rattle.mcv_reply.specs.Reader.{ReaderState};
+    ghost use Rattle.mcv_reply.specs.Probe.{IsProbeAt, probe_state_in};
 
-    ghost Value = { Stands };
+    ghost Value = { ReaderState };
 
-    ghost view = { λ r. stands_in r.stage r.text.items };
+    ghost view = { λ r. probe_state_in r.stage r.text.items };
 
     ghost invariant = { λ r. IsProbeAt r.stage r.text.items r.candidates.items };
 }

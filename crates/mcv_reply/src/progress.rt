@@ -10,7 +10,7 @@ ghost use Rattle.mcv_reply.specs.Place.{IsKept, is_clean};
 ghost use Rattle.mcv_reply.specs.Plain.{EndsValue, StartsLine};
 ghost use Rattle.mcv_reply.specs.Reply.{said_alone};
 ghost use Rattle.mcv_reply.specs.Reader.{Fed};
-ghost use Rattle.mcv_reply.specs.Progress.{FirstEnds, HitMade, IsAt, IsAtStage, LastEnds, Steps, bytes_at, stands_at};
+ghost use Rattle.mcv_reply.specs.Progress.{FirstEnds, HitMade, IsAt, IsAtStage, LastEnds, Steps, bytes_at, reader_state_at};
 
 use crate::candidate::Head;
 use crate::fault::ReplyFault;
@@ -431,9 +431,9 @@ pub fn take_step(
     requires short { length key.now ≤ 250 }
     requires some { 0 < length piece.now }
     requires at { IsAt op key.now progress.old }
-    requires fed { (bytes : List ℕ) × (stands_at progress.old.stage progress.old ≡ Fed bytes) }
+    requires fed { (bytes : List ℕ) × (reader_state_at progress.old.stage progress.old ≡ Fed bytes) }
     ensures used { IfOk result (λ s. (0 < s.used) × (s.used ≤ length piece.now)) }
-    ensures steps { (bytes : List ℕ) → stands_at progress.old.stage progress.old ≡ Fed bytes → Steps op key.now bytes piece.now result progress.new }
+    ensures steps { (bytes : List ℕ) → reader_state_at progress.old.stage progress.old ≡ Fed bytes → Steps op key.now bytes piece.now result progress.new }
 {
     match progress.stage {
         Stage::Line => first_line(alloc, op, key, progress, piece),

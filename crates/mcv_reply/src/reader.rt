@@ -4,7 +4,7 @@ ghost use Rattle.std.specs.Prelude.{◌≡◌, ◌≤◌, ◌++◌, ℕ, List, [
 ghost use Rattle.std.specs.Arc.{arc_value};
 ghost use Rattle.mcv_reply.specs.Place.{is_clean};
 ghost use Rattle.mcv_reply.specs.Reader.{Answers, Fed, Feeds, Reading};
-ghost use Rattle.mcv_reply.specs.Progress.{IsAt, ReadsPiece, stands_at};
+ghost use Rattle.mcv_reply.specs.Progress.{IsAt, ReadsPiece, reader_state_at};
 
 use crate::candidate::Head;
 use crate::fault::ReplyFault;
@@ -27,8 +27,8 @@ fn read(
     requires clean { is_clean key.now ≡ true }
     requires short { length key.now ≤ 250 }
     requires at { IsAt op key.now progress.old }
-    requires fed { (bytes : List ℕ) × (stands_at progress.old.stage progress.old ≡ Fed bytes) }
-    ensures { (bytes : List ℕ) → stands_at progress.old.stage progress.old ≡ Fed bytes → ReadsPiece op key.now (bytes ++ piece.now) result progress.new }
+    requires fed { (bytes : List ℕ) × (reader_state_at progress.old.stage progress.old ≡ Fed bytes) }
+    ensures { (bytes : List ℕ) → reader_state_at progress.old.stage progress.old ≡ Fed bytes → ReadsPiece op key.now (bytes ++ piece.now) result progress.new }
 {
     let mut left = piece;
     while !left.is_empty() {
@@ -45,7 +45,7 @@ fn read(
     Ok(None)
 }
 
-/// A whole piece, and where the reader stands then.
+/// A whole piece, and the reader's state then.
 fn take_piece(
     alloc: Global,
     op: Op,
@@ -56,9 +56,9 @@ fn take_piece(
     requires clean { is_clean key.now ≡ true }
     requires short { length key.now ≤ 250 }
     requires at { IsAt op key.now progress.old }
-    requires fed { (bytes : List ℕ) × (stands_at progress.old.stage progress.old ≡ Fed bytes) }
+    requires fed { (bytes : List ℕ) × (reader_state_at progress.old.stage progress.old ≡ Fed bytes) }
     ensures at { IsAt op key.now progress.new }
-    ensures answers { (bytes : List ℕ) → stands_at progress.old.stage progress.old ≡ Fed bytes → Answers op key.now (bytes ++ piece.now) result (stands_at progress.new.stage progress.new) }
+    ensures answers { (bytes : List ℕ) → reader_state_at progress.old.stage progress.old ≡ Fed bytes → Answers op key.now (bytes ++ piece.now) result (reader_state_at progress.new.stage progress.new) }
 {
     let reply = match read(alloc, op, key, progress, piece) {
         Ok(reply) => reply,
@@ -89,11 +89,11 @@ pub struct ReplyReader {
 impl Model for ReplyReader {
     ghost use Rattle.std.specs.Arc.{arc_value};
     ghost use Rattle.mcv_reply.specs.Reader.{Reading};
-    ghost use Rattle.mcv_reply.specs.Progress.{IsAt, stands_at};
+    ghost use Rattle.mcv_reply.specs.Progress.{IsAt, reader_state_at};
 
     ghost Value = { Reading };
 
-    ghost view = { λ r. record { op = r.op; key = arc_value r.rest; state = stands_at r.progress.stage r.progress } };
+    ghost view = { λ r. record { op = r.op; key = arc_value r.rest; state = reader_state_at r.progress.stage r.progress } };
 
     ghost invariant = { λ r. IsAt r.op (arc_value r.rest) r.progress };
 }

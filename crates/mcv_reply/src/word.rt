@@ -1,4 +1,4 @@
-//! The first words of a server's lines, and which of them may stand at a place.
+//! The first words of a server's lines, and which of them may be at a place.
 //!
 //! Definitions: specs/Word.antt.
 
@@ -25,7 +25,7 @@ pub enum Word {
     Version,
 }
 
-/// What stands behind a first word.
+/// What comes behind a first word.
 #[derive(Clone, Copy, Debug, PartialEq, Eq)]
 pub enum Tail {
     /// Nothing.

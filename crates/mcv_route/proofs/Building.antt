@@ -97,7 +97,7 @@ pub sound-Migrate : (pools : List (List ℕ)) (route : NamedRoute) (from to : Bo
     → IsSoundRoute pools (named_of from.value) × IsSoundRoute pools (named_of to.value)
 sound-Migrate pools route from to start interval is h = subst (IsSoundRoute pools) (ap named_of is ∙ named_of-Migrate from to start interval) h
 
--- the policies, and what stands after them
+-- the policies, and what comes after them
 sound-PrefixSelector : (pools : List (List ℕ)) (route : NamedRoute) (v : Vec NamedPrefix Global) (d : Option (Box NamedRoute Global)) → route ≡ config.PrefixSelector v d → IsSoundRoute pools (named_of route)
     → All (IsSoundRoute pools) (prefix_routes_of v.items) × All (IsSoundRoute pools) (last_named d)
 sound-PrefixSelector pools route v d is h = both-sound pools (prefix_routes_of v.items) (last_named d) (subst (IsSoundRoute pools) (ap named_of is ∙ named_of-PrefixSelector v d) h)
@@ -262,7 +262,7 @@ built-Migrate pools route from to start interval t u v a b is x y =
 
 -- ---- shadows and policies
 
--- one more item, of which a walk makes what stands beside a route, and the route
+-- one more item, of which a walk makes what is beside a route, and the route
 pub item-more : {N M A : Type 0} (pools : List (List ℕ)) (t u v : List SymbolValue) (asked : N → A × Named) (made : M → A × Tree) (items : List N) (i : ℕ) (item : N) (built : List M) (q : M) (beside : A) (n : Named) (x : Tree)
     → i < length items → item ≡ get_or items i item → asked item ≡ (beside, n) → made q ≡ (beside, x)
     → (map (λ o. o.0) (map made built) ≡ map (λ o. o.0) (map asked (take i items))) × IsBuilt pools t (map (λ o. o.1) (map asked (take i items))) u (map (λ o. o.1) (map made built))
@@ -277,7 +277,7 @@ item-more pools t u v asked made items i item built q beside n x h is asked-is m
           (built-append pools t u v (map (λ o. o.1) (map asked (take i items))) (n ∷ []) (map (λ o. o.1) (map made built)) (x ∷ []) before.1 one),
     )
 
--- with the routes of the policies built, and then what stands after them
+-- with the routes of the policies built, and then what comes after them
 pub built-PrefixSelector : (pools : List (List ℕ)) (route : NamedRoute) (v : Vec NamedPrefix Global) (d : Option (Box NamedRoute Global)) (policies : List NamedPrefix) (t u x : List SymbolValue)
     (w : Vec PrefixPolicy Global) (e : Option (Box Route Global))
     → route ≡ config.PrefixSelector v d → policies ≡ v.items

@@ -5,7 +5,7 @@ use Rattle.std.specs.Slice.{IsItemAt}
 use Rattle.std.proofs.lemmas.Bool.{cases_lt}
 use Rattle.std.proofs.lemmas.Option.{slice_get-get_or, slice_get-map, slice_get_past}
 use Rattle.mcv_base.specs.declared.request.Moment.{Moment}
-use Rattle.mcv_route.proofs.Ways.{lent-at}
+use Rattle.mcv_route.proofs.Ways.{borrowed-at}
 use Rattle.mcv_route.specs.Eras.{HasEra, IsBreakTable, IsEraOf, breaks_of}
 use Rattle.mcv_route.specs.Routes.{RoutesValue}
 use Rattle.mcv_route.proofs.BreakTables.{one_table}
@@ -63,4 +63,4 @@ fused (Some x) = refl
 
 pub copied_number : (moments : List Moment) (i : ℕ) (got : Option (Bor Moment)) (found : Option Moment) → IsItemAt moments i got → found ≡ option_map (λ (x : Bor Moment). x.now) got → option_map (λ (m : Moment). m.0) found ≡ slice_get (map (λ (m : Moment). m.0) moments) i
 copied_number moments i got found at is =
-    ap (option_map (λ (m : Moment). m.0)) is ∙ fused got ∙ lent-at (λ (m : Moment). m.0) moments i got at ∙ sym (slice_get-map (λ (m : Moment). m.0) moments i)
+    ap (option_map (λ (m : Moment). m.0)) is ∙ fused got ∙ borrowed-at (λ (m : Moment). m.0) moments i got at ∙ sym (slice_get-map (λ (m : Moment). m.0) moments i)

@@ -6,7 +6,7 @@ use Rattle.std.specs.Option.{option_map_or}
 use Rattle.std.proofs.lemmas.Grind.{common_steps}
 use Rattle.std.proofs.lemmas.List.Elements.{All-nil, All-cons, All-tail, All-head, All-contains}
 use Rattle.mcv_pools.specs.Table.{numbered}
-use Rattle.mcv_route.specs.Eras.{passed, greatest, since_at, IsSince, SinceIsTheLastBreak, ErasAreOpenedByBreaks, ErasTellWhatHasPassed}
+use Rattle.mcv_route.specs.Eras.{passed, greatest, since_at, IsSince, SinceIsTheLastBreak, ErasAreOpenedByBreaks, ErasSayWhatHasPassed}
 use Rattle.mcv_route.specs.Situation.{has_passed}
 
 -- a break is among the breaks, before another one too
@@ -71,12 +71,12 @@ eras_are_opened bs m n e =
 not-passed : (b m : ℕ) → m < b → false ≡ nat_le b m
 not-passed b m h = grind (arith, common_steps)
 
-tells-passed : (bs : List ℕ) (m b : ℕ) (s : Option ℕ) → IsSince bs m s → Contains bs b → has_passed s b ≡ nat_le b m
-tells-passed bs m b None f h = not-passed b m (All-contains (λ c. m < c) bs b f h)
-tells-passed bs m b (Some s) f h =
+says-passed : (bs : List ℕ) (m b : ℕ) (s : Option ℕ) → IsSince bs m s → Contains bs b → has_passed s b ≡ nat_le b m
+says-passed bs m b None f h = not-passed b m (All-contains (λ c. m < c) bs b f h)
+says-passed bs m b (Some s) f h =
     let below : b ≤ m → b ≤ s = All-contains (λ c. c ≤ m → c ≤ s) bs b f.2 h in
     let before : s ≤ m = f.1 in
     same-test b s m (λ e. omega arith) below
 
-pub eras_tell : ErasTellWhatHasPassed
-eras_tell bs m b h = tells-passed bs m b (since_at bs m) (since_is_last bs m) h
+pub eras_say : ErasSayWhatHasPassed
+eras_say bs m b h = says-passed bs m b (since_at bs m) (since_is_last bs m) h

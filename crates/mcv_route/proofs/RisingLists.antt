@@ -30,7 +30,7 @@ module _ {X : Type 0} (R : X → X → Type 0) where
   pub rises_behind : (x : X) (xs : List X) → AllPairs R (x ∷ xs) → AllPairs R xs
   rises_behind x xs up i j d low high = up (suc i) (suc j) d (omega (arith, low)) (omega (arith, high))
 
-  -- of two members neither of which stands before the other, both are one
+  -- of two members neither of which comes before the other, both are one
   pub one_of : (xs : List X) (x y : X) → AllPairs R xs → Contains xs x → Contains xs y → (R x y → ⊥) → (R y x → ⊥) → x ≡ y
   one_of [] x y up at also lower higher = absurd (none_there x at)
   one_of (z ∷ zs) x y up at also lower higher =

@@ -1,4 +1,4 @@
--- The first alias of a route selects that route, since no alias stands twice.
+-- The first alias of a route selects that route, since no alias comes twice.
 use Rattle.std.proofs.Common.{◌≡◌, ℕ, zero, suc, ◌+◌, ◌<◌, ◌≤◌, Bool, true, false, ◌||◌, List, [], ◌∷◌, ◌++◌, length, get_or, slice_get, Some, refl, sym, ap, subst, ◌∙◌, arith, nat_lt, bytes_eq}
 use Rattle.std.specs.Prelude.{option_and_then, position}
 use Rattle.std.specs.List.{Contains, list_any, position_or_len}
@@ -27,7 +27,7 @@ selected-built p sound =
       apart = subst IsOneToOne (sym (flat_map-map (λ e. e.aliases) built p.entries)) sound.apart;
     }
 
--- ---- where the aliases of a route stand among those of all routes
+-- ---- where the aliases of a route are among those of all routes
 
 get_left : {A : Type 0} (xs ys : List A) (i : ℕ) (x : A) → slice_get xs i ≡ Some x → slice_get (xs ++ ys) i ≡ Some x
 get_left [] ys i x h = absurd (none-some x h)
@@ -38,7 +38,7 @@ get_right : {A : Type 0} (xs ys : List A) (i : ℕ) → slice_get (xs ++ ys) (le
 get_right [] ys i = let n : 0 + i ≡ i = omega arith in ap (slice_get ys) n
 get_right (x ∷ xs) ys i = let n : length (x ∷ xs) + i ≡ suc (length xs + i) = omega arith in ap (slice_get (x ∷ xs ++ ys)) n ∙ get_right xs ys i
 
--- how many aliases stand before those of the route of this number
+-- how many aliases come before those of the route of this number
 abbrev before : List RouteEntry → ℕ → ℕ
 before [] n = 0
 before (e ∷ es) zero = 0

@@ -1,4 +1,4 @@
--- What stands below a handle, and its breaks.
+-- What is below a handle, and its breaks.
 use Rattle.std.proofs.Common.{◌≡◌, ◌≢◌, ℕ, zero, suc, ◌+◌, ◌<◌, ◌≤◌, List, [], ◌∷◌, ◌++◌, length, map, take, get_or, Bor, Vec, Box, Global, Option, Some, None, option_map, refl, ap, sym, ◌∙◌, arith, append-nil, append_assoc}
 use Rattle.std.specs.Prelude.{slice_get}
 use Rattle.std.specs.Slice.{IsItemAt}
@@ -21,10 +21,10 @@ use Rattle.mcv_route.specs.declared.tree.Route.{Route, Pool, Null, Error, AllSyn
 use Rattle.mcv_route.proofs.Building.{map-more}
 use Rattle.mcv_route.proofs.Views.{targets_of, children_view, view-Pool, view-Null, view-Error, view-AllSync, view-AllInitial, view-AllAsync, view-Failover, view-MissFailover, view-WarmUp, view-Migrate, view-PrefixSelector, view-OperationSelector}
 
--- what `get` of a slice lends
-pub lent-at : {X Y : Type 0} (f : X → Y) (xs : List X) (i : ℕ) (r : Option (Bor X)) → IsItemAt xs i r → option_map (λ x. f x.now) r ≡ option_map f (slice_get xs i)
-lent-at f xs i None h = ap (option_map f) (sym (slice_get_past xs i h.3))
-lent-at f xs i (Some x) h = ap (option_map f) (sym (slice_get-get_or xs i x.now h.3.0 ∙ ap Some (sym h.1)))
+-- what `get` of a slice borrows
+pub borrowed-at : {X Y : Type 0} (f : X → Y) (xs : List X) (i : ℕ) (r : Option (Bor X)) → IsItemAt xs i r → option_map (λ x. f x.now) r ≡ option_map f (slice_get xs i)
+borrowed-at f xs i None h = ap (option_map f) (sym (slice_get_past xs i h.3))
+borrowed-at f xs i (Some x) h = ap (option_map f) (sym (slice_get-get_or xs i x.now h.3.0 ∙ ap Some (sym h.1)))
 
 -- ---- children by their numbers
 
@@ -97,7 +97,7 @@ past-two t u zero a b = absurd (a refl)
 past-two t u (suc zero) a b = absurd (b refl)
 past-two t u (suc (suc k)) a b = refl
 
--- ---- routes of shadows and policies, and what stands after them
+-- ---- routes of shadows and policies, and what comes after them
 
 slice_get-before : (ts us : List Tree) (k : ℕ) → k < length ts → slice_get (ts ++ us) k ≡ slice_get ts k
 slice_get-before [] us k h = absurd (omega arith)
@@ -212,7 +212,7 @@ pub breaks-OperationSelector : (v : Vec OperationPolicy Global) (d : Option (Box
     → breaks (view (OperationSelector v d)) ≡ breaks_each (trees_of (map (λ p. p.1) (map operation_view v.items))) ++ breaks_each (trees_of (last_view d))
 breaks-OperationSelector v d = ap breaks (view-OperationSelector v d) ∙ breaks_each-append (map (λ p. p.1) (map operation_view v.items)) (last_view d)
 
--- those of the policies, and then of what stands after them
+-- those of the policies, and then of what comes after them
 pub breaks-of-PrefixSelector : (route : Route) (v : Vec PrefixPolicy Global) (d : Option (Box Route Global)) (policies : List PrefixPolicy) (start before : List ℕ) → route ≡ PrefixSelector v d → policies ≡ v.items
     → before ≡ start ++ breaks_each (trees_of (map (λ p. p.1) (map prefix_view policies))) → before ++ breaks_each (trees_of (last_view d)) ≡ start ++ breaks (view route)
 breaks-of-PrefixSelector route v d policies start before is same so_far =
@@ -221,7 +221,7 @@ breaks-of-PrefixSelector route v d policies start before is same so_far =
     ap (λ bs. bs ++ last) so_far ∙ append_assoc start (each policies) last ∙ ap (λ ps. start ++ (each ps ++ last)) same
     ∙ ap (λ bs. start ++ bs) (sym (breaks-PrefixSelector v d)) ∙ ap (λ r. start ++ breaks (view r)) (sym is)
 
--- those of the policies, and then of what stands after them
+-- those of the policies, and then of what comes after them
 pub breaks-of-OperationSelector : (route : Route) (v : Vec OperationPolicy Global) (d : Option (Box Route Global)) (policies : List OperationPolicy) (start before : List ℕ) → route ≡ OperationSelector v d → policies ≡ v.items
     → before ≡ start ++ breaks_each (trees_of (map (λ p. p.1) (map operation_view policies))) → before ++ breaks_each (trees_of (last_view d)) ≡ start ++ breaks (view route)
 breaks-of-OperationSelector route v d policies start before is same so_far =

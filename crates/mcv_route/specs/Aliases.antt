@@ -13,7 +13,7 @@ first_alias r number = option_and_then (λ e. slice_get e.aliases 0) (slice_get 
 abbrev pub all_aliases : List RouteEntry → List (List ℕ)
 all_aliases entries = flat_map (λ e. e.aliases) entries
 
--- each route has one routing prefix or more, and none stands twice among those of all routes
+-- each route has one routing prefix or more, and none comes twice among those of all routes
 pub record AreSelected (entries : List RouteEntry) : Type 0 where
   pub each : All (λ e. AreAliases e.aliases) entries
   pub apart : IsOneToOne (all_aliases entries)

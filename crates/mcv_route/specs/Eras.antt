@@ -85,9 +85,9 @@ SinceIsTheLastBreak = (bs : List ℕ) (moment : ℕ) → IsSince bs moment (sinc
 abbrev pub ErasAreOpenedByBreaks : Type 0
 ErasAreOpenedByBreaks = (bs : List ℕ) (m n : ℕ) → since_at bs m ≡ since_at bs n → era_at bs m ≡ era_at bs n
 
--- each break has passed by the one that opened the era where it has passed by the moment: an era tells all that rules ask of a moment
-abbrev pub ErasTellWhatHasPassed : Type 0
-ErasTellWhatHasPassed = (bs : List ℕ) (moment b : ℕ) → Contains bs b → has_passed (since_at bs moment) b ≡ nat_le b moment
+-- each break has passed by the one that opened the era where it has passed by the moment: an era says all that rules ask of a moment
+abbrev pub ErasSayWhatHasPassed : Type 0
+ErasSayWhatHasPassed = (bs : List ℕ) (moment b : ℕ) → Contains bs b → has_passed (since_at bs moment) b ≡ nat_le b moment
 
 -- at every moment the last break before it is what opened the era of the moment's number, and begins one of the routes' eras
 abbrev pub MomentsHaveEras : Type 0

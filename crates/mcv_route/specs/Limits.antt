@@ -13,7 +13,7 @@ use Rattle.mcv_route.specs.Routes.{RoutesValue}
 use Rattle.mcv_route.specs.Tree.{Tree, Trees, pool, null, error, all_sync, all_initial, all_async, failover, miss_failover, warm_up, migrate, prefix_selector, operation_selector, none, child}
 
 abbrev mutual
-  -- the handles of a tree: its own, and those below it; a server that stands alone is a pool's handle too
+  -- the handles of a tree: its own, and those below it; a server by itself is a pool's handle too
   pub handles_in : Tree → ℕ
   handles_in (pool p ranges targets) = suc (handles_below targets)
   handles_in null = 1

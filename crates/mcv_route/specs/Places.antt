@@ -1,4 +1,4 @@
--- Places in the tree of a route: what stands at a position, and which route a routing prefix selects.
+-- Places in the tree of a route: what is at a position, and which route a routing prefix selects.
 use Rattle.std.specs.Prelude.{ℕ, zero, suc, List, [], ◌∷◌, Bool, Option, Some, None, option_and_then, position, slice_get}
 use Rattle.std.specs.List.{list_any}
 use Rattle.std.specs.Str.{bytes_eq}
@@ -25,7 +25,7 @@ child_at none k = None
 child_at (child t ts) zero = Some t
 child_at (child t ts) (suc k) = child_at ts k
 
--- what stands at a position
+-- what is at a position
 abbrev pub tree_at : Tree → List ℕ → Option Tree
 tree_at t [] = Some t
 tree_at t (k ∷ p) = option_and_then (λ u. tree_at u p) (child_at (children_of t) k)
@@ -34,7 +34,7 @@ abbrev pub pool_of : Tree → Option Pool
 pool_of (pool p ranges targets) = Some p
 pool_of _ = None
 
--- the pool at a position, where a PoolRoute stands there
+-- the pool at a position, where a PoolRoute is there
 abbrev pub pool_at_position : Tree → List ℕ → Option Pool
 pool_at_position t p = option_and_then pool_of (tree_at t p)
 

@@ -3,7 +3,7 @@ use Rattle.std.specs.Prelude.{ℕ, suc, List, [], ◌∷◌, ◌++◌, Option, S
 use Rattle.mcv_base.specs.declared.reply.Outcome.{Outcome}
 use Rattle.mcv_base.specs.declared.reply.Outcome.TheVariants.{Good, Soft, Error}
 use Rattle.mcv_route.specs.Outcomes.{Outcomes}
-use Rattle.mcv_base.specs.Reply.{is_error, is_good}
+use Rattle.mcv_base.specs.Reply.{is_error, is_good, badness}
 use Rattle.mcv_route.specs.Tree.{Tree, Trees, pool, null, error, all_sync, all_initial, all_async, failover, miss_failover, warm_up, migrate, prefix_selector, operation_selector, none, child}
 use Rattle.mcv_base.specs.Operation.{is_reading}
 use Rattle.mcv_route.specs.Situation.{Situation, under}
@@ -34,12 +34,6 @@ own_answers p (Some x) = record { outcome = x; source = leg p } ∷ []
 abbrev pub outcome_of : List Answer → Option Outcome
 outcome_of [] = None
 outcome_of (a ∷ answers) = Some a.outcome
-
--- Error is worse than Soft, and Soft than Good
-abbrev pub badness : Outcome → ℕ
-badness Good = 0
-badness Soft = 1
-badness Error = 2
 
 -- once both have replied, the worse answers, or all where they are as bad
 abbrev pub the_worse : List Answer → List Answer → List Answer

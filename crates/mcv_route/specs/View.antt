@@ -1,4 +1,4 @@
--- The tree that a `Route` stands for: one row for each handle, in the order of the handles (own).
+-- The tree of a `Route`: one row for each handle, in the order of the handles (own).
 use Rattle.std.specs.Prelude.{ℕ, List, [], ◌∷◌, ◌++◌, map, Option, Some, None, option_map, Box}
 use Rattle.std.specs.declared.alloc.Global.{Global}
 use Rattle.mcv_base.specs.declared.operation.Op.{Op}

@@ -16,7 +16,7 @@ use Rattle.mcv_route.specs.Tree.{Tree}
 abbrev pub list_view : Arc (Vec ServerId Global) Global → List ℕ
 list_view list = map (λ s. s.0) list.value.items
 
--- what stands after all policies, if anything does
+-- what comes after all policies, if anything does
 abbrev pub last_named : Option (Box NamedRoute Global) → List Named
 last_named None = []
 last_named (Some r) = named_of r.value ∷ []

@@ -1,7 +1,7 @@
 //! The eras of routes, by their numbers, and their laws.
 
 ghost use Rattle.std.specs.Prelude.{◌≡◌, ◌<◌, ◌↔◌, ℕ, None, option_map};
-ghost use Rattle.mcv_route.specs.Eras.{ErasAreOpenedByBreaks, ErasTellWhatHasPassed, HasEra, IsEraOf, MomentsHaveEras, SinceIsTheLastBreak};
+ghost use Rattle.mcv_route.specs.Eras.{ErasAreOpenedByBreaks, ErasSayWhatHasPassed, HasEra, IsEraOf, MomentsHaveEras, SinceIsTheLastBreak};
 
 use crate::routes::Routes;
 use mcv_base::Moment;
@@ -25,11 +25,11 @@ pub fn opened(routes: &Routes, era: usize) -> Option<Moment>
 }
 
 /// What `Routes::since` gives is the last break, moments after the same break are in one era, the break that
-/// opened an era tells which breaks have passed, and what `Routes::since` gives opened the era that
+/// opened an era says which breaks have passed, and what `Routes::since` gives opened the era that
 /// `Routes::era_of` numbers.
 pub fn eras_are_opened_by_breaks()
     ensures last { SinceIsTheLastBreak }
     ensures one_era { ErasAreOpenedByBreaks }
-    ensures passed { ErasTellWhatHasPassed }
+    ensures passed { ErasSayWhatHasPassed }
     ensures moments { MomentsHaveEras }
 {}

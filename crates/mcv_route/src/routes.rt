@@ -124,7 +124,7 @@ impl Routes {
         Some(&entry.route)
     }
 
-    /// The leaf at a position of a route, where a PoolRoute stands there.
+    /// The leaf at a position of a route, where a PoolRoute is there.
     pub fn leaf_at(&self, route: usize, position: &Position) -> Option<&Leaf>
         ensures { option_map (λ l. pool_view l.now) result ≡ leaf_in self.now route position.now }
     {

@@ -43,7 +43,7 @@ pub struct OperationPolicy {
 /// A handle with all below it, in the order of the table of handles.
 ///
 /// The children's numbers are their places, among them the shadows' targets; of a warm-up cold is 0, warm 1, and
-/// cold again 2 for the add; of a migration from is 0, to 1. What stands after all policies has the number after theirs.
+/// cold again 2 for the add; of a migration from is 0, to 1. What comes after all policies has the number after theirs.
 #[derive(Drop)]
 #[cycle(route)]
 pub enum Route {

@@ -1,8 +1,9 @@
 -- Small facts on outcomes.
 use Rattle.std.proofs.Common.{◌≡◌, ◌≢◌, ◌⊎◌, inl, inr, Option, Some, None, refl, sym, ap}
+use Rattle.mcv_base.specs.Reply.{worse}
 use Rattle.mcv_base.specs.declared.reply.Outcome.{Outcome}
 use Rattle.mcv_base.specs.declared.reply.Outcome.TheVariants.{Good, Soft, Error}
-use Rattle.mcv_rules.specs.Plan.{worse, both, on_error, on_miss, IsMissed}
+use Rattle.mcv_rules.specs.Plan.{both, on_error, on_miss, IsMissed}
 
 pub good≢error : Good ≡ Error → ⊥
 good≢error e = cc

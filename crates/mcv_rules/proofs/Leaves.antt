@@ -1,4 +1,4 @@
--- At each leg's position stands a PoolRoute, and the leg goes to its server at the index of its symbol.
+-- At each leg's position is a PoolRoute, and the leg goes to its server at the index of its symbol.
 use Rattle.std.proofs.Common.{◌≡◌, ◌+◌, cond, ℕ, zero, suc, Bool, true, false, List, [], ◌∷◌, ◌++◌, Some, inl, inr, refl, sym, ap, ◌∙◌, subst, arith, append_assoc, append-nil}
 use Rattle.std.specs.Prelude.{option_and_then, slice_index}
 use Rattle.mcv_base.specs.declared.reply.Outcome.{Outcome}
@@ -83,7 +83,7 @@ record IsOf (t : Tree) (here : List ℕ) (c : Choice) (l : Launch) : Type 0 wher
   rest : List ℕ
   leaf : Pool
   position : l.position ≡ here ++ rest
-  stands : pool_at_position t rest ≡ Some leaf
+  pool_there : pool_at_position t rest ≡ Some leaf
   server : l.server.0 ≡ slice_index leaf.servers (c leaf.symbol)
 
 of_child : (t u : Tree) (k : ℕ) (here : List ℕ) (c : Choice) (l : Launch) → child_at (children_of t) k ≡ Some u → IsOf u (here ++ k ∷ []) c l → IsOf t here c l
@@ -91,7 +91,7 @@ of_child t u k here c l e h = record {
   rest = k ∷ h.rest;
   leaf = h.leaf;
   position = h.position ∙ append_assoc here (k ∷ []) h.rest;
-  stands = ap (λ r. option_and_then pool_of (option_and_then (λ v. tree_at v h.rest) r)) e ∙ h.stands;
+  pool_there = ap (λ r. option_and_then pool_of (option_and_then (λ v. tree_at v h.rest) r)) e ∙ h.pool_there;
   server = h.server;
 }
 
@@ -103,7 +103,7 @@ below t here c j u l n e f h =
 mutual
   of_pools : (t : Tree) (s : Situation) (c : Choice) (o : Outcomes) → AllOf (IsOf t s.position c) (launched t s c o)
   of_pools (pool p ranges targets) s c o = (
-    record { rest = []; leaf = p; position = sym (append-nil s.position); stands = refl; server = refl },
+    record { rest = []; leaf = p; position = sym (append-nil s.position); pool_there = refl; server = refl },
     all_holding (IsOf (pool p ranges targets) s.position c) (c p.symbol) ranges (launched_each 0 targets (shadowed s) c o)
         (of_each (pool p ranges targets) 0 targets (shadowed s) c o (below (pool p ranges targets) s.position c)),
   )
@@ -167,4 +167,4 @@ mutual
 pub legs_are_of_pools : LegsAreOfPools
 legs_are_of_pools t op rest since c o l h =
     let leg = all_among (IsOf t [] c) (launched t (asked op rest since) c o) l (of_pools t (asked op rest since) c o) h in
-    (leg.leaf, ap (pool_at_position t) leg.position ∙ leg.stands, leg.server)
+    (leg.leaf, ap (pool_at_position t) leg.position ∙ leg.pool_there, leg.server)

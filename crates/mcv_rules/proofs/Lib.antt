@@ -13,7 +13,7 @@ pub mod Sound
 pub mod One
 pub mod Last
 pub mod Times
-pub mod Own
+pub mod KnownIsHistory
 pub mod Plans
 pub mod Places
 pub mod Whole
@@ -22,14 +22,14 @@ pub mod Searching
 pub mod Besides
 pub mod Choosing
 pub mod Stopping
-pub mod Turns
+pub mod SearchGoesOn
 pub mod True
-pub mod Told
+pub mod StatusOfReply
 pub mod Rows
 pub mod Operations
 pub mod Stops
 pub mod Longest
 pub mod Leaves
 pub mod Rising
-pub mod Once
+pub mod SentOnce
 mod Examples

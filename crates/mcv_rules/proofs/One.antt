@@ -4,14 +4,14 @@ use Rattle.std.specs.Prelude.{◌==◌}
 use Rattle.mcv_base.specs.declared.reply.Outcome.{Outcome}
 use Rattle.mcv_base.specs.declared.reply.Outcome.TheVariants.{Good, Soft, Error}
 use Rattle.mcv_route.specs.Outcomes.{History, outcomes}
-use Rattle.mcv_base.specs.Reply.{is_error, is_good}
+use Rattle.mcv_base.specs.Reply.{is_error, is_good, badness}
 use Rattle.mcv_rules.proofs.Basics
 use Rattle.mcv_rules.proofs.Orders
 use Rattle.mcv_route.specs.Tree.{Tree, Trees, pool, null, error, all_sync, all_initial, all_async, failover, miss_failover, warm_up, migrate, prefix_selector, operation_selector, none, child}
 use Rattle.mcv_route.specs.Situation.{Situation, under}
 use Rattle.mcv_base.specs.Operation.{is_reading}
 use Rattle.mcv_route.specs.Children.{child_or, together, policy_of, prefix_policy, way_of}
-use Rattle.mcv_route.specs.Replies.{Answer, leg, default_answer, refused, own_answers, outcome_of, badness, the_worse, or_after_error, or_after_miss, replies, replies_each}
+use Rattle.mcv_route.specs.Replies.{Answer, leg, default_answer, refused, own_answers, outcome_of, the_worse, or_after_error, or_after_miss, replies, replies_each}
 use Rattle.mcv_route.specs.Reply.{is_waiting, came, Arrival, arrival, weight, last_worse, next_after_error, next_after_miss, own_answer, answers_of, reply, arrivals}
 use Rattle.mcv_rules.specs.Laws.{IsOneOf, ReplyIsOneOf, OneReplyStays}
 use Rattle.mcv_rules.proofs.Relate

@@ -3,14 +3,14 @@ use Rattle.std.proofs.Common.{◌≡◌, ◌≢◌, ◌⊎◌, cond, inl, inr, �
 use Rattle.std.specs.Prelude.{fold}
 use Rattle.mcv_base.specs.declared.reply.Outcome.{Outcome}
 use Rattle.mcv_base.specs.declared.reply.Outcome.TheVariants.{Good, Soft, Error}
-use Rattle.mcv_rules.specs.Plan.{Leg, Plan, Send, Reply, Both, Beside, OnError, OnMiss, OnHit, Shadowed, worse, both, on_error, on_miss, reply, IsMissed, HitAt}
+use Rattle.mcv_rules.specs.Plan.{Leg, Plan, Send, Reply, Both, Beside, OnError, OnMiss, OnHit, Shadowed, both, on_error, on_miss, reply, IsMissed, HitAt}
 use Rattle.mcv_route.specs.Outcomes.{Outcomes}
-use Rattle.mcv_base.specs.Reply.{is_error, is_good}
+use Rattle.mcv_base.specs.Reply.{is_error, is_good, badness, worse}
 use Rattle.mcv_route.specs.Tree.{Range, Tree, Trees, pool, null, error, all_sync, all_initial, all_async, failover, miss_failover, warm_up, migrate, prefix_selector, operation_selector, none, child}
 use Rattle.mcv_route.specs.Situation.{Situation, under, asynchronous, shadowed, adding}
 use Rattle.mcv_base.specs.Operation.{is_reading}
 use Rattle.mcv_route.specs.Children.{child_or, rest_of, together, policy_of, prefix_policy, way_of}
-use Rattle.mcv_route.specs.Replies.{Source, leg, fixed, refusal, Answer, default_answer, refused, own_answers, outcome_of, badness, the_worse, or_after_error, or_after_miss, replies, replies_each}
+use Rattle.mcv_route.specs.Replies.{Source, leg, fixed, refusal, Answer, default_answer, refused, own_answers, outcome_of, the_worse, or_after_error, or_after_miss, replies, replies_each}
 use Rattle.mcv_rules.specs.Plans.{leg_of, with_shadows, plan, plan_each}
 use Rattle.mcv_rules.proofs.Basics
 use Rattle.mcv_rules.proofs.Relate
@@ -181,7 +181,7 @@ miss_matches o (b ∷ bs) cs t u m n =
           }))
     ]
 
--- ---- what stands beside
+-- ---- what is beside
 
 beside_matches : (o : Outcomes) (bs : List Answer) (t u : Plan) → Matches o bs t → Matches o bs (Beside t u)
 beside_matches o bs t u m = record { outcome = m.outcome; same = m.same; hits = m.hits; back = m.back }

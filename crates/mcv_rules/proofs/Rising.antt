@@ -1,4 +1,4 @@
--- The legs of a plan, and so those of a route, stand in the order of their positions.
+-- The legs of a plan, and so those of a route, come in the order of their positions.
 use Rattle.std.proofs.Common.{◌≡◌, inl, inr, ⊎_elim, ℕ, zero, suc, ◌<◌, Bool, true, false, cond, ◌==◌, List, [], ◌∷◌, ◌++◌, map, Option, Some, None, refl, sym, ap, ◌∙◌, subst, arith, append_assoc, append-nil}
 use Rattle.std.specs.Prelude.{⊤, ◌&&◌, fold, if◌then◌else◌, nat_le}
 use Rattle.std.specs.Cmp.Lexicographic.{slice_cmp}
@@ -20,7 +20,7 @@ use Rattle.mcv_route.specs.Situation.{Situation, under, asynchronous, shadowed, 
 use Rattle.mcv_route.specs.Tree.{Range, Tree, Trees, pool, null, error, all_sync, all_initial, all_async, failover, miss_failover, warm_up, migrate, prefix_selector, operation_selector, none, child}
 use Rattle.mcv_rules.specs.Plan.{Leg, Plan, Send, Reply, Both, Beside, OnError, OnMiss, OnHit, Shadowed, reply, on_reply, launched}
 use Rattle.mcv_rules.specs.Plans.{leg_of, plan, plan_each, with_shadows, launch_of}
-use Rattle.mcv_rules.specs.Rows.{LegsStandInOrder, StandsBefore}
+use Rattle.mcv_rules.specs.Rows.{LegsComeInOrder, ComesBefore}
 use Rattle.mcv_rules.specs.Sound.{positions, In}
 use Rattle.mcv_rules.proofs.Orders.{in_left, in_right}
 use Rattle.mcv_rules.proofs.Sent
@@ -31,12 +31,12 @@ use Rattle.mcv_rules.proofs.Sound.{in_either}
 less : (i j : ℕ) → i < j → nat_cmp i j ≡ Less
 less i j h = ap (λ b. cond b Less (cond (i == j) Equal Greater)) (lt-ltb i j h)
 
-before-child : (base : List ℕ) (i j : ℕ) (xs ys : List ℕ) → i < j → StandsBefore (base ++ i ∷ xs) (base ++ j ∷ ys)
+before-child : (base : List ℕ) (i j : ℕ) (xs ys : List ℕ) → i < j → ComesBefore (base ++ i ∷ xs) (base ++ j ∷ ys)
 before-child [] i j xs ys h = ap (λ c. ordering_then c (slice_cmp nat_cmp xs ys)) (less i j h)
 before-child (b ∷ base) i j xs ys h =
     ap (λ c. ordering_then c (slice_cmp nat_cmp (base ++ i ∷ xs) (base ++ j ∷ ys))) (tied_itself nat_cmp_total b) ∙ before-child base i j xs ys h
 
-before-own : (base : List ℕ) (k : ℕ) (more : List ℕ) → StandsBefore base (base ++ k ∷ more)
+before-own : (base : List ℕ) (k : ℕ) (more : List ℕ) → ComesBefore base (base ++ k ∷ more)
 before-own [] k more = refl
 before-own (b ∷ base) k more = ap (λ c. ordering_then c (slice_cmp nat_cmp base (base ++ k ∷ more))) (tied_itself nat_cmp_total b) ∙ before-own base k more
 
@@ -44,9 +44,9 @@ before-own (b ∷ base) k more = ap (λ c. ordering_then c (slice_cmp nat_cmp ba
 
 abbrev pub IsRising : List (List ℕ) → Type 0
 IsRising [] = ⊤
-IsRising (p ∷ ps) = ((q : List ℕ) → In ps q → StandsBefore p q) × IsRising ps
+IsRising (p ∷ ps) = ((q : List ℕ) → In ps q → ComesBefore p q) × IsRising ps
 
-pub rising-append : (ps qs : List (List ℕ)) → IsRising ps → IsRising qs → ((p q : List ℕ) → In ps p → In qs q → StandsBefore p q) → IsRising (ps ++ qs)
+pub rising-append : (ps qs : List (List ℕ)) → IsRising ps → IsRising qs → ((p q : List ℕ) → In ps p → In qs q → ComesBefore p q) → IsRising (ps ++ qs)
 rising-append [] qs h g f = g
 rising-append (p ∷ ps) qs h g f = (λ q i. ⊎_elim (λ j. h.0 q j) (λ j. f p q (inl refl) j) (in_either ps qs q i), rising-append ps qs h.1 g (λ x q i j. f x q (inr i) j))
 
@@ -92,14 +92,14 @@ weaker-head k (j ∷ more) h = omega (arith, h)
 later : (base p : List ℕ) (k : ℕ) → IsEarly base k p → IsEarly base (suc k) p
 later base p k h = record { more = h.more; is = h.is; early = weaker-head k h.more h.early }
 
-cross-at : (base : List ℕ) (k : ℕ) (more rest : List ℕ) → HeadBelow k more → StandsBefore (base ++ more) (base ++ k ∷ rest)
-cross-at base k [] rest h = subst (λ b. StandsBefore b (base ++ k ∷ rest)) (sym (append-nil base)) (before-own base k rest)
+cross-at : (base : List ℕ) (k : ℕ) (more rest : List ℕ) → HeadBelow k more → ComesBefore (base ++ more) (base ++ k ∷ rest)
+cross-at base k [] rest h = subst (λ b. ComesBefore b (base ++ k ∷ rest)) (sym (append-nil base)) (before-own base k rest)
 cross-at base k (j ∷ more) rest h = before-child base j k more rest h
 
-cross : (base p q : List ℕ) (k : ℕ) → IsEarly base k p → IsAt (base ++ k ∷ []) q → StandsBefore p q
+cross : (base p q : List ℕ) (k : ℕ) → IsEarly base k p → IsAt (base ++ k ∷ []) q → ComesBefore p q
 cross base p q k h g =
     let m = at-child base q k g in
-    subst (λ x. StandsBefore x q) (sym h.is) (subst (λ y. StandsBefore (base ++ h.more) y) (sym m.1) (cross-at base k h.more m.0 h.early))
+    subst (λ x. ComesBefore x q) (sym h.is) (subst (λ y. ComesBefore (base ++ h.more) y) (sym m.1) (cross-at base k h.more m.0 h.early))
 
 -- one child more
 with-child : (base : List ℕ) (k : ℕ) (ps qs : List (List ℕ)) → AreEarly base k ps → AreOrdered (base ++ k ∷ []) qs → AreEarly base (suc k) (ps ++ qs)
@@ -194,13 +194,13 @@ plan_rises t s = (ordered t s).rising
 
 -- ---- each place is before all later ones
 
-all-before : (p : List ℕ) (ps : List (List ℕ)) → ((q : List ℕ) → In ps q → StandsBefore p q) → All (StandsBefore p) ps
-all-before p [] h = All-nil (StandsBefore p)
-all-before p (q ∷ ps) h = All-cons (StandsBefore p) q ps (h q (inl refl)) (all-before p ps (λ r i. h r (inr i)))
+all-before : (p : List ℕ) (ps : List (List ℕ)) → ((q : List ℕ) → In ps q → ComesBefore p q) → All (ComesBefore p) ps
+all-before p [] h = All-nil (ComesBefore p)
+all-before p (q ∷ ps) h = All-cons (ComesBefore p) q ps (h q (inl refl)) (all-before p ps (λ r i. h r (inr i)))
 
-pub pairs : (ps : List (List ℕ)) → IsRising ps → AllPairs StandsBefore ps
+pub pairs : (ps : List (List ℕ)) → IsRising ps → AllPairs ComesBefore ps
 pairs [] h = λ i j d low high. absurd (omega (arith, high))
-pairs (p ∷ ps) h = AllPairs-cons StandsBefore p ps (all-before p ps h.0) (pairs ps h.1)
+pairs (p ∷ ps) h = AllPairs-cons ComesBefore p ps (all-before p ps h.0) (pairs ps h.1)
 
 -- ---- parts of a plan, in its order
 
@@ -217,9 +217,9 @@ rising-right : (ps qs : List (List ℕ)) → IsRising (ps ++ qs) → IsRising qs
 rising-right [] qs h = h
 rising-right (p ∷ ps) qs h = rising-right ps qs h.1
 
-rising-across : (ps qs : List (List ℕ)) (p q : List ℕ) → IsRising (ps ++ qs) → In ps p → In qs q → StandsBefore p q
+rising-across : (ps qs : List (List ℕ)) (p q : List ℕ) → IsRising (ps ++ qs) → In ps p → In qs q → ComesBefore p q
 rising-across [] qs p q h i j = absurd i
-rising-across (x ∷ ps) qs p q h (inl e) j = subst (λ y. StandsBefore y q) e (h.0 q (in_right ps qs q j))
+rising-across (x ∷ ps) qs p q h (inl e) j = subst (λ y. ComesBefore y q) e (h.0 q (in_right ps qs q j))
 rising-across (x ∷ ps) qs p q h (inr i) j = rising-across ps qs p q h.1 i j
 
 pub no-part : (ps : List (List ℕ)) → IsPart [] ps
@@ -273,7 +273,7 @@ pub launched_places : (c : Choice) (ls : List Leg) → map (λ l. l.position) (m
 launched_places c [] = refl
 launched_places c (l ∷ ls) = ap (λ ps. l.position ∷ ps) (launched_places c ls)
 
-pub legs_stand_in_order : LegsStandInOrder
-legs_stand_in_order t s c o =
-    subst (λ (ps : List (List ℕ)). AllPairs StandsBefore ps) (sym (ap (λ ls. map (λ l. l.position) ls) (Sent.sent t s c o) ∙ launched_places c (launched (plan t s) c o)))
+pub legs_come_in_order : LegsComeInOrder
+legs_come_in_order t s c o =
+    subst (λ (ps : List (List ℕ)). AllPairs ComesBefore ps) (sym (ap (λ ls. map (λ l. l.position) ls) (Sent.sent t s c o) ∙ launched_places c (launched (plan t s) c o)))
     (pairs (places (launched (plan t s) c o)) ((launched-part (plan t s) c o).rising (plan_rises t s)))

@@ -35,7 +35,7 @@ use Rattle.mcv_rules.proofs.One
 use Rattle.mcv_rules.proofs.Times as times
 use Rattle.mcv_rules.proofs.Times.{came_time, no_cons}
 use Rattle.mcv_rules.proofs.Verdicts.{reply_is_planned, replies_are_alike}
-use Rattle.mcv_rules.proofs.Own.{apart, stable}
+use Rattle.mcv_rules.proofs.KnownIsHistory.{apart, stable}
 use Rattle.mcv_rules.proofs.Places.{kind-InTurn, kind-OnHit, places-InTurn, places-OnHit}
 use Rattle.mcv_rules.proofs.Whole.{part-InTurn, part-OnHit}
 use Rattle.mcv_rules.proofs.Plans.{sent-InTurn, sent-OnHit, arrived-InTurn, arrived-OnHit}
@@ -109,10 +109,10 @@ stable_next : (w : After) (f g : History → List Answer) (es : History) → IsS
 stable_next w f g [] i j = tt
 stable_next w f g (e ∷ es) i j = (stays_next w (f es) (f (e ∷ es)) (g es) (g (e ∷ es)) i.0 j.0, stable_next w f g es i.1 j.1)
 
--- ---- what a plan's answer tells
+-- ---- what a plan's answer says
 
 -- it is the one of these answers, and came when there first were any
-record Tells (op : Op) (xs : List Answered) (a : Arrival) (f : History → List Answer) (r : Option Answer) : Type 0 where
+record Decides (op : Op) (xs : List Answered) (a : Arrival) (f : History → List Answer) (r : Option Answer) : Type 0 where
   is : a ≡ seen op xs (arrival r (time f (history_of xs)))
   alike : outcome r ≡ outcome_of_all (f (history_of xs))
   stays : IsStable f (history_of xs)
@@ -121,8 +121,8 @@ one_alike : (t : Tree) (s : Situation) (o : Outcomes) (r : Option Answer) → Is
 one_alike t s o None e = ap outcome_of_all (sym e)
 one_alike t s o (Some a) h = sym (reply_is_planned t s o ∙ replies_are_alike t s o a h)
 
-tells-child : (op : Op) (xs : List Answered) (p : Plan) (t : Tree) (s : Situation) → op ≡ s.op → Serves p t s → Tells op xs (arrived (own_arrived xs) p) (λ h. replies t s (outcomes h)) (reply t s (history_of xs))
-tells-child op xs p t s same f =
+decides-child : (op : Op) (xs : List Answered) (p : Plan) (t : Tree) (s : Situation) → op ≡ s.op → Serves p t s → Decides op xs (arrived (own_arrived xs) p) (λ h. replies t s (outcomes h)) (reply t s (history_of xs))
+decides-child op xs p t s same f =
     let es = history_of xs in
     record {
       is = f.answers xs ∙ ap₂ (λ op n. seen op xs (arrival (reply t s es) n)) (sym same) (came_time t s es);
@@ -160,22 +160,22 @@ next-alike w (Some x) q (y ∷ fs) gs h i =
     let alike : goes_on w x.outcome ≡ goes_on w y.outcome = ap (goes_on_after w) h in
     rw (next_some w x q, or_some w y fs gs, ← alike) (alike-by (goes_on w x.outcome) q (Some x) gs (y ∷ fs) i h)
 
-tells-next : (w : After) (op : Op) (xs : List Answered) (a b : Arrival) (f g : History → List Answer) (r q : Option Answer) → Tells op xs a f r → Tells op xs b g q → Tells op xs (next_arrived w a b) (λ h. or_after w (f h) (g h)) (next_after w r q)
-tells-next w op xs a b f g r q h i = record {
+decides-next : (w : After) (op : Op) (xs : List Answered) (a b : Arrival) (f g : History → List Answer) (r q : Option Answer) → Decides op xs a f r → Decides op xs b g q → Decides op xs (next_arrived w a b) (λ h. or_after w (f h) (g h)) (next_after w r q)
+decides-next w op xs a b f g r q h i = record {
   is = next-is w op xs a b f g r q (f (history_of xs)) refl h.is i.is h.alike h.stays;
   alike = next-alike w r q (f (history_of xs)) (g (history_of xs)) h.alike i.alike;
   stays = stable_next w f g (history_of xs) h.stays i.stays;
 }
 
-tells-fold : (w : After) (xs : List Answered) (k : ℕ) (ps : List Plan) (ts : List Tree) (s : Situation) (a : Arrival) (f : History → List Answer) (r : Option Answer) → Tells s.op xs a f r → ServeEach k ps ts s
-    → Tells s.op xs (fold (next_arrived w) a (map (arrived (own_arrived xs)) ps)) (λ h. fold (or_after w) (f h) (replies_each k (trees_of ts) s (outcomes h))) (fold (next_after w) r (answers_of (arrivals k (trees_of ts) s (history_of xs))))
-tells-fold w xs k [] [] s a f r h i = h
-tells-fold w xs k [] (t ∷ ts) s a f r h i = absurd i
-tells-fold w xs k (p ∷ ps) [] s a f r h i = absurd i
-tells-fold w xs k (p ∷ ps) (t ∷ ts) s a f r h i =
+decides-fold : (w : After) (xs : List Answered) (k : ℕ) (ps : List Plan) (ts : List Tree) (s : Situation) (a : Arrival) (f : History → List Answer) (r : Option Answer) → Decides s.op xs a f r → ServeEach k ps ts s
+    → Decides s.op xs (fold (next_arrived w) a (map (arrived (own_arrived xs)) ps)) (λ h. fold (or_after w) (f h) (replies_each k (trees_of ts) s (outcomes h))) (fold (next_after w) r (answers_of (arrivals k (trees_of ts) s (history_of xs))))
+decides-fold w xs k [] [] s a f r h i = h
+decides-fold w xs k [] (t ∷ ts) s a f r h i = absurd i
+decides-fold w xs k (p ∷ ps) [] s a f r h i = absurd i
+decides-fold w xs k (p ∷ ps) (t ∷ ts) s a f r h i =
     let here = under k s in
-    tells-fold w xs (suc k) ps ts s (next_arrived w a (arrived (own_arrived xs) p)) (λ h. or_after w (f h) (replies t here (outcomes h))) (next_after w r (reply t here (history_of xs)))
-    (tells-next w s.op xs a (arrived (own_arrived xs) p) f (λ h. replies t here (outcomes h)) r (reply t here (history_of xs)) h (tells-child s.op xs p t here refl i.0)) i.1
+    decides-fold w xs (suc k) ps ts s (next_arrived w a (arrived (own_arrived xs) p)) (λ h. or_after w (f h) (replies t here (outcomes h))) (next_after w r (reply t here (history_of xs)))
+    (decides-next w s.op xs a (arrived (own_arrived xs) p) f (λ h. replies t here (outcomes h)) r (reply t here (history_of xs)) h (decides-child s.op xs p t here refl i.0)) i.1
 
 -- ---- legs
 
@@ -229,7 +229,7 @@ search_answers w xs (p ∷ ps) t [] s h a = absurd a
 search_answers w xs (p ∷ ps) t (u ∷ ts) s h a =
     let es = history_of xs in
     let here = under 0 s in
-    let whole = tells-fold w xs 1 ps ts s (arrived (own_arrived xs) p) (λ h. replies u here (outcomes h)) (reply u here es) (tells-child s.op xs p u here refl a.0) a.1 in
+    let whole = decides-fold w xs 1 ps ts s (arrived (own_arrived xs) p) (λ h. replies u here (outcomes h)) (reply u here es) (decides-child s.op xs p u here refl a.0) a.1 in
     let when : time (λ k. fold (or_after w) (replies u here (outcomes k)) (replies_each 1 (trees_of ts) s (outcomes k))) es ≡ came t s es = time_same _ _ (λ k. sym (h.answers (outcomes k))) es ∙ sym (came_time t s es) in
     whole.is ∙ ap₂ (λ r n. seen s.op xs (arrival r n)) (sym (h.answer es)) when
 
@@ -294,9 +294,9 @@ serves-warm_up v p q a cold warm exptime s is h f g i = record {
       (ap (λ ps. positions (plan cold (under 0 s)) ++ ps) (append-nil (positions (plan warm (under 1 s)) ++ positions (plan cold (under 2 (adding s))))));
   answers = λ xs.
       let es = history_of xs in
-      let cold_tells = tells-child s.op xs p cold (under 0 s) refl f in
-      let warm_tells = tells-child s.op xs q.value warm (under 1 s) refl g in
-      let both = tells-next after.Miss s.op xs _ _ _ _ _ _ cold_tells warm_tells in
+      let cold_decides = decides-child s.op xs p cold (under 0 s) refl f in
+      let warm_decides = decides-child s.op xs q.value warm (under 1 s) refl g in
+      let both = decides-next after.Miss s.op xs _ _ _ _ _ _ cold_decides warm_decides in
       rw (arrived-InTurn (own_arrived xs) after.Miss v, is, arrived-OnHit (own_arrived xs) q a)
       (both.is ∙ ap₂ (λ r n. seen s.op xs (arrival r n)) (rw h refl) (time_same _ _ (λ k. rw h refl) es ∙ sym (came_time (warm_up cold warm exptime) s es)));
 }

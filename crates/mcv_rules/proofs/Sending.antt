@@ -30,7 +30,7 @@ IsReachable t c o = (es : History) × IsLegal t c es × ((p : List ℕ) → outc
 abbrev pub IsClosed : Plan → Choice → Outcomes → Type 0
 IsClosed t c o = (p : List ℕ) (x : Outcome) → o p ≡ Some x → (l : Leg) × (l.position ≡ p) × Sends t c o l
 
--- outcomes are reachable just where each is of a leg that is sent at them: no order needs to be found
+-- outcomes are reachable exactly when each is of a leg that is sent at them: no order needs to be found
 abbrev pub ReachableIsClosed : Type 0
 ReachableIsClosed = (t : Plan) (c : Choice) (o : Outcomes) → IsReachable t c o ↔ IsClosed t c o
 

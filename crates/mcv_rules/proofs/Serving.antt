@@ -39,7 +39,7 @@ use Rattle.mcv_rules.specs.declared.plan.PlannedLeg.{PlannedLeg}
 use Rattle.mcv_rules.specs.declared.plan.Plan.{Plan, Send, Reply, All}
 use Rattle.mcv_rules.proofs.Times as times
 use Rattle.mcv_rules.proofs.Verdicts.{reply_is_planned}
-use Rattle.mcv_rules.proofs.Own.{own_seen}
+use Rattle.mcv_rules.proofs.KnownIsHistory.{own_seen}
 use Rattle.mcv_rules.proofs.Places.{kind-All, kind-Reply, kind-Send, places-All, places-Reply, places-Send}
 use Rattle.mcv_rules.proofs.Whole.{part-All, part-Reply, part-Send}
 use Rattle.mcv_rules.proofs.Plans.{sent-Send, sent-Reply, sent-All, arrived-Send, arrived-Reply, arrived-All}

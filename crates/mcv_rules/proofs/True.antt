@@ -1,13 +1,13 @@
 -- Each answer has the outcome of whose reply it is.
 use Rattle.std.proofs.Common.{◌≡◌, cond, ⊎_elim, ℕ, suc, Bool, true, false, List, [], ◌∷◌, ◌++◌, Option, Some, None, refl, subst, nat_lt}
 use Rattle.mcv_base.specs.Operation.{is_reading}
-use Rattle.mcv_base.specs.Reply.{is_error, is_good}
+use Rattle.mcv_base.specs.Reply.{is_error, is_good, badness}
 use Rattle.mcv_base.specs.declared.reply.Outcome.{Outcome}
 use Rattle.mcv_route.specs.Outcomes.{Outcomes}
 use Rattle.mcv_route.specs.Tree.{Tree, Trees, pool, null, error, all_sync, all_initial, all_async, failover, miss_failover, warm_up, migrate, prefix_selector, operation_selector, none, child}
 use Rattle.mcv_route.specs.Situation.{Situation, under}
 use Rattle.mcv_route.specs.Children.{child_or, together, policy_of, prefix_policy, way_of}
-use Rattle.mcv_route.specs.Replies.{Answer, default_answer, refused, own_answers, badness, the_worse, or_after_error, or_after_miss, replies, replies_each}
+use Rattle.mcv_route.specs.Replies.{Answer, default_answer, refused, own_answers, the_worse, or_after_error, or_after_miss, replies, replies_each}
 use Rattle.mcv_rules.specs.Laws.{outcome_at, AnswersAreTrue}
 use Rattle.mcv_rules.proofs.Among.{Among, among_either}
 use Rattle.mcv_rules.proofs.Relate

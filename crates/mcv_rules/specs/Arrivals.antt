@@ -6,11 +6,10 @@ use Rattle.mcv_base.specs.declared.operation.Op.{Op}
 use Rattle.mcv_base.specs.declared.reply.Outcome.{Outcome}
 use Rattle.mcv_base.specs.declared.reply.FixedReply.{FixedReply}
 use Rattle.mcv_base.specs.declared.reply.FixedReply.TheVariants.{ErrorRoute}
-use Rattle.mcv_base.specs.Reply.{outcome_of, fixed_value, is_error, is_missed}
+use Rattle.mcv_base.specs.Reply.{outcome_of, fixed_value, is_error, is_missed, badness}
 use Rattle.mcv_route.specs.declared.launch.Answered.{Answered}
 use Rattle.mcv_route.specs.Outcomes.{Outcomes, History, outcomes}
 use Rattle.mcv_route.specs.Replies as replies
-use Rattle.mcv_route.specs.Replies.{badness}
 use Rattle.mcv_route.specs.Reply as reply
 use Rattle.mcv_rules.specs.declared.arrival.After.{After}
 use Rattle.mcv_rules.specs.declared.arrival.After.TheVariants as after

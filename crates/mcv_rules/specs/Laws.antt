@@ -24,7 +24,7 @@ use Rattle.mcv_rules.specs.Plans.{plan, legs_of}
 abbrev pub LaunchedIsPlanned : Type 0
 LaunchedIsPlanned = (t : Tree) (s : Situation) (c : Choice) (o : Outcomes) → launched t s c o ≡ legs_of (plan t s) c o
 
--- there is a reply just where the plan has one
+-- there is a reply exactly when the plan has one
 abbrev pub ReplyIsPlanned : Type 0
 ReplyIsPlanned = (t : Tree) (s : Situation) (o : Outcomes) → outcome_of (replies t s o) ≡ reply (plan t s) o
 
@@ -65,7 +65,7 @@ AnswersAreTrue = (t : Tree) (s : Situation) (o : Outcomes) (a : Answer) → Has 
 abbrev pub ReachableIsClosed : Type 0
 ReachableIsClosed = (t : Tree) (s : Situation) (c : Choice) (o : Outcomes) → IsReachable t s c o ↔ IsClosed t s c o
 
--- the one reply is one of the replies, and is there just where there is one
+-- the one reply is one of the replies, and is there exactly when there is one
 abbrev pub IsOneOf : Option Answer → List Answer → Type 0
 IsOneOf None answers = answers ≡ []
 IsOneOf (Some a) answers = Has answers (λ b. b ≡ a)

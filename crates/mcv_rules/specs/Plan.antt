@@ -4,7 +4,7 @@ use Rattle.mcv_base.specs.declared.reply.Outcome.{Outcome}
 use Rattle.mcv_base.specs.declared.reply.Outcome.TheVariants.{Good, Soft, Error}
 use Rattle.mcv_base.specs.declared.operation.Op.{Op}
 use Rattle.mcv_base.specs.declared.operation.Mark.{Mark}
-use Rattle.mcv_base.specs.Reply.{is_error, is_missed, is_good}
+use Rattle.mcv_base.specs.Reply.{is_error, is_missed, is_good, worse}
 use Rattle.mcv_route.specs.Outcomes.{Outcomes, Choice}
 
 -- one request to one server of a pool
@@ -33,14 +33,6 @@ pub data Plan : Type 0 where
   OnHit : Plan → Plan → Plan
   -- the first; beside it the second, a shadow, where the choice gives the symbol an index from first to last
   Shadowed : (symbol first last : ℕ) → Plan → Plan → Plan
-
--- error is worse than soft, soft than good
-abbrev pub worse : Outcome → Outcome → Outcome
-worse Good y = y
-worse Soft Good = Soft
-worse Soft Soft = Soft
-worse Soft Error = Error
-worse Error y = Error
 
 -- the worse of two replies, once both are there
 abbrev pub both : Option Outcome → Option Outcome → Option Outcome

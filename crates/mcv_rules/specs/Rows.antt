@@ -41,19 +41,19 @@ child_replied ts k s o = option_and_then (λ t. replied t (under k s) o) (child_
 
 -- ---- laws of all routes
 
--- no leg is sent twice: no position stands at two places
+-- no leg is sent twice: no position is at two places
 abbrev pub LegsAreSentOnce : Type 0
 LegsAreSentOnce = (t : Tree) (s : Situation) (c : Choice) (o : Outcomes) → IsOneToOne (map (λ l. l.position) (launched t s c o))
 
--- child numbers are compared from the first on, and a position stands before those below it
-abbrev pub StandsBefore : List ℕ → List ℕ → Type 0
-StandsBefore p q = slice_cmp nat_cmp p q ≡ Less
+-- child numbers are compared from the first on, and a position comes before those below it
+abbrev pub ComesBefore : List ℕ → List ℕ → Type 0
+ComesBefore p q = slice_cmp nat_cmp p q ≡ Less
 
--- the legs stand in the order of their positions, each before all later ones
-abbrev pub LegsStandInOrder : Type 0
-LegsStandInOrder = (t : Tree) (s : Situation) (c : Choice) (o : Outcomes) → AllPairs StandsBefore (map (λ l. l.position) (launched t s c o))
+-- the legs come in the order of their positions, each before all later ones
+abbrev pub LegsComeInOrder : Type 0
+LegsComeInOrder = (t : Tree) (s : Situation) (c : Choice) (o : Outcomes) → AllPairs ComesBefore (map (λ l. l.position) (launched t s c o))
 
--- at a leg's position stands a PoolRoute, and the leg goes to its server at the index of its symbol
+-- at a leg's position is a PoolRoute, and the leg goes to its server at the index of its symbol
 abbrev pub LegsAreOfPools : Type 0
 LegsAreOfPools = (t : Tree) (op : Op) (rest : List ℕ) (since : Option ℕ) (c : Choice) (o : Outcomes) (l : Launch) → Sends t (asked op rest since) c o l
     → (p : Pool) × (pool_at_position t l.position ≡ Some p) × (l.server.0 ≡ slice_index p.servers (c p.symbol))

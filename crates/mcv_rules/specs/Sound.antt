@@ -23,7 +23,7 @@ In (q ∷ qs) p = (q ≡ p) ⊎ In qs p
 abbrev pub AreApart : Plan → Plan → Type 0
 AreApart t u = (p : List ℕ) → In (positions t) p → In (positions u) p → ⊥
 
--- no position stands at two places
+-- no position is at two places
 abbrev pub IsApart : Plan → Type 0
 IsApart (Send l) = Unit {0}
 IsApart (Reply x) = Unit {0}
@@ -34,7 +34,7 @@ IsApart (OnMiss t u) = IsApart t × IsApart u × AreApart t u
 IsApart (OnHit t u) = IsApart t × IsApart u × AreApart t u
 IsApart (Shadowed s a b t u) = IsApart t × IsApart u × AreApart t u
 
--- a leg is counted just where it stands under no shadow
+-- a leg is counted exactly where it is under no shadow
 abbrev pub IsMarked : Bool → Plan → Type 0
 IsMarked m (Send l) = is_counting l.mark ≡ m
 IsMarked m (Reply x) = Unit {0}

@@ -1,7 +1,7 @@
 //! The laws of routes: what holds of the definitions alone, and so of all code that meets them.
 
 ghost use Rattle.mcv_rules.specs.Laws.{AllSyncReplies, AnswersAreTrue, DeletesSearchOnErrors, HitIsPlanned, LaunchedIsPlanned, OneReplyStays, PlansAreSound, ReachableIsClosed, RepliesAreAlike, ReplyIsOneOf, ReplyIsPlanned, ReplyStays, SentStays, TheLastOfTheWorst};
-ghost use Rattle.mcv_rules.specs.Rows.{AllAsyncRow, AllInitialRow, AllSyncRow, ErrorRow, FailoverReplies, FailoverRow, FirstPolicyCounts, LegsAreOfPools, LegsAreSentOnce, LegsHaveTheOperation, LegsStandInOrder, LongestPrefixCounts, MigrateAfter, MigrateBefore, MigrateDeletes, MigrateFirst, MigrateSecond, MissFailoverReads, MissFailoverReplies, MissFailoverWrites, NullRow, OperationSelectorRow, OwnOperation, PoolRow, PrefixSelectorRow, ShadowsAreMarked, WarmUpReads, WarmUpWrites};
+ghost use Rattle.mcv_rules.specs.Rows.{AllAsyncRow, AllInitialRow, AllSyncRow, ErrorRow, FailoverReplies, FailoverRow, FirstPolicyCounts, LegsAreOfPools, LegsAreSentOnce, LegsComeInOrder, LegsHaveTheOperation, LongestPrefixCounts, MigrateAfter, MigrateBefore, MigrateDeletes, MigrateFirst, MigrateSecond, MissFailoverReads, MissFailoverReplies, MissFailoverWrites, NullRow, OperationSelectorRow, OwnOperation, PoolRow, PrefixSelectorRow, ShadowsAreMarked, WarmUpReads, WarmUpWrites};
 ghost use Rattle.mcv_rules.specs.Times.{RepliesAreStable, TimeAfterError, TimeAfterMiss, TimeOfAllSync};
 
 /// The plan of a route sends the legs and gives the replies that its handles say.
@@ -31,7 +31,7 @@ pub fn answers_are_true()
     ensures { AnswersAreTrue }
 {}
 
-/// Outcomes are reachable just where each is of a leg that is sent at them.
+/// Outcomes are reachable exactly when each is of a leg that is sent at them.
 pub fn reachable_is_closed()
     ensures { ReachableIsClosed }
 {}
@@ -64,9 +64,9 @@ pub fn legs_are_of_pools()
     ensures own { OwnOperation }
 {}
 
-/// The legs stand in the order of their positions, each before all later ones.
-pub fn legs_stand_in_order()
-    ensures { LegsStandInOrder }
+/// The legs come in the order of their positions, each before all later ones.
+pub fn legs_come_in_order()
+    ensures { LegsComeInOrder }
 {}
 
 /// What each handle sends by its children, in the order of the table of handles.

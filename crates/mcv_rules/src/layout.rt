@@ -110,15 +110,18 @@ fn child_laid_out(
     ensures { IfOk result (λ p. Serves p (view child.now) (under number (situation_at asked.now position.now))) }
 {
     let place = position.child(alloc, number)?;
-    laid_out(alloc, child, asked, &place)
+    match child {
+        Route::Pool { leaf, shadows } if shadows.is_empty() => leg(leaf, asked, place),
+        _ => laid_out(alloc, child, asked, &place),
+    }
 }
 
 /// The leg of the pool at this position.
-fn leg(alloc: Global, leaf: &Leaf, asked: &Asked, position: &Position) -> Result<Plan, AllocError>
-    ensures { IfOk result (λ p. Serves p (pool (pool_view leaf.now) [] none) (situation_at asked.now position.now)) }
+fn leg(leaf: &Leaf, asked: &Asked, position: Position) -> Result<Plan, AllocError>
+    ensures { IfOk result (λ p. Serves p (pool (pool_view leaf.now) [] none) (situation_at asked.now position)) }
 {
     Ok(Plan::Send(PlannedLeg {
-        position: position.copy(alloc)?,
+        position,
         symbol: leaf.symbol,
         servers: Arc::try_clone(&leaf.servers)?,
         op: asked.op,
@@ -137,7 +140,7 @@ fn with_shadows(
 ) -> Result<Plan, AllocError>
     ensures { IfOk result (λ p. Serves p (pool (pool_view leaf.now) (ranges_of shadows.now) (targets_of shadows.now)) (situation_at asked.now position.now)) }
 {
-    let own = leg(alloc, leaf, asked, position)?;
+    let own = leg(leaf, asked, position.copy(alloc)?)?;
     if shadows.is_empty() {
         return Ok(own);
     }

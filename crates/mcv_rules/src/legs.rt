@@ -15,7 +15,7 @@ use mcv_pools::Choice;
 use mcv_route::Launch;
 use std::alloc::{AllocError, Global};
 
-/// Adds the legs that the plan has sent, in the order of their positions, and tells what its reply amounts to.
+/// Adds the legs that the plan has sent, in the order of their positions, and reports what its reply amounts to.
 #[cycle(sending)]
 pub fn send(
     alloc: Global,
@@ -100,11 +100,7 @@ fn send_all(
 fn worse(first: Option<Outcome>, second: Option<Outcome>) -> Option<Outcome>
     ensures { result ≡ both first second }
 {
-    match (first?, second?) {
-        (Outcome::Error, _) | (_, Outcome::Error) => Some(Outcome::Error),
-        (Outcome::Soft, _) | (_, Outcome::Soft) => Some(Outcome::Soft),
-        (Outcome::Good, Outcome::Good) => Some(Outcome::Good),
-    }
+    Some(first?.worse(second?))
 }
 
 /// The legs of all, and the first one's reply.

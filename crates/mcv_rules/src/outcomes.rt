@@ -12,7 +12,7 @@ use std::alloc::{AllocError, Global};
 pub struct Outcomes<'a> {
     pub answered: &'a [Answered],
     known: Known<'a>,
-    ghost told: { ∥ known_at known ≡ own_arrived answered.now ∥₁ },
+    ghost agrees: { ∥ known_at known ≡ own_arrived answered.now ∥₁ },
 }
 
 impl<'a> Outcomes<'a> {

@@ -80,7 +80,7 @@ fn prefixes(alloc: Global) -> Result<Route, AllocError> {
     })
 }
 
-/// Servers 7 and 8 for delete; a policy whose operation no command has stands before.
+/// Servers 7 and 8 for delete; a policy whose operation no command has comes before.
 fn policies(alloc: Global) -> Result<Vec<OperationPolicy>, AllocError> {
     let mut policies = Vec::new(alloc);
     policies.push(OperationPolicy {

@@ -6,7 +6,7 @@ use Rattle.std.proofs.lemmas.List.Folds.{list_any-append}
 use Rattle.std.proofs.lemmas.Grind.{flat_map-append}
 use Rattle.mcv_base.specs.Reply.{ReplyValue}
 use Rattle.mcv_text.specs.Request.{RequestValue, ItemValue}
-use Rattle.mcv_text.specs.Stream.{Stands, Held, Skips, Failed, EndsRefused, IsEnding, Reads, followed}
+use Rattle.mcv_text.specs.Stream.{Awaits, Held, Skips, Failed, EndsRefused, IsEnding, Reads, followed}
 use Rattle.mcv_session.specs.declared.desk.DeskFault.{DeskFault}
 use Rattle.mcv_session.specs.declared.session.Flow.{Flow}
 use Rattle.mcv_session.specs.declared.session.Flow.TheVariants.{GoesOn, Ends}
@@ -14,11 +14,11 @@ use Rattle.mcv_session.specs.Exchange.{item_of, text_of, texts_of, ends}
 use Rattle.mcv_session.specs.Session.{Answers, Breaks, Serves, taken, flow_after}
 use Rattle.mcv_session.proofs.Items.{chain_join, taken_on}
 
-either_open : (b : Bool) (x y : Stands) → x ≢ Failed → y ≢ Failed → (if b then x else y) ≢ Failed
+either_open : (b : Bool) (x y : Awaits) → x ≢ Failed → y ≢ Failed → (if b then x else y) ≢ Failed
 either_open true x y p q = p
 either_open false x y p q = q
 
-followed_open : (from : Stands) (piece : List ℕ) → from ≢ Failed → followed from piece ≢ Failed
+followed_open : (from : Awaits) (piece : List ℕ) → from ≢ Failed → followed from piece ≢ Failed
 followed_open (Held bytes) piece live = λ e. cc
 followed_open (Skips n) piece live = either_open (nat_lt (length piece) n) (Skips (n - length piece)) (Held (drop n piece)) (λ e. cc) (λ e. cc)
 followed_open Failed piece live = live
@@ -51,7 +51,7 @@ not_both : (b : Bool) → b ≡ true → b ≡ false → ⊥
 not_both b p q = cc
 
 -- a reader that hasn't failed goes on where no item ends the session
-pub still_open : ((from : Stands) (items : List ItemValue) → Reads from items Failed → (from ≡ Failed) ⊎ EndsRefused items) → (from to : Stands) (piece : List ℕ) (items : List ItemValue)
+pub still_open : ((from : Awaits) (items : List ItemValue) → Reads from items Failed → (from ≡ Failed) ⊎ EndsRefused items) → (from to : Awaits) (piece : List ℕ) (items : List ItemValue)
     → from ≢ Failed → Reads (followed from piece) items to → GoesOn ≡ flow_after items → to ≢ Failed
 still_open law from to piece items live reads flow = λ failed. elim (law (followed from piece) items (subst (Reads (followed from piece) items) failed reads)) [
   | inl e ↦ followed_open from piece live e
@@ -79,8 +79,8 @@ module _ {D : Type 0} (asks : D → RequestValue → Result (List ReplyValue) De
         flow_is = b.flow_is ∙ sym (flow_append xs ys none);
       }
 
-  pub serves_join : ((from mid to : Stands) (a b : List ℕ) (xs ys : List ItemValue) → Reads (followed from a) xs mid → Reads (followed mid b) ys to → Reads (followed from (a ++ b)) (xs ++ ys) to)
-      → (old mid new : D) (from s rest : Stands) (a b t u : List ℕ) (flow : Flow) → Serves asks old mid from a t GoesOn s → Serves asks mid new s b u flow rest → Serves asks old new from (a ++ b) (t ++ u) flow rest
+  pub serves_join : ((from mid to : Awaits) (a b : List ℕ) (xs ys : List ItemValue) → Reads (followed from a) xs mid → Reads (followed mid b) ys to → Reads (followed from (a ++ b)) (xs ++ ys) to)
+      → (old mid new : D) (from s rest : Awaits) (a b t u : List ℕ) (flow : Flow) → Serves asks old mid from a t GoesOn s → Serves asks mid new s b u flow rest → Serves asks old new from (a ++ b) (t ++ u) flow rest
   serves_join law old mid new from s rest a b t u flow x y = record {
     items = x.items ++ y.items;
     reads = law from s rest a b x.items y.items x.reads y.reads;
@@ -88,7 +88,7 @@ module _ {D : Type 0} (asks : D → RequestValue → Result (List ReplyValue) De
   }
 
   -- memory ran out before a byte was read
-  pub breaks_unread : (desk : D) (from : Stands) (piece text : List ℕ) → text ≡ [] → Breaks asks desk desk from piece text
+  pub breaks_unread : (desk : D) (from : Awaits) (piece text : List ℕ) → text ≡ [] → Breaks asks desk desk from piece text
   breaks_unread desk from piece text none = record {
     items = [];
     reads = inl refl;

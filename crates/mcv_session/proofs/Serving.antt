@@ -4,7 +4,7 @@ use Rattle.std.proofs.KnownBytes.{Consumes-nil, Consumes-trans, Appends-nil, App
 use Rattle.std.specs.Io.KnownBytes.{Appends, Consumes}
 use Rattle.mcv_base.specs.Reply.{ReplyValue}
 use Rattle.mcv_text.specs.Request.{RequestValue, ItemValue}
-use Rattle.mcv_text.specs.Stream.{Stands, Held, Reads, followed}
+use Rattle.mcv_text.specs.Stream.{Awaits, Held, Reads, followed}
 use Rattle.mcv_session.specs.declared.desk.DeskFault.{DeskFault}
 use Rattle.mcv_session.specs.declared.session.Flow.{Flow}
 use Rattle.mcv_session.specs.declared.session.Flow.TheVariants.{GoesOn}
@@ -18,8 +18,8 @@ module _ {D : Type 0} (asks : D → RequestValue → Result (List ReplyValue) De
   pub served_start : (desk : D) (unread before : Option (List ℕ)) → Serves asks desk desk (Held []) [] [] GoesOn (Held []) → Served asks desk desk GoesOn (Held []) unread unread before before
   served_start desk unread before s = record { bytes = []; text = []; serves = s; reads = Consumes-nil unread; writes = Appends-nil before }
 
-  pub served_more : ((from mid to : Stands) (a b : List ℕ) (xs ys : List ItemValue) → Reads (followed from a) xs mid → Reads (followed mid b) ys to → Reads (followed from (a ++ b)) (xs ++ ys) to)
-      → (old mid new : D) (s rest : Stands) (flow : Flow) (unread later left before between after : Option (List ℕ)) (piece text : List ℕ) → Served asks old mid GoesOn s unread later before between
+  pub served_more : ((from mid to : Awaits) (a b : List ℕ) (xs ys : List ItemValue) → Reads (followed from a) xs mid → Reads (followed mid b) ys to → Reads (followed from (a ++ b)) (xs ++ ys) to)
+      → (old mid new : D) (s rest : Awaits) (flow : Flow) (unread later left before between after : Option (List ℕ)) (piece text : List ℕ) → Served asks old mid GoesOn s unread later before between
       → Consumes later left piece → Serves asks mid new s piece text flow rest → Appends between after text → Served asks old new flow rest unread left before after
   served_more law old mid new s rest flow unread later left before between after piece text x c v a = record {
     bytes = x.bytes ++ piece;
@@ -29,10 +29,10 @@ module _ {D : Type 0} (asks : D → RequestValue → Result (List ReplyValue) De
     writes = Appends-trans before between after x.text text x.writes a;
   }
 
-  pub served_on : (old new : D) (flow : Flow) (rest : Stands) (unread left before after : Option (List ℕ)) → Served asks old new flow rest unread left before after → flow ≡ GoesOn → Served asks old new GoesOn rest unread left before after
+  pub served_on : (old new : D) (flow : Flow) (rest : Awaits) (unread left before after : Option (List ℕ)) → Served asks old new flow rest unread left before after → flow ≡ GoesOn → Served asks old new GoesOn rest unread left before after
   served_on old new flow rest unread left before after x is = subst (λ f. Served asks old new f rest unread left before after) is x
 
-  pub stopped : (fault : ServeFault) (old mid new : D) (rest : Stands) (unread later left before between after : Option (List ℕ)) (piece : List ℕ) → Served asks old mid GoesOn rest unread later before between
+  pub stopped : (fault : ServeFault) (old mid new : D) (rest : Awaits) (unread later left before between after : Option (List ℕ)) (piece : List ℕ) → Served asks old mid GoesOn rest unread later before between
       → Consumes later left piece → Stops asks fault mid new rest piece between after → IsStopped asks fault old new unread left before after
   stopped fault old mid new rest unread later left before between after piece x c s = record { mid = mid; rest = rest; between = between; later = later; earlier = x; piece = piece; reads = c; stops = s }
 

@@ -3,7 +3,7 @@ use Rattle.std.specs.Prelude.{◌≡◌, ◌⊎◌, ◌++◌, ◌≤◌, ℕ, Li
 use Rattle.std.specs.List.{list_any}
 use Rattle.mcv_base.specs.Reply.{ReplyValue}
 use Rattle.mcv_text.specs.Request.{RequestValue, asking, ItemValue}
-use Rattle.mcv_text.specs.Stream.{Stands, Reads, followed}
+use Rattle.mcv_text.specs.Stream.{Awaits, Reads, followed}
 use Rattle.mcv_session.specs.declared.desk.DeskFault.{DeskFault}
 use Rattle.mcv_session.specs.declared.session.Flow.{Flow}
 use Rattle.mcv_session.specs.declared.session.Flow.TheVariants.{GoesOn, Ends}
@@ -50,15 +50,15 @@ module _ {D : Type 0} (asks : D → RequestValue → Result (List ReplyValue) De
     pub chain : Chain old (log ++ lost) new
     pub writes : text ≡ texts_of log
 
-  -- a session whose reader stood for this took these bytes, answered the items that end in them, and its reader stands for the rest;
+  -- a session whose reader awaited this took these bytes, answered the items that end in them, and its reader awaits the rest;
   -- `get a` CR LF `quit` LF to a desk that answers a miss: one request, `END` CR LF, Ends
-  pub record Serves (old new : D) (from : Stands) (bytes text : List ℕ) (flow : Flow) (rest : Stands) : Type 0 where
+  pub record Serves (old new : D) (from : Awaits) (bytes text : List ℕ) (flow : Flow) (rest : Awaits) : Type 0 where
     pub items : List ItemValue
     pub reads : Reads (followed from bytes) items rest
     pub answers : Answers old new items text flow
 
   -- memory ran out before an item was read, or while the items were answered
-  pub record Breaks (old new : D) (from : Stands) (bytes text : List ℕ) : Type 0 where
+  pub record Breaks (old new : D) (from : Awaits) (bytes text : List ℕ) : Type 0 where
     pub items : List ItemValue
-    pub reads : (items ≡ []) ⊎ ((rest : Stands) × Reads (followed from bytes) items rest)
+    pub reads : (items ≡ []) ⊎ ((rest : Awaits) × Reads (followed from bytes) items rest)
     pub answers : CutShort old new items text

@@ -3,7 +3,7 @@
 //! `Session::read` takes the next piece of a client's bytes, asks the desk each request that ends in it, and holds
 //! the client's text of all answers, to be written before the next read. `serve_session` does so for a reader and a
 //! writer until the session ends. A `Desk` answers requests; what it promises of an answer is its own relation
-//! `asks`, which the theorem of a session chains from the first request to the last. The definitions stand in specs/:
+//! `asks`, which the theorem of a session chains from the first request to the last. The definitions are in specs/:
 //! `Exchange` says what is written for one item, `Session` what a session did with a stream.
 #![tactic(auto)]
 

@@ -75,7 +75,7 @@ fn read_piece<D: Desk>(
     }
 }
 
-/// A client's session. Clauses see what its reader stands for, the text to be written, and whether it has ended.
+/// A client's session. Clauses see what its reader awaits, the text to be written, and whether it has ended.
 #[derive(Drop)]
 pub struct Session {
     alloc: Global,

@@ -1,4 +1,4 @@
--- What a crash leaves in each of the two writes of an append, and what stands there after them.
+-- What a crash leaves in each of the two writes of an append, and what is there after them.
 use Rattle.std.proofs.Common.{◌≡◌, inl, ℕ, ◌+◌, ◌*◌, ◌≤◌, List, [], ◌∷◌, ◌++◌, length, get_or, sym, ◌∙◌, ap, subst, arith}
 use Rattle.mcv_spool.specs.Disk.{IsTornFrom, Only, Torn, written}
 use Rattle.mcv_spool.specs.File.{IsClosed, body, slot_of, slots}
@@ -16,31 +16,31 @@ module _ (file : List ℕ) (closed : IsClosed file) (r : SpoolRecord) (size : le
   pub first_fits : end + 1 ≤ length file
   first_fits = omega (arith, end_is, closed.there)
 
-  stands : (more : List ℕ) × (written file (end + 1) (body r ++ 0 ∷ []) ≡ staged (slots file) 0 (body r) more)
-  stands = written_behind file (body r) closed end end_is
+  staged_there : (more : List ℕ) × (written file (end + 1) (body r ++ 0 ∷ []) ≡ staged (slots file) 0 (body r) more)
+  staged_there = written_behind file (body r) closed end end_is
 
   module _ (mid : List ℕ) (mid_is : mid ≡ written file (end + 1) bytes) where
-    mid_staged : mid ≡ staged (slots file) 0 (body r) stands.0
-    mid_staged = mid_is ∙ ap (λ (l : List ℕ). written file (end + 1) l) bytes_are ∙ stands.1
+    mid_staged : mid ≡ staged (slots file) 0 (body r) staged_there.0
+    mid_staged = mid_is ∙ ap (λ (l : List ℕ). written file (end + 1) l) bytes_are ∙ staged_there.1
 
     pub second_fits : end ≤ length mid
-    second_fits = omega (arith, end_is, ap length mid_staged, long (slots file) (parts file).all (body r) stands.0 size 0)
+    second_fits = omega (arith, end_is, ap length mid_staged, long (slots file) (parts file).all (body r) staged_there.0 size 0)
 
     -- the gate
     pub second_write : (may_leave : List ℕ → Type 0) → Only mid may_leave → (c : List ℕ) → IsTornFrom end 1 may_leave c → IsBeforeOrAfter (slots file) r c
     second_write may_leave durable c torn =
-        let before : torn.0 ≡ staged (slots file) 0 (body r) stands.0 = durable torn.0 torn.1 ∙ mid_staged in
-        let from : Torn (640 * length (slots file)) 1 (staged (slots file) 0 (body r) stands.0) c =
-        subst (λ e. Torn e 1 (staged (slots file) 0 (body r) stands.0) c) end_is (subst (λ (d : List ℕ). Torn end 1 d c) before torn.2) in
+        let before : torn.0 ≡ staged (slots file) 0 (body r) staged_there.0 = durable torn.0 torn.1 ∙ mid_staged in
+        let from : Torn (640 * length (slots file)) 1 (staged (slots file) 0 (body r) staged_there.0) c =
+        subst (λ e. Torn e 1 (staged (slots file) 0 (body r) staged_there.0) c) end_is (subst (λ (d : List ℕ). Torn end 1 d c) before torn.2) in
         let gate = get_or c (640 * length (slots file)) 0 in
-        let is : c ≡ staged (slots file) gate (body r) stands.0 = gate_torn (slots file) (parts file).all (body r) stands.0 size c from in
-        subst (IsBeforeOrAfter (slots file) r) (sym is) (before_or_after (slots file) (parts file).all r stands.0 size gate)
+        let is : c ≡ staged (slots file) gate (body r) staged_there.0 = gate_torn (slots file) (parts file).all (body r) staged_there.0 size c from in
+        subst (IsBeforeOrAfter (slots file) r) (sym is) (before_or_after (slots file) (parts file).all r staged_there.0 size gate)
 
     -- and then
     pub both_written : (new : List ℕ) → new ≡ written mid end (1 ∷ []) → (slots new ≡ slots file ++ slot_of r ∷ []) × IsClosed new
     both_written new new_is =
-        let is : new ≡ staged (slots file) 1 (body r) stands.0 =
-        new_is ∙ ap (λ (l : List ℕ). written l end (1 ∷ [])) mid_staged ∙ ap (λ e. written (staged (slots file) 0 (body r) stands.0) e (1 ∷ [])) end_is
-        ∙ gate_written (slots file) (parts file).all (body r) stands.0 size in
-        let there = staged_open (slots file) (parts file).all (body r) stands.0 size 1 (omega arith) in
+        let is : new ≡ staged (slots file) 1 (body r) staged_there.0 =
+        new_is ∙ ap (λ (l : List ℕ). written l end (1 ∷ [])) mid_staged ∙ ap (λ e. written (staged (slots file) 0 (body r) staged_there.0) e (1 ∷ [])) end_is
+        ∙ gate_written (slots file) (parts file).all (body r) staged_there.0 size in
+        let there = staged_open (slots file) (parts file).all (body r) staged_there.0 size 1 (omega arith) in
         subst (λ (l : List ℕ). (slots l ≡ slots file ++ slot_of r ∷ []) × IsClosed l) (sym is) there

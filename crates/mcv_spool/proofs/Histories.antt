@@ -7,7 +7,7 @@ use Rattle.std.specs.List.{Contains}
 use Rattle.mcv_spool.specs.Disk.{LeavesOnly}
 use Rattle.mcv_spool.specs.File.{damage, is_done, marked, read_record, slot_of, slots, slots_within, waiting}
 use Rattle.mcv_spool.specs.Version.{HasSlotsOf, IsBeforeOrAfter, IsVersion}
-use Rattle.mcv_spool.specs.History.{Told, HasNumber, IsKept, World, record_in, records_of, nothing_told, told_found, told_stored, told_tried, told_done, Call, History}
+use Rattle.mcv_spool.specs.History.{Reported, HasNumber, IsKept, World, record_in, records_of, nothing_reported, reported_found, reported_stored, reported_tried, reported_done, Call, History}
 use Rattle.mcv_spool.specs.declared.record.SpoolRecord.{SpoolRecord}
 use Rattle.mcv_spool.proofs.Marks.{records_marked}
 use Rattle.mcv_spool.proofs.Versions.{counted}
@@ -39,7 +39,7 @@ slots_none = refl
 
 -- ---- what is kept
 
-nothing_kept : IsKept nothing_told []
+nothing_kept : IsKept nothing_reported []
 nothing_kept = record {
   more = [];
   others = [];
@@ -50,7 +50,7 @@ nothing_kept = record {
 }
 
 -- a file with the same slots
-kept_same : (t : Told) (c d : List ℕ) → slots d ≡ slots c → IsKept t c → IsKept t d
+kept_same : (t : Reported) (c d : List ℕ) → slots d ≡ slots c → IsKept t c → IsKept t d
 kept_same t c d same kept = record {
   more = kept.more;
   others = kept.others;
@@ -61,7 +61,7 @@ kept_same t c d same kept = record {
 }
 
 -- one more append that isn't known to be on the disk
-kept_tried : (t : Told) (r : SpoolRecord) (c : List ℕ) → IsKept t c → IsKept (told_tried r t) c
+kept_tried : (t : Reported) (r : SpoolRecord) (c : List ℕ) → IsKept t c → IsKept (reported_tried r t) c
 kept_tried t r c kept = record {
   more = kept.more;
   others = kept.others ++ r ∷ [];
@@ -71,7 +71,7 @@ kept_tried t r c kept = record {
   done = kept.done;
 }
 
-kept_done : (t : Told) (k : ℕ) (c : List ℕ) → IsKept t c → IsKept (told_done k t) c
+kept_done : (t : Reported) (k : ℕ) (c : List ℕ) → IsKept t c → IsKept (reported_done k t) c
 kept_done t k c kept = record {
   more = kept.more;
   others = kept.others;
@@ -82,11 +82,11 @@ kept_done t k c kept = record {
 }
 
 -- the records of a file on which a spool is open
-abbrev Whole : Told → List (List ℕ) → Type 0
+abbrev Whole : Reported → List (List ℕ) → Type 0
 Whole t all = (map read_record all ≡ map Some (t.found ++ t.stored)) × (t.tried ≡ [])
 
--- a file with the records that are told, each done only where it was told
-kept_whole : (t : Told) (all : List (List ℕ)) (c : List ℕ) → length all ≤ 1000000 → map read_record all ≡ map Some (t.found ++ t.stored) → map read_record (slots c) ≡ map read_record all
+-- a file with the records that are reported, each done only where it was reported
+kept_whole : (t : Reported) (all : List (List ℕ)) (c : List ℕ) → length all ≤ 1000000 → map read_record all ≡ map Some (t.found ++ t.stored) → map read_record (slots c) ≡ map read_record all
     → ((k : ℕ) → is_done (get_or (slots c) k []) ≡ true → Contains t.done k) → IsKept t c
 kept_whole t all c room whole same done =
     let size : length (slots c) ≡ length all = sym (length-map (slots c) read_record) ∙ ap length same ∙ length-map all read_record in
@@ -99,7 +99,7 @@ kept_whole t all c room whole same done =
       done = done;
     }
 
-added : (t : Told) (r : SpoolRecord) (all : List (List ℕ)) → map read_record all ≡ map Some (t.found ++ t.stored) → read_record (slot_of r) ≡ Some r
+added : (t : Reported) (r : SpoolRecord) (all : List (List ℕ)) → map read_record all ≡ map Some (t.found ++ t.stored) → read_record (slot_of r) ≡ Some r
     → map read_record (all ++ slot_of r ∷ []) ≡ map Some (t.found ++ t.stored ++ r ∷ [])
 added t r all whole reads =
     map-append read_record all (slot_of r ∷ [])
@@ -107,8 +107,8 @@ added t r all whole reads =
     ∙ sym (map-append Some (t.found ++ t.stored) (r ∷ []))
 
 -- before or after an append
-kept_either : (t : Told) (r : SpoolRecord) (old c : List ℕ) → Whole t (slots old) → IsKept t old → read_record (slot_of r) ≡ Some r → length (slots old) < 1000000 → IsBeforeOrAfter (slots old) r c
-    → IsKept (told_tried r t) c
+kept_either : (t : Reported) (r : SpoolRecord) (old c : List ℕ) → Whole t (slots old) → IsKept t old → read_record (slot_of r) ≡ Some r → length (slots old) < 1000000 → IsBeforeOrAfter (slots old) r c
+    → IsKept (reported_tried r t) c
 kept_either t r old c whole kept reads room (inl v) = kept_tried t r c (kept_whole t (slots old) c kept.few whole.0 v.records (λ k h. kept.done k (v.done k h)))
 kept_either t r old c whole kept reads room (inr v) = record {
   more = r ∷ [];
@@ -120,9 +120,9 @@ kept_either t r old c whole kept reads room (inr v) = record {
 }
 
 -- in or after a done
-kept_marked : (t : Told) (k : ℕ) (old c : List ℕ) → Whole t (slots old) → IsKept t old → IsVersion (marked k (slots old)) c → IsKept (told_done k t) c
+kept_marked : (t : Reported) (k : ℕ) (old c : List ℕ) → Whole t (slots old) → IsKept t old → IsVersion (marked k (slots old)) c → IsKept (reported_done k t) c
 kept_marked t k old c whole kept v =
-    kept_whole (told_done k t) (slots old) c kept.few whole.0 (v.records ∙ records_marked (slots old) k 1)
+    kept_whole (reported_done k t) (slots old) c kept.few whole.0 (v.records ∙ records_marked (slots old) k 1)
     (λ j h. ⊎_elim (λ same. contains_first k j t.done same) (λ before. contains_more k j t.done (kept.done j before)) (done_marked (slots old) k j (v.done j h)))
 
 -- ---- records
@@ -195,8 +195,8 @@ is_waiting zero (s ∷ all) (x ∷ recs) r same h at undone =
     (λ i. cond (undone i) None (reads i))
 is_waiting (suc k) (s ∷ all) (x ∷ recs) r same h at undone = is_waiting k all recs r (ap (drop 1) same) (omega (arith, h)) at undone
 
--- a record that was told is pending, or `done` was called for it
-pub pending_or_done : (t : Told) (file : List ℕ) → Whole t (slots file) → IsKept t file → (r : SpoolRecord) (k : ℕ) → HasNumber t r k → Contains t.done k ⊎ (get_or (map waiting (slots file)) k None ≡ Some r)
+-- a record that was reported is pending, or `done` was called for it
+pub pending_or_done : (t : Reported) (file : List ℕ) → Whole t (slots file) → IsKept t file → (r : SpoolRecord) (k : ℕ) → HasNumber t r k → Contains t.done k ⊎ (get_or (map waiting (slots file)) k None ≡ Some r)
 pending_or_done t file whole kept r k number = by_done (is_done (get_or (slots file) k [])) refl
   where
     by_done : (b : Bool) → is_done (get_or (slots file) k []) ≡ b → Contains t.done k ⊎ (get_or (map waiting (slots file)) k None ≡ Some r)
@@ -204,7 +204,7 @@ pending_or_done t file whole kept r k number = by_done (is_done (get_or (slots f
     by_done false is = inr (is_waiting k (slots file) (t.found ++ t.stored) r whole.0 number.0 number.1 is)
 
 -- what an `open` finds is what is kept
-pub found_kept : (t : Told) (file : List ℕ) (records : List SpoolRecord) → IsKept t file → map read_record (slots file) ≡ map Some records
+pub found_kept : (t : Reported) (file : List ℕ) (records : List SpoolRecord) → IsKept t file → map read_record (slots file) ≡ map Some records
     → (more : List SpoolRecord) × (others : List SpoolRecord) × (t.tried ≡ more ++ others) × (records ≡ t.found ++ t.stored ++ more)
 found_kept t file records kept reads = (kept.more, kept.others, kept.prefix, same_records records (t.found ++ t.stored ++ kept.more) (sym reads ∙ kept.records))
 
@@ -215,7 +215,7 @@ module _ {D : Type 0} (seen : D → List ℕ) (may_leave : D → List ℕ → Ty
     (counts_now : (disk : D) (t : ℕ) (c : List ℕ) → t ≤ moment disk → may_leave disk c → left_since disk t c)
     (only_now : (disk : D) (c : List ℕ) → left_since disk (moment disk) c → may_leave disk c) where
   -- what is known after any list of calls
-  pub record Sound (t : Told) (w : World D) : Type 0 where
+  pub record Sound (t : Reported) (w : World D) : Type 0 where
     pub crash : (c : List ℕ) → may_leave w.disk c → IsKept t c
     pub whole : w.is_ready ≡ true → Whole t (slots (seen w.disk))
 
@@ -229,20 +229,20 @@ module _ {D : Type 0} (seen : D → List ℕ) (may_leave : D → List ℕ → Ty
   now old new P Q run before here c left = since_then old new P Q run before here c (counts_now new (moment old) c run.later left)
 
   -- at any moment of a call
-  pub within : (t : Told) (old new : World D) (answered stopped : Told → Told) → Sound t old → Call seen may_leave moment left_since old new answered stopped
+  pub within : (t : Reported) (old new : World D) (answered stopped : Reported → Reported) → Sound t old → Call seen may_leave moment left_since old new answered stopped
       → (c : List ℕ) → left_since new.disk (moment old.disk) c → IsKept (stopped t) c
   within t old new answered stopped sound (Call.found records o n finds ready) = since_then o.disk n.disk (HasSlotsOf (may_leave o.disk)) (IsKept t) finds.any_moment sound.crash (λ c p. kept_same t p.0 c p.2 (sound.crash p.0 p.1))
   within t old new answered stopped sound (Call.not_found o n leaves ready) = since_then o.disk n.disk (HasSlotsOf (may_leave o.disk)) (IsKept t) leaves sound.crash (λ c p. kept_same t p.0 c p.2 (sound.crash p.0 p.1))
-  within t old new answered stopped sound (Call.stored r o n before stores ready) = since_then o.disk n.disk (IsBeforeOrAfter (slots (seen o.disk)) r) (IsKept (told_tried r t)) stores.writes.any_moment (λ c left. kept_tried t r c (sound.crash c left))
+  within t old new answered stopped sound (Call.stored r o n before stores ready) = since_then o.disk n.disk (IsBeforeOrAfter (slots (seen o.disk)) r) (IsKept (reported_tried r t)) stores.writes.any_moment (λ c left. kept_tried t r c (sound.crash c left))
       (λ c p. kept_either t r (seen o.disk) c (sound.whole before) (sound.crash (seen o.disk) (read_may_stay o.disk)) stores.writes.reads stores.writes.room p)
-  within t old new answered stopped sound (Call.not_stored r o n before writes ready) = since_then o.disk n.disk (IsBeforeOrAfter (slots (seen o.disk)) r) (IsKept (told_tried r t)) writes.any_moment (λ c left. kept_tried t r c (sound.crash c left))
+  within t old new answered stopped sound (Call.not_stored r o n before writes ready) = since_then o.disk n.disk (IsBeforeOrAfter (slots (seen o.disk)) r) (IsKept (reported_tried r t)) writes.any_moment (λ c left. kept_tried t r c (sound.crash c left))
       (λ c p. kept_either t r (seen o.disk) c (sound.whole before) (sound.crash (seen o.disk) (read_may_stay o.disk)) writes.reads writes.room p)
-  within t old new answered stopped sound (Call.marks k o n before marks) = since_then o.disk n.disk (IsVersion (marked k (slots (seen o.disk)))) (IsKept (told_done k t)) marks.any_moment (λ c left. kept_done t k c (sound.crash c left))
+  within t old new answered stopped sound (Call.marks k o n before marks) = since_then o.disk n.disk (IsVersion (marked k (slots (seen o.disk)))) (IsKept (reported_done k t)) marks.any_moment (λ c left. kept_done t k c (sound.crash c left))
       (λ c p. kept_marked t k (seen o.disk) c (sound.whole before) (sound.crash (seen o.disk) (read_may_stay o.disk)) p)
   within t old new answered stopped sound (Call.nothing w) = λ c left. sound.crash c (only_now w.disk c left)
 
   -- the file that a read gives is one that a crash may leave
-  seen_kept : (t : Told) (old new : World D) (answered stopped : Told → Told) → Sound t old → Call seen may_leave moment left_since old new answered stopped → moment old.disk ≤ moment new.disk
+  seen_kept : (t : Reported) (old new : World D) (answered stopped : Reported → Reported) → Sound t old → Call seen may_leave moment left_since old new answered stopped → moment old.disk ≤ moment new.disk
       → IsKept (stopped t) (seen new.disk)
   seen_kept t old new answered stopped sound call later = within t old new answered stopped sound call (seen new.disk) (counts_now new.disk (moment old.disk) (seen new.disk) later (read_may_stay new.disk))
 
@@ -250,12 +250,12 @@ module _ {D : Type 0} (seen : D → List ℕ) (may_leave : D → List ℕ → Ty
   false_true b A is_false is_true = absurd (true≢false (sym is_true ∙ is_false))
 
   -- once a call has answered
-  pub after : (t : Told) (old new : World D) (answered stopped : Told → Told) → Sound t old → Call seen may_leave moment left_since old new answered stopped → Sound (answered t) new
+  pub after : (t : Reported) (old new : World D) (answered stopped : Reported → Reported) → Sound t old → Call seen may_leave moment left_since old new answered stopped → Sound (answered t) new
   after t old new answered stopped sound (Call.found records o n finds ready) =
       let whole : map read_record (slots (seen n.disk)) ≡ map Some (records ++ []) = ap (λ (ss : List (List ℕ)). map read_record ss) finds.same ∙ finds.reads ∙ ap (λ (l : List SpoolRecord). map Some l) (sym (append-nil records)) in
-      let kept = seen_kept t o n (told_found records) (λ t. t) sound (Call.found records o n finds ready) finds.any_moment.later in
+      let kept = seen_kept t o n (reported_found records) (λ t. t) sound (Call.found records o n finds ready) finds.any_moment.later in
       record {
-        crash = λ c left. kept_whole (told_found records t) (slots (seen n.disk)) c kept.few whole (ap (λ (f : List ℕ). map read_record (slots f)) (finds.durable c left))
+        crash = λ c left. kept_whole (reported_found records t) (slots (seen n.disk)) c kept.few whole (ap (λ (f : List ℕ). map read_record (slots f)) (finds.durable c left))
             (λ k h. kept.done k (subst (λ (f : List ℕ). is_done (get_or (slots f) k []) ≡ true) (finds.durable c left) h));
         whole = λ yes. (whole, refl);
       }
@@ -267,25 +267,25 @@ module _ {D : Type 0} (seen : D → List ℕ) (may_leave : D → List ℕ → Ty
       let was = sound.whole before in
       let whole : map read_record (slots (seen n.disk)) ≡ map Some (t.found ++ (t.stored ++ r ∷ [])) =
       ap (λ (ss : List (List ℕ)). map read_record ss) stores.adds ∙ added t r (slots (seen o.disk)) was.0 stores.writes.reads ∙ ap (λ (l : List SpoolRecord). map Some l) (append_assoc t.found t.stored (r ∷ [])) in
-      let kept = seen_kept t o n (told_stored r) (told_tried r) sound (Call.stored r o n before stores ready) stores.writes.any_moment.later in
+      let kept = seen_kept t o n (reported_stored r) (reported_tried r) sound (Call.stored r o n before stores ready) stores.writes.any_moment.later in
       record {
-        crash = λ c left. kept_whole (told_stored r t) (slots (seen n.disk)) c kept.few whole (ap (λ (f : List ℕ). map read_record (slots f)) (stores.durable c left))
+        crash = λ c left. kept_whole (reported_stored r t) (slots (seen n.disk)) c kept.few whole (ap (λ (f : List ℕ). map read_record (slots f)) (stores.durable c left))
             (λ k h. kept.done k (subst (λ (f : List ℕ). is_done (get_or (slots f) k []) ≡ true) (stores.durable c left) h));
         whole = λ yes. (whole, was.1);
       }
   after t old new answered stopped sound (Call.not_stored r o n before writes ready) = record {
-    crash = λ c left. within t o n (told_tried r) (told_tried r) sound (Call.not_stored r o n before writes ready) c (counts_now n.disk (moment o.disk) c writes.any_moment.later left);
-    whole = λ yes. false_true n.is_ready (Whole (told_tried r t) (slots (seen n.disk))) ready yes;
+    crash = λ c left. within t o n (reported_tried r) (reported_tried r) sound (Call.not_stored r o n before writes ready) c (counts_now n.disk (moment o.disk) c writes.any_moment.later left);
+    whole = λ yes. false_true n.is_ready (Whole (reported_tried r t) (slots (seen n.disk))) ready yes;
   }
   after t old new answered stopped sound (Call.marks k o n before marks) = record {
-    crash = λ c left. within t o n (told_done k) (told_done k) sound (Call.marks k o n before marks) c (counts_now n.disk (moment o.disk) c marks.any_moment.later left);
+    crash = λ c left. within t o n (reported_done k) (reported_done k) sound (Call.marks k o n before marks) c (counts_now n.disk (moment o.disk) c marks.any_moment.later left);
     whole = λ yes. (marks.same yes ∙ (sound.whole before).0, (sound.whole before).1);
   }
   after t old new answered stopped sound (Call.nothing w) = sound
 
-  pub sound : (t : Told) (w : World D) → History seen may_leave moment left_since t w → Sound t w
+  pub sound : (t : Reported) (w : World D) → History seen may_leave moment left_since t w → Sound t w
   sound t w (History.began d empty) = record {
-    crash = λ c left. subst (IsKept nothing_told) (sym (empty c left)) nothing_kept;
+    crash = λ c left. subst (IsKept nothing_reported) (sym (empty c left)) nothing_kept;
     whole = λ yes. absurd (true≢false (sym yes));
   }
   sound t w (History.called u old new answered stopped so_far call) = after u old new answered stopped (sound u old so_far) call

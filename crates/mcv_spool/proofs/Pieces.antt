@@ -38,7 +38,7 @@ slots-piece (suc m) file = elim (truth (is_open file)) [
   | inr s ↦ slots-shut (take (640 * suc m + 1) file) (piece_shut (640 * suc m) file s) ∙ ap (λ (l : List (List ℕ)). take (suc m) l) (sym (slots-shut file s))
 ]
 
--- behind the first m slots stand the others
+-- behind the first m slots come the others
 pub slots-behind : (m : ℕ) (file : List ℕ) → m ≤ length (slots file) → slots (drop (640 * m) file) ≡ drop m (slots file)
 slots-behind zero file h = refl
 slots-behind (suc m) file h = elim (truth (is_open file)) [

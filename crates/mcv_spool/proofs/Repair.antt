@@ -16,7 +16,7 @@ end_gate file = elim (cases_eq (length (slots file)) 0) [
       inl (omega (arith, left, ap length p.is, length-append (row (slots file)) p.tail, length-row (slots file) p.all))
 ]
 
--- an end gate that isn't closed stands in the last 640 bytes
+-- an end gate that isn't closed is in the last 640 bytes
 pub short_end : (file : List ℕ) → (IsClosed file → ⊥) → length file ≤ 640 * length (slots file) + 640
 short_end file not_closed =
     let n = 640 * length (slots file) in

@@ -35,7 +35,7 @@ torn_behind all m c d v torn =
     let same = same_closed c d v.closed begins in
     version_same all c d v same.0 same.1
 
--- open slots, a gate with what stands behind it, and a closed gate
+-- open slots, a gate with what comes behind it, and a closed gate
 abbrev pub staged : List (List ℕ) → ℕ → List ℕ → List ℕ → List ℕ
 staged all gate behind more = (row all ++ gate ∷ behind) ++ 0 ∷ more
 
@@ -55,7 +55,7 @@ written_behind file b closed n is =
     (more, ap (λ k. (take (k + 1) file ++ (b ++ 0 ∷ [])) ++ more) is ∙ ap (λ (l : List ℕ). (l ++ (b ++ 0 ∷ [])) ++ more) (front_closed file closed) ∙ regroup (row (slots file)) b more)
 
 module _ (all : List (List ℕ)) (open_all : AllOpen all) (b more : List ℕ) (size : length b ≡ 639) where
-  -- what stands there while its gate is closed
+  -- what is there while its gate is closed
   pub staged_shut : (slots (staged all 0 b more) ≡ all) × IsClosed (staged all 0 b more)
   staged_shut = subst (λ (l : List ℕ). (slots l ≡ all) × IsClosed l) (sym (append_assoc (row all) (0 ∷ b) (0 ∷ more))) (closed_row all (b ++ 0 ∷ more) open_all)
 

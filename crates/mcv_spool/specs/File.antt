@@ -1,6 +1,6 @@
 -- The spool file (own): a row of slots of 640 bytes, and the gate of the slot behind the last.
 --
--- Slot k stands at offset 640 * k. Its byte 0 is its gate: 0 closed, any other open. Byte 1 says whether its record
+-- Slot k is at offset 640 * k. Its byte 0 is its gate: 0 closed, any other open. Byte 1 says whether its record
 -- is done: 0 pending, any other done. Then come two lengths of two bytes, the server text, the rest, and zeros.
 use Rattle.std.specs.Prelude.{◌≡◌, ℕ, ◌+◌, ◌-◌, ◌*◌, ◌/◌, ◌%◌, ◌<◌, ◌==◌, ◌&&◌, ◌||◌, not, nat_le, nat_lt, Bool, List, [], ◌∷◌, ◌++◌, length, take, drop, slice_index, slice_index_or, set, replicate, zero, suc, Option, Some, None, is_none, if◌then◌else◌}
 use Rattle.mcv_base.specs.Key.{is_key_word}

@@ -10,7 +10,7 @@ pub record IsFound (file : List ℕ) (pending : List (Option SpoolRecord)) : Typ
   pub sound : damage 0 (slots file) ≡ None
   pub undone : pending ≡ map waiting (slots file)
 
--- a refusal for want of memory, or of a damaged slot, if there is one
+-- a refusal for being out of memory, or for a damaged slot, if there is one
 abbrev pub IsFindFault : {T : Type 0} → Result T SpoolFault → Type 0
 IsFindFault (Ok x) = Unit {0}
 IsFindFault (Err Device) = ⊥
@@ -19,7 +19,7 @@ IsFindFault (Err Memory) = Unit {0}
 IsFindFault (Err Reopen) = ⊥
 IsFindFault (Err (Damaged k)) = Unit {0}
 
--- a refusal for want of memory or because the disk failed, if there is one
+-- a refusal for being out of memory or because the disk failed, if there is one
 abbrev pub IsReadFault : {T : Type 0} → Result T SpoolFault → Type 0
 IsReadFault (Ok x) = Unit {0}
 IsReadFault (Err Device) = Unit {0}

@@ -1,4 +1,4 @@
--- What a spool has told over any list of calls, with a stop of the machine at any moment, and what its file has to hold for that (own).
+-- What a spool has reported over any list of calls, with a stop of the machine at any moment, and what its file has to hold for that (own).
 use Rattle.std.specs.Prelude.{◌≡◌, ℕ, ◌<◌, ◌≤◌, Bool, true, false, List, [], ◌∷◌, ◌++◌, length, map, slice_index_or, Option, Some, None, not, Result, Ok, Err}
 use Rattle.std.specs.List.{Contains}
 use Rattle.mcv_spool.specs.Disk.{LeavesOnly, Only}
@@ -17,8 +17,8 @@ abbrev pub records_of : List (List ℕ) → List SpoolRecord
 records_of [] = []
 records_of (slot ∷ all) = record_in (read_record slot) ++ records_of all
 
--- What the calls have told so far.
-pub record Told : Type 0 where
+-- What the calls have reported so far.
+pub record Reported : Type 0 where
   -- the records that the last `open` or `reopen` that answered Ok found
   pub found : List SpoolRecord
   -- those appended since, whose `append` answered Ok
@@ -28,47 +28,47 @@ pub record Told : Type 0 where
   -- the numbers for which `done` was called, ever
   pub done : List ℕ
 
-abbrev pub nothing_told : Told
-nothing_told = record { found = []; stored = []; tried = []; done = [] }
+abbrev pub nothing_reported : Reported
+nothing_reported = record { found = []; stored = []; tried = []; done = [] }
 
 -- `open` or `reopen` answered Ok
-abbrev pub told_found : List SpoolRecord → Told → Told
-told_found records t = record { found = records; stored = []; tried = []; done = t.done }
+abbrev pub reported_found : List SpoolRecord → Reported → Reported
+reported_found records t = record { found = records; stored = []; tried = []; done = t.done }
 
-abbrev pub told_stored : SpoolRecord → Told → Told
-told_stored r t = record { found = t.found; stored = t.stored ++ r ∷ []; tried = t.tried; done = t.done }
+abbrev pub reported_stored : SpoolRecord → Reported → Reported
+reported_stored r t = record { found = t.found; stored = t.stored ++ r ∷ []; tried = t.tried; done = t.done }
 
-abbrev pub told_tried : SpoolRecord → Told → Told
-told_tried r t = record { found = t.found; stored = t.stored; tried = t.tried ++ r ∷ []; done = t.done }
+abbrev pub reported_tried : SpoolRecord → Reported → Reported
+reported_tried r t = record { found = t.found; stored = t.stored; tried = t.tried ++ r ∷ []; done = t.done }
 
-abbrev pub told_done : ℕ → Told → Told
-told_done k t = record { found = t.found; stored = t.stored; tried = t.tried; done = k ∷ t.done }
+abbrev pub reported_done : ℕ → Reported → Reported
+reported_done k t = record { found = t.found; stored = t.stored; tried = t.tried; done = k ∷ t.done }
 
--- what the answers of the calls tell
-abbrev pub reopen_told : {T : Type 0} → Result T SpoolFault → List SpoolRecord → Told → Told
-reopen_told (Ok x) records = told_found records
-reopen_told (Err e) records = λ t. t
+-- what the answers of the calls report
+abbrev pub reopen_reported : {T : Type 0} → Result T SpoolFault → List SpoolRecord → Reported → Reported
+reopen_reported (Ok x) records = reported_found records
+reopen_reported (Err e) records = λ t. t
 
-abbrev pub append_told : {T : Type 0} → Result T SpoolFault → SpoolRecord → Told → Told
-append_told (Ok x) r = told_stored r
-append_told (Err Device) r = told_tried r
-append_told (Err Full) r = λ t. t
-append_told (Err Memory) r = λ t. t
-append_told (Err Reopen) r = λ t. t
-append_told (Err (Damaged k)) r = λ t. t
+abbrev pub append_reported : {T : Type 0} → Result T SpoolFault → SpoolRecord → Reported → Reported
+append_reported (Ok x) r = reported_stored r
+append_reported (Err Device) r = reported_tried r
+append_reported (Err Full) r = λ t. t
+append_reported (Err Memory) r = λ t. t
+append_reported (Err Reopen) r = λ t. t
+append_reported (Err (Damaged k)) r = λ t. t
 
-abbrev pub done_told : {T : Type 0} → Result T SpoolFault → ℕ → Told → Told
-done_told (Ok x) k = told_done k
-done_told (Err Device) k = told_done k
-done_told (Err Full) k = λ t. t
-done_told (Err Memory) k = λ t. t
-done_told (Err Reopen) k = λ t. t
-done_told (Err (Damaged n)) k = λ t. t
+abbrev pub done_reported : {T : Type 0} → Result T SpoolFault → ℕ → Reported → Reported
+done_reported (Ok x) k = reported_done k
+done_reported (Err Device) k = reported_done k
+done_reported (Err Full) k = λ t. t
+done_reported (Err Memory) k = λ t. t
+done_reported (Err Reopen) k = λ t. t
+done_reported (Err (Damaged n)) k = λ t. t
 
--- and what is told where the call is stopped, before it has answered
-abbrev pub append_stopped : {T : Type 0} → Result T SpoolFault → SpoolRecord → Told → Told
-append_stopped (Ok x) r = told_tried r
-append_stopped (Err Device) r = told_tried r
+-- and what is reported where the call is stopped, before it has answered
+abbrev pub append_stopped : {T : Type 0} → Result T SpoolFault → SpoolRecord → Reported → Reported
+append_stopped (Ok x) r = reported_tried r
+append_stopped (Err Device) r = reported_tried r
 append_stopped (Err Full) r = λ t. t
 append_stopped (Err Memory) r = λ t. t
 append_stopped (Err Reopen) r = λ t. t
@@ -77,7 +77,7 @@ append_stopped (Err (Damaged k)) r = λ t. t
 -- The promise. The file has the records that the last `open` or `reopen` that answered Ok found, then a prefix of what was appended
 -- since, in order, with each whose `append` answered Ok, and no more slots than a file may have. A record is marked as done only
 -- where `done` was called for its number.
-pub record IsKept (t : Told) (file : List ℕ) : Type 0 where
+pub record IsKept (t : Reported) (file : List ℕ) : Type 0 where
   pub more : List SpoolRecord
   pub others : List SpoolRecord
   pub prefix : t.tried ≡ more ++ others
@@ -86,10 +86,10 @@ pub record IsKept (t : Told) (file : List ℕ) : Type 0 where
   pub done : (k : ℕ) → is_done (slice_index_or (slots file) k []) ≡ true → Contains t.done k
 
 -- the record of this number is one that the last `open` or `reopen` that answered Ok found, or one that was stored since
-abbrev pub HasNumber : Told → SpoolRecord → ℕ → Type 0
+abbrev pub HasNumber : Reported → SpoolRecord → ℕ → Type 0
 HasNumber t r k = (k < length (t.found ++ t.stored)) × (slice_index_or (t.found ++ t.stored) k r ≡ r)
 
--- Where a run of calls stands: the disk, and whether a spool is open on it that doesn't answer Reopen.
+-- Where a run of calls is: the disk, and whether a spool is open on it that doesn't answer Reopen.
 pub record World (D : Type 0) : Type 0 where
   pub disk : D
   pub is_ready : Bool
@@ -127,21 +127,21 @@ module _ {D : Type 0} (seen : D → List ℕ) (may_leave : D → List ℕ → Ty
     pub any_moment : LeavesOnly moment left_since old.disk new.disk (IsVersion (marked k (slots (seen old.disk))))
     pub same : new.is_ready ≡ true → map read_record (slots (seen new.disk)) ≡ map read_record (slots (seen old.disk))
 
-  -- One call, from one world to another: what it has told once it has answered, and what where it is stopped.
-  pub data Call : World D → World D → (Told → Told) → (Told → Told) → Type 0 where
-    found : (records : List SpoolRecord) (old new : World D) → Finds records old.disk new.disk → new.is_ready ≡ true → Call old new (told_found records) (λ t. t)
+  -- One call, from one world to another: what it has reported once it has answered, and what where it is stopped.
+  pub data Call : World D → World D → (Reported → Reported) → (Reported → Reported) → Type 0 where
+    found : (records : List SpoolRecord) (old new : World D) → Finds records old.disk new.disk → new.is_ready ≡ true → Call old new (reported_found records) (λ t. t)
     not_found : (old new : World D) → LeavesOnly moment left_since old.disk new.disk (HasSlotsOf (may_leave old.disk)) → new.is_ready ≡ false → Call old new (λ t. t) (λ t. t)
-    stored : (r : SpoolRecord) (old new : World D) → old.is_ready ≡ true → Stores r old.disk new.disk → new.is_ready ≡ true → Call old new (told_stored r) (told_tried r)
-    not_stored : (r : SpoolRecord) (old new : World D) → old.is_ready ≡ true → Appends r old.disk new.disk → new.is_ready ≡ false → Call old new (told_tried r) (told_tried r)
-    marks : (k : ℕ) (old new : World D) → old.is_ready ≡ true → Marks k old new → Call old new (told_done k) (told_done k)
+    stored : (r : SpoolRecord) (old new : World D) → old.is_ready ≡ true → Stores r old.disk new.disk → new.is_ready ≡ true → Call old new (reported_stored r) (reported_tried r)
+    not_stored : (r : SpoolRecord) (old new : World D) → old.is_ready ≡ true → Appends r old.disk new.disk → new.is_ready ≡ false → Call old new (reported_tried r) (reported_tried r)
+    marks : (k : ℕ) (old new : World D) → old.is_ready ≡ true → Marks k old new → Call old new (reported_done k) (reported_done k)
     -- an `append` that answers Full, Memory or Reopen, or a `done` that answers Reopen
     nothing : (world : World D) → Call world world (λ t. t) (λ t. t)
 
-  -- Any list of calls, on a file that began empty and that these calls alone wrote: what they have told, and where they stand.
+  -- Any list of calls, on a file that began empty and that these calls alone wrote: what they have reported, and where they are.
   -- The machine may stop between two calls, or at any moment in one. What goes on from there is a disk with a file that the stop may have left.
-  pub data History : Told → World D → Type 0 where
-    began : (d : D) → Only [] (may_leave d) → History nothing_told (shut d)
-    called : (t : Told) (old new : World D) (answered stopped : Told → Told) → History t old → Call old new answered stopped → History (answered t) new
-    stopped_between : (t : Told) (old : World D) (d : D) → History t old → ((c : List ℕ) → may_leave d c → may_leave old.disk c) → History t (shut d)
-    stopped_within : (t : Told) (old new : World D) (answered stopped : Told → Told) (d : D) → History t old → Call old new answered stopped
+  pub data History : Reported → World D → Type 0 where
+    began : (d : D) → Only [] (may_leave d) → History nothing_reported (shut d)
+    called : (t : Reported) (old new : World D) (answered stopped : Reported → Reported) → History t old → Call old new answered stopped → History (answered t) new
+    stopped_between : (t : Reported) (old : World D) (d : D) → History t old → ((c : List ℕ) → may_leave d c → may_leave old.disk c) → History t (shut d)
+    stopped_within : (t : Reported) (old new : World D) (answered stopped : Reported → Reported) (d : D) → History t old → Call old new answered stopped
         → ((c : List ℕ) → may_leave d c → left_since new.disk (moment old.disk) c) → History (stopped t) (shut d)

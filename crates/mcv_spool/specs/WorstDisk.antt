@@ -1,4 +1,4 @@
--- A disk that keeps the model and gives no more than it (own): it is the list of the changes that it was told, the last one first,
+-- A disk that keeps the model and gives no more than it (own): it is the list of the changes that were asked of it, the last one first,
 -- and a crash leaves whatever the model allows.
 use Rattle.std.specs.Prelude.{◌≡◌, ◌⊎◌, ℕ, ◌≤◌, List, [], ◌∷◌, length, take}
 use Rattle.mcv_spool.specs.Disk.{Changes, Cut, IsQuiet, Only, Torn, written}

@@ -13,7 +13,7 @@ use crate::find::find;
 use crate::write::{close, is_closed};
 use std::alloc::Global;
 
-/// Makes what a read gives the one file that a crash leaves, and tells its length. A crash before may have left the file one way
+/// Makes what a read gives the one file that a crash leaves, and reports its length. A crash before may have left the file one way
 /// and may leave it another way now: the sync settles it.
 fn settle<D: Disk>(disk: &mut D) -> Result<usize, DiskFailed>
     ensures len { D.keeps_model → IfOk result (λ n. n ≡ length (D.seen disk.new)) }

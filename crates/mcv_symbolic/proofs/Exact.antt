@@ -2,11 +2,11 @@
 use Rattle.std.proofs.Common.{◌≡◌, ◌≢◌, ◌⊎◌, ◌↔◌, cond, inl, inr, ⊎_elim, ℕ, Bool, true, false, List, [], ◌∷◌, ◌++◌, Option, Some, None, refl, sym, ap, ap₂, ◌∙◌, subst}
 use Rattle.std.specs.Prelude.{if◌then◌else◌}
 use Rattle.std.proofs.lemmas.Bool.{cases_Bool}
-use Rattle.mcv_base.specs.Reply.{is_error, is_missed}
+use Rattle.mcv_base.specs.Reply.{is_error, is_missed, worse}
 use Rattle.mcv_base.specs.declared.reply.Outcome.{Outcome}
 use Rattle.mcv_base.specs.declared.reply.Outcome.TheVariants.{Good, Soft, Error}
 use Rattle.mcv_route.specs.Outcomes.{Outcomes, Choice, History, outcomes, is_same}
-use Rattle.mcv_rules.specs.Plan.{Leg, Plan, Send, Reply, Both, Beside, OnError, OnMiss, OnHit, Shadowed, worse, both, on_error, on_miss, reply, IsMissed, HitAt}
+use Rattle.mcv_rules.specs.Plan.{Leg, Plan, Send, Reply, Both, Beside, OnError, OnMiss, OnHit, Shadowed, both, on_error, on_miss, reply, IsMissed, HitAt}
 use Rattle.mcv_rules.specs.Sound.{positions, In, AreApart, IsApart, IsHonest, IsForDelete}
 use Rattle.mcv_rules.proofs.Sending.{Sends, IsReachable}
 use Rattle.mcv_rules.proofs.Basics

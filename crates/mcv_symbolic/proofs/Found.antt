@@ -19,7 +19,7 @@ use Rattle.mcv_symbolic.specs.Listed.{acknowledged, hits}
 use Rattle.mcv_symbolic.specs.Sets.{AreLegsAt, CanHitAt, IsAcknowledged, positions_of}
 use Rattle.mcv_symbolic.proofs.Exactness.{acknowledged_is_exact, hits_are_exact}
 use Rattle.mcv_symbolic.proofs.Marks as marks
-use Rattle.mcv_symbolic.proofs.Placed.{leaf_of, acknowledged_stands, hits_stand}
+use Rattle.mcv_symbolic.proofs.Placed.{leaf_of, acknowledged_are_there, hits_are_there}
 use Rattle.mcv_symbolic.proofs.Rising.{acknowledged_rise, hits_rise}
 
 -- ---- lists
@@ -59,12 +59,12 @@ pub found_hits : (t : Tree) (op : Op) (rest : List ℕ) (since : Option ℕ) (le
 found_hits t op rest since legs found c =
     let s = asked op rest since in
     legs-at t (CanHitAt t s c) legs (hits (plan t s)) found (hits_rise t s)
-    (λ l i. let h = marks.hits_are (plan t s) l i in (hits_stand t s l refl h, (hits_are_exact t op rest since c l.position).1 (l, h, refl)))
+    (λ l i. let h = marks.hits_are (plan t s) l i in (hits_are_there t s l refl h, (hits_are_exact t op rest since c l.position).1 (l, h, refl)))
     (λ p h. let k = (hits_are_exact t op rest since c p).0 h in (k.0, marks.are_hits (plan t s) k.0 k.1, k.2))
 
 pub found_acknowledged : (t : Tree) (rest : List ℕ) (since : Option ℕ) (legs : List PlannedLeg) → map leg_of legs ≡ acknowledged (plan t (asked Delete rest since)) → (c : Choice) → AreLegsAt t (IsAcknowledged t rest since c) legs
 found_acknowledged t rest since legs found c =
     let s = asked Delete rest since in
     legs-at t (IsAcknowledged t rest since c) legs (acknowledged (plan t s)) found (acknowledged_rise t s)
-    (λ l i. let h = marks.acknowledged_is (plan t s) l i in (acknowledged_stands t s l refl h, (acknowledged_is_exact t rest since c l.position).1 (l, h, refl)))
+    (λ l i. let h = marks.acknowledged_is (plan t s) l i in (acknowledged_are_there t s l refl h, (acknowledged_is_exact t rest since c l.position).1 (l, h, refl)))
     (λ p h. let k = (acknowledged_is_exact t rest since c p).0 h in (k.0, marks.is_acknowledged (plan t s) k.0 k.1, k.2))

@@ -1,9 +1,10 @@
 -- What a reply of a plan says of the legs that were sent.
 use Rattle.std.proofs.Common.{◌≡◌, inl, inr, Some, refl, sym, ap, ◌∙◌}
+use Rattle.mcv_base.specs.Reply.{worse}
 use Rattle.mcv_base.specs.declared.reply.Outcome.{Outcome}
 use Rattle.mcv_base.specs.declared.reply.Outcome.TheVariants.{Good, Soft, Error}
 use Rattle.mcv_route.specs.Outcomes.{Outcomes}
-use Rattle.mcv_rules.specs.Plan.{Leg, Plan, Send, Reply, Both, Beside, OnError, OnMiss, OnHit, Shadowed, worse, reply, IsMissed}
+use Rattle.mcv_rules.specs.Plan.{Leg, Plan, Send, Reply, Both, Beside, OnError, OnMiss, OnHit, Shadowed, reply, IsMissed}
 use Rattle.mcv_rules.specs.Laws.{Extends}
 use Rattle.mcv_rules.specs.Sound.{IsForDelete}
 use Rattle.mcv_rules.proofs.Basics

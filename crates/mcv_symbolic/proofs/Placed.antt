@@ -1,4 +1,4 @@
--- Each leg of a plan is of the pool that stands at its position.
+-- Each leg of a plan is of the pool that is at its position.
 use Rattle.std.proofs.Common.{◌≡◌, inl, inr, ⊎_elim, ℕ, zero, suc, ◌+◌, Bool, true, false, List, [], ◌∷◌, ◌++◌, Some, refl, sym, ap, ◌∙◌, subst, arith, append_assoc, append-nil}
 use Rattle.std.specs.Prelude.{fold, if◌then◌else◌, option_and_then}
 use Rattle.mcv_base.specs.declared.reply.Outcome.TheVariants.{Soft, Error}
@@ -120,13 +120,13 @@ all-so P Q f (Shadowed s a b t u) h = (all-so P Q f t h.0, all-so P Q f u h.1)
 record IsOf (t : Tree) (here : List ℕ) (l : Leg) : Type 0 where
   rest : List ℕ
   position : l.position ≡ here ++ rest
-  stands : pool_at_position t rest ≡ Some (leaf_of l)
+  pool_there : pool_at_position t rest ≡ Some (leaf_of l)
 
 of-child : (t u : Tree) (k : ℕ) (here : List ℕ) (l : Leg) → child_at (children_of t) k ≡ Some u → IsOf u (here ++ k ∷ []) l → IsOf t here l
 of-child t u k here l e h = record {
   rest = k ∷ h.rest;
   position = h.position ∙ append_assoc here (k ∷ []) h.rest;
-  stands = ap (λ r. option_and_then pool_of (option_and_then (λ v. tree_at v h.rest) r)) e ∙ h.stands;
+  pool_there = ap (λ r. option_and_then pool_of (option_and_then (λ v. tree_at v h.rest) r)) e ∙ h.pool_there;
 }
 
 below : (t : Tree) (here : List ℕ) (j : ℕ) (u : Tree) (l : Leg) (n : ℕ) → n ≡ 0 + j → child_at (children_of t) j ≡ Some u → IsOf u (here ++ n ∷ []) l → IsOf t here l
@@ -138,7 +138,7 @@ mutual
   placed : (t : Tree) (s : Situation) → AllLegs (IsOf t s.position) (plan t s)
   placed (pool p ranges targets) s =
       all-shadows (IsOf (pool p ranges targets) s.position) p.symbol (Send (record { position = s.position; symbol = p.symbol; servers = p.servers; op = s.op; mark = s.mark })) ranges (plan_each 0 targets (shadowed s))
-      (record { rest = []; position = sym (append-nil s.position); stands = refl })
+      (record { rest = []; position = sym (append-nil s.position); pool_there = refl })
       (placed-each (pool p ranges targets) 0 targets (shadowed s) (below (pool p ranges targets) s.position))
   placed null s = tt
   placed error s = tt
@@ -180,11 +180,11 @@ mutual
     placed-each parent (suc k) ts s (λ j v l n e. h (suc j) v l n (omega (arith, e))),
   )
 
-stands-at : (t : Tree) (l : Leg) → IsOf t [] l → pool_at_position t l.position ≡ Some (leaf_of l)
-stands-at t l h = ap (pool_at_position t) h.position ∙ h.stands
+pool-at : (t : Tree) (l : Leg) → IsOf t [] l → pool_at_position t l.position ≡ Some (leaf_of l)
+pool-at t l h = ap (pool_at_position t) h.position ∙ h.pool_there
 
-pub acknowledged_stands : (t : Tree) (s : Situation) (l : Leg) → s.position ≡ [] → Acknowledged (plan t s) l → pool_at_position t l.position ≡ Some (leaf_of l)
-acknowledged_stands t s l root h = stands-at t l (subst (λ p. IsOf t p l) root (all-acknowledged (IsOf t s.position) (plan t s) l (placed t s) h))
+pub acknowledged_are_there : (t : Tree) (s : Situation) (l : Leg) → s.position ≡ [] → Acknowledged (plan t s) l → pool_at_position t l.position ≡ Some (leaf_of l)
+acknowledged_are_there t s l root h = pool-at t l (subst (λ p. IsOf t p l) root (all-acknowledged (IsOf t s.position) (plan t s) l (placed t s) h))
 
-pub hits_stand : (t : Tree) (s : Situation) (l : Leg) → s.position ≡ [] → Hits (plan t s) l → pool_at_position t l.position ≡ Some (leaf_of l)
-hits_stand t s l root h = stands-at t l (subst (λ p. IsOf t p l) root (all-hits (IsOf t s.position) (plan t s) l (placed t s) h))
+pub hits_are_there : (t : Tree) (s : Situation) (l : Leg) → s.position ≡ [] → Hits (plan t s) l → pool_at_position t l.position ≡ Some (leaf_of l)
+hits_are_there t s l root h = pool-at t l (subst (λ p. IsOf t p l) root (all-hits (IsOf t s.position) (plan t s) l (placed t s) h))

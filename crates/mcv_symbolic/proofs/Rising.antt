@@ -1,4 +1,4 @@
--- The sets of a plan are parts of its legs, and stand in the order of their positions.
+-- The sets of a plan are parts of its legs, and come in the order of their positions.
 use Rattle.std.proofs.Common.{ℕ, Bool, true, false, List, [], ◌∷◌, ◌++◌, Option, Some, None}
 use Rattle.std.specs.Prelude.{if◌then◌else◌}
 use Rattle.mcv_base.specs.declared.reply.Outcome.{Outcome}

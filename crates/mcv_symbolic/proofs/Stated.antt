@@ -21,7 +21,7 @@ use Rattle.mcv_symbolic.proofs.Covered.{error_or_not}
 use Rattle.mcv_symbolic.proofs.Exactness.{acknowledged_is_exact, done_is_exact, hits_are_exact}
 use Rattle.mcv_symbolic.proofs.Marks
 use Rattle.mcv_symbolic.proofs.OnPlans as plans
-use Rattle.mcv_symbolic.proofs.Placed.{leaf_of, acknowledged_stands, hits_stand}
+use Rattle.mcv_symbolic.proofs.Placed.{leaf_of, acknowledged_are_there, hits_are_there}
 use Rattle.mcv_symbolic.proofs.Planned.{covered_by_plans}
 use Rattle.mcv_symbolic.proofs.Symbols
 
@@ -39,12 +39,12 @@ module _ (sizes : List ℕ) (t : Tree) (rest : List ℕ) (since : Option ℕ) wh
   -- ---- acknowledged pools
 
   leg-pool : (m : Leg) → Acknowledged delete m → IsAcknowledgedPool t rest since (leaf_of m)
-  leg-pool m h = (m.position, acknowledged_stands t (asked Delete rest since) m refl h, λ c. (acknowledged_is_exact t rest since c m.position).1 (m, h, refl))
+  leg-pool m h = (m.position, acknowledged_are_there t (asked Delete rest since) m refl h, λ c. (acknowledged_is_exact t rest since c m.position).1 (m, h, refl))
 
   pool-leg : (m : Pool) → IsAcknowledgedPool t rest since m → (l : Leg) × Acknowledged delete l × (leaf_of l ≡ m)
   pool-leg m h =
       let k = (acknowledged_is_exact t rest since any_choice h.0).0 (h.2 any_choice) in
-      (k.0, k.1, same_Some (leaf_of k.0) m (sym (acknowledged_stands t (asked Delete rest since) k.0 refl k.1) ∙ ap (pool_at_position t) k.2 ∙ h.1))
+      (k.0, k.1, same_Some (leaf_of k.0) m (sym (acknowledged_are_there t (asked Delete rest since) k.0 refl k.1) ∙ ap (pool_at_position t) k.2 ∙ h.1))
 
   answered-sets : (leaf : Leg) (i : ℕ) → plans.IsAnswered sizes delete leaf i → sets.IsAnswered sizes t rest since (leaf_of leaf) i
   answered-sets leaf i h = (h.0, h.1, λ j lt may. let m = h.2 j lt may in (leaf_of m.0, leg-pool m.0 m.1, m.2, m.3))
@@ -86,13 +86,13 @@ module _ (sizes : List ℕ) (t : Tree) (rest : List ℕ) (since : Option ℕ) wh
   readable-leg : (p : List ℕ) (leaf : Pool) → IsReadableAt t rest since p → pool_at_position t p ≡ Some leaf → (l : Leg) × CanRead l × (leaf_of l ≡ leaf)
   readable-leg p leaf h at =
       elim h.1 [
-        | inl g ↦ let k = (hits_are_exact t Get rest since h.0 p).0 g in (k.0, inl k.1, same_Some (leaf_of k.0) leaf (sym (hits_stand t (asked Get rest since) k.0 refl k.1) ∙ ap (pool_at_position t) k.2 ∙ at))
-        | inr g ↦ let k = (hits_are_exact t Gets rest since h.0 p).0 g in (k.0, inr k.1, same_Some (leaf_of k.0) leaf (sym (hits_stand t (asked Gets rest since) k.0 refl k.1) ∙ ap (pool_at_position t) k.2 ∙ at))
+        | inl g ↦ let k = (hits_are_exact t Get rest since h.0 p).0 g in (k.0, inl k.1, same_Some (leaf_of k.0) leaf (sym (hits_are_there t (asked Get rest since) k.0 refl k.1) ∙ ap (pool_at_position t) k.2 ∙ at))
+        | inr g ↦ let k = (hits_are_exact t Gets rest since h.0 p).0 g in (k.0, inr k.1, same_Some (leaf_of k.0) leaf (sym (hits_are_there t (asked Gets rest since) k.0 refl k.1) ∙ ap (pool_at_position t) k.2 ∙ at))
       ]
 
   leg-readable : (l : Leg) → CanRead l → IsReadableAt t rest since l.position × (pool_at_position t l.position ≡ Some (leaf_of l))
-  leg-readable l (inl g) = ((any_choice, inl ((hits_are_exact t Get rest since any_choice l.position).1 (l, g, refl))), hits_stand t (asked Get rest since) l refl g)
-  leg-readable l (inr g) = ((any_choice, inr ((hits_are_exact t Gets rest since any_choice l.position).1 (l, g, refl))), hits_stand t (asked Gets rest since) l refl g)
+  leg-readable l (inl g) = ((any_choice, inl ((hits_are_exact t Get rest since any_choice l.position).1 (l, g, refl))), hits_are_there t (asked Get rest since) l refl g)
+  leg-readable l (inr g) = ((any_choice, inr ((hits_are_exact t Gets rest since any_choice l.position).1 (l, g, refl))), hits_are_there t (asked Gets rest since) l refl g)
 
   abbrev IsJustifiedByPlans : Type 0
   IsJustifiedByPlans = plans.IsJustified sizes (plan t (asked Get rest since)) (plan t (asked Gets rest since)) delete

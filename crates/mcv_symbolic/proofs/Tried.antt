@@ -12,7 +12,7 @@ use Rattle.mcv_rules.specs.Plan.{Plan, Send, Reply, Both, Beside, OnError, OnMis
 use Rattle.mcv_rules.specs.Whole.{in_turn}
 use Rattle.mcv_rules.specs.declared.arrival.After.{After}
 use Rattle.mcv_rules.specs.declared.arrival.After.TheVariants as after
-use Rattle.mcv_symbolic.specs.Shown.{also, answers, first_hit, history_of, leading, one_after_other, or_else}
+use Rattle.mcv_symbolic.specs.Shown.{also, answers, first_hit, history_of, leaf_hit, one_after_other, or_else}
 use Rattle.mcv_symbolic.specs.Structure.{after_error, after_miss, if_all}
 use Rattle.mcv_symbolic.specs.Tried.{IsAdded, IsLead, IsTried, goes_on_after, is_hit, passed_on}
 use Rattle.mcv_symbolic.specs.declared.shown.Added.{Added}
@@ -178,9 +178,9 @@ pub hit-in_turn : (w : After) (t u : Plan) → first_hit (in_turn w t u) ≡ in_
 hit-in_turn after.Error t u = refl
 hit-in_turn after.Miss t u = refl
 
-pub leading-in_turn : (p : List ℕ) (w : After) (t u : Plan) → leading p (in_turn w t u) ≡ in_second (leading p) w t u
-leading-in_turn p after.Error t u = refl
-leading-in_turn p after.Miss t u = refl
+pub leaf_hit-in_turn : (p : List ℕ) (w : After) (t u : Plan) → leaf_hit p (in_turn w t u) ≡ in_second (leaf_hit p) w t u
+leaf_hit-in_turn p after.Error t u = refl
+leaf_hit-in_turn p after.Miss t u = refl
 
 -- ---- a hit of a leg, or of any
 
@@ -272,14 +272,14 @@ turn-unled lt None lu None true es first second none = ap (λ l. or_else l (also
 turn-unled lt None lu (Some fs) true es first second none = let e : Some (es ++ fs) ≡ None = none in cc
 turn-unled lt (Some ds) lu fu go es first second none = let e : Some ds ≡ None = none in cc
 
-unled : (p : List ℕ) (t : Plan) → first_hit t ≡ None → leading p t ≡ None
+unled : (p : List ℕ) (t : Plan) → first_hit t ≡ None → leaf_hit p t ≡ None
 unled p (Send l) none = let e : Some ((l.position, Good) ∷ []) ≡ None = none in cc
 unled p (Reply y) none = refl
-unled p (Both t u) none = both-unled (leading p t) (first_hit t) (leading p u) (first_hit u) (λ e. unled p t e) (λ e. unled p u e) none
+unled p (Both t u) none = both-unled (leaf_hit p t) (first_hit t) (leaf_hit p u) (first_hit u) (λ e. unled p t e) (λ e. unled p u e) none
 unled p (Beside t u) none = unled p t none
 unled p (OnError t u) none =
-    turn-unled (leading p t) (first_hit t) (leading p u) (first_hit u) (is_error (if_all Error t)) (answers Error t) (λ e. unled p t e) (λ e. unled p u e) none
-unled p (OnMiss t u) none = turn-unled (leading p t) (first_hit t) (leading p u) (first_hit u) (is_missed (if_all Soft t)) (answers Soft t) (λ e. unled p t e) (λ e. unled p u e) none
+    turn-unled (leaf_hit p t) (first_hit t) (leaf_hit p u) (first_hit u) (is_error (if_all Error t)) (answers Error t) (λ e. unled p t e) (λ e. unled p u e) none
+unled p (OnMiss t u) none = turn-unled (leaf_hit p t) (first_hit t) (leaf_hit p u) (first_hit u) (is_missed (if_all Soft t)) (answers Soft t) (λ e. unled p t e) (λ e. unled p u e) none
 unled p (OnHit t u) none = unled p t none
 unled p (Shadowed s a b t u) none = unled p t none
 
@@ -291,18 +291,18 @@ behind-lead None (Some fs) es x old mid new is t = (t.0, behind old mid new es f
 behind-lead None None es x old mid new is t = (t.0, (es ++ t.1.0, behind old mid new es t.1.0 is t.1.1))
 
 module _ (p : List ℕ) (t u : Plan) (old mid : History) where
-  module _ (new : History) (b : Bool) (a : IsLead (leading p t) (first_hit t) lead.Led old mid) (v : IsTried (first_hit u) b mid new) where
-    pub both-led : b ≡ true → IsLead (leading p (Both t u)) (first_hit (Both t u)) lead.Led old new
-    both-led does = let m = leads-by (leading p t) (first_hit t) old mid a in led (first_hit u) (leading p t) m.found m.is m.new_is v
+  module _ (new : History) (b : Bool) (a : IsLead (leaf_hit p t) (first_hit t) lead.Led old mid) (v : IsTried (first_hit u) b mid new) where
+    pub both-led : b ≡ true → IsLead (leaf_hit p (Both t u)) (first_hit (Both t u)) lead.Led old new
+    both-led does = let m = leads-by (leaf_hit p t) (first_hit t) old mid a in led (first_hit u) (leaf_hit p t) m.found m.is m.new_is v
       where
-        led : (f l : Option History) (es : History) → l ≡ Some es → mid ≡ old ++ es → IsTried f b mid new → IsLead (or_else (one_after_other l f) (one_after_other (first_hit t) (leading p u))) (one_after_other (first_hit t) f) lead.Led old new
+        led : (f l : Option History) (es : History) → l ≡ Some es → mid ≡ old ++ es → IsTried f b mid new → IsLead (or_else (one_after_other l f) (one_after_other (first_hit t) (leaf_hit p u))) (one_after_other (first_hit t) f) lead.Led old new
         led None l es is mid_is w = absurd (false≢true (sym w.0 ∙ does))
         led (Some fs) l es is mid_is w =
-            subst (λ g. IsLead (or_else (one_after_other g (Some fs)) (one_after_other (first_hit t) (leading p u))) (one_after_other (first_hit t) (Some fs)) lead.Led old new) (sym is) (refl, behind old mid new es fs mid_is w.1)
+            subst (λ g. IsLead (or_else (one_after_other g (Some fs)) (one_after_other (first_hit t) (leaf_hit p u))) (one_after_other (first_hit t) (Some fs)) lead.Led old new) (sym is) (refl, behind old mid new es fs mid_is w.1)
 
-    pub led-alone : b ≡ false → IsLead (leading p (Both t u)) (first_hit (Both t u)) lead.Neither old new
+    pub led-alone : b ≡ false → IsLead (leaf_hit p (Both t u)) (first_hit (Both t u)) lead.Neither old new
     led-alone isnt =
-        let m = leads-by (leading p t) (first_hit t) old mid a in
+        let m = leads-by (leaf_hit p t) (first_hit t) old mid a in
         let hit : first_hit u ≡ None = no-hit (first_hit u) v in
         let none : first_hit (Both t u) ≡ None = ap (one_after_other (first_hit t)) hit ∙ none-after (first_hit t) in
         subst (λ f. IsLead f (first_hit (Both t u)) lead.Neither old new) (sym (unled p (Both t u) none))
@@ -320,17 +320,17 @@ module _ (p : List ℕ) (t u : Plan) (old mid : History) where
         rest None w = w.1
         rest (Some fs) w = (fs, w.1)
 
-  pub both-hit : IsLead (leading p t) (first_hit t) lead.Hit old mid → (x : Lead) (new : History) → IsLead (leading p u) (first_hit u) x mid new → IsLead (leading p (Both t u)) (first_hit (Both t u)) x old new
+  pub both-hit : IsLead (leaf_hit p t) (first_hit t) lead.Hit old mid → (x : Lead) (new : History) → IsLead (leaf_hit p u) (first_hit u) x mid new → IsLead (leaf_hit p (Both t u)) (first_hit (Both t u)) x old new
   both-hit a x new v =
-      let m = instead-by (leading p t) (first_hit t) old mid a in
-      let l : leading p (Both t u) ≡ also m.found (leading p u) =
-      ap (λ f. or_else (one_after_other f (first_hit u)) (one_after_other (first_hit t) (leading p u))) m.none ∙ ap (λ f. one_after_other f (leading p u)) m.is in
+      let m = instead-by (leaf_hit p t) (first_hit t) old mid a in
+      let l : leaf_hit p (Both t u) ≡ also m.found (leaf_hit p u) =
+      ap (λ f. or_else (one_after_other f (first_hit u)) (one_after_other (first_hit t) (leaf_hit p u))) m.none ∙ ap (λ f. one_after_other f (leaf_hit p u)) m.is in
       let f : first_hit (Both t u) ≡ also m.found (first_hit u) = ap (λ h. one_after_other h (first_hit u)) m.is in
-      subst (λ g. IsLead g (first_hit (Both t u)) x old new) (sym l) (subst (λ h. IsLead (also m.found (leading p u)) h x old new) (sym f) (behind-lead (leading p u) (first_hit u) m.found x old mid new m.new_is v))
+      subst (λ g. IsLead g (first_hit (Both t u)) x old new) (sym l) (subst (λ h. IsLead (also m.found (leaf_hit p u)) h x old new) (sym f) (behind-lead (leaf_hit p u) (first_hit u) m.found x old mid new m.new_is v))
 
-  pub both-fail : IsLead (leading p t) (first_hit t) lead.Neither old mid → IsLead (leading p (Both t u)) (first_hit (Both t u)) lead.Neither old mid
+  pub both-fail : IsLead (leaf_hit p t) (first_hit t) lead.Neither old mid → IsLead (leaf_hit p (Both t u)) (first_hit (Both t u)) lead.Neither old mid
   both-fail a =
-      let m = fails-by (leading p t) (first_hit t) old mid a in
+      let m = fails-by (leaf_hit p t) (first_hit t) old mid a in
       let none : first_hit (Both t u) ≡ None = ap (λ h. one_after_other h (first_hit u)) m.neither in
       subst (λ f. IsLead f (first_hit (Both t u)) lead.Neither old mid) (sym (unled p (Both t u) none)) (subst (λ f. IsLead None f lead.Neither old mid) (sym none) (refl, (m.found, m.new_is)))
 

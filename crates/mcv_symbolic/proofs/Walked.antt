@@ -19,7 +19,7 @@ use Rattle.mcv_rules.specs.declared.plan.Plan.{Plan, All, InTurn}
 use Rattle.mcv_rules.proofs.Searching.{joined_reply}
 use Rattle.mcv_rules.proofs.Whole.{part-All, part-InTurn}
 use Rattle.mcv_symbolic.specs.Listed.{acknowledged, counted, hits, of_both, when_error, when_replied}
-use Rattle.mcv_symbolic.specs.Shown.{answers, first_hit, leading}
+use Rattle.mcv_symbolic.specs.Shown.{answers, first_hit, leaf_hit}
 use Rattle.mcv_symbolic.specs.Structure.{if_all, nothing}
 use Rattle.mcv_symbolic.proofs.Tried.{answers-in_turn, reply-in_turn}
 
@@ -145,9 +145,9 @@ pub first_hit_beside : (t : whole.Plan) (y : Part) → first_hit (beside t y) �
 first_hit_beside t (part u) = refl
 first_hit_beside t (shade s a b u) = refl
 
-pub leading_beside : (p : List ℕ) (t : whole.Plan) (y : Part) → leading p (beside t y) ≡ leading p t
-leading_beside p t (part u) = refl
-leading_beside p t (shade s a b u) = refl
+pub leaf_hit_beside : (p : List ℕ) (t : whole.Plan) (y : Part) → leaf_hit p (beside t y) ≡ leaf_hit p t
+leaf_hit_beside p t (part u) = refl
+leaf_hit_beside p t (shade s a b u) = refl
 
 pub hits_beside : (t : whole.Plan) (y : Part) → hits (beside t y) ≡ hits t
 hits_beside t (part u) = refl

@@ -23,6 +23,6 @@ AreJustified r =
     (e : RouteEntry) (word member : List ℕ) (since : Option ℕ) → Contains r.entries e → Contains (class_words e.tree) word → IsMember (class_words e.tree) word (Some member) → IsRest member → IsEra r since
     → IsJustified (sizes_of r) e.tree member since
 
--- the routes are covered just where finitely many comparisons say so
+-- the routes are covered exactly when finitely many comparisons say so
 abbrev pub CoveredByMembers : Type 0
 CoveredByMembers = (r : RoutesValue) → IsSoundRoutes r → AreCovered r ↔ AreJustified r

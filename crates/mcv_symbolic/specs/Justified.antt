@@ -16,7 +16,7 @@ IsReadableAt t rest since p = (c : Choice) × (CanHitAt t (asked Get rest since)
 abbrev pub IsNeverAcknowledged : Tree → List ℕ → Option ℕ → Type 0
 IsNeverAcknowledged t rest since = (c : Choice) → CanBeAcknowledged t rest since c → ⊥
 
--- the pool stands at a position to which each delete that has a reply has been sent
+-- the pool is at a position to which each delete that has a reply has been sent
 abbrev pub IsAcknowledgedPool : Tree → List ℕ → Option ℕ → Pool → Type 0
 IsAcknowledgedPool t rest since m = (p : List ℕ) × (pool_at_position t p ≡ Some m) × ((c : Choice) → IsAcknowledged t rest since c p)
 

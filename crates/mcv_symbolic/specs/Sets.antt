@@ -33,7 +33,7 @@ IsAcknowledged t rest since c p = (o : Outcomes) → IsReachable t (asked Delete
 abbrev pub positions_of : List PlannedLeg → List (List ℕ)
 positions_of legs = map (λ l. l.position) legs
 
--- these legs are those at the positions with the property, in the order of their positions, each with the symbol and the servers of the pool that stands there
+-- these legs are those at the positions with the property, in the order of their positions, each with the symbol and the servers of the pool that is there
 pub record AreLegsAt (t : Tree) (P : List ℕ → Type 0) (legs : List PlannedLeg) : Type 0 where
   pub pools : All (λ l. pool_at_position t l.position ≡ Some (pool_of l)) legs
   pub rising : AllPairs IsBefore (positions_of legs)

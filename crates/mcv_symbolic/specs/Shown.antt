@@ -51,12 +51,12 @@ first_hit (OnHit t u) = first_hit t
 first_hit (Shadowed s a b t u) = first_hit t
 
 -- a hit of the leg at the position; what has to hit beside it hits by its first leg that can
-abbrev pub leading : List ℕ → Plan → Option History
-leading p (Send l) = if is_same l.position p then Some ((l.position, Good) ∷ []) else None
-leading p (Reply y) = None
-leading p (Both t u) = or_else (one_after_other (leading p t) (first_hit u)) (one_after_other (first_hit t) (leading p u))
-leading p (Beside t u) = leading p t
-leading p (OnError t u) = or_else (leading p t) (if is_error (if_all Error t) then also (answers Error t) (leading p u) else None)
-leading p (OnMiss t u) = or_else (leading p t) (if is_missed (if_all Soft t) then also (answers Soft t) (leading p u) else None)
-leading p (OnHit t u) = leading p t
-leading p (Shadowed s a b t u) = leading p t
+abbrev pub leaf_hit : List ℕ → Plan → Option History
+leaf_hit p (Send l) = if is_same l.position p then Some ((l.position, Good) ∷ []) else None
+leaf_hit p (Reply y) = None
+leaf_hit p (Both t u) = or_else (one_after_other (leaf_hit p t) (first_hit u)) (one_after_other (first_hit t) (leaf_hit p u))
+leaf_hit p (Beside t u) = leaf_hit p t
+leaf_hit p (OnError t u) = or_else (leaf_hit p t) (if is_error (if_all Error t) then also (answers Error t) (leaf_hit p u) else None)
+leaf_hit p (OnMiss t u) = or_else (leaf_hit p t) (if is_missed (if_all Soft t) then also (answers Soft t) (leaf_hit p u) else None)
+leaf_hit p (OnHit t u) = leaf_hit p t
+leaf_hit p (Shadowed s a b t u) = leaf_hit p t

@@ -1,9 +1,10 @@
 -- How the sets of a plan are found by its structure, one combination at a time. They are the sets that specs/Sets.antt defines (own).
 use Rattle.std.specs.Prelude.{◌≡◌, ◌⊎◌, Some, None}
+use Rattle.mcv_base.specs.Reply.{worse}
 use Rattle.mcv_base.specs.declared.reply.Outcome.{Outcome}
 use Rattle.mcv_base.specs.declared.reply.Outcome.TheVariants.{Good, Soft, Error}
 use Rattle.mcv_route.specs.Outcomes.{Outcomes}
-use Rattle.mcv_rules.specs.Plan.{Leg, Plan, Send, Reply, Both, Beside, OnError, OnMiss, OnHit, Shadowed, worse, reply, IsMissed}
+use Rattle.mcv_rules.specs.Plan.{Leg, Plan, Send, Reply, Both, Beside, OnError, OnMiss, OnHit, Shadowed, reply, IsMissed}
 
 -- no outcome is known
 abbrev pub nothing : Outcomes
@@ -30,7 +31,7 @@ if_all x (OnMiss t u) = after_miss (if_all x t) (if_all x u)
 if_all x (OnHit t u) = if_all x t
 if_all x (Shadowed s a b t u) = if_all x t
 
--- the leg is sent, and stands under no shadow. No choice is needed to say so
+-- the leg is sent, and is under no shadow. No choice is needed to say so
 abbrev pub Counts : Plan → Outcomes → Leg → Type 0
 Counts (Send k) o l = k ≡ l
 Counts (Reply x) o l = ⊥

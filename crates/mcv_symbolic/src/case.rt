@@ -8,10 +8,10 @@ ghost use Rattle.mcv_route.specs.View.{view};
 ghost use Rattle.mcv_rules.specs.Plans.{plan};
 ghost use Rattle.mcv_symbolic.specs.Case.{situation_of};
 ghost use Rattle.mcv_symbolic.specs.Sets.{AreLegsAt, CanBeAcknowledged, CanHitAt, IsAcknowledged};
-ghost use Rattle.mcv_symbolic.specs.Shown.{answers, history_of, leading};
+ghost use Rattle.mcv_symbolic.specs.Shown.{answers, history_of, leaf_hit};
 
 use crate::sets::{push_acknowledged, push_hits, reply_if_all};
-use crate::shown::{Added, LegAnswer, push_answers, push_leading};
+use crate::shown::{Added, LegAnswer, push_answers, push_leaf_hit};
 use mcv_base::{Mark, Moment, Op, Outcome, Position, Rest};
 use mcv_route::Route;
 use mcv_rules::{Asked, Plan, PlannedLeg, laid_out};
@@ -111,10 +111,10 @@ impl<'a> Case<'a> {
         alloc: Global,
         leaf: &Position,
     ) -> Result<Option<Vec<LegAnswer<'_>>>, AllocError>
-        ensures { IfOk result (λ found. option_map (λ legs. history_of legs.items) found ≡ leading leaf.now (plan self.now.tree (situation_of self.now))) }
+        ensures { IfOk result (λ found. option_map (λ legs. history_of legs.items) found ≡ leaf_hit leaf.now (plan self.now.tree (situation_of self.now))) }
     {
         let mut legs = Vec::new(alloc);
-        match push_leading(&self.plan, leaf, Outcome::Error, &mut legs)? {
+        match push_leaf_hit(&self.plan, leaf, Outcome::Error, &mut legs)? {
             Added::Hit => Ok(Some(legs)),
             Added::Alike(_) => Ok(None),
         }

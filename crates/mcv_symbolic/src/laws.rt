@@ -26,7 +26,7 @@ pub fn symbols_are_independent()
     ensures { SymbolsAreIndependent }
 {}
 
-/// A route is covered at a rest just where a delete can't be acknowledged, or each leaf that can be read is answered
+/// A route is covered at a rest exactly when a delete can't be acknowledged, or each leaf that can be read is answered
 /// for at each index; a whole class is where one of its rests is; so all rests are where a member of each class is.
 pub fn covered_is_justified()
     ensures justified { CoveredIsJustified }

@@ -2,7 +2,7 @@
 
 ghost use Rattle.std.specs.Prelude.{◌≡◌, ◌<◌, ◌++◌, IfOk, List, OnOk, length, map};
 ghost use Rattle.mcv_base.specs.declared.reply.Outcome.TheVariants.{Error as Failed, Good as Done};
-ghost use Rattle.mcv_rules.specs.Plan.{Leg, both, reply, worse};
+ghost use Rattle.mcv_rules.specs.Plan.{Leg, both, reply};
 ghost use Rattle.mcv_rules.specs.Whole.{all_of, led_by, leg_of, part_of, turns_of, whole_of};
 ghost use Rattle.mcv_rules.specs.declared.arrival.After.TheVariants.{Error as on_error, Miss as on_miss};
 ghost use Rattle.mcv_symbolic.specs.Listed.{acknowledged, counted, hits, of_both};
@@ -11,17 +11,6 @@ ghost use Rattle.mcv_symbolic.specs.Structure.{after_miss, if_all, nothing};
 use mcv_base::Outcome;
 use mcv_rules::{After, Plan, PlannedLeg};
 use std::alloc::AllocError;
-
-/// The worse of two outcomes.
-pub fn worse(first: Outcome, second: Outcome) -> Outcome
-    ensures { result ≡ worse first second }
-{
-    match (first, second) {
-        (Outcome::Error, _) | (_, Outcome::Error) => Outcome::Error,
-        (Outcome::Soft, _) | (_, Outcome::Soft) => Outcome::Soft,
-        (Outcome::Good, Outcome::Good) => Outcome::Good,
-    }
-}
 
 // ---- the reply of answers that are all alike
 
@@ -51,7 +40,7 @@ fn worst_if_all(children: &[Plan], answer: Outcome) -> Outcome
     };
     let mut reply = reply_if_all(first, answer);
     for child in others {
-        reply = worse(reply, reply_if_all(child, answer));
+        reply = reply.worse(reply_if_all(child, answer));
     }
     reply
 }
@@ -91,10 +80,10 @@ fn last_if_all(after: After, children: &[Plan], answer: Outcome) -> Outcome
 fn both(first: Option<Outcome>, second: Option<Outcome>) -> Option<Outcome>
     ensures { result ≡ both first second }
 {
-    Some(worse(first?, second?))
+    Some(first?.worse(second?))
 }
 
-/// Adds the legs that are sent at once and stand under no shadow; answers the reply that is there at once.
+/// Adds the legs that are sent at once and are under no shadow; answers the reply that is there at once.
 #[cycle(wave)]
 pub fn push_first_wave<'a>(
     plan: &'a Plan,
@@ -228,7 +217,7 @@ fn push_acknowledged_of_all<'a>(
     let mut reply = push_acknowledged(first, legs)?;
     for child in others {
         let next = push_acknowledged(child, legs)?;
-        reply = worse(reply, next);
+        reply = reply.worse(next);
     }
     Ok(reply)
 }
@@ -349,7 +338,7 @@ fn push_hits_of_all<'a>(
     let mut reply = push_hits(first, legs)?;
     for child in others {
         let next = push_next_hits(child, start, legs)?;
-        reply = worse(reply, next);
+        reply = reply.worse(next);
     }
     Ok(reply)
 }

@@ -5,11 +5,10 @@ ghost use Rattle.mcv_base.specs.declared.reply.Outcome.{Outcome as Outcomes};
 ghost use Rattle.mcv_route.specs.Outcomes.{History};
 ghost use Rattle.mcv_rules.specs.Plan.{Both, Plan as Planned, Send};
 ghost use Rattle.mcv_rules.specs.Whole.{all_of, led_by, leg_of, part_of, turns_of, whole_of};
-ghost use Rattle.mcv_symbolic.specs.Shown.{answers, first_hit, history_of, leading};
+ghost use Rattle.mcv_symbolic.specs.Shown.{answers, first_hit, history_of, leaf_hit};
 ghost use Rattle.mcv_symbolic.specs.Structure.{if_all};
 ghost use Rattle.mcv_symbolic.specs.Tried.{IsAdded, IsLead, IsTried, goes_on_after, is_hit, passed_on};
 
-use crate::sets::worse;
 use mcv_base::{Outcome, Position};
 use mcv_rules::{After, Plan, PlannedLeg};
 use std::alloc::AllocError;
@@ -64,7 +63,7 @@ fn push_answers_of_all<'a>(
     let mut reply = push_answers(first, answer, legs)?;
     for child in others {
         let next = push_answers(child, answer, legs)?;
-        reply = worse(reply, next);
+        reply = reply.worse(next);
     }
     Ok(reply)
 }
@@ -368,7 +367,7 @@ fn push_lead<'a>(
     leaf: &Position,
     legs: &mut Vec<LegAnswer<'a>>,
 ) -> Result<Lead, AllocError>
-    ensures { IfOk result (λ r. IsLead (leading leaf.now (whole_of plan.now)) (first_hit (whole_of plan.now)) r (history_of legs.old.items) (history_of legs.new.items)) }
+    ensures { IfOk result (λ r. IsLead (leaf_hit leaf.now (whole_of plan.now)) (first_hit (whole_of plan.now)) r (history_of legs.old.items) (history_of legs.new.items)) }
 {
     let start = legs.len();
     match plan {
@@ -377,7 +376,7 @@ fn push_lead<'a>(
         Plan::All(children) => push_all_leads(children, leaf, legs),
         Plan::Beside(children) => push_lead_of_first(children, leaf, legs),
         Plan::InTurn(after, children) => {
-            let added = push_leading_in_turn(*after, children, leaf, legs)?;
+            let added = push_leaf_hit_in_turn(*after, children, leaf, legs)?;
             led(added, plan, start, legs)
         }
         Plan::OnHit(first, _) => push_lead(first, leaf, legs),
@@ -391,7 +390,7 @@ fn push_leg<'a>(
     leaf: &Position,
     legs: &mut Vec<LegAnswer<'a>>,
 ) -> Result<Lead, AllocError>
-    ensures { IfOk result (λ r. IsLead (leading leaf.now (Send (leg_of leg.now))) (first_hit (Send (leg_of leg.now))) r (history_of legs.old.items) (history_of legs.new.items)) }
+    ensures { IfOk result (λ r. IsLead (leaf_hit leaf.now (Send (leg_of leg.now))) (first_hit (Send (leg_of leg.now))) r (history_of legs.old.items) (history_of legs.new.items)) }
 {
     legs.push(LegAnswer {
         leg,
@@ -412,7 +411,7 @@ fn push_lead_of_first<'a>(
     legs: &mut Vec<LegAnswer<'a>>,
 ) -> Result<Lead, AllocError>
     ensures { let whole = led_by (map part_of children.now) in
-        IfOk result (λ r. IsLead (leading leaf.now whole) (first_hit whole) r (history_of legs.old.items) (history_of legs.new.items)) }
+        IfOk result (λ r. IsLead (leaf_hit leaf.now whole) (first_hit whole) r (history_of legs.old.items) (history_of legs.new.items)) }
 {
     match children.first() {
         Some(first) => push_lead(first, leaf, legs),
@@ -428,7 +427,7 @@ fn push_all_leads<'a>(
     legs: &mut Vec<LegAnswer<'a>>,
 ) -> Result<Lead, AllocError>
     ensures { let whole = all_of (map whole_of children.now) in
-        IfOk result (λ r. IsLead (leading leaf.now whole) (first_hit whole) r (history_of legs.old.items) (history_of legs.new.items)) }
+        IfOk result (λ r. IsLead (leaf_hit leaf.now whole) (first_hit whole) r (history_of legs.old.items) (history_of legs.new.items)) }
 {
     let Some((first, others)) = children.split_first() else {
         return Ok(Lead::Neither);
@@ -448,8 +447,8 @@ fn push_next_lead<'a>(
     leaf: &Position,
     legs: &mut Vec<LegAnswer<'a>>,
 ) -> Result<Lead, AllocError>
-    ensures { IfOk result (λ r. (so_far : Planned) (before : History) → IsLead (leading leaf.now so_far) (first_hit so_far) lead before (history_of legs.old.items)
-        → IsLead (leading leaf.now (Both so_far (whole_of next.now))) (first_hit (Both so_far (whole_of next.now))) r before (history_of legs.new.items)) }
+    ensures { IfOk result (λ r. (so_far : Planned) (before : History) → IsLead (leaf_hit leaf.now so_far) (first_hit so_far) lead before (history_of legs.old.items)
+        → IsLead (leaf_hit leaf.now (Both so_far (whole_of next.now))) (first_hit (Both so_far (whole_of next.now))) r before (history_of legs.new.items)) }
 {
     match lead {
         Lead::Led => {
@@ -467,13 +466,13 @@ fn push_next_lead<'a>(
 /// Adds the answers by which the leg at the position hits, and its hit is the reply; where there are none, those that
 /// are all alike.
 #[cycle(leads)]
-pub fn push_leading<'a>(
+pub fn push_leaf_hit<'a>(
     plan: &'a Plan,
     leaf: &Position,
     answer: Outcome,
     legs: &mut Vec<LegAnswer<'a>>,
 ) -> Result<Added, AllocError>
-    ensures { IfOk result (λ r. IsAdded (leading leaf.now (whole_of plan.now)) (answers answer (whole_of plan.now)) (if_all answer (whole_of plan.now)) r (history_of legs.old.items) (history_of legs.new.items)) }
+    ensures { IfOk result (λ r. IsAdded (leaf_hit leaf.now (whole_of plan.now)) (answers answer (whole_of plan.now)) (if_all answer (whole_of plan.now)) r (history_of legs.old.items) (history_of legs.new.items)) }
 {
     let start = legs.len();
     match plan {
@@ -485,12 +484,12 @@ pub fn push_leading<'a>(
                 Ok(Added::Alike(push_instead(plan, answer, start, legs)?))
             }
         },
-        Plan::Beside(children) => push_leading_of_first(children, leaf, answer, legs),
+        Plan::Beside(children) => push_leaf_hit_of_first(children, leaf, answer, legs),
         Plan::InTurn(after, children) => {
-            let added = push_leading_in_turn(*after, children, leaf, legs)?;
+            let added = push_leaf_hit_in_turn(*after, children, leaf, legs)?;
             settled(added, *after, plan, answer, start, legs)
         }
-        Plan::OnHit(first, _) => push_leading(first, leaf, answer, legs),
+        Plan::OnHit(first, _) => push_leaf_hit(first, leaf, answer, legs),
         Plan::Shadowed { .. } => Ok(Added::Alike(Outcome::Error)),
     }
 }
@@ -502,7 +501,7 @@ fn push_answer_of<'a>(
     answer: Outcome,
     legs: &mut Vec<LegAnswer<'a>>,
 ) -> Result<Added, AllocError>
-    ensures { IfOk result (λ r. IsAdded (leading leaf.now (Send (leg_of leg.now))) (answers answer (Send (leg_of leg.now))) answer r (history_of legs.old.items) (history_of legs.new.items)) }
+    ensures { IfOk result (λ r. IsAdded (leaf_hit leaf.now (Send (leg_of leg.now))) (answers answer (Send (leg_of leg.now))) answer r (history_of legs.old.items) (history_of legs.new.items)) }
 {
     if leg.position.is(leaf) {
         legs.push(LegAnswer {
@@ -520,42 +519,42 @@ fn push_answer_of<'a>(
 
 /// The same of the first.
 #[cycle(leads)]
-fn push_leading_of_first<'a>(
+fn push_leaf_hit_of_first<'a>(
     children: &'a [Plan],
     leaf: &Position,
     answer: Outcome,
     legs: &mut Vec<LegAnswer<'a>>,
 ) -> Result<Added, AllocError>
     ensures { let whole = led_by (map part_of children.now) in
-        IfOk result (λ r. IsAdded (leading leaf.now whole) (answers answer whole) (if_all answer whole) r (history_of legs.old.items) (history_of legs.new.items)) }
+        IfOk result (λ r. IsAdded (leaf_hit leaf.now whole) (answers answer whole) (if_all answer whole) r (history_of legs.old.items) (history_of legs.new.items)) }
 {
     match children.first() {
-        Some(first) => push_leading(first, leaf, answer, legs),
+        Some(first) => push_leaf_hit(first, leaf, answer, legs),
         None => Ok(Added::Alike(Outcome::Error)),
     }
 }
 
 /// The same of a search, with the answers that pass it on.
 #[cycle(leads)]
-fn push_leading_in_turn<'a>(
+fn push_leaf_hit_in_turn<'a>(
     after: After,
     children: &'a [Plan],
     leaf: &Position,
     legs: &mut Vec<LegAnswer<'a>>,
 ) -> Result<Added, AllocError>
     ensures { let whole = turns_of after (map whole_of children.now) in
-        IfOk result (λ r. IsAdded (leading leaf.now whole) (answers (passed_on after) whole) (if_all (passed_on after) whole) r (history_of legs.old.items) (history_of legs.new.items)) }
+        IfOk result (λ r. IsAdded (leaf_hit leaf.now whole) (answers (passed_on after) whole) (if_all (passed_on after) whole) r (history_of legs.old.items) (history_of legs.new.items)) }
 {
     let answer = passed_on(after);
     let Some((first, others)) = children.split_first() else {
         return Ok(Added::Alike(Outcome::Error));
     };
-    let mut added = push_leading(first, leaf, answer, legs)?;
+    let mut added = push_leaf_hit(first, leaf, answer, legs)?;
     for child in others {
         if !goes_on_after(after, added) {
             return Ok(added);
         }
-        added = push_leading(child, leaf, answer, legs)?;
+        added = push_leaf_hit(child, leaf, answer, legs)?;
     }
     Ok(added)
 }

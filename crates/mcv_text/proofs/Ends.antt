@@ -5,7 +5,7 @@ use Rattle.std.proofs.lemmas.List.{take-append-drop, length-take, take-append-le
 use Rattle.std.proofs.lemmas.List.Elements.{All-append, All-nil, All-take}
 use Rattle.mcv_text.specs.Request.{with_body, AskValue, RequestValue, asking, ItemValue, asked, refused}
 use Rattle.mcv_text.specs.declared.item.Refusal.TheVariants as refusals
-use Rattle.mcv_text.specs.Stream.{Stands, Held, Failed, IsLine, Begins, by_line, too_long, AfterLine, AfterValue, IsValuePart, stored, no_cr, no_lf}
+use Rattle.mcv_text.specs.Stream.{Awaits, Held, Failed, IsLine, Begins, by_line, too_long, AfterLine, AfterValue, IsValuePart, stored, no_cr, no_lf}
 use Rattle.mcv_text.specs.Reader.{EndsAt}
 use Rattle.mcv_text.specs.Line.{LineValue, stores, meaning}
 
@@ -26,7 +26,7 @@ too_long_begins line front rest is none long =
     refl refl
 
 -- the item of a whole line
-pub line_item : (l more : List ℕ) (says : LineValue) (item : ItemValue) (rest : Stands) → IsLine l → says ≡ meaning l → AfterLine says more item rest → Begins (l ++ 10 ∷ more) item rest
+pub line_item : (l more : List ℕ) (says : LineValue) (item : ItemValue) (rest : Awaits) → IsLine l → says ≡ meaning l → AfterLine says more item rest → Begins (l ++ 10 ∷ more) item rest
 line_item l more says item rest is e after = by_line l more is refl (subst (λ (m : LineValue). AfterLine m more item rest) e after)
 
 pub nil_front : (xs more : List ℕ) → xs ≡ [] → xs ++ more ≡ more
@@ -70,7 +70,7 @@ module _ (l body piece seen : List ℕ) (used n : ℕ) (fields : AskValue) (is :
       ∙ ap (λ (t : List ℕ). l ++ (10 ∷ t)) (sym whole_value)
       ∙ sym (append_assoc l (10 ∷ body) piece)
 
-  value_item : (item : ItemValue) (rest : Stands) → AfterValue fields n (seen ++ drop used piece) item rest → Begins ((l ++ 10 ∷ body) ++ piece) item rest
+  value_item : (item : ItemValue) (rest : Awaits) → AfterValue fields n (seen ++ drop used piece) item rest → Begins ((l ++ 10 ∷ body) ++ piece) item rest
   value_item item rest after =
       by_line l (body ++ piece) is (append_assoc l (10 ∷ body) piece)
       (subst (λ (m : LineValue). AfterLine m (body ++ piece) item rest) (sym means)

@@ -81,7 +81,7 @@ unknown_foo : meaning (codes "foo\r") ≡ unknown
 unfolding meaning
 unknown_foo = refl
 
--- an unknown word is refused, and the reading goes on with what stands behind its line
+-- an unknown word is refused, and the reading goes on with what comes behind its line
 foo_and_an_empty_line : Reads (Held (codes "foo\r\n\n")) (refused refusals.UnknownCommand ∷ refused refusals.UnknownCommand ∷ []) (Held [])
 unfolding meaning
 foo_and_an_empty_line = (
@@ -90,7 +90,7 @@ foo_and_an_empty_line = (
   (Held [], by_line [] [] empty refl (refl, refl), (in_line empty, refl)),
 )
 
--- behind a value of one byte CR and another byte stand
+-- behind a value of one byte come CR and another byte
 wrong_end : (ask : AskValue) → AfterValue ask 1 (codes "x\ry") (refused refusals.BadDataChunk) Failed
 wrong_end ask = no_lf (codes "x") [] 121 refl (λ e. omega arith) refl
 

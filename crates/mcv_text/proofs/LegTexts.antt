@@ -85,7 +85,7 @@ line_means word more is all = ap said (ap words (strip_push (joined word more)) 
 empty_is : Reads (Held []) [] (Held [])
 empty_is = (in_line (record { no_end = All-from_recursion (λ b. b ≢ 10) [] tt; short = omega arith }), refl)
 
--- a line of single spaces, and what stands behind it
+-- a line of single spaces, and what comes behind it
 line_reads : (word : List ℕ) (more : List (List ℕ)) (block : List ℕ) (means : LineValue) (item : ItemValue) (text : List ℕ)
     → IsWord word → AllByRecursion IsWord more → length more ≤ 6 → said (word ∷ more) ≡ means → AfterLine means block item (Held [])
     → text ≡ (joined word more ++ 13 ∷ []) ++ 10 ∷ block → Reads (Held text) (item ∷ []) (Held [])
@@ -177,7 +177,7 @@ cas_words rest F E N C f e n c ef ee en ec =
 
 -- texts
 
--- as a leg's text is written: the name, the key, the words behind it, and what stands behind the line
+-- as a leg's text is written: the name, the key, the words behind it, and what comes behind the line
 abbrev spelled : List ℕ → List ℕ → List ℕ → List ℕ → List ℕ
 spelled name rest more block = name ++ codes " " ++ rest ++ more ++ line_end ++ block
 

@@ -1,4 +1,4 @@
--- What a client is answered (memcached, protocol.txt; that an error stands alone in place of all hits is own).
+-- What a client is answered (memcached, protocol.txt; that an error comes alone in place of all hits is own).
 use Rattle.std.specs.Prelude.{ℕ, List, [], ◌∷◌, ◌++◌, length, Option, Some, None, Bool, codes, decimal, if◌then◌else◌}
 use Rattle.std.specs.List.{find, flat_map}
 use Rattle.mcv_base.specs.declared.operation.Op.{Op}
@@ -23,7 +23,7 @@ reply_line deleted = codes "DELETED"
 reply_line touched = codes "TOUCHED"
 reply_line (fault line) = line
 
--- the number of the value stands in an answer to gets alone
+-- the number of the value is in an answer to gets alone
 abbrev pub cas_text : Op → Option ℕ → List ℕ
 cas_text Gets (Some cas) = codes " " ++ decimal cas
 cas_text op cas = []
@@ -53,7 +53,7 @@ ask_text op keys replies =
     if is_reading op then line_or (find is_fault replies) (hits_text op keys replies ++ codes "END" ++ line_end)
     else flat_map (λ reply. reply_line reply ++ line_end) replies
 
--- the replies stand in the order of the keys, one for each
+-- the replies come in the order of the keys, one for each
 abbrev pub reply_text : RequestValue → List ReplyValue → List ℕ
 reply_text (asking ask) replies = ask_text ask.op ask.keys replies
 reply_text version replies = codes "VERSION mcv 1" ++ line_end

@@ -1,4 +1,4 @@
--- What the fields of a reader stand for, and what one step of it does.
+-- What the fields of a reader mean, and what one step of it does.
 use Rattle.std.specs.Prelude.{◌≡◌, ◌≢◌, ℕ, ◌<◌, ◌≤◌, length, List, [], ◌∷◌, ◌++◌, take, Option, MatchOption, slice_index}
 use Rattle.std.specs.List.{All}
 use Rattle.mcv_text.specs.declared.item.Item.{Item}
@@ -9,14 +9,14 @@ use Rattle.mcv_text.specs.declared.reader.ValueEnd.{ValueEnd}
 use Rattle.mcv_text.specs.declared.reader.ValueEnd.TheVariants as ends
 use Rattle.mcv_text.specs.Request.{AskValue, refused, header_value, item_value}
 use Rattle.mcv_text.specs.Line.{meaning, stores}
-use Rattle.mcv_text.specs.Stream.{Stands, Held, Skips, Failed, IsLine, IsValuePart, AfterValue, First, followed}
+use Rattle.mcv_text.specs.Stream.{Awaits, Held, Skips, Failed, IsLine, IsValuePart, AfterValue, First, followed}
 
 -- the bytes of a line, and the state of what comes behind them
-abbrev pub stands : List ℕ → State → Stands
-stands line states.Line = Held line
-stands line (states.Value v) = Held (line ++ 10 ∷ v.body.items)
-stands line (states.Skip n) = Skips n
-stands line states.Failed = Failed
+abbrev pub awaits_of : List ℕ → State → Awaits
+awaits_of line states.Line = Held line
+awaits_of line (states.Value v) = Held (line ++ 10 ∷ v.body.items)
+awaits_of line (states.Skip n) = Skips n
+awaits_of line states.Failed = Failed
 
 abbrev pub IsKept : List ℕ → State → Type 0
 IsKept line states.Line = IsLine line
@@ -25,7 +25,7 @@ IsKept line (states.Skip n) = (0 < n) × (line ≡ [])
 IsKept line states.Failed = Unit {0}
 
 -- from one state a piece leads to the next and the piece's rest, by one item or by none
-abbrev pub Steps : Stands → List ℕ → Option Item → Stands → List ℕ → Type 0
+abbrev pub Steps : Awaits → List ℕ → Option Item → Awaits → List ℕ → Type 0
 Steps from piece item to rest = MatchOption item (followed to rest ≡ followed from piece) (λ i. First (followed from piece) (item_value i) (followed to rest))
 
 -- the first LF of the bytes is at this place

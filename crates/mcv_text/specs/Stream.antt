@@ -5,14 +5,14 @@ use Rattle.mcv_text.specs.declared.item.Refusal.TheVariants as refusals
 use Rattle.mcv_text.specs.Request.{AskValue, asking, ItemValue, asked, refused, with_body}
 use Rattle.mcv_text.specs.Line.{LineValue, meaning, whole, stores, unknown, bad, too_large}
 
--- what a reader stands for: the bytes of the item that hasn't ended, a number of bytes still to skip, or having failed
-pub data Stands : Type 0 where
-  Held : List ℕ → Stands
-  Skips : ℕ → Stands
-  Failed : Stands
+-- what a reader awaits the end of: the item that begins with these bytes, a number of bytes to skip, or nothing, having failed
+pub data Awaits : Type 0 where
+  Held : List ℕ → Awaits
+  Skips : ℕ → Awaits
+  Failed : Awaits
 
--- what stands there once more bytes have come; bytes to skip are dropped from their front
-abbrev pub followed : Stands → List ℕ → Stands
+-- what it is once more bytes have come; bytes to skip are dropped from their front
+abbrev pub followed : Awaits → List ℕ → Awaits
 followed (Held bytes) piece = Held (bytes ++ piece)
 followed (Skips n) piece = if nat_lt (length piece) n then Skips (n - length piece) else Held (drop n piece)
 followed Failed piece = Failed
@@ -23,7 +23,7 @@ pub record IsLine (bytes : List ℕ) : Type 0 where
   pub short : length bytes ≤ 65536
 
 -- behind a storing line: the value with CR LF, or the first wrong byte behind the value
-pub data AfterValue (ask : AskValue) (n : ℕ) (bytes : List ℕ) : ItemValue → Stands → Type 0 where
+pub data AfterValue (ask : AskValue) (n : ℕ) (bytes : List ℕ) : ItemValue → Awaits → Type 0 where
   stored : (value more : List ℕ) → length value ≡ n → bytes ≡ value ++ 13 ∷ 10 ∷ more → AfterValue ask n bytes (asked (asking (with_body ask value))) (Held more)
   no_cr : (value more : List ℕ) (b : ℕ) → length value ≡ n → b ≢ 13 → bytes ≡ value ++ b ∷ more → AfterValue ask n bytes (refused refusals.BadDataChunk) Failed
   no_lf : (value more : List ℕ) (b : ℕ) → length value ≡ n → b ≢ 10 → bytes ≡ value ++ 13 ∷ b ∷ more → AfterValue ask n bytes (refused refusals.BadDataChunk) Failed
@@ -33,7 +33,7 @@ abbrev pub IsValuePart : ℕ → List ℕ → Type 0
 IsValuePart n bytes = (length bytes ≤ n) ⊎ ((value : List ℕ) × (length value ≡ n) × (bytes ≡ value ++ 13 ∷ []))
 
 -- what a line gives, with the bytes behind its LF
-abbrev pub AfterLine : LineValue → List ℕ → ItemValue → Stands → Type 0
+abbrev pub AfterLine : LineValue → List ℕ → ItemValue → Awaits → Type 0
 AfterLine (whole r) bytes item rest = (item ≡ asked r) × (rest ≡ Held bytes)
 AfterLine (stores ask n) bytes item rest = AfterValue ask n bytes item rest
 AfterLine unknown bytes item rest = (item ≡ refused refusals.UnknownCommand) × (rest ≡ Held bytes)
@@ -41,7 +41,7 @@ AfterLine bad bytes item rest = (item ≡ refused refusals.BadLine) × (rest ≡
 AfterLine (too_large n) bytes item rest = (item ≡ refused refusals.ValueTooLarge) × (rest ≡ followed (Skips (n + 2)) bytes)
 
 -- the bytes begin with this item, and this comes behind it: a line's item, or the refusal of a line at its 65,537th byte
-pub data Begins (bytes : List ℕ) (item : ItemValue) (rest : Stands) : Type 0 where
+pub data Begins (bytes : List ℕ) (item : ItemValue) (rest : Awaits) : Type 0 where
   by_line : (l more : List ℕ) → IsLine l → bytes ≡ l ++ 10 ∷ more → AfterLine (meaning l) more item rest → Begins bytes item rest
   too_long : 65536 < length bytes → All (λ b. b ≢ 10) (take 65537 bytes) → item ≡ refused refusals.BadLine → rest ≡ Failed → Begins bytes item rest
 
@@ -57,20 +57,20 @@ pub data IsUnfinished (bytes : List ℕ) : Type 0 where
   in_line : IsLine bytes → IsUnfinished bytes
   in_value : (l more : List ℕ) → IsLine l → bytes ≡ l ++ 10 ∷ more → WaitsForValue (meaning l) more → IsUnfinished bytes
 
-abbrev pub Rests : Stands → Type 0
+abbrev pub Rests : Awaits → Type 0
 Rests (Held bytes) = IsUnfinished bytes
 Rests (Skips n) = 0 < n
 Rests Failed = Unit {0}
 
-abbrev pub First : Stands → ItemValue → Stands → Type 0
+abbrev pub First : Awaits → ItemValue → Awaits → Type 0
 First (Held bytes) item rest = Begins bytes item rest
 First (Skips n) item rest = ⊥
 First Failed item rest = ⊥
 
--- the items that stand there, one behind the other, and what is left
-abbrev pub Reads : Stands → List ItemValue → Stands → Type 0
+-- the items that are there, one behind the other, and what is left
+abbrev pub Reads : Awaits → List ItemValue → Awaits → Type 0
 Reads from [] rest = Rests from × (rest ≡ from)
-Reads from (item ∷ items) rest = (next : Stands) × First from item next × Reads next items rest
+Reads from (item ∷ items) rest = (next : Awaits) × First from item next × Reads next items rest
 
 -- refusals 2 and 3, behind which nothing is read
 abbrev pub IsEnding : ItemValue → Type 0

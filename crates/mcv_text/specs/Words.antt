@@ -39,13 +39,13 @@ signed_said (b ∷ digits) =
     if b == 45 then option_map (λ n. neg_ℤ (pos n)) (number_said (2 ^ 63) digits)
     else option_map (λ n. pos n) (number_said (2 ^ 63 - 1) (b ∷ digits))
 
--- the optional word at the end of a line: whether it is there, and None where something else stands
+-- the optional word at the end of a line: whether it is there, and None where something else is
 abbrev pub noreply_said : List (List ℕ) → Option Bool
 noreply_said [] = Some false
 noreply_said (word ∷ []) = if bytes_eq word (codes "noreply") then Some true else None
 noreply_said (word ∷ other ∷ more) = None
 
--- the same for delete, where a word `0` may stand before it
+-- the same for delete, where a word `0` may come before it
 abbrev pub delete_options_said : List (List ℕ) → Option Bool
 delete_options_said [] = Some false
 delete_options_said (word ∷ more) = if bytes_eq word (codes "0") then noreply_said more else noreply_said (word ∷ more)

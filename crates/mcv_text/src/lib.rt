@@ -1,8 +1,8 @@
 //! The requests of the classic text protocol, read from a stream in pieces, and the texts that a proxy writes.
 //!
 //! `RequestReader` reads what clients send; `reply_text` is what a client is answered and
-//! `leg_text` what a server is sent. The definitions stand in specs/: `Stream` says which
-//! items stand in a list of bytes, `Line` what one line says.
+//! `leg_text` what a server is sent. The definitions are in specs/: `Stream` says which
+//! items are in a list of bytes, `Line` what one line says.
 #![tactic(auto)]
 
 mod answer;

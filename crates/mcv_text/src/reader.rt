@@ -6,9 +6,9 @@
 ghost use Rattle.std.specs.Prelude.{◌≡◌, ◌<◌, ◌≤◌, ◌≢◌, ◌+◌, ◌↔◌, ◌∷◌, [], ℕ, List, length, take, drop, map, IfOk, OnErr};
 ghost use Rattle.std.specs.Result.{IsErrOf};
 ghost use Rattle.std.specs.List.{All};
-ghost use Rattle.mcv_text.specs.Reader.{EndsAt, EndsValue, IsKept, Steps, stands};
+ghost use Rattle.mcv_text.specs.Reader.{EndsAt, EndsValue, IsKept, Steps, awaits_of};
 ghost use Rattle.mcv_text.specs.Request.{asking, header_value, item_value, request_value, with_body};
-ghost use Rattle.mcv_text.specs.Stream.{Failed, Held, IsLine, Reads, Skips, Stands, followed};
+ghost use Rattle.mcv_text.specs.Stream.{Awaits, Failed, Held, IsLine, Reads, Skips, followed};
 
 use crate::item::{Item, Refusal, TextFault};
 use crate::line::{Header, Meaning, meaning_of};
@@ -53,7 +53,7 @@ fn after_line(alloc: Global, line: &mut Vec<u8>, used: usize) -> Result<Step, Al
     requires { IsLine line.old.items }
     ensures used { IfOk result (λ s. s.used ≡ used) }
     ensures kept { IfOk result (λ s. IsKept line.new.items s.state) }
-    ensures steps { IfOk result (λ s. (more : List ℕ) → Steps (Held line.old.items) (10 ∷ more) s.item (stands line.new.items s.state) more) }
+    ensures steps { IfOk result (λ s. (more : List ℕ) → Steps (Held line.old.items) (10 ∷ more) s.item (awaits_of line.new.items s.state) more) }
 {
     match meaning_of(alloc, line.as_slice())? {
         Meaning::Stores(header, size) => {
@@ -103,7 +103,7 @@ fn line_goes_on(line: &mut Vec<u8>, piece: &[u8]) -> Result<Step, AllocError>
     requires no_end { All (λ b. b ≢ 10) piece.now }
     ensures used { IfOk result (λ s. s.used ≡ length piece.now) }
     ensures kept { IfOk result (λ s. IsKept line.new.items s.state) }
-    ensures steps { IfOk result (λ s. Steps (Held line.old.items) piece.now s.item (stands line.new.items s.state) []) }
+    ensures steps { IfOk result (λ s. Steps (Held line.old.items) piece.now s.item (awaits_of line.new.items s.state) []) }
 {
     let used = piece.len();
     if used > LINE_LIMIT - line.len() {
@@ -132,7 +132,7 @@ fn line_ends(
     requires ends { EndsAt piece.now end }
     ensures used { IfOk result (λ s. (0 < s.used) × (s.used ≤ length piece.now)) }
     ensures kept { IfOk result (λ s. IsKept line.new.items s.state) }
-    ensures steps { IfOk result (λ s. Steps (Held line.old.items) piece.now s.item (stands line.new.items s.state) (drop s.used piece.now)) }
+    ensures steps { IfOk result (λ s. Steps (Held line.old.items) piece.now s.item (awaits_of line.new.items s.state) (drop s.used piece.now)) }
 {
     if end > LINE_LIMIT - line.len() {
         return Ok(Step {
@@ -151,7 +151,7 @@ fn line_step(alloc: Global, line: &mut Vec<u8>, piece: &[u8]) -> Result<Step, Al
     requires some { 0 < length piece.now }
     ensures used { IfOk result (λ s. (0 < s.used) × (s.used ≤ length piece.now)) }
     ensures kept { IfOk result (λ s. IsKept line.new.items s.state) }
-    ensures steps { IfOk result (λ s. Steps (Held line.old.items) piece.now s.item (stands line.new.items s.state) (drop s.used piece.now)) }
+    ensures steps { IfOk result (λ s. Steps (Held line.old.items) piece.now s.item (awaits_of line.new.items s.state) (drop s.used piece.now)) }
 {
     match memchr(b'\n', piece) {
         None => line_goes_on(line, piece),
@@ -228,7 +228,7 @@ fn value_step(
     requires some { 0 < length piece.now }
     ensures used { IfOk result (λ s. (0 < s.used) × (s.used ≤ length piece.now)) }
     ensures kept { IfOk result (λ s. IsKept line.new.items s.state) }
-    ensures steps { IfOk result (λ s. Steps (stands line.old.items (State.Value value)) piece.now s.item (stands line.new.items s.state) (drop s.used piece.now)) }
+    ensures steps { IfOk result (λ s. Steps (awaits_of line.old.items (State.Value value)) piece.now s.item (awaits_of line.new.items s.state) (drop s.used piece.now)) }
 {
     let used = (value.size + 2 - value.body.len()).min(piece.len());
     value.body.extend_from_slice(&piece[..used])?;
@@ -261,7 +261,7 @@ fn skip_step(count: usize, piece: &[u8]) -> Step
     requires count { 0 < count }
     ensures used { (0 < result.used) × (result.used ≤ length piece.now) }
     ensures kept { IsKept [] result.state }
-    ensures steps { Steps (Skips count) piece.now result.item (stands [] result.state) (drop result.used piece.now) }
+    ensures steps { Steps (Skips count) piece.now result.item (awaits_of [] result.state) (drop result.used piece.now) }
 {
     if piece.len() < count {
         return Step {
@@ -287,7 +287,7 @@ fn take_step(
     requires some { 0 < length piece.now }
     ensures used { IfOk result (λ s. (0 < s.used) × (s.used ≤ length piece.now)) }
     ensures kept { IfOk result (λ s. IsKept line.new.items s.state) }
-    ensures steps { IfOk result (λ s. Steps (stands line.old.items state) piece.now s.item (stands line.new.items s.state) (drop s.used piece.now)) }
+    ensures steps { IfOk result (λ s. Steps (awaits_of line.old.items state) piece.now s.item (awaits_of line.new.items s.state) (drop s.used piece.now)) }
 {
     match state {
         State::Line => line_step(alloc, line, piece),
@@ -310,7 +310,7 @@ fn read(
 ) -> Result<Vec<Item>, AllocError>
     requires { IsKept line.old.items state.old }
     ensures kept { IsKept line.new.items state.new }
-    ensures items { IfOk result (λ v. Reads (followed (stands line.old.items state.old) piece.now) (map item_value v.items) (stands line.new.items state.new)) }
+    ensures items { IfOk result (λ v. Reads (followed (awaits_of line.old.items state.old) piece.now) (map item_value v.items) (awaits_of line.new.items state.new)) }
     ensures err { OnErr result (state.new ≡ State.Failed) }
 {
     let mut items = Vec::new(alloc);
@@ -331,7 +331,7 @@ fn read(
     Ok(items)
 }
 
-/// Reads requests from a stream that comes in pieces. Clauses see what it stands for.
+/// Reads requests from a stream that comes in pieces. Clauses see what it awaits.
 #[derive(Drop)]
 pub struct RequestReader {
     alloc: Global,
@@ -340,12 +340,12 @@ pub struct RequestReader {
 }
 
 impl Model for RequestReader {
-    ghost use Rattle.mcv_text.specs.Reader.{IsKept, stands};
-    ghost use Rattle.mcv_text.specs.Stream.{Stands};
+    ghost use Rattle.mcv_text.specs.Reader.{IsKept, awaits_of};
+    ghost use Rattle.mcv_text.specs.Stream.{Awaits};
 
-    ghost Value = { Stands };
+    ghost Value = { Awaits };
 
-    ghost view = { λ r. stands r.line.items r.state };
+    ghost view = { λ r. awaits_of r.line.items r.state };
 
     ghost invariant = { λ r. IsKept r.line.items r.state };
 }

@@ -43,7 +43,7 @@ fn words_of(alloc: Global, line: &[u8]) -> Result<Vec<&[u8]>, AllocError>
     Ok(words)
 }
 
-/// The words of a line that stands before its LF.
+/// The words of a line without its LF.
 pub fn line_words(alloc: Global, line: &[u8]) -> Result<Vec<&[u8]>, AllocError>
     ensures { IfOk result (λ v. map (λ word. word.now) v.items ≡ line_words line.now) }
 {
@@ -138,7 +138,7 @@ pub fn noreply(options: &[&[u8]]) -> Option<bool>
     }
 }
 
-/// The same for delete, where a word `0` may stand before it.
+/// The same for delete, where a word `0` may come before it.
 pub fn delete_options(options: &[&[u8]]) -> Option<bool>
     ensures { result ≡ delete_options_said (map (λ word. word.now) options.now) }
 {

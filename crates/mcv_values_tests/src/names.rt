@@ -1,4 +1,4 @@
-use mcv_names::{ConfigFault, FaultKind, Trail, fault_at};
+use mcv_names::{FaultKind, ReadFault, Trail, fault_at};
 use std::test::Fail;
 
 #[test]
@@ -13,15 +13,16 @@ fn a_path_has_its_steps(rt: HostRuntime) -> Result<(), Fail> {
 }
 
 #[test]
-fn a_fault_tells_its_number_and_path(rt: HostRuntime) -> Result<(), Fail> {
+fn a_fault_has_its_number_and_path(rt: HostRuntime) -> Result<(), Fail> {
     let fault = fault_at(
         rt.alloc(),
         FaultKind::LeftOut,
         &Trail::Key(&Trail::Root, "macros"),
     );
+    let ReadFault::Config(fault) = fault else {
+        return Ok(assert!(rt; false, "out of memory"));
+    };
     assert_eq!(rt; fault.number(), 10);
     assert_eq!(rt; fault.path(), "/macros");
-    assert_eq!(rt; ConfigFault::Memory.number(), 11);
-    assert_eq!(rt; ConfigFault::Memory.path(), "");
     Ok(())
 }

@@ -2,7 +2,7 @@
 
 use std::alloc::{AllocError, Global};
 
-/// Adds the bytes that a byte of a row stands for.
+/// Adds the bytes that a byte of a row means.
 fn push_meant(bytes: &mut Vec<u8>, byte: u8) -> Result<(), AllocError> {
     match byte {
         b'~' => bytes.extend_from_slice(b"\r\n"),
@@ -11,7 +11,7 @@ fn push_meant(bytes: &mut Vec<u8>, byte: u8) -> Result<(), AllocError> {
     }
 }
 
-/// The bytes that a row of a table stands for.
+/// The bytes that a row of a table means.
 pub fn unfolded(alloc: Global, row: &str) -> Result<Vec<u8>, AllocError> {
     let mut bytes = Vec::new(alloc);
     for byte in row.as_bytes() {

@@ -10,7 +10,7 @@ use Rattle.mcv_blocks.specs.Blocks.{IsJustifiedBy}
 use Rattle.mcv_certify.specs.Picked.{IsPickedOf}
 use Rattle.mcv_input.specs.Fault.{AreNamedBy}
 use Rattle.mcv_make.specs.First.{IsFirstFinding}
-use Rattle.mcv_make.specs.Told.{IsTold}
+use Rattle.mcv_make.specs.Shown.{IsShown}
 use Rattle.mcv_witness.specs.Finding.{FindingValue}
 use Rattle.mcv_witness.specs.Text.{finding_text}
 use Rattle.mcv_verdict.specs.declared.verdict.Judgement.{Judgement}
@@ -23,7 +23,7 @@ use Rattle.mcv_verdict.specs.Text.{covered_line}
 pub record AreCoveredBy (r : RoutesValue) (ps : List PairValue) : Type 0 where
   pub covered : AreCovered r
   pub justified : IsJustifiedBy r ps
-  -- they are the pairs of a certificate: they rise strictly, so that none stands twice, and each `all` names a leg
+  -- they are the pairs of a certificate: they rise strictly, so that none comes twice, and each `all` names a leg
   pub certificate : IsCertificate ps
 
 -- some acknowledged delete wasn't sent to a server of the table that can be read: the finding shows it, and none shows it at an earlier place
@@ -32,7 +32,7 @@ pub record IsLossBy (r : RoutesValue) (f : FindingValue) : Type 0 where
   pub known : f.server < length r.servers
   pub first : IsFirstFinding r f
   -- its key, indexes and outcomes are those that the rules of findings give
-  pub told : IsTold r f
+  pub shown : IsShown r f
 
 -- where no certificate is given: the routes are covered, and the number of pairs of a certificate is written, whose pairs give the first reasons that hold, and then the certificate; or they aren't, and the text of the first finding is written
 abbrev pub IsVerdict : RoutesValue → Verdict → (text : List ℕ) → Type 0

@@ -2,14 +2,12 @@
 //! can be read.
 //!
 //! `run_check` is the path from the bytes read to the bytes written, and `judge_input` that to routes that are covered. Which verdict there is on routes, and its text,
-//! stands in `specs/Verdict.antt`; which fault stands in what was read, in `specs/Fault.antt`.
+//! is in `specs/Verdict.antt`; which fault is in what was read, in `specs/Fault.antt`.
 #![tactic(auto)]
 
-mod fault;
 mod run;
 mod text;
 mod verdict;
 
-pub use fault::RunFault;
 pub use run::{judge_input, run_check};
 pub use verdict::{Judgement, Verdict};

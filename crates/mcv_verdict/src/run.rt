@@ -6,29 +6,28 @@ ghost use Rattle.mcv_cert.specs.Pair.{IsCertificate};
 ghost use Rattle.mcv_cert.specs.Text.{certificate_text};
 ghost use Rattle.mcv_input.specs.Fault.{AreNamedBy};
 ghost use Rattle.mcv_make.specs.First.{IsFirstFinding};
-ghost use Rattle.mcv_make.specs.Told.{IsTold};
+ghost use Rattle.mcv_make.specs.Shown.{IsShown};
 ghost use Rattle.mcv_route.specs.Routes.{RoutesValue};
 ghost use Rattle.mcv_symbolic.specs.Covered.{AreCovered};
-ghost use Rattle.mcv_verdict.specs.Fault.{IsRefusedBy, IsRefusedFor, IsRunFault};
+ghost use Rattle.mcv_verdict.specs.Fault.{IsRefusedBy, IsRefusedFor, IsRunFault, of_check};
 ghost use Rattle.mcv_verdict.specs.Text.{covered_line};
 ghost use Rattle.mcv_verdict.specs.Verdict.{IsJudgement, IsVerdict, IsVerdictBy, IsVerdictFor, IsVerdictOn};
 ghost use Rattle.mcv_witness.specs.Finding.{finding_of};
 
-use crate::fault::RunFault;
 use crate::text::covered_line;
 use crate::verdict::{Judgement, Verdict};
 use mcv_cert::{Certificate, read_certificate};
-use mcv_check::{Accepted, check};
-use mcv_input::{read_configuration, write_text};
+use mcv_check::{Accepted, CheckFault, check};
+use mcv_input::{RunFault, read_configuration, write_text};
 use mcv_make::{MakeFault, make};
 use mcv_route::Routes;
 use mcv_witness::{Finding, finding_text};
 use std::alloc::{AllocError, Global};
 use std::io::{Read, Write};
 
-/// A verdict, and the text that tells it.
+/// A verdict, and the text that says it.
 #[derive(Drop)]
-struct Told {
+struct Output {
     verdict: Verdict,
     text: Vec<u8>,
 }
@@ -52,14 +51,18 @@ pub fn run_check<R: Read, W: Write>(
     ensures silent { IfErr result (λ fault. fault ≢ RunFault.Device → W.contents writer.new ≡ W.contents writer.old) }
 {
     let routes = read_configuration(alloc, reader)?;
-    let told = verdict_for(alloc, routes, certificate)?;
-    write_text(writer, told.text.as_slice())?;
-    Ok(told.verdict)
+    let output = verdict_for(alloc, routes, certificate)?;
+    write_text(writer, output.text.as_slice())?;
+    Ok(output.verdict)
 }
 
 /// The verdict on routes, by the certificate whose text is given, or else by one made here.
-fn verdict_for(alloc: Global, routes: Routes, certificate: Option<&[u8]>) -> Result<Told, RunFault>
-    ensures told { IfOk result (λ told. IsVerdictFor routes (option_map (λ given. given.now) certificate.entry) told.verdict told.text.items) }
+fn verdict_for(
+    alloc: Global,
+    routes: Routes,
+    certificate: Option<&[u8]>,
+) -> Result<Output, RunFault>
+    ensures output { IfOk result (λ output. IsVerdictFor routes (option_map (λ given. given.now) certificate.entry) output.verdict output.text.items) }
     ensures fault { IfErr result (λ fault. IsRefusedFor routes (option_map (λ given. given.now) certificate.entry) fault) }
 {
     match certificate {
@@ -69,8 +72,8 @@ fn verdict_for(alloc: Global, routes: Routes, certificate: Option<&[u8]>) -> Res
 }
 
 /// The verdict on routes, by a certificate made here.
-fn verdict_on(alloc: Global, routes: Routes) -> Result<Told, RunFault>
-    ensures told { IfOk result (λ told. IsVerdict routes told.verdict told.text.items) }
+fn verdict_on(alloc: Global, routes: Routes) -> Result<Output, RunFault>
+    ensures output { IfOk result (λ output. IsVerdict routes output.verdict output.text.items) }
     ensures fault { IfErr result (λ fault. fault ≡ RunFault.Memory) }
 {
     match judge_routes(alloc, routes)? {
@@ -78,10 +81,20 @@ fn verdict_on(alloc: Global, routes: Routes) -> Result<Told, RunFault>
             accepted,
             certificate,
         } => Ok(covered_with(alloc, &accepted, &certificate)?),
-        Judgement::Lost { finding } => Ok(Told {
+        Judgement::Lost { finding } => Ok(Output {
             verdict: Verdict::Lost,
             text: finding,
         }),
+    }
+}
+
+/// What the checker's fault is to a run.
+fn refused(fault: CheckFault) -> RunFault
+    ensures { result ≡ of_check fault }
+{
+    match fault {
+        CheckFault::Pair(fault) => RunFault::Certificate(fault),
+        CheckFault::Memory => RunFault::Memory,
     }
 }
 
@@ -92,7 +105,10 @@ fn judge_routes(alloc: Global, routes: Routes) -> Result<Judgement, RunFault>
 {
     match make(alloc, &routes) {
         Ok(certificate) => {
-            let accepted = check(alloc, routes, &certificate)?;
+            let accepted = match check(alloc, routes, &certificate) {
+                Ok(accepted) => accepted,
+                Err(fault) => return Err(refused(fault)),
+            };
             // The routes are covered, and the pairs are those of a certificate.
             let _ = accepted.routes();
             let _ = certificate.pairs();
@@ -117,13 +133,15 @@ pub fn judge_input<R: Read>(alloc: Global, reader: &mut R) -> Result<Judgement, 
 }
 
 /// The verdict on routes, by the certificate that the text says.
-fn verdict_by(alloc: Global, routes: Routes, text: &[u8]) -> Result<Told, RunFault>
-    ensures told { IfOk result (λ told. IsVerdictBy routes text.now told.verdict told.text.items) }
+fn verdict_by(alloc: Global, routes: Routes, text: &[u8]) -> Result<Output, RunFault>
+    ensures output { IfOk result (λ output. IsVerdictBy routes text.now output.verdict output.text.items) }
     ensures fault { IfErr result (λ fault. IsRefusedBy routes text.now fault) }
 {
     let certificate = read_certificate(alloc, text)?;
-    let accepted = check(alloc, routes, &certificate)?;
-    Ok(covered(alloc, &accepted, &certificate)?)
+    match check(alloc, routes, &certificate) {
+        Ok(accepted) => Ok(covered(alloc, &accepted, &certificate)?),
+        Err(fault) => Err(refused(fault)),
+    }
 }
 
 /// That a certificate covers routes. Only what the checker accepted is said to be covered.
@@ -131,17 +149,17 @@ fn covered(
     alloc: Global,
     accepted: &Accepted,
     certificate: &Certificate,
-) -> Result<Told, AllocError>
+) -> Result<Output, AllocError>
     ensures covered { AreCovered accepted.now }
     ensures certificate { IsCertificate certificate.now }
-    ensures verdict { IfOk result (λ told. told.verdict ≡ Verdict.Covered (length certificate.now)) }
-    ensures text { IfOk result (λ told. told.text.items ≡ covered_line (length certificate.now)) }
+    ensures verdict { IfOk result (λ output. output.verdict ≡ Verdict.Covered (length certificate.now)) }
+    ensures text { IfOk result (λ output. output.text.items ≡ covered_line (length certificate.now)) }
 {
     // The routes are covered, and the pairs are those of a certificate.
     let _ = accepted.routes();
     let _ = certificate.pairs();
     let pairs = certificate.len();
-    Ok(Told {
+    Ok(Output {
         verdict: Verdict::Covered(pairs as u64),
         text: covered_line(alloc, pairs)?,
     })
@@ -152,16 +170,16 @@ fn covered_with(
     alloc: Global,
     accepted: &Accepted,
     certificate: &Certificate,
-) -> Result<Told, AllocError>
+) -> Result<Output, AllocError>
     ensures covered { AreCovered accepted.now }
     ensures certificate { IsCertificate certificate.now }
-    ensures verdict { IfOk result (λ told. told.verdict ≡ Verdict.Covered (length certificate.now)) }
-    ensures text { IfOk result (λ told. told.text.items ≡ covered_line (length certificate.now) ++ certificate_text certificate.now) }
+    ensures verdict { IfOk result (λ output. output.verdict ≡ Verdict.Covered (length certificate.now)) }
+    ensures text { IfOk result (λ output. output.text.items ≡ covered_line (length certificate.now) ++ certificate_text certificate.now) }
 {
-    let mut told = covered(alloc, accepted, certificate)?;
+    let mut output = covered(alloc, accepted, certificate)?;
     let text = certificate.text(alloc)?;
-    told.text.extend_from_slice(text.as_slice())?;
-    Ok(told)
+    output.text.extend_from_slice(text.as_slice())?;
+    Ok(output)
 }
 
 /// What shows that a delete can be lost.
@@ -169,7 +187,7 @@ fn lost(alloc: Global, routes: &Routes, finding: &Finding) -> Result<Judgement, 
     requires uncovered { ¬ AreCovered routes.now }
     requires known { finding.now.server.0 < length routes.now.servers }
     requires first { IsFirstFinding routes.now (finding_of finding.now) }
-    requires told { IsTold routes.now (finding_of finding.now) }
+    requires shown { IsShown routes.now (finding_of finding.now) }
     ensures { IfOk result (IsJudgement routes.now) }
 {
     Ok(Judgement::Lost {

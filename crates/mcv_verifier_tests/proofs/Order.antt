@@ -1,4 +1,4 @@
--- The block of the tests stands in order.
+-- The block of the tests is in order.
 use Rattle.std.proofs.Common.{◌≡◌, ◌∙◌, ℕ, ◌<◌, List, [], ◌∷◌, length, ap, refl, arith}
 use Rattle.std.specs.Prelude.{All, AllPairs}
 use Rattle.std.specs.declared.cmp.Ordering.TheVariants.{Less}

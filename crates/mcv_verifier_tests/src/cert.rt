@@ -1,11 +1,11 @@
 //! Texts that are read, and texts at fault. In the tables `^` is a LF and `~` a CR.
 
 use mcv_base::Position;
-use mcv_cert::{Certificate, Pair, Reason, read_certificate};
+use mcv_cert::{CertFault, Certificate, Pair, Reason, read_certificate};
 use std::alloc::{AllocError, Global};
 use std::test::Fail;
 
-/// The bytes that a column stands for.
+/// The bytes of a column.
 fn unfolded(alloc: Global, column: &str) -> Result<Vec<u8>, AllocError> {
     let mut bytes = Vec::new(alloc);
     for byte in column.as_bytes() {
@@ -39,7 +39,7 @@ fn texts_are_read_and_written_again(rt: HostRuntime) -> Result<(), Fail> {
     Ok(())
 }
 
-/// Texts with the number of their fault and the line at which it stands.
+/// Texts with the number of their fault and the line of it.
 const REFUSED: &str = "|1 1
 mcv-cert 1|1 1
 mcv-cert 01^end^|1 1
@@ -69,7 +69,7 @@ mcv-cert 1^0 = 0 1 all 0^end^|1 2
 mcv-cert 1^0 = 0 1 some 0 1^end^|1 2";
 
 #[test]
-fn the_first_line_at_fault_is_told(rt: HostRuntime) -> Result<(), Fail> {
+fn the_first_line_at_fault_is_reported(rt: HostRuntime) -> Result<(), Fail> {
     let alloc = rt.alloc();
     for row in REFUSED.lines() {
         let Some((text, expected)) = row.split_once('|') else {
@@ -78,11 +78,12 @@ fn the_first_line_at_fault_is_told(rt: HostRuntime) -> Result<(), Fail> {
         let text = unfolded(alloc, text)?;
         match read_certificate(alloc, text.as_slice()) {
             Ok(_) => assert!(rt; false, "{row}"),
-            Err(fault) => {
+            Err(CertFault::Memory) => assert!(rt; false, "out of memory"),
+            Err(CertFault::Text(fault)) => {
                 let number = fault.number();
                 let line = fault.line();
-                let told = format!(in alloc; "{number} {line}")?;
-                assert!(rt; told.as_str() == expected, "{row}");
+                let reported = format!(in alloc; "{number} {line}")?;
+                assert!(rt; reported.as_str() == expected, "{row}");
             }
         }
     }

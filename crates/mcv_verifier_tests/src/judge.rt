@@ -11,8 +11,8 @@ use mcv_judge::{Block, Leg, judge};
 use std::alloc::{AllocError, Global};
 use std::test::Fail;
 
-/// The number of the first fault of a certificate, 0 where none stands in it.
-fn number_told<'a>(
+/// The number of the first fault of a certificate, 0 where there is none.
+fn number_reported<'a>(
     class: &'a [u8],
     readable: &'a [Leg<'a>],
     acknowledged: &'a [Leg<'a>],
@@ -36,7 +36,7 @@ fn number_told<'a>(
     }
 }
 
-/// What is told of the certificate with this text.
+/// What is reported of the certificate with this text.
 fn text_judged(alloc: Global, text: &[u8]) -> Result<u8, Fail> {
     let certificate = read_certificate(alloc, text)?;
     let leaf = Position::at(alloc, &[1])?;
@@ -75,7 +75,7 @@ fn text_judged(alloc: Global, text: &[u8]) -> Result<u8, Fail> {
             servers: &both,
         },
     ];
-    Ok(number_told(b"", &readable, &acknowledged, &certificate))
+    Ok(number_reported(b"", &readable, &acknowledged, &certificate))
 }
 
 /// The text of a certificate with the pairs of a row, each ended by a `^`.
@@ -110,7 +110,7 @@ const ROWS: &str = "0 = 0 1 all 0 0.0^0 = 0 1 all 1 0.1^|0
 0 = 0 1 never^|5";
 
 #[test]
-fn the_first_fault_is_told(rt: HostRuntime) -> Result<(), Fail> {
+fn the_first_fault_is_reported(rt: HostRuntime) -> Result<(), Fail> {
     let alloc = rt.alloc();
     for row in ROWS.lines() {
         let Some((pairs, expected)) = row.split_once('|') else {
@@ -118,8 +118,8 @@ fn the_first_fault_is_told(rt: HostRuntime) -> Result<(), Fail> {
         };
         let text = certificate_of(alloc, pairs)?;
         let number = text_judged(alloc, text.as_slice())?;
-        let told = format!(in alloc; "{number}")?;
-        assert!(rt; told.as_str() == expected, "{row}");
+        let reported = format!(in alloc; "{number}")?;
+        assert!(rt; reported.as_str() == expected, "{row}");
     }
     Ok(())
 }

@@ -7,7 +7,7 @@ use mcv_picks::Picks;
 use std::alloc::{AllocError, Global};
 use std::test::Fail;
 
-/// Adds where the leg stands.
+/// Adds where the leg is.
 fn push_leg(text: &mut Vec<u8>, leg: Option<&Leg>) -> Result<(), AllocError> {
     match leg {
         Some(leg) => leg.position.push_text(text)?,

@@ -20,13 +20,13 @@ use Rattle.mcv_classes.proofs.Order.{before-through}
 use Rattle.mcv_classes.specs.Class.{IsBefore, IsClassWord}
 use Rattle.mcv_classes.specs.Words.{class_words}
 use Rattle.mcv_pools.specs.Symbol.{SymbolValue}
-use Rattle.mcv_route.proofs.Ways.{lent-at}
+use Rattle.mcv_route.proofs.Ways.{borrowed-at}
 use Rattle.mcv_route.specs.Outcomes.{History, IsChoice}
 use Rattle.mcv_route.specs.Places.{leaf_in, pool_at_position, route_of_prefix}
 use Rattle.mcv_route.specs.Routes.{RouteEntry, RoutesValue}
 use Rattle.mcv_route.specs.Tree.{Pool, Tree}
 use Rattle.mcv_symbolic.specs.Covered.{sizes_of}
-use Rattle.mcv_witness.specs.Breaks.{AreRising, BreaksCoverage, IsLeafOf, IsMissed, IsRead, StandsAt, chosen}
+use Rattle.mcv_witness.specs.Breaks.{AreRising, BreaksCoverage, IsLeafOf, IsMissed, IsRead, IsAtPlace, chosen}
 use Rattle.mcv_witness.specs.Confirm.{IsNowhere, are_rising, has_indexes, hit_seen, missed_seen, rising_from}
 use Rattle.mcv_witness.specs.Finding.{FindingValue}
 use Rattle.mcv_witness.proofs.Confirmed.{missed_left, missed_right, missed_walk, one_place, read_left, read_right, read_walk}
@@ -38,35 +38,35 @@ use Rattle.mcv_witness.proofs.Regions.{Rises}
 
 module _ (r : RoutesValue) (f : FindingValue) where
   pub nowhere : IsNowhere r f → IsTrue false ↔ BreaksCoverage r f
-  nowhere none = (λ e. absurd (false≢true e), λ b. absurd (none b.tree b.rest b.since b.stands))
+  nowhere none = (λ e. absurd (false≢true e), λ b. absurd (none b.tree b.rest b.since b.placed))
 
-  module _ (t : Tree) (rest : List ℕ) (since : Option ℕ) (stands : StandsAt r f t rest since) where
+  module _ (t : Tree) (rest : List ℕ) (since : Option ℕ) (placed : IsAtPlace r f t rest since) where
     its_leaf : BreaksCoverage r f → IsLeafOf f t
-    its_leaf b = subst (IsLeafOf f) (one_place r f b.tree t b.rest rest b.since since b.stands stands).0 b.leaf
+    its_leaf b = subst (IsLeafOf f) (one_place r f b.tree t b.rest rest b.since since b.placed placed).0 b.leaf
 
     its_read : BreaksCoverage r f → IsRead f t rest since
     its_read b =
-        let same = one_place r f b.tree t b.rest rest b.since since b.stands stands in
+        let same = one_place r f b.tree t b.rest rest b.since since b.placed placed in
         subst (λ x. IsRead f x rest since) same.0 (subst (λ x. IsRead f b.tree x since) same.1 (subst (IsRead f b.tree b.rest) same.2 b.read))
 
     its_missed : BreaksCoverage r f → IsMissed f t rest since
     its_missed b =
-        let same = one_place r f b.tree t b.rest rest b.since since b.stands stands in
+        let same = one_place r f b.tree t b.rest rest b.since since b.placed placed in
         subst (λ x. IsMissed f x rest since) same.0 (subst (λ x. IsMissed f b.tree x since) same.1 (subst (IsMissed f b.tree b.rest) same.2 b.missed))
 
     pub no_choice : (IsChoice (sizes_of r) (chosen f) → ⊥) → IsTrue false ↔ BreaksCoverage r f
     no_choice none = (λ e. absurd (false≢true e), λ b. absurd (none b.choice))
 
     pub no_leaf : (b : Bool) → b ≡ false → IsTrue b ↔ IsLeafOf f t → IsTrue false ↔ BreaksCoverage r f
-    no_leaf b e tells = (λ g. absurd (false≢true g), λ breaks. absurd (false≢true (sym e ∙ tells.1 (its_leaf breaks))))
+    no_leaf b e decides = (λ g. absurd (false≢true g), λ breaks. absurd (false≢true (sym e ∙ decides.1 (its_leaf breaks))))
 
     pub not_read : (b : Bool) → b ≡ false → IsTrue b ↔ IsRead f t rest since → IsTrue false ↔ BreaksCoverage r f
-    not_read b e tells = (λ g. absurd (false≢true g), λ breaks. absurd (false≢true (sym e ∙ tells.1 (its_read breaks))))
+    not_read b e decides = (λ g. absurd (false≢true g), λ breaks. absurd (false≢true (sym e ∙ decides.1 (its_read breaks))))
 
     pub all_but_missed : IsChoice (sizes_of r) (chosen f) → IsLeafOf f t → IsRead f t rest since → (b : Bool) → IsTrue b ↔ IsMissed f t rest since → IsTrue b ↔ BreaksCoverage r f
-    all_but_missed choice leaf read b tells = (
-      λ e. record { tree = t; rest = rest; since = since; stands = stands; choice = choice; leaf = leaf; read = read; missed = tells.0 e },
-      λ breaks. tells.1 (its_missed breaks),
+    all_but_missed choice leaf read b decides = (
+      λ e. record { tree = t; rest = rest; since = since; placed = placed; choice = choice; leaf = leaf; read = read; missed = decides.0 e },
+      λ breaks. decides.1 (its_missed breaks),
     )
 
 -- ---- choices
@@ -158,27 +158,27 @@ leaf-in entries n p t e = by (slice_get entries n) e
     by (Some x) g = ap (λ u. pool_at_position u p) (same_Some x.tree t g)
 
 module _ (r : RoutesValue) (f : FindingValue) (t : Tree) (is : option_map (λ e. e.tree) (slice_get r.entries f.route) ≡ Some t) where
-  stands-in : (p : Pool) → Some p ≡ leaf_in r f.route f.leaf → pool_at_position t f.leaf ≡ Some p
-  stands-in p e = sym (leaf-in r.entries f.route f.leaf t is) ∙ sym e
+  pool-in : (p : Pool) → Some p ≡ leaf_in r f.route f.leaf → pool_at_position t f.leaf ≡ Some p
+  pool-in p e = sym (leaf-in r.entries f.route f.leaf t is) ∙ sym e
 
   pub no_pool : None ≡ leaf_in r f.route f.leaf → IsTrue false ↔ IsLeafOf f t
-  no_pool e = (λ g. absurd (false≢true g), λ h. absurd (none-some h.pool (e ∙ leaf-in r.entries f.route f.leaf t is ∙ h.stands)))
+  no_pool e = (λ g. absurd (false≢true g), λ h. absurd (none-some h.pool (e ∙ leaf-in r.entries f.route f.leaf t is ∙ h.pool_there)))
 
   pub other_index : (p : Pool) → Some p ≡ leaf_in r f.route f.leaf → chosen f p.symbol ≢ f.at → IsTrue false ↔ IsLeafOf f t
   other_index p e other =
-      (λ g. absurd (false≢true g), λ h. absurd (other (ap (λ q. chosen f q.symbol) (same_Some p h.pool (sym (stands-in p e) ∙ h.stands)) ∙ h.index)))
+      (λ g. absurd (false≢true g), λ h. absurd (other (ap (λ q. chosen f q.symbol) (same_Some p h.pool (sym (pool-in p e) ∙ h.pool_there)) ∙ h.index)))
 
   pub at_leaf : (p : Pool) (b : Bool) → Some p ≡ leaf_in r f.route f.leaf → chosen f p.symbol ≡ f.at → IsTrue b ↔ (slice_get p.servers f.at ≡ Some f.server) → IsTrue b ↔ IsLeafOf f t
-  at_leaf p b e index tells = (
-    λ g. record { pool = p; stands = stands-in p e; index = index; server = tells.0 g },
-    λ h. tells.1 (ap (λ q. slice_get q.servers f.at) (same_Some p h.pool (sym (stands-in p e) ∙ h.stands)) ∙ h.server),
+  at_leaf p b e index decides = (
+    λ g. record { pool = p; pool_there = pool-in p e; index = index; server = decides.0 g },
+    λ h. decides.1 (ap (λ q. slice_get q.servers f.at) (same_Some p h.pool (sym (pool-in p e) ∙ h.pool_there)) ∙ h.server),
   )
 
 -- ---- a server in a list
 
 module _ (servers : List ServerId) (at x : ℕ) (got : Option (Bor ServerId)) (item : IsItemAt servers at got) where
   numbered : option_map (λ (s : Bor ServerId). s.now.0) got ≡ slice_get (map (λ (s : ServerId). s.0) servers) at
-  numbered = lent-at (λ (s : ServerId). s.0) servers at got item ∙ sym (slice_get-map (λ (s : ServerId). s.0) servers at)
+  numbered = borrowed-at (λ (s : ServerId). s.0) servers at got item ∙ sym (slice_get-map (λ (s : ServerId). s.0) servers at)
 
   pub item_there : (found : Bor ServerId) → got ≡ Some found → IsTrue (found.now.0 == x) ↔ (slice_get (map (λ s. s.0) servers) at ≡ Some x)
   item_there found is =
@@ -216,7 +216,7 @@ module _ (r : RoutesValue) (f : FindingValue) where
   faulty_key fault h t rest since s = no-key f.key fault s.prefix rest h s.word s.cut s.rest_is
 
   module _ (routed more : List ℕ) (cut : IsCut f.key routed more) where
-    selects : (t : Tree) (rest : List ℕ) (since : Option ℕ) → StandsAt r f t rest since → route_of_prefix routed r.entries ≡ Some f.route
+    selects : (t : Tree) (rest : List ℕ) (since : Option ℕ) → IsAtPlace r f t rest since → route_of_prefix routed r.entries ≡ Some f.route
     selects t rest since s = ap (λ p. route_of_prefix p r.entries) (one_reading f.key routed more s.prefix rest cut s.cut).0 ∙ s.selects
 
     pub no_route : None ≡ route_of_prefix routed r.entries → IsNowhere r f
@@ -226,10 +226,10 @@ module _ (r : RoutesValue) (f : FindingValue) where
     other_route n e other t rest since s = other (same_Some n f.route (e ∙ selects t rest since s))
 
     pub other_class : (u : Tree) (b : Bool) → Some u ≡ option_map (λ e. e.tree) (slice_get r.entries f.route) → b ≡ false → IsTrue b ↔ IsClassWord (class_words u) more f.class → IsNowhere r f
-    other_class u b e bad tells t rest since s =
+    other_class u b e bad decides t rest since s =
         let tree : t ≡ u = same_Some t u (sym s.route ∙ sym e) in
         let same : rest ≡ more = sym (one_reading f.key routed more s.prefix rest cut s.cut).1 in
-        false≢true (sym bad ∙ tells.1 (subst (λ x. IsClassWord (class_words x) more f.class) tree (subst (λ x. IsClassWord (class_words t) x f.class) same s.class)))
+        false≢true (sym bad ∙ decides.1 (subst (λ x. IsClassWord (class_words x) more f.class) tree (subst (λ x. IsClassWord (class_words t) x f.class) same s.class)))
 
   pub no_tree : None ≡ option_map (λ e. e.tree) (slice_get r.entries f.route) → IsNowhere r f
   no_tree e t rest since s = none-some t (e ∙ s.route)
@@ -238,7 +238,7 @@ module _ (r : RoutesValue) (f : FindingValue) where
   no_era none t rest since s = none (since, s.era)
 
   pub found_at : (routed more : List ℕ) (t : Tree) (since : Option ℕ) (n : ℕ) → is_key_word f.key ≡ true → IsCut f.key routed more → IsRest more → Some n ≡ route_of_prefix routed r.entries → n ≡ f.route
-      → Some t ≡ option_map (λ e. e.tree) (slice_get r.entries n) → IsClassWord (class_words t) more f.class → IsEraOf r f.era since → StandsAt r f t more since
+      → Some t ≡ option_map (λ e. e.tree) (slice_get r.entries n) → IsClassWord (class_words t) more f.class → IsEraOf r f.era since → IsAtPlace r f t more since
   found_at routed more t since n word cut rest selects same tree class era = record {
     prefix = routed;
     route = ap (λ k. option_map (λ e. e.tree) (slice_get r.entries k)) (sym same) ∙ sym tree;

@@ -69,7 +69,7 @@ warm_up_breaks = record {
   tree = tree;
   rest = rest;
   since = None;
-  stands = record {
+  placed = record {
     prefix = codes "/././";
     route = refl;
     word = refl;
@@ -84,7 +84,7 @@ warm_up_breaks = record {
     era = refl;
   };
   choice = choice_is;
-  leaf = record { pool = record { symbol = 0; servers = 1 ∷ [] }; stands = refl; index = refl; server = refl };
+  leaf = record { pool = record { symbol = 0; servers = 1 ∷ [] }; pool_there = refl; index = refl; server = refl };
   read = record {
     reading = refl;
     rising = AllPairs-cons IsBefore (0 ∷ []) ((1 ∷ []) ∷ []) (All-cons (IsBefore (0 ∷ [])) (1 ∷ []) [] refl (All-nil (IsBefore (0 ∷ []))))

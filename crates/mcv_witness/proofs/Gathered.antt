@@ -20,7 +20,7 @@ use Rattle.mcv_witness.proofs.Each.{Each, each_append, each_map}
 use Rattle.mcv_witness.proofs.Regions
 use Rattle.mcv_witness.proofs.Regions.{At, Below, Fits, From, at_below, below_apart, behind_from, fits_below, fits_past, front_below, parts}
 use Rattle.mcv_witness.proofs.Spread.{AllBelow, AllFrom, EachFrom, launched_below, launched_from}
-use Rattle.mcv_witness.proofs.Tests.{Avoids, after, fold_stops, join_answers, legs_after, not_sent, nothing_after, reaches, sent_at, step_after, told, told_join}
+use Rattle.mcv_witness.proofs.Tests.{Avoids, after, fold_stops, join_answers, legs_after, not_sent, nothing_after, reaches, sent_at, step_after, seen_reply, reply_of_join}
 
 -- ---- outcomes by parts
 
@@ -56,7 +56,7 @@ agrees_from base n es o h q f = h q (Regions.from_at base n q f)
 
 -- ---- the front and what is behind it, of any depth that fits
 
--- what stands in front is below the child
+-- what is in front is below the child
 pub own_below : (base : List ℕ) (n d : ℕ) (es : History) → Fits base (record { legs = es; depth = d }) → Each (λ e. Below base n e.0) (front d n es)
 own_below base n d [] h = tt
 own_below base n d (e ∷ es) h = subst (λ i. Each (λ x. Below base n x.0) (front i n (e ∷ es))) (sym h.deep) (front_below base n (e ∷ es) h.at)
@@ -97,7 +97,7 @@ moved base s = record s { position = base }
 pub legs_after_from : (leaf : List ℕ) (how : Join) (base : List ℕ) (n : ℕ) (r : List Answer) (rs : List (List Answer)) (lss : List (List Launch)) → EachFrom base n lss → AllFrom base n (legs_after leaf how r rs lss)
 legs_after_from leaf how base n r [] lss h = tt
 legs_after_from leaf how base n r (q ∷ rs) [] h = tt
-legs_after_from leaf how base n r (q ∷ rs) (ls ∷ lss) h = by_test (goes_on how (told leaf r)) (legs_after_from leaf how base n (join_answers how r q) rs lss h.1)
+legs_after_from leaf how base n r (q ∷ rs) (ls ∷ lss) h = by_test (goes_on how (seen_reply leaf r)) (legs_after_from leaf how base n (join_answers how r q) rs lss h.1)
   where
     by_test : (b : Bool) → AllFrom base n (legs_after leaf how (join_answers how r q) rs lss) → AllFrom base n (cond b (ls ++ legs_after leaf how (join_answers how r q) rs lss) [])
     by_test true g = each_append (λ l. From base n l.position) ls (legs_after leaf how (join_answers how r q) rs lss) h.0 g
@@ -116,7 +116,7 @@ module _ (leaf : List ℕ) (server : ℕ) (c : Choice) where
   -- one child, and then what follows
   pub child_after : (t : Tree) → IsRight t → (base : List ℕ) (n d : ℕ) (es : History) (o : Outcomes) (s : Situation) (K : Seen → Option Seen) (b : Bool) (zs : List Answer) (ms : List Launch) →
       Fits base (record { legs = es; depth = d }) → Each (λ e. From base n e.0) es → AgreesFrom base n es o → AllFrom base (suc n) ms →
-      K (record { reply = told leaf (replies t (under n (moved base s)) o); sent = reaches server (launched t (under n (moved base s)) c o) })
+      K (record { reply = seen_reply leaf (replies t (under n (moved base s)) o); sent = reaches server (launched t (under n (moved base s)) c o) })
       ≡ after leaf server (b || reaches server (launched t (under n (moved base s)) c o)) (behind d n es) zs ms →
       option_and_then K (pass leaf server c t s (below (record { legs = es; depth = d }) n)) ≡ after leaf server b es zs (launched t (under n (moved base s)) c o ++ ms)
   child_after t right base n d es o s K b zs ms fits from agrees spread others =
@@ -131,11 +131,11 @@ module _ (leaf : List ℕ) (server : ℕ) (c : Choice) where
 
   pub gather_right : (how : Join) (ts : Trees) → AreRight ts → (base : List ℕ) (n d : ℕ) (es : History) (o : Outcomes) (s : Situation) (r : List Answer) (b : Bool) →
       Fits base (record { legs = es; depth = d }) → Each (λ e. From base n e.0) es → AgreesFrom base n es o →
-      gather how n (pass_each leaf server c ts s) (record { reply = told leaf r; sent = b }) (record { legs = es; depth = d })
+      gather how n (pass_each leaf server c ts s) (record { reply = seen_reply leaf r; sent = b }) (record { legs = es; depth = d })
       ≡ after leaf server b es (fold (join_answers how) r (replies_each n ts (moved base s) o)) (legs_after leaf how r (replies_each n ts (moved base s) o) (launched_each n ts (moved base s) c o))
   gather_right how none right base n d es o s r b fits from agrees = nothing_after leaf server b es r
   gather_right how (child t ts) right base n d es o s r b fits from agrees =
-      by_test (goes_on how (told leaf r)) refl
+      by_test (goes_on how (seen_reply leaf r)) refl
       (λ b2. gather_right how ts right.1 base (suc n) d (behind d n es) o s (join_answers how r q) b2 (fits_past base n d es fits) (others_from base n d es fits from) (agrees_past base n d es o fits from agrees))
     where
       q : List Answer
@@ -151,20 +151,20 @@ module _ (leaf : List ℕ) (server : ℕ) (c : Choice) where
       ms = legs_after leaf how (join_answers how r q) rs (launched_each (suc n) ts (moved base s) c o)
 
       first : Seen
-      first = record { reply = told leaf r; sent = b }
+      first = record { reply = seen_reply leaf r; sent = b }
 
       K : Seen → Option Seen
       K y = gather how (suc n) (pass_each leaf server c ts s) (joined_seen how first y) (past (record { legs = es; depth = d }) n)
 
-      by_test : (g : Bool) → goes_on how (told leaf r) ≡ g →
-          ((b2 : Bool) → gather how (suc n) (pass_each leaf server c ts s) (record { reply = told leaf (join_answers how r q); sent = b2 }) (record { legs = behind d n es; depth = d }) ≡ after leaf server b2 (behind d n es) (fold (join_answers how) (join_answers how r q) rs) ms) →
+      by_test : (g : Bool) → goes_on how (seen_reply leaf r) ≡ g →
+          ((b2 : Bool) → gather how (suc n) (pass_each leaf server c ts s) (record { reply = seen_reply leaf (join_answers how r q); sent = b2 }) (record { legs = behind d n es; depth = d }) ≡ after leaf server b2 (behind d n es) (fold (join_answers how) (join_answers how r q) rs) ms) →
           cond g (option_and_then K (pass leaf server c t s (below (record { legs = es; depth = d }) n))) (finish first es)
           ≡ after leaf server b es (fold (join_answers how) (join_answers how r q) rs) (cond g (ls ++ ms) [])
       by_test false e ih = nothing_after leaf server b es r ∙ ap (λ x. after leaf server b es x []) (sym (fold_stops leaf how r (q ∷ rs) e))
       by_test true e ih =
           child_after t right.0 base n d es o s K b (fold (join_answers how) (join_answers how r q) rs) ms fits from agrees
           (legs_after_from leaf how base (suc n) (join_answers how r q) rs (launched_each (suc n) ts (moved base s) c o) (launched_from c o (suc n) ts (moved base s)))
-          (ap (λ x. gather how (suc n) (pass_each leaf server c ts s) (record { reply = x; sent = b || reaches server ls }) (record { legs = behind d n es; depth = d })) (sym (told_join leaf how r q e))
+          (ap (λ x. gather how (suc n) (pass_each leaf server c ts s) (record { reply = x; sent = b || reaches server ls }) (record { legs = behind d n es; depth = d })) (sym (reply_of_join leaf how r q e))
           ∙ ih (b || reaches server ls))
 
   -- ---- what the legs after a first child are

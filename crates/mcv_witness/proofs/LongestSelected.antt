@@ -1,4 +1,4 @@
--- The longest policy prefix of a selector: of its own prefixes, of its policies, and of what stands after them.
+-- The longest policy prefix of a selector: of its own prefixes, of its policies, and of what comes after them.
 use Rattle.std.proofs.Common.{◌≡◌, ℕ, List, [], ◌∷◌, ◌++◌, map, Vec, Box, Global, Option, refl, sym, ap, ap₂, ◌∙◌}
 use Rattle.mcv_route.proofs.Views.{view-OperationSelector, view-PrefixSelector}
 use Rattle.mcv_route.specs.Tree.{Tree}

@@ -77,7 +77,7 @@ can_hit f t rest since leaf read =
     let k = (hit_is_planned t s o f.leaf).0 read.hit in
     let sends = hit_sent (plan t s) c o k.0 k.1 in
     let own = legs_are_of_pools t f.op rest since c o (launch_of c k.0) (sends_has t s c o (λ m. m ≡ launch_of c k.0) k.0 sends refl) in
-    let same = same_Some own.0 leaf.pool (sym own.1 ∙ ap (pool_at_position t) k.2 ∙ leaf.stands) in
+    let same = same_Some own.0 leaf.pool (sym own.1 ∙ ap (pool_at_position t) k.2 ∙ leaf.pool_there) in
     let at : server c k.0 ≡ f.server = own.2 ∙ ap (λ p. slice_index p.servers (c p.symbol)) same ∙ ap (λ i. slice_index leaf.pool.servers i) leaf.index ∙ got leaf.pool.servers f.at f.server leaf.server in
     (o, read.reachable, sends_has t s c o (λ l. (l.server.0 ≡ f.server) × IsHit t s o l.position) k.0 sends (at, subst (λ q. IsHit t s o q) (sym k.2) read.hit))
 
@@ -97,7 +97,7 @@ readable Touch t rest since c x e h = absurd (false≢true e)
 
 pub findings_are_losses : FindingsAreLosses
 findings_are_losses r f b covered =
-    let e = entry_at r.entries f.route b.tree b.stands.route in
-    let here = subst (λ u. IsCovered (sizes_of r) u b.rest b.since) e.2 (covered e.0 b.rest b.since e.1 b.stands.rest_is (era_there r f.era b.since b.stands.era)) in
+    let e = entry_at r.entries f.route b.tree b.placed.route in
+    let here = subst (λ u. IsCovered (sizes_of r) u b.rest b.since) e.2 (covered e.0 b.rest b.since e.1 b.placed.rest_is (era_there r f.era b.since b.placed.era)) in
     b.missed.unsent (here (chosen f) (outcomes f.deletes) b.choice b.missed.reachable b.missed.done f.server
     (readable f.op b.tree b.rest b.since (chosen f) f.server b.read.reading (can_hit f b.tree b.rest b.since b.leaf b.read)))

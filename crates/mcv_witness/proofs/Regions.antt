@@ -154,7 +154,7 @@ front_below base n (e ∷ es) h = by_test (is_below (length base) n e.0) refl (f
     by_test true t g = (test_below base n e.0 h.0 t, g)
     by_test false t g = tt
 
--- behind the front of child n stand those of later children
+-- behind the front of child n come those of later children
 pub behind_from : (base : List ℕ) (n : ℕ) (es : History) → Rises es → Each (λ e. From base n e.0) es → Each (λ e. From base (suc n) e.0) (behind (length base) n es)
 behind_from base n [] r h = tt
 behind_from base n (e ∷ es) r h = by_test (is_below (length base) n e.0) refl (behind_from base n es r.1 h.1)

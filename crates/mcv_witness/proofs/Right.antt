@@ -17,7 +17,7 @@ use Rattle.mcv_route.specs.Situation.{Situation, adding, asynchronous, shadowed,
 use Rattle.mcv_route.specs.Tree.{Pool, Range, Tree, Trees, pool, null, error, all_sync, all_initial, all_async, failover, miss_failover, warm_up, migrate, prefix_selector, operation_selector, none, child}
 use Rattle.mcv_route.specs.declared.launch.Launch.{Launch}
 use Rattle.mcv_rules.proofs.Orders.{same_is, same_self}
-use Rattle.mcv_witness.specs.Walk.{Known, Pass, at_once, behind, below, filled, finish, front, gather, gather_all, goes_on, if_empty, is_below, is_told, joined_seen, only, only_nth, pass, pass_each, past, shade, warmed}
+use Rattle.mcv_witness.specs.Walk.{Known, Pass, at_once, behind, below, filled, finish, front, gather, gather_all, goes_on, if_empty, is_below, reply_passes, joined_seen, only, only_nth, pass, pass_each, past, shade, warmed}
 use Rattle.mcv_witness.specs.declared.seen.Join.{Join}
 use Rattle.mcv_witness.specs.declared.seen.Join.TheVariants.{Both, Beside, OnError, OnMiss}
 use Rattle.mcv_witness.specs.declared.seen.Seen.{Seen}
@@ -25,7 +25,7 @@ use Rattle.mcv_witness.proofs.Each.{Each, each_append, each_both, each_map}
 use Rattle.mcv_witness.proofs.Gathered.{Agrees, AgreesFrom, AreRight, IsRight, agrees_from, agrees_past, beside_after, beside_replies, both_after, child_after, error_after, gather_right, known_none, legs_after_from, miss_after, moved, others_from}
 use Rattle.mcv_witness.proofs.Regions.{At, Below, Fits, From, IsDeep, Rises, after_from, at_below, below_apart, below_from, below_one, below_test, deep_any, fits_below, fits_past, from_at, from_later, numbers_rise, own_apart, own_test, parts, test_below}
 use Rattle.mcv_witness.proofs.Spread.{AllFrom, below_all, holding_each, joined_each, later_all, once_each, launched_below, launched_from}
-use Rattle.mcv_witness.proofs.Tests.{Avoids, after, all_append, all_sent, join_answers, legs_after, not_sent, nothing_after, or_false, reaches, sent_at, step_after, stray_after, told}
+use Rattle.mcv_witness.proofs.Tests.{Avoids, after, all_append, all_sent, join_answers, legs_after, not_sent, nothing_after, or_false, reaches, sent_at, step_after, stray_after, seen_reply}
 
 -- ---- an outcome that is no child's
 
@@ -83,7 +83,7 @@ shade_stray index (r ∷ rs) (f ∷ fs) n d x e es h =
     by_test true g i = g
     by_test false g i = i
 
--- behind the front of a child stands no outcome below it
+-- behind the front of a child is no outcome below it
 behind_head : (d n : ℕ) (es : History) (e : List ℕ × Outcome) (more : History) → behind d n es ≡ e ∷ more → is_below d n e.0 ≡ false
 behind_head d n [] e more is = absurd (let g : ◌≡◌ {A = History} [] (e ∷ more) = is in cc)
 behind_head d n (f ∷ es) e more is = by_test (is_below d n f.0) refl is (λ g. behind_head d n es e more g)
@@ -187,7 +187,7 @@ module _ (leaf : List ℕ) (server : ℕ) (c : Choice) where
           ∙ all_append ls (front d n es) (e ∷ more)
           ∙ ap (λ b. all_sent ls (front d n es) && (b && all_sent ls more)) apart
           ∙ all_false (all_sent ls (front d n es)) in
-          sym (ap (λ b. cond b (Some (record { reply = told leaf q; sent = reaches server ls })) None) split)
+          sym (ap (λ b. cond b (Some (record { reply = seen_reply leaf q; sent = reaches server ls })) None) split)
 
   nth_right : (ts : Trees) → AreRight leaf server c ts → (n m j : ℕ) → n ≡ m + j → (base : List ℕ) (d : ℕ) (es : History) (o : Outcomes) (s : Situation) →
       Fits base (record { legs = es; depth = d }) → Agrees base es o →
@@ -225,7 +225,7 @@ module _ (leaf : List ℕ) (server : ℕ) (c : Choice) where
 
   shade_right : (index : ℕ) (ranges : List Range) (ts : Trees) → AreRight leaf server c ts → (base : List ℕ) (n d : ℕ) (es : History) (o : Outcomes) (s : Situation) (r : List Answer) (b : Bool) →
       Fits base (record { legs = es; depth = d }) → Each (λ e. From base n e.0) es → AgreesFrom base n es o →
-      shade index n ranges (pass_each leaf server c ts s) (record { reply = told leaf r; sent = b }) (record { legs = es; depth = d })
+      shade index n ranges (pass_each leaf server c ts s) (record { reply = seen_reply leaf r; sent = b }) (record { legs = es; depth = d })
       ≡ after leaf server b es r (of_those_holding index ranges (launched_each n ts (moved base s) c o))
   shade_right index [] ts rights base n d es o s r b fits from agrees = nothing_after leaf server b es r
   shade_right index (range ∷ ranges) none rights base n d es o s r b fits from agrees = nothing_after leaf server b es r
@@ -244,7 +244,7 @@ module _ (leaf : List ℕ) (server : ℕ) (c : Choice) where
       spread = holding_each (λ l. From base (suc n) l.position) index ranges (launched_each (suc n) ts (moved base s) c o) (launched_from c o (suc n) ts (moved base s))
 
       first : Seen
-      first = record { reply = told leaf r; sent = b }
+      first = record { reply = seen_reply leaf r; sent = b }
 
       K : Seen → Option Seen
       K y = shade index (suc n) ranges (pass_each leaf server c ts s) (joined_seen Beside first y) (past (record { legs = es; depth = d }) n)
@@ -262,7 +262,7 @@ module _ (leaf : List ℕ) (server : ℕ) (c : Choice) where
           ]
 
       by_test : (g : Bool) →
-          ((b2 : Bool) → shade index (suc n) ranges (pass_each leaf server c ts s) (record { reply = told leaf r; sent = b2 }) (record { legs = behind d n es; depth = d }) ≡ after leaf server b2 (behind d n es) r ms) →
+          ((b2 : Bool) → shade index (suc n) ranges (pass_each leaf server c ts s) (record { reply = seen_reply leaf r; sent = b2 }) (record { legs = behind d n es; depth = d }) ≡ after leaf server b2 (behind d n es) r ms) →
           ((later : Each (λ e. From base (suc n) e.0) es) → shade index (suc n) ranges (pass_each leaf server c ts s) first (record { legs = es; depth = d }) ≡ after leaf server b es r ms) →
           cond g (option_and_then K (pass leaf server c t s (below (record { legs = es; depth = d }) n))) (shade index (suc n) ranges (pass_each leaf server c ts s) first (record { legs = es; depth = d }))
           ≡ after leaf server b es r (cond g ls [] ++ ms)
@@ -345,8 +345,8 @@ module _ (leaf : List ℕ) (server : ℕ) (c : Choice) (p : Pool) (ranges : List
       let mine : sent_at e.0 (launch ∷ []) ≡ true = or_false (is_same base e.0) ∙ ap (λ q. is_same base q) is ∙ same_self base in
       let past_fits : Fits base (record { legs = es; depth = d }) = record { at = f.at.1; deep = deep_any base d es f.deep; rises = f.rises.1 } in
       step_after leaf server (λ y. shades (record { reply = Some (record { outcome = e.1; is_hit = is_good e.1 && bytes_eq e.0 leaf }); sent = y.sent }) es)
-      (Some (record { reply = told leaf (answer ∷ []); sent = counted })) false (e ∷ []) es (answer ∷ []) (answer ∷ []) (launch ∷ []) shadow_legs
-      (ap₂ (λ b x. cond (b && true) (Some (record { reply = told leaf (answer ∷ []); sent = x })) None) (sym mine) (sym (or_false counted)))
+      (Some (record { reply = seen_reply leaf (answer ∷ []); sent = counted })) false (e ∷ []) es (answer ∷ []) (answer ∷ []) (launch ∷ []) shadow_legs
+      (ap₂ (λ b x. cond (b && true) (Some (record { reply = seen_reply leaf (answer ∷ []); sent = x })) None) (sym mine) (sym (or_false counted)))
       (ap (λ h. shades (record { reply = Some (record { outcome = e.1; is_hit = h }); sent = counted || false }) es) hit
       ∙ shade_right leaf server c (c p.symbol) ranges targets rights base 0 d es o (shadowed s) (answer ∷ []) (counted || false) past_fits from (past_agrees base e es o is a))
       (not_sent (From base 0) e.0 shadow_legs (λ g. not_at base e.0 is g) shadows_spread, tt) (own_avoids es from)
@@ -385,16 +385,16 @@ module _ (leaf : List ℕ) (server : ℕ) (c : Choice) (cold warm : Tree) (colds
   l2 = launched cold (under 2 (adding (moved base s))) c o
 
   fill_right : (es : History) (b : Bool) (r : List Answer) → Fits base (record { legs = es; depth = d }) → Each (λ e. From base 2 e.0) es → AgreesFrom base 2 es o →
-      filled (pass leaf server c cold (adding s)) (told leaf r) (record { reply = told leaf r; sent = b }) (record { legs = es; depth = d }) ≡ after leaf server b es r (once is_good r l2)
+      filled (pass leaf server c cold (adding s)) (seen_reply leaf r) (record { reply = seen_reply leaf r; sent = b }) (record { legs = es; depth = d }) ≡ after leaf server b es r (once is_good r l2)
   fill_right es b [] f from a = nothing_after leaf server b es []
   fill_right es b (x ∷ r) f from a =
       by_good (is_good x.outcome)
     where
       K : Seen → Option Seen
-      K z = finish (joined_seen Beside (record { reply = told leaf (x ∷ r); sent = b }) z) (behind d 2 es)
+      K z = finish (joined_seen Beside (record { reply = seen_reply leaf (x ∷ r); sent = b }) z) (behind d 2 es)
 
       by_good : (g : Bool) →
-          cond g (option_and_then K (pass leaf server c cold (adding s) (below (record { legs = es; depth = d }) 2))) (finish (record { reply = told leaf (x ∷ r); sent = b }) es)
+          cond g (option_and_then K (pass leaf server c cold (adding s) (below (record { legs = es; depth = d }) 2))) (finish (record { reply = seen_reply leaf (x ∷ r); sent = b }) es)
           ≡ after leaf server b es (x ∷ r) (cond g l2 [])
       by_good false = nothing_after leaf server b es (x ∷ r)
       by_good true =
@@ -430,7 +430,7 @@ module _ (leaf : List ℕ) (server : ℕ) (c : Choice) (cold warm : Tree) (colds
       else finish x k.legs
 
   cold_right : (es : History) (b : Bool) (r : List Answer) → Fits base (record { legs = es; depth = d }) → Each (λ e. From base 1 e.0) es → AgreesFrom base 1 es o →
-      after_cold (record { reply = told leaf r; sent = b }) (record { legs = es; depth = d }) ≡ after leaf server b es (or_after_miss r q1) (once is_missed r later_legs)
+      after_cold (record { reply = seen_reply leaf r; sent = b }) (record { legs = es; depth = d }) ≡ after leaf server b es (or_after_miss r q1) (once is_missed r later_legs)
   cold_right es b [] f from a = nothing_after leaf server b es []
   cold_right es b (x ∷ r) f from a = by_outcome x.outcome (warm_right es b f from a)
     where
@@ -439,14 +439,14 @@ module _ (leaf : List ℕ) (server : ℕ) (c : Choice) (cold warm : Tree) (colds
           ≡ after leaf server b es q1 later_legs →
           cond (is_missed y)
           (option_and_then (λ z. filled (pass leaf server c cold (adding s)) z.reply (record { reply = z.reply; sent = b || z.sent }) (past (record { legs = es; depth = d }) 1)) (pass leaf server c warm s (below (record { legs = es; depth = d }) 1)))
-          (finish (record { reply = told leaf (x ∷ r); sent = b }) es)
+          (finish (record { reply = seen_reply leaf (x ∷ r); sent = b }) es)
           ≡ after leaf server b es (cond (is_good y) (x ∷ r) q1) (cond (is_missed y) later_legs [])
       by_outcome Good h = nothing_after leaf server b es (x ∷ r)
       by_outcome Soft h = h
       by_outcome Error h = h
 
   fill_stray : (x : Seen) (r : _) (e : List ℕ × Outcome) (es : History) → is_below d 2 e.0 ≡ false → filled (pass leaf server c cold (adding s)) r x (record { legs = e ∷ es; depth = d }) ≡ None
-  fill_stray x r e es h = by_good (is_told is_good r)
+  fill_stray x r e es h = by_good (reply_passes is_good r)
     where
       K : Seen → Option Seen
       K z = finish (joined_seen Beside x z) (behind d 2 (e ∷ es))

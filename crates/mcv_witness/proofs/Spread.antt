@@ -1,4 +1,4 @@
--- All that a handle sends stands at its position or below it.
+-- All that a handle sends is at its position or below it.
 use Rattle.std.proofs.Common.{cond, ℕ, zero, suc, Bool, true, false, List, [], ◌∷◌, ◌++◌, sym, append-nil}
 use Rattle.mcv_base.specs.declared.reply.Outcome.{Outcome}
 use Rattle.mcv_base.specs.Operation.{is_reading}

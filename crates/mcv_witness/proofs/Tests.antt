@@ -6,16 +6,16 @@ use Rattle.std.proofs.lemmas.Bool.{false≢true}
 use Rattle.mcv_base.specs.declared.reply.Outcome.{Outcome}
 use Rattle.mcv_base.specs.declared.reply.Outcome.TheVariants.{Good, Soft, Error}
 use Rattle.mcv_base.specs.Operation.{is_counting}
-use Rattle.mcv_base.specs.Reply.{is_good, is_missed}
+use Rattle.mcv_base.specs.Reply.{is_good, is_missed, badness}
 use Rattle.mcv_route.specs.Outcomes.{History, is_same}
-use Rattle.mcv_route.specs.Replies.{Answer, Source, badness, fixed, leg, or_after_error, or_after_miss, refusal, the_worse}
+use Rattle.mcv_route.specs.Replies.{Answer, Source, fixed, leg, or_after_error, or_after_miss, refusal, the_worse}
 use Rattle.mcv_route.specs.declared.launch.Launch.{Launch}
 use Rattle.mcv_rules.proofs.Orders.{same_is}
-use Rattle.mcv_witness.specs.Walk.{finish, goes_on, joined_told, worse_told}
+use Rattle.mcv_witness.specs.Walk.{finish, goes_on, joined_reply, worse_reply}
 use Rattle.mcv_witness.specs.declared.seen.Join.{Join}
 use Rattle.mcv_witness.specs.declared.seen.Join.TheVariants.{Both, Beside, OnError, OnMiss}
 use Rattle.mcv_witness.specs.declared.seen.Seen.{Seen}
-use Rattle.mcv_witness.specs.declared.seen.Told.{Told}
+use Rattle.mcv_witness.specs.declared.seen.SeenReply.{SeenReply}
 use Rattle.mcv_witness.proofs.Each.{Each}
 
 -- ---- truth values
@@ -47,22 +47,22 @@ abbrev pub hits : List ℕ → List Answer → Bool
 hits leaf [] = false
 hits leaf (a ∷ more) = hit_at leaf a || hits leaf more
 
-abbrev pub told : List ℕ → List Answer → Option Told
-told leaf [] = None
-told leaf (a ∷ more) = Some (record { outcome = a.outcome; is_hit = hits leaf (a ∷ more) })
+abbrev pub seen_reply : List ℕ → List Answer → Option SeenReply
+seen_reply leaf [] = None
+seen_reply leaf (a ∷ more) = Some (record { outcome = a.outcome; is_hit = hits leaf (a ∷ more) })
 
 hits_append : (leaf : List ℕ) (rs qs : List Answer) → hits leaf (rs ++ qs) ≡ (hits leaf rs || hits leaf qs)
 hits_append leaf [] qs = refl
 hits_append leaf (a ∷ rs) qs = ap (λ b. hit_at leaf a || b) (hits_append leaf rs qs) ∙ sym (or_assoc (hit_at leaf a) (hits leaf rs) (hits leaf qs))
 
-told_worse : (leaf : List ℕ) (rs qs : List Answer) → told leaf (the_worse rs qs) ≡ worse_told (told leaf rs) (told leaf qs)
-told_worse leaf [] qs = refl
-told_worse leaf (a ∷ more) [] = refl
-told_worse leaf (a ∷ more) (b ∷ qs) = by_tests (nat_lt (badness a.outcome) (badness b.outcome)) (nat_lt (badness b.outcome) (badness a.outcome))
+reply_of_worse : (leaf : List ℕ) (rs qs : List Answer) → seen_reply leaf (the_worse rs qs) ≡ worse_reply (seen_reply leaf rs) (seen_reply leaf qs)
+reply_of_worse leaf [] qs = refl
+reply_of_worse leaf (a ∷ more) [] = refl
+reply_of_worse leaf (a ∷ more) (b ∷ qs) = by_tests (nat_lt (badness a.outcome) (badness b.outcome)) (nat_lt (badness b.outcome) (badness a.outcome))
   where
     by_tests : (x y : Bool) →
-        told leaf (cond x (b ∷ qs) (cond y (a ∷ more) (a ∷ more ++ b ∷ qs)))
-        ≡ cond x (told leaf (b ∷ qs)) (cond y (told leaf (a ∷ more)) (Some (record { outcome = a.outcome; is_hit = hits leaf (a ∷ more) || hits leaf (b ∷ qs) })))
+        seen_reply leaf (cond x (b ∷ qs) (cond y (a ∷ more) (a ∷ more ++ b ∷ qs)))
+        ≡ cond x (seen_reply leaf (b ∷ qs)) (cond y (seen_reply leaf (a ∷ more)) (Some (record { outcome = a.outcome; is_hit = hits leaf (a ∷ more) || hits leaf (b ∷ qs) })))
     by_tests true y = refl
     by_tests false true = refl
     by_tests false false = ap (λ h. Some (record { outcome = a.outcome; is_hit = h })) (hits_append leaf (a ∷ more) (b ∷ qs))
@@ -85,15 +85,15 @@ unmissed_good Good e = refl
 unmissed_good Soft e = absurd (false≢true (sym e))
 unmissed_good Error e = absurd (false≢true (sym e))
 
-pub told_join : (leaf : List ℕ) (how : Join) (rs qs : List Answer) → goes_on how (told leaf rs) ≡ true → told leaf (join_answers how rs qs) ≡ joined_told how (told leaf rs) (told leaf qs)
-told_join leaf Both rs qs e = told_worse leaf rs qs
-told_join leaf Beside rs qs e = refl
-told_join leaf OnError [] qs e = absurd (false≢true e)
-told_join leaf OnError (a ∷ rs) qs e = ap (λ b. told leaf (cond b qs (a ∷ rs))) e
-told_join leaf OnMiss [] qs e = absurd (false≢true e)
-told_join leaf OnMiss (a ∷ rs) qs e = ap (λ b. told leaf (cond b (a ∷ rs) qs)) (missed_good a.outcome e)
+pub reply_of_join : (leaf : List ℕ) (how : Join) (rs qs : List Answer) → goes_on how (seen_reply leaf rs) ≡ true → seen_reply leaf (join_answers how rs qs) ≡ joined_reply how (seen_reply leaf rs) (seen_reply leaf qs)
+reply_of_join leaf Both rs qs e = reply_of_worse leaf rs qs
+reply_of_join leaf Beside rs qs e = refl
+reply_of_join leaf OnError [] qs e = absurd (false≢true e)
+reply_of_join leaf OnError (a ∷ rs) qs e = ap (λ b. seen_reply leaf (cond b qs (a ∷ rs))) e
+reply_of_join leaf OnMiss [] qs e = absurd (false≢true e)
+reply_of_join leaf OnMiss (a ∷ rs) qs e = ap (λ b. seen_reply leaf (cond b (a ∷ rs) qs)) (missed_good a.outcome e)
 
-stop_one : (leaf : List ℕ) (how : Join) (rs qs : List Answer) → goes_on how (told leaf rs) ≡ false → join_answers how rs qs ≡ rs
+stop_one : (leaf : List ℕ) (how : Join) (rs qs : List Answer) → goes_on how (seen_reply leaf rs) ≡ false → join_answers how rs qs ≡ rs
 stop_one leaf Both rs qs e = absurd (false≢true (sym e))
 stop_one leaf Beside rs qs e = refl
 stop_one leaf OnError [] qs e = refl
@@ -101,7 +101,7 @@ stop_one leaf OnError (a ∷ rs) qs e = ap (λ b. cond b qs (a ∷ rs)) e
 stop_one leaf OnMiss [] qs e = refl
 stop_one leaf OnMiss (a ∷ rs) qs e = ap (λ b. cond b (a ∷ rs) qs) (unmissed_good a.outcome e)
 
-pub fold_stops : (leaf : List ℕ) (how : Join) (r : List Answer) (rs : List (List Answer)) → goes_on how (told leaf r) ≡ false → fold (join_answers how) r rs ≡ r
+pub fold_stops : (leaf : List ℕ) (how : Join) (r : List Answer) (rs : List (List Answer)) → goes_on how (seen_reply leaf r) ≡ false → fold (join_answers how) r rs ≡ r
 fold_stops leaf how r [] e = refl
 fold_stops leaf how r (q ∷ rs) e = ap (λ x. fold (join_answers how) x rs) (stop_one leaf how r q e) ∙ fold_stops leaf how r rs e
 
@@ -109,7 +109,7 @@ fold_stops leaf how r (q ∷ rs) e = ap (λ x. fold (join_answers how) x rs) (st
 abbrev pub legs_after : List ℕ → Join → List Answer → List (List Answer) → List (List Launch) → List Launch
 legs_after leaf how r [] lss = []
 legs_after leaf how r (q ∷ rs) [] = []
-legs_after leaf how r (q ∷ rs) (ls ∷ lss) = if goes_on how (told leaf r) then ls ++ legs_after leaf how (join_answers how r q) rs lss else []
+legs_after leaf how r (q ∷ rs) (ls ∷ lss) = if goes_on how (seen_reply leaf r) then ls ++ legs_after leaf how (join_answers how r q) rs lss else []
 
 -- ---- legs
 
@@ -170,14 +170,14 @@ all_parts ls ms es fs h g = all_append (ls ++ ms) es fs ∙ ap₂ ◌&&◌ (all_
 module _ (leaf : List ℕ) (server : ℕ) where
   -- of a route with these replies and legs, where each outcome is of a leg, after others of which one was sent to the server or not
   abbrev pub after : Bool → History → List Answer → List Launch → Option Seen
-  after b es rs ls = if all_sent ls es then Some (record { reply = told leaf rs; sent = b || reaches server ls }) else None
+  after b es rs ls = if all_sent ls es then Some (record { reply = seen_reply leaf rs; sent = b || reaches server ls }) else None
 
-  pub nothing_after : (b : Bool) (es : History) (rs : List Answer) → finish (record { reply = told leaf rs; sent = b }) es ≡ after b es rs []
-  nothing_after b [] rs = ap (λ x. Some (record { reply = told leaf rs; sent = x })) (sym (or_false b))
+  pub nothing_after : (b : Bool) (es : History) (rs : List Answer) → finish (record { reply = seen_reply leaf rs; sent = b }) es ≡ after b es rs []
+  nothing_after b [] rs = ap (λ x. Some (record { reply = seen_reply leaf rs; sent = x })) (sym (or_false b))
   nothing_after b (e ∷ es) rs = refl
 
   pub stray_after : (b : Bool) (e : List ℕ × Outcome) (es : History) (rs : List Answer) (ls : List Launch) → sent_at e.0 ls ≡ false → None ≡ after b (e ∷ es) rs ls
-  stray_after b e es rs ls h = sym (ap (λ x. cond (x && all_sent ls es) (Some (record { reply = told leaf rs; sent = b || reaches server ls })) None) h)
+  stray_after b e es rs ls h = sym (ap (λ x. cond (x && all_sent ls es) (Some (record { reply = seen_reply leaf rs; sent = b || reaches server ls })) None) h)
 
   then_cond : (K : Seen → Option Seen) (p : Bool) (y : Seen) → option_and_then K (cond p (Some y) None) ≡ cond p (K y) None
   then_cond K true y = refl
@@ -189,13 +189,13 @@ module _ (leaf : List ℕ) (server : ℕ) where
 
   -- one part with its outcomes, and then the others with theirs
   pub step_after : (K : Seen → Option Seen) (x : Option Seen) (b : Bool) (es fs : History) (qs zs : List Answer) (ls ms : List Launch) →
-      x ≡ after false es qs ls → K (record { reply = told leaf qs; sent = reaches server ls }) ≡ after (b || reaches server ls) fs zs ms →
+      x ≡ after false es qs ls → K (record { reply = seen_reply leaf qs; sent = reaches server ls }) ≡ after (b || reaches server ls) fs zs ms →
       Avoids ms es → Avoids ls fs → option_and_then K x ≡ after b (es ++ fs) zs (ls ++ ms)
   step_after K x b es fs qs zs ls ms own others h g =
-      let seen : Seen = record { reply = told leaf zs; sent = (b || reaches server ls) || reaches server ms } in
+      let seen : Seen = record { reply = seen_reply leaf zs; sent = (b || reaches server ls) || reaches server ms } in
       ap (option_and_then K) own
-      ∙ then_cond K (all_sent ls es) (record { reply = told leaf qs; sent = reaches server ls })
+      ∙ then_cond K (all_sent ls es) (record { reply = seen_reply leaf qs; sent = reaches server ls })
       ∙ ap (λ y. cond (all_sent ls es) y None) others
       ∙ cond_and (all_sent ls es) (all_sent ms fs) seen
-      ∙ ap₂ (λ p s. cond p (Some (record { reply = told leaf zs; sent = s })) None) (sym (all_parts ls ms es fs h g))
+      ∙ ap₂ (λ p s. cond p (Some (record { reply = seen_reply leaf zs; sent = s })) None) (sym (all_parts ls ms es fs h g))
       (or_assoc b (reaches server ls) (reaches server ms) ∙ ap (λ r. b || r) (sym (reach_append server ls ms)))

@@ -17,7 +17,7 @@ use Rattle.mcv_symbolic.specs.Covered.{AreCovered, sizes_of}
 use Rattle.mcv_witness.specs.Finding.{FindingValue}
 
 -- the finding's route has this tree, its key has this rest, of the route and the class named, and this break opened its era
-pub record StandsAt (r : RoutesValue) (f : FindingValue) (t : Tree) (rest : List ℕ) (since : Option ℕ) : Type 0 where
+pub record IsAtPlace (r : RoutesValue) (f : FindingValue) (t : Tree) (rest : List ℕ) (since : Option ℕ) : Type 0 where
   pub prefix : List ℕ
   pub route : option_map (λ e. e.tree) (slice_get r.entries f.route) ≡ Some t
   pub word : is_key_word f.key ≡ true
@@ -31,14 +31,14 @@ pub record StandsAt (r : RoutesValue) (f : FindingValue) (t : Tree) (rest : List
 abbrev pub chosen : FindingValue → Choice
 chosen f = slice_index f.choice
 
--- a pool stands at the leaf, and has under the choice the index and the server named
+-- a pool is at the leaf, and has under the choice the index and the server named
 pub record IsLeafOf (f : FindingValue) (t : Tree) : Type 0 where
   pub pool : Pool
-  pub stands : pool_at_position t f.leaf ≡ Some pool
+  pub pool_there : pool_at_position t f.leaf ≡ Some pool
   pub index : chosen f pool.symbol ≡ f.at
   pub server : slice_get pool.servers f.at ≡ Some f.server
 
--- outcomes stand in the order of their positions, one for each
+-- outcomes come in the order of their positions, one for each
 abbrev pub AreRising : History → Type 0
 AreRising es = AllPairs IsBefore (map (λ e. e.0) es)
 
@@ -61,7 +61,7 @@ pub record BreaksCoverage (r : RoutesValue) (f : FindingValue) : Type 0 where
   pub tree : Tree
   pub rest : List ℕ
   pub since : Option ℕ
-  pub stands : StandsAt r f tree rest since
+  pub placed : IsAtPlace r f tree rest since
   -- each symbol has an index below its number of servers
   pub choice : IsChoice (sizes_of r) (chosen f)
   pub leaf : IsLeafOf f tree

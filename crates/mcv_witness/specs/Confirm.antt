@@ -1,4 +1,4 @@
--- How the code tells a finding. Nothing but private contracts cites this.
+-- How the code decides on a finding. Nothing but private contracts cites this.
 use Rattle.std.specs.Prelude.{ℕ, suc, Bool, true, false, ◌&&◌, not, List, [], ◌∷◌, Option, Some, None, nat_lt, slice_index}
 use Rattle.std.specs.Cmp.Lexicographic.{slice_cmp}
 use Rattle.std.specs.Ordering.{is_lt, nat_cmp}
@@ -7,34 +7,34 @@ use Rattle.mcv_pools.specs.Symbol.{SymbolValue}
 use Rattle.mcv_route.specs.Outcomes.{History}
 use Rattle.mcv_route.specs.Routes.{RoutesValue}
 use Rattle.mcv_route.specs.Tree.{Tree}
-use Rattle.mcv_witness.specs.Breaks.{StandsAt}
+use Rattle.mcv_witness.specs.Breaks.{IsAtPlace}
 use Rattle.mcv_witness.specs.Finding.{FindingValue}
 use Rattle.mcv_witness.specs.declared.seen.Seen.{Seen}
-use Rattle.mcv_witness.specs.declared.seen.Told.{Told}
+use Rattle.mcv_witness.specs.declared.seen.SeenReply.{SeenReply}
 
 -- there is no place as the finding names it
 abbrev pub IsNowhere : RoutesValue → FindingValue → Type 0
-IsNowhere r f = (t : Tree) (rest : List ℕ) (since : Option ℕ) → StandsAt r f t rest since → ⊥
+IsNowhere r f = (t : Tree) (rest : List ℕ) (since : Option ℕ) → IsAtPlace r f t rest since → ⊥
 
 -- ---- tests of what was seen
 
-abbrev pub hit_told : Option Told → Bool
-hit_told None = false
-hit_told (Some x) = x.is_hit
+abbrev pub reply_hits : Option SeenReply → Bool
+reply_hits None = false
+reply_hits (Some x) = x.is_hit
 
 -- a hit of the leaf is among the replies
 abbrev pub hit_seen : Option Seen → Bool
 hit_seen None = false
-hit_seen (Some x) = hit_told x.reply
+hit_seen (Some x) = reply_hits x.reply
 
-abbrev pub fine_told : Option Told → Bool
-fine_told None = false
-fine_told (Some x) = not (is_error x.outcome)
+abbrev pub reply_acknowledges : Option SeenReply → Bool
+reply_acknowledges None = false
+reply_acknowledges (Some x) = not (is_error x.outcome)
 
 -- there is a reply that isn't an error, and no leg was sent to the server
 abbrev pub missed_seen : Option Seen → Bool
 missed_seen None = false
-missed_seen (Some x) = not x.sent && fine_told x.reply
+missed_seen (Some x) = not x.sent && reply_acknowledges x.reply
 
 -- ---- rising positions
 

@@ -4,17 +4,16 @@ use Rattle.std.specs.Str.{bytes_eq}
 use Rattle.mcv_base.specs.declared.reply.Outcome.{Outcome}
 use Rattle.mcv_base.specs.declared.reply.Outcome.TheVariants.{Soft, Error}
 use Rattle.mcv_base.specs.Operation.{is_counting, is_reading}
-use Rattle.mcv_base.specs.Reply.{is_error, is_good, is_missed}
+use Rattle.mcv_base.specs.Reply.{is_error, is_good, is_missed, badness}
 use Rattle.mcv_route.specs.Children.{child_or, is_within, policy_of, prefix_policy, rest_of, way_of, by_way}
 use Rattle.mcv_route.specs.Outcomes.{Choice, History}
-use Rattle.mcv_route.specs.Replies.{badness}
 use Rattle.mcv_route.specs.Situation.{Situation, asynchronous, shadowed, adding}
 use Rattle.mcv_route.specs.Tree.{Range, Tree, Trees, pool, null, error, all_sync, all_initial, all_async, failover, miss_failover, warm_up, migrate, prefix_selector, operation_selector, none, child}
 use Rattle.mcv_witness.specs.Finding.{outcomes_of}
 use Rattle.mcv_witness.specs.declared.seen.Join.{Join}
 use Rattle.mcv_witness.specs.declared.seen.Join.TheVariants.{Both, Beside, OnError, OnMiss}
 use Rattle.mcv_witness.specs.declared.seen.Seen.{Seen}
-use Rattle.mcv_witness.specs.declared.seen.Told.{Told}
+use Rattle.mcv_witness.specs.declared.seen.SeenReply.{SeenReply}
 use Rattle.mcv_witness.specs.declared.known.Known as kept
 use Rattle.mcv_witness.specs.declared.walk.Sought.{Sought}
 
@@ -55,11 +54,11 @@ below k n = record { legs = front k.depth n k.legs; depth = depth_of k.depth (fr
 abbrev pub past : Known → ℕ → Known
 past k n = record { legs = behind k.depth n k.legs; depth = k.depth }
 
--- the outcome at the handle itself, if it stands first
-abbrev pub own_told : List ℕ → Known → Option Told
-own_told leaf k = at_front k.legs
+-- the outcome at the handle itself, if it comes first
+abbrev pub own_reply : List ℕ → Known → Option SeenReply
+own_reply leaf k = at_front k.legs
   where
-    at_front : History → Option Told
+    at_front : History → Option SeenReply
     at_front [] = None
     at_front (e ∷ es) = if length e.0 == k.depth then Some (record { outcome = e.1; is_hit = is_good e.1 && bytes_eq e.0 leaf }) else None
 
@@ -81,34 +80,34 @@ finish x [] = Some x
 finish x (e ∷ es) = None
 
 -- the worse reply, once both are there
-abbrev pub worse_told : Option Told → Option Told → Option Told
-worse_told None y = None
-worse_told (Some a) None = None
-worse_told (Some a) (Some b) = by_badness (badness a.outcome) (badness b.outcome)
+abbrev pub worse_reply : Option SeenReply → Option SeenReply → Option SeenReply
+worse_reply None y = None
+worse_reply (Some a) None = None
+worse_reply (Some a) (Some b) = by_badness (badness a.outcome) (badness b.outcome)
   where
-    by_badness : ℕ → ℕ → Option Told
+    by_badness : ℕ → ℕ → Option SeenReply
     by_badness m n = if nat_lt m n then Some b else (if nat_lt n m then Some a else Some (record { outcome = a.outcome; is_hit = a.is_hit || b.is_hit }))
 
-abbrev pub is_told : (Outcome → Bool) → Option Told → Bool
-is_told test None = false
-is_told test (Some a) = test a.outcome
+abbrev pub reply_passes : (Outcome → Bool) → Option SeenReply → Bool
+reply_passes test None = false
+reply_passes test (Some a) = test a.outcome
 
 -- whether the next child is asked
-abbrev pub goes_on : Join → Option Told → Bool
+abbrev pub goes_on : Join → Option SeenReply → Bool
 goes_on Both r = true
 goes_on Beside r = true
-goes_on OnError r = is_told is_error r
-goes_on OnMiss r = is_told is_missed r
+goes_on OnError r = reply_passes is_error r
+goes_on OnMiss r = reply_passes is_missed r
 
 -- the reply once the next child has been asked
-abbrev pub joined_told : Join → Option Told → Option Told → Option Told
-joined_told Both x y = worse_told x y
-joined_told Beside x y = x
-joined_told OnError x y = y
-joined_told OnMiss x y = y
+abbrev pub joined_reply : Join → Option SeenReply → Option SeenReply → Option SeenReply
+joined_reply Both x y = worse_reply x y
+joined_reply Beside x y = x
+joined_reply OnError x y = y
+joined_reply OnMiss x y = y
 
 abbrev pub joined_seen : Join → Seen → Seen → Seen
-joined_seen how x y = record { reply = joined_told how x.reply y.reply; sent = x.sent || y.sent }
+joined_seen how x y = record { reply = joined_reply how x.reply y.reply; sent = x.sent || y.sent }
 
 -- ---- the walk over children
 
@@ -145,8 +144,8 @@ abbrev pub one_more : Join → ℕ → Pass → Seen → Known → Option Seen
 one_more how n f x k = option_and_then (λ y. finish (joined_seen how x y) (past k n).legs) (f (below k n))
 
 -- after a hit of the warm side the add
-abbrev pub filled : Pass → Option Told → Seen → Known → Option Seen
-filled h r x k = if is_told is_good r then one_more Beside 2 h x k else finish x k.legs
+abbrev pub filled : Pass → Option SeenReply → Seen → Known → Option Seen
+filled h r x k = if reply_passes is_good r then one_more Beside 2 h x k else finish x k.legs
 
 -- the cold side, after a miss the warm one, and after its hit the add
 abbrev pub warmed : Pass → Pass → Pass → Known → Option Seen
@@ -172,7 +171,7 @@ module _ (leaf : List ℕ) (server : ℕ) (c : Choice) where
     pub pass : Tree → Situation → Known → Option Seen
     pass (pool p ranges targets) s k =
         shade (c p.symbol) 0 ranges (pass_each targets (shadowed s))
-        (record { reply = own_told leaf k; sent = (slice_index p.servers (c p.symbol) == server) && is_counting s.mark })
+        (record { reply = own_reply leaf k; sent = (slice_index p.servers (c p.symbol) == server) && is_counting s.mark })
         (past_own k)
     pass null s k = finish (at_once Soft) k.legs
     pass error s k = finish (at_once Error) k.legs

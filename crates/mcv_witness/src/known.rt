@@ -2,10 +2,10 @@
 
 ghost use Rattle.std.specs.Prelude.{◌≡◌, ◌<◌, ◌≤◌, ◌+◌, ◌^◌, true, drop, length, take};
 ghost use Rattle.mcv_witness.specs.Finding.{outcomes_of};
-ghost use Rattle.mcv_witness.specs.Walk.{behind, below, finish, front, is_below, known_of, own_told, past, past_own};
+ghost use Rattle.mcv_witness.specs.Walk.{behind, below, finish, front, is_below, known_of, own_reply, past, past_own};
 
 use crate::finding::LegOutcome;
-use crate::seen::{Seen, Told};
+use crate::seen::{Seen, SeenReply};
 use mcv_base::{Outcome, Position};
 
 /// Outcomes at a handle and below it, and how many steps lead to the handle from the root. Without outcomes the
@@ -34,9 +34,9 @@ impl<'a> Known<'a> {
         (Known { legs: own, depth }, past)
     }
 
-    /// The outcome at the handle itself, if it stands first, and those behind it.
-    pub fn own(self, leaf: &Position) -> (Option<Told>, Known<'a>)
-        ensures told { result.0 ≡ own_told leaf.now (known_of self.entry) }
+    /// The outcome at the handle itself, if it comes first, and those behind it.
+    pub fn own(self, leaf: &Position) -> (Option<SeenReply>, Known<'a>)
+        ensures reply { result.0 ≡ own_reply leaf.now (known_of self.entry) }
         ensures past { known_of result.1 ≡ past_own (known_of self.entry) }
     {
         let Some((first, others)) = self.legs.split_first() else {
@@ -46,7 +46,7 @@ impl<'a> Known<'a> {
             return (None, self);
         }
         let is_hit = matches!(first.outcome, Outcome::Good) && first.position.is(leaf);
-        let told = Told {
+        let reply = SeenReply {
             outcome: first.outcome,
             is_hit,
         };
@@ -54,7 +54,7 @@ impl<'a> Known<'a> {
             legs: others,
             depth: self.depth,
         };
-        (Some(told), past)
+        (Some(reply), past)
     }
 
     /// What was seen, if no outcome is left over.

@@ -7,7 +7,7 @@ ghost use Rattle.mcv_base.specs.Key.{IsCut, is_key_word};
 ghost use Rattle.mcv_route.specs.Situation.{asked};
 ghost use Rattle.mcv_route.specs.Tree.{Tree};
 ghost use Rattle.mcv_route.specs.View.{view};
-ghost use Rattle.mcv_witness.specs.Breaks.{BreaksCoverage, IsLeafOf, IsMissed, IsRead, StandsAt};
+ghost use Rattle.mcv_witness.specs.Breaks.{BreaksCoverage, IsAtPlace, IsLeafOf, IsMissed, IsRead};
 ghost use Rattle.mcv_witness.specs.Confirm.{IsNowhere, are_rising, has_indexes, hit_seen, missed_seen};
 ghost use Rattle.mcv_witness.specs.Finding.{finding_of, outcomes_of};
 ghost use Rattle.mcv_witness.specs.Walk.{pass};
@@ -43,7 +43,7 @@ pub fn confirm(routes: &Routes, finding: &Finding) -> bool
     is_missed(&place, finding)
 }
 
-/// Where a finding stands: its route, the rest of its key, and the break that opened its era.
+/// Where a finding is: its route, the rest of its key, and the break that opened its era.
 #[derive(Drop)]
 struct Place<'a> {
     route: &'a Route,
@@ -53,7 +53,7 @@ struct Place<'a> {
 
 /// The place that the finding names, if there is one.
 fn place_of<'a>(routes: &'a Routes, finding: &Finding) -> Option<Place<'a>>
-    ensures { MatchOption result (IsNowhere routes.now (finding_of finding.now)) (λ p. StandsAt routes.now (finding_of finding.now) (view p.route.now) p.rest (option_map (λ m. m.0) p.since)) }
+    ensures { MatchOption result (IsNowhere routes.now (finding_of finding.now)) (λ p. IsAtPlace routes.now (finding_of finding.now) (view p.route.now) p.rest (option_map (λ m. m.0) p.since)) }
 {
     match split_key(finding.key.as_slice()) {
         Ok((prefix, rest)) => place_by(routes, finding, &prefix, rest),
@@ -70,7 +70,7 @@ fn place_by<'a>(
 ) -> Option<Place<'a>>
     requires word { is_key_word finding.now.key.items ≡ true }
     requires cut { IsCut finding.now.key.items prefix.now rest }
-    ensures { MatchOption result (IsNowhere routes.now (finding_of finding.now)) (λ p. StandsAt routes.now (finding_of finding.now) (view p.route.now) p.rest (option_map (λ m. m.0) p.since)) }
+    ensures { MatchOption result (IsNowhere routes.now (finding_of finding.now)) (λ p. IsAtPlace routes.now (finding_of finding.now) (view p.route.now) p.rest (option_map (λ m. m.0) p.since)) }
 {
     let number = routes.route_of(prefix)?;
     if number != finding.route {
@@ -100,7 +100,7 @@ fn is_choice(symbols: &[Symbol], choice: &Choice) -> bool
     true
 }
 
-/// Whether a pool stands at the leaf with the index and the server that the finding names.
+/// Whether a pool is at the leaf with the index and the server that the finding names.
 fn has_leaf(routes: &Routes, finding: &Finding) -> bool
     ensures { (t : Tree) → option_map (λ e. e.tree) (slice_get routes.now.entries finding.now.route) ≡ Some t → IsTrue result ↔ IsLeafOf (finding_of finding.now) t }
 {
@@ -113,7 +113,7 @@ fn has_leaf(routes: &Routes, finding: &Finding) -> bool
     holds_at(&leaf.servers, finding.at, finding.server)
 }
 
-/// Whether the server stands at the index.
+/// Whether the server is at the index.
 fn holds_at(servers: &[ServerId], at: usize, server: ServerId) -> bool
     ensures { IsTrue result ↔ (slice_get (map (λ s. s.0) servers.now) at ≡ Some server.0) }
 {
@@ -178,7 +178,7 @@ fn is_hit(seen: Option<Seen>) -> bool
         return false;
     };
     match seen.reply {
-        Some(told) => told.is_hit,
+        Some(reply) => reply.is_hit,
         None => false,
     }
 }
@@ -194,7 +194,7 @@ fn is_past(seen: Option<Seen>) -> bool
         return false;
     }
     match seen.reply {
-        Some(told) => !matches!(told.outcome, Outcome::Error),
+        Some(reply) => !matches!(reply.outcome, Outcome::Error),
         None => false,
     }
 }

@@ -2,14 +2,13 @@
 
 ghost use Rattle.std.specs.Prelude.{◌≡◌};
 ghost use Rattle.mcv_base.specs.Reply.{is_error, is_good, is_missed};
-ghost use Rattle.mcv_route.specs.Replies.{badness};
-ghost use Rattle.mcv_witness.specs.Walk.{at_once, goes_on, is_told, joined_seen, joined_told, worse_told};
+ghost use Rattle.mcv_witness.specs.Walk.{at_once, goes_on, joined_reply, joined_seen, reply_passes, worse_reply};
 
 use mcv_base::Outcome;
 
 /// A reply's outcome, and whether a hit of the leaf that is looked for is among the replies.
 #[derive(Clone, Copy)]
-pub struct Told {
+pub struct SeenReply {
     pub outcome: Outcome,
     pub is_hit: bool,
 }
@@ -17,7 +16,7 @@ pub struct Told {
 /// The reply, if there is one, and whether the server that is looked for was sent a leg that counts.
 #[derive(Clone, Copy)]
 pub struct Seen {
-    pub reply: Option<Told>,
+    pub reply: Option<SeenReply>,
     pub sent: bool,
 }
 
@@ -39,12 +38,12 @@ impl Seen {
     pub fn at_once(outcome: Outcome) -> Seen
         ensures { result ≡ at_once outcome }
     {
-        let told = Told {
+        let reply = SeenReply {
             outcome,
             is_hit: false,
         };
         Seen {
-            reply: Some(told),
+            reply: Some(reply),
             sent: false,
         }
     }
@@ -52,7 +51,7 @@ impl Seen {
 
 impl Join {
     /// Whether the next child is asked after this reply.
-    pub fn goes_on(self, reply: Option<Told>) -> bool
+    pub fn goes_on(self, reply: Option<SeenReply>) -> bool
         ensures { result ≡ goes_on self reply }
     {
         match self {
@@ -67,15 +66,15 @@ impl Join {
     pub fn joined(self, first: Seen, second: Seen) -> Seen
         ensures { result ≡ joined_seen self first second }
     {
-        let reply = self.joined_told(first.reply, second.reply);
+        let reply = self.joined_reply(first.reply, second.reply);
         Seen {
             reply,
             sent: first.sent || second.sent,
         }
     }
 
-    fn joined_told(self, first: Option<Told>, second: Option<Told>) -> Option<Told>
-        ensures { result ≡ joined_told self first second }
+    fn joined_reply(self, first: Option<SeenReply>, second: Option<SeenReply>) -> Option<SeenReply>
+        ensures { result ≡ joined_reply self first second }
     {
         match self {
             Join::Both => worse(first, second),
@@ -87,56 +86,45 @@ impl Join {
 }
 
 /// Whether there is a hit.
-pub fn is_good(reply: Option<Told>) -> bool
-    ensures { result ≡ is_told is_good reply }
+pub fn is_good(reply: Option<SeenReply>) -> bool
+    ensures { result ≡ reply_passes is_good reply }
 {
     match reply {
         None => false,
-        Some(told) => matches!(told.outcome, Outcome::Good),
+        Some(seen) => seen.outcome.is_good(),
     }
 }
 
-fn is_failed(reply: Option<Told>) -> bool
-    ensures { result ≡ is_told is_error reply }
+fn is_failed(reply: Option<SeenReply>) -> bool
+    ensures { result ≡ reply_passes is_error reply }
 {
     match reply {
         None => false,
-        Some(told) => matches!(told.outcome, Outcome::Error),
+        Some(seen) => matches!(seen.outcome, Outcome::Error),
     }
 }
 
-fn is_missed(reply: Option<Told>) -> bool
-    ensures { result ≡ is_told is_missed reply }
+fn is_missed(reply: Option<SeenReply>) -> bool
+    ensures { result ≡ reply_passes is_missed reply }
 {
     match reply {
         None => false,
-        Some(told) => !matches!(told.outcome, Outcome::Good),
-    }
-}
-
-/// How bad an outcome is.
-fn badness(outcome: Outcome) -> u8
-    ensures { result ≡ badness outcome }
-{
-    match outcome {
-        Outcome::Good => 0,
-        Outcome::Soft => 1,
-        Outcome::Error => 2,
+        Some(seen) => !seen.outcome.is_good(),
     }
 }
 
 /// The worse of two replies, once both are there.
-fn worse(first: Option<Told>, second: Option<Told>) -> Option<Told>
-    ensures { result ≡ worse_told first second }
+fn worse(first: Option<SeenReply>, second: Option<SeenReply>) -> Option<SeenReply>
+    ensures { result ≡ worse_reply first second }
 {
     let (first, second) = (first?, second?);
-    if badness(first.outcome) < badness(second.outcome) {
+    if first.outcome.badness() < second.outcome.badness() {
         return Some(second);
     }
-    if badness(second.outcome) < badness(first.outcome) {
+    if second.outcome.badness() < first.outcome.badness() {
         return Some(first);
     }
-    Some(Told {
+    Some(SeenReply {
         outcome: first.outcome,
         is_hit: first.is_hit || second.is_hit,
     })

@@ -16,7 +16,7 @@ use Rattle.mcv_route.specs.Verdict.{Has}
 use Rattle.mcv_rules.specs.Laws.{Extends}
 use Rattle.mcv_rules.specs.Rows.{Sends}
 use Rattle.mcv_rules.proofs.Among.{Among, among_either}
-use Rattle.mcv_rules.proofs.Once.{legs_are_sent_once}
+use Rattle.mcv_rules.proofs.SentOnce.{legs_are_sent_once}
 use Rattle.mcv_rules.proofs.Rows
 use Rattle.mcv_rules.proofs.Verdicts.{sent_stays}
 use Rattle.mcv_world.proofs.Numbers.{same_some, no_some}

@@ -2,7 +2,8 @@
 
 use super::verdicts::{by_operation, shown};
 use crate::devices::Broken;
-use mcv_verdict::{RunFault, Verdict, run_check};
+use mcv_input::RunFault;
+use mcv_verdict::{Verdict, run_check};
 use std::alloc::Global;
 use std::test::Fail;
 
@@ -83,7 +84,7 @@ fn the_configuration_is_judged_before_the_certificate(rt: HostRuntime) -> Result
 }
 
 #[test]
-fn broken_devices_are_told(rt: HostRuntime) -> Result<(), Fail> {
+fn broken_devices_are_reported(rt: HostRuntime) -> Result<(), Fail> {
     let alloc = rt.alloc();
     let input = b"{\"route\":\"NullRoute\"}";
     let unread = run_check(alloc, &mut Broken, &mut Vec::new(alloc), None);

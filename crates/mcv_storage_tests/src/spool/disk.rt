@@ -49,9 +49,9 @@ pub(crate) struct TestDisk {
     pub(crate) renewals: usize,
 }
 
-/// A test disk that is lent to a spool.
+/// A test disk that a spool borrows.
 #[derive(Drop)]
-pub(crate) struct Lent<'a> {
+pub(crate) struct Borrowed<'a> {
     pub(crate) disk: &'a mut TestDisk,
 }
 
@@ -158,7 +158,7 @@ fn answer(done: Result<bool, AllocError>) -> Result<(), DiskFailed> {
     }
 }
 
-impl Disk for Lent<'_> {
+impl Disk for Borrowed<'_> {
     ghost keeps_model = { ⊥ };
 
     ghost seen = { λ _. [] };

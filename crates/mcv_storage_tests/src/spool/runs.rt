@@ -1,6 +1,6 @@
 //! What no clause says: the bytes of the worked rows, and runs that fail or stop at each of their calls.
 
-use super::disk::{Left, Lent, TestDisk, Trouble};
+use super::disk::{Borrowed, Left, TestDisk, Trouble};
 use mcv_base::{Rest, ServerText};
 use mcv_spool::{Disk, FileDisk, Slot, Spool, SpoolFault, SpoolRecord};
 use std::alloc::Global;
@@ -16,8 +16,8 @@ fn record(server: &[u8], rest: &[u8]) -> Option<SpoolRecord> {
     })
 }
 
-fn open(alloc: Global, disk: &mut TestDisk) -> Result<Spool<Lent<'_>>, SpoolFault> {
-    Spool::open(alloc, Lent { disk })
+fn open(alloc: Global, disk: &mut TestDisk) -> Result<Spool<Borrowed<'_>>, SpoolFault> {
+    Spool::open(alloc, Borrowed { disk })
 }
 
 fn empty_disk(alloc: Global) -> TestDisk {
@@ -132,7 +132,7 @@ fn records_are_spelled_byte_for_byte(rt: HostRuntime) {
 }
 
 /// Whether three records are appended.
-fn three_are_appended(spool: &mut Spool<Lent<'_>>) -> bool {
+fn three_are_appended(spool: &mut Spool<Borrowed<'_>>) -> bool {
     for (number, rest) in [(0, b"a"), (1, b"b"), (2, b"c")] {
         if append(spool, b"a:11211", rest) != Some(number) {
             return false;
@@ -144,7 +144,7 @@ fn three_are_appended(spool: &mut Spool<Lent<'_>>) -> bool {
 /// Numbers that are done one after another, each with those that are pending then.
 const DONE: [(u64, &[u8]); 3] = [(1, b"02"), (2, b"0"), (u64::MAX, b"0")];
 
-fn are_done_in_turn(spool: &mut Spool<Lent<'_>>) -> bool {
+fn are_done_in_turn(spool: &mut Spool<Borrowed<'_>>) -> bool {
     for (number, digits) in DONE {
         if spool.done(number).is_err() || !are_pending(spool, digits) {
             return false;
@@ -225,7 +225,7 @@ fn faults_have_numbers(rt: HostRuntime) {
 }
 
 /// Why a record isn't taken.
-fn refused(spool: &mut Spool<Lent<'_>>) -> Option<SpoolFault> {
+fn refused(spool: &mut Spool<Borrowed<'_>>) -> Option<SpoolFault> {
     spool.append(record(b"b:11211", b"ab")?).err()
 }
 
@@ -256,33 +256,33 @@ fn each_opening_renews_the_disk(rt: HostRuntime) {
     assert!(rt; opens_renew(rt.alloc()) == Some(true));
 }
 
-/// What a run was told.
+/// What a run was answered.
 #[derive(Clone, Copy, Drop)]
-struct Told {
+struct Reported {
     stored: u64,
     done: bool,
 }
 
 /// Appends three records and marks the first as done.
-fn run_on(spool: &mut Spool<Lent<'_>>) -> Told {
+fn run_on(spool: &mut Spool<Borrowed<'_>>) -> Reported {
     let mut stored = 0u64;
     for rest in [b"a", b"b", b"c"] {
         if append(spool, b"a:11211", rest).is_none() {
             let done = false;
-            return Told { stored, done };
+            return Reported { stored, done };
         }
         stored = stored.saturating_add(1);
     }
     let _ = spool.done(0);
     let done = true;
-    Told { stored, done }
+    Reported { stored, done }
 }
 
 /// Opens a spool, appends three records and marks the first as done: 20 calls of the disk.
-fn run(alloc: Global, disk: &mut TestDisk) -> Told {
+fn run(alloc: Global, disk: &mut TestDisk) -> Reported {
     match open(alloc, disk) {
         Ok(mut spool) => run_on(&mut spool),
-        Err(_) => Told {
+        Err(_) => Reported {
             stored: 0,
             done: false,
         },
@@ -313,19 +313,19 @@ fn pending_of_the_run<D: Disk>(spool: &Spool<D>) -> Option<u64> {
 
 /// Whether a file of so many slots, of which so many are pending, has the records that the run stored, none missing but
 /// the one that is done.
-fn is_count_of(told: Told, count: u64, pending: u64) -> bool {
+fn is_count_of(reported: Reported, count: u64, pending: u64) -> bool {
     let missing = count.saturating_sub(pending);
-    told.stored <= count
-        && count <= told.stored.saturating_add(1)
-        && (missing == 0 || (told.done && missing == 1))
+    reported.stored <= count
+        && count <= reported.stored.saturating_add(1)
+        && (missing == 0 || (reported.done && missing == 1))
 }
 
 /// Whether what is opened are the first records of the run, those stored among them. One record more is appended for the
 /// count.
-fn is_kept<D: Disk>(spool: &mut Spool<D>, told: Told) -> bool {
+fn is_kept<D: Disk>(spool: &mut Spool<D>, reported: Reported) -> bool {
     match pending_of_the_run(spool) {
         Some(pending) => match slots_counted(spool) {
-            Some(count) => is_count_of(told, count, pending),
+            Some(count) => is_count_of(reported, count, pending),
             None => false,
         },
         None => false,
@@ -335,12 +335,12 @@ fn is_kept<D: Disk>(spool: &mut Spool<D>, told: Told) -> bool {
 #[test]
 fn a_run_has_twenty_calls(rt: HostRuntime) {
     let mut disk = empty_disk(rt.alloc());
-    let told = run(rt.alloc(), &mut disk);
-    assert!(rt; told.stored == 3 && told.done && disk.calls.len() == 20);
+    let reported = run(rt.alloc(), &mut disk);
+    assert!(rt; reported.stored == 3 && reported.done && disk.calls.len() == 20);
 }
 
 /// The run on an empty disk with this trouble.
-fn run_in(alloc: Global, disk: &mut TestDisk, trouble: Trouble) -> Told {
+fn run_in(alloc: Global, disk: &mut TestDisk, trouble: Trouble) -> Reported {
     disk.trouble = trouble;
     run(alloc, disk)
 }
@@ -348,10 +348,10 @@ fn run_in(alloc: Global, disk: &mut TestDisk, trouble: Trouble) -> Told {
 /// Whether the records of a run that stops at this call are kept in what it leaves.
 fn outlive_a_stop(alloc: Global, call: usize, left: Left) -> Option<bool> {
     let mut disk = empty_disk(alloc);
-    let told = run_in(alloc, &mut disk, Trouble::StopAt(call));
+    let reported = run_in(alloc, &mut disk, Trouble::StopAt(call));
     let mut after = TestDisk::new(alloc, disk.left(left).ok()?);
     let mut spool = open(alloc, &mut after).ok()?;
-    Some(is_kept(&mut spool, told))
+    Some(is_kept(&mut spool, reported))
 }
 
 #[test]
@@ -369,12 +369,12 @@ fn records_outlive_a_stop_at_each_call(rt: HostRuntime) {
 /// Whether the records of a run of which this call fails are kept, also once the spool is opened anew.
 fn outlive_a_failure(alloc: Global, call: usize, reopens: bool) -> Option<bool> {
     let mut disk = empty_disk(alloc);
-    let told = run_in(alloc, &mut disk, Trouble::FailAt(call));
+    let reported = run_in(alloc, &mut disk, Trouble::FailAt(call));
     let mut spool = open(alloc, &mut disk).ok()?;
     if reopens {
         spool.reopen().ok()?;
     }
-    Some(is_kept(&mut spool, told))
+    Some(is_kept(&mut spool, reported))
 }
 
 #[test]
@@ -389,12 +389,12 @@ fn records_outlive_a_failure_of_each_call(rt: HostRuntime) {
     }
 }
 
-/// How many records a run that stops at this call was told are stored, and how many slots its file has.
+/// How many records a run that stops at this call was answered are stored, and how many slots its file has.
 fn stored_and_left(alloc: Global, call: usize, left: Left) -> Option<(u64, u64)> {
     let mut disk = empty_disk(alloc);
-    let told = run_in(alloc, &mut disk, Trouble::StopAt(call));
+    let reported = run_in(alloc, &mut disk, Trouble::StopAt(call));
     let slots = slots_of(alloc, disk.left(left).ok()?)?;
-    Some((told.stored, slots))
+    Some((reported.stored, slots))
 }
 
 /// The second append makes the calls 11 to 14.

@@ -381,7 +381,7 @@ fn fault(alloc: Global, line: &[u8]) -> Result<Part, AllocError> {
     Ok(Part::Owned(Arc::new(alloc, Reply::Fault(line))?))
 }
 
-/// The reply that a letter stands for: h is a hit, e an empty one, f an error line, - a miss.
+/// The reply that a letter means: h is a hit, e an empty one, f an error line, - a miss.
 fn part(alloc: Global, letter: u8) -> Result<Part, AllocError> {
     match letter {
         b'h' => hit(alloc, 5, b"xyz"),

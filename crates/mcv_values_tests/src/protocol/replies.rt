@@ -27,7 +27,7 @@ delete SERVER_ERROR out of memory| = fault
 get CLIENT_ERROR| = fault
 replace  ERROR | = fault";
 
-/// The same for bytes behind which no reply goes on: the first such byte stands behind `~`, and the
+/// The same for bytes behind which no reply goes on: the first such byte comes behind `~`, and the
 /// answer is that to the bytes before it.
 const REFUSED: &str = "get VALUE ~b 0 1|x|END| = more
 get VALUE a 0 1 ~7|x|END| = more

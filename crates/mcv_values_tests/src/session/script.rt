@@ -81,7 +81,7 @@ fn hit(alloc: Global) -> Result<Part, AllocError> {
     Ok(Part::Owned(Arc::new(alloc, hit)?))
 }
 
-/// The reply that a letter stands for: h is a hit with `x`, f an error line, m a miss.
+/// The reply that a letter means: h is a hit with `x`, f an error line, m a miss.
 fn part(alloc: Global, letter: u8) -> Result<Part, AllocError> {
     match letter {
         b'h' => hit(alloc),

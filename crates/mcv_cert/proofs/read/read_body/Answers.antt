@@ -2,7 +2,7 @@ use Rattle.std.proofs.Common.{◌+◌, sym, subst}
 use Rattle.std.proofs.lemmas.Result.{MatchResult-weaker}
 use Rattle.mcv_cert.specs.Pair.{pair_of}
 use Rattle.mcv_cert.specs.Reading.{Reads, at_end, breaks, broken, ended, falls, unordered}
-use Rattle.mcv_cert.proofs.Lines.{IsSoFar, high_is, low_is, so_far_more, stopped, told_is}
+use Rattle.mcv_cert.proofs.Lines.{IsSoFar, high_is, low_is, so_far_more, stopped, fault_of_reading}
 use Rattle.mcv_cert.proofs.read.read_body.Goals as goal
 
 pub returns-then-not-takes-clause-faulty : goal.returns-then-not-takes-clause-faulty
@@ -23,13 +23,13 @@ pub returns-in-Last-clause-read : goal.returns-in-Last-clause-read
 returns-in-Last-clause-read c =
     let front = rw c.in-Last.is at c.in_ok-pair.ensures in
     let reads = stopped c.args.body.now c.loop-buffers.rest.now c.loop-buffers.certificate _ c.loop-buffers.invariant (ended c.in-Last.later.now front) in
-    MatchResult-weaker c.ended.result c.ended.ensures (λ u is. subst (Reads c.args.body.now) is reads) (λ f told. tt)
+    MatchResult-weaker c.ended.result c.ended.ensures (λ u is. subst (Reads c.args.body.now) is reads) (λ f reported. tt)
 
 pub returns-in-Last-clause-faulty : goal.returns-in-Last-clause-faulty
 returns-in-Last-clause-faulty c =
     let front = rw c.in-Last.is at c.in_ok-pair.ensures in
     let reads = stopped c.args.body.now c.loop-buffers.rest.now c.loop-buffers.certificate _ c.loop-buffers.invariant (ended c.in-Last.later.now front) in
-    MatchResult-weaker c.ended.result c.ended.ensures (λ u is. tt) (λ f told. told_is f (at_end c.loop-buffers.certificate c.in-Last.later.now) (Reads c.args.body.now) told reads)
+    MatchResult-weaker c.ended.result c.ended.ensures (λ u is. tt) (λ f reported. fault_of_reading f (at_end c.loop-buffers.certificate c.in-Last.later.now) (Reads c.args.body.now) reported reads)
 
 pub returns-in-Nothing-clause-faulty : goal.returns-in-Nothing-clause-faulty
 returns-in-Nothing-clause-faulty c =

@@ -13,8 +13,8 @@ use Rattle.mcv_blocks.specs.Places.{AreRouteClasses, IsRouteClass}
 use Rattle.mcv_blocks.specs.Spots.{eras_from, spots_of}
 use Rattle.mcv_blocks.specs.declared.classes.RouteClass.{RouteClass}
 use Rattle.mcv_certify.specs.Picked.{IsPickedOf}
-use Rattle.mcv_certify.specs.Made.{AddsFor, TellsGapIn}
-use Rattle.mcv_certify.proofs.Along.{adds_class, adds_none, tells_class}
+use Rattle.mcv_certify.specs.Made.{AddsFor, ReportsGapIn}
+use Rattle.mcv_certify.proofs.GapsOfSpots.{adds_class, adds_none, reports_class}
 use Rattle.mcv_certify.proofs.Certified.{are_picked, is_certificate, is_justified}
 use Rattle.mcv_certify.proofs.Lost.{if_lost}
 use Rattle.mcv_certify.proofs.Verdicts.{known, only_memory, right}
@@ -47,14 +47,14 @@ returns-in_err-push_class c =
     let sound = c.servers-servers.ensures.sound in
     let are = subst (AreRouteClasses r) (sym c.deref-class-items.ensures.value) c.in_ok-classes.ensures in
     let there = slice_get-get_or cs c.loop-class.class-index class c.loop-class-test.true in
-    let told = if_lost _ (TellsGapIn r (eras_from class 0 n)) (TellsGapIn r (spots_of cs n)) (λ f h. tells_class r cs c.loop-class.class-index n class [] (pairs_of c.loop-class.pairs.items) f (subst (λ (d : RouteClass). slice_get cs c.loop-class.class-index ≡ Some d) (sym c.class-item.is) there) c.loop-class.invariant h) c.in_err-push_class.ensures.lost in
+    let reported = if_lost _ (ReportsGapIn r (eras_from class 0 n)) (ReportsGapIn r (spots_of cs n)) (λ f h. reports_class r cs c.loop-class.class-index n class [] (pairs_of c.loop-class.pairs.items) f (subst (λ (d : RouteClass). slice_get cs c.loop-class.class-index ≡ Some d) (sym c.class-item.is) there) c.loop-class.invariant h) c.in_err-push_class.ensures.lost in
     let p = err_from_is_err_and c.from_residual-in_err-push_class.result c.from_residual-in_err-push_class.ensures.1 in
     rw (p.1, p.2) (record {
       justified = tt;
       picked = tt;
-      lost = right r cs n sound are c.era_count-eras.ensures _ told;
-      known = known r cs n sound are c.era_count-eras.ensures _ told;
-      covered = λ covered. only_memory r cs n sound are c.era_count-eras.ensures (All-map (λ (n : ℕ). 0 < n) (λ (s : SymbolValue). s.n) r.symbols c.symbols-symbols.ensures.some) covered _ told;
+      lost = right r cs n sound are c.era_count-eras.ensures _ reported;
+      known = known r cs n sound are c.era_count-eras.ensures _ reported;
+      covered = λ covered. only_memory r cs n sound are c.era_count-eras.ensures (All-map (λ (n : ℕ). 0 < n) (λ (s : SymbolValue). s.n) r.symbols c.symbols-symbols.ensures.some) covered _ reported;
     })
 
 pub of-requires : goal.of-requires

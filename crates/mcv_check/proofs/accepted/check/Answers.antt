@@ -1,8 +1,8 @@
 use Rattle.std.proofs.Common.{sym, subst}
 use Rattle.mcv_blocks.specs.Blocks.{IsJustifiedBy}
 use Rattle.std.proofs.lemmas.Result.{err_from_is_err_and}
-use Rattle.mcv_check.specs.Fault.{IsTold}
-use Rattle.mcv_check.proofs.Told.{none_told}
+use Rattle.mcv_check.specs.Fault.{IsFaultOfPairs}
+use Rattle.mcv_check.proofs.NoFaultOfJustified.{no_fault_of_justified}
 use Rattle.mcv_cert.specs.Pair.{AreRising}
 use Rattle.mcv_check.proofs.accepted.check.Goals as goal
 
@@ -15,12 +15,12 @@ invariant_of-result c =
 
 pub returns-in_err-judge_routes-clause-fault : goal.returns-in_err-judge_routes-clause-fault
 returns-in_err-judge_routes-clause-fault c =
-    let told = subst (λ ps. IsTold c.args.routes ps c.in_err-judge_routes.field-0.0) c.pairs.ensures.value c.in_err-judge_routes.ensures in
+    let reported = subst (λ ps. IsFaultOfPairs c.args.routes ps c.in_err-judge_routes.field-0.0) c.pairs.ensures.value c.in_err-judge_routes.ensures in
     let p = err_from_is_err_and c.from_residual.result c.from_residual.ensures.1 in
-    rw (p.1, p.2) told
+    rw (p.1, p.2) reported
 
 pub returns-in_err-judge_routes-clause-justified : goal.returns-in_err-judge_routes-clause-justified
 returns-in_err-judge_routes-clause-justified c = λ justified.
-    let told = subst (λ ps. IsTold c.args.routes ps c.in_err-judge_routes.field-0.0) c.pairs.ensures.value c.in_err-judge_routes.ensures in
+    let reported = subst (λ ps. IsFaultOfPairs c.args.routes ps c.in_err-judge_routes.field-0.0) c.pairs.ensures.value c.in_err-judge_routes.ensures in
     let p = err_from_is_err_and c.from_residual.result c.from_residual.ensures.1 in
-    rw (p.1, p.2) (none_told c.one_list_of_blocks.ensures c.args.routes c.args.certificate.now justified c.in_err-judge_routes.field-0.0 told)
+    rw (p.1, p.2) (no_fault_of_justified c.one_list_of_blocks.ensures c.args.routes c.args.certificate.now justified c.in_err-judge_routes.field-0.0 reported)

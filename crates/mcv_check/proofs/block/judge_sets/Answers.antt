@@ -3,7 +3,7 @@ use Rattle.std.proofs.lemmas.Result.{err_from_is_err_and}
 use Rattle.mcv_judge.specs.InMemory.{legs_of}
 use Rattle.mcv_judge.specs.Reason.{BlockValue}
 use Rattle.mcv_blocks.specs.Spots.{IsBlockWith}
-use Rattle.mcv_blocks.proofs.Standing.{block_with}
+use Rattle.mcv_blocks.proofs.BlockOfSets.{block_with}
 use Rattle.mcv_check.proofs.block.judge_sets.Goals as goal
 
 pub judge_block-requires : goal.judge_block-requires

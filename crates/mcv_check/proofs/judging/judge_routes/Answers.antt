@@ -25,10 +25,10 @@ loop-class-preserved c = record {
 
 pub returns-in_err-rest : goal.returns-in_err-rest
 returns-in_err-rest c =
-    let told = class_stops c.args.routes.now c.deref-class-items.result.now c.era_count-eras.result (pairs_of c.args.pairs.now) (subst (AreRouteClasses c.args.routes.now) (sym c.deref-class-items.ensures.value) c.in_ok-classes.ensures) c.era_count-eras.ensures c.loop-class.class-index c.class-item.result c.loop-class-test.true c.class-item.is
+    let reported = class_stops c.args.routes.now c.deref-class-items.result.now c.era_count-eras.result (pairs_of c.args.pairs.now) (subst (AreRouteClasses c.args.routes.now) (sym c.deref-class-items.ensures.value) c.in_ok-classes.ensures) c.era_count-eras.ensures c.loop-class.class-index c.class-item.result c.loop-class-test.true c.class-item.is
     (pairs_of c.loop-class.rest.now) c.loop-class.invariant.so_far c.in_err-rest.field-0.0 c.in_err-rest.ensures.fault in
     let p = err_from_is_err_and c.from_residual-in_err-rest.result c.from_residual-in_err-rest.ensures.1 in
-    rw (p.1, p.2) told
+    rw (p.1, p.2) reported
 
 pub returns : goal.returns
 returns c =

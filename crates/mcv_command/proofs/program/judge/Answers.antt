@@ -1,8 +1,7 @@
-use Rattle.std.proofs.Common.{None, sym, subst}
+use Rattle.std.proofs.Common.{None, inr, sym, subst}
 use Rattle.std.proofs.lemmas.Result.{err_from_is_err_and}
 use Rattle.mcv_command.specs.Program.{IsJudgingFault}
 use Rattle.mcv_command.specs.declared.stop.Stop.{Stop}
-use Rattle.mcv_command.proofs.Finished.{check_stop}
 use Rattle.mcv_command.proofs.program.judge.Goals as goal
 
 pub returns-in_err-verdict-clause-stop : goal.returns-in_err-verdict-clause-stop
@@ -10,7 +9,7 @@ returns-in_err-verdict-clause-stop g c held =
     let known = g.R.Read.remaining c.args.reader.now in
     let gone = err_from_is_err_and c.from_residual.result c.from_residual.ensures.1 in
     rw (gone.1)
-    (subst (λ (stop : Stop). IsJudgingFault held None known stop) (sym gone.2) (check_stop held None known c.in_err-verdict.field-0.0 c.in_err-verdict.ensures.fault))
+    (subst (λ (stop : Stop). IsJudgingFault held None known stop) (sym gone.2) (inr c.in_err-verdict.ensures.fault))
 
 pub returns-clause-done : goal.returns-clause-done
 returns-clause-done g c held =

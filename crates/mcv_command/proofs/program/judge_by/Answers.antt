@@ -1,9 +1,9 @@
-use Rattle.std.proofs.Common.{◌≡◌, ℕ, List, Some, take, sym, subst}
+use Rattle.std.proofs.Common.{◌≡◌, ℕ, List, Some, inl, inr, take, sym, subst}
 use Rattle.std.specs.Prelude.{IfSome}
 use Rattle.std.proofs.lemmas.Result.{err_from_is_err_and}
 use Rattle.mcv_command.specs.Program.{Held, IsJudgingFault}
 use Rattle.mcv_command.specs.declared.stop.Stop.{Stop}
-use Rattle.mcv_command.proofs.Finished.{check_stop, fault_by_all, given_all, outside_stop, read_limit, verdict_by_all}
+use Rattle.mcv_command.proofs.Finished.{fault_by_all, given_all, read_limit, verdict_by_all}
 use Rattle.mcv_verdict.specs.Fault as check
 use Rattle.mcv_verdict.specs.Verdict.{IsVerdictOn}
 use Rattle.mcv_command.proofs.program.judge_by.Goals as goal
@@ -14,7 +14,7 @@ returns-in_err-text-clause-stop g c =
     let held : Held = g.F.NamedFiles.held c.args.files.now in
     let gone = err_from_is_err_and c.from_residual.result c.from_residual.ensures.1 in
     rw (gone.1)
-    (subst (λ (stop : Stop). IsJudgingFault held (Some c.args.name.now) known stop) (sym gone.2) (outside_stop held (Some c.args.name.now) known c.in_err-text.field-0.0 c.in_err-text.ensures.fault))
+    (subst (λ (stop : Stop). IsJudgingFault held (Some c.args.name.now) known stop) (sym gone.2) (inl c.in_err-text.ensures.fault))
 
 pub returns-in_err-verdict-clause-stop : goal.returns-in_err-verdict-clause-stop
 returns-in_err-verdict-clause-stop g c =
@@ -28,8 +28,7 @@ returns-in_err-verdict-clause-stop g c =
     let gone = err_from_is_err_and c.from_residual-in_err-verdict.result c.from_residual-in_err-verdict.ensures.1 in
     rw (gone.1)
     (subst (λ (stop : Stop). IsJudgingFault held (Some name) known stop) (sym gone.2)
-    (check_stop held (Some name) known fault
-    (given_all held name first known (λ bytes certificate. check.IsRunFault bytes certificate fault) read (λ bytes all is here. fault_by_all bytes all first fault is here) c.in_err-verdict.ensures.fault)))
+    (inr (given_all held name first known (λ bytes certificate. check.IsRunFault bytes certificate fault) read (λ bytes all is here. fault_by_all bytes all first fault is here) c.in_err-verdict.ensures.fault)))
 
 pub returns-clause-done : goal.returns-clause-done
 returns-clause-done g c =

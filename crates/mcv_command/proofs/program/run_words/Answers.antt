@@ -1,9 +1,10 @@
-use Rattle.std.proofs.Common.{List, None, inl, inr, map, sym, subst}
+use Rattle.std.proofs.Common.{◌∙◌, List, None, ap, inl, inr, map, refl, sym, subst}
 use Rattle.std.proofs.lemmas.Result.{IfErr-weaker, IfOk-weaker, err_from_is_err_and}
 use Rattle.clap.specs.Words.{Text}
 use Rattle.mcv_command.specs.Program.{IsStop}
 use Rattle.mcv_command.specs.declared.stop.Stop.{Stop}
-use Rattle.mcv_command.proofs.Finished.{judging_stop, legs_stop, running_stop}
+use Rattle.mcv_command.specs.declared.stop.Stop.TheVariants.{Run}
+use Rattle.mcv_command.proofs.Finished.{judging_stop, running_stop}
 use Rattle.mcv_command.proofs.program.run_words.Goals as goal
 
 pub returns-in_err-run_legs-in-Ok-Legs-clause-stop : goal.returns-in_err-run_legs-in-Ok-Legs-clause-stop
@@ -14,7 +15,31 @@ returns-in_err-run_legs-in-Ok-Legs-clause-stop g c =
     let gone = err_from_is_err_and c.from_residual.result c.from_residual.ensures.1 in
     rw (gone.1)
     (subst (λ (stop : Stop). IsStop words held (g.R.Read.remaining c.args.reader.now) stop) (sym gone.2)
-    (legs_stop words held (g.R.Read.remaining c.args.reader.now) c.in-Ok-Legs.at c.in_err-run_legs-in-Ok-Legs.field-0.0 asks c.in_err-run_legs-in-Ok-Legs.ensures.fault))
+    (inr (inl (c.in-Ok-Legs.at, asks, c.in_err-run_legs-in-Ok-Legs.ensures.fault))))
+
+pub returns-in_err-run_legs-in-Ok-Legs-clause-silent : goal.returns-in_err-run_legs-in-Ok-Legs-clause-silent
+returns-in_err-run_legs-in-Ok-Legs-clause-silent g c =
+    let gone = err_from_is_err_and c.from_residual.result c.from_residual.ensures.1 in
+    rw (gone.1) (λ no_device unasked. c.in_err-run_legs-in-Ok-Legs.ensures.silent (λ device. no_device (gone.2 ∙ ap Run device)))
+
+pub returns-in_err-write_text-in-Err-Help-clause-stop : goal.returns-in_err-write_text-in-Err-Help-clause-stop
+returns-in_err-write_text-in-Err-Help-clause-stop g c =
+    let words : List Text = map (λ w. w.now) c.args.words.now in
+    let held = g.F.NamedFiles.held c.args.files.now in
+    let gone = err_from_is_err_and c.from_residual-in_err-write_text-in-Err-Help.result c.from_residual-in_err-write_text-in-Err-Help.ensures.1 in
+    rw (gone.1)
+    (subst (λ (stop : Stop). IsStop words held (g.R.Read.remaining c.args.reader.now) stop) (sym gone.2) (inl (inr c.in_err-write_text-in-Err-Help.ensures.fault)))
+
+pub returns-in_err-write_text-in-Err-Version-clause-stop : goal.returns-in_err-write_text-in-Err-Version-clause-stop
+returns-in_err-write_text-in-Err-Version-clause-stop g c =
+    let words : List Text = map (λ w. w.now) c.args.words.now in
+    let held = g.F.NamedFiles.held c.args.files.now in
+    let gone = err_from_is_err_and c.from_residual-in_err-write_text-in-Err-Version.result c.from_residual-in_err-write_text-in-Err-Version.ensures.1 in
+    rw (gone.1)
+    (subst (λ (stop : Stop). IsStop words held (g.R.Read.remaining c.args.reader.now) stop) (sym gone.2) (inl (inr c.in_err-write_text-in-Err-Version.ensures.fault)))
+
+pub returns-in-Err-Memory-clause-stop : goal.returns-in-Err-Memory-clause-stop
+returns-in-Err-Memory-clause-stop g c = inl (inl refl)
 
 pub returns-in-Ok-Check-None-clause-done : goal.returns-in-Ok-Check-None-clause-done
 returns-in-Ok-Check-None-clause-done g c =
@@ -28,7 +53,7 @@ returns-in-Ok-Check-None-clause-stop g c =
     let held = g.F.NamedFiles.held c.args.files.now in
     let known = g.R.Read.remaining c.args.reader.now in
     let asks = rw (c.in-Ok-Check-None.field-0-is, c.in-Ok-Check-None.field-0-0-is) at c.in-Ok-Check-None.ensures.job in
-    IfErr-weaker c.judge.result _ _ (λ stop stands. judging_stop words held known None stop asks stands) (c.judge.ensures.stop held)
+    IfErr-weaker c.judge.result _ _ (λ stop holds. judging_stop words held known None stop asks holds) (c.judge.ensures.stop held)
 
 pub serve-requires-clause-most : goal.serve-requires-clause-most
 serve-requires-clause-most g c =
@@ -47,7 +72,7 @@ returns-in-Ok-Run-clause-stop g c =
     let held = g.F.NamedFiles.held c.args.files.now in
     let known = g.R.Read.remaining c.args.reader.now in
     let asks = rw c.in-Ok-Run.field-0-is at c.in-Ok-Run.ensures.job in
-    IfErr-weaker c.serve.result _ _ (λ stop stands. running_stop words held known stop (c.in-Ok-Run.listen.now, c.in-Ok-Run.spool.now, c.in-Ok-Run.sessions, asks) stands)
+    IfErr-weaker c.serve.result _ _ (λ stop holds. running_stop words held known stop (c.in-Ok-Run.listen.now, c.in-Ok-Run.spool.now, c.in-Ok-Run.sessions, asks) holds)
     (c.serve.ensures.stop held)
 
 pub returns-in-Ok-Run-clause-silent : goal.returns-in-Ok-Run-clause-silent

@@ -12,8 +12,8 @@ pub returns : goal.returns
 returns c =
     let body = c.args.body.now in
     let end = c.in_ok-end.end in
-    let lent : take (length body - (end + 2)) (drop (end + 2) body) ≡ drop (end + 2) body = rest_of body (end + 2) in (
-      subst (λ (t : List ℕ). (comment : List ℕ) × Begins (47 ∷ 42 ∷ body) (block comment) t) (sym lent)
+    let borrowed : take (length body - (end + 2)) (drop (end + 2) body) ≡ drop (end + 2) body = rest_of body (end + 2) in (
+      subst (λ (t : List ℕ). (comment : List ℕ) × Begins (47 ∷ 42 ∷ body) (block comment) t) (sym borrowed)
           (take end body, block_found body end c.in_ok-end.ensures),
-      omega (arith, ap length lent, length-drop (end + 2) body),
+      omega (arith, ap length borrowed, length-drop (end + 2) body),
     )

@@ -4,8 +4,16 @@ use Rattle.std.proofs.lemmas.Result.{err_from_is_err_and}
 use Rattle.mcv_legs.specs.Answer.{IsAnswer}
 use Rattle.mcv_legs.specs.Fault.{IsRunFault}
 use Rattle.mcv_legs.specs.Limits.{input_limit}
+use Rattle.mcv_input.proofs.Whole.{outside_of_any}
 use Rattle.mcv_legs.proofs.Limits.{answer_of_all, fault_of_all}
 use Rattle.mcv_legs.proofs.legs.run_legs.Goals as goal
+
+pub returns-in_err-input-clause-fault : goal.returns-in_err-input-clause-fault
+returns-in_err-input-clause-fault g c =
+    let gone = err_from_is_err_and c.from_residual.result c.from_residual.ensures.1 in
+    rw (gone.1)
+    (subst (λ f. IfSome (g.R.Read.remaining c.args.reader.now) (λ input. IsRunFault input f)) (sym gone.2)
+    (outside_of_any IsRunFault (g.R.Read.remaining c.args.reader.now) c.in_err-input.field-0.0 (λ bytes. tt) (λ bytes. tt) c.in_err-input.ensures.fault))
 
 pub returns-clause-ok : goal.returns-clause-ok
 returns-clause-ok g c = (

@@ -9,8 +9,8 @@ use Rattle.mcv_route.proofs.Selected.{has-alias}
 use Rattle.mcv_witness.specs.Breaks.{BreaksCoverage}
 use Rattle.mcv_witness.specs.Finding.{finding_of}
 use Rattle.mcv_witness.specs.declared.finding.Finding.{Finding}
-use Rattle.mcv_make.specs.Place.{StandsAtGap}
-use Rattle.mcv_make.specs.Told.{IsTold, IsToldWith}
+use Rattle.mcv_make.specs.Place.{IsAtGap}
+use Rattle.mcv_make.specs.Shown.{IsShown, IsShownWith}
 use Rattle.mcv_make.proofs.Finding.{breaks-at}
 use Rattle.mcv_make.proofs.Gaps.{entry, numbered}
 use Rattle.mcv_make.proofs.finder.find.Goals as goal
@@ -31,14 +31,14 @@ returns-clause-breaks c =
     let r = c.args.routes.now in
     let g = c.args.gap.now in
     let prefix = c.in-Some.prefix.now in
-    both c.find_behind.result (λ f. StandsAtGap g (finding_of f)) (λ f. IsToldWith r prefix (finding_of f)) (λ f. BreaksCoverage r (finding_of f))
-    (λ f stands told. breaks-at r c.servers-servers.ensures.sound c.servers-servers.ensures.limits (All-map (λ (n : ℕ). 0 < n) (λ (s : SymbolValue). s.n) r.symbols c.symbols-symbols.ensures.some) g (finding_of f) prefix c.requires.gap stands c.first_alias.ensures.selected (sym c.in-Some.ensures.value) told)
-    c.find_behind.ensures.stands c.find_behind.ensures.told
+    both c.find_behind.result (λ f. IsAtGap g (finding_of f)) (λ f. IsShownWith r prefix (finding_of f)) (λ f. BreaksCoverage r (finding_of f))
+    (λ f at_gap shown. breaks-at r c.servers-servers.ensures.sound c.servers-servers.ensures.limits (All-map (λ (n : ℕ). 0 < n) (λ (s : SymbolValue). s.n) r.symbols c.symbols-symbols.ensures.some) g (finding_of f) prefix c.requires.gap at_gap c.first_alias.ensures.selected (sym c.in-Some.ensures.value) shown)
+    c.find_behind.ensures.at_gap c.find_behind.ensures.shown
 
-pub returns-clause-told : goal.returns-clause-told
-returns-clause-told c =
+pub returns-clause-shown : goal.returns-clause-shown
+returns-clause-shown c =
     let r = c.args.routes.now in
     let g = c.args.gap.now in
     let prefix = c.in-Some.prefix.now in
-    both c.find_behind.result (λ f. StandsAtGap g (finding_of f)) (λ f. IsToldWith r prefix (finding_of f)) (λ f. IsTold r (finding_of f))
-    (λ f stands told. (prefix, ap (first_alias r) stands.route ∙ sym c.in-Some.ensures.value, told)) c.find_behind.ensures.stands c.find_behind.ensures.told
+    both c.find_behind.result (λ f. IsAtGap g (finding_of f)) (λ f. IsShownWith r prefix (finding_of f)) (λ f. IsShown r (finding_of f))
+    (λ f at_gap shown. (prefix, ap (first_alias r) at_gap.route ∙ sym c.in-Some.ensures.value, shown)) c.find_behind.ensures.at_gap c.find_behind.ensures.shown

@@ -1,6 +1,6 @@
 use Rattle.mcv_route.proofs.MomentsHaveEras.{moments_have_eras}
-use Rattle.mcv_route.proofs.Passed.{since_is_last, eras_are_opened, eras_tell}
+use Rattle.mcv_route.proofs.Passed.{since_is_last, eras_are_opened, eras_say}
 use Rattle.mcv_route.proofs.eras.eras_are_opened_by_breaks.Goals as goal
 
 pub returns : goal.returns
-returns c = record { last = since_is_last; one_era = eras_are_opened; passed = eras_tell; moments = moments_have_eras }
+returns c = record { last = since_is_last; one_era = eras_are_opened; passed = eras_say; moments = moments_have_eras }

@@ -2,7 +2,7 @@ use Rattle.std.proofs.Common.{rules, ap, ◌∙◌}
 use Rattle.mcv_rules.specs.Arrivals.{known_at, next_arrived}
 use Rattle.mcv_rules.specs.Laid.{arrived}
 use Rattle.mcv_rules.proofs.Stopping.{answer_stops}
-use Rattle.mcv_rules.proofs.Turns.{answer_on}
+use Rattle.mcv_rules.proofs.SearchGoesOn.{answer_on}
 use Rattle.mcv_rules.proofs.answers.+arriving.Goals as goal
 
 -- a search that stops has its answer

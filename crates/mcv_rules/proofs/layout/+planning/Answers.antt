@@ -87,7 +87,7 @@ misses_passed_on-returns-in-None t c =
 
 pub with_shadows-returns-then-is_empty : goal.with_shadows-returns-then-is_empty
 with_shadows-returns-then-is_empty t c =
-    no_shadows _ (pool_view c.args.leaf.now) c.args.shadows.now (situation_at c.args.asked.now c.args.position.now) (search rules) c.in_ok-own.ensures
+    no_shadows _ (pool_view c.args.leaf.now) c.args.shadows.now (situation_at c.args.asked.now c.args.position.now) (search rules) (rw c.in_ok-copy.ensures at c.in_ok-own.ensures)
 
 -- ---- warm-ups
 
@@ -291,8 +291,3 @@ misses_passed_on-returns-in-Some t c =
     let writes : is_reading s.op ≡ false = sym c.is_reading.ensures ∙ c.if-not-is_reading.true in
     served c.child_laid_out.result (λ p. Serves p (view first) (under 0 s)) (λ p. Serves p (miss_failover (children_of children)) s)
     (λ p. serves-first_child p children first s writes (search rules) (search rules)) c.child_laid_out.ensures
-
--- ---- a child
-
-pub child_laid_out-returns : goal.child_laid_out-returns
-child_laid_out-returns t c = rw c.in_ok-place.ensures at c.laid_out.ensures

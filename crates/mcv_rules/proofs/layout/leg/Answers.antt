@@ -5,4 +5,4 @@ use Rattle.mcv_rules.proofs.Serving.{serves-pool}
 use Rattle.mcv_rules.proofs.layout.leg.Goals as goal
 
 pub returns : goal.returns
-returns c = serves-pool _ (pool_view c.args.leaf.now) (situation_at c.args.asked.now c.args.position.now) c.in_ok-copy.ensures refl (search rules) refl refl
+returns c = serves-pool _ (pool_view c.args.leaf.now) (situation_at c.args.asked.now c.args.position) refl refl (search rules) refl refl

@@ -3,7 +3,7 @@ use Rattle.std.specs.Prelude.{slice_index}
 use Rattle.mcv_rules.specs.Arrivals.{goes_on_after, known_at, outcome_in}
 use Rattle.mcv_rules.specs.Laid.{sent}
 use Rattle.mcv_rules.proofs.Stopping.{reply_stops}
-use Rattle.mcv_rules.proofs.Turns.{all_end, all_on, legs_end, legs_on, reply_on, worse_on}
+use Rattle.mcv_rules.proofs.SearchGoesOn.{all_end, all_on, legs_end, legs_on, reply_on, worse_on}
 use Rattle.mcv_rules.proofs.legs.+sending.Goals as goal
 
 -- a search that stops has its reply

@@ -1,9 +1,10 @@
-use Rattle.std.proofs.Common.{◌≡◌, ◌++◌, ◌<◌, ◌∷◌, ◌∙◌, ap, ap₂, arith, Bor, false, length, List, map, refl, rules, sym, true}
+use Rattle.std.proofs.Common.{◌≡◌, ◌++◌, ◌∷◌, ◌∙◌, ap, ap₂, arith, Bor, false, length, List, map, refl, rules, sym, true}
 use Rattle.std.proofs.lemmas.List.{length-map, take-map}
+use Rattle.mcv_base.specs.Reply.{worse}
 use Rattle.mcv_base.specs.declared.reply.Outcome.TheVariants.{Error}
 use Rattle.mcv_rules.specs.Arrivals.{goes_on}
 use Rattle.mcv_rules.specs.Plan as whole
-use Rattle.mcv_rules.specs.Plan.{Leg, Plan, worse}
+use Rattle.mcv_rules.specs.Plan.{Leg, Plan}
 use Rattle.mcv_rules.specs.Whole.{in_turn, leg_of, whole_of}
 use Rattle.mcv_rules.specs.declared.arrival.After.TheVariants as after
 use Rattle.mcv_rules.specs.declared.plan.PlannedLeg.{PlannedLeg}

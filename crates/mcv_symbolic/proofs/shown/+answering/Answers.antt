@@ -1,7 +1,8 @@
 use Rattle.std.proofs.Common.{◌≡◌, ◌++◌, ◌∷◌, ◌∙◌, ap, ap₂, false, refl, rules, sym, true}
+use Rattle.mcv_base.specs.Reply.{worse}
 use Rattle.mcv_rules.specs.Arrivals.{goes_on}
 use Rattle.mcv_rules.specs.Plan as whole
-use Rattle.mcv_rules.specs.Plan.{Plan, worse}
+use Rattle.mcv_rules.specs.Plan.{Plan}
 use Rattle.mcv_rules.specs.Whole.{in_turn, whole_of}
 use Rattle.mcv_rules.proofs.Whole.{part-All, part-Beside, part-InTurn, part-OnHit}
 use Rattle.mcv_symbolic.specs.Shown.{answers, history_of}

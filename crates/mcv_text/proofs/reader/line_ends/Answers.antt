@@ -4,7 +4,7 @@ use Rattle.std.proofs.lemmas.Result.{IfOk-weaker}
 use Rattle.mcv_text.specs.Request.{item_value, refused}
 use Rattle.mcv_text.specs.declared.item.Refusal.TheVariants as refusals
 use Rattle.mcv_text.specs.Stream.{Begins, Failed, First, Held, followed}
-use Rattle.mcv_text.specs.Reader.{EndsAt, Steps, stands}
+use Rattle.mcv_text.specs.Reader.{EndsAt, Steps, awaits_of}
 use Rattle.mcv_text.specs.declared.reader.Step.{Step}
 use Rattle.mcv_text.proofs.Ends.{too_long_begins, cut_at_end}
 use Rattle.mcv_text.proofs.reader.line_ends.Goals as goal
@@ -18,13 +18,13 @@ returns-then-end-len-clause-steps c =
 
 -- a step from the end of the line on, seen from the whole piece
 line_cut : {E : Type 0} (r : Result Step E) (line ext left piece : List ℕ) (end : ℕ) → EndsAt piece end → ext ≡ line ++ take end piece → IfOk r (λ s. s.used ≡ end + 1)
-    → IfOk r (λ s. (more : List ℕ) → Steps (Held ext) (10 ∷ more) s.item (stands left s.state) more)
-    → IfOk r (λ s. Steps (Held line) piece s.item (stands left s.state) (drop s.used piece))
+    → IfOk r (λ s. (more : List ℕ) → Steps (Held ext) (10 ∷ more) s.item (awaits_of left s.state) more)
+    → IfOk r (λ s. Steps (Held line) piece s.item (awaits_of left s.state) (drop s.used piece))
 line_cut (Ok s) line ext left piece end ends is used steps =
     let more : List ℕ = drop (end + 1) piece in
     let whole : ext ++ (10 ∷ more) ≡ line ++ piece = ap (λ (t : List ℕ). t ++ (10 ∷ more)) is ∙ append_assoc line (take end piece) (10 ∷ more) ∙ ap (λ (t : List ℕ). line ++ t) (sym (cut_at_end piece end ends)) in
-    subst (λ (n : ℕ). Steps (Held line) piece s.item (stands left s.state) (drop n piece)) (sym used)
-    (subst (λ (t : List ℕ). MatchOption s.item (followed (stands left s.state) more ≡ Held t) (λ i. First (Held t) (item_value i) (followed (stands left s.state) more))) whole (steps more))
+    subst (λ (n : ℕ). Steps (Held line) piece s.item (awaits_of left s.state) (drop n piece)) (sym used)
+    (subst (λ (t : List ℕ). MatchOption s.item (followed (awaits_of left s.state) more ≡ Held t) (λ i. First (Held t) (item_value i) (followed (awaits_of left s.state) more))) whole (steps more))
 line_cut (Err e) line ext left piece end ends is used steps = tt
 
 pub returns-clause-used : goal.returns-clause-used

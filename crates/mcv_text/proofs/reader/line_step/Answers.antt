@@ -3,12 +3,12 @@ use Rattle.std.proofs.lemmas.List.{drop_all}
 use Rattle.std.proofs.lemmas.Result.{IfOk-weaker}
 use Rattle.mcv_text.specs.declared.reader.Step.{Step}
 use Rattle.mcv_text.specs.Stream.{Held}
-use Rattle.mcv_text.specs.Reader.{Steps, stands}
+use Rattle.mcv_text.specs.Reader.{Steps, awaits_of}
 use Rattle.mcv_text.proofs.reader.line_step.Goals as goal
 
 -- a step that used the whole piece leaves nothing of it
-used_up : {E : Type 0} (r : Result Step E) (line left piece : List ℕ) → IfOk r (λ s. s.used ≡ length piece) → IfOk r (λ s. Steps (Held line) piece s.item (stands left s.state) []) → IfOk r (λ s. Steps (Held line) piece s.item (stands left s.state) (drop s.used piece))
-used_up (Ok s) line left piece all steps = subst (λ (t : List ℕ). Steps (Held line) piece s.item (stands left s.state) t) (sym (drop_all s.used piece (omega arith))) steps
+used_up : {E : Type 0} (r : Result Step E) (line left piece : List ℕ) → IfOk r (λ s. s.used ≡ length piece) → IfOk r (λ s. Steps (Held line) piece s.item (awaits_of left s.state) []) → IfOk r (λ s. Steps (Held line) piece s.item (awaits_of left s.state) (drop s.used piece))
+used_up (Ok s) line left piece all steps = subst (λ (t : List ℕ). Steps (Held line) piece s.item (awaits_of left s.state) t) (sym (drop_all s.used piece (omega arith))) steps
 used_up (Err e) line left piece all steps = tt
 
 pub returns-in-None-clause-used : goal.returns-in-None-clause-used

@@ -1,7 +1,7 @@
 use Rattle.std.proofs.Common.{sym, subst}
 use Rattle.std.proofs.lemmas.Result.{err_from_is_err_and}
 use Rattle.mcv_verdict.specs.Fault.{IsRefusedBy}
-use Rattle.mcv_verdict.specs.declared.fault.RunFault.{RunFault}
+use Rattle.mcv_input.specs.declared.fault.RunFault.{RunFault}
 use Rattle.mcv_verdict.proofs.Refused.{check_refused_so, text_refused_so}
 use Rattle.mcv_verdict.proofs.run.verdict_by.Goals as goal
 
@@ -11,8 +11,7 @@ returns-in_err-certificate-clause-fault c =
     rw (gone.1) (subst (λ (fault : RunFault). IsRefusedBy c.args.routes c.args.text.now fault) (sym gone.2)
     (text_refused_so c.args.routes c.args.text.now c.in_err-certificate.field-0.0 c.in_err-certificate.ensures.faulty))
 
-pub returns-in_err-accepted-clause-fault : goal.returns-in_err-accepted-clause-fault
-returns-in_err-accepted-clause-fault c =
-    let gone = err_from_is_err_and c.from_residual-in_err-accepted.result c.from_residual-in_err-accepted.ensures.1 in
-    rw (gone.1) (subst (λ (fault : RunFault). IsRefusedBy c.args.routes c.args.text.now fault) (sym gone.2)
-    (check_refused_so c.args.routes c.args.text.now c.in_ok-certificate.certificate c.in_err-accepted.field-0.0 c.in_ok-certificate.ensures.read c.in_err-accepted.ensures.fault))
+pub returns-clause-fault : goal.returns-clause-fault
+returns-clause-fault c =
+    subst (λ (fault : RunFault). IsRefusedBy c.args.routes c.args.text.now fault) (sym c.refused.ensures)
+    (check_refused_so c.args.routes c.args.text.now c.in_ok-certificate.certificate c.in-Err.fault c.in_ok-certificate.ensures.read c.in-Err.ensures.fault)

@@ -3,8 +3,8 @@ use Rattle.std.proofs.lemmas.List.Elements.{All-cons, All-nil}
 use Rattle.mcv_verifier_tests.proofs.Order.{Before, HasIndex, alone, four_rise}
 use Rattle.mcv_verifier_tests.proofs.judge.text_judged.Goals as goal
 
-pub number_told-requires : goal.number_told-requires
-number_told-requires c = record {
+pub number_reported-requires : goal.number_reported-requires
+number_reported-requires c = record {
   readable = alone Before _;
   indexed = All-cons HasIndex _ [] (omega arith) (All-nil HasIndex);
   acknowledged = four_rise _ _ _ _ c.in_ok-first.ensures c.in_ok-second.ensures c.in_ok-third.ensures c.in_ok-fourth.ensures;

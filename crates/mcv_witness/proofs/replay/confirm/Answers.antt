@@ -20,8 +20,8 @@ returns-then-not-is_choice c =
 pub returns-then-not-has_leaf : goal.returns-then-not-has_leaf
 returns-then-not-has_leaf c =
     let place = c.in-Some.place in
-    let stands = c.in-Some.ensures in
-    no_leaf c.args.routes.now (finding_of c.args.finding.now) (view place.route.now) place.rest (option_map (λ m. m.0) place.since) stands c.has_leaf.result c.if-not-has_leaf.true (c.has_leaf.ensures (view place.route.now) stands.route)
+    let placed = c.in-Some.ensures in
+    no_leaf c.args.routes.now (finding_of c.args.finding.now) (view place.route.now) place.rest (option_map (λ m. m.0) place.since) placed c.has_leaf.result c.if-not-has_leaf.true (c.has_leaf.ensures (view place.route.now) placed.route)
 
 pub returns-then-not-is_read : goal.returns-then-not-is_read
 returns-then-not-is_read c =
@@ -33,7 +33,7 @@ returns c =
     let routes = c.args.routes.now in
     let f = finding_of c.args.finding.now in
     let place = c.in-Some.place in
-    let stands = c.in-Some.ensures in
+    let placed = c.in-Some.ensures in
     let tests = sym (c.is_choice.ensures ∙ ap (λ x. has_indexes f.choice 0 x) (c.as_slice.ensures.value ∙ c.symbols.ensures.value)) ∙ c.if-not-is_choice.false in
-    all_but_missed routes f (view place.route.now) place.rest (option_map (λ m. m.0) place.since) stands (indexes_choice f.choice routes.symbols tests)
-    ((c.has_leaf.ensures (view place.route.now) stands.route).0 c.if-not-has_leaf.false) (c.is_read.ensures.0 c.if-not-is_read.false) c.is_missed.result c.is_missed.ensures
+    all_but_missed routes f (view place.route.now) place.rest (option_map (λ m. m.0) place.since) placed (indexes_choice f.choice routes.symbols tests)
+    ((c.has_leaf.ensures (view place.route.now) placed.route).0 c.if-not-has_leaf.false) (c.is_read.ensures.0 c.if-not-is_read.false) c.is_missed.result c.is_missed.ensures

@@ -16,5 +16,5 @@ returns-then-index-finding c = λ t is.
 pub returns : goal.returns
 returns c = λ t is.
     let f = finding_of c.args.finding.now in
-    let tells = subst (λ (xs : List ServerId). IsTrue c.holds_at.result ↔ (slice_get (map (λ s. s.0) xs) f.at ≡ Some f.server)) (c.deref-2.ensures.value ∙ ap (λ v. v.items) c.deref.ensures) c.holds_at.ensures in
-    at_leaf c.args.routes.now f t is (pool_view c.in-Some.leaf.now) c.holds_at.result c.in-Some.ensures (sym c.index.ensures ∙ c.if-index-finding.false) tells
+    let decides = subst (λ (xs : List ServerId). IsTrue c.holds_at.result ↔ (slice_get (map (λ s. s.0) xs) f.at ≡ Some f.server)) (c.deref-2.ensures.value ∙ ap (λ v. v.items) c.deref.ensures) c.holds_at.ensures in
+    at_leaf c.args.routes.now f t is (pool_view c.in-Some.leaf.now) c.holds_at.result c.in-Some.ensures (sym c.index.ensures ∙ c.if-index-finding.false) decides

@@ -5,8 +5,8 @@ use Rattle.mcv_world.proofs.Numbers.{same_some}
 use Rattle.mcv_core.specs.Taking.{HasTaken}
 use Rattle.mcv_core.proofs.calls.Calls.take.Goals as goal
 
-pub returns-in-Some : goal.returns-in-Some
-returns-in-Some c call here =
+pub returns-in-Some-clause-taken : goal.returns-in-Some-clause-taken
+returns-in-Some-clause-taken c call here =
     let there = sym c.get_mut.ensures.value ∙ ap option_copied_mut c.in-Some.is in
     record {
       call = c.take-part.new.self;

@@ -1,7 +1,7 @@
 use Rattle.std.proofs.Common.{◌≡◌, ◌∙◌, ◌&&◌, not, cond, sym, ap, subst, true≢false}
 use Rattle.mcv_base.specs.Operation.{is_delete}
 use Rattle.mcv_base.specs.Reply.{part_value}
-use Rattle.mcv_queues.specs.Legs.{is_flight}
+use Rattle.mcv_queues.specs.Legs.{IsSentTo, is_flight}
 use Rattle.mcv_queues.specs.Queues.{legs}
 use Rattle.mcv_queues.specs.declared.leg.State.TheVariants as states
 use Rattle.mcv_world.specs.Moves.{is_error_reply}
@@ -25,8 +25,9 @@ settle-requires c =
     let l = Landings.seen (legs d.queues c.args.leg.0) c.args.facts c.requires.at in
     let sent : l.leg.state ≡ states.Sent = ap (λ f. f.state) l.is ∙ c.requires.sent in
     record {
-      owner = c.owner.ensures (legs d.queues c.args.leg.0) c.requires.at;
+      owner = c.owner.ensures.owner (legs d.queues c.args.leg.0) c.requires.at;
       can = Landings.can_settle d c.args.leg.0 l.leg l.at kinds.Gone (ap (λ t. is_unanswered (awaiting_state t)) sent) (ap is_flight sent) (ap (λ t. count_in (state_of t)) sent) (λ e. absurd (true≢false e));
+      sent = λ _. subst (λ s. IsSentTo s.0 (legs d.queues c.args.leg.0)) (sym c.owner.ensures.server) (Landings.sent_of_seen (legs d.queues c.args.leg.0) c.args.facts c.requires.at c.requires.sent);
       one = c.requires.one;
     }
 

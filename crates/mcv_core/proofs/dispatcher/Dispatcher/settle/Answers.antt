@@ -11,7 +11,7 @@ use Rattle.mcv_core.proofs.SpoolNumbers
 use Rattle.mcv_core.proofs.dispatcher.Dispatcher.settle.Goals as goal
 
 pub leave-requires : goal.leave-requires
-leave-requires c = Settled.flies c.args.self.now c.args.leg.0 c.args.to c.requires.can
+leave-requires c = record { flies = Settled.flies c.args.self.now c.args.leg.0 c.args.to c.requires.can; sent = c.requires.sent }
 
 pub hear-step-requires : goal.hear-step-requires
 hear-step-requires c =

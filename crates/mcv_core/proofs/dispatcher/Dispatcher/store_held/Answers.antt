@@ -1,4 +1,4 @@
-use Rattle.std.proofs.Common.{◌∙◌, refl, sym, ap, subst, Some}
+use Rattle.std.proofs.Common.{◌∙◌, refl, sym, ap, subst, Some, true≢false}
 use Rattle.mcv_base.specs.Reply.{part_value}
 use Rattle.mcv_queues.specs.Legs.{is_flight}
 use Rattle.mcv_queues.specs.Queues.{legs}
@@ -22,6 +22,7 @@ settle-requires c =
     let l = Landings.stated (legs d.queues c.args.leg.0) states.Held c.requires in
     record {
       owner = c.owner_of-owner.ensures;
+      sent = λ e. absurd (true≢false (sym e));
       can = Landings.can_settle d c.args.leg.0 l.leg l.at (kinds.InSpool c.args.seq) (ap (λ t. is_unanswered (awaiting_state t)) l.is) (ap is_flight l.is) (ap (λ t. count_in (state_of t)) l.is)
           (λ e. Landings.counted_held d c.args.leg.0 l.leg l.at (ap (λ t. is_unanswered (state_of t)) l.is));
       one = c.not_found-reply.ensures.taken ∙ sym c.not_found-reply.ensures.outcome;

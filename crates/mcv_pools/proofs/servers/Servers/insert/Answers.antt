@@ -4,14 +4,14 @@ use Rattle.std.specs.Str.{bytes_eq}
 use Rattle.std.specs.String.{string_bytes}
 use Rattle.std.specs.Cmp.Lexicographic.{bytes_decides}
 use Rattle.mcv_pools.specs.Table.{is_in}
-use Rattle.mcv_pools.proofs.Tables.{kept, stands, there, new, grown, inserted, numbered_last, at_end}
+use Rattle.mcv_pools.proofs.Tables.{kept, is_at_number, there, new, grown, inserted, numbered_last, at_end}
 use Rattle.mcv_pools.proofs.servers.Servers.insert.Goals as goal
 
 pub returns-in-Some-clause-table : goal.returns-in-Some-clause-table
 returns-in-Some-clause-table c = kept bytes_eq bytes_decides c.args.self.now c.args.text.now c.in-Some.id.0 (sym c.in-Some.ensures)
 
 pub returns-in-Some-clause-place : goal.returns-in-Some-clause-place
-returns-in-Some-clause-place c = stands bytes_eq bytes_decides c.args.self.now c.args.text.now c.in-Some.id.0 (sym c.in-Some.ensures)
+returns-in-Some-clause-place c = is_at_number bytes_eq bytes_decides c.args.self.now c.args.text.now c.in-Some.id.0 (sym c.in-Some.ensures)
 
 pub returns-in-Some-clause-full : goal.returns-in-Some-clause-full
 returns-in-Some-clause-full c =

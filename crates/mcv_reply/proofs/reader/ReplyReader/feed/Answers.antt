@@ -1,7 +1,7 @@
 use Rattle.std.proofs.Common.{◌≡◌, ◌≤◌, ◌++◌, List, ℕ, length, sym, subst, true, ◌∙◌, refl}
 use Rattle.std.specs.Arc.{arc_value}
 use Rattle.mcv_reply.specs.Reader.{Answers, Feeds, Reading}
-use Rattle.mcv_reply.specs.Progress.{IsAt, stands_at}
+use Rattle.mcv_reply.specs.Progress.{IsAt, reader_state_at}
 use Rattle.mcv_reply.specs.Place.{is_clean}
 use Rattle.mcv_reply.proofs.Words.{key_clean, key_short}
 use Rattle.mcv_reply.proofs.Steps.{fed_at, feeds_at}
@@ -22,10 +22,10 @@ returns-in-Line c =
     let p = c.self.inside.progress in
     let new = c.take_piece.new.progress in
     let key_is : c.as_bytes.result.now ≡ arc_value c.self.inside.rest = c.as_bytes.ensures.value ∙ c.deref.ensures in
-    let last : Reading = record { op = c.self.inside.op; key = arc_value c.self.inside.rest; state = stands_at new.stage new } in
+    let last : Reading = record { op = c.self.inside.op; key = arc_value c.self.inside.rest; state = reader_state_at new.stage new } in
     subst (λ (v : Reading). Feeds v c.args.piece.now c.take_piece.result last) c.self.view_is (record {
       op = refl;
       key = refl;
-      answers = feeds_at c.self.inside.op (arc_value c.self.inside.rest) (stands_at p.stage p) (stands_at new.stage new) c.args.piece.now c.take_piece.result (fed_at p p.stage c.in-Line.is)
-          (λ bytes e. subst (λ (t : List ℕ). Answers c.self.inside.op t (bytes ++ c.args.piece.now) c.take_piece.result (stands_at new.stage new)) key_is (c.take_piece.ensures.answers bytes e));
+      answers = feeds_at c.self.inside.op (arc_value c.self.inside.rest) (reader_state_at p.stage p) (reader_state_at new.stage new) c.args.piece.now c.take_piece.result (fed_at p p.stage c.in-Line.is)
+          (λ bytes e. subst (λ (t : List ℕ). Answers c.self.inside.op t (bytes ++ c.args.piece.now) c.take_piece.result (reader_state_at new.stage new)) key_is (c.take_piece.ensures.answers bytes e));
     })

@@ -5,7 +5,7 @@ use Rattle.mcv_rules.specs.Called.{situation_of}
 use Rattle.mcv_rules.specs.History.{history_of}
 use Rattle.mcv_rules.specs.Status.{status_of, status_outcome}
 use Rattle.mcv_rules.specs.declared.status.Status.TheVariants.{Replied, Waits}
-use Rattle.mcv_rules.proofs.Told.{status_called, status_from, status_told}
+use Rattle.mcv_rules.proofs.StatusOfReply.{status_called, status_from, status_of_reply}
 use Rattle.mcv_rules.proofs.eval.Eval.status.Goals as goal
 
 -- the answer that the plan gives is the route's
@@ -28,7 +28,7 @@ pub returns-in-None-clause-outcome : goal.returns-in-None-clause-outcome
 returns-in-None-clause-outcome c =
     let call = c.args.self.now in
     let xs = c.args.outcomes.now.answered.now in
-    ap (status_outcome xs) (waits c) ∙ status_told call.op xs call.tree (situation_of call)
+    ap (status_outcome xs) (waits c) ∙ status_of_reply call.op xs call.tree (situation_of call)
 
 pub returns-in-Some-clause-status : goal.returns-in-Some-clause-status
 returns-in-Some-clause-status c = replied c
@@ -37,4 +37,4 @@ pub returns-in-Some-clause-outcome : goal.returns-in-Some-clause-outcome
 returns-in-Some-clause-outcome c =
     let call = c.args.self.now in
     let xs = c.args.outcomes.now.answered.now in
-    ap (status_outcome xs) (replied c) ∙ status_told call.op xs call.tree (situation_of call)
+    ap (status_outcome xs) (replied c) ∙ status_of_reply call.op xs call.tree (situation_of call)

@@ -3,7 +3,7 @@ use Rattle.std.specs.Prelude.{is_some}
 use Rattle.std.proofs.lemmas.List.{take_all}
 use Rattle.mcv_rules.specs.Arrivals.{found_in, known_at, own_found, own_arrived}
 use Rattle.mcv_rules.specs.History.{history_of}
-use Rattle.mcv_rules.proofs.Own.{count-grows, own_found-grows, same_bytes}
+use Rattle.mcv_rules.proofs.KnownIsHistory.{count-grows, own_found-grows, same_bytes}
 use Rattle.mcv_rules.proofs.known.Known.of.Goals as goal
 
 -- the count grows by one at most
@@ -32,7 +32,7 @@ loop-place-preserved c =
           rw heard.count (omega (arith, one));
     }
 
--- the table of all entries tells of each position what the list does
+-- the table of all entries says of each position what the list does
 pub returns : goal.returns
 returns c =
     let xs = c.args.outcomes.now in
