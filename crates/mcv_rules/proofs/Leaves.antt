@@ -12,7 +12,7 @@ use Rattle.mcv_route.specs.declared.launch.Launch.{Launch}
 use Rattle.mcv_rules.specs.Plan.{Leg, Send, Both, OnMiss, OnHit}
 use Rattle.mcv_rules.specs.Plans.{leg_of, plan, plan_each}
 use Rattle.mcv_rules.specs.Rows.{LegsAreOfPools}
-use Rattle.mcv_rules.proofs.Legs.{AllLegs, AllLegsEach, all_among, all_chosen, all_many, all_shadows, all_so, all_way, all_when, launches_have}
+use Rattle.mcv_rules.proofs.EachLeg.{AllLegs, AllLegsEach, all_among, all_chosen, all_many, all_shadows, all_so, all_way, all_when, launches_have}
 
 -- the pool whose leg it is
 abbrev pub leaf_of : Leg → Pool

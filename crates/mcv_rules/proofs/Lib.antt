@@ -8,7 +8,7 @@ pub mod Relate
 pub mod ByKind
 pub mod Replied
 pub mod Sent
-pub mod Legs
+pub mod EachLeg
 pub mod Stays
 pub mod Verdicts
 pub mod Sound

@@ -10,7 +10,7 @@ use Rattle.mcv_route.specs.Tree.{Tree, Trees, pool, null, error, many, warm_up, 
 use Rattle.mcv_rules.specs.Plan.{Leg, Send, Both, OnMiss, OnHit}
 use Rattle.mcv_rules.specs.Plans.{leg_of, plan, plan_each}
 use Rattle.mcv_rules.specs.Rows.{LegsHaveTheOperation, OwnOperation}
-use Rattle.mcv_rules.proofs.Legs.{AllLegs, AllLegsEach, all_among, all_chosen, all_many, all_shadows, all_so, all_way, all_when, launches_have}
+use Rattle.mcv_rules.proofs.EachLeg.{AllLegs, AllLegsEach, all_among, all_chosen, all_many, all_shadows, all_so, all_way, all_when, launches_have}
 
 -- the operation that is asked, or the add of a warm-up
 abbrev HasOperation : Op → Op → Type 0

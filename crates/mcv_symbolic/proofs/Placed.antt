@@ -8,7 +8,7 @@ use Rattle.mcv_rules.specs.Plan.{Leg, Plan, Send, Reply, Both, Beside, OnError, 
 use Rattle.mcv_rules.specs.Plans.{plan}
 use Rattle.mcv_rules.proofs.Leaves.{IsOf, placed, pool_at}
 pub use Rattle.mcv_rules.proofs.Leaves.{leaf_of}
-use Rattle.mcv_rules.proofs.Legs.{AllLegs}
+use Rattle.mcv_rules.proofs.EachLeg.{AllLegs}
 use Rattle.mcv_symbolic.specs.Structure.{nothing, Counts, Acknowledged, Hits}
 
 -- ---- what all legs of a plan have

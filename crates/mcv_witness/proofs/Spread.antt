@@ -9,7 +9,7 @@ use Rattle.mcv_route.specs.Situation.{Situation, under}
 use Rattle.mcv_route.specs.Tree.{Range, Tree, Trees, none, child}
 use Rattle.mcv_route.specs.declared.launch.Launch.{Launch}
 use Rattle.mcv_rules.proofs.Leaves.{IsOf, placed}
-use Rattle.mcv_rules.proofs.Legs.{AllOf, launches_have}
+use Rattle.mcv_rules.proofs.EachLeg.{AllOf, launches_have}
 use Rattle.mcv_witness.proofs.Each.{Each, each_append, each_map}
 use Rattle.mcv_witness.proofs.Regions.{At, Below, From, at_below, below_from, from_later}
 
