@@ -5,7 +5,7 @@ use Rattle.serde_json.specs.Data.{Data, Members, no_members, member}
 use Rattle.mcv_names.specs.Fault.{Read}
 use Rattle.mcv_names.specs.Lists.{each, each_member}
 use Rattle.mcv_names.specs.Path.{key_step, item_step}
-use Rattle.mcv_config.specs.Plan.{Named, Nameds, no_named, named, pool, server, null, error, all_sync, all_initial, all_async, failover, miss_failover, warm_up, migrate, prefix_selector, operation_selector, IsSoundRoute, AreSoundRoutes}
+use Rattle.mcv_config.specs.ConfigValue.{Named, Nameds, no_named, named, pool, server, null, error, all_sync, all_initial, all_async, failover, miss_failover, warm_up, migrate, prefix_selector, operation_selector, IsSoundRoute, AreSoundRoutes}
 use Rattle.mcv_config.specs.Pools.{Table}
 use Rattle.mcv_config.specs.Walk.{SoFar, with_pool}
 use Rattle.mcv_names.proofs.Holds.{Holds, holds_bind}

@@ -8,7 +8,7 @@ use Rattle.mcv_base.specs.declared.operation.Mark.TheVariants.{Add as Added}
 use Rattle.mcv_base.specs.declared.reply.Outcome.{Outcome}
 use Rattle.mcv_base.specs.declared.reply.Outcome.TheVariants.{Good, Soft, Error}
 use Rattle.mcv_route.specs.Outcomes.{Choice, outcomes}
-use Rattle.mcv_config.specs.Plan as plan
+use Rattle.mcv_config.specs.ConfigValue as config
 use Rattle.mcv_pools.specs.declared.symbol.HashFunc.TheVariants.{Ch3, Crc32}
 use Rattle.mcv_pools.specs.Symbol.{same_symbol}
 use Rattle.mcv_pools.specs.Table.{numbered}
@@ -235,19 +235,19 @@ cold_again = refl
 nothing_there : tree_at (all_sync (two (one 7) (one 8))) (2 ∷ []) ≡ None
 nothing_there = refl
 
--- ---- what a plan names: a pool of two servers with a shadow, the second server as a pool of its own, and the pool again, under another hash and under the first
+-- ---- what a configuration names: a pool of two servers with a shadow, the second server as a pool of its own, and the pool again, under another hash and under the first
 
 abbrev pools : List (List ℕ)
 pools = (7 ∷ 8 ∷ []) ∷ []
 
-abbrev shadowed : plan.Named
-shadowed = plan.pool 0 Ch3 [] (record { first = 0; last = 1 } ∷ []) (plan.named (plan.server 0 1) plan.no_named)
+abbrev shadowed : config.Named
+shadowed = config.pool 0 Ch3 [] (record { first = 0; last = 1 } ∷ []) (config.named (config.server 0 1) config.no_named)
 
-abbrev salted : plan.Named
-salted = plan.pool 0 Crc32 (120 ∷ []) [] plan.no_named
+abbrev salted : config.Named
+salted = config.pool 0 Crc32 (120 ∷ []) [] config.no_named
 
-abbrev asks : plan.Named
-asks = plan.all_sync (plan.named shadowed (plan.named (plan.server 0 1) (plan.named salted (plan.named (plan.pool 0 Ch3 [] [] plan.no_named) plan.no_named))))
+abbrev asks : config.Named
+asks = config.all_sync (config.named shadowed (config.named (config.server 0 1) (config.named salted (config.named (config.pool 0 Ch3 [] [] config.no_named) config.no_named))))
 
 abbrev second_server : Tree
 second_server = pool (record { symbol = 1; servers = 8 ∷ [] }) [] none
@@ -261,10 +261,10 @@ with_shadow = pool (record { symbol = 0; servers = 7 ∷ 8 ∷ [] }) (record { f
 named_tree : tree_named (numbered same_symbol (symbols_in pools asks)) pools asks ≡ all_sync (child with_shadow (child second_server (two (pool_of_two 2) (pool_of_two 0))))
 named_tree = refl
 
-warm_up_walk : symbols_in pools (plan.warm_up salted (plan.server 0 0) 60) ≡ record { func = Crc32; salt = 120 ∷ []; n = 2 } ∷ record { func = Ch3; salt = []; n = 1 } ∷ []
+warm_up_walk : symbols_in pools (config.warm_up salted (config.server 0 0) 60) ≡ record { func = Crc32; salt = 120 ∷ []; n = 2 } ∷ record { func = Ch3; salt = []; n = 1 } ∷ []
 warm_up_walk = refl
 
-named_migration : tree_named [] pools (plan.migrate plan.null plan.error 100 10) ≡ migrate null error 100 10
+named_migration : tree_named [] pools (config.migrate config.null config.error 100 10) ≡ migrate null error 100 10
 named_migration = refl
 
 -- the add that goes to the cold side is no handle of its own
@@ -330,8 +330,8 @@ get_second_of_two = refl
 abbrev all_servers : Tree
 all_servers = for_delete (all_sync (two (one 7) (one 8))) (pool_of_two 1)
 
-abbrev names_all_servers : plan.Named
-names_all_servers = plan.operation_selector (Some Delete ∷ []) (plan.named (plan.all_sync (plan.named (plan.server 0 0) (plan.named (plan.server 0 1) plan.no_named))) (plan.named (plan.pool 0 Ch3 [] [] plan.no_named) plan.no_named))
+abbrev names_all_servers : config.Named
+names_all_servers = config.operation_selector (Some Delete ∷ []) (config.named (config.all_sync (config.named (config.server 0 0) (config.named (config.server 0 1) config.no_named))) (config.named (config.pool 0 Ch3 [] [] config.no_named) config.no_named))
 
 all_servers_named : tree_named (numbered same_symbol (symbols_in pools names_all_servers)) pools names_all_servers ≡ all_servers
 all_servers_named = refl

@@ -2,7 +2,7 @@
 use Rattle.std.proofs.Common.{◌≡◌, ℕ, List, ◌++◌, map, Vec, Box, Global, Option, Some, None, rules}
 use Rattle.mcv_base.specs.declared.operation.Op.{Op}
 use Rattle.mcv_pools.specs.declared.symbol.HashFunc.{HashFunc}
-use Rattle.mcv_config.specs.Plan.{Range, Named, Nameds, nameds_of, named_of, policy_of, prefix_of, shadow_of, pool, server, null, error, all_sync, all_initial, all_async, failover, miss_failover, warm_up, migrate, prefix_selector, operation_selector}
+use Rattle.mcv_config.specs.ConfigValue.{Range, Named, Nameds, nameds_of, named_of, policy_of, prefix_of, shadow_of, pool, server, null, error, all_sync, all_initial, all_async, failover, miss_failover, warm_up, migrate, prefix_selector, operation_selector}
 pub use Rattle.mcv_route.specs.Walk.{last_named}
 use Rattle.mcv_config.specs.declared.config.NamedPolicy.{NamedPolicy, out-NamedPolicy}
 use Rattle.mcv_config.specs.declared.config.NamedPrefix.{NamedPrefix, out-NamedPrefix}
