@@ -4,6 +4,7 @@ use Rattle.serde_json.specs.Data.{Data, number, unsigned, string, array, object,
 use Rattle.mcv_base.specs.declared.operation.Op.TheVariants.{Delete}
 use Rattle.mcv_pools.specs.declared.symbol.HashFunc.TheVariants.{Crc32}
 use Rattle.mcv_names.specs.declared.fault.FaultKind.TheVariants.{UnknownKey, WrongKind, UnknownPool, Empty, AliasTwice, LeftOut}
+use Rattle.mcv_names.specs.declared.handle.Many.TheVariants.{AllSync}
 use Rattle.mcv_names.specs.Fault.{good, bad, refused}
 use Rattle.mcv_names.specs.Handles.{handle_named, is_elsewhere, key_fault, keys_read, name_fault, op_named, stray_fault, type_read}
 use Rattle.mcv_names.specs.Path.{item_step, key_step}
@@ -14,7 +15,7 @@ use Rattle.mcv_config.specs.Hash.{func_named, func_read, hash_fields}
 use Rattle.mcv_config.specs.Limits.{handles_in, IsWithin}
 use Rattle.mcv_names.specs.Lists.{each, each_member, some_items}
 use Rattle.mcv_config.specs.Numbers.{index_read, seconds_read}
-use Rattle.mcv_config.specs.ConfigValue.{Named, ConfigValue, pool, server, null, error, all_sync, migrate, operation_selector, no_named, named}
+use Rattle.mcv_config.specs.ConfigValue.{Named, ConfigValue, pool, server, null, error, many, migrate, operation_selector, no_named, named}
 use Rattle.mcv_config.specs.Pools.{listed_servers, pool_named, pool_read, server_read, servers_read}
 use Rattle.mcv_config.specs.Routes.{cut, fields, interval_read, migrate_fields, object_route, plain_pool, pool_field, pool_fields, pool_object, route, servers, start_read, text_children, text_route}
 use Rattle.mcv_config.specs.Selectors.{policy_read, selector_fields}
@@ -44,7 +45,7 @@ pool_by_name : root [] (two_pools (string (codes "PoolRoute|B"))) ≡ good (conf
 unfolding root config_read routing_read pool_read servers_read listed_servers each server_read is_server is_host is_port each_member keys_read key_fault pool_named is_elsewhere route text_route cut handle_named
 pool_by_name = refl
 
-servers_of_a_pool : root [] (two_pools (string (codes "AllSyncRoute|Pool|A"))) ≡ good (config (all_sync (named (server 0 0) (named (server 0 1) no_named))))
+servers_of_a_pool : root [] (two_pools (string (codes "AllSyncRoute|Pool|A"))) ≡ good (config (many AllSync (named (server 0 0) (named (server 0 1) no_named))))
 unfolding root config_read routing_read pool_read servers_read listed_servers each server_read is_server is_host is_port each_member keys_read key_fault pool_named is_elsewhere route text_route cut handle_named text_children servers
 servers_of_a_pool = refl
 
@@ -170,7 +171,7 @@ unfolding servers_read listed_servers
 no_servers = refl
 
 abbrev both_servers : Named
-both_servers = all_sync (named (server 0 0) (named (server 0 1) no_named))
+both_servers = many AllSync (named (server 0 0) (named (server 0 1) no_named))
 
 -- the servers of a pool are handles too, one level deeper
 three_handles : handles_in both_servers ≡ 3

@@ -8,7 +8,6 @@ use Rattle.mcv_names.specs.declared.fault.FaultKind.{FaultKind}
 use Rattle.mcv_names.specs.declared.handle.Handle.{Handle}
 use Rattle.mcv_names.specs.declared.handle.Handle.TheVariants as handles
 use Rattle.mcv_names.specs.declared.handle.Many.{Many}
-use Rattle.mcv_names.specs.declared.handle.Many.TheVariants as many_handles
 use Rattle.mcv_names.specs.declared.handle.Object.TheVariants as objects
 use Rattle.mcv_names.specs.declared.handle.Selector.{Selector}
 use Rattle.mcv_names.specs.declared.handle.Selector.TheVariants as selectors
@@ -171,19 +170,15 @@ module _ (depth : ℕ) (reader : Reader) (one : (w : SoFar) (path : List ℕ) (d
       (λ _. holds_then (AreRead w.room) (pool_named w.pools path (drop 5 text)) _ (λ i. servers_fit depth w path i s))
       (λ _. only_fits w path (string text) s)
 
-  branch_fits : (room : ℕ) (m : Many) (xs : List Named × SoFar) → AreRead room xs → Holds (IsHandle room) (with_children m xs)
-  branch_fits room many_handles.AllSync xs h = record { holds = h.holds; room_left = omega (arith, h.room_left); small = h.small }
-  branch_fits room many_handles.AllInitial xs h = record { holds = h.holds; room_left = omega (arith, h.room_left); small = h.small }
-  branch_fits room many_handles.AllAsync xs h = record { holds = h.holds; room_left = omega (arith, h.room_left); small = h.small }
-  branch_fits room many_handles.Failover xs h = record { holds = h.holds; room_left = omega (arith, h.room_left); small = h.small }
-  branch_fits room many_handles.MissFailover xs h = record { holds = h.holds; room_left = omega (arith, h.room_left); small = h.small }
+  branch_fits : (room : ℕ) (kind : Many) (xs : List Named × SoFar) → AreRead room xs → Holds (IsHandle room) (with_children kind xs)
+  branch_fits room kind xs h = record { holds = h.holds; room_left = omega (arith, h.room_left); small = h.small }
 
   of_name_fits : (h : Result Handle FaultKind) (path : List ℕ) (w : SoFar) → IsSmall w → Holds (IsHandle w.room) (of_name h path w)
   of_name_fits (Err kind) path w s = tt
   of_name_fits (Ok handles.Pool) path w s = tt
   of_name_fits (Ok handles.Null) path w s = alone w null s tt refl
   of_name_fits (Ok handles.Error) path w s = alone w error s tt refl
-  of_name_fits (Ok (handles.Many m)) path w s = tt
+  of_name_fits (Ok (handles.Many kind)) path w s = tt
   of_name_fits (Ok handles.WarmUp) path w s = tt
   of_name_fits (Ok handles.Migrate) path w s = tt
   of_name_fits (Ok (handles.Selector k)) path w s = tt
@@ -194,8 +189,8 @@ module _ (depth : ℕ) (reader : Reader) (one : (w : SoFar) (path : List ℕ) (d
       holds_then (IsHandle w.room) (pool_named w.pools path text) _ (λ i. alone w (plain_pool i) s (omega arith, tt) refl)
   of_name_and_text_fits w path (Ok handles.Null) text s = tt
   of_name_and_text_fits w path (Ok handles.Error) text s = alone w error s tt refl
-  of_name_and_text_fits w path (Ok (handles.Many m)) text s =
-      holds_bind (AreRead w.room) (IsHandle w.room) (text_children depth reader w path text) _ (text_children_fit w path text s) (branch_fits w.room m)
+  of_name_and_text_fits w path (Ok (handles.Many kind)) text s =
+      holds_bind (AreRead w.room) (IsHandle w.room) (text_children depth reader w path text) _ (text_children_fit w path text s) (branch_fits w.room kind)
   of_name_and_text_fits w path (Ok handles.WarmUp) text s = tt
   of_name_and_text_fits w path (Ok handles.Migrate) text s = tt
   of_name_and_text_fits w path (Ok (handles.Selector k)) text s = tt
@@ -338,7 +333,7 @@ module _ (depth : ℕ) (reader : Reader) (one : (w : SoFar) (path : List ℕ) (d
   fields_fit w path d handles.Pool s = pool_fields_fit w path d s
   fields_fit w path d handles.Null s = alone w null s tt refl
   fields_fit w path d handles.Error s = alone w error s tt refl
-  fields_fit w path d (handles.Many m) s = holds_bind (AreRead w.room) (IsHandle w.room) (children_field depth reader w path d) _ (children_field_fits w path d s) (branch_fits w.room m)
+  fields_fit w path d (handles.Many kind) s = holds_bind (AreRead w.room) (IsHandle w.room) (children_field depth reader w path d) _ (children_field_fits w path d s) (branch_fits w.room kind)
   fields_fit w path d handles.WarmUp s = warm_up_fits w path d s
   fields_fit w path d handles.Migrate s = migrate_fits w path d s
   fields_fit w path d (handles.Selector k) s = selector_fits k w path d s

@@ -9,7 +9,6 @@ use Rattle.mcv_names.specs.declared.fault.FaultKind.{FaultKind}
 use Rattle.mcv_names.specs.declared.handle.Handle.{Handle}
 use Rattle.mcv_names.specs.declared.handle.Handle.TheVariants as handles
 use Rattle.mcv_names.specs.declared.handle.Many.{Many}
-use Rattle.mcv_names.specs.declared.handle.Many.TheVariants as many_handles
 use Rattle.mcv_names.specs.declared.handle.Selector.{Selector}
 use Rattle.mcv_names.specs.declared.handle.Selector.TheVariants as selectors
 use Rattle.mcv_names.specs.declared.handle.Object.TheVariants as objects
@@ -152,19 +151,15 @@ module _ (depth : ℕ) (reader : Reader) (one : (w : SoFar) (path : List ℕ) (d
       (λ _. holds_bind (IsNumber w.pools.servers) (Grows AreSome w.pools.servers) (pool_named w.pools path (drop 5 text)) _ (named_sound w path (drop 5 text) s) (λ i h. servers_sound depth w path i s h))
       (λ _. only_sound w path (string text) s)
 
-  branch_sound : (ps : List (List ℕ)) (m : Many) (xs : List Named × SoFar) → Grows AreSome ps xs → Holds (Grows IsSoundRoute ps) (with_children m xs)
-  branch_sound ps many_handles.AllSync xs h = record { holds = h.holds; later = h.later; sound = h.sound }
-  branch_sound ps many_handles.AllInitial xs h = record { holds = h.holds; later = h.later; sound = h.sound }
-  branch_sound ps many_handles.AllAsync xs h = record { holds = h.holds; later = h.later; sound = h.sound }
-  branch_sound ps many_handles.Failover xs h = record { holds = h.holds; later = h.later; sound = h.sound }
-  branch_sound ps many_handles.MissFailover xs h = record { holds = h.holds; later = h.later; sound = h.sound }
+  branch_sound : (ps : List (List ℕ)) (kind : Many) (xs : List Named × SoFar) → Grows AreSome ps xs → Holds (Grows IsSoundRoute ps) (with_children kind xs)
+  branch_sound ps kind xs h = record { holds = h.holds; later = h.later; sound = h.sound }
 
   of_name_sound : (h : Result Handle FaultKind) (path : List ℕ) (w : SoFar) → IsSoFar w → Holds (Grows IsSoundRoute w.pools.servers) (of_name h path w)
   of_name_sound (Err kind) path w s = tt
   of_name_sound (Ok handles.Pool) path w s = tt
   of_name_sound (Ok handles.Null) path w s = still IsSoundRoute w null s tt
   of_name_sound (Ok handles.Error) path w s = still IsSoundRoute w error s tt
-  of_name_sound (Ok (handles.Many m)) path w s = tt
+  of_name_sound (Ok (handles.Many kind)) path w s = tt
   of_name_sound (Ok handles.WarmUp) path w s = tt
   of_name_sound (Ok handles.Migrate) path w s = tt
   of_name_sound (Ok (handles.Selector k)) path w s = tt
@@ -175,8 +170,8 @@ module _ (depth : ℕ) (reader : Reader) (one : (w : SoFar) (path : List ℕ) (d
       holds_bind (IsNumber w.pools.servers) (Grows IsSoundRoute w.pools.servers) (pool_named w.pools path text) _ (named_sound w path text s) (λ i h. still IsSoundRoute w (plain_pool i) s (h, tt))
   of_name_and_text_sound w path (Ok handles.Null) text s = tt
   of_name_and_text_sound w path (Ok handles.Error) text s = still IsSoundRoute w error s tt
-  of_name_and_text_sound w path (Ok (handles.Many m)) text s =
-      holds_bind (Grows AreSome w.pools.servers) (Grows IsSoundRoute w.pools.servers) (text_children depth reader w path text) _ (text_children_sound w path text s) (branch_sound w.pools.servers m)
+  of_name_and_text_sound w path (Ok (handles.Many kind)) text s =
+      holds_bind (Grows AreSome w.pools.servers) (Grows IsSoundRoute w.pools.servers) (text_children depth reader w path text) _ (text_children_sound w path text s) (branch_sound w.pools.servers kind)
   of_name_and_text_sound w path (Ok handles.WarmUp) text s = tt
   of_name_and_text_sound w path (Ok handles.Migrate) text s = tt
   of_name_and_text_sound w path (Ok (handles.Selector k)) text s = tt
@@ -322,8 +317,8 @@ module _ (depth : ℕ) (reader : Reader) (one : (w : SoFar) (path : List ℕ) (d
   fields_sound w path d handles.Pool s = pool_fields_sound w path d s
   fields_sound w path d handles.Null s = still IsSoundRoute w null s tt
   fields_sound w path d handles.Error s = still IsSoundRoute w error s tt
-  fields_sound w path d (handles.Many m) s =
-      holds_bind (Grows AreSome w.pools.servers) (Grows IsSoundRoute w.pools.servers) (children_field depth reader w path d) _ (children_field_sound w path d s) (branch_sound w.pools.servers m)
+  fields_sound w path d (handles.Many kind) s =
+      holds_bind (Grows AreSome w.pools.servers) (Grows IsSoundRoute w.pools.servers) (children_field depth reader w path d) _ (children_field_sound w path d s) (branch_sound w.pools.servers kind)
   fields_sound w path d handles.WarmUp s = warm_up_sound w path d s
   fields_sound w path d handles.Migrate s = migrate_sound w path d s
   fields_sound w path d (handles.Selector k) s = selector_sound k w path d s

@@ -6,6 +6,7 @@ use Rattle.std.specs.declared.sync.Arc.{Arc}
 use Rattle.std.proofs.lemmas.List.{map-append, take_more, get_or-map, length-map}
 use Rattle.std.proofs.lemmas.List.Elements.{All-nil, All-cons, All-head}
 use Rattle.mcv_base.specs.declared.request.ServerId.{ServerId}
+use Rattle.mcv_names.specs.declared.handle.Many.{Many as Kind}
 use Rattle.mcv_config.specs.ConfigValue.{Named, named_of, policy_of, prefix_of, shadow_of, nameds_of, IsSoundRoute, AreSoundRoutes}
 use Rattle.mcv_config.specs.ConfigValue as config
 use Rattle.mcv_config.specs.declared.config.NamedRoute as asked
@@ -22,14 +23,14 @@ use Rattle.mcv_route.specs.View.{view, operation_view, prefix_view, shadow_view,
 use Rattle.mcv_route.specs.Walk.{IsBuilt, last_named, list_view}
 use Rattle.mcv_route.specs.Tree.{Tree, pool, warm_up, migrate}
 use Rattle.mcv_route.specs.declared.tree.Leaf.{Leaf}
-use Rattle.mcv_route.specs.declared.tree.Route.{Route, Pool, Null, Error, AllSync, AllInitial, AllAsync, Failover, MissFailover, WarmUp, Migrate, PrefixSelector, OperationSelector}
+use Rattle.mcv_route.specs.declared.tree.Route.{Route, Pool, Null, Error, Many, WarmUp, Migrate, PrefixSelector, OperationSelector}
 use Rattle.mcv_route.specs.declared.tree.OperationPolicy.{OperationPolicy}
 use Rattle.mcv_route.specs.declared.tree.PrefixPolicy.{PrefixPolicy}
 use Rattle.mcv_route.specs.declared.tree.Shadow.{Shadow}
-use Rattle.mcv_route.proofs.Nameds.{children_of, names_of, policies_of, policy_of-out, prefix_of-out, shadow_of-out, prefix_routes_of, named_of-Pool, named_of-Server, named_of-Null, named_of-Error, named_of-AllSync, named_of-AllInitial, named_of-AllAsync, named_of-Failover, named_of-MissFailover, named_of-WarmUp, named_of-Migrate, named_of-PrefixSelector, named_of-OperationSelector}
+use Rattle.mcv_route.proofs.Nameds.{children_of, names_of, policies_of, policy_of-out, prefix_of-out, shadow_of-out, prefix_routes_of, named_of-Pool, named_of-Server, named_of-Null, named_of-Error, named_of-Many, named_of-WarmUp, named_of-Migrate, named_of-PrefixSelector, named_of-OperationSelector}
 use Rattle.mcv_route.proofs.Nameds.{ranges_of as asked_ranges, targets_of as asked_targets, prefixes_of as asked_prefixes}
-use Rattle.mcv_route.proofs.Views.{operations_of, prefixes_of, ranges_of, targets_of, last_view, view-Pool, view-Null, view-Error, view-AllSync, view-AllInitial, view-AllAsync, view-Failover, view-MissFailover, view-WarmUp, view-Migrate, view-PrefixSelector, view-OperationSelector}
-use Rattle.mcv_route.proofs.Numbers.{built-append, built-none, built-pool, built-server, built-all_sync, built-all_initial, built-all_async, built-failover, built-miss_failover, built-warm_up, built-migrate, built-prefix_selector, built-operation_selector}
+use Rattle.mcv_route.proofs.Views.{operations_of, prefixes_of, ranges_of, targets_of, last_view, view-Pool, view-Null, view-Error, view-Many, view-WarmUp, view-Migrate, view-PrefixSelector, view-OperationSelector}
+use Rattle.mcv_route.proofs.Numbers.{built-append, built-none, built-pool, built-server, built-many, built-warm_up, built-migrate, built-prefix_selector, built-operation_selector}
 
 -- ---- lists
 
@@ -74,20 +75,8 @@ sound-shadows pools route k func salt v is h =
 pub sound-server : (pools : List (List ℕ)) (route : NamedRoute) (k n : ℕ) → route ≡ asked.Server k n → IsSoundRoute pools (named_of route) → (k < length pools) × (n < length (pool_at pools k))
 sound-server pools route k n is h = subst (IsSoundRoute pools) (ap named_of is ∙ named_of-Server k n) h
 
-pub sound-AllSync : (pools : List (List ℕ)) (route : NamedRoute) (v : Vec NamedRoute Global) → route ≡ asked.AllSync v → IsSoundRoute pools (named_of route) → All (IsSoundRoute pools) (map named_of v.items)
-sound-AllSync pools route v is h = let both = subst (IsSoundRoute pools) (ap named_of is ∙ named_of-AllSync v) h in all-sound pools (map named_of v.items) both.1
-
-pub sound-AllInitial : (pools : List (List ℕ)) (route : NamedRoute) (v : Vec NamedRoute Global) → route ≡ asked.AllInitial v → IsSoundRoute pools (named_of route) → All (IsSoundRoute pools) (map named_of v.items)
-sound-AllInitial pools route v is h = let both = subst (IsSoundRoute pools) (ap named_of is ∙ named_of-AllInitial v) h in all-sound pools (map named_of v.items) both.1
-
-pub sound-AllAsync : (pools : List (List ℕ)) (route : NamedRoute) (v : Vec NamedRoute Global) → route ≡ asked.AllAsync v → IsSoundRoute pools (named_of route) → All (IsSoundRoute pools) (map named_of v.items)
-sound-AllAsync pools route v is h = let both = subst (IsSoundRoute pools) (ap named_of is ∙ named_of-AllAsync v) h in all-sound pools (map named_of v.items) both.1
-
-pub sound-Failover : (pools : List (List ℕ)) (route : NamedRoute) (v : Vec NamedRoute Global) → route ≡ asked.Failover v → IsSoundRoute pools (named_of route) → All (IsSoundRoute pools) (map named_of v.items)
-sound-Failover pools route v is h = let both = subst (IsSoundRoute pools) (ap named_of is ∙ named_of-Failover v) h in all-sound pools (map named_of v.items) both.1
-
-pub sound-MissFailover : (pools : List (List ℕ)) (route : NamedRoute) (v : Vec NamedRoute Global) → route ≡ asked.MissFailover v → IsSoundRoute pools (named_of route) → All (IsSoundRoute pools) (map named_of v.items)
-sound-MissFailover pools route v is h = let both = subst (IsSoundRoute pools) (ap named_of is ∙ named_of-MissFailover v) h in all-sound pools (map named_of v.items) both.1
+pub sound-Many : (pools : List (List ℕ)) (route : NamedRoute) (kind : Kind) (v : Vec NamedRoute Global) → route ≡ asked.Many kind v → IsSoundRoute pools (named_of route) → All (IsSoundRoute pools) (map named_of v.items)
+sound-Many pools route kind v is h = let both = subst (IsSoundRoute pools) (ap named_of is ∙ named_of-Many kind v) h in all-sound pools (map named_of v.items) both.1
 
 pub sound-WarmUp : (pools : List (List ℕ)) (route : NamedRoute) (cold warm : Box NamedRoute Global) (exptime : ℕ) → route ≡ asked.WarmUp cold warm exptime → IsSoundRoute pools (named_of route)
     → IsSoundRoute pools (named_of cold.value) × IsSoundRoute pools (named_of warm.value)
@@ -214,35 +203,11 @@ child-more pools t u v children i child routes r h is before one =
     rw (map-more named_of children i child h is, map-append view routes (r ∷ []))
     (built-append pools t u v (map named_of (take i children)) (named_of child ∷ []) (map view routes) (view r ∷ []) before one)
 
-pub built-AllSync : (pools : List (List ℕ)) (route : NamedRoute) (v : Vec NamedRoute Global) (children : List NamedRoute) (t u : List SymbolValue) (w : Vec Route Global)
-    → route ≡ asked.AllSync v → children ≡ v.items → IsBuilt pools t (map named_of children) u (map view w.items)
-    → IsBuilt pools t (named_of route ∷ []) u (view (AllSync w) ∷ [])
-built-AllSync pools route v children t u w is same b =
-    built-as pools t u _ _ _ _ (ap named_of is ∙ named_of-AllSync v ∙ ap (λ xs. config.all_sync (children_of xs)) (sym same)) (view-AllSync w) (built-all_sync pools t u (map named_of children) (map view w.items) b)
-
-pub built-AllInitial : (pools : List (List ℕ)) (route : NamedRoute) (v : Vec NamedRoute Global) (children : List NamedRoute) (t u : List SymbolValue) (w : Vec Route Global)
-    → route ≡ asked.AllInitial v → children ≡ v.items → IsBuilt pools t (map named_of children) u (map view w.items)
-    → IsBuilt pools t (named_of route ∷ []) u (view (AllInitial w) ∷ [])
-built-AllInitial pools route v children t u w is same b =
-    built-as pools t u _ _ _ _ (ap named_of is ∙ named_of-AllInitial v ∙ ap (λ xs. config.all_initial (children_of xs)) (sym same)) (view-AllInitial w) (built-all_initial pools t u (map named_of children) (map view w.items) b)
-
-pub built-AllAsync : (pools : List (List ℕ)) (route : NamedRoute) (v : Vec NamedRoute Global) (children : List NamedRoute) (t u : List SymbolValue) (w : Vec Route Global)
-    → route ≡ asked.AllAsync v → children ≡ v.items → IsBuilt pools t (map named_of children) u (map view w.items)
-    → IsBuilt pools t (named_of route ∷ []) u (view (AllAsync w) ∷ [])
-built-AllAsync pools route v children t u w is same b =
-    built-as pools t u _ _ _ _ (ap named_of is ∙ named_of-AllAsync v ∙ ap (λ xs. config.all_async (children_of xs)) (sym same)) (view-AllAsync w) (built-all_async pools t u (map named_of children) (map view w.items) b)
-
-pub built-Failover : (pools : List (List ℕ)) (route : NamedRoute) (v : Vec NamedRoute Global) (children : List NamedRoute) (t u : List SymbolValue) (w : Vec Route Global)
-    → route ≡ asked.Failover v → children ≡ v.items → IsBuilt pools t (map named_of children) u (map view w.items)
-    → IsBuilt pools t (named_of route ∷ []) u (view (Failover w) ∷ [])
-built-Failover pools route v children t u w is same b =
-    built-as pools t u _ _ _ _ (ap named_of is ∙ named_of-Failover v ∙ ap (λ xs. config.failover (children_of xs)) (sym same)) (view-Failover w) (built-failover pools t u (map named_of children) (map view w.items) b)
-
-pub built-MissFailover : (pools : List (List ℕ)) (route : NamedRoute) (v : Vec NamedRoute Global) (children : List NamedRoute) (t u : List SymbolValue) (w : Vec Route Global)
-    → route ≡ asked.MissFailover v → children ≡ v.items → IsBuilt pools t (map named_of children) u (map view w.items)
-    → IsBuilt pools t (named_of route ∷ []) u (view (MissFailover w) ∷ [])
-built-MissFailover pools route v children t u w is same b =
-    built-as pools t u _ _ _ _ (ap named_of is ∙ named_of-MissFailover v ∙ ap (λ xs. config.miss_failover (children_of xs)) (sym same)) (view-MissFailover w) (built-miss_failover pools t u (map named_of children) (map view w.items) b)
+pub built-Many : (pools : List (List ℕ)) (route : NamedRoute) (kind : Kind) (v : Vec NamedRoute Global) (children : List NamedRoute) (t u : List SymbolValue) (w : Vec Route Global)
+    → route ≡ asked.Many kind v → children ≡ v.items → IsBuilt pools t (map named_of children) u (map view w.items)
+    → IsBuilt pools t (named_of route ∷ []) u (view (Many kind w) ∷ [])
+built-Many pools route kind v children t u w is same b =
+    built-as pools t u _ _ _ _ (ap named_of is ∙ named_of-Many kind v ∙ ap (λ xs. config.many kind (children_of xs)) (sym same)) (view-Many kind w) (built-many kind pools t u (map named_of children) (map view w.items) b)
 
 pub built-WarmUp : (pools : List (List ℕ)) (route : NamedRoute) (cold warm : Box NamedRoute Global) (exptime : ℕ) (t u v : List SymbolValue) (a b : Box Route Global)
     → route ≡ asked.WarmUp cold warm exptime

@@ -8,6 +8,7 @@ use Rattle.std.proofs.lemmas.List.Concat.{flat_map-append}
 use Rattle.std.proofs.lemmas.List.Folds.{prefix_len-append}
 use Rattle.std.proofs.lemmas.List.Sums.{fold-append}
 use Rattle.mcv_base.specs.declared.operation.Op.{Op}
+use Rattle.mcv_names.specs.declared.handle.Many.{Many as Kind}
 use Rattle.mcv_config.specs.ConfigValue.{Range, Named, Nameds, nameds_of, no_named, named}
 use Rattle.mcv_config.specs.ConfigValue as config
 use Rattle.mcv_pools.specs.declared.symbol.HashFunc.{HashFunc}
@@ -16,7 +17,7 @@ use Rattle.mcv_pools.specs.Symbol.{SymbolValue, same_symbol}
 use Rattle.mcv_pools.specs.Table.{is_in, with_entry}
 use Rattle.mcv_pools.proofs.Sameness.{same_symbol-Decides}
 use Rattle.mcv_route.specs.Built.{pool_at, server_at, symbol_of, symbols_in, symbols_below, number_of, pool_named, tree_named, trees_named}
-use Rattle.mcv_route.specs.Tree.{Pool, Tree, Trees, pool, null, error, all_sync, all_initial, all_async, failover, miss_failover, warm_up, migrate, prefix_selector, operation_selector, none, child}
+use Rattle.mcv_route.specs.Tree.{Pool, Tree, Trees, pool, null, error, many, warm_up, migrate, prefix_selector, operation_selector, none, child}
 use Rattle.mcv_route.specs.View.{trees_of}
 use Rattle.mcv_route.specs.Walk.{IsBuilt}
 
@@ -97,11 +98,7 @@ abbrev mutual
   HasSymbols pools table (config.server k n) = IsKnown table (symbol_of Ch3 [] (server_at pools k n))
   HasSymbols pools table config.null = Unit {0}
   HasSymbols pools table config.error = Unit {0}
-  HasSymbols pools table (config.all_sync ts) = HaveSymbols pools table ts
-  HasSymbols pools table (config.all_initial ts) = HaveSymbols pools table ts
-  HasSymbols pools table (config.all_async ts) = HaveSymbols pools table ts
-  HasSymbols pools table (config.failover ts) = HaveSymbols pools table ts
-  HasSymbols pools table (config.miss_failover ts) = HaveSymbols pools table ts
+  HasSymbols pools table (config.many kind ts) = HaveSymbols pools table ts
   HasSymbols pools table (config.warm_up cold warm exptime) = HasSymbols pools table cold × HasSymbols pools table warm
   HasSymbols pools table (config.migrate from to start interval) = HasSymbols pools table from × HasSymbols pools table to
   HasSymbols pools table (config.prefix_selector prefixes ts) = HaveSymbols pools table ts
@@ -117,11 +114,7 @@ mutual
   has-with_all pools table xs (config.server k n) h = known-with_all table xs (symbol_of Ch3 [] (server_at pools k n)) h
   has-with_all pools table xs config.null h = tt
   has-with_all pools table xs config.error h = tt
-  has-with_all pools table xs (config.all_sync ts) h = have-with_all pools table xs ts h
-  has-with_all pools table xs (config.all_initial ts) h = have-with_all pools table xs ts h
-  has-with_all pools table xs (config.all_async ts) h = have-with_all pools table xs ts h
-  has-with_all pools table xs (config.failover ts) h = have-with_all pools table xs ts h
-  has-with_all pools table xs (config.miss_failover ts) h = have-with_all pools table xs ts h
+  has-with_all pools table xs (config.many kind ts) h = have-with_all pools table xs ts h
   has-with_all pools table xs (config.warm_up cold warm exptime) h = (has-with_all pools table xs cold h.0, has-with_all pools table xs warm h.1)
   has-with_all pools table xs (config.migrate from to start interval) h = (has-with_all pools table xs from h.0, has-with_all pools table xs to h.1)
   has-with_all pools table xs (config.prefix_selector prefixes ts) h = have-with_all pools table xs ts h
@@ -150,11 +143,7 @@ mutual
   has-walked pools table (config.server k n) = known-with_one table (symbol_of Ch3 [] (server_at pools k n))
   has-walked pools table config.null = tt
   has-walked pools table config.error = tt
-  has-walked pools table (config.all_sync ts) = have-walked pools table ts
-  has-walked pools table (config.all_initial ts) = have-walked pools table ts
-  has-walked pools table (config.all_async ts) = have-walked pools table ts
-  has-walked pools table (config.failover ts) = have-walked pools table ts
-  has-walked pools table (config.miss_failover ts) = have-walked pools table ts
+  has-walked pools table (config.many kind ts) = have-walked pools table ts
   has-walked pools table (config.warm_up cold warm exptime) =
       both-walked pools table cold warm (has-walked pools table cold) (has-walked pools (with_all table (symbols_in pools cold)) warm)
   has-walked pools table (config.migrate from to start interval) =
@@ -181,11 +170,7 @@ mutual
   tree_named-stays pools table xs (config.server k n) h = λ i. pool (pool_named-stays table xs Ch3 [] (server_at pools k n) h i) [] none
   tree_named-stays pools table xs config.null h = refl
   tree_named-stays pools table xs config.error h = refl
-  tree_named-stays pools table xs (config.all_sync ts) h = ap all_sync (trees_named-stay pools table xs ts h)
-  tree_named-stays pools table xs (config.all_initial ts) h = ap all_initial (trees_named-stay pools table xs ts h)
-  tree_named-stays pools table xs (config.all_async ts) h = ap all_async (trees_named-stay pools table xs ts h)
-  tree_named-stays pools table xs (config.failover ts) h = ap failover (trees_named-stay pools table xs ts h)
-  tree_named-stays pools table xs (config.miss_failover ts) h = ap miss_failover (trees_named-stay pools table xs ts h)
+  tree_named-stays pools table xs (config.many kind ts) h = ap (many kind) (trees_named-stay pools table xs ts h)
   tree_named-stays pools table xs (config.warm_up cold warm exptime) h = λ i. warm_up (tree_named-stays pools table xs cold h.0 i) (tree_named-stays pools table xs warm h.1 i) exptime
   tree_named-stays pools table xs (config.migrate from to start interval) h = λ i. migrate (tree_named-stays pools table xs from h.0 i) (tree_named-stays pools table xs to h.1 i) start interval
   tree_named-stays pools table xs (config.prefix_selector prefixes ts) h = ap (prefix_selector prefixes) (trees_named-stay pools table xs ts h)
@@ -268,20 +253,8 @@ built-over handle made symbols trees pools t u ns ts b = record {
   trees_are = ap (λ x. x ∷ []) (ap made (trees-below pools t u ns ts b) ∙ sym (trees u pools (nameds_of ns)));
 }
 
-pub built-all_sync : (pools : List (List ℕ)) (t u : List SymbolValue) (ns : List Named) (ts : List Tree) → IsBuilt pools t ns u ts → IsBuilt pools t (config.all_sync (nameds_of ns) ∷ []) u (all_sync (trees_of ts) ∷ [])
-built-all_sync = built-over config.all_sync all_sync (λ pools ts. refl) (λ table pools ts. refl)
-
-pub built-all_initial : (pools : List (List ℕ)) (t u : List SymbolValue) (ns : List Named) (ts : List Tree) → IsBuilt pools t ns u ts → IsBuilt pools t (config.all_initial (nameds_of ns) ∷ []) u (all_initial (trees_of ts) ∷ [])
-built-all_initial = built-over config.all_initial all_initial (λ pools ts. refl) (λ table pools ts. refl)
-
-pub built-all_async : (pools : List (List ℕ)) (t u : List SymbolValue) (ns : List Named) (ts : List Tree) → IsBuilt pools t ns u ts → IsBuilt pools t (config.all_async (nameds_of ns) ∷ []) u (all_async (trees_of ts) ∷ [])
-built-all_async = built-over config.all_async all_async (λ pools ts. refl) (λ table pools ts. refl)
-
-pub built-failover : (pools : List (List ℕ)) (t u : List SymbolValue) (ns : List Named) (ts : List Tree) → IsBuilt pools t ns u ts → IsBuilt pools t (config.failover (nameds_of ns) ∷ []) u (failover (trees_of ts) ∷ [])
-built-failover = built-over config.failover failover (λ pools ts. refl) (λ table pools ts. refl)
-
-pub built-miss_failover : (pools : List (List ℕ)) (t u : List SymbolValue) (ns : List Named) (ts : List Tree) → IsBuilt pools t ns u ts → IsBuilt pools t (config.miss_failover (nameds_of ns) ∷ []) u (miss_failover (trees_of ts) ∷ [])
-built-miss_failover = built-over config.miss_failover miss_failover (λ pools ts. refl) (λ table pools ts. refl)
+pub built-many : (kind : Kind) (pools : List (List ℕ)) (t u : List SymbolValue) (ns : List Named) (ts : List Tree) → IsBuilt pools t ns u ts → IsBuilt pools t (config.many kind (nameds_of ns) ∷ []) u (many kind (trees_of ts) ∷ [])
+built-many kind = built-over (config.many kind) (many kind) (λ pools ts. refl) (λ table pools ts. refl)
 
 pub built-prefix_selector : (prefixes : List (List ℕ)) (pools : List (List ℕ)) (t u : List SymbolValue) (ns : List Named) (ts : List Tree)
     → IsBuilt pools t ns u ts → IsBuilt pools t (config.prefix_selector prefixes (nameds_of ns) ∷ []) u (prefix_selector prefixes (trees_of ts) ∷ [])

@@ -49,11 +49,7 @@ module _ (count : ℕ) (pools : List (List ℕ)) (table : List SymbolValue) (sou
         (sound-pool_named count table Ch3 [] (server_at pools k n) (omega arith) known h, tt)
     sound-tree config.null inside h = tt
     sound-tree config.error inside h = tt
-    sound-tree (config.all_sync ts) inside h = (some_trees table pools ts inside.0, sound-trees ts inside.1 h)
-    sound-tree (config.all_initial ts) inside h = (some_trees table pools ts inside.0, sound-trees ts inside.1 h)
-    sound-tree (config.all_async ts) inside h = (some_trees table pools ts inside.0, sound-trees ts inside.1 h)
-    sound-tree (config.failover ts) inside h = (some_trees table pools ts inside.0, sound-trees ts inside.1 h)
-    sound-tree (config.miss_failover ts) inside h = (some_trees table pools ts inside.0, sound-trees ts inside.1 h)
+    sound-tree (config.many kind ts) inside h = (some_trees table pools ts inside.0, sound-trees ts inside.1 h)
     sound-tree (config.warm_up cold warm exptime) inside h = (sound-tree cold inside.0 h.0, sound-tree warm inside.1 h.1)
     sound-tree (config.migrate from to start interval) inside h = (sound-tree from inside.0 h.0, sound-tree to inside.1 h.1)
     sound-tree (config.prefix_selector prefixes ts) inside h = sound-trees ts inside h

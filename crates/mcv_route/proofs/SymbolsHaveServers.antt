@@ -33,11 +33,7 @@ module _ (count : ℕ) (pools : List (List ℕ)) (sound : All (config.IsSoundPoo
     symbols_filled (config.server i k) h = All-cons HasServers (symbol_of Ch3 [] (server_at pools i k)) [] (omega arith) (All-nil HasServers)
     symbols_filled config.null h = All-nil HasServers
     symbols_filled config.error h = All-nil HasServers
-    symbols_filled (config.all_sync ts) h = below_filled ts h.1
-    symbols_filled (config.all_initial ts) h = below_filled ts h.1
-    symbols_filled (config.all_async ts) h = below_filled ts h.1
-    symbols_filled (config.failover ts) h = below_filled ts h.1
-    symbols_filled (config.miss_failover ts) h = below_filled ts h.1
+    symbols_filled (config.many kind ts) h = below_filled ts h.1
     symbols_filled (config.warm_up cold warm exptime) h = All-append HasServers (symbols_in pools cold) (symbols_in pools warm) (symbols_filled cold h.0) (symbols_filled warm h.1)
     symbols_filled (config.migrate from to start interval) h = All-append HasServers (symbols_in pools from) (symbols_in pools to) (symbols_filled from h.0) (symbols_filled to h.1)
     symbols_filled (config.prefix_selector prefixes ts) h = below_filled ts h
