@@ -4,14 +4,13 @@ use Rattle.std.specs.Prelude.{if◌then◌else◌}
 use Rattle.std.proofs.lemmas.List.Elements.{Contains-append_left, Contains-append_right}
 use Rattle.mcv_base.specs.Operation.{is_reading}
 use Rattle.mcv_base.specs.Reply.{is_error, is_missed, is_good}
-use Rattle.mcv_names.specs.declared.handle.Many.TheVariants.{AllSync, AllInitial, AllAsync, Failover, MissFailover}
 use Rattle.mcv_route.specs.Children.{joined, child_or, rest_of, together, of_those_holding, policy_of, way_of, by_way}
 use Rattle.mcv_route.specs.Launched.{launched, launched_each, own_leg, once, in_turn}
 use Rattle.mcv_route.specs.Outcomes.{Outcomes, Choice, History, outcomes}
 use Rattle.mcv_route.specs.Replies.{refused, replies, replies_each, the_worse, or_after_error, or_after_miss}
 use Rattle.mcv_route.specs.Reply.{reply, arrivals, arrival, answers_of, came, is_waiting, last_worse, next_after_error, next_after_miss}
 use Rattle.mcv_route.specs.Situation.{Situation, under, asked, asynchronous, shadowed, adding}
-use Rattle.mcv_route.specs.Tree.{Tree, Trees, pool, null, error, many, warm_up, migrate, prefix_selector, operation_selector, none, child}
+use Rattle.mcv_route.specs.Tree.{Tree, Trees, pool, null, error, many, AllSync, AllInitial, AllAsync, Failover, MissFailover, warm_up, migrate, prefix_selector, operation_selector, none, child}
 use Rattle.mcv_classes.specs.Class.{IsClassWord}
 use Rattle.mcv_classes.specs.Words.{prefixes_in, prefixes_below, class_words}
 use Rattle.mcv_classes.specs.Laws.{AlikeAreSent, AlikeAreReplied, AlikeAreAnswered}

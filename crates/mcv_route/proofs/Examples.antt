@@ -7,7 +7,6 @@ use Rattle.mcv_base.specs.declared.operation.Mark.TheVariants.{Plain, Async, Sha
 use Rattle.mcv_base.specs.declared.operation.Mark.TheVariants.{Add as Added}
 use Rattle.mcv_base.specs.declared.reply.Outcome.{Outcome}
 use Rattle.mcv_base.specs.declared.reply.Outcome.TheVariants.{Good, Soft, Error}
-use Rattle.mcv_names.specs.declared.handle.Many.TheVariants.{AllSync, AllInitial, AllAsync, Failover, MissFailover}
 use Rattle.mcv_route.specs.Outcomes.{Choice, outcomes}
 use Rattle.mcv_config.specs.ConfigValue as config
 use Rattle.mcv_pools.specs.declared.symbol.HashFunc.TheVariants.{Ch3, Crc32}
@@ -17,7 +16,7 @@ use Rattle.mcv_route.specs.Built.{symbols_in, tree_named}
 use Rattle.mcv_route.specs.Eras.{breaks, since_at, era_at}
 use Rattle.mcv_route.specs.Limits.{handles_in, IsWithin}
 use Rattle.mcv_route.specs.Places.{tree_at}
-use Rattle.mcv_route.specs.Tree.{Tree, Trees, pool, null, error, many, warm_up, migrate, prefix_selector, operation_selector, none, child}
+use Rattle.mcv_route.specs.Tree.{Tree, Trees, pool, null, error, many, AllSync, AllInitial, AllAsync, Failover, MissFailover, warm_up, migrate, prefix_selector, operation_selector, none, child}
 use Rattle.mcv_route.specs.Situation.{Situation, asked}
 use Rattle.mcv_route.specs.Replies.{Answer, leg, fixed, refusal, replies}
 use Rattle.mcv_route.specs.declared.launch.Launch.{Launch}

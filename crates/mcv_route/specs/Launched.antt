@@ -4,8 +4,7 @@ use Rattle.mcv_base.specs.declared.reply.Outcome.{Outcome}
 use Rattle.mcv_route.specs.Outcomes.{Outcomes, Choice}
 use Rattle.mcv_base.specs.Reply.{is_error, is_missed, is_good}
 use Rattle.mcv_route.specs.declared.launch.Launch.{Launch}
-use Rattle.mcv_names.specs.declared.handle.Many.TheVariants.{AllSync, AllInitial, AllAsync, Failover, MissFailover}
-use Rattle.mcv_route.specs.Tree.{Pool, Tree, Trees, pool, null, error, many, warm_up, migrate, prefix_selector, operation_selector, none, child}
+use Rattle.mcv_route.specs.Tree.{Pool, Tree, Trees, pool, null, error, many, AllSync, AllInitial, AllAsync, Failover, MissFailover, warm_up, migrate, prefix_selector, operation_selector, none, child}
 use Rattle.mcv_base.specs.Operation.{is_reading}
 use Rattle.mcv_route.specs.Situation.{Situation, under, asynchronous, shadowed, adding}
 use Rattle.mcv_route.specs.Children.{joined, child_or, rest_of, of_those_holding, policy_of, prefix_policy, way_of, by_way}

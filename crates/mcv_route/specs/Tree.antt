@@ -4,6 +4,7 @@ use Rattle.std.specs.Prelude.{ℕ, List, Option}
 use Rattle.mcv_base.specs.declared.operation.Op.{Op}
 -- the handles with children and nothing else
 pub use Rattle.mcv_names.specs.declared.handle.Many.{Many}
+pub use Rattle.mcv_names.specs.declared.handle.Many.TheVariants.{AllSync, AllInitial, AllAsync, Failover, MissFailover}
 -- the indexes from the first to the last
 pub use Rattle.mcv_config.specs.ConfigValue.{Range}
 
