@@ -11,12 +11,11 @@ use Rattle.mcv_base.specs.declared.operation.Op.TheVariants.{Get, Gets, Delete}
 use Rattle.mcv_base.specs.declared.reply.Outcome.{Outcome}
 use Rattle.mcv_base.specs.declared.reply.Outcome.TheVariants.{Good, Error}
 use Rattle.mcv_pools.specs.declared.symbol.HashFunc.TheVariants.{Ch3}
-use Rattle.mcv_names.specs.declared.handle.Many.TheVariants.{AllSync}
 use Rattle.mcv_route.specs.Outcomes.{Choice}
 use Rattle.mcv_route.specs.Places.{pool_at_position}
 use Rattle.mcv_route.specs.Routes.{IsSoundRoutes, IsSoundTree, RouteEntry, RoutesValue}
 use Rattle.mcv_route.specs.Situation.{asked, under}
-use Rattle.mcv_route.specs.Tree.{Pool, Tree, pool, many, operation_selector, none, child}
+use Rattle.mcv_route.specs.Tree.{Pool, Tree, pool, many, AllSync, operation_selector, none, child}
 use Rattle.mcv_rules.specs.Plan.{Leg}
 use Rattle.mcv_rules.specs.Plans as plans
 use Rattle.mcv_classes.specs.Class.{IsFree}

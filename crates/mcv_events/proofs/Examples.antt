@@ -5,11 +5,10 @@ use Rattle.mcv_base.specs.declared.operation.Mark.TheVariants.{Plain}
 use Rattle.mcv_base.specs.declared.operation.Op.TheVariants.{Delete}
 use Rattle.mcv_base.specs.Reply.{ReplyValue, deleted, not_found, fault, lost_line}
 use Rattle.mcv_pools.specs.declared.symbol.HashFunc.TheVariants.{Ch3}
-use Rattle.mcv_names.specs.declared.handle.Many.TheVariants.{Failover}
 use Rattle.mcv_route.specs.declared.launch.Answered.{Answered}
 use Rattle.mcv_route.specs.declared.launch.Launch.{Launch}
 use Rattle.mcv_route.specs.Routes.{RoutesValue}
-use Rattle.mcv_route.specs.Tree.{Tree, pool, many, none, child}
+use Rattle.mcv_route.specs.Tree.{Tree, pool, many, Failover, none, child}
 use Rattle.mcv_world.specs.World.{Place, Queued, Call, reply_of}
 use Rattle.mcv_world.specs.Moves.{WasPerformed, new_call, with_reply}
 use Rattle.mcv_events.specs.Entries.{is_launched, is_due}

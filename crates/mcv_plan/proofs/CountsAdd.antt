@@ -6,11 +6,10 @@ use Rattle.std.proofs.Math.Seq.{take-suc}
 use Rattle.std.proofs.lemmas.List.{length-take-le, length-map, map-append}
 use Rattle.mcv_base.specs.declared.reply.Outcome.TheVariants.{Soft}
 use Rattle.mcv_base.specs.Operation.{is_reading}
-use Rattle.mcv_names.specs.declared.handle.Many.TheVariants.{AllSync, AllInitial, AllAsync, Failover, MissFailover}
 use Rattle.mcv_route.specs.Children.{joined, policy_of, prefix_policy, to_both, way_of}
 use Rattle.mcv_route.specs.Outcomes.{Choice}
 use Rattle.mcv_route.specs.Situation.{Situation, adding, asynchronous, shadowed, under}
-use Rattle.mcv_route.specs.Tree.{Pool, Range, Tree, Trees, many, child, error, migrate, pool, warm_up}
+use Rattle.mcv_route.specs.Tree.{Pool, Range, Tree, Trees, many, AllSync, AllInitial, AllAsync, Failover, MissFailover, child, error, migrate, pool, warm_up}
 use Rattle.mcv_route.specs.View.{last_view, operation_view, prefix_view, shadow_view, trees_of, view}
 use Rattle.mcv_route.specs.declared.tree.OperationPolicy.{OperationPolicy, out-OperationPolicy}
 use Rattle.mcv_route.specs.declared.tree.PrefixPolicy.{PrefixPolicy, out-PrefixPolicy}

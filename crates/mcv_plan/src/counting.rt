@@ -1,16 +1,14 @@
 //! How many legs a call can launch at most.
 
 ghost use Rattle.std.specs.Prelude.{◌≡◌, List, option_map, ℕ};
-ghost use Rattle.mcv_names.specs.declared.handle.Many.TheVariants.{AllInitial, MissFailover};
 ghost use Rattle.mcv_route.specs.Situation.{asked as asked_of};
-ghost use Rattle.mcv_route.specs.Tree.{Pool, many, pool};
+ghost use Rattle.mcv_route.specs.Tree.{Pool, many, AllInitial, MissFailover, pool};
 ghost use Rattle.mcv_route.specs.View.{view};
 ghost use Rattle.mcv_rules.specs.Laid.{children_of, ranges_of, situation_at, targets_of};
 ghost use Rattle.mcv_plan.specs.Counts.{capped, legs_each, legs_in};
 
 use mcv_base::{Mark, Moment, Op, Rest};
-use mcv_names::Many;
-use mcv_route::{Route, Shadow};
+use mcv_route::{Many, Route, Shadow};
 use mcv_rules::{Asked, Way, policy_number, prefix_number};
 
 /// How many legs a call can launch at most, whatever they answer and whatever the choice is: those of all shadows, of

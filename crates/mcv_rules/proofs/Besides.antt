@@ -3,12 +3,11 @@ use Rattle.std.proofs.Common.{◌≡◌, ◌<◌, ◌+◌, cond, ℕ, suc, List,
 use Rattle.std.specs.Prelude.{fold}
 use Rattle.std.proofs.Math.Seq.{take-suc}
 use Rattle.std.proofs.lemmas.List.{length-take-le, length-map, map-append}
-use Rattle.mcv_names.specs.declared.handle.Many.TheVariants.{AllInitial, AllAsync}
 use Rattle.mcv_route.specs.declared.launch.Launch.{Launch}
 use Rattle.mcv_route.specs.declared.tree.Route.{Route}
 use Rattle.mcv_route.specs.declared.tree.Shadow.{Shadow}
 use Rattle.mcv_route.specs.Outcomes.{Outcomes, Choice, History}
-use Rattle.mcv_route.specs.Tree.{Pool, Range, Tree, pool, null, error, many, none, child}
+use Rattle.mcv_route.specs.Tree.{Pool, Range, Tree, pool, null, error, many, AllInitial, AllAsync, none, child}
 use Rattle.mcv_route.specs.Situation.{Situation, under, asynchronous, shadowed}
 use Rattle.mcv_route.specs.Children.{joined, is_within, of_those_holding}
 use Rattle.mcv_route.specs.View.{view, shadow_view, trees_of}

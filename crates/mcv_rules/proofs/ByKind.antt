@@ -4,13 +4,11 @@ use Rattle.std.specs.Prelude.{⊤, fold, if◌then◌else◌}
 use Rattle.mcv_base.specs.Operation.{is_reading}
 use Rattle.mcv_base.specs.declared.reply.Outcome.{Outcome}
 use Rattle.mcv_base.specs.declared.reply.Outcome.TheVariants.{Good, Soft, Error}
-use Rattle.mcv_names.specs.declared.handle.Many.{Many}
-use Rattle.mcv_names.specs.declared.handle.Many.TheVariants.{AllSync, AllInitial, AllAsync, Failover, MissFailover}
 use Rattle.mcv_route.specs.Children.{child_or, rest_of, together}
 use Rattle.mcv_route.specs.Outcomes.{Outcomes}
 use Rattle.mcv_route.specs.Replies.{Answer, default_answer, refused, the_worse, or_after_error, or_after_miss, replies, replies_each}
 use Rattle.mcv_route.specs.Situation.{Situation, asynchronous}
-use Rattle.mcv_route.specs.Tree.{Trees, many}
+use Rattle.mcv_route.specs.Tree.{Trees, many, Many, AllSync, AllInitial, AllAsync, Failover, MissFailover}
 use Rattle.mcv_rules.specs.Plan.{Plan, Reply, Both, Beside, OnError, OnMiss}
 use Rattle.mcv_rules.specs.Plans.{plan, plan_each}
 use Rattle.mcv_rules.proofs.Relate.{Related, child_related, if_related, together_related}

@@ -4,9 +4,8 @@ use Rattle.mcv_base.specs.declared.operation.Op.{Op}
 use Rattle.mcv_base.specs.declared.reply.FixedReply.TheVariants.{ErrorRoute}
 use Rattle.mcv_base.specs.Key.{begins_with}
 use Rattle.mcv_base.specs.Operation.{is_reading}
-use Rattle.mcv_names.specs.declared.handle.Many.TheVariants.{AllSync, AllInitial, MissFailover}
 use Rattle.mcv_route.specs.Outcomes.{Outcomes, Choice, History}
-use Rattle.mcv_route.specs.Tree.{Tree, Trees, error, many, warm_up, migrate, prefix_selector, operation_selector, none}
+use Rattle.mcv_route.specs.Tree.{Tree, Trees, error, many, AllSync, AllInitial, MissFailover, warm_up, migrate, prefix_selector, operation_selector, none}
 use Rattle.mcv_route.specs.Situation.{Situation, under}
 use Rattle.mcv_route.specs.Children.{child_or, policy_of, prefix_policy, is_policy_for, longest_from, way_of, to_from, to_to, to_both}
 use Rattle.mcv_route.specs.Replies as replies

@@ -5,12 +5,11 @@ use Rattle.mcv_base.specs.declared.reply.Outcome.{Outcome}
 use Rattle.mcv_base.specs.declared.reply.Outcome.TheVariants.{Error}
 use Rattle.mcv_base.specs.Operation.{is_reading}
 use Rattle.mcv_base.specs.Reply.{is_error, is_missed, is_good}
-use Rattle.mcv_names.specs.declared.handle.Many.{Many}
 use Rattle.mcv_route.specs.Children.{child_or, Way, to_from, to_to, to_both, by_way}
 use Rattle.mcv_route.specs.Launched as route
 use Rattle.mcv_route.specs.Outcomes.{Outcomes, Choice}
 use Rattle.mcv_route.specs.Situation.{Situation, asynchronous}
-use Rattle.mcv_route.specs.Tree.{Range, Tree, Trees, many}
+use Rattle.mcv_route.specs.Tree.{Range, Tree, Trees, many, Many}
 use Rattle.mcv_route.specs.declared.launch.Launch.{Launch}
 use Rattle.mcv_rules.specs.Plan.{Leg, Plan, Send, Reply, Both, Beside, OnError, OnMiss, OnHit, Shadowed, launched, on_reply, reply}
 use Rattle.mcv_rules.specs.Plans.{launch_of, plan, plan_each, with_shadows}

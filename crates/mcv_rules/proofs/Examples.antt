@@ -7,10 +7,9 @@ use Rattle.mcv_base.specs.declared.reply.Outcome.TheVariants.{Soft, Error}
 use Rattle.mcv_base.specs.declared.reply.FixedReply.{FixedReply}
 use Rattle.mcv_base.specs.declared.reply.FixedReply.TheVariants.{Deleted, NotFound, ErrorRoute, Lost}
 use Rattle.mcv_base.specs.declared.reply.Part.TheVariants as parts
-use Rattle.mcv_names.specs.declared.handle.Many.TheVariants.{AllSync, Failover}
 use Rattle.mcv_route.specs.declared.launch.Answered.{Answered}
 use Rattle.mcv_route.specs.Outcomes.{outcomes}
-use Rattle.mcv_route.specs.Tree.{Tree, Trees, pool, null, many, operation_selector, none, child}
+use Rattle.mcv_route.specs.Tree.{Tree, Trees, pool, null, many, AllSync, Failover, operation_selector, none, child}
 use Rattle.mcv_route.specs.Situation.{Situation, asked}
 use Rattle.mcv_route.specs.Reply as one
 use Rattle.mcv_rules.specs.Plan.{Leg, Send, Reply, Both, OnError, Shadowed, reply, launched}

@@ -7,11 +7,10 @@ use Rattle.mcv_base.specs.declared.reply.Outcome.TheVariants.{Good, Soft, Error}
 use Rattle.mcv_base.specs.Reply.{is_missed, is_good}
 use Rattle.mcv_base.specs.Operation.{is_reading}
 use Rattle.mcv_base.specs.declared.reply.FixedReply.TheVariants.{ErrorRoute}
-use Rattle.mcv_names.specs.declared.handle.Many.TheVariants.{Failover, MissFailover}
 use Rattle.mcv_route.specs.declared.launch.Answered.{Answered}
 use Rattle.mcv_route.specs.declared.launch.Launch.{Launch}
 use Rattle.mcv_route.specs.Outcomes.{Outcomes, Choice, History, outcomes}
-use Rattle.mcv_route.specs.Tree.{Tree, Trees, many, warm_up}
+use Rattle.mcv_route.specs.Tree.{Tree, Trees, many, Failover, MissFailover, warm_up}
 use Rattle.mcv_route.specs.Situation.{Situation, under, adding}
 use Rattle.mcv_route.specs.Children.{joined, together}
 use Rattle.mcv_route.specs.View.{trees_of}

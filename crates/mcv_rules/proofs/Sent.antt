@@ -4,13 +4,12 @@ use Rattle.std.proofs.lemmas.List.{map-append}
 use Rattle.std.specs.Prelude.{fold}
 use Rattle.mcv_base.specs.declared.reply.Outcome.{Outcome}
 use Rattle.mcv_base.specs.declared.reply.Outcome.TheVariants.{Good, Soft, Error}
-use Rattle.mcv_names.specs.declared.handle.Many.TheVariants.{AllSync, AllInitial, AllAsync, Failover, MissFailover}
 use Rattle.mcv_rules.specs.Plan.{Leg, Plan, Send, Reply, Both, Beside, OnError, OnMiss, OnHit, Shadowed, on_error, on_miss, reply}
 use Rattle.mcv_route.specs.Outcomes.{Outcomes, Choice}
 use Rattle.mcv_base.specs.Reply.{is_error, is_missed, is_good}
 use Rattle.mcv_rules.specs.Plan.{on_reply}
 use Rattle.mcv_rules.specs.Plan as planned
-use Rattle.mcv_route.specs.Tree.{Range, Tree, Trees, pool, null, error, many, warm_up, migrate, prefix_selector, operation_selector, none, child}
+use Rattle.mcv_route.specs.Tree.{Range, Tree, Trees, pool, null, error, many, AllSync, AllInitial, AllAsync, Failover, MissFailover, warm_up, migrate, prefix_selector, operation_selector, none, child}
 use Rattle.mcv_route.specs.Situation.{Situation, under, asynchronous, shadowed, adding}
 use Rattle.mcv_base.specs.Operation.{is_reading}
 use Rattle.mcv_route.specs.Children.{joined, child_or, rest_of, together, is_within, of_those_holding, policy_of, prefix_policy, way_of}

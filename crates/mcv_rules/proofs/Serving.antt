@@ -11,10 +11,9 @@ use Rattle.mcv_base.specs.declared.reply.Outcome.TheVariants.{Soft, Error}
 use Rattle.mcv_base.specs.declared.reply.FixedReply.{FixedReply}
 use Rattle.mcv_base.specs.declared.reply.FixedReply.TheVariants.{ErrorRoute}
 use Rattle.mcv_base.specs.Reply.{outcome_of, fixed_value}
-use Rattle.mcv_names.specs.declared.handle.Many.TheVariants.{AllSync}
 use Rattle.mcv_route.specs.declared.launch.Answered.{Answered}
 use Rattle.mcv_route.specs.Outcomes.{Outcomes, Choice, History, outcomes}
-use Rattle.mcv_route.specs.Tree.{Pool, Tree, Trees, pool, null, error, many, none, child}
+use Rattle.mcv_route.specs.Tree.{Pool, Tree, Trees, pool, null, error, many, AllSync, none, child}
 use Rattle.mcv_route.specs.Situation.{Situation, under}
 use Rattle.mcv_route.specs.Children as children
 use Rattle.mcv_route.specs.Children.{together}

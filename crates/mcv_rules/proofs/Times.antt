@@ -1,10 +1,9 @@
 -- When a handle first had an answer.
 use Rattle.std.proofs.Common.{◌≡◌, ◌≢◌, ◌⊎◌, ◌≤◌, cond, inl, inr, ⊎_elim, ℕ, suc, max, Bool, true, false, List, [], ◌∷◌, ◌++◌, length, refl, sym, ap, ◌∙◌, subst, arith}
 use Rattle.std.specs.Prelude.{fold}
-use Rattle.mcv_names.specs.declared.handle.Many.TheVariants.{AllSync}
 use Rattle.mcv_route.specs.Outcomes.{History, outcomes}
 use Rattle.mcv_base.specs.Reply.{is_error, is_good}
-use Rattle.mcv_route.specs.Tree.{Tree, Trees, many, none, child}
+use Rattle.mcv_route.specs.Tree.{Tree, Trees, many, AllSync, none, child}
 use Rattle.mcv_route.specs.Situation.{Situation, under}
 use Rattle.mcv_route.specs.Replies.{Answer, the_worse, or_after_error, or_after_miss, replies, replies_each}
 use Rattle.mcv_route.specs.Reply.{is_waiting, came}

@@ -4,11 +4,10 @@ use Rattle.mcv_base.specs.declared.operation.Op.{Op}
 use Rattle.mcv_base.specs.declared.operation.Op.TheVariants.{Delete}
 use Rattle.mcv_base.specs.declared.reply.Outcome.{Outcome}
 use Rattle.mcv_base.specs.declared.reply.Outcome.TheVariants.{Soft, Error}
-use Rattle.mcv_names.specs.declared.handle.Many.TheVariants.{AllSync}
 use Rattle.mcv_route.specs.declared.launch.Launch.{Launch}
 use Rattle.mcv_route.specs.Outcomes.{Outcomes, Choice, History, outcomes}
 use Rattle.mcv_route.specs.Places.{child_at}
-use Rattle.mcv_route.specs.Tree.{Tree, Trees, many, none}
+use Rattle.mcv_route.specs.Tree.{Tree, Trees, many, AllSync, none}
 use Rattle.mcv_route.specs.WellFormed.{IsWellFormed}
 use Rattle.mcv_route.specs.Situation.{Situation, asked, under}
 use Rattle.mcv_route.specs.Children.{together}

@@ -12,10 +12,9 @@ use Rattle.mcv_base.specs.declared.reply.Outcome.TheVariants.{Good, Error}
 use Rattle.mcv_base.specs.Key.{begins_with}
 use Rattle.mcv_base.specs.Operation.{is_reading, is_delete}
 use Rattle.mcv_pools.specs.Table.{IsOneToOne}
-use Rattle.mcv_names.specs.declared.handle.Many.TheVariants.{AllSync, AllInitial, AllAsync, Failover, MissFailover}
 use Rattle.mcv_route.specs.declared.launch.Launch.{Launch}
 use Rattle.mcv_route.specs.Outcomes.{Outcomes, Choice}
-use Rattle.mcv_route.specs.Tree.{Pool, Range, Tree, Trees, pool, null, error, many, warm_up, migrate, prefix_selector, operation_selector}
+use Rattle.mcv_route.specs.Tree.{Pool, Range, Tree, Trees, pool, null, error, many, AllSync, AllInitial, AllAsync, Failover, MissFailover, warm_up, migrate, prefix_selector, operation_selector}
 use Rattle.mcv_route.specs.Situation.{Situation, under, asked, asynchronous, shadowed, adding, has_passed}
 use Rattle.mcv_route.specs.Children.{is_within, is_policy_for, policy_of, prefix_policy}
 use Rattle.mcv_route.specs.Places.{child_at, pool_at_position}

@@ -1,9 +1,8 @@
 -- When a handle first had an answer, by its children: for code that computes the one reply.
 use Rattle.std.specs.Prelude.{◌≡◌, ◌≢◌, ℕ, suc, max, List, [], ◌∷◌, length, if◌then◌else◌, fold, ⊤}
-use Rattle.mcv_names.specs.declared.handle.Many.TheVariants.{AllSync}
 use Rattle.mcv_route.specs.Outcomes.{Choice, History, outcomes}
 use Rattle.mcv_base.specs.Reply.{is_error, is_good}
-use Rattle.mcv_route.specs.Tree.{Tree, Trees, many, none, child}
+use Rattle.mcv_route.specs.Tree.{Tree, Trees, many, AllSync, none, child}
 use Rattle.mcv_route.specs.Situation.{Situation, under}
 use Rattle.mcv_route.specs.Replies.{Answer, or_after_error, or_after_miss, replies}
 use Rattle.mcv_route.specs.Reply.{is_waiting, came}

@@ -2,10 +2,9 @@
 
 ghost use Rattle.std.specs.Prelude.{◌≡◌, ℕ, IfOk, [], ◌∷◌, map, true};
 ghost use Rattle.mcv_base.specs.Operation.{is_reading};
-ghost use Rattle.mcv_names.specs.declared.handle.Many.TheVariants.{AllSync, AllInitial, AllAsync, MissFailover};
 ghost use Rattle.mcv_route.specs.Children.{is_policy_for, policy_of, prefix_policy};
 ghost use Rattle.mcv_route.specs.Situation.{Situation, adding, under};
-ghost use Rattle.mcv_route.specs.Tree.{Tree, many, child, none, pool, warm_up};
+ghost use Rattle.mcv_route.specs.Tree.{Tree, many, AllSync, AllInitial, AllAsync, MissFailover, child, none, pool, warm_up};
 ghost use Rattle.mcv_route.specs.View.{operation_view, pool_view, view};
 ghost use Rattle.mcv_rules.specs.Laid.{ServeEach, Serves, children_of, longer_of, operations_of, prefixes_of, ranges_of, situation_at, targets_of};
 
@@ -14,8 +13,7 @@ use crate::asked::{Asked, Way};
 use crate::plan::{Plan, PlannedLeg};
 use crate::status::default_reply;
 use mcv_base::{FixedReply, Op, Position, Rest, begins_with};
-use mcv_names::Many;
-use mcv_route::{Leaf, OperationPolicy, PrefixPolicy, Route, Shadow};
+use mcv_route::{Leaf, Many, OperationPolicy, PrefixPolicy, Route, Shadow};
 use std::alloc::{AllocError, Global};
 use std::sync::Arc;
 

@@ -4,9 +4,8 @@
 use crate::routes::{pool, position, two, warm_up};
 use mcv_asks::{Call, Heard, client_request, leg_request};
 use mcv_base::{Ask, FixedReply, LegRequest, Mark, Op, Part, Reply, Request, Rest, ServerId};
-use mcv_names::Many;
 use mcv_pools::Choice;
-use mcv_route::{Answered, Launch, Route};
+use mcv_route::{Answered, Launch, Many, Route};
 use std::alloc::{AllocError, Global};
 use std::process::Abort;
 use std::str::from_utf8;

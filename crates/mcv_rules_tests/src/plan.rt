@@ -3,10 +3,9 @@
 
 use crate::routes::{migration, pool, shadowed, warm_up};
 use mcv_base::{Mark, Moment, Op, Outcome, Position, Rest, ServerId};
-use mcv_names::Many;
 use mcv_plan::{EvalState, Source, most_legs};
 use mcv_pools::Choice;
-use mcv_route::{Launch, Route, Shadow};
+use mcv_route::{Launch, Many, Route, Shadow};
 use mcv_rules::{Asked, Plan, laid_out};
 use std::alloc::{AllocError, Global};
 use std::process::Abort;

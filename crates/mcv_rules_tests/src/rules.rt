@@ -2,9 +2,8 @@
 
 use crate::routes::{migration, pool, position, shadowed, two, warm_up};
 use mcv_base::{FixedReply, Moment, Op, Outcome, Part, Reply, ServerId, split_key};
-use mcv_names::Many;
 use mcv_pools::Choice;
-use mcv_route::{Answered, Launch, OperationPolicy, PrefixPolicy, Route, Shadow};
+use mcv_route::{Answered, Launch, Many, OperationPolicy, PrefixPolicy, Route, Shadow};
 use mcv_rules::{Eval, Outcomes, Status, default_reply};
 use std::alloc::{AllocError, Global};
 use std::process::Abort;

@@ -2,8 +2,7 @@
 
 use crate::routes::{pool, shadowed, warm_up};
 use mcv_base::{Op, Outcome, Position, Rest, ServerId};
-use mcv_names::Many;
-use mcv_route::{Route, Shadow};
+use mcv_route::{Many, Route, Shadow};
 use mcv_rules::PlannedLeg;
 use mcv_symbolic::{Case, LegAnswer};
 use std::alloc::{AllocError, Global};

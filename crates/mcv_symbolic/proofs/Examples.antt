@@ -2,9 +2,8 @@
 use Rattle.std.proofs.Common.{◌≡◌, ℕ, List, [], ◌∷◌, map, None, refl}
 use Rattle.mcv_base.specs.declared.operation.Op.TheVariants.{Get, Delete}
 use Rattle.mcv_base.specs.declared.reply.Outcome.TheVariants.{Good, Soft, Error}
-use Rattle.mcv_names.specs.declared.handle.Many.TheVariants.{AllSync, AllInitial, AllAsync, Failover, MissFailover}
 use Rattle.mcv_route.specs.Situation.{asked}
-use Rattle.mcv_route.specs.Tree.{Tree, Trees, pool, null, error, many, none, child}
+use Rattle.mcv_route.specs.Tree.{Tree, Trees, pool, null, error, many, AllSync, AllInitial, AllAsync, Failover, MissFailover, none, child}
 use Rattle.mcv_rules.specs.Plan.{Plan}
 use Rattle.mcv_rules.specs.Plans.{plan}
 use Rattle.mcv_symbolic.specs.Listed.{acknowledged, hits}

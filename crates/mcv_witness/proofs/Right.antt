@@ -9,13 +9,12 @@ use Rattle.mcv_base.specs.declared.reply.Outcome.TheVariants.{Good, Soft, Error}
 use Rattle.mcv_base.specs.Operation.{is_counting, is_reading}
 use Rattle.mcv_base.specs.Reply.{is_error, is_good, is_missed}
 use Rattle.mcv_classes.specs.Class.{IsBefore}
-use Rattle.mcv_names.specs.declared.handle.Many.TheVariants.{AllSync, AllInitial, AllAsync, Failover, MissFailover}
 use Rattle.mcv_route.specs.Children.{child_or, is_within, joined, of_those_holding, policy_of, prefix_policy, rest_of, together, Way, to_from, to_to, to_both, way_of, by_way}
 use Rattle.mcv_route.specs.Launched.{in_turn, launched, launched_each, once, own_leg}
 use Rattle.mcv_route.specs.Outcomes.{Choice, History, Outcomes, is_same, outcomes}
 use Rattle.mcv_route.specs.Replies.{Answer, default_answer, leg, or_after_error, or_after_miss, own_answers, refused, replies, replies_each, the_worse}
 use Rattle.mcv_route.specs.Situation.{Situation, adding, asynchronous, shadowed, under}
-use Rattle.mcv_route.specs.Tree.{Pool, Range, Tree, Trees, pool, null, error, many, warm_up, migrate, prefix_selector, operation_selector, none, child}
+use Rattle.mcv_route.specs.Tree.{Pool, Range, Tree, Trees, pool, null, error, many, AllSync, AllInitial, AllAsync, Failover, MissFailover, warm_up, migrate, prefix_selector, operation_selector, none, child}
 use Rattle.mcv_route.specs.declared.launch.Launch.{Launch}
 use Rattle.mcv_rules.proofs.Orders.{same_is, same_self}
 use Rattle.mcv_witness.specs.Walk.{Known, Pass, at_once, behind, below, filled, finish, front, gather, gather_all, goes_on, if_empty, is_below, reply_passes, joined_seen, only, only_nth, pass, pass_each, past, shade, warmed}

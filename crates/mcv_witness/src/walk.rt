@@ -16,8 +16,7 @@ use crate::known::Known;
 use crate::seen::{Join, Seen, is_good};
 use mcv_base::{Mark, Outcome, Position, ServerId};
 use mcv_pools::Choice;
-use mcv_names::Many;
-use mcv_route::{Leaf, Route, Shadow};
+use mcv_route::{Leaf, Many, Route, Shadow};
 use mcv_rules::{Asked, Way, policy_number, prefix_number};
 
 /// What is looked for, and the choice under which.

@@ -9,10 +9,9 @@ use Rattle.mcv_base.specs.declared.reply.Outcome.TheVariants.{Good, Error}
 use Rattle.mcv_base.specs.Operation.{is_counting}
 use Rattle.mcv_base.specs.Reply.{ReplyValue, hit, not_found, deleted, fault, lost_line, outcome_of}
 use Rattle.mcv_pools.specs.declared.symbol.HashFunc.TheVariants.{Ch3}
-use Rattle.mcv_names.specs.declared.handle.Many.TheVariants.{AllInitial, Failover}
 use Rattle.mcv_route.specs.Outcomes.{outcomes}
 use Rattle.mcv_route.specs.Routes.{RoutesValue}
-use Rattle.mcv_route.specs.Tree.{Tree, Trees, pool, many, migrate, operation_selector, none, child}
+use Rattle.mcv_route.specs.Tree.{Tree, Trees, pool, many, AllInitial, Failover, migrate, operation_selector, none, child}
 use Rattle.mcv_route.specs.Verdict.{IsReadable}
 use Rattle.mcv_world.specs.World.{Place, Queued, Performed, Spooled, Gone, Call, Leg, World, choice_of, reply_of, is_counted_delete, put}
 use Rattle.mcv_world.specs.Moves.{Move, Began, Answered, WasSpooled, WasRefused, WasPerformed, EraBegan, Taken, is_move, run}

@@ -1,10 +1,9 @@
 use Rattle.std.proofs.Common.{rules, arith, true, false, ◌≡◌, ◌<◌, ◌≤◌, ◌+◌, [], ◌∷◌, ◌++◌, Some, length, map, sym, ap, ◌∙◌}
 use Rattle.std.proofs.lemmas.List.{take_all}
 use Rattle.mcv_base.specs.Operation.{is_reading}
-use Rattle.mcv_names.specs.declared.handle.Many.TheVariants.{AllSync, AllInitial, Failover, MissFailover}
 use Rattle.mcv_route.specs.Children.{policy_of, prefix_policy, to_both, to_from, to_to, way_of}
 use Rattle.mcv_route.specs.Situation.{asynchronous, shadowed, under}
-use Rattle.mcv_route.specs.Tree.{many, migrate, none, null, pool, warm_up}
+use Rattle.mcv_route.specs.Tree.{many, AllSync, AllInitial, Failover, MissFailover, migrate, none, null, pool, warm_up}
 use Rattle.mcv_route.specs.View.{pool_view, trees_of, view}
 use Rattle.mcv_route.specs.declared.tree.OperationPolicy.{out-OperationPolicy}
 use Rattle.mcv_route.specs.declared.tree.PrefixPolicy.{out-PrefixPolicy}
