@@ -14,7 +14,7 @@ returns-in-Error c = rw (c.in-Error.is, child_at-Error) refl
 
 pub returns-in-Many : goal.returns-in-Many
 returns-in-Many c =
-    rw (c.in-Many.is, child_at-Many c.in-Many.kind c.in-Many.children c.args.number, ← c.deref-in-Many.ensures.value) (borrowed-at view c.deref-in-Many.result.now c.args.number c.get.result c.get.ensures.lookup)
+    rw (c.in-Many.is, child_at-Many c.in-Many.field-0 c.in-Many.children c.args.number, ← c.deref-in-Many.ensures.value) (borrowed-at view c.deref-in-Many.result.now c.args.number c.get.result c.get.ensures.lookup)
 
 pub returns-in-WarmUp : goal.returns-in-WarmUp
 returns-in-WarmUp c =
