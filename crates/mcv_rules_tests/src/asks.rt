@@ -32,11 +32,13 @@ fn behind_error(alloc: Global) -> Result<Route, AllocError> {
 
 fn of_failovers(alloc: Global) -> Result<Route, AllocError> {
     let cold = Route::Many(Many::Failover, two_pools(alloc)?);
-    warm_up(alloc, cold, Route::Many(Many::Failover, two_pools(alloc)?), 60)
+    let warm = Route::Many(Many::Failover, two_pools(alloc)?);
+    warm_up(alloc, cold, warm, 60)
 }
 
 fn of_all(alloc: Global) -> Result<Route, AllocError> {
-    warm_up(alloc, lone(alloc)?, Route::Many(Many::AllSync, two_pools(alloc)?), 60)
+    let warm = Route::Many(Many::AllSync, two_pools(alloc)?);
+    warm_up(alloc, lone(alloc)?, warm, 60)
 }
 
 /// The route that a row's first word names.

@@ -1,5 +1,5 @@
 -- Each leg of a plan is of the pool that is at its position.
-use Rattle.std.proofs.Common.{◌≡◌, inl, inr, ⊎_elim, List, [], Some, subst}
+use Rattle.std.proofs.Common.{◌≡◌, inl, inr, ⊎_elim, [], Some, subst}
 use Rattle.mcv_route.specs.Outcomes.{Outcomes}
 use Rattle.mcv_route.specs.Places.{pool_at_position}
 use Rattle.mcv_route.specs.Situation.{Situation}

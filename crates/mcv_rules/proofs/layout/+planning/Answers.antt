@@ -8,7 +8,7 @@ use Rattle.mcv_route.specs.View.{pool_view, trees_of, view}
 use Rattle.mcv_route.specs.declared.tree.OperationPolicy.{out-OperationPolicy}
 use Rattle.mcv_route.specs.declared.tree.PrefixPolicy.{out-PrefixPolicy}
 use Rattle.mcv_route.specs.declared.tree.Route.{OperationSelector, PrefixSelector}
-use Rattle.mcv_route.proofs.Views.{shadow_view-out, view-Error, view-Many, view-Migrate, view-Null, view-WarmUp}
+use Rattle.mcv_route.proofs.Views.{shadow_view-out, view-Error, view-Migrate, view-Null, view-WarmUp}
 use Rattle.mcv_rules.specs.Laid.{Serves, children_of, operations_of, prefixes_of, situation_at, way_seen}
 use Rattle.mcv_rules.specs.declared.arrival.After.TheVariants as after
 use Rattle.mcv_rules.specs.declared.plan.Plan.{Reply}
