@@ -228,18 +228,18 @@ built-Migrate pools route from to start interval t u v a b is x y =
 -- ---- shadows and policies
 
 -- one more item, of which a walk makes what is beside a route, and the route
-pub item-more : {N M A : Type 0} (pools : List (List ℕ)) (t u v : List SymbolValue) (asked : N → A × Named) (made : M → A × Tree) (items : List N) (i : ℕ) (item : N) (built : List M) (q : M) (beside : A) (n : Named) (x : Tree)
-    → i < length items → item ≡ get_or items i item → asked item ≡ (beside, n) → made q ≡ (beside, x)
-    → (map (λ o. o.0) (map made built) ≡ map (λ o. o.0) (map asked (take i items))) × IsBuilt pools t (map (λ o. o.1) (map asked (take i items))) u (map (λ o. o.1) (map made built))
+pub item-more : {N M A : Type 0} (pools : List (List ℕ)) (t u v : List SymbolValue) (given : N → A × Named) (made : M → A × Tree) (items : List N) (i : ℕ) (item : N) (built : List M) (q : M) (beside : A) (n : Named) (x : Tree)
+    → i < length items → item ≡ get_or items i item → given item ≡ (beside, n) → made q ≡ (beside, x)
+    → (map (λ o. o.0) (map made built) ≡ map (λ o. o.0) (map given (take i items))) × IsBuilt pools t (map (λ o. o.1) (map given (take i items))) u (map (λ o. o.1) (map made built))
     → IsBuilt pools u (n ∷ []) v (x ∷ [])
-    → (map (λ o. o.0) (map made (built ++ q ∷ [])) ≡ map (λ o. o.0) (map asked (take (i + 1) items))) × IsBuilt pools t (map (λ o. o.1) (map asked (take (i + 1) items))) v (map (λ o. o.1) (map made (built ++ q ∷ [])))
-item-more pools t u v asked made items i item built q beside n x h is asked-is made-is before one =
+    → (map (λ o. o.0) (map made (built ++ q ∷ [])) ≡ map (λ o. o.0) (map given (take (i + 1) items))) × IsBuilt pools t (map (λ o. o.1) (map given (take (i + 1) items))) v (map (λ o. o.1) (map made (built ++ q ∷ [])))
+item-more pools t u v given made items i item built q beside n x h is asked-is made-is before one =
     let seen : map made (built ++ q ∷ []) ≡ map made built ++ (beside, x) ∷ [] = map-append made built (q ∷ []) ∙ ap (λ y. map made built ++ y ∷ []) made-is in
-    let named : map asked (take (i + 1) items) ≡ map asked (take i items) ++ (beside, n) ∷ [] = map-more asked items i item h is ∙ ap (λ y. map asked (take i items) ++ y ∷ []) asked-is in (
+    let named : map given (take (i + 1) items) ≡ map given (take i items) ++ (beside, n) ∷ [] = map-more given items i item h is ∙ ap (λ y. map given (take i items) ++ y ∷ []) asked-is in (
       ap (map (λ o. o.0)) seen ∙ map-append (λ o. o.0) (map made built) ((beside, x) ∷ []) ∙ ap (λ y. y ++ beside ∷ []) before.0
-          ∙ sym (ap (map (λ o. o.0)) named ∙ map-append (λ o. o.0) (map asked (take i items)) ((beside, n) ∷ [])),
-      rw (ap (map (λ o. o.1)) seen ∙ map-append (λ o. o.1) (map made built) ((beside, x) ∷ []), ap (map (λ o. o.1)) named ∙ map-append (λ o. o.1) (map asked (take i items)) ((beside, n) ∷ []))
-          (built-append pools t u v (map (λ o. o.1) (map asked (take i items))) (n ∷ []) (map (λ o. o.1) (map made built)) (x ∷ []) before.1 one),
+          ∙ sym (ap (map (λ o. o.0)) named ∙ map-append (λ o. o.0) (map given (take i items)) ((beside, n) ∷ [])),
+      rw (ap (map (λ o. o.1)) seen ∙ map-append (λ o. o.1) (map made built) ((beside, x) ∷ []), ap (map (λ o. o.1)) named ∙ map-append (λ o. o.1) (map given (take i items)) ((beside, n) ∷ []))
+          (built-append pools t u v (map (λ o. o.1) (map given (take i items))) (n ∷ []) (map (λ o. o.1) (map made built)) (x ∷ []) before.1 one),
     )
 
 -- with the routes of the policies built, and then what comes after them
