@@ -9,5 +9,5 @@ use Rattle.mcv_certify.specs.Gap.{GapIsLoss}
 
 pub gap_lost : GapIsLoss
 gap_lost r s i server sound positive bytes g covered =
-    let word : All (λ c. c < 256) g.block.class = subst (All (λ c. c < 256)) (sym (ap (λ (p : Place). p.class) g.placed)) bytes in
+    let word : All (λ c. c < 256) g.block.spot.class = subst (All (λ c. c < 256)) (sym (ap (λ (p : Place). p.spot.class) g.placed)) bytes in
     g.unanswered (covered_has_reasons covered_by_members r g.block g.leaf i sound positive covered g.block_is word g.readable (slice_get_within g.leaf.servers i server g.has))

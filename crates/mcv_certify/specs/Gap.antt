@@ -28,7 +28,7 @@ pub record IsFirstGap (r : RoutesValue) (s : Place) (i server : ℕ) : Type 0 wh
   pub first : (t : Place) (j other : ℕ) → index_cmp t j s i ≡ Less → IsGap r t j other → ⊥
 
 abbrev pub place_of_gap : Gap → Place
-place_of_gap f = record { route = f.route; class = f.class.items; era = f.era; leaf = f.leaf }
+place_of_gap f = record { spot = record { route = f.route; class = f.class.items; era = f.era }; leaf = f.leaf }
 
 -- what is reported as lost is the first gap
 abbrev pub IsRightFault : RoutesValue → CertifyFault → Type 0
@@ -42,4 +42,4 @@ IfLost Memory P = Unit {0}
 
 -- routes with a gap aren't covered. Each symbol has an index (else there would be no choice at all), and class words are of bytes
 abbrev pub GapIsLoss : Type 0
-GapIsLoss = (r : RoutesValue) (s : Place) (i server : ℕ) → IsSoundRoutes r → All (λ n. 0 < n) (sizes_of r) → All (λ c. c < 256) s.class → IsGap r s i server → AreCovered r → ⊥
+GapIsLoss = (r : RoutesValue) (s : Place) (i server : ℕ) → IsSoundRoutes r → All (λ n. 0 < n) (sizes_of r) → All (λ c. c < 256) s.spot.class → IsGap r s i server → AreCovered r → ⊥

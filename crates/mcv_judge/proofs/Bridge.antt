@@ -7,6 +7,7 @@ use Rattle.std.specs.Ordering.{is_eq}
 use Rattle.std.proofs.lemmas.Bool.{cases_Bool, le-leb, eqb-true}
 use Rattle.std.proofs.lemmas.List.{drop-map}
 use Rattle.mcv_cert.specs.Pair.{Place, PairValue, AreRising, pair_of, place_cmp}
+use Rattle.mcv_cert.proofs.Rising.{places_total}
 use Rattle.mcv_judge.specs.Reason.{BlockValue}
 use Rattle.mcv_judge.specs.Faults.{Required, AreInOrder, HaveSameFaults, IsFaultless, IsFirstFault, IsInOrder, fault_at, fault_there, required_at, required_by, is_answered_whole, pair_at, place_required}
 use Rattle.mcv_judge.specs.InMemory.{block_of, pairs_of}
@@ -17,7 +18,7 @@ use Rattle.mcv_judge.specs.declared.fault.PairFault.TheVariants.{Stray}
 use Rattle.mcv_cert.specs.declared.pair.Pair.{Pair}
 use Rattle.mcv_judge.specs.declared.block.Block.{Block}
 use Rattle.mcv_judge.proofs.Open.{Judges, IsFirst, AreEntriesRising, entry_at, fault_beside, fault_from}
-use Rattle.mcv_judge.proofs.Order.{places_total, all_rise, one_rises, ascending, rising, entries_both, in_order_from}
+use Rattle.mcv_judge.proofs.Order.{all_rise, one_rises, ascending, rising, entries_both, in_order_from}
 use Rattle.mcv_judge.proofs.First.{judges, end_stray}
 
 entry_of_required : (os : List Required) (s : Place) → entry_at (entries os) s ≡ option_map (entry_from 0) (required_at os s)

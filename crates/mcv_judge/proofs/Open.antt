@@ -2,7 +2,7 @@
 use Rattle.std.specs.Prelude.{◌≡◌, ◌<◌, ◌&&◌, ◌||◌, not, ℕ, Bool, List, [], ◌∷◌, ◌++◌, Option, Some, None, Result, Ok, Err, nat_lt, nat_le, nat_eq, if◌then◌else◌, find, ⊤}
 use Rattle.std.specs.declared.cmp.Ordering.TheVariants.{Less}
 use Rattle.std.specs.Ordering.{is_eq}
-use Rattle.mcv_cert.specs.Pair.{Place, PairValue, index_of, place_of, place_cmp, index_cmp}
+use Rattle.mcv_cert.specs.Pair.{Place, PairValue, index_of, place_cmp, index_cmp}
 use Rattle.mcv_judge.specs.Faults.{pair_at, is_answered_whole}
 use Rattle.mcv_judge.specs.Walk.{Entry}
 use Rattle.mcv_judge.specs.declared.fault.PairFault.{PairFault}
@@ -29,11 +29,11 @@ IsFirst pairs es f = (s : Place) × (i : ℕ) × (fault_from pairs es s i ≡ So
 -- all pairs come behind the place
 abbrev pub IsBelowPairs : Place → ℕ → List PairValue → Type 0
 IsBelowPairs s i [] = ⊤
-IsBelowPairs s i (r ∷ pairs) = (index_cmp s i (place_of r) (index_of r.reason) ≡ Less) × IsBelowPairs s i pairs
+IsBelowPairs s i (r ∷ pairs) = (index_cmp s i r.place (index_of r.reason) ≡ Less) × IsBelowPairs s i pairs
 
 abbrev pub ArePairsAscending : List PairValue → Type 0
 ArePairsAscending [] = ⊤
-ArePairsAscending (r ∷ pairs) = IsBelowPairs (place_of r) (index_of r.reason) pairs × ArePairsAscending pairs
+ArePairsAscending (r ∷ pairs) = IsBelowPairs r.place (index_of r.reason) pairs × ArePairsAscending pairs
 
 abbrev pub IsBelowEntries : Place → List Entry → Type 0
 IsBelowEntries s [] = ⊤

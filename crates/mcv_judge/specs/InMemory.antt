@@ -21,4 +21,4 @@ abbrev pub legs_of : List Leg → List LegValue
 legs_of ls = map leg_of ls
 
 abbrev pub block_of : Block → BlockValue
-block_of b = record { route = b.route; class = b.class.now; era = b.era; readable = legs_of b.readable.now; acknowledged = legs_of b.acknowledged.now; can_be_acknowledged = b.can_be_acknowledged }
+block_of b = record { spot = record { route = b.route; class = b.class.now; era = b.era }; readable = legs_of b.readable.now; acknowledged = legs_of b.acknowledged.now; can_be_acknowledged = b.can_be_acknowledged }

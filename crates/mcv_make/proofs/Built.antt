@@ -30,11 +30,8 @@ use Rattle.mcv_make.proofs.Gaps as gaps
 -- the finding at the gap with these parts
 abbrev pub finding_at : Gap → (key choice : List ℕ) → Op → (read deleted : History) → FindingValue
 finding_at g key choice op read deleted = record {
-  route = g.route;
-  class = g.class.items;
-  era = g.era;
+  place = place_of_gap g;
   key = key;
-  leaf = g.leaf;
   at = g.at;
   server = g.server.0;
   choice = choice;

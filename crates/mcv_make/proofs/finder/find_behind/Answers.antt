@@ -35,4 +35,4 @@ returns-clause-shown c =
     c.in_ok-op.ensures.reading c.in_ok-op.ensures.first c.in_ok-op.ensures.led c.in_ok-deletes.ensures in
     let class : g.class.items ≡ c.in_ok-copied.field-0.items = sym (c.in_ok-copied.ensures ∙ c.as_slice-2.ensures.value) in
     let leaf : g.leaf ≡ c.in_ok-copy.field-0 = sym c.in_ok-copy.ensures in
-    subst (IsShownWith r c.args.prefix.now) (λ k. record f { class = class k; leaf = leaf k }) is
+    subst (IsShownWith r c.args.prefix.now) (λ k. record f { place = record { spot = record { route = g.route; class = class k; era = g.era }; leaf = leaf k } }) is

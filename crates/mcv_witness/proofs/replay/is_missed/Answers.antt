@@ -23,4 +23,4 @@ returns c =
     let t = view place.route.now in
     let since = option_map (λ m. m.0) place.since in
     misses f t place.rest since c.is_past.result (sym (c.are_rising.ensures ∙ ap (λ x. are_rising (outcomes_of x)) c.as_slice.ensures.value) ∙ c.if-not-are_rising.false)
-    (c.is_past.ensures ∙ ap missed_seen (c.seen.ensures ∙ ap (λ x. pass f.leaf f.server (chosen f) t (asked Delete place.rest since) (record { legs = outcomes_of x; depth = 0 })) c.as_slice-2.ensures.value))
+    (c.is_past.ensures ∙ ap missed_seen (c.seen.ensures ∙ ap (λ x. pass f.place.leaf f.server (chosen f) t (asked Delete place.rest since) (record { legs = outcomes_of x; depth = 0 })) c.as_slice-2.ensures.value))

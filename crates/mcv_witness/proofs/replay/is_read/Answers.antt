@@ -28,4 +28,4 @@ returns c =
     let since = option_map (λ m. m.0) place.since in
     reads f t place.rest since c.is_hit.result (sym c.is_reading.ensures ∙ c.if-not-is_reading.false)
     (sym (c.are_rising.ensures ∙ ap (λ x. are_rising (outcomes_of x)) c.as_slice.ensures.value) ∙ c.if-not-are_rising.false)
-    (c.is_hit.ensures ∙ ap hit_seen (c.seen.ensures ∙ ap (λ x. pass f.leaf f.server (chosen f) t (asked f.op place.rest since) (record { legs = outcomes_of x; depth = 0 })) c.as_slice-2.ensures.value))
+    (c.is_hit.ensures ∙ ap hit_seen (c.seen.ensures ∙ ap (λ x. pass f.place.leaf f.server (chosen f) t (asked f.op place.rest since) (record { legs = outcomes_of x; depth = 0 })) c.as_slice-2.ensures.value))
