@@ -5,6 +5,7 @@ use Rattle.std.specs.List.{Contains}
 use Rattle.std.proofs.lemmas.Option.{same_Some}
 use Rattle.mcv_classes.specs.Class.{IsMember}
 use Rattle.mcv_classes.specs.Words.{class_words}
+use Rattle.mcv_cert.specs.Pair.{Spot}
 use Rattle.mcv_judge.specs.Reason.{BlockValue, LegValue}
 use Rattle.mcv_route.specs.Routes.{RouteEntry, RoutesValue}
 use Rattle.mcv_route.specs.Tree.{Tree}
@@ -16,11 +17,15 @@ use Rattle.mcv_blocks.specs.Sets.{SetsValue}
 use Rattle.mcv_blocks.specs.Spots.{IsBlockFor, IsBlockWith, IsClassInEra, in_era, spot_in}
 use Rattle.mcv_blocks.specs.declared.classes.RouteClass.{RouteClass}
 
+-- the spot of a class with this word, in an era
+abbrev spot_by : RouteClass → List ℕ → ℕ → Spot
+spot_by c word era = record { route = c.route; class = word; era = era }
+
 -- the block of these sets, by what was read off them
-pub block_with : (s : SetsValue) (c : RouteClass) (era : ℕ) (b : BlockValue) (word : List ℕ) (readable acknowledged : List LegValue) → b.spot ≡ record { route = c.route; class = word; era = era } → word ≡ c.class.word → b.readable ≡ readable → b.acknowledged ≡ acknowledged
+pub block_with : (s : SetsValue) (c : RouteClass) (era : ℕ) (b : BlockValue) (word : List ℕ) (readable acknowledged : List LegValue) → b.spot ≡ spot_by c word era → word ≡ c.class.word → b.readable ≡ readable → b.acknowledged ≡ acknowledged
     → AreLeavesAt s.tree (IsReadableAt s.tree s.rest s.since) readable → AreLeavesAt s.tree (IsAcknowledgedAt s.tree s.rest s.since) acknowledged → (b.can_be_acknowledged ≡ false) ↔ IsNeverAcknowledged s.tree s.rest s.since → IsBlockWith s c era b
 block_with s c era b word readable acknowledged spot class same_readable same_acknowledged reads acknowledges never = record {
-  spot = subst (λ w. b.spot ≡ record { route = c.route; class = w; era = era }) class spot;
+  spot = subst (λ w. b.spot ≡ spot_by c w era) class spot;
   has = record {
     readable = subst (AreLeavesAt s.tree (IsReadableAt s.tree s.rest s.since)) (sym same_readable) reads;
     acknowledged = subst (AreLeavesAt s.tree (IsAcknowledgedAt s.tree s.rest s.since)) (sym same_acknowledged) acknowledges;

@@ -20,7 +20,7 @@ use Rattle.mcv_rules.specs.Plan.{Leg}
 use Rattle.mcv_rules.specs.Plans as plans
 use Rattle.mcv_classes.specs.Class.{IsFree}
 use Rattle.mcv_classes.specs.Words.{class_words}
-use Rattle.mcv_route.specs.Eras.{IsEra}
+use Rattle.mcv_route.specs.Eras.{IsEra, IsEraOf}
 use Rattle.mcv_symbolic.specs.Covered.{AreCovered}
 use Rattle.mcv_symbolic.specs.Justified.{IsNeverAcknowledged, IsReadableAt}
 use Rattle.mcv_symbolic.proofs.Exactness.{acknowledged_is_exact, done_is_exact, hits_are_exact}

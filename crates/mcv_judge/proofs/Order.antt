@@ -1,7 +1,8 @@
 -- The order of places, and lists that rise, taken apart from the front.
-use Rattle.std.proofs.Common.{◌≡◌, ℕ, zero, suc, ◌<◌, List, [], ◌∷◌, ◌++◌, length, map, drop, refl, sym, ◌∙◌, subst, arith}
+use Rattle.std.proofs.Common.{◌≡◌, ℕ, zero, suc, ◌<◌, List, [], ◌∷◌, ◌++◌, length, map, drop, sym, ap, ◌∙◌, subst, arith}
 use Rattle.std.specs.Prelude.{All, AllPairs, flat_map}
 use Rattle.std.specs.declared.cmp.Ordering.TheVariants.{Less}
+use Rattle.std.specs.Ordering.{ordering_then}
 use Rattle.std.proofs.lemmas.Cmp.{tied_itself}
 use Rattle.std.proofs.lemmas.List.Elements.{All-cons, All-nil, All-head, All-tail, All-drop}
 use Rattle.std.proofs.lemmas.List.Kept.{AllPairs-cons}
@@ -53,11 +54,11 @@ at_spot s p = record { spot = s; leaf = p }
 
 pub in_one_spot : (s : Spot) (p q : List ℕ) → place_cmp (at_spot s p) (at_spot s q) ≡ list_cmp p q
 unfolding place_cmp
-in_one_spot s p q = rw (tied_itself spots_total s) refl
+in_one_spot s p q = ap (λ o. ordering_then o (list_cmp p q)) (tied_itself spots_total s)
 
 pub in_two_spots : (s t : Spot) (p q : List ℕ) → spot_cmp s t ≡ Less → place_cmp (at_spot s p) (at_spot t q) ≡ Less
 unfolding place_cmp
-in_two_spots s t p q h = rw h refl
+in_two_spots s t p q h = ap (λ o. ordering_then o (list_cmp p q)) h
 
 abbrev requiring : BlockValue → List LegValue → List Required
 requiring b ls = map (require b) ls
