@@ -10,7 +10,7 @@ use Rattle.std.proofs.lemmas.Cmp.{nat_cmp_total, tied_itself}
 use Rattle.std.proofs.lemmas.List.Elements.{All-contains}
 use Rattle.std.proofs.lemmas.Option.{none-some, same_Some}
 use Rattle.mcv_route.specs.Routes.{RoutesValue}
-use Rattle.mcv_cert.specs.Pair.{AreRising, PairValue, Place, ReasonValue, Spot, never, twin, same, all, index_cmp, index_of, list_cmp, pair_cmp, place_cmp, spot_cmp}
+use Rattle.mcv_cert.specs.Pair.{AreRising, PairValue, PlaceValue, ReasonValue, SpotValue, never, twin, same, all, index_cmp, index_of, list_cmp, pair_cmp, place_cmp, spot_cmp}
 use Rattle.mcv_judge.specs.Faults.{IsFaultless, Required, fault_there, has_index, is_answered_whole, require, required_at, required_by, pair_at, place_required}
 use Rattle.mcv_judge.specs.Reason.{BlockValue, HasReason, LegValue, fault_of, is_whole}
 use Rattle.mcv_judge.specs.declared.fault.PairFault.{PairFault}
@@ -40,7 +40,7 @@ list_equal (x ∷ xs) (y ∷ ys) h =
     let rest = list_equal xs ys both.1 in
     λ i. first i ∷ rest i
 
-spot_equal : (s z : Spot) → spot_cmp s z ≡ Equal → s ≡ z
+spot_equal : (s z : SpotValue) → spot_cmp s z ≡ Equal → s ≡ z
 spot_equal s z h =
     let a = then_equal (nat_cmp s.route z.route) (ordering_then (list_cmp s.class z.class) (nat_cmp s.era z.era)) h in
     let b = then_equal (list_cmp s.class z.class) (nat_cmp s.era z.era) a.1 in
@@ -49,7 +49,7 @@ spot_equal s z h =
     let era = nat_equal s.era z.era b.1 in
     λ i. record { route = route i; class = class i; era = era i }
 
-place_equal : (s z : Place) → place_cmp s z ≡ Equal → s ≡ z
+place_equal : (s z : PlaceValue) → place_cmp s z ≡ Equal → s ≡ z
 unfolding place_cmp
 place_equal s z h =
     let both = then_equal (spot_cmp s.spot z.spot) (list_cmp s.leaf z.leaf) h in
@@ -57,16 +57,16 @@ place_equal s z h =
     let leaf = list_equal s.leaf z.leaf both.1 in
     λ i. record { spot = spot i; leaf = leaf i }
 
-place_itself : (s : Place) → place_cmp s s ≡ Equal
+place_itself : (s : PlaceValue) → place_cmp s s ≡ Equal
 place_itself s = tied_itself places_total s
 
 -- an index at a place, and another that is the same
-index_equal : (s z : Place) (i j : ℕ) → is_eq (index_cmp s i z j) ≡ true → (s ≡ z) × (i ≡ j)
+index_equal : (s z : PlaceValue) (i j : ℕ) → is_eq (index_cmp s i z j) ≡ true → (s ≡ z) × (i ≡ j)
 index_equal s z i j h =
     let both = then_equal (place_cmp s z) (nat_cmp i j) (equal_of (index_cmp s i z j) h) in
     (place_equal s z both.0, nat_equal i j both.1)
 
-index_itself : (s z : Place) (i j : ℕ) → s ≡ z → i ≡ j → index_cmp s i z j ≡ Equal
+index_itself : (s z : PlaceValue) (i j : ℕ) → s ≡ z → i ≡ j → index_cmp s i z j ≡ Equal
 index_itself s z i j e f =
     subst (λ y. index_cmp s i y j ≡ Equal) e
     (subst (λ k. index_cmp s i s k ≡ Equal) f (ap (λ o. ordering_then o (nat_cmp i i)) (place_itself s) ∙ tied_itself nat_cmp_total i))
@@ -83,9 +83,9 @@ module _ (r : RoutesValue) (blocks : List BlockValue) (are : AreBlocksOf r block
   -- a block and a leaf of it at the place are these
   same_required : (c : BlockValue) (l : LegValue) → Contains blocks c → Contains c.readable l → place_required (require c l) ≡ place_required (require b leaf) → require c l ≡ require b leaf
   same_required c l there own e =
-      let block : c ≡ b = one_block r c b (All-contains (IsBlockOf r) blocks c are.only there) is_block (ap (λ (z : Place). z.spot) e) in
+      let block : c ≡ b = one_block r c b (All-contains (IsBlockOf r) blocks c are.only there) is_block (ap (λ (z : PlaceValue). z.spot) e) in
       let here : Contains b.readable l = subst (λ x. Contains x.readable l) block own in
-      let leg : l ≡ leaf = one_leg is_block.tree (IsReadableAt is_block.tree is_block.member is_block.since) b.readable is_block.has.readable l leaf here readable (ap (λ (z : Place). z.leaf) e) in
+      let leg : l ≡ leaf = one_leg is_block.tree (IsReadableAt is_block.tree is_block.member is_block.since) b.readable is_block.has.readable l leaf here readable (ap (λ (z : PlaceValue). z.leaf) e) in
       λ i. require (block i) (leg i)
 
   one_required : (o : Required) → Contains (flat_map required_by blocks) o → is_eq (place_cmp (place_required o) (place_required (require b leaf))) ≡ true → o ≡ require b leaf
@@ -126,7 +126,7 @@ whole_at_zero (same index leg) h = absurd (false≢true h)
 whole_at_zero (all index legs) h = absurd (false≢true h)
 
 module _ (pairs : List PairValue) (blocks : List BlockValue) (up : AreRising pairs) (fine : IsFaultless pairs blocks) (b : BlockValue) (leaf : LegValue) (required : required_at (flat_map required_by blocks) (place_required (require b leaf)) ≡ Some (require b leaf)) where
-  abbrev s : Place
+  abbrev s : PlaceValue
   s = place_required (require b leaf)
 
   abbrev is_at : ℕ → PairValue → Bool

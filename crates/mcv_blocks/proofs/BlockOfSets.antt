@@ -5,7 +5,7 @@ use Rattle.std.specs.List.{Contains}
 use Rattle.std.proofs.lemmas.Option.{same_Some}
 use Rattle.mcv_classes.specs.Class.{IsMember}
 use Rattle.mcv_classes.specs.Words.{class_words}
-use Rattle.mcv_cert.specs.Pair.{Spot}
+use Rattle.mcv_cert.specs.Pair.{SpotValue}
 use Rattle.mcv_judge.specs.Reason.{BlockValue, LegValue}
 use Rattle.mcv_route.specs.Routes.{RouteEntry, RoutesValue}
 use Rattle.mcv_route.specs.Tree.{Tree}
@@ -18,7 +18,7 @@ use Rattle.mcv_blocks.specs.Spots.{IsBlockFor, IsBlockWith, IsClassInEra, in_era
 use Rattle.mcv_blocks.specs.declared.classes.RouteClass.{RouteClass}
 
 -- the spot of a class with this word, in an era
-abbrev spot_by : RouteClass → List ℕ → ℕ → Spot
+abbrev spot_by : RouteClass → List ℕ → ℕ → SpotValue
 spot_by c word era = record { route = c.route; class = word; era = era }
 
 -- the block of these sets, by what was read off them

@@ -9,7 +9,7 @@ use Rattle.std.proofs.lemmas.Cmp.{nat_cmp_total, nat_list_cmp_total, tied_itself
 use Rattle.std.proofs.lemmas.List.Elements.{All-from_recursion, All-head, All-tail, All-cons, All-nil, recursion_from_All, Contains-append_left, Contains-append_right}
 use Rattle.std.proofs.lemmas.List.Kept.{AllPairs-cons}
 use Rattle.std.proofs.lemmas.Option.{get_or_from_slice_get, slice_get_within}
-use Rattle.mcv_cert.specs.Pair.{Spot, list_cmp, spot_cmp}
+use Rattle.mcv_cert.specs.Pair.{SpotValue, list_cmp, spot_cmp}
 use Rattle.mcv_classes.specs.Class.{IsListed}
 use Rattle.mcv_classes.specs.Words.{class_words}
 use Rattle.mcv_judge.specs.Faults.{AreInOrder, IsInOrder}
@@ -154,7 +154,7 @@ found-block r (t ∷ ss) (b ∷ bs) s z at =
     ]
 
 -- the class of a spot
-pub class-there : (r : RoutesValue) (s : Spot) (t : Tree) (member : List ℕ) (since : Option ℕ) → IsSpotOf r s t member since
+pub class-there : (r : RoutesValue) (s : SpotValue) (t : Tree) (member : List ℕ) (since : Option ℕ) → IsSpotOf r s t member since
     → IsRouteClass r (record { route = s.route; class = record { word = s.class; member = Some member } })
 class-there r s t member since h = record {
   entry = h.entry;

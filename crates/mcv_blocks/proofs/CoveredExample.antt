@@ -25,7 +25,7 @@ use Rattle.mcv_symbolic.specs.Covered.{AreCovered}
 use Rattle.mcv_symbolic.specs.Justified.{IsNeverAcknowledged, IsReadableAt}
 use Rattle.mcv_symbolic.proofs.Exactness.{acknowledged_is_exact, done_is_exact, hits_are_exact}
 use Rattle.mcv_symbolic.proofs.Whole.{covered_by_members}
-use Rattle.mcv_cert.specs.Pair.{AreRising, PairValue, Spot, all, list_cmp}
+use Rattle.mcv_cert.specs.Pair.{AreRising, PairValue, SpotValue, all, list_cmp}
 use Rattle.mcv_judge.specs.Answers.{AnswersAll, IsAnswer}
 use Rattle.mcv_judge.specs.Faults.{AreInOrder, AreLegsRising, IsFaultless, IsInOrder}
 use Rattle.mcv_judge.specs.Reason.{BlockValue, LegValue, is_whole}
@@ -78,7 +78,7 @@ first_leg = record { position = 0 ∷ 0 ∷ []; symbol = 1; servers = 0 ∷ [] }
 abbrev second_leg : LegValue
 second_leg = record { position = 0 ∷ 1 ∷ []; symbol = 1; servers = 1 ∷ [] }
 
-abbrev spot : Spot
+abbrev spot : SpotValue
 spot = record { route = 0; class = []; era = 0 }
 
 abbrev block : BlockValue
@@ -195,7 +195,7 @@ only_class class at =
       | inr h ↦ absurd (none_there class h)
     ]
 
-only_era : (s : Spot) (t : Tree) (m : List ℕ) (since : Option ℕ) → IsSpotOf routes s t m since → 0 ≡ s.era
+only_era : (s : SpotValue) (t : Tree) (m : List ℕ) (since : Option ℕ) → IsSpotOf routes s t m since → 0 ≡ s.era
 only_era s t m since is = by s.era since is.opened
   where
     no_break : (k : ℕ) (z : Option ℕ) → IsEra routes z → (z ≢ None) → 0 ≡ suc k
@@ -206,7 +206,7 @@ only_era s t m since is = by s.era since is.opened
     by zero z opened = refl
     by (suc k) z opened = no_break k z (era_there routes (suc k) z opened) opened.3
 
-has_block : (s : Spot) (t : Tree) (m : List ℕ) (since : Option ℕ) → IsSpotOf routes s t m since → HasBlockFor (block ∷ []) s
+has_block : (s : SpotValue) (t : Tree) (m : List ℕ) (since : Option ℕ) → IsSpotOf routes s t m since → HasBlockFor (block ∷ []) s
 has_block s t m since is =
     let route_is = only_route s.route is.entry is.numbered in
     let t_is : tree ≡ t = ap (λ (e : RouteEntry). e.tree) route_is.1 ∙ is.has_tree in

@@ -13,7 +13,7 @@ use Rattle.mcv_classes.specs.Words.{class_words}
 use Rattle.mcv_route.specs.Eras.{IsEra}
 use Rattle.mcv_symbolic.specs.Covered.{CoveredByMembers, sizes_of}
 use Rattle.mcv_symbolic.specs.Justified.{IsAcknowledgedPool, IsAnswered, IsJustified, IsNeverAcknowledged, IsReadableAt}
-use Rattle.mcv_cert.specs.Pair.{AreRising, PairValue, ReasonValue, Spot, never, twin, same, all, index_of, list_cmp}
+use Rattle.mcv_cert.specs.Pair.{AreRising, PairValue, ReasonValue, SpotValue, never, twin, same, all, index_of, list_cmp}
 use Rattle.mcv_judge.specs.Faults.{IsFaultless}
 use Rattle.mcv_judge.specs.Reason.{BlockValue, HasReason, LegValue, fault_of, fault_of_leg, fill_a_symbol, fill_symbol_of, has_server, have_server, is_one_missing, is_same_list, is_same_server, is_there_with, is_twin, is_whole, leg_at, server_at, unless}
 use Rattle.mcv_judge.specs.declared.fault.PairFault.{PairFault}
@@ -163,7 +163,7 @@ module _ (r : RoutesValue) (pairs : List PairValue) (sound : IsSoundRoutes r) (u
   at_member : (e : RouteEntry) (word member : List ℕ) (since : Option ℕ) → Contains r.entries e → Contains (class_words e.tree) word → IsMember (class_words e.tree) word (Some member) → IsEra r since → IsJustified (sizes_of r) e.tree member since
   at_member e word member since at listed has era =
       let number = era_numbered r since era in
-      let spot : Spot = record { route = at.0; class = word; era = number.0 } in
+      let spot : SpotValue = record { route = at.0; class = word; era = number.0 } in
       let is : IsSpotOf r spot e.tree member since =
       record { entry = e; numbered = slice_get-get_or r.entries at.0 e at.1 ∙ ap Some at.2; has_tree = refl; listed = listed; has_member = has; opened = number.1 } in
       let b = are.all spot e.tree member since is in

@@ -10,7 +10,7 @@ use Rattle.mcv_route.specs.Routes.{RouteEntry, RoutesValue}
 use Rattle.mcv_route.specs.Tree.{Tree}
 use Rattle.mcv_classes.specs.Class.{IsMember}
 use Rattle.mcv_classes.specs.Words.{class_words}
-use Rattle.mcv_cert.specs.Pair.{Spot, list_cmp, spot_cmp}
+use Rattle.mcv_cert.specs.Pair.{SpotValue, list_cmp, spot_cmp}
 use Rattle.mcv_cert.proofs.Rising.{spots_total}
 use Rattle.mcv_judge.specs.Reason.{BlockValue, LegValue}
 use Rattle.mcv_symbolic.specs.Justified.{IsNeverAcknowledged, IsReadableAt}
@@ -60,14 +60,14 @@ one_member words [] m n h g =
     h.1 ∙ ap (λ b. b ∷ []) same ∙ sym g.1
 one_member words (b ∷ word) m n h g = h.0 ∙ sym g.0
 
-one_spot : (r : RoutesValue) (p : Spot) (t u : Tree) (m n : List ℕ) (s z : Option ℕ) → IsSpotOf r p t m s → IsSpotOf r p u n z → (t ≡ u) × (m ≡ n) × (s ≡ z)
+one_spot : (r : RoutesValue) (p : SpotValue) (t u : Tree) (m n : List ℕ) (s z : Option ℕ) → IsSpotOf r p t m s → IsSpotOf r p u n z → (t ≡ u) × (m ≡ n) × (s ≡ z)
 one_spot r p t u m n s z h g =
     let entry = same_Some h.entry g.entry (sym h.numbered ∙ g.numbered) in
     let tree : t ≡ u = sym h.has_tree ∙ ap (λ (e : RouteEntry). e.tree) entry ∙ g.has_tree in
     (tree, one_member (class_words u) p.class m n (subst (λ x. IsMember (class_words x) p.class (Some m)) tree h.has_member) g.has_member, one_era r p.era s z h.opened g.opened)
 
 -- what a block of the spot has
-pub block_has : (r : RoutesValue) (p : Spot) (t : Tree) (m : List ℕ) (s : Option ℕ) → IsSpotOf r p t m s → (b : BlockValue) → IsBlockOf r b → b.spot ≡ p → IsBlockAt t m s b
+pub block_has : (r : RoutesValue) (p : SpotValue) (t : Tree) (m : List ℕ) (s : Option ℕ) → IsSpotOf r p t m s → (b : BlockValue) → IsBlockOf r b → b.spot ≡ p → IsBlockAt t m s b
 block_has r p t m s is b own e =
     let here : IsSpotOf r p own.tree own.member own.since = subst (λ x. IsSpotOf r x own.tree own.member own.since) e own.spot in
     let same = one_spot r p t own.tree m own.member s own.since is here in

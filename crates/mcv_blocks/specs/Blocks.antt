@@ -14,7 +14,7 @@ use Rattle.mcv_symbolic.specs.Sets.{IsAcknowledged}
 use Rattle.mcv_judge.specs.Faults.{AreLegsRising, IsFaultless, IsFirstFault}
 use Rattle.mcv_judge.specs.Reason.{BlockValue, LegValue}
 use Rattle.mcv_judge.specs.declared.fault.PairFault.{PairFault}
-use Rattle.mcv_cert.specs.Pair.{PairValue, Spot, spot_cmp}
+use Rattle.mcv_cert.specs.Pair.{PairValue, SpotValue, spot_cmp}
 
 -- the pool of a leaf
 abbrev pub pool_for : LegValue → Pool
@@ -41,7 +41,7 @@ pub record IsBlockAt (t : Tree) (rest : List ℕ) (since : Option ℕ) (b : Bloc
   pub never : (b.can_be_acknowledged ≡ false) ↔ IsNeverAcknowledged t rest since
 
 -- the routes have a route of this number, it has a class of this word, and an era of this number; and then its tree, the class's member and the break that opened the era
-pub record IsSpotOf (r : RoutesValue) (s : Spot) (t : Tree) (member : List ℕ) (since : Option ℕ) : Type 0 where
+pub record IsSpotOf (r : RoutesValue) (s : SpotValue) (t : Tree) (member : List ℕ) (since : Option ℕ) : Type 0 where
   pub entry : RouteEntry
   pub numbered : slice_get r.entries s.route ≡ Some entry
   pub has_tree : entry.tree ≡ t
@@ -58,14 +58,14 @@ pub record IsBlockOf (r : RoutesValue) (b : BlockValue) : Type 0 where
   pub has : IsBlockAt tree member since b
 
 -- one of the blocks is at the spot
-abbrev pub HasBlockFor : List BlockValue → Spot → Type 0
+abbrev pub HasBlockFor : List BlockValue → SpotValue → Type 0
 HasBlockFor blocks s = (b : BlockValue) × Contains blocks b × (b.spot ≡ s)
 
 -- a block for each spot whose class has a member, in the order of the spots, each once
 pub record AreBlocksOf (r : RoutesValue) (blocks : List BlockValue) : Type 0 where
   pub rising : AllPairs (λ b c. spot_cmp b.spot c.spot ≡ Less) blocks
   pub only : All (IsBlockOf r) blocks
-  pub all : (s : Spot) (t : Tree) (member : List ℕ) (since : Option ℕ) → IsSpotOf r s t member since → HasBlockFor blocks s
+  pub all : (s : SpotValue) (t : Tree) (member : List ℕ) (since : Option ℕ) → IsSpotOf r s t member since → HasBlockFor blocks s
 
 -- a certificate with these pairs is justified: it has no fault
 abbrev pub IsJustifiedBy : RoutesValue → List PairValue → Type 0

@@ -2,7 +2,7 @@
 use Rattle.std.specs.Prelude.{◌≡◌, ℕ, zero, suc, List, [], ◌∷◌, ◌++◌, ⊤}
 use Rattle.std.specs.List.{AllByRecursion}
 use Rattle.std.specs.declared.cmp.Ordering.TheVariants.{Less}
-use Rattle.mcv_cert.specs.Pair.{Spot, spot_cmp}
+use Rattle.mcv_cert.specs.Pair.{SpotValue, spot_cmp}
 use Rattle.mcv_judge.specs.Reason.{BlockValue}
 use Rattle.mcv_route.specs.Routes.{RoutesValue}
 use Rattle.mcv_route.specs.Eras.{HasEra}
@@ -20,10 +20,10 @@ abbrev pub in_era : RouteClass → ℕ → ClassInEra
 in_era c era = record { class = c; era = era }
 
 -- the spot of a class in an era: a block is there
-abbrev pub spot_in : RouteClass → ℕ → Spot
+abbrev pub spot_in : RouteClass → ℕ → SpotValue
 spot_in c era = record { route = c.route; class = c.class.word; era = era }
 
-abbrev pub spot_of : ClassInEra → Spot
+abbrev pub spot_of : ClassInEra → SpotValue
 spot_of s = spot_in s.class s.era
 
 -- those of a class in n eras from one on

@@ -8,16 +8,17 @@ use Rattle.std.specs.declared.cmp.Ordering.TheVariants.{Less}
 use Rattle.mcv_cert.specs.declared.pair.Reason.{Reason}
 use Rattle.mcv_cert.specs.declared.pair.Reason.TheVariants as reasons
 use Rattle.mcv_cert.specs.declared.pair.Pair.{Pair}
+use Rattle.mcv_cert.specs.declared.place.Place.{Place}
 
 -- what a block is of: the rests of a class of a route, in an era
-pub record Spot : Type 0 where
+pub record SpotValue : Type 0 where
   pub route : ℕ
   pub class : List ℕ
   pub era : ℕ
 
 -- where a leaf is: at which spot, and at which position in the route's tree
-pub record Place : Type 0 where
-  pub spot : Spot
+pub record PlaceValue : Type 0 where
+  pub spot : SpotValue
   pub leaf : List ℕ
 
 -- why each delete that is acknowledged was sent to a leaf's server. Legs are named by their positions
@@ -33,7 +34,7 @@ pub data ReasonValue : Type 0 where
 
 -- a leaf that can be read, at one index or at all, and why a delete reaches its server
 pub record PairValue : Type 0 where
-  pub place : Place
+  pub place : PlaceValue
   pub reason : ReasonValue
 
 -- ---- what the code's values mean
@@ -44,8 +45,11 @@ reason_of (reasons.Twin leg) = twin leg
 reason_of (reasons.Same index leg) = same index leg
 reason_of (reasons.All index legs) = all index legs.items
 
+abbrev pub place_of : Place → PlaceValue
+place_of p = record { spot = record { route = p.route; class = p.class.items; era = p.era }; leaf = p.leaf }
+
 abbrev pub pair_of : Pair → PairValue
-pair_of p = record { place = record { spot = record { route = p.route; class = p.class.items; era = p.era }; leaf = p.leaf }; reason = reason_of p.reason }
+pair_of p = record { place = place_of p.place; reason = reason_of p.reason }
 
 -- ---- order
 
@@ -54,11 +58,11 @@ abbrev pub list_cmp : List ℕ → List ℕ → Ordering
 list_cmp = slice_cmp nat_cmp
 
 -- by route, class (bytes) and era
-abbrev pub spot_cmp : Spot → Spot → Ordering
+abbrev pub spot_cmp : SpotValue → SpotValue → Ordering
 spot_cmp s t = ordering_then (nat_cmp s.route t.route) (ordering_then (list_cmp s.class t.class) (nat_cmp s.era t.era))
 
 -- by spot, then by leaf
-unfoldable pub place_cmp : Place → Place → Ordering
+unfoldable pub place_cmp : PlaceValue → PlaceValue → Ordering
 place_cmp p q = ordering_then (spot_cmp p.spot q.spot) (list_cmp p.leaf q.leaf)
 
 -- a reason that speaks of all indexes is at 0
@@ -69,7 +73,7 @@ index_of (same index leg) = index
 index_of (all index legs) = index
 
 -- an index at a place: by place, then by index
-abbrev pub index_cmp : Place → ℕ → Place → ℕ → Ordering
+abbrev pub index_cmp : PlaceValue → ℕ → PlaceValue → ℕ → Ordering
 index_cmp p i q j = ordering_then (place_cmp p q) (nat_cmp i j)
 
 abbrev pub pair_cmp : PairValue → PairValue → Ordering
@@ -112,7 +116,7 @@ FitsReason (same index leg) = (index < 2 ^ 64) × FitsPosition leg
 FitsReason (all index legs) = (index < 2 ^ 64) × All FitsPosition legs
 
 -- a spot whose numbers have 64 bits, and its class bytes
-pub record FitsSpot (s : Spot) : Type 0 where
+pub record FitsSpot (s : SpotValue) : Type 0 where
   pub route : s.route < 2 ^ 64
   pub class : All (λ b. b < 256) s.class
   pub era : s.era < 2 ^ 64

@@ -4,7 +4,7 @@ use Rattle.std.specs.List.{All, Contains}
 use Rattle.std.specs.declared.cmp.Ordering.TheVariants.{Less}
 use Rattle.std.proofs.lemmas.List.Elements.{All-contains, All-from_recursion, Contains-append_cases}
 use Rattle.std.proofs.lemmas.Option.{get_or_from_slice_get, slice_get_within}
-use Rattle.mcv_cert.specs.Pair.{Place, index_cmp, spot_cmp}
+use Rattle.mcv_cert.specs.Pair.{PlaceValue, index_cmp, spot_cmp, place_of}
 use Rattle.mcv_judge.specs.Reason.{BlockValue, HasReason, HasReasons, LegValue}
 use Rattle.mcv_route.specs.Routes.{RoutesValue}
 use Rattle.mcv_route.specs.Eras.{HasEra}
@@ -15,7 +15,7 @@ use Rattle.mcv_blocks.specs.declared.classes.RouteClass.{RouteClass}
 use Rattle.mcv_blocks.proofs.BlocksOfSpots.{class-there, in-spots, same-cmp, spots_are, spots_behind}
 use Rattle.mcv_route.proofs.RisingLists.{first_or_behind}
 use Rattle.mcv_blocks.proofs.Unique.{one_block}
-use Rattle.mcv_certify.specs.Gap.{IsFirstGap, IsGap, place_of_gap}
+use Rattle.mcv_certify.specs.Gap.{IsFirstGap, IsGap}
 use Rattle.mcv_certify.specs.Made.{ReportsGapIn}
 use Rattle.mcv_certify.specs.declared.gap.Gap.{Gap}
 use Rattle.mcv_certify.proofs.BlockGap.{before_gap}
@@ -42,7 +42,7 @@ module _ (r : RoutesValue) (cs : List RouteClass) (n : ℕ) (classes : AreRouteC
     abbrev leaf : LegValue
     leaf = t.reports.reports.gap.leaf
 
-    pub own : IsGap r (place_of_gap f) f.at f.server.0
+    pub own : IsGap r (place_of f.place) f.at f.server.0
     own =
         let reported = t.reports.reports in
         record {
@@ -77,7 +77,7 @@ module _ (r : RoutesValue) (cs : List RouteClass) (n : ℕ) (classes : AreRouteC
         let later : spot_cmp (spot_of t.spot) (spot_of s) ≡ Less = All-contains (λ u. spot_cmp (spot_of t.spot) (spot_of u) ≡ Less) t.behind s (All-from_recursion (λ u. spot_cmp (spot_of t.spot) (spot_of u) ≡ Less) t.behind rise.1) at in
         same-cmp r t.spot s here b t.reports.block_is block_is ∙ later
 
-    none_before : (s : Place) (j x : ℕ) → index_cmp s j (place_of_gap f) f.at ≡ Less → IsGap r s j x → ⊥
+    none_before : (s : PlaceValue) (j x : ℕ) → index_cmp s j (place_of f.place) f.at ≡ Less → IsGap r s j x → ⊥
     none_before s j x less g =
         let b = g.block in
         let at = class_of b g.block_is in
@@ -94,5 +94,5 @@ module _ (r : RoutesValue) (cs : List RouteClass) (n : ℕ) (classes : AreRouteC
           ]
         ]
 
-    pub first_gap : IsFirstGap r (place_of_gap f) f.at f.server.0
+    pub first_gap : IsFirstGap r (place_of f.place) f.at f.server.0
     first_gap = record { gap = own; first = λ s j x less g. none_before s j x less g }

@@ -1,7 +1,7 @@
 -- How the code goes from block to block. Only private contracts cite this.
 use Rattle.std.specs.Prelude.{All, ◌≡◌, ◌<◌, ◌++◌, ◌∷◌, ℕ, List, Some}
 use Rattle.std.specs.List.{AllZip}
-use Rattle.mcv_cert.specs.Pair.{PairValue}
+use Rattle.mcv_cert.specs.Pair.{PairValue, place_of}
 use Rattle.mcv_judge.specs.Answers.{AnswersAll, AnswersBlock}
 use Rattle.mcv_judge.specs.Faults.{place_required, require}
 use Rattle.mcv_judge.specs.Reason.{BlockValue, HasReasons, LegValue, server_at}
@@ -13,7 +13,6 @@ use Rattle.mcv_blocks.specs.Blocks.{AreLeavesAt, IsAcknowledgedAt}
 use Rattle.mcv_blocks.specs.Sets.{SetsValue}
 use Rattle.mcv_blocks.specs.Spots.{IsBlockFor, IsBlockWith, ClassInEra}
 use Rattle.mcv_blocks.specs.declared.classes.RouteClass.{RouteClass}
-use Rattle.mcv_certify.specs.Gap.{place_of_gap}
 use Rattle.mcv_certify.specs.Picked.{IsPickedOf}
 use Rattle.mcv_certify.specs.declared.gap.Gap.{Gap}
 
@@ -39,9 +38,9 @@ pub record AddsFor (r : RoutesValue) (spots : List ClassInEra) (old new : List P
 pub record ReportsGapOf (b : BlockValue) (f : Gap) : Type 0 where
   pub number : ℕ
   pub gap : IsFirstGapIn b number f.at
-  pub placed : place_required (require b gap.leaf) ≡ place_of_gap f
+  pub placed : place_required (require b gap.leaf) ≡ place_of f.place
   pub has : server_at gap.leaf f.at ≡ Some f.server.0
-  pub bytes : All (λ c. c < 256) f.class.items
+  pub bytes : All (λ c. c < 256) f.place.class.items
 
 -- that of the block of the sets
 pub record ReportsGapWith (s : SetsValue) (c : RouteClass) (number : ℕ) (f : Gap) : Type 0 where

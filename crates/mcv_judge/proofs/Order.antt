@@ -7,7 +7,7 @@ use Rattle.std.proofs.lemmas.Cmp.{tied_itself}
 use Rattle.std.proofs.lemmas.List.Elements.{All-cons, All-nil, All-head, All-tail, All-drop}
 use Rattle.std.proofs.lemmas.List.Kept.{AllPairs-cons}
 use Rattle.std.proofs.lemmas.List.{map-append}
-use Rattle.mcv_cert.specs.Pair.{Place, Spot, PairValue, AreRising, index_of, list_cmp, spot_cmp, place_cmp, index_cmp}
+use Rattle.mcv_cert.specs.Pair.{PlaceValue, SpotValue, PairValue, AreRising, index_of, list_cmp, spot_cmp, place_cmp, index_cmp}
 use Rattle.mcv_cert.proofs.Rising.{spots_total}
 use Rattle.mcv_judge.specs.Reason.{LegValue, BlockValue}
 use Rattle.mcv_judge.specs.Faults.{Required, AreInOrder, AreLegsRising, IsInOrder, require, required_by}
@@ -24,11 +24,11 @@ behind_first P x xs h i j d l b = h (suc i) (suc j) d (omega arith) (omega arith
 
 -- ---- pairs
 
-below_all : (s : Place) (i : ℕ) (pairs : List PairValue) → All (λ r. index_cmp s i r.place (index_of r.reason) ≡ Less) pairs → IsBelowPairs s i pairs
+below_all : (s : PlaceValue) (i : ℕ) (pairs : List PairValue) → All (λ r. index_cmp s i r.place (index_of r.reason) ≡ Less) pairs → IsBelowPairs s i pairs
 below_all s i [] h = tt
 below_all s i (r ∷ pairs) h = (All-head (λ q. index_cmp s i q.place (index_of q.reason) ≡ Less) r pairs h, below_all s i pairs (All-tail (λ q. index_cmp s i q.place (index_of q.reason) ≡ Less) r pairs h))
 
-all_below : (s : Place) (i : ℕ) (pairs : List PairValue) → IsBelowPairs s i pairs → All (λ r. index_cmp s i r.place (index_of r.reason) ≡ Less) pairs
+all_below : (s : PlaceValue) (i : ℕ) (pairs : List PairValue) → IsBelowPairs s i pairs → All (λ r. index_cmp s i r.place (index_of r.reason) ≡ Less) pairs
 all_below s i [] h = All-nil (λ r. index_cmp s i r.place (index_of r.reason) ≡ Less)
 all_below s i (r ∷ pairs) h = All-cons (λ q. index_cmp s i q.place (index_of q.reason) ≡ Less) r pairs h.0 (all_below s i pairs h.1)
 
@@ -49,21 +49,21 @@ rising (r ∷ pairs) h = AllPairs-cons Later r pairs (all_below r.place (index_o
 -- ---- blocks
 
 -- the place at a spot
-abbrev pub at_spot : Spot → List ℕ → Place
+abbrev pub at_spot : SpotValue → List ℕ → PlaceValue
 at_spot s p = record { spot = s; leaf = p }
 
-pub in_one_spot : (s : Spot) (p q : List ℕ) → place_cmp (at_spot s p) (at_spot s q) ≡ list_cmp p q
+pub in_one_spot : (s : SpotValue) (p q : List ℕ) → place_cmp (at_spot s p) (at_spot s q) ≡ list_cmp p q
 unfolding place_cmp
 in_one_spot s p q = ap (λ o. ordering_then o (list_cmp p q)) (tied_itself spots_total s)
 
-pub in_two_spots : (s t : Spot) (p q : List ℕ) → spot_cmp s t ≡ Less → place_cmp (at_spot s p) (at_spot t q) ≡ Less
+pub in_two_spots : (s t : SpotValue) (p q : List ℕ) → spot_cmp s t ≡ Less → place_cmp (at_spot s p) (at_spot t q) ≡ Less
 unfolding place_cmp
 in_two_spots s t p q h = ap (λ o. ordering_then o (list_cmp p q)) h
 
 abbrev requiring : BlockValue → List LegValue → List Required
 requiring b ls = map (require b) ls
 
-below_leaves : (s : Place) (b : BlockValue) (ls : List LegValue) → ((l : LegValue) → place_cmp s (at_spot b.spot l.position) ≡ Less) → (es : List Entry) → IsBelowEntries s es → IsBelowEntries s (entries (requiring b ls) ++ es)
+below_leaves : (s : PlaceValue) (b : BlockValue) (ls : List LegValue) → ((l : LegValue) → place_cmp s (at_spot b.spot l.position) ≡ Less) → (es : List Entry) → IsBelowEntries s es → IsBelowEntries s (entries (requiring b ls) ++ es)
 below_leaves s b [] h es more = more
 below_leaves s b (l ∷ ls) h es more = (h l, below_leaves s b ls h es more)
 

@@ -3,7 +3,7 @@ use Rattle.std.specs.Prelude.{◌≡◌, ◌<◌, ◌&&◌, ◌||◌, not, ℕ, 
 use Rattle.std.specs.List.{list_any}
 use Rattle.std.specs.declared.cmp.Ordering.TheVariants.{Less}
 use Rattle.std.specs.Ordering.{is_eq}
-use Rattle.mcv_cert.specs.Pair.{Place, PairValue, index_of, list_cmp, spot_cmp, place_cmp, index_cmp}
+use Rattle.mcv_cert.specs.Pair.{PlaceValue, PairValue, index_of, list_cmp, spot_cmp, place_cmp, index_cmp}
 use Rattle.mcv_judge.specs.Reason.{LegValue, BlockValue, fault_of, is_whole}
 use Rattle.mcv_judge.specs.declared.fault.PairFault.{PairFault}
 use Rattle.mcv_judge.specs.declared.fault.PairFault.TheVariants.{Missing, Stray}
@@ -13,7 +13,7 @@ pub record Required : Type 0 where
   pub block : BlockValue
   pub leaf : LegValue
 
-abbrev pub place_required : Required → Place
+abbrev pub place_required : Required → PlaceValue
 place_required o = record { spot = o.block.spot; leaf = o.leaf.position }
 
 abbrev pub require : BlockValue → LegValue → Required
@@ -22,14 +22,14 @@ require b l = record { block = b; leaf = l }
 abbrev pub required_by : BlockValue → List Required
 required_by b = map (require b) b.readable
 
-abbrev pub required_at : List Required → Place → Option Required
+abbrev pub required_at : List Required → PlaceValue → Option Required
 required_at os s = find (λ o. is_eq (place_cmp (place_required o) s)) os
 
-abbrev pub pair_at : List PairValue → Place → ℕ → Option PairValue
+abbrev pub pair_at : List PairValue → PlaceValue → ℕ → Option PairValue
 pair_at pairs s i = find (λ r. is_eq (index_cmp r.place (index_of r.reason) s i)) pairs
 
 -- some pair speaks of all indexes of the leaf
-abbrev pub is_answered_whole : List PairValue → Place → Bool
+abbrev pub is_answered_whole : List PairValue → PlaceValue → Bool
 is_answered_whole pairs s = list_any (λ r. is_whole r.reason && is_eq (place_cmp r.place s)) pairs
 
 abbrev pub has_index : Required → ℕ → Bool
@@ -43,19 +43,19 @@ fault_there (Some o) None whole i = if has_index o i && not whole then Some Miss
 fault_there (Some o) (Some r) whole i = if has_index o i && (nat_eq i 0 || not whole) then fault_of o.block o.leaf r.reason else Some Stray
 
 -- the fault at a place, if any
-abbrev pub fault_at : List PairValue → List BlockValue → Place → ℕ → Option PairFault
+abbrev pub fault_at : List PairValue → List BlockValue → PlaceValue → ℕ → Option PairFault
 fault_at pairs blocks s i = fault_there (required_at (flat_map required_by blocks) s) (pair_at pairs s i) (is_answered_whole pairs s) i
 
 abbrev pub IsFaultless : List PairValue → List BlockValue → Type 0
-IsFaultless pairs blocks = (s : Place) (i : ℕ) → fault_at pairs blocks s i ≡ None
+IsFaultless pairs blocks = (s : PlaceValue) (i : ℕ) → fault_at pairs blocks s i ≡ None
 
 -- the fault is at some place, and none at an earlier one
 abbrev pub IsFirstFault : List PairValue → List BlockValue → PairFault → Type 0
-IsFirstFault pairs blocks f = (s : Place) × (i : ℕ) × (fault_at pairs blocks s i ≡ Some f) × ((t : Place) (j : ℕ) → index_cmp t j s i ≡ Less → fault_at pairs blocks t j ≡ None)
+IsFirstFault pairs blocks f = (s : PlaceValue) × (i : ℕ) × (fault_at pairs blocks s i ≡ Some f) × ((t : PlaceValue) (j : ℕ) → index_cmp t j s i ≡ Less → fault_at pairs blocks t j ≡ None)
 
 -- both have the same faults
 abbrev pub HaveSameFaults : List PairValue → List BlockValue → List PairValue → List BlockValue → Type 0
-HaveSameFaults pairs blocks rest later = (s : Place) (i : ℕ) → fault_at pairs blocks s i ≡ fault_at rest later s i
+HaveSameFaults pairs blocks rest later = (s : PlaceValue) (i : ℕ) → fault_at pairs blocks s i ≡ fault_at rest later s i
 
 -- ---- what is judged comes in order
 

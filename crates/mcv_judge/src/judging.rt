@@ -18,11 +18,12 @@ use std::cmp::Ordering;
 fn compare(pair: &Pair, block: &Block, leaf: &Leg, index: usize) -> Ordering
     ensures { let r = pair_of pair.now in result ≡ index_cmp r.place (index_of r.reason) (place_required (require (block_of block.now) (leg_of leaf.now))) index }
 {
-    pair.route
-        .cmp(&block.route)
-        .then(pair.class.as_slice().cmp(block.class))
-        .then(pair.era.cmp(&block.era))
-        .then(pair.leaf.steps().cmp(leaf.position.steps()))
+    pair.place
+        .route
+        .cmp(&block.spot.route)
+        .then(pair.place.class.as_slice().cmp(block.spot.class))
+        .then(pair.place.era.cmp(&block.spot.era))
+        .then(pair.place.leaf.steps().cmp(leaf.position.steps()))
         .then(pair.reason.index().cmp(&index))
 }
 

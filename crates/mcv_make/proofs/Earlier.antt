@@ -4,6 +4,7 @@ use Rattle.std.specs.Prelude.{slice_get, slice_index}
 use Rattle.std.specs.List.{Contains}
 use Rattle.std.proofs.lemmas.Bool.{false≢true}
 use Rattle.std.proofs.lemmas.Option.{get_or_from_slice_get, none-some, same_Some, slice_get_within}
+use Rattle.mcv_cert.specs.Pair.{place_of}
 use Rattle.mcv_base.specs.Operation.{is_counting, is_reading}
 use Rattle.mcv_base.specs.declared.operation.Op.{Op}
 use Rattle.mcv_base.specs.declared.operation.Op.TheVariants.{Get, Gets, Set, Add, Replace, Append, Prepend, Cas, Delete, Touch}
@@ -15,7 +16,7 @@ use Rattle.mcv_blocks.proofs.Existing.{block_exists}
 use Rattle.mcv_blocks.proofs.PoolSizes.{AreSized, entry_sized}
 use Rattle.mcv_blocks.proofs.Sound.{answers}
 use Rattle.mcv_blocks.proofs.Unique.{block_has, leg_there, pool_of_leg}
-use Rattle.mcv_certify.specs.Gap.{IsFirstGap, IsGap, place_of_gap}
+use Rattle.mcv_certify.specs.Gap.{IsFirstGap, IsGap}
 use Rattle.mcv_certify.specs.declared.gap.Gap.{Gap}
 use Rattle.mcv_classes.specs.Class.{IsClassWord, IsMember}
 use Rattle.mcv_classes.specs.Laws.{AreAlike}
@@ -206,5 +207,5 @@ pub first_finding : (r : RoutesValue) → IsSoundRoutes r → (f : FindingValue)
 first_finding r sound f gap breaks = record { breaks = breaks; first = λ g less other. gap.first g.place g.at g.server less (finding_is_gap r sound g other) }
 
 -- the finding of the first gap
-pub first_of_gap : (r : RoutesValue) → IsSoundRoutes r → (g : Gap) (f : FindingValue) → IsFirstGap r (place_of_gap g) g.at g.server.0 → IsAtGap g f → BreaksCoverage r f → IsFirstFinding r f
+pub first_of_gap : (r : RoutesValue) → IsSoundRoutes r → (g : Gap) (f : FindingValue) → IsFirstGap r (place_of g.place) g.at g.server.0 → IsAtGap g f → BreaksCoverage r f → IsFirstFinding r f
 first_of_gap r sound g f gap at breaks = first_finding r sound f (at-finding (IsFirstGap r) g f at gap) breaks

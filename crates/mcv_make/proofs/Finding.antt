@@ -10,12 +10,12 @@ use Rattle.mcv_base.specs.declared.reply.Outcome.TheVariants.{Good}
 use Rattle.mcv_blocks.specs.Blocks.{IsBlockAt, IsSpotOf, pool_for}
 use Rattle.mcv_blocks.proofs.PoolSizes.{AreSized, entry_sized}
 use Rattle.mcv_blocks.proofs.Unique.{block_has, pool_of_leg}
-use Rattle.mcv_cert.specs.Pair.{Place}
+use Rattle.mcv_cert.specs.Pair.{PlaceValue, place_of}
 use Rattle.mcv_classes.proofs.Members.{members_are_inside}
 use Rattle.mcv_config.specs.Aliases.{IsAlias, alias_limit}
 use Rattle.mcv_config.specs.Entries.{depth_limit}
 use Rattle.mcv_judge.specs.Reason.{BlockValue, LegValue}
-use Rattle.mcv_certify.specs.Gap.{IsGap, place_of_gap}
+use Rattle.mcv_certify.specs.Gap.{IsGap}
 use Rattle.mcv_certify.specs.declared.gap.Gap.{Gap}
 use Rattle.mcv_route.specs.Aliases.{AreSelected, first_alias}
 use Rattle.mcv_route.specs.Limits.{AreWithinLimits, IsWithin}
@@ -59,7 +59,7 @@ module _ (r : RoutesValue) (sound : IsSoundRoutes r) (limits : AreWithinLimits r
   leaf = gap.leaf
 
   at-leaf : leaf.position ≡ f.place.leaf
-  at-leaf = ap (λ (p : Place). p.leaf) gap.placed
+  at-leaf = ap (λ (p : PlaceValue). p.leaf) gap.placed
 
   there : Contains r.entries built.entry
   there = (f.place.spot.route, slice_get_within r.entries f.place.spot.route built.entry built.numbered, get_or_from_slice_get r.entries f.place.spot.route built.entry built.entry built.numbered)
@@ -68,7 +68,7 @@ module _ (r : RoutesValue) (sound : IsSoundRoutes r) (limits : AreWithinLimits r
   at_spot = record { entry = built.entry; numbered = built.numbered; has_tree = refl; listed = built.listed; has_member = built.member; opened = built.opened }
 
   block : IsBlockAt tree built.rest built.since b
-  block = block_has r f.place.spot tree built.rest built.since at_spot b gap.block_is (ap (λ (p : Place). p.spot) gap.placed)
+  block = block_has r f.place.spot tree built.rest built.since at_spot b gap.block_is (ap (λ (p : PlaceValue). p.spot) gap.placed)
 
   leaf-pool : pool_at_position tree leaf.position ≡ Some (pool_for leaf)
   leaf-pool = pool_of_leg tree (IsReadableAt tree built.rest built.since) b.readable block.readable leaf gap.readable
@@ -148,9 +148,9 @@ module _ (r : RoutesValue) (sound : IsSoundRoutes r) (limits : AreWithinLimits r
   }
 
 -- the finding that is shown of a gap with the first routing prefix of its route breaks coverage
-pub breaks-at : (r : RoutesValue) → IsSoundRoutes r → AreWithinLimits r → All (λ n. 0 < n) (sizes_of r) → (g : Gap) (f : FindingValue) (prefix : List ℕ) → IsGap r (place_of_gap g) g.at g.server.0 → IsAtGap g f
-    → AreSelected r.entries → first_alias r g.route ≡ Some prefix → IsShownWith r prefix f → BreaksCoverage r f
+pub breaks-at : (r : RoutesValue) → IsSoundRoutes r → AreWithinLimits r → All (λ n. 0 < n) (sizes_of r) → (g : Gap) (f : FindingValue) (prefix : List ℕ) → IsGap r (place_of g.place) g.at g.server.0 → IsAtGap g f
+    → AreSelected r.entries → first_alias r g.place.route ≡ Some prefix → IsShownWith r prefix f → BreaksCoverage r f
 breaks-at r sound limits positive g f prefix gap at selected first shown =
-    let alias = is-alias r g.route prefix selected first in
-    let selects : route_of_prefix prefix r.entries ≡ Some f.place.spot.route = subst (λ n. route_of_prefix prefix r.entries ≡ Some n) (sym (ap (λ (p : Place). p.spot.route) at.place)) (selects-route r g.route prefix selected first) in
+    let alias = is-alias r g.place.route prefix selected first in
+    let selects : route_of_prefix prefix r.entries ≡ Some f.place.spot.route = subst (λ n. route_of_prefix prefix r.entries ≡ Some n) (sym (ap (λ (p : PlaceValue). p.spot.route) at.place)) (selects-route r g.place.route prefix selected first) in
     breaks r sound limits positive f prefix (at-finding (IsGap r) g f at gap) alias.0 alias.1 selects shown

@@ -9,7 +9,7 @@ use Rattle.std.proofs.lemmas.Bool.{cases_lt}
 use Rattle.std.proofs.lemmas.List.{ext_get_or, get_or_default}
 use Rattle.std.proofs.lemmas.List.Elements.{All-cons, All-contains_itself, All-head, All-nil, All-tail}
 use Rattle.std.proofs.lemmas.Option.{slice_get-get_or}
-use Rattle.mcv_cert.specs.Pair.{PairValue, Place, ReasonValue, all, index_of, list_cmp, never}
+use Rattle.mcv_cert.specs.Pair.{PairValue, PlaceValue, ReasonValue, all, index_of, list_cmp, never}
 use Rattle.mcv_judge.specs.Answers.{AnswersEach, AnswersLeaf, AnswersLeaves}
 use Rattle.mcv_judge.specs.Faults.{AreLegsRising, require, place_required}
 use Rattle.mcv_judge.specs.Reason.{BlockValue, LegValue, is_whole, server_at}
@@ -138,7 +138,7 @@ module _ (b : BlockValue) (up : AreLegsRising b.readable) where
   own_picked leaf is_readable ps answers picked i p l =
       let h = picked i p l in
       let place = placed b leaf ps answers i p l in
-      let same : h.0 ≡ leaf = one_leaf b.readable up h.0 leaf h.1 is_readable (ap (λ (s : Place). s.leaf) (sym h.2.place ∙ place)) in
+      let same : h.0 ≡ leaf = one_leaf b.readable up h.0 leaf h.1 is_readable (ap (λ (s : PlaceValue). s.leaf) (sym h.2.place ∙ place)) in
       subst (λ d. IsPickedFor b d (get_or ps i p)) same h.2
 
   abbrev IsLeafOf : LegValue → Type 0

@@ -1,7 +1,7 @@
 //! Texts that are read, and texts at fault. In the tables `^` is a LF and `~` a CR.
 
 use mcv_base::Position;
-use mcv_cert::{CertFault, Certificate, Pair, Reason, read_certificate};
+use mcv_cert::{CertFault, Certificate, Pair, Place, Reason, read_certificate};
 use std::alloc::{AllocError, Global};
 use std::test::Fail;
 
@@ -90,6 +90,16 @@ fn the_first_line_at_fault_is_reported(rt: HostRuntime) -> Result<(), Fail> {
     Ok(())
 }
 
+/// The leaf 1 of the first route, in the first era, for the class of the empty word.
+fn place(alloc: Global) -> Result<Place, AllocError> {
+    Ok(Place {
+        route: 0,
+        class: Vec::new(alloc),
+        era: 0,
+        leaf: Position::at(alloc, &[1])?,
+    })
+}
+
 #[test]
 fn a_certificate_takes_pairs_that_rise(rt: HostRuntime) -> Result<(), Fail> {
     let alloc = rt.alloc();
@@ -98,10 +108,7 @@ fn a_certificate_takes_pairs_that_rise(rt: HostRuntime) -> Result<(), Fail> {
         let mut legs = Vec::new(alloc);
         legs.push(Position::at(alloc, &[0, index])?)?;
         let pair = Pair {
-            route: 0,
-            class: Vec::new(alloc),
-            era: 0,
-            leaf: Position::at(alloc, &[1])?,
+            place: place(alloc)?,
             reason: Reason::All(index, legs),
         };
         assert!(rt; certificate.takes(&pair), "it rises");
@@ -109,10 +116,7 @@ fn a_certificate_takes_pairs_that_rise(rt: HostRuntime) -> Result<(), Fail> {
         certificate.push(pair)?;
     }
     let earlier = Pair {
-        route: 0,
-        class: Vec::new(alloc),
-        era: 0,
-        leaf: Position::at(alloc, &[1])?,
+        place: place(alloc)?,
         reason: Reason::Never,
     };
     assert!(rt; !certificate.takes(&earlier), "it falls");

@@ -2,6 +2,7 @@
 
 use crate::built::{lines, routes};
 use mcv_base::{Op, Outcome, Position, ServerId};
+use mcv_cert::Place;
 use mcv_pools::Choice;
 use mcv_route::Routes;
 use mcv_witness::{Finding, LegOutcome, confirm, finding_text};
@@ -117,7 +118,7 @@ fn op(word: &str) -> Op {
 
 /// The words of a finding, up to the leaf and from the leaf on.
 #[derive(Drop)]
-struct Place<'a> {
+struct PlaceValue<'a> {
     route: &'a str,
     class: &'a str,
     era: &'a str,
@@ -125,12 +126,12 @@ struct Place<'a> {
     read: &'a str,
 }
 
-fn words(line: &str) -> Result<Place<'_>, Fail> {
+fn words(line: &str) -> Result<PlaceValue<'_>, Fail> {
     let (route, line) = line.split_once(' ').ok_or("a route")?;
     let (class, line) = line.split_once(' ').ok_or("a class")?;
     let (era, line) = line.split_once(' ').ok_or("an era")?;
     let (key, read) = line.split_once(' ').ok_or("a key")?;
-    Ok(Place {
+    Ok(PlaceValue {
         route,
         class,
         era,
@@ -179,14 +180,17 @@ fn finding(alloc: Global, line: &str) -> Result<Finding, Fail> {
     let read = reading(words.read)?;
     let (route, era) = (words.route.parse::<usize>()?, words.era.parse::<usize>()?);
     let (at, server) = (read.at.parse::<usize>()?, read.server.parse::<u32>()?);
-    Ok(Finding {
+    let place = Place {
         route,
         class: Vec::from_slice(alloc, class(words.class))?,
         era,
-        key: Vec::from_slice(alloc, words.key.as_bytes())?,
         leaf: position(alloc, read.leaf)?,
+    };
+    Ok(Finding {
+        place,
         at,
         server: ServerId(server),
+        key: Vec::from_slice(alloc, words.key.as_bytes())?,
         choice: Choice::new(numbers(alloc, read.choice, ',')?),
         op: op(read.op),
         gets: outcomes(alloc, read.gets)?,

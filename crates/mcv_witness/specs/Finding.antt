@@ -1,14 +1,14 @@
 -- A finding: a key, a get and a delete of it, by which a server can keep what was deleted (own).
 use Rattle.std.specs.Prelude.{ℕ, List, map}
 use Rattle.mcv_base.specs.declared.operation.Op.{Op}
-use Rattle.mcv_cert.specs.Pair.{Place}
+use Rattle.mcv_cert.specs.Pair.{PlaceValue, place_of}
 use Rattle.mcv_route.specs.Outcomes.{History}
 use Rattle.mcv_witness.specs.declared.finding.Finding.{Finding}
 use Rattle.mcv_witness.specs.declared.finding.LegOutcome.{LegOutcome}
 
 pub record FindingValue : Type 0 where
   -- the leaf that is read, its index, and the number of its server there
-  pub place : Place
+  pub place : PlaceValue
   pub at : ℕ
   pub server : ℕ
   -- the key word
@@ -28,7 +28,7 @@ outcomes_of legs = map (λ l. (l.position, l.outcome)) legs
 -- the finding that is kept so
 abbrev pub finding_of : Finding → FindingValue
 finding_of f = record {
-  place = record { spot = record { route = f.route; class = f.class.items; era = f.era }; leaf = f.leaf };
+  place = place_of f.place;
   at = f.at;
   server = f.server.0;
   key = f.key.items;
