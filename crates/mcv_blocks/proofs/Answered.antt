@@ -42,11 +42,11 @@ list_equal (x ∷ xs) (y ∷ ys) h =
 
 spot_equal : (s z : SpotValue) → spot_cmp s z ≡ Equal → s ≡ z
 spot_equal s z h =
-    let a = then_equal (nat_cmp s.route z.route) (ordering_then (list_cmp s.class z.class) (nat_cmp s.era z.era)) h in
-    let b = then_equal (list_cmp s.class z.class) (nat_cmp s.era z.era) a.1 in
-    let route = nat_equal s.route z.route a.0 in
-    let class = list_equal s.class z.class b.0 in
-    let era = nat_equal s.era z.era b.1 in
+    let a = then_equal (ordering_then (nat_cmp s.route z.route) (list_cmp s.class z.class)) (nat_cmp s.era z.era) h in
+    let b = then_equal (nat_cmp s.route z.route) (list_cmp s.class z.class) a.0 in
+    let route = nat_equal s.route z.route b.0 in
+    let class = list_equal s.class z.class b.1 in
+    let era = nat_equal s.era z.era a.1 in
     λ i. record { route = route i; class = class i; era = era i }
 
 place_equal : (s z : PlaceValue) → place_cmp s z ≡ Equal → s ≡ z

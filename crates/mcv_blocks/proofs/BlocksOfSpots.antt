@@ -3,13 +3,12 @@ use Rattle.std.proofs.Common.{◌≡◌, ◌↔◌, inl, inr, ℕ, zero, suc, �
 use Rattle.std.specs.Prelude.{slice_get}
 use Rattle.std.specs.List.{All, AllByRecursion, AllPairs, AllZip, Contains}
 use Rattle.std.specs.Ordering.{nat_cmp, ordering_then}
-use Rattle.std.specs.declared.cmp.Ordering.{Ordering}
-use Rattle.std.specs.declared.cmp.Ordering.TheVariants.{Less, Equal, Greater}
+use Rattle.std.specs.declared.cmp.Ordering.TheVariants.{Less}
 use Rattle.std.proofs.lemmas.Cmp.{nat_cmp_total, nat_list_cmp_total, tied_itself}
 use Rattle.std.proofs.lemmas.List.Elements.{All-from_recursion, All-head, All-tail, All-cons, All-nil, recursion_from_All, Contains-append_left, Contains-append_right}
 use Rattle.std.proofs.lemmas.List.Kept.{AllPairs-cons}
 use Rattle.std.proofs.lemmas.Option.{get_or_from_slice_get, slice_get_within}
-use Rattle.mcv_cert.specs.Pair.{SpotValue, list_cmp, spot_cmp}
+use Rattle.mcv_cert.specs.Pair.{SpotValue, spot_cmp}
 use Rattle.mcv_classes.specs.Class.{IsListed}
 use Rattle.mcv_classes.specs.Words.{class_words}
 use Rattle.mcv_judge.specs.Faults.{AreInOrder, IsInOrder}
@@ -37,15 +36,8 @@ IsBefore s t = spot_cmp (spot_of s) (spot_of t) ≡ Less
 in-one-class : (c : RouteClass) (k j : ℕ) → k < j → IsBefore (in_era c k) (in_era c j)
 in-one-class c k j h = rw (tied_itself nat_cmp_total c.route, tied_itself nat_list_cmp_total c.class.word) (less k j h)
 
-then-further : (x y z : Ordering) → ordering_then x y ≡ Less → ordering_then x (ordering_then y z) ≡ Less
-then-further Less y z h = refl
-then-further Equal Less z h = refl
-then-further Equal Equal z h = absurd cc
-then-further Equal Greater z h = absurd cc
-then-further Greater y z h = absurd cc
-
 in-two-classes : (c d : RouteClass) (k j : ℕ) → class_cmp c d ≡ Less → IsBefore (in_era c k) (in_era d j)
-in-two-classes c d k j h = then-further (nat_cmp c.route d.route) (list_cmp c.class.word d.class.word) (nat_cmp k j) h
+in-two-classes c d k j h = ap (λ o. ordering_then o (nat_cmp k j)) h
 
 later-eras : (c : RouteClass) (k j n : ℕ) → k < j → AllByRecursion (IsBefore (in_era c k)) (eras_from c j n)
 later-eras c k j zero h = tt

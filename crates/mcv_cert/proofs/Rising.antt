@@ -15,8 +15,8 @@ use Rattle.mcv_cert.specs.Pair.{AreRising, IsCertificate, NamesLegs, PairValue, 
 
 pub spots_total : IsTotalOrder spot_cmp
 spots_total =
-    then_total (on_total (λ (s : SpotValue). s.route) nat_cmp_total)
-    (then_total (on_total (λ (s : SpotValue). s.class) nat_list_cmp_total) (on_total (λ (s : SpotValue). s.era) nat_cmp_total))
+    then_total (then_total (on_total (λ (s : SpotValue). s.route) nat_cmp_total) (on_total (λ (s : SpotValue). s.class) nat_list_cmp_total))
+    (on_total (λ (s : SpotValue). s.era) nat_cmp_total)
 
 pub places_total : IsTotalOrder place_cmp
 unfolding place_cmp

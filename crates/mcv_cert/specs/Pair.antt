@@ -59,7 +59,7 @@ list_cmp = slice_cmp nat_cmp
 
 -- by route, class (bytes) and era
 abbrev pub spot_cmp : SpotValue → SpotValue → Ordering
-spot_cmp s t = ordering_then (nat_cmp s.route t.route) (ordering_then (list_cmp s.class t.class) (nat_cmp s.era t.era))
+spot_cmp s t = ordering_then (ordering_then (nat_cmp s.route t.route) (list_cmp s.class t.class)) (nat_cmp s.era t.era)
 
 -- by spot, then by leaf
 unfoldable pub place_cmp : PlaceValue → PlaceValue → Ordering
