@@ -40,7 +40,7 @@ pub record IsBlockAt (t : Tree) (rest : List ℕ) (since : Option ℕ) (b : Bloc
   pub acknowledged : AreLeavesAt t (IsAcknowledgedAt t rest since) b.acknowledged
   pub never : (b.can_be_acknowledged ≡ false) ↔ IsNeverAcknowledged t rest since
 
--- the routes have a route of this number, it has a class of this word, and an era of this number; and then its tree, the class's member and the break that opened the era
+-- the routes have the spot's route, that has the spot's class, and the spot's era; and then the tree, the class's member and the break that opened the era
 pub record IsSpotOf (r : RoutesValue) (s : SpotValue) (t : Tree) (member : List ℕ) (since : Option ℕ) : Type 0 where
   pub entry : RouteEntry
   pub numbered : slice_get r.entries s.route ≡ Some entry
