@@ -118,7 +118,7 @@ fn op(word: &str) -> Op {
 
 /// The words of a finding, up to the leaf and from the leaf on.
 #[derive(Drop)]
-struct PlaceValue<'a> {
+struct Words<'a> {
     route: &'a str,
     class: &'a str,
     era: &'a str,
@@ -126,12 +126,12 @@ struct PlaceValue<'a> {
     read: &'a str,
 }
 
-fn words(line: &str) -> Result<PlaceValue<'_>, Fail> {
+fn words(line: &str) -> Result<Words<'_>, Fail> {
     let (route, line) = line.split_once(' ').ok_or("a route")?;
     let (class, line) = line.split_once(' ').ok_or("a class")?;
     let (era, line) = line.split_once(' ').ok_or("an era")?;
     let (key, read) = line.split_once(' ').ok_or("a key")?;
-    Ok(PlaceValue {
+    Ok(Words {
         route,
         class,
         era,
