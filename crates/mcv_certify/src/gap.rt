@@ -56,14 +56,13 @@ pub fn gap_of(alloc: Global, block: &Block, gap: BlockGap) -> Result<Gap, AllocE
     let leaf = &block.readable[gap.leaf];
     let servers = leaf.servers;
     let server = servers[gap.at];
-    let place = Place {
-        route: block.spot.route,
-        class: copied(alloc, block.spot.class)?,
-        era: block.spot.era,
-        leaf: leaf.position.copy(alloc)?,
-    };
     Ok(Gap {
-        place,
+        place: Place {
+            route: block.spot.route,
+            class: copied(alloc, block.spot.class)?,
+            era: block.spot.era,
+            leaf: leaf.position.copy(alloc)?,
+        },
         at: gap.at,
         server,
     })
