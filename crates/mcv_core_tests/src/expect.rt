@@ -47,7 +47,7 @@ fn is_reply(answered: &[Answered], source: Option<Source>, part: &Option<Part>) 
     match (source, part) {
         (None, None) => true,
         (Some(Source::Fixed(reply)), Some(Part::Fixed(fixed))) => reply == *fixed,
-        (Some(Source::Outcome(state)), Some(part)) => match answered.get(state) {
+        (Some(Source::Outcome(place)), Some(part)) => match answered.get(place) {
             Some(answered) => is_same(&answered.reply, part),
             None => false,
         },

@@ -21,7 +21,7 @@ fn leg_state(stage: Stage) -> Option<LegState> {
 impl Model<'_> {
     /// Whether the core has the leg where the model has it, and sends of it what the model has.
     fn is_leg(&self, core: &Core<Fnv>, number: usize, leg: &Leg) -> bool {
-        let state = core.state().state(LegId(number as u64));
+        let state = core.state().leg_state(LegId(number as u64));
         if state != leg_state(leg.stage) {
             return false;
         }
@@ -43,7 +43,7 @@ impl Model<'_> {
                 return Err(Amiss::Leg(number));
             }
         }
-        match core.state().state(LegId(self.legs.len() as u64)) {
+        match core.state().leg_state(LegId(self.legs.len() as u64)) {
             None => Ok(()),
             Some(_) => Err(Amiss::Unknown),
         }
@@ -80,7 +80,7 @@ impl Model<'_> {
                 && leg.launch.server.is(server)
                 && leg.is_counted_delete()
                 && (leg.stage == Stage::Performed
-                    || core.state().state(LegId(number as u64)).is_some())
+                    || core.state().leg_state(LegId(number as u64)).is_some())
         })
     }
 
