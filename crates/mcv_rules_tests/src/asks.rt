@@ -1,7 +1,7 @@
 //! What legs ask, a row a case: an add stores the value and the flags that `warm` replied (mcrouter's wiki, List of Route
 //! Handles, WarmUpRoute).
 
-use crate::routes::{pool, position, two, warm_up};
+use crate::routes::{check_found, halves, named, position};
 use mcv_asks::{Call, Heard, client_request, leg_request};
 use mcv_base::{Ask, FixedReply, LegRequest, Mark, Op, Part, Reply, Request, Rest, ServerId};
 use mcv_pools::Choice;
@@ -12,45 +12,17 @@ use std::str::from_utf8;
 use std::sync::Arc;
 use std::test::Fail;
 
-/// A pool of one server.
-fn lone(alloc: Global) -> Result<Route, AllocError> {
-    pool(alloc, 0, &[ServerId(1)])
-}
-
-fn two_pools(alloc: Global) -> Result<Vec<Route>, AllocError> {
-    two(alloc, lone(alloc)?, lone(alloc)?)
-}
-
-/// A warm-up that adds for 60 s.
-fn plain(alloc: Global) -> Result<Route, AllocError> {
-    warm_up(alloc, lone(alloc)?, lone(alloc)?, 60)
-}
-
-fn behind_error(alloc: Global) -> Result<Route, AllocError> {
-    Ok(Route::Failover(two(alloc, lone(alloc)?, plain(alloc)?)?))
-}
-
-fn of_failovers(alloc: Global) -> Result<Route, AllocError> {
-    let cold = Route::Failover(two_pools(alloc)?);
-    warm_up(alloc, cold, Route::Failover(two_pools(alloc)?), 60)
-}
-
-fn of_all(alloc: Global) -> Result<Route, AllocError> {
-    warm_up(alloc, lone(alloc)?, Route::AllSync(two_pools(alloc)?), 60)
-}
-
-/// The route that a row's first word names.
-fn route_of(alloc: Global, name: &str) -> Result<Route, AllocError> {
-    match name {
-        "warm_up" => plain(alloc),
-        "as_warm" => warm_up(alloc, lone(alloc)?, plain(alloc)?, 5),
-        "as_cold" => warm_up(alloc, plain(alloc)?, lone(alloc)?, 5),
-        "failover" => behind_error(alloc),
-        "of_failovers" => of_failovers(alloc),
-        "of_all" => of_all(alloc),
-        _ => lone(alloc),
-    }
-}
+/// The routes that the rows name, with pools of one server: `warm_up` adds for 60 s; another one that adds for 5 s has it as
+/// its warm or its cold side; `failover` has it behind a pool.
+const NAMES: [(&str, &str); 7] = [
+    ("pool", "1"),
+    ("warm_up", "11w"),
+    ("as_warm", "111wv"),
+    ("as_cold", "11w1v"),
+    ("failover", "111wf"),
+    ("of_failovers", "11f11fw"),
+    ("of_all", "111sw"),
+];
 
 /// A hit with 7 flags, a miss, or an error line.
 fn reply(alloc: Global, word: &str) -> Result<Part, AllocError> {
@@ -145,26 +117,41 @@ fn asked(
     shown(alloc, &request)
 }
 
+fn launch_of(alloc: Global, op: &str, place: &str) -> Result<Launch, AllocError> {
+    Ok(Launch {
+        op: op_of(op),
+        position: position(alloc, place)?,
+        server: ServerId(1),
+        mark: Mark::Plain,
+    })
+}
+
+/// What a leg of a call asks after the replies of a row.
+fn asked_after(
+    alloc: Global,
+    route: &Route,
+    op: Op,
+    launch: &Launch,
+    row: &str,
+) -> Result<String, Fail> {
+    let came = came(alloc, row)?;
+    let heard = heard(alloc, came.as_slice())?;
+    asked(alloc, route, op, launch, heard.as_slice())
+}
+
 /// What the leg asks, by the call's operation, the leg's, its position, and the replies.
 fn given_by(alloc: Global, route: &Route, row: &str) -> Result<String, Fail> {
     let (op, row) = row.split_once(' ').ok_or("an operation")?;
     let (sent, row) = row.split_once(' ').ok_or("the leg's operation")?;
     let (place, row) = row.split_once(' ').unwrap_or((row, ""));
-    let launch = Launch {
-        op: op_of(sent),
-        position: position(alloc, place)?,
-        server: ServerId(1),
-        mark: Mark::Plain,
-    };
-    let came = came(alloc, row)?;
-    let heard = heard(alloc, came.as_slice())?;
-    asked(alloc, route, op_of(op), &launch, heard.as_slice())
+    let launch = launch_of(alloc, sent, place)?;
+    asked_after(alloc, route, op_of(op), &launch, row)
 }
 
 /// What the leg of a row asks. Its first half is the name of a route and what is asked of it.
 fn given(alloc: Global, row: &str) -> Result<String, Fail> {
     let (name, row) = row.split_once(' ').ok_or("a route")?;
-    let route = route_of(alloc, name)?;
+    let route = named(alloc, &NAMES, name)?;
     given_by(alloc, &route, row)
 }
 
@@ -189,12 +176,8 @@ of_all get add 2 0=miss 1.0=y 1.1=x | add 7 60 x None";
 fn legs_ask(rt: HostRuntime) -> Result<(), Fail> {
     let alloc = rt.alloc();
     for row in ROWS.lines() {
-        let Some((asked, wanted)) = row.split_once(" | ") else {
-            return Ok(assert!(rt; false, "{row}"));
-        };
-        let found = given(alloc, asked)?;
-        let found = found.as_str();
-        assert!(rt; found == wanted, "{row}\n{found}");
+        let (asked, wanted) = halves(row)?;
+        check_found(&rt, row, given(alloc, asked)?.as_str(), wanted);
     }
     Ok(())
 }
@@ -207,8 +190,7 @@ fn spooled_deletes_ask(rt: HostRuntime) -> Result<(), Fail> {
         return Err(Fail::from("no rest"));
     };
     let request = client_request(alloc, None, Op::Delete, &Arc::new(alloc, rest)?)?;
-    let found = shown(alloc, &request)?;
-    let found = found.as_str();
-    assert!(rt; found == "delete 0 0  None", "{found}");
+    let row = "delete 0 0  None";
+    check_found(&rt, row, shown(alloc, &request)?.as_str(), row);
     Ok(())
 }

@@ -1,137 +1,35 @@
 //! What routes send and reply, a row a case; the values are those of mcrouter's wiki, List of Route Handles.
 
-use crate::routes::{migration, pool, position, shadowed, two, warm_up};
-use mcv_base::{FixedReply, Moment, Op, Outcome, Part, Reply, ServerId, split_key};
+use crate::routes::{check_found, halves, named, position};
+use mcv_base::{FixedReply, Moment, Op, Outcome, Part, Reply, split_key};
 use mcv_pools::Choice;
-use mcv_route::{Answered, Launch, OperationPolicy, PrefixPolicy, Route, Shadow};
+use mcv_route::{Answered, Launch, Route};
 use mcv_rules::{Eval, Outcomes, Status, default_reply};
 use std::alloc::{AllocError, Global};
 use std::process::Abort;
 use std::sync::Arc;
 use std::test::Fail;
 
-/// A pool of server 1 and one of server 2.
-fn two_pools(alloc: Global) -> Result<Vec<Route>, AllocError> {
-    let first = pool(alloc, 0, &[ServerId(1)])?;
-    two(alloc, first, pool(alloc, 0, &[ServerId(2)])?)
-}
-
-/// A pool of servers 1 and 2; at index 0 server 3 gets a copy, at 1 to 9 server 4.
-fn two_shadows(alloc: Global) -> Result<Route, AllocError> {
-    let mut shadows = Vec::new(alloc);
-    shadows.push(Shadow {
-        first: 0,
-        last: 0,
-        target: pool(alloc, 0, &[ServerId(3)])?,
-    })?;
-    shadows.push(Shadow {
-        first: 1,
-        last: 9,
-        target: pool(alloc, 0, &[ServerId(0), ServerId(4)])?,
-    })?;
-    shadowed(alloc, 0, &[ServerId(1), ServerId(2)], shadows)
-}
-
-/// A child without legs, and a pool of server 1.
-fn null_first(alloc: Global) -> Result<Vec<Route>, AllocError> {
-    two(alloc, Route::Null, pool(alloc, 0, &[ServerId(1)])?)
-}
-
-/// Two pools in the background, the second after an error of the first.
-fn in_background(alloc: Global) -> Result<Route, AllocError> {
-    let search = Route::Failover(two_pools(alloc)?);
-    Ok(Route::AllAsync(two(alloc, search, Route::Error)?))
-}
-
-/// Three children, the middle one of which is itself such a route.
-fn nested(alloc: Global) -> Result<Route, AllocError> {
-    let within = Route::AllSync(two_pools(alloc)?);
-    let mut children = two(alloc, pool(alloc, 0, &[ServerId(0)])?, within)?;
-    children.push(pool(alloc, 0, &[ServerId(3)])?)?;
-    Ok(Route::AllSync(children))
-}
-
-/// Server 1 is cold, and server 2 warm.
-fn warming(alloc: Global) -> Result<Route, AllocError> {
-    let cold = pool(alloc, 0, &[ServerId(1)])?;
-    warm_up(alloc, cold, pool(alloc, 0, &[ServerId(2)])?, 60)
-}
-
-/// From server 1 to server 2.
-fn moving(alloc: Global) -> Result<Route, AllocError> {
-    let from = pool(alloc, 0, &[ServerId(1)])?;
-    migration(alloc, from, pool(alloc, 0, &[ServerId(2)])?, 1000, 3600)
-}
-
-/// Server 1 for rests that begin with `a`, server 2 for those with `ab`.
-fn prefixes(alloc: Global) -> Result<Route, AllocError> {
-    let mut policies = Vec::new(alloc);
-    policies.push(PrefixPolicy {
-        prefix: Vec::from_slice(alloc, b"a")?,
-        route: pool(alloc, 0, &[ServerId(1)])?,
-    })?;
-    policies.push(PrefixPolicy {
-        prefix: Vec::from_slice(alloc, b"ab")?,
-        route: pool(alloc, 0, &[ServerId(2)])?,
-    })?;
-    Ok(Route::PrefixSelector {
-        policies,
-        wildcard: None,
-    })
-}
-
-/// Servers 7 and 8 for delete; a policy whose operation no command has comes before.
-fn policies(alloc: Global) -> Result<Vec<OperationPolicy>, AllocError> {
-    let mut policies = Vec::new(alloc);
-    policies.push(OperationPolicy {
-        op: None,
-        route: Route::Null,
-    })?;
-    policies.push(OperationPolicy {
-        op: Some(Op::Delete),
-        route: pool(alloc, 0, &[ServerId(7), ServerId(8)])?,
-    })?;
-    Ok(policies)
-}
-
-/// Those policies, and server 1 for other operations.
-fn operations(alloc: Global) -> Result<Route, AllocError> {
-    let one = pool(alloc, 0, &[ServerId(1)])?;
-    let default_policy = Some(Box::new(alloc, one)?);
-    Ok(Route::OperationSelector {
-        policies: policies(alloc)?,
-        default_policy,
-    })
-}
-
-fn no_default(alloc: Global) -> Result<Route, AllocError> {
-    Ok(Route::OperationSelector {
-        policies: policies(alloc)?,
-        default_policy: None,
-    })
-}
-
-/// The route that a row's first word names.
-fn route_of(alloc: Global, name: &str) -> Result<Route, AllocError> {
-    Ok(match name {
-        "pool" => pool(alloc, 0, &[ServerId(1), ServerId(2)])?,
-        "shadows" => two_shadows(alloc)?,
-        "null" => Route::Null,
-        "sync" => Route::AllSync(two_pools(alloc)?),
-        "null_sync" => Route::AllSync(null_first(alloc)?),
-        "nested" => nested(alloc)?,
-        "initial" => Route::AllInitial(two_pools(alloc)?),
-        "async" => in_background(alloc)?,
-        "failover" => Route::Failover(two_pools(alloc)?),
-        "miss_failover" => Route::MissFailover(two_pools(alloc)?),
-        "warm_up" => warming(alloc)?,
-        "migrate" => moving(alloc)?,
-        "prefixes" => prefixes(alloc)?,
-        "operations" => operations(alloc)?,
-        "no_default" => no_default(alloc)?,
-        _ => Route::Error,
-    })
-}
+/// The routes that the rows name. `nested` has three children, the middle one of which is itself such a route; `async` has
+/// two pools in the background, the second after an error of the first; `warm_up` has server 1 cold and server 2 warm.
+const NAMES: [(&str, &str); 16] = [
+    ("pool", "P"),
+    ("shadows", "T"),
+    ("null", "N"),
+    ("error", "E"),
+    ("sync", "12s"),
+    ("null_sync", "N1s"),
+    ("nested", "012s3S"),
+    ("initial", "12i"),
+    ("async", "12fEy"),
+    ("failover", "12f"),
+    ("miss_failover", "12m"),
+    ("warm_up", "12w"),
+    ("migrate", "12M"),
+    ("prefixes", "X"),
+    ("operations", "O"),
+    ("no_default", "D"),
+];
 
 /// The operations of the rows.
 fn op_of(name: &str) -> Op {
@@ -224,18 +122,14 @@ fn given_by(alloc: Global, route: &Route, row: &str) -> Result<String, Fail> {
 /// What a row gives. Its first half is the name of a route and what is asked of it.
 fn given(alloc: Global, row: &str) -> Result<String, Fail> {
     let (name, row) = row.split_once(' ').ok_or("a route")?;
-    let route = route_of(alloc, name)?;
+    let route = named(alloc, &NAMES, name)?;
     given_by(alloc, &route, row)
 }
 
 fn check_rows(rt: &impl Abort, alloc: Global, table: &str) -> Result<(), Fail> {
     for row in table.lines() {
-        let Some((asked, wanted)) = row.split_once(" | ") else {
-            return Ok(assert!(rt; false, "{row}"));
-        };
-        let found = given(alloc, asked)?;
-        let found = found.as_str();
-        assert!(rt; found == wanted, "{row}\n{found}");
+        let (asked, wanted) = halves(row)?;
+        check_found(rt, row, given(alloc, asked)?.as_str(), wanted);
     }
     Ok(())
 }

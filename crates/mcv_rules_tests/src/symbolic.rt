@@ -1,78 +1,12 @@
 //! What can be read and what is acknowledged, a row a case; each pool has one server.
 
-use crate::routes::{pool, shadowed, warm_up};
-use mcv_base::{Op, Outcome, Position, Rest, ServerId};
-use mcv_route::{Route, Shadow};
+use crate::routes::{check_found, halves, spelled};
+use mcv_base::{Op, Outcome, Position, Rest};
+use mcv_route::Route;
 use mcv_rules::PlannedLeg;
 use mcv_symbolic::{Case, LegAnswer};
-use std::alloc::{AllocError, Global};
+use std::alloc::Global;
 use std::test::Fail;
-
-fn lone(alloc: Global, server: u32) -> Result<Route, AllocError> {
-    pool(alloc, 0, &[ServerId(server)])
-}
-
-/// A pool whose copies go to another.
-fn copied(alloc: Global) -> Result<Route, AllocError> {
-    let mut shadows = Vec::new(alloc);
-    shadows.push(Shadow {
-        first: 0,
-        last: 0,
-        target: lone(alloc, 1)?,
-    })?;
-    shadowed(alloc, 0, &[ServerId(0)], shadows)
-}
-
-/// The last routes, in their order.
-fn last_of(alloc: Global, routes: &mut Vec<Route>, count: usize) -> Result<Vec<Route>, AllocError> {
-    let mut children = Vec::new(alloc);
-    for _ in 0..count {
-        if let Some(route) = routes.pop() {
-            children.push(route)?;
-        }
-    }
-    children.reverse();
-    Ok(children)
-}
-
-/// A WarmUpRoute of the last two routes.
-fn warming(alloc: Global, routes: &mut Vec<Route>) -> Result<Route, AllocError> {
-    let warm = routes.pop().unwrap_or(Route::Null);
-    let cold = routes.pop().unwrap_or(Route::Null);
-    warm_up(alloc, cold, warm, 60)
-}
-
-/// The route of a letter, whose children are the last ones: N a NullRoute, E an ErrorRoute, C a copied pool; s, i, m and f
-/// an AllSyncRoute, an AllInitialRoute, a MissFailoverRoute and a FailoverRoute of the last two, w a WarmUpRoute of them,
-/// F a FailoverRoute of the last three; any other letter a pool.
-fn lettered(alloc: Global, routes: &mut Vec<Route>, letter: u8) -> Result<Route, AllocError> {
-    Ok(match letter {
-        b'N' => Route::Null,
-        b'E' => Route::Error,
-        b'C' => copied(alloc)?,
-        b's' => Route::AllSync(last_of(alloc, routes, 2)?),
-        b'i' => Route::AllInitial(last_of(alloc, routes, 2)?),
-        b'm' => Route::MissFailover(last_of(alloc, routes, 2)?),
-        b'f' => Route::Failover(last_of(alloc, routes, 2)?),
-        b'w' => warming(alloc, routes)?,
-        b'F' => Route::Failover(last_of(alloc, routes, 3)?),
-        other => lone(alloc, u32::from(other))?,
-    })
-}
-
-fn push_lettered(alloc: Global, routes: &mut Vec<Route>, letter: u8) -> Result<(), AllocError> {
-    let route = lettered(alloc, routes, letter)?;
-    Ok(routes.push(route)?)
-}
-
-/// The route that letters spell.
-fn route_of(alloc: Global, letters: &str) -> Result<Route, Fail> {
-    let mut routes = Vec::new(alloc);
-    for letter in letters.as_bytes() {
-        push_lettered(alloc, &mut routes, *letter)?;
-    }
-    Ok(routes.pop().ok_or("no route")?)
-}
 
 fn places(alloc: Global, legs: &[&PlannedLeg]) -> Result<String, Fail> {
     let mut text = String::new(alloc);
@@ -104,7 +38,7 @@ fn acknowledged(alloc: Global, route: &Route) -> Result<String, Fail> {
 
 /// Where the route of these letters can be read, and what is acknowledged there.
 fn given(alloc: Global, letters: &str) -> Result<String, Fail> {
-    let route = route_of(alloc, letters)?;
+    let route = spelled(alloc, letters)?;
     let mut text = readable(alloc, &route)?;
     text.push_str(" ")?;
     text.push_str(acknowledged(alloc, &route)?.as_str())?;
@@ -127,10 +61,8 @@ E |   false";
 fn sets_are_those_of_the_rows(rt: HostRuntime) -> Result<(), Fail> {
     let alloc = rt.alloc();
     for row in ROWS.lines() {
-        let (letters, wanted) = row.split_once(" | ").ok_or("a row without a bar")?;
-        let found = given(alloc, letters)?;
-        let found = found.as_str();
-        assert!(rt; found == wanted, "{row}\n{found}");
+        let (letters, wanted) = halves(row)?;
+        check_found(&rt, row, given(alloc, letters)?.as_str(), wanted);
     }
     Ok(())
 }
@@ -167,7 +99,7 @@ fn hits(alloc: Global, route: &Route) -> Result<String, Fail> {
 }
 
 fn hits_of(alloc: Global, letters: &str) -> Result<String, Fail> {
-    let route = route_of(alloc, letters)?;
+    let route = spelled(alloc, letters)?;
     hits(alloc, &route)
 }
 
@@ -185,10 +117,8 @@ Ebf | -;[1]Good;";
 fn hits_are_those_of_the_rows(rt: HostRuntime) -> Result<(), Fail> {
     let alloc = rt.alloc();
     for row in HITS.lines() {
-        let (letters, wanted) = row.split_once(" | ").ok_or("a row without a bar")?;
-        let found = hits_of(alloc, letters)?;
-        let found = found.as_str();
-        assert!(rt; found == wanted, "{row}\n{found}");
+        let (letters, wanted) = halves(row)?;
+        check_found(&rt, row, hits_of(alloc, letters)?.as_str(), wanted);
     }
     Ok(())
 }
@@ -203,7 +133,7 @@ fn answers(alloc: Global, route: &Route, outcome: Outcome) -> Result<String, Fai
 
 /// The answers of a delete where all legs answer Good, and where all answer Error.
 fn alike(alloc: Global, letters: &str) -> Result<String, Fail> {
-    let route = route_of(alloc, letters)?;
+    let route = spelled(alloc, letters)?;
     let mut text = answers(alloc, &route, Outcome::Good)?;
     text.push_str(" ")?;
     text.push_str(answers(alloc, &route, Outcome::Error)?.as_str())?;
@@ -220,10 +150,8 @@ C | []Good []Error";
 fn answers_alike_are_those_of_the_rows(rt: HostRuntime) -> Result<(), Fail> {
     let alloc = rt.alloc();
     for row in ALIKE.lines() {
-        let (letters, wanted) = row.split_once(" | ").ok_or("a row without a bar")?;
-        let found = alike(alloc, letters)?;
-        let found = found.as_str();
-        assert!(rt; found == wanted, "{row}\n{found}");
+        let (letters, wanted) = halves(row)?;
+        check_found(&rt, row, alike(alloc, letters)?.as_str(), wanted);
     }
     Ok(())
 }
