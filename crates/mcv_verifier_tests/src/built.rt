@@ -2,6 +2,7 @@ use mcv_config::read_config;
 use mcv_route::Routes;
 use std::alloc::{AllocError, Global};
 use std::process::Abort;
+use std::test::Fail;
 
 /// The routes of a configuration that is read.
 pub fn routes(rt: &impl Abort, alloc: Global, text: &str) -> Result<Routes, AllocError> {
@@ -19,4 +20,11 @@ pub fn lines(alloc: Global, row: &str) -> Result<Vec<u8>, AllocError> {
         text.push(b'\n')?;
     }
     Ok(text)
+}
+
+/// A text has the lines of a row.
+pub fn check_lines(rt: &impl Abort, alloc: Global, found: &[u8], row: &str) -> Result<(), Fail> {
+    let text = lines(alloc, row)?;
+    assert!(rt; found == text.as_slice(), "{row}");
+    Ok(())
 }

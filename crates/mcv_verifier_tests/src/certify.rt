@@ -1,6 +1,6 @@
 //! Configurations with their certificates, or with the first place where a delete can be lost.
 
-use crate::built::{lines, routes};
+use crate::built::{check_lines, routes};
 use mcv_certify::{CertifyFault, Gap, certify};
 use mcv_route::Routes;
 use std::alloc::Global;
@@ -54,21 +54,22 @@ fn check_covered(
     match certify(alloc, routes) {
         Ok(made) => {
             let found = made.text(alloc)?;
-            let text = lines(alloc, wanted)?;
-            assert!(rt; found.as_slice() == text.as_slice(), "{wanted}");
-            Ok(())
+            check_lines(rt, alloc, found.as_slice(), wanted)
         }
         Err(_) => panic!(rt; "no certificate"),
     }
 }
 
+fn covered_case(rt: &impl Abort, alloc: Global, case: &str) -> Result<(), Fail> {
+    let (text, wanted) = case.split_once(" => ").ok_or("a case in two parts")?;
+    let routes = routes(rt, alloc, text)?;
+    check_covered(rt, alloc, &routes, wanted)
+}
+
 #[test]
 fn covered_routes_have_their_certificate(rt: HostRuntime) -> Result<(), Fail> {
-    let alloc = rt.alloc();
     for case in COVERED.lines() {
-        let (text, wanted) = case.split_once(" => ").ok_or("a case in two parts")?;
-        let routes = routes(&rt, alloc, text)?;
-        check_covered(&rt, alloc, &routes, wanted)?;
+        covered_case(&rt, rt.alloc(), case)?;
     }
     Ok(())
 }
@@ -85,13 +86,16 @@ fn check_gap(rt: &impl Abort, alloc: Global, routes: &Routes, wanted: &str) -> R
     }
 }
 
+fn gap_case(rt: &impl Abort, alloc: Global, case: &str) -> Result<(), Fail> {
+    let (text, wanted) = case.split_once(" => ").ok_or("a case in two parts")?;
+    let routes = routes(rt, alloc, text)?;
+    check_gap(rt, alloc, &routes, wanted)
+}
+
 #[test]
 fn other_routes_have_a_first_gap(rt: HostRuntime) -> Result<(), Fail> {
-    let alloc = rt.alloc();
     for case in LOST.lines() {
-        let (text, wanted) = case.split_once(" => ").ok_or("a case in two parts")?;
-        let routes = routes(&rt, alloc, text)?;
-        check_gap(&rt, alloc, &routes, wanted)?;
+        gap_case(&rt, rt.alloc(), case)?;
     }
     Ok(())
 }

@@ -1,7 +1,7 @@
 //! Certificates of small configurations, a row a case: accepted, or the number of the first fault.
 
 use crate::built::routes;
-use mcv_cert::read_certificate;
+use mcv_cert::{Certificate, read_certificate};
 use mcv_check::check;
 use std::alloc::{AllocError, Global};
 use std::process::Abort;
@@ -39,13 +39,18 @@ fn certificate_text(alloc: Global, lines: &str) -> Result<String, AllocError> {
     Ok(text)
 }
 
+fn certificate_of(rt: &impl Abort, alloc: Global, lines: &str) -> Result<Certificate, AllocError> {
+    let text = certificate_text(alloc, lines)?;
+    match read_certificate(alloc, text.as_bytes()) {
+        Ok(certificate) => Ok(certificate),
+        Err(_) => panic!(rt; "the certificate isn't read"),
+    }
+}
+
 /// The number of the first fault of the certificate with these lines; 0 where it is accepted.
 fn judged(rt: &impl Abort, alloc: Global, name: &str, lines: &str) -> Result<u8, AllocError> {
+    let certificate = certificate_of(rt, alloc, lines)?;
     let routes = routes(rt, alloc, configuration(name))?;
-    let text = certificate_text(alloc, lines)?;
-    let Ok(certificate) = read_certificate(alloc, text.as_bytes()) else {
-        panic!(rt; "the certificate isn't read");
-    };
     match check(alloc, routes, &certificate) {
         Ok(_) => Ok(0),
         Err(fault) => Ok(fault.number()),

@@ -1,7 +1,7 @@
 //! Certificates beside one block. Gets go to the leaf 1 with the servers 7 and 8 by its hash; every delete that has a
 //! reply has sent the legs 0.0 to 0.3.
 
-ghost use Rattle.std.specs.Prelude.{◌<◌, length, All};
+ghost use Rattle.std.specs.Prelude.{◌≡◌, ◌<◌, ◌∷◌, [], length, All};
 ghost use Rattle.mcv_judge.specs.Faults.{AreLegsRising};
 ghost use Rattle.mcv_judge.specs.InMemory.{legs_of};
 
@@ -36,6 +36,54 @@ fn number_reported<'a>(
     }
 }
 
+/// What is reported where the leaf and the legs have these positions.
+fn reported_at(
+    certificate: &Certificate,
+    leaf: &Position,
+    first: &Position,
+    second: &Position,
+    third: &Position,
+    fourth: &Position,
+) -> u8
+    requires first { first.now ≡ 0 ∷ 0 ∷ [] }
+    requires second { second.now ≡ 0 ∷ 1 ∷ [] }
+    requires third { third.now ≡ 0 ∷ 2 ∷ [] }
+    requires fourth { fourth.now ≡ 0 ∷ 3 ∷ [] }
+{
+    let both = [ServerId(7), ServerId(8)];
+    let others = [ServerId(7), ServerId(9)];
+    let seven = [ServerId(7)];
+    let eight = [ServerId(8)];
+    let readable = [Leg {
+        position: leaf,
+        symbol: 0,
+        servers: &both,
+    }];
+    let acknowledged = [
+        Leg {
+            position: first,
+            symbol: 1,
+            servers: &seven,
+        },
+        Leg {
+            position: second,
+            symbol: 1,
+            servers: &eight,
+        },
+        Leg {
+            position: third,
+            symbol: 0,
+            servers: &others,
+        },
+        Leg {
+            position: fourth,
+            symbol: 0,
+            servers: &both,
+        },
+    ];
+    number_reported(b"", &readable, &acknowledged, certificate)
+}
+
 /// What is reported of the certificate with this text.
 fn text_judged(alloc: Global, text: &[u8]) -> Result<u8, Fail> {
     let certificate = read_certificate(alloc, text)?;
@@ -44,38 +92,7 @@ fn text_judged(alloc: Global, text: &[u8]) -> Result<u8, Fail> {
     let second = Position::at(alloc, &[0, 1])?;
     let third = Position::at(alloc, &[0, 2])?;
     let fourth = Position::at(alloc, &[0, 3])?;
-    let both = [ServerId(7), ServerId(8)];
-    let others = [ServerId(7), ServerId(9)];
-    let seven = [ServerId(7)];
-    let eight = [ServerId(8)];
-    let readable = [Leg {
-        position: &leaf,
-        symbol: 0,
-        servers: &both,
-    }];
-    let acknowledged = [
-        Leg {
-            position: &first,
-            symbol: 1,
-            servers: &seven,
-        },
-        Leg {
-            position: &second,
-            symbol: 1,
-            servers: &eight,
-        },
-        Leg {
-            position: &third,
-            symbol: 0,
-            servers: &others,
-        },
-        Leg {
-            position: &fourth,
-            symbol: 0,
-            servers: &both,
-        },
-    ];
-    Ok(number_reported(b"", &readable, &acknowledged, &certificate))
+    Ok(reported_at(&certificate, &leaf, &first, &second, &third, &fourth))
 }
 
 /// The text of a certificate with the pairs of a row, each ended by a `^`.
@@ -87,6 +104,12 @@ fn certificate_of(alloc: Global, row: &str) -> Result<Vec<u8>, AllocError> {
     }
     text.extend_from_slice(b"end\n")?;
     Ok(text)
+}
+
+/// What is reported of the certificate with the pairs of a row.
+fn row_judged(alloc: Global, pairs: &str) -> Result<u8, Fail> {
+    let text = certificate_of(alloc, pairs)?;
+    text_judged(alloc, text.as_slice())
 }
 
 /// Pairs with the number of the first fault.
@@ -111,15 +134,10 @@ const ROWS: &str = "0 = 0 1 all 0 0.0^0 = 0 1 all 1 0.1^|0
 
 #[test]
 fn the_first_fault_is_reported(rt: HostRuntime) -> Result<(), Fail> {
-    let alloc = rt.alloc();
     for row in ROWS.lines() {
-        let Some((pairs, expected)) = row.split_once('|') else {
-            return Ok(assert!(rt; false, "{row}"));
-        };
-        let text = certificate_of(alloc, pairs)?;
-        let number = text_judged(alloc, text.as_slice())?;
-        let reported = format!(in alloc; "{number}")?;
-        assert!(rt; reported.as_str() == expected, "{row}");
+        let (pairs, expected) = row.split_once('|').ok_or("a row")?;
+        let expected = expected.parse::<u8>()?;
+        assert!(rt; row_judged(rt.alloc(), pairs)? == expected, "{row}");
     }
     Ok(())
 }

@@ -1,6 +1,6 @@
 //! Findings, true ones with their texts, and false ones.
 
-use crate::built::{lines, routes};
+use crate::built::{check_lines, routes};
 use mcv_base::{Op, Outcome, Position, ServerId};
 use mcv_pools::Choice;
 use mcv_route::Routes;
@@ -210,33 +210,38 @@ fn check_true(
 ) -> Result<(), Fail> {
     assert!(rt; confirm(routes, finding), "{wanted}");
     let found = finding_text(alloc, finding, routes)?;
-    let text = lines(alloc, wanted)?;
-    assert!(rt; found.as_slice() == text.as_slice(), "{wanted}");
-    Ok(())
+    check_lines(rt, alloc, found.as_slice(), wanted)
+}
+
+fn true_case(rt: &impl Abort, alloc: Global, case: &str) -> Result<(), Fail> {
+    let (row, wanted) = case.split_once(" => ").ok_or("a case in two parts")?;
+    let (number, line) = row.split_once(' ').ok_or("a configuration")?;
+    let routes = routes(rt, alloc, config(number)?)?;
+    let finding = finding(alloc, line)?;
+    check_true(rt, alloc, &routes, &finding, wanted)
 }
 
 #[test]
 fn what_breaks_coverage_is_confirmed(rt: HostRuntime) -> Result<(), Fail> {
-    let alloc = rt.alloc();
     for case in TRUE.lines() {
-        let (row, wanted) = case.split_once(" => ").ok_or("a case in two parts")?;
-        let (number, line) = row.split_once(' ').ok_or("a configuration")?;
-        let routes = routes(&rt, alloc, config(number)?)?;
-        let finding = finding(alloc, line)?;
-        check_true(&rt, alloc, &routes, &finding, wanted)?;
+        true_case(&rt, rt.alloc(), case)?;
     }
     Ok(())
 }
 
+/// Whether the finding of a row is confirmed.
+fn is_confirmed(rt: &impl Abort, alloc: Global, row: &str) -> Result<bool, Fail> {
+    let (number, line) = row.split_once(' ').ok_or("a configuration")?;
+    let routes = routes(rt, alloc, config(number)?)?;
+    let finding = finding(alloc, line)?;
+    Ok(confirm(&routes, &finding))
+}
+
 #[test]
 fn what_does_not_is_refused(rt: HostRuntime) -> Result<(), Fail> {
-    let alloc = rt.alloc();
     for case in FALSE.lines() {
         let (row, wrong) = case.split_once(" => ").ok_or("a case in two parts")?;
-        let (number, line) = row.split_once(' ').ok_or("a configuration")?;
-        let routes = routes(&rt, alloc, config(number)?)?;
-        let finding = finding(alloc, line)?;
-        assert!(rt; !confirm(&routes, &finding), "{wrong}");
+        assert!(rt; !is_confirmed(&rt, rt.alloc(), row)?, "{wrong}");
     }
     Ok(())
 }
