@@ -58,8 +58,8 @@ fn lone(alloc: Global, server: u32) -> Result<Route, AllocError> {
 fn push_shadow(
     alloc: Global,
     shadows: &mut Vec<Shadow>,
-    first: usize,
-    last: usize,
+    first: u64,
+    last: u64,
     servers: &[ServerId],
 ) -> Result<(), AllocError> {
     let target = pool(alloc, 0, servers)?;
