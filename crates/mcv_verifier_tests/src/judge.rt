@@ -5,10 +5,12 @@ ghost use Rattle.std.specs.Prelude.{◌≡◌, ◌<◌, ◌∷◌, [], length, A
 ghost use Rattle.mcv_judge.specs.Faults.{AreLegsRising};
 ghost use Rattle.mcv_judge.specs.InMemory.{legs_of};
 
+use crate::built::check_number;
 use mcv_base::{Position, ServerId};
 use mcv_cert::{Certificate, read_certificate};
 use mcv_judge::{Block, Leg, judge};
 use std::alloc::{AllocError, Global};
+use std::process::Abort;
 use std::test::Fail;
 
 /// The number of the first fault of a certificate, 0 where there is none.
@@ -84,15 +86,20 @@ fn reported_at(
     number_reported(b"", &readable, &acknowledged, certificate)
 }
 
-/// What is reported of the certificate with this text.
-fn text_judged(alloc: Global, text: &[u8]) -> Result<u8, Fail> {
-    let certificate = read_certificate(alloc, text)?;
+/// What is reported of a certificate.
+fn reported(alloc: Global, certificate: &Certificate) -> Result<u8, AllocError> {
     let leaf = Position::at(alloc, &[1])?;
     let first = Position::at(alloc, &[0, 0])?;
     let second = Position::at(alloc, &[0, 1])?;
     let third = Position::at(alloc, &[0, 2])?;
     let fourth = Position::at(alloc, &[0, 3])?;
-    Ok(reported_at(&certificate, &leaf, &first, &second, &third, &fourth))
+    Ok(reported_at(certificate, &leaf, &first, &second, &third, &fourth))
+}
+
+/// What is reported of the certificate with this text.
+fn text_judged(alloc: Global, text: &[u8]) -> Result<u8, Fail> {
+    let certificate = read_certificate(alloc, text)?;
+    Ok(reported(alloc, &certificate)?)
 }
 
 /// The text of a certificate with the pairs of a row, each ended by a `^`.
@@ -106,8 +113,8 @@ fn certificate_of(alloc: Global, row: &str) -> Result<Vec<u8>, AllocError> {
     Ok(text)
 }
 
-/// What is reported of the certificate with the pairs of a row.
-fn row_judged(alloc: Global, pairs: &str) -> Result<u8, Fail> {
+/// What is reported of the certificate with these pairs.
+fn judged(alloc: Global, pairs: &str) -> Result<u8, Fail> {
     let text = certificate_of(alloc, pairs)?;
     text_judged(alloc, text.as_slice())
 }
@@ -132,12 +139,16 @@ const ROWS: &str = "0 = 0 1 all 0 0.0^0 = 0 1 all 1 0.1^|0
 0 = 0 1 twin 0.2^|4
 0 = 0 1 never^|5";
 
+fn check_row(rt: &impl Abort, alloc: Global, row: &str) -> Result<(), Fail> {
+    let (pairs, number) = row.split_once('|').ok_or("a row")?;
+    check_number(rt, row, judged(alloc, pairs)?, number.parse::<u8>()?);
+    Ok(())
+}
+
 #[test]
 fn the_first_fault_is_reported(rt: HostRuntime) -> Result<(), Fail> {
     for row in ROWS.lines() {
-        let (pairs, expected) = row.split_once('|').ok_or("a row")?;
-        let expected = expected.parse::<u8>()?;
-        assert!(rt; row_judged(rt.alloc(), pairs)? == expected, "{row}");
+        check_row(&rt, rt.alloc(), row)?;
     }
     Ok(())
 }

@@ -1,9 +1,8 @@
 //! Configurations that aren't covered, and the text of what shows it.
 
-use crate::built::{check_lines, routes};
+use crate::built::{check_true, halves, routes};
 use mcv_make::{MakeFault, make};
 use mcv_route::Routes;
-use mcv_witness::{confirm, finding_text};
 use std::alloc::Global;
 use std::process::Abort;
 use std::test::Fail;
@@ -31,17 +30,13 @@ const LOST: &str = "\
 /// The routes have this finding.
 fn check_lost(rt: &impl Abort, alloc: Global, routes: &Routes, wanted: &str) -> Result<(), Fail> {
     match make(alloc, routes) {
-        Err(MakeFault::Lost(finding)) => {
-            assert!(rt; confirm(routes, &finding), "{wanted}");
-            let found = finding_text(alloc, &finding, routes)?;
-            check_lines(rt, alloc, found.as_slice(), wanted)
-        }
-        _ => panic!(rt; "no finding"),
+        Err(MakeFault::Lost(finding)) => check_true(rt, alloc, routes, &finding, wanted),
+        _ => panic!(rt; "no finding: {wanted}"),
     }
 }
 
-fn lost_case(rt: &impl Abort, alloc: Global, case: &str) -> Result<(), Fail> {
-    let (text, wanted) = case.split_once(" => ").ok_or("a case in two parts")?;
+fn check_case(rt: &impl Abort, alloc: Global, case: &str) -> Result<(), Fail> {
+    let (text, wanted) = halves(case)?;
     let routes = routes(rt, alloc, text)?;
     check_lost(rt, alloc, &routes, wanted)
 }
@@ -49,7 +44,7 @@ fn lost_case(rt: &impl Abort, alloc: Global, case: &str) -> Result<(), Fail> {
 #[test]
 fn losses_have_their_finding(rt: HostRuntime) -> Result<(), Fail> {
     for case in LOST.lines() {
-        lost_case(&rt, rt.alloc(), case)?;
+        check_case(&rt, rt.alloc(), case)?;
     }
     Ok(())
 }
