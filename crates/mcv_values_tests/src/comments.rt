@@ -1,5 +1,6 @@
 //! Texts and what is left of them. In the tables `^` is a LF, `~` a double quote, `&` a backslash and `_` a space.
 
+use crate::rows::check_bytes;
 use mcv_comments::{CommentFault, strip_comments};
 use std::alloc::{AllocError, Global};
 use std::process::Abort;
@@ -39,26 +40,28 @@ a star alone|1*/2|1*/2
 a text that never ends|~a//b|~a//b
 a backslash at the end|~a&|~a&";
 
-/// Each row's text has what is left of it.
-fn check_rows(rt: &impl Abort, alloc: Global, table: &str) -> Result<(), Fail> {
-    for row in table.lines() {
-        let Some((_, columns)) = row.split_once('|') else {
-            return Ok(assert!(rt; false, "{row}"));
-        };
-        let Some((text, left)) = columns.split_once('|') else {
-            return Ok(assert!(rt; false, "{row}"));
-        };
-        let text = unfolded(alloc, text)?;
-        let left = unfolded(alloc, left)?;
-        let kept = strip_comments(alloc, text.as_slice())?;
-        assert!(rt; kept.as_slice() == left.as_slice(), "{row}");
-    }
+/// What is left of a column.
+fn stripped(alloc: Global, column: &str) -> Result<Vec<u8>, Fail> {
+    let text = unfolded(alloc, column)?;
+    Ok(strip_comments(alloc, text.as_slice())?)
+}
+
+/// A row's text has what is left of it.
+fn check_row(rt: &impl Abort, alloc: Global, row: &str) -> Result<(), Fail> {
+    let (_, columns) = row.split_once('|').ok_or("a name")?;
+    let (text, left) = columns.split_once('|').ok_or("a text")?;
+    let kept = stripped(alloc, text)?;
+    let left = unfolded(alloc, left)?;
+    check_bytes(rt, row, kept.as_slice(), left.as_slice());
     Ok(())
 }
 
 #[test]
 fn comments_are_taken_out(rt: HostRuntime) -> Result<(), Fail> {
-    check_rows(&rt, rt.alloc(), STRIPPED)
+    for row in STRIPPED.lines() {
+        check_row(&rt, rt.alloc(), row)?;
+    }
+    Ok(())
 }
 
 /// Texts with a comment that doesn't end.
@@ -68,12 +71,19 @@ const OPEN: &str = "/*/
 [~/*~]/*~*
 //*/^/*";
 
+/// Whether a column has a comment that doesn't end.
+fn is_open(alloc: Global, column: &str) -> Result<bool, AllocError> {
+    let text = unfolded(alloc, column)?;
+    Ok(matches!(
+        strip_comments(alloc, text.as_slice()),
+        Err(CommentFault::Open)
+    ))
+}
+
 #[test]
 fn comments_without_an_end_are_refused(rt: HostRuntime) -> Result<(), Fail> {
     for row in OPEN.lines() {
-        let text = unfolded(rt.alloc(), row)?;
-        let kept = strip_comments(rt.alloc(), text.as_slice());
-        assert!(rt; matches!(kept, Err(CommentFault::Open)), "{row}");
+        assert!(rt; is_open(rt.alloc(), row)?, "{row}");
     }
     Ok(())
 }

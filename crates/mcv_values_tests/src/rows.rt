@@ -1,9 +1,11 @@
 //! Rows of tables as bytes: `~` is CR LF and `^` a LF alone.
 
 use std::alloc::{AllocError, Global};
+use std::process::Abort;
+use std::str::from_utf8;
 
 /// Adds the bytes that a byte of a row means.
-fn push_meant(bytes: &mut Vec<u8>, byte: u8) -> Result<(), AllocError> {
+pub fn push_meant(bytes: &mut Vec<u8>, byte: u8) -> Result<(), AllocError> {
     match byte {
         b'~' => bytes.extend_from_slice(b"\r\n"),
         b'^' => bytes.extend_from_slice(b"\n"),
@@ -18,4 +20,10 @@ pub fn unfolded(alloc: Global, row: &str) -> Result<Vec<u8>, AllocError> {
         push_meant(&mut bytes, *byte)?;
     }
     Ok(bytes)
+}
+
+/// The bytes that are found are those that a row wants.
+pub fn check_bytes(rt: &impl Abort, row: &str, found: &[u8], wanted: &[u8]) {
+    let shown = from_utf8(found).unwrap_or("no text");
+    assert!(rt; found == wanted, "{row}\n{shown}");
 }

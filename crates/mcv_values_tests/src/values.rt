@@ -1,9 +1,9 @@
+use crate::legs::hit;
 use mcv_base::{
     CallId, FixedReply, KeyFault, LegId, Mark, Op, Outcome, Part, Parts, Position, Prefix, Reply,
     Rest, ServerId, ServerText, hashed_part, split_key,
 };
 use std::alloc::{AllocError, Global};
-use std::sync::Arc;
 use std::test::Fail;
 
 fn parts<'a>(key: &'a Result<(Prefix, Rest), KeyFault>) -> Option<(&'a [u8], &'a [u8])> {
@@ -127,12 +127,9 @@ fn positions_have_their_text(rt: HostRuntime) -> Result<(), Fail> {
     Ok(())
 }
 
-fn hit(alloc: Global) -> Result<Reply, AllocError> {
-    Ok(Reply::Hit {
-        flags: 7,
-        cas: Some(9),
-        body: Arc::new(alloc, Vec::from_slice(alloc, b"x")?)?,
-    })
+/// A hit with flags 7.
+fn hit_of_7(alloc: Global) -> Result<Reply, AllocError> {
+    hit(alloc, 7, Some(9), b"x")
 }
 
 /// What a reply amounts to; it is let go here.
@@ -144,7 +141,7 @@ fn amounts(reply: Reply) -> Outcome {
 fn replies_amount_to_outcomes(rt: HostRuntime) -> Result<(), Fail> {
     let line = Vec::from_slice(rt.alloc(), b"ERROR")?;
     assert!(rt; amounts(Reply::Fault(line)) == Outcome::Error);
-    assert!(rt; amounts(hit(rt.alloc())?) == Outcome::Good);
+    assert!(rt; amounts(hit_of_7(rt.alloc())?) == Outcome::Good);
     assert!(rt; amounts(Reply::NotFound) == Outcome::Soft);
     for (fixed, outcome) in [
         (FixedReply::Deleted, Outcome::Good),
@@ -173,7 +170,7 @@ fn is_in_each_part(parts: Parts) -> bool {
 
 #[test]
 fn one_reply_has_three_equal_parts(rt: HostRuntime) -> Result<(), Fail> {
-    let parts = Parts::new(rt.alloc(), hit(rt.alloc())?)?;
+    let parts = Parts::new(rt.alloc(), hit_of_7(rt.alloc())?)?;
     assert!(rt; is_in_each_part(parts));
     let (_, taken, _) = Parts::new(rt.alloc(), Reply::Deleted)?.into_parts();
     assert!(rt; matches!(taken, Part::Fixed(FixedReply::Deleted)));

@@ -1,8 +1,9 @@
 //! Items and texts against the words of memcached's `protocol.txt`.
 
-use crate::rows::unfolded;
+use crate::legs::{hit, leg_of, shared};
+use crate::rows::{check_bytes, push_meant, unfolded};
 use itoa::Buffer;
-use mcv_base::{Ask, FixedReply, LegRequest, Op, Part, Reply, Request, Rest, split_key};
+use mcv_base::{Ask, FixedReply, LegRequest, Op, Part, Reply, Request, Rest};
 use mcv_text::{Item, Refusal, RequestReader, TextFault, leg_text, reply_text};
 use std::alloc::{AllocError, Global};
 use std::process::Abort;
@@ -85,67 +86,106 @@ fn push_fed(text: &mut Vec<u8>, reader: &mut RequestReader, piece: &[u8]) -> Res
     }
 }
 
-/// Adds `failed` where a further piece is answered Failed.
-fn push_end(text: &mut Vec<u8>, reader: &mut RequestReader) -> Result<(), AllocError> {
+/// Adds `failed` where a further piece is answered Failed, and else its items.
+fn push_end(text: &mut Vec<u8>, reader: &mut RequestReader) -> Result<(), Fail> {
     match reader.feed(b"") {
-        Err(TextFault::Failed) => text.extend_from_slice(b"failed"),
-        _ => Ok(()),
+        Err(TextFault::Failed) => Ok(text.extend_from_slice(b"failed")?),
+        fed => Ok(push_items(text, fed?.as_slice())?),
     }
 }
 
-/// Adds what is read of two pieces.
-fn push_cut(
+/// Adds what is read of a piece with the bytes up to the cut, and of pieces of so many bytes each behind it.
+fn push_read(
     text: &mut Vec<u8>,
     reader: &mut RequestReader,
     bytes: &[u8],
     cut: usize,
+    size: usize,
 ) -> Result<(), Fail> {
-    let (first, second) = bytes.split_at(cut.min(bytes.len()));
+    let (first, behind) = bytes.split_at(cut.min(bytes.len()));
     push_fed(text, reader, first)?;
-    push_fed(text, reader, second)?;
-    Ok(push_end(text, reader)?)
-}
-
-/// Adds what is read of a piece for each byte: the stream cut at every byte at once.
-fn push_bytes(text: &mut Vec<u8>, reader: &mut RequestReader, bytes: &[u8]) -> Result<(), Fail> {
-    for piece in bytes.chunks(1) {
+    for piece in behind.chunks(size.max(1)) {
         push_fed(text, reader, piece)?;
     }
-    Ok(push_end(text, reader)?)
+    push_end(text, reader)
 }
 
-/// Whether a stream that is cut there has these items.
-fn is_read_cut(alloc: Global, bytes: &[u8], items: &[u8], cut: usize) -> Result<bool, Fail> {
+/// Whether a stream in these pieces has these items.
+fn is_read(
+    alloc: Global,
+    bytes: &[u8],
+    items: &[u8],
+    cut: usize,
+    size: usize,
+) -> Result<bool, Fail> {
     let mut text = Vec::new(alloc);
     let mut reader = RequestReader::new(alloc);
-    push_cut(&mut text, &mut reader, bytes, cut)?;
+    push_read(&mut text, &mut reader, bytes, cut, size)?;
     Ok(text.as_slice() == items)
 }
 
-/// Whether a stream that is cut at every byte at once has these items.
-fn is_read_by_bytes(alloc: Global, bytes: &[u8], items: &[u8]) -> Result<bool, Fail> {
-    let mut text = Vec::new(alloc);
-    let mut reader = RequestReader::new(alloc);
-    push_bytes(&mut text, &mut reader, bytes)?;
-    Ok(text.as_slice() == items)
+/// Whether a long stream of `length` bytes is cut here: each cut near both ends, and some between them.
+fn is_tried(cut: usize, length: usize) -> bool {
+    cut < 24 || length.saturating_sub(cut) < 24 || cut % 65_537 == 0
 }
 
-/// A row's stream has its items, wherever it is cut.
-fn check_row(rt: &impl Abort, alloc: Global, bytes: &[u8], items: &[u8]) -> Result<(), Fail> {
+/// A stream has its items in two pieces, wherever it is cut; of a long one some cuts are tried.
+fn check_cuts(
+    rt: &impl Abort,
+    alloc: Global,
+    row: &str,
+    bytes: &[u8],
+    items: &[u8],
+    is_long: bool,
+) -> Result<(), Fail> {
     for cut in 0..=bytes.len() {
-        assert!(rt; is_read_cut(alloc, bytes, items, cut)?, "cut at {cut}");
+        if !is_long || is_tried(cut, bytes.len()) {
+            assert!(rt;
+                is_read(alloc, bytes, items, cut, bytes.len())?,
+                "{row}: cut at {cut}"
+            );
+        }
     }
-    assert!(rt; is_read_by_bytes(alloc, bytes, items)?, "cut at every byte");
     Ok(())
 }
 
-/// Each row is a stream and its items.
+/// Adds a letter so many times.
+fn push_letters(bytes: &mut Vec<u8>, count: usize) -> Result<(), AllocError> {
+    for _ in 0..count {
+        bytes.push(b'k')?;
+    }
+    Ok(())
+}
+
+/// The bytes that a column means, where `*` is so many letters.
+fn stretched(alloc: Global, column: &str, count: usize) -> Result<Vec<u8>, AllocError> {
+    let mut bytes = Vec::new(alloc);
+    for byte in column.as_bytes() {
+        match *byte {
+            b'*' => push_letters(&mut bytes, count)?,
+            other => push_meant(&mut bytes, other)?,
+        }
+    }
+    Ok(bytes)
+}
+
+/// A row's stream has its items. Without letters it is short, and is cut everywhere, and at every byte at once.
+fn check_row(rt: &impl Abort, alloc: Global, row: &str, letters: usize) -> Result<(), Fail> {
+    let (stream, items) = row.split_once(" | ").ok_or("a row")?;
+    let bytes = stretched(alloc, stream, letters)?;
+    let items = stretched(alloc, items, letters)?;
+    let (bytes, items) = (bytes.as_slice(), items.as_slice());
+    check_cuts(rt, alloc, row, bytes, items, letters > 0)?;
+    assert!(rt;
+        letters > 0 || is_read(alloc, bytes, items, 0, 1)?,
+        "{row}: cut at every byte"
+    );
+    Ok(())
+}
+
 fn check_rows(rt: &impl Abort, alloc: Global, table: &str) -> Result<(), Fail> {
     for row in table.lines() {
-        let (stream, items) = row.split_once(" | ").ok_or("a row")?;
-        let bytes = unfolded(alloc, stream)?;
-        let items = unfolded(alloc, items)?;
-        check_row(rt, alloc, bytes.as_slice(), items.as_slice())?;
+        check_row(rt, alloc, row, 0)?;
     }
     Ok(())
 }
@@ -195,72 +235,31 @@ fn refusals_2_and_3_end_the_reading(rt: HostRuntime) -> Result<(), Fail> {
     check_rows(&rt, rt.alloc(), REFUSED)
 }
 
-/// Bytes that begin with the first word, go on with so many letters and end with the last one.
-type Long = (&'static [u8], usize, &'static [u8]);
-
-fn long_bytes(alloc: Global, long: &Long) -> Result<Vec<u8>, AllocError> {
-    let mut bytes = Vec::from_slice(alloc, long.0)?;
-    for _ in 0..long.1 {
-        bytes.push(b'k')?;
-    }
-    bytes.extend_from_slice(long.2)?;
-    Ok(bytes)
-}
-
-/// Whether a stream of `length` bytes is cut here: each cut near both ends, and some between them.
-fn is_tried(cut: usize, length: usize) -> bool {
-    cut < 24 || length.saturating_sub(cut) < 24 || cut % 65_537 == 0
-}
-
-/// Streams at the limits and one byte beyond, with their items.
-const LIMITS: [(Long, Long); 10] = [
-    ((b"get ", 250, b" a\r\n"), (b"get ", 250, b" a;")),
-    ((b"get ", 251, b" a\r\n"), (b"refused 2;failed", 0, b"")),
+/// Streams at the limits and one byte beyond, with their items: how many letters `*` is, and the row.
+const LIMITS: [(usize, &str); 10] = [
+    (250, "get * a~ | get * a;"),
+    (251, "get * a~ | refused 2;failed"),
+    (65_531, "foo *~get a~ | refused 1;get a;"),
+    (65_532, "foo *~get a~ | refused 2;failed"),
+    (65_532, "foo * | "),
+    (65_533, "foo * | refused 2;failed"),
+    (1_048_576, "set k 0 0 1048576~*~get a~ | set k =*;get a;"),
+    (1_048_579, "set k 0 0 1048577~*get a~ | refused 4;get a;"),
     (
-        (b"foo ", 65_531, b"\r\nget a\r\n"),
-        (b"refused 1;get a;", 0, b""),
+        1_048_578,
+        "set k 0 0 1048577 noreply~*get a~ | refused 4;refused 1;",
     ),
     (
-        (b"foo ", 65_532, b"\r\nget a\r\n"),
-        (b"refused 2;failed", 0, b""),
-    ),
-    ((b"foo ", 65_532, b""), (b"", 0, b"")),
-    ((b"foo ", 65_533, b""), (b"refused 2;failed", 0, b"")),
-    (
-        (b"set k 0 0 1048576\r\n", 1_048_576, b"\r\nget a\r\n"),
-        (b"set k =", 1_048_576, b";get a;"),
-    ),
-    (
-        (b"set k 0 0 1048577\r\n", 1_048_579, b"get a\r\n"),
-        (b"refused 4;get a;", 0, b""),
-    ),
-    (
-        (b"set k 0 0 1048577 noreply\r\n", 1_048_578, b"get a\r\n"),
-        (b"refused 4;refused 1;", 0, b""),
-    ),
-    (
-        (b"set k 0 0 1048577\r\n", 1_048_577, b"\r\nversion\r\n"),
-        (b"refused 4;version;", 0, b""),
+        1_048_577,
+        "set k 0 0 1048577~*~version~ | refused 4;version;",
     ),
 ];
-
-/// A long stream has its items at each cut that is tried.
-fn check_limit(rt: &impl Abort, alloc: Global, bytes: &[u8], items: &[u8]) -> Result<(), Fail> {
-    for cut in 0..=bytes.len() {
-        if is_tried(cut, bytes.len()) {
-            assert!(rt; is_read_cut(alloc, bytes, items, cut)?, "cut at {cut}");
-        }
-    }
-    Ok(())
-}
 
 /// The other cuts are tried by `bench/cuts`; that all of them give the same items is the law `any_pieces`.
 #[test]
 fn limits_are_met_exactly_however_cut(rt: HostRuntime) -> Result<(), Fail> {
-    for (stream, items) in &LIMITS {
-        let bytes = long_bytes(rt.alloc(), stream)?;
-        let items = long_bytes(rt.alloc(), items)?;
-        check_limit(&rt, rt.alloc(), bytes.as_slice(), items.as_slice())?;
+    for (letters, row) in &LIMITS {
+        check_row(&rt, rt.alloc(), row, *letters)?;
     }
     Ok(())
 }
@@ -364,16 +363,22 @@ fn answer_to(alloc: Global, item: Option<&Item>, parts: &[Part]) -> Result<Vec<u
     }
 }
 
+/// The items of a stream.
+fn items_of(alloc: Global, stream: &[u8]) -> Result<Vec<Item>, TextFault> {
+    let mut reader = RequestReader::new(alloc);
+    reader.feed(stream)
+}
+
 /// The answer to the first item of a stream.
-fn answered(alloc: Global, stream: &[u8], parts: &[Part]) -> Result<Vec<u8>, Fail> {
-    let items = RequestReader::new(alloc).feed(stream)?;
+fn answered(alloc: Global, stream: &str, parts: &[Part]) -> Result<Vec<u8>, Fail> {
+    let stream = unfolded(alloc, stream)?;
+    let items = items_of(alloc, stream.as_slice())?;
     Ok(answer_to(alloc, items.first(), parts)?)
 }
 
-fn hit(alloc: Global, flags: u32, body: &[u8]) -> Result<Part, AllocError> {
-    let body = Arc::new(alloc, Vec::from_slice(alloc, body)?)?;
-    let cas = Some(9);
-    Ok(Part::Owned(Arc::new(alloc, Reply::Hit { flags, cas, body })?))
+fn hit_part(alloc: Global, flags: u32, body: &[u8]) -> Result<Part, AllocError> {
+    let hit = hit(alloc, flags, Some(9), body)?;
+    Ok(Part::Owned(Arc::new(alloc, hit)?))
 }
 
 fn fault(alloc: Global, line: &[u8]) -> Result<Part, AllocError> {
@@ -384,8 +389,8 @@ fn fault(alloc: Global, line: &[u8]) -> Result<Part, AllocError> {
 /// The reply that a letter means: h is a hit, e an empty one, f an error line, - a miss.
 fn part(alloc: Global, letter: u8) -> Result<Part, AllocError> {
     match letter {
-        b'h' => hit(alloc, 5, b"xyz"),
-        b'e' => hit(alloc, 0, b""),
+        b'h' => hit_part(alloc, 5, b"xyz"),
+        b'e' => hit_part(alloc, 0, b""),
         b'f' => fault(alloc, b"SERVER_ERROR x"),
         b'l' => Ok(Part::Fixed(FixedReply::Lost)),
         b's' => Ok(Part::Fixed(FixedReply::Stored)),
@@ -407,18 +412,26 @@ fn parts_of(alloc: Global, letters: &str) -> Result<Vec<Part>, AllocError> {
     Ok(parts)
 }
 
-/// Whether a stream has this answer where its legs have the replies of these letters.
-fn is_answered(alloc: Global, stream: &str, letters: &str, text: &str) -> Result<bool, Fail> {
-    let stream = unfolded(alloc, stream)?;
+/// The answer to a stream whose legs have the replies of these letters.
+fn answer_of(alloc: Global, stream: &str, letters: &str) -> Result<Vec<u8>, Fail> {
     let parts = parts_of(alloc, letters)?;
-    let text = unfolded(alloc, text)?;
-    let answer = answered(alloc, stream.as_slice(), parts.as_slice())?;
-    Ok(answer.as_slice() == text.as_slice())
+    answered(alloc, stream, parts.as_slice())
 }
+
+/// A row's stream has its answer.
+fn check_answer(rt: &impl Abort, alloc: Global, row: &Answered) -> Result<(), Fail> {
+    let (stream, letters, text) = *row;
+    let found = answer_of(alloc, stream, letters)?;
+    let wanted = unfolded(alloc, text)?;
+    check_bytes(rt, stream, found.as_slice(), wanted.as_slice());
+    Ok(())
+}
+
+type Answered = (&'static str, &'static str, &'static str);
 
 /// Streams of one request with the replies of its legs, by their letters, and the answer: hits under the client's keys, the
 /// first error line for all, and else one line.
-const ANSWERED: [(&str, &str, &str); 11] = [
+const ANSWERED: [Answered; 11] = [
     (
         "get /././a b c~",
         "h-e",
@@ -438,24 +451,10 @@ const ANSWERED: [(&str, &str, &str); 11] = [
 
 #[test]
 fn requests_are_answered_from_their_replies(rt: HostRuntime) -> Result<(), Fail> {
-    for (stream, letters, text) in &ANSWERED {
-        assert!(rt; is_answered(rt.alloc(), stream, letters, text)?, "{text}");
+    for row in &ANSWERED {
+        check_answer(&rt, rt.alloc(), row)?;
     }
     Ok(())
-}
-
-/// The leg that sends a request on, under the rest of its first key.
-fn leg_of(alloc: Global, ask: &Ask) -> Option<LegRequest> {
-    let (_prefix, rest) = split_key(ask.keys.first()?.as_slice()).ok()?;
-    let body = Vec::from_slice(alloc, ask.body.as_slice()).ok()?;
-    Some(LegRequest {
-        op: ask.op,
-        rest: Arc::new(alloc, rest).ok()?,
-        flags: ask.flags,
-        exptime: ask.exptime,
-        body: Arc::new(alloc, body).ok()?,
-        cas: ask.cas,
-    })
 }
 
 /// The text of the leg that sends an item on.
@@ -466,38 +465,57 @@ fn sent(alloc: Global, item: &Item) -> Option<Vec<u8>> {
     }
 }
 
-/// Whether the one item of two pieces is sent on so.
-fn is_sent_on(alloc: Global, bytes: &[u8], cut: usize, text: &[u8]) -> Option<bool> {
+/// The text of the leg that sends the one item of two pieces on.
+fn sent_on(alloc: Global, early: &[Item], late: &[Item]) -> Option<Vec<u8>> {
+    if early.len().saturating_add(late.len()) == 1 {
+        sent(alloc, early.first().or(late.first())?)
+    } else {
+        None
+    }
+}
+
+/// The same of a stream that is cut there.
+fn sent_cut(alloc: Global, bytes: &[u8], cut: usize) -> Option<Vec<u8>> {
     let mut reader = RequestReader::new(alloc);
     let (first, second) = bytes.split_at(cut.min(bytes.len()));
     let early = reader.feed(first).ok()?;
     let late = reader.feed(second).ok()?;
-    let sent = sent(alloc, early.first().or(late.first())?)?;
-    Some(early.len().saturating_add(late.len()) == 1 && sent.as_slice() == text)
+    sent_on(alloc, early.as_slice(), late.as_slice())
+}
+
+/// Where the stream is cut there, its one item is sent on so.
+fn check_sent(
+    rt: &impl Abort,
+    alloc: Global,
+    bytes: &[u8],
+    cut: usize,
+    text: &[u8],
+) -> Result<(), Fail> {
+    let found = sent_cut(alloc, bytes, cut).ok_or("no leg")?;
+    assert!(rt; found.as_slice() == text, "cut at {cut}");
+    Ok(())
 }
 
 #[test]
-fn a_request_is_sent_on_under_its_rest(rt: HostRuntime) {
+fn a_request_is_sent_on_under_its_rest(rt: HostRuntime) -> Result<(), Fail> {
     let bytes = b"set   /././k 05 0 1 noreply\r\nx\r\n".as_slice();
     let text = b"set k 5 0 1\r\nx\r\n".as_slice();
     for cut in 0..=bytes.len() {
-        assert!(rt;
-            is_sent_on(rt.alloc(), bytes, cut, text) == Some(true),
-            "cut at {cut}"
-        );
+        check_sent(&rt, rt.alloc(), bytes, cut, text)?;
     }
+    Ok(())
 }
 
 /// The leg of an operation on `k` with flags 5, exptime -1, value `x` and cas 9.
 fn leg(alloc: Global, op: Op) -> Option<LegRequest> {
-    let rest = Rest::of(b"k")?;
-    let body = Vec::from_slice(alloc, b"x").ok()?;
+    let rest = Arc::new(alloc, Rest::of(b"k")?).ok()?;
+    let body = shared(alloc, b"x").ok()?;
     Some(LegRequest {
         op,
-        rest: Arc::new(alloc, rest).ok()?,
+        rest,
         flags: 5,
         exptime: -1,
-        body: Arc::new(alloc, body).ok()?,
+        body,
         cas: Some(9),
     })
 }

@@ -135,15 +135,17 @@ fn is_given_at_every_cut(alloc: Global, case: Case<'_>, bytes: &[u8]) -> bool {
     true
 }
 
+/// Whether the bytes of a line are the reply of its case at every cut.
+fn is_given(alloc: Global, line: &str) -> Result<bool, Fail> {
+    let case = read_case(line).ok_or("a case")?;
+    let bytes = wire(alloc, case.text)?;
+    Ok(is_given_at_every_cut(alloc, case, bytes.as_slice()))
+}
+
 #[test]
 fn replies_are_given_once_at_every_cut(rt: HostRuntime) -> Result<(), Fail> {
     for line in REPLIES.lines() {
-        let case = read_case(line).ok_or("a case")?;
-        let bytes = wire(rt.alloc(), case.text)?;
-        assert!(rt;
-            is_given_at_every_cut(rt.alloc(), case, bytes.as_slice()),
-            "{line}"
-        );
+        assert!(rt; is_given(rt.alloc(), line)?, "{line}");
     }
     Ok(())
 }
@@ -180,17 +182,24 @@ fn is_refused_at_every_cut(alloc: Global, case: Case<'_>, bytes: &[u8], good: us
     true
 }
 
+/// How many bytes of a case are good.
+fn good_of(alloc: Global, case: Case<'_>) -> Result<usize, Fail> {
+    let (good, _behind) = case.text.split_once("~").ok_or("a case")?;
+    Ok(wire(alloc, good)?.len())
+}
+
+/// Whether the bytes of a line are refused from the first wrong one on, at every cut.
+fn is_refused(alloc: Global, line: &str) -> Result<bool, Fail> {
+    let case = read_case(line).ok_or("a case")?;
+    let good = good_of(alloc, case)?;
+    let bytes = wire(alloc, case.text)?;
+    Ok(is_refused_at_every_cut(alloc, case, bytes.as_slice(), good))
+}
+
 #[test]
 fn bytes_are_refused_from_the_first_wrong_one(rt: HostRuntime) -> Result<(), Fail> {
     for line in REFUSED.lines() {
-        let case = read_case(line).ok_or("a case")?;
-        let (good, _behind) = case.text.split_once("~").ok_or("a case")?;
-        let good = wire(rt.alloc(), good)?;
-        let bytes = wire(rt.alloc(), case.text)?;
-        assert!(rt;
-            is_refused_at_every_cut(rt.alloc(), case, bytes.as_slice(), good.len()),
-            "{line}"
-        );
+        assert!(rt; is_refused(rt.alloc(), line)?, "{line}");
     }
     Ok(())
 }
@@ -208,44 +217,78 @@ fn is_the_hit(part: &Part) -> bool {
     }
 }
 
+/// Whether the hit is in each part.
+fn is_in_each_part(parts: Parts) -> bool {
+    let (outcome, taken, history) = parts.into_parts();
+    is_the_hit(&outcome) && is_the_hit(&taken) && is_the_hit(&history)
+}
+
+/// The reply to a gets in these bytes.
+fn reply_of(alloc: Global, bytes: &[u8]) -> Result<Reply, Fail> {
+    let mut reader = reader_for(alloc, "gets").ok_or("no reader")?;
+    let fed = reader.feed(bytes)?;
+    Ok(fed.ok_or("no reply")?)
+}
+
 #[test]
 fn a_hit_is_whole_in_its_parts(rt: HostRuntime) -> Result<(), Fail> {
-    let mut reader = reader_for(rt.alloc(), "gets").ok_or("no reader")?;
-    let fed = reader.feed(b"VALUE a 3 1 7\r\nx\r\nEND\r\n")?;
-    let parts = Parts::new(rt.alloc(), fed.ok_or("no reply")?)?;
-    let (outcome, taken, history) = parts.into_parts();
-    assert!(rt; is_the_hit(&outcome) && is_the_hit(&taken) && is_the_hit(&history));
+    let reply = reply_of(rt.alloc(), b"VALUE a 3 1 7\r\nx\r\nEND\r\n")?;
+    let parts = Parts::new(rt.alloc(), reply)?;
+    assert!(rt; is_in_each_part(parts));
     Ok(())
 }
 
-/// The answer to the last piece behind so many spaces, where a reply to a delete goes on from them.
-fn answer_behind(alloc: Global, count: usize, last: &[u8]) -> Result<&'static str, Fail> {
-    let spaces = vec![in alloc; b' '; count]?;
-    let mut reader = reader_for(alloc, "delete").ok_or("no reader")?;
-    if answer_to(&mut reader, spaces.as_slice()) == "more" {
+/// Whether there's more to come behind each piece of so many bytes.
+fn is_more(reader: &mut ReplyReader, bytes: &[u8], size: usize) -> bool {
+    for piece in bytes.chunks(size.max(1)) {
+        if answer_to(reader, piece) != "more" {
+            return false;
+        }
+    }
+    true
+}
+
+/// The answer to the last piece behind so many bytes, where the reply goes on behind the first piece and behind them.
+fn answer_behind(
+    alloc: Global,
+    op: &str,
+    first: &[u8],
+    bytes: &[u8],
+    last: &[u8],
+) -> Result<&'static str, Fail> {
+    let mut reader = reader_for(alloc, op).ok_or("no reader")?;
+    if answer_to(&mut reader, first) == "more" && is_more(&mut reader, bytes, 99_999) {
         Ok(answer_to(&mut reader, last))
     } else {
-        Ok("refused in the spaces")
+        Ok("refused before")
     }
+}
+
+/// The answer to the last piece behind so many spaces, of a delete.
+fn answer_behind_spaces(alloc: Global, count: usize, last: &[u8]) -> Result<&'static str, Fail> {
+    let spaces = vec![in alloc; b' '; count]?;
+    answer_behind(alloc, "delete", b"", spaces.as_slice(), last)
 }
 
 #[test]
 fn a_line_has_2048_bytes_at_the_most(rt: HostRuntime) -> Result<(), Fail> {
-    assert!(rt; answer_behind(rt.alloc(), 2041, b"DELETED\n")? == "deleted");
-    assert!(rt; answer_behind(rt.alloc(), 2042, b"D")? == "refused");
-    assert!(rt; answer_behind(rt.alloc(), 2043, b" ")? == "refused");
+    for (count, last, answer) in [
+        (2041, "DELETED\n", "deleted"),
+        (2042, "D", "refused"),
+        (2043, " ", "refused"),
+    ] {
+        let found = answer_behind_spaces(rt.alloc(), count, last.as_bytes())?;
+        assert!(rt; found == answer, "{count}: {found}");
+    }
     Ok(())
 }
 
 #[test]
 fn a_value_has_1048576_bytes_at_the_most(rt: HostRuntime) -> Result<(), Fail> {
     let value = vec![in rt.alloc(); b'x'; 1_048_576]?;
-    let mut reader = reader_for(rt.alloc(), "get").ok_or("no reader")?;
-    assert!(rt; answer_to(&mut reader, b"VALUE a 0 1048576\r\n") == "more");
-    for piece in value.chunks(99_999) {
-        assert!(rt; answer_to(&mut reader, piece) == "more");
-    }
-    assert!(rt; answer_to(&mut reader, b"\r\nEND\r\n") == "hit");
+    let first = b"VALUE a 0 1048576\r\n";
+    let found = answer_behind(rt.alloc(), "get", first, value.as_slice(), b"\r\nEND\r\n")?;
+    assert!(rt; found == "hit", "{found}");
     Ok(())
 }
 
@@ -298,26 +341,29 @@ fn faults_have_numbers(rt: HostRuntime) {
     assert!(rt; ReplyFault::Memory.number() == 3);
 }
 
+/// Whether a piece has this answer, or there is no memory and the reader is closed from then on.
+fn is_answered_or_closed(reader: &mut ReplyReader, piece: &[u8], answer: &str) -> bool {
+    let found = answer_to(reader, piece);
+    found == answer || found == "memory" && answer_to(reader, b"") == "closed"
+}
+
 /// Each allocation may fail here: the reader says so, and is closed then.
 #[test]
 fn want_of_memory_closes_the_reader(rt: HostRuntime) {
     if let Some(mut reader) = reader_for(rt.alloc(), "gets") {
-        let answer = answer_to(&mut reader, b"VALUE a 0 5 7\r\nworld\r\nEND\r\n");
-        if answer == "memory" {
-            assert!(rt; answer_to(&mut reader, b"") == "closed");
-        } else {
-            assert!(rt; answer == "hit");
-        }
+        let piece = b"VALUE a 0 5 7\r\nworld\r\nEND\r\n";
+        assert!(rt; is_answered_or_closed(&mut reader, piece, "hit"));
     }
+}
+
+/// The same of the probe's version.
+fn is_probe_answered_or_closed(probe: &mut ProbeReader, piece: &[u8]) -> bool {
+    let found = probe_answer_to(probe, piece);
+    found == "version" || found == "memory" && probe_answer_to(probe, b"") == "closed"
 }
 
 #[test]
 fn want_of_memory_closes_the_probe(rt: HostRuntime) {
     let mut probe = ProbeReader::new(rt.alloc());
-    let answer = probe_answer_to(&mut probe, b"VERSION 1.6.9\r\n");
-    if answer == "memory" {
-        assert!(rt; probe_answer_to(&mut probe, b"") == "closed");
-    } else {
-        assert!(rt; answer == "version");
-    }
+    assert!(rt; is_probe_answered_or_closed(&mut probe, b"VERSION 1.6.9\r\n"));
 }
