@@ -1,6 +1,7 @@
 //! Legs, and what they share.
 
 use mcv_base::{Ask, LegRequest, Reply, split_key};
+use mcv_text::leg_text;
 use std::alloc::{AllocError, Global};
 use std::sync::Arc;
 
@@ -29,4 +30,10 @@ pub fn leg_of(alloc: Global, ask: &Ask) -> Option<LegRequest> {
         body,
         cas: ask.cas,
     })
+}
+
+/// Its text.
+pub fn leg_line(alloc: Global, ask: &Ask) -> Option<Vec<u8>> {
+    let leg = leg_of(alloc, ask)?;
+    leg_text(alloc, &leg).ok()
 }

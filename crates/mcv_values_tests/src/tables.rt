@@ -83,13 +83,17 @@ fn fnv_has_its_reference_vectors(rt: HostRuntime) {
     }
 }
 
-/// The indexes of a part for a symbol of two servers and one of one, and behind them.
-fn choice_of(alloc: Global, part: &[u8]) -> Option<(usize, usize, usize)> {
+/// A symbol of two servers and one of one.
+fn two_and_one(alloc: Global) -> Option<Symbols> {
     let mut symbols = Symbols::new(alloc);
-    for n in [2, 1] {
-        let symbol = symbol(alloc, "", n)?;
-        symbols.insert(symbol).ok()?;
-    }
+    symbols.insert(symbol(alloc, "", 2)?).ok()?;
+    symbols.insert(symbol(alloc, "", 1)?).ok()?;
+    Some(symbols)
+}
+
+/// The indexes of a part for those symbols, and behind them.
+fn choice_of(alloc: Global, part: &[u8]) -> Option<(usize, usize, usize)> {
+    let symbols = two_and_one(alloc)?;
     let choice = choose(alloc, &Fnv, &symbols, part).ok()?;
     Some((choice.index(0), choice.index(1), choice.index(2)))
 }
@@ -107,10 +111,14 @@ fn list_of_a(alloc: Global) -> Option<TableHash> {
     Some(TableHash::new(rows))
 }
 
+/// The indexes of `a` and `c` by that hash, for a symbol of two servers.
+fn listed(alloc: Global) -> Option<(usize, usize)> {
+    let hash = list_of_a(alloc)?;
+    let two = symbol(alloc, "", 2)?;
+    Some((hash.index(&two, b"a"), hash.index(&two, b"c")))
+}
+
 #[test]
-fn a_list_answers_for_the_parts_that_it_has(rt: HostRuntime) -> Result<(), Fail> {
-    let hash = list_of_a(rt.alloc()).ok_or("no list")?;
-    let two = symbol(rt.alloc(), "", 2).ok_or("no symbol")?;
-    assert!(rt; hash.index(&two, b"a") == 1 && hash.index(&two, b"c") == 0);
-    Ok(())
+fn a_list_answers_for_the_parts_that_it_has(rt: HostRuntime) {
+    assert!(rt; listed(rt.alloc()) == Some((1, 0)));
 }

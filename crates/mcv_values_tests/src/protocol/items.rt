@@ -1,6 +1,6 @@
 //! Items and texts against the words of memcached's `protocol.txt`.
 
-use crate::legs::{hit, leg_of, shared};
+use crate::legs::{hit, leg_line, shared};
 use crate::rows::{check_bytes, push_meant, unfolded};
 use itoa::Buffer;
 use mcv_base::{Ask, FixedReply, LegRequest, Op, Part, Reply, Request, Rest};
@@ -460,7 +460,7 @@ fn requests_are_answered_from_their_replies(rt: HostRuntime) -> Result<(), Fail>
 /// The text of the leg that sends an item on.
 fn sent(alloc: Global, item: &Item) -> Option<Vec<u8>> {
     match item {
-        Item::Asked(Request::Ask(ask)) => leg_text(alloc, &leg_of(alloc, ask)?).ok(),
+        Item::Asked(Request::Ask(ask)) => leg_line(alloc, ask),
         _ => None,
     }
 }

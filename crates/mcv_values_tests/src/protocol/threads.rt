@@ -11,7 +11,7 @@ use std::thread;
 use std::thread::Threads;
 
 /// A value that another thread had and has given back.
-fn moved<T: Send + Drop + 'static>(rt: &impl Threads, value: T) -> Result<T, Fail> {
+pub fn moved<T: Send + Drop + 'static>(rt: &impl Threads, value: T) -> Result<T, Fail> {
     let child = thread::spawn(rt, move || value)?;
     Ok(child.join(rt))
 }

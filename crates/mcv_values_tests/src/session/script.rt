@@ -4,10 +4,9 @@ ghost use Rattle.std.specs.Prelude.{◌≡◌, length};
 ghost use Rattle.mcv_text.specs.Request.{request_value};
 ghost use Rattle.mcv_session.specs.Desk.{keys_of};
 
-use crate::legs::{hit, leg_of};
+use crate::legs::{hit, leg_line};
 use mcv_base::{FixedReply, Part, Request};
 use mcv_session::{Desk, DeskFault};
-use mcv_text::leg_text;
 use std::alloc::{AllocError, Global};
 use std::sync::Arc;
 
@@ -53,7 +52,7 @@ impl<'a> Script<'a> {
         let Request::Ask(ask) = request else {
             return None;
         };
-        let text = leg_text(self.alloc, &leg_of(self.alloc, ask)?).ok()?;
+        let text = leg_line(self.alloc, ask)?;
         self.asked.extend_from_slice(text.as_slice()).ok()
     }
 }

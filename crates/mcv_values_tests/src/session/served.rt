@@ -1,8 +1,8 @@
 //! Sessions over readers and writers.
 
 use super::script::Script;
-use super::sessions::{ROWS, Row};
-use crate::rows::unfolded;
+use super::sessions::{ROWS, Row, are_of};
+use crate::rows::{check_bytes, unfolded};
 use mcv_session::{ServeFault, serve_session};
 use std::alloc::Global;
 use std::io;
@@ -79,28 +79,37 @@ fn writing(alloc: Global, left: u64) -> Output {
     }
 }
 
-fn is_served(alloc: Global, row: &Row, most: usize) -> Result<bool, Fail> {
-    let (stream, answers, text, asked, _ends) = *row;
-    let bytes = unfolded(alloc, stream)?;
-    let want = unfolded(alloc, text)?;
-    let want_asked = unfolded(alloc, asked)?;
+/// Whether a client is served as the row says, by reads of so many bytes.
+fn is_served_by(
+    alloc: Global,
+    row: &Row,
+    desk: &mut Script<'_>,
+    bytes: &[u8],
+    most: usize,
+) -> Result<bool, Fail> {
     let mut written = writing(alloc, 1000);
-    let mut desk = Script::new(alloc, answers);
-    serve_session(
-        alloc,
-        &mut reading(bytes.as_slice(), most),
-        &mut written,
-        &mut desk,
-    )?;
-    Ok(written.bytes.as_slice() == want.as_slice() && desk.asked() == want_asked.as_slice())
+    serve_session(alloc, &mut reading(bytes, most), &mut written, desk)?;
+    Ok(are_of(alloc, written.bytes.as_slice(), row.2)?)
+}
+
+fn is_served(alloc: Global, row: &Row, most: usize) -> Result<bool, Fail> {
+    let bytes = unfolded(alloc, row.0)?;
+    let mut desk = Script::new(alloc, row.1);
+    let is_served = is_served_by(alloc, row, &mut desk, bytes.as_slice(), most)?;
+    Ok(is_served && are_of(alloc, desk.asked(), row.3)?)
+}
+
+fn check_sizes(rt: &impl Abort, alloc: Global, row: &Row) -> Result<(), Fail> {
+    for most in [1, 2, 7, 16384, 100000] {
+        assert!(rt; is_served(alloc, row, most)?, "{} by {most}", row.0);
+    }
+    Ok(())
 }
 
 #[test]
 fn clients_are_served(rt: HostRuntime) -> Result<(), Fail> {
     for row in &ROWS {
-        for most in [1, 2, 7, 16384, 100000] {
-            assert!(rt; is_served(rt.alloc(), row, most)?, "{} by {most}", row.0);
-        }
+        check_sizes(&rt, rt.alloc(), row)?;
     }
     Ok(())
 }
@@ -112,49 +121,60 @@ fn a_slice_is_served(rt: HostRuntime) -> Result<(), Fail> {
     let mut desk = Script::new(alloc, "hm/d");
     let bytes = b"get a b\r\ndelete a\r\n".as_slice();
     serve_session(alloc, &mut &*bytes, &mut written, &mut desk)?;
-    assert!(rt; written.as_slice() == b"VALUE a 0 1\r\nx\r\nEND\r\nDELETED\r\n".as_slice());
+    let text = b"VALUE a 0 1\r\nx\r\nEND\r\nDELETED\r\n";
+    check_bytes(&rt, "a slice", written.as_slice(), text);
     Ok(())
 }
 
-#[test]
-fn what_one_read_gives_is_answered_by_one_write(rt: HostRuntime) -> Result<(), Fail> {
-    let alloc = rt.alloc();
-    let mut written = writing(alloc, 1000);
+/// A client is served by a desk with the answers `d/n/d`, which is asked this; the session ends so.
+fn check_served(
+    rt: &impl Abort,
+    alloc: Global,
+    client: &mut Client<'_>,
+    written: &mut Output,
+    fault: Option<ServeFault>,
+    asked: &[u8],
+) {
     let mut desk = Script::new(alloc, "d/n/d");
-    let bytes = b"delete a\r\ndelete b\r\nversion\r\ndelete c\r\n".as_slice();
-    serve_session(alloc, &mut reading(bytes, 1000), &mut written, &mut desk)?;
-    assert!(rt;
-        written.bytes.as_slice()
-            == b"DELETED\r\nNOT_FOUND\r\nVERSION mcv 1\r\nDELETED\r\n".as_slice()
-    );
-    assert_eq!(rt; written.writes, 1);
-    Ok(())
+    let served = serve_session(alloc, client, written, &mut desk);
+    assert!(rt; served.err() == fault);
+    check_bytes(rt, "asked", desk.asked(), asked);
+}
+
+#[test]
+fn what_one_read_gives_is_answered_by_one_write(rt: HostRuntime) {
+    let mut written = writing(rt.alloc(), 1000);
+    let mut client = reading(b"delete a\r\ndelete b\r\nversion\r\ndelete c\r\n", 1000);
+    let asked = b"delete a\r\ndelete b\r\ndelete c\r\n";
+    check_served(&rt, rt.alloc(), &mut client, &mut written, None, asked);
+    let text = b"DELETED\r\nNOT_FOUND\r\nVERSION mcv 1\r\nDELETED\r\n";
+    check_bytes(&rt, "written", written.bytes.as_slice(), text);
+    assert!(rt; written.writes == 1);
 }
 
 #[test]
 fn a_reader_that_fails_ends_the_session(rt: HostRuntime) {
-    let alloc = rt.alloc();
-    let mut written = writing(alloc, 1000);
-    let mut desk = Script::new(alloc, "d");
-    let mut reader = reading(b"delete a\r\ndelete b", 1000);
-    reader.is_broken = true;
-    assert_eq!(rt;
-        serve_session(alloc, &mut reader, &mut written, &mut desk),
-        Err(ServeFault::Read)
+    let mut written = writing(rt.alloc(), 1000);
+    let mut client = reading(b"delete a\r\ndelete b", 1000);
+    client.is_broken = true;
+    let fault = Some(ServeFault::Read);
+    check_served(
+        &rt,
+        rt.alloc(),
+        &mut client,
+        &mut written,
+        fault,
+        b"delete a\r\n",
     );
-    assert!(rt; written.bytes.as_slice() == b"DELETED\r\n".as_slice());
+    check_bytes(&rt, "written", written.bytes.as_slice(), b"DELETED\r\n");
 }
 
 #[test]
 fn a_writer_that_fails_ends_the_session(rt: HostRuntime) {
-    let alloc = rt.alloc();
-    let mut written = writing(alloc, 1);
-    let mut desk = Script::new(alloc, "d/n/d");
-    let bytes = b"delete a\r\ndelete b\r\ndelete c\r\n".as_slice();
-    assert_eq!(rt;
-        serve_session(alloc, &mut reading(bytes, 10), &mut written, &mut desk),
-        Err(ServeFault::Write)
-    );
-    assert!(rt; written.bytes.as_slice() == b"DELETED\r\n".as_slice());
-    assert!(rt; desk.asked() == b"delete a\r\ndelete b\r\n".as_slice());
+    let mut written = writing(rt.alloc(), 1);
+    let mut client = reading(b"delete a\r\ndelete b\r\ndelete c\r\n", 10);
+    let fault = Some(ServeFault::Write);
+    let asked = b"delete a\r\ndelete b\r\n";
+    check_served(&rt, rt.alloc(), &mut client, &mut written, fault, asked);
+    check_bytes(&rt, "written", written.bytes.as_slice(), b"DELETED\r\n");
 }
