@@ -1,7 +1,7 @@
 //! What legs ask, a row a case: an add stores the value and the flags that `warm` replied (mcrouter's wiki, List of Route
 //! Handles, WarmUpRoute).
 
-use crate::routes::{check_found, halves, named, position};
+use crate::routes::{check_found, halves, named, op_of, position, rest_of_a, word};
 use mcv_asks::{Call, Heard, client_request, leg_request};
 use mcv_base::{Ask, FixedReply, LegRequest, Mark, Op, Part, Reply, Request, Rest, ServerId};
 use mcv_pools::Choice;
@@ -24,20 +24,20 @@ const NAMES: [(&str, &str); 7] = [
     ("of_all", "111sw"),
 ];
 
-/// A hit with 7 flags, a miss, or an error line.
+/// A hit of a value, with 7 flags.
+fn hit(alloc: Global, value: &str) -> Result<Part, AllocError> {
+    let body = Arc::new(alloc, Vec::from_slice(alloc, value.as_bytes())?)?;
+    let (flags, cas) = (7, None);
+    Ok(Part::Owned(Arc::new(alloc, Reply::Hit { flags, cas, body })?))
+}
+
+/// A hit, a miss, or an error line.
 fn reply(alloc: Global, word: &str) -> Result<Part, AllocError> {
-    Ok(match word {
-        "miss" => Part::Fixed(FixedReply::Miss),
-        "lost" => Part::Fixed(FixedReply::Lost),
-        value => Part::Owned(Arc::new(
-            alloc,
-            Reply::Hit {
-                flags: 7,
-                cas: None,
-                body: Arc::new(alloc, Vec::from_slice(alloc, value.as_bytes())?)?,
-            },
-        )?),
-    })
+    match word {
+        "miss" => Ok(Part::Fixed(FixedReply::Miss)),
+        "lost" => Ok(Part::Fixed(FixedReply::Lost)),
+        value => hit(alloc, value),
+    }
 }
 
 /// What the client asked: with 3 flags, an exptime of 9 s and the value `mine`.
@@ -66,19 +66,24 @@ fn shown(alloc: Global, request: &LegRequest) -> Result<String, Fail> {
     Ok(text)
 }
 
-fn op_of(name: &str) -> Op {
-    Op::named(name.as_bytes()).unwrap_or(Op::Touch)
+/// Adds the reply of a leg.
+fn push_came(
+    alloc: Global,
+    came: &mut Vec<Answered>,
+    place: &str,
+    word: &str,
+) -> Result<(), AllocError> {
+    let position = position(alloc, place)?;
+    let reply = reply(alloc, word)?;
+    Ok(came.push(Answered { position, reply })?)
 }
 
 /// The replies of a call's legs, in the order in which they came.
-fn came(alloc: Global, words: &str) -> Result<Vec<Answered>, AllocError> {
+fn came(alloc: Global, row: &str) -> Result<Vec<Answered>, AllocError> {
     let mut came = Vec::new(alloc);
-    for word in words.split(' ') {
+    for word in row.split(' ') {
         if let Some((place, word)) = word.split_once('=') {
-            came.push(Answered {
-                position: position(alloc, place)?,
-                reply: reply(alloc, word)?,
-            })?;
+            push_came(alloc, &mut came, place, word)?;
         }
     }
     Ok(came)
@@ -95,6 +100,19 @@ fn heard<'a>(alloc: Global, came: &'a [Answered]) -> Result<Vec<Heard<'a>>, Allo
     Ok(heard)
 }
 
+/// What a leg of a call asks, whose client asked for the same operation.
+fn asked_by(
+    alloc: Global,
+    route: &Route,
+    call: Call<'_>,
+    launch: &Launch,
+    rest: &Arc<Rest>,
+) -> Result<String, Fail> {
+    let client = client(alloc, call.op)?;
+    let request = leg_request(alloc, route, call, Some(&client), launch, rest)?;
+    shown(alloc, &request)
+}
+
 /// What a leg of a call asks once these replies have come.
 fn asked(
     alloc: Global,
@@ -103,7 +121,7 @@ fn asked(
     launch: &Launch,
     heard: &[Heard<'_>],
 ) -> Result<String, Fail> {
-    let rest = Arc::new(alloc, Rest::of(b"a").ok_or("no rest")?)?;
+    let rest = Arc::new(alloc, rest_of_a()?)?;
     let choice = Choice::new(Vec::from_slice(alloc, &[0])?);
     let call = Call {
         op,
@@ -112,47 +130,31 @@ fn asked(
         choice: &choice,
         heard,
     };
-    let client = client(alloc, op)?;
-    let request = leg_request(alloc, route, call, Some(&client), launch, &rest)?;
-    shown(alloc, &request)
+    asked_by(alloc, route, call, launch, &rest)
 }
 
-fn launch_of(alloc: Global, op: &str, place: &str) -> Result<Launch, AllocError> {
+/// The leg of a row: its operation, and its position.
+fn launch_of(alloc: Global, row: &str) -> Result<Launch, Fail> {
     Ok(Launch {
-        op: op_of(op),
-        position: position(alloc, place)?,
+        op: op_of(word(row, 2)?),
+        position: position(alloc, word(row, 3)?)?,
         server: ServerId(1),
         mark: Mark::Plain,
     })
 }
 
 /// What a leg of a call asks after the replies of a row.
-fn asked_after(
-    alloc: Global,
-    route: &Route,
-    op: Op,
-    launch: &Launch,
-    row: &str,
-) -> Result<String, Fail> {
+fn asked_after(alloc: Global, route: &Route, launch: &Launch, row: &str) -> Result<String, Fail> {
     let came = came(alloc, row)?;
     let heard = heard(alloc, came.as_slice())?;
-    asked(alloc, route, op, launch, heard.as_slice())
+    asked(alloc, route, op_of(word(row, 1)?), launch, heard.as_slice())
 }
 
-/// What the leg asks, by the call's operation, the leg's, its position, and the replies.
-fn given_by(alloc: Global, route: &Route, row: &str) -> Result<String, Fail> {
-    let (op, row) = row.split_once(' ').ok_or("an operation")?;
-    let (sent, row) = row.split_once(' ').ok_or("the leg's operation")?;
-    let (place, row) = row.split_once(' ').unwrap_or((row, ""));
-    let launch = launch_of(alloc, sent, place)?;
-    asked_after(alloc, route, op_of(op), &launch, row)
-}
-
-/// What the leg of a row asks. Its first half is the name of a route and what is asked of it.
+/// What the leg of a row asks: the name of a route, the call's operation, the leg's, its position, and replies.
 fn given(alloc: Global, row: &str) -> Result<String, Fail> {
-    let (name, row) = row.split_once(' ').ok_or("a route")?;
-    let route = named(alloc, &NAMES, name)?;
-    given_by(alloc, &route, row)
+    let launch = launch_of(alloc, row)?;
+    let route = named(alloc, &NAMES, word(row, 0)?)?;
+    asked_after(alloc, &route, &launch, row)
 }
 
 const ROWS: &str = "\
@@ -172,25 +174,32 @@ of_failovers get add 2.1 0.0=miss 1.0=x 2.0=lost | add 7 60 x None
 of_all get add 2 0=miss 1.1=x 1.0=y | add 7 60 y None
 of_all get add 2 0=miss 1.0=y 1.1=x | add 7 60 x None";
 
+fn check_row(rt: &impl Abort, alloc: Global, row: &str) -> Result<(), Fail> {
+    let (asked, wanted) = halves(row)?;
+    let found = given(alloc, asked)?;
+    check_found(rt, row, found.as_str(), wanted);
+    Ok(())
+}
+
 #[test]
 fn legs_ask(rt: HostRuntime) -> Result<(), Fail> {
-    let alloc = rt.alloc();
     for row in ROWS.lines() {
-        let (asked, wanted) = halves(row)?;
-        check_found(&rt, row, given(alloc, asked)?.as_str(), wanted);
+        check_row(&rt, rt.alloc(), row)?;
     }
     Ok(())
+}
+
+/// What a delete of `a` asks whose record the spool held at the start.
+fn spooled(alloc: Global) -> Result<String, Fail> {
+    let rest = Arc::new(alloc, rest_of_a()?)?;
+    let request = client_request(alloc, None, Op::Delete, &rest)?;
+    shown(alloc, &request)
 }
 
 /// A delete whose record the spool held at the start has nothing but its rest.
 #[test]
 fn spooled_deletes_ask(rt: HostRuntime) -> Result<(), Fail> {
-    let alloc = rt.alloc();
-    let Some(rest) = Rest::of(b"a") else {
-        return Err(Fail::from("no rest"));
-    };
-    let request = client_request(alloc, None, Op::Delete, &Arc::new(alloc, rest)?)?;
     let row = "delete 0 0  None";
-    check_found(&rt, row, shown(alloc, &request)?.as_str(), row);
+    check_found(&rt, row, spooled(rt.alloc())?.as_str(), row);
     Ok(())
 }

@@ -1,11 +1,11 @@
 //! What is launched and replied, step by step, a row a case: a route, an operation, the break that opened the era, and the
 //! outcomes of legs by their numbers. Pool n has one server, n.
 
-use crate::routes::{check_found, halves, migration, pool, shadowed, warm_up};
-use mcv_base::{Mark, Moment, Op, Outcome, Position, Rest, ServerId};
+use crate::routes::{check_found, halves, moment_of, op_of, pool, rest_of_a, spelled, word};
+use mcv_base::{Mark, Moment, Op, Outcome, Position, ServerId};
 use mcv_plan::{EvalState, Source, most_legs};
 use mcv_pools::Choice;
-use mcv_route::{Launch, Route, Shadow};
+use mcv_route::{Launch, Route};
 use mcv_rules::{Asked, Plan, laid_out};
 use std::alloc::{AllocError, Global};
 use std::process::Abort;
@@ -22,29 +22,6 @@ fn pools(alloc: Global, count: u32) -> Result<Vec<Route>, AllocError> {
         routes.push(pool_of(alloc, number)?)?;
     }
     Ok(routes)
-}
-
-/// Pool 0, whose index 0 is shadowed to pool 1.
-fn copied(alloc: Global) -> Result<Route, AllocError> {
-    let mut shadows = Vec::new(alloc);
-    shadows.push(Shadow {
-        first: 0,
-        last: 0,
-        target: pool_of(alloc, 1)?,
-    })?;
-    shadowed(alloc, 0, &[ServerId(0)], shadows)
-}
-
-/// Cold is pool 0, warm pool 1.
-fn filling(alloc: Global) -> Result<Route, AllocError> {
-    let cold = pool_of(alloc, 0)?;
-    warm_up(alloc, cold, pool_of(alloc, 1)?, 0)
-}
-
-/// From pool 0 to pool 1, from moment 100 on, a step every 10 seconds.
-fn moving(alloc: Global) -> Result<Route, AllocError> {
-    let from = pool_of(alloc, 0)?;
-    migration(alloc, from, pool_of(alloc, 1)?, 100, 10)
 }
 
 /// A MissFailoverRoute of so many pools, which is sent and not waited for.
@@ -71,16 +48,16 @@ fn route_of(alloc: Global, word: &str) -> Result<Route, Fail> {
     let (name, count) = word.split_once('.').unwrap_or((word, "2"));
     let count = count.parse::<u32>()?;
     Ok(match name {
-        "shadowed" => copied(alloc)?,
+        "shadowed" => spelled(alloc, "C")?,
         "async_miss_failover" => async_miss_failover(alloc, count)?,
-        "warm_up" => filling(alloc)?,
-        "migrate" => moving(alloc)?,
+        "warm_up" => spelled(alloc, "01w")?,
+        "migrate" => spelled(alloc, "01G")?,
         _ => over(name, pools(alloc, count)?),
     })
 }
 
 fn plan_of(alloc: Global, route: &Route, op: Op, since: Option<Moment>) -> Result<Plan, Fail> {
-    let rest = Rest::of(b"a").ok_or("no rest")?;
+    let rest = rest_of_a()?;
     let asked = Asked {
         op,
         rest: &rest,
@@ -90,20 +67,15 @@ fn plan_of(alloc: Global, route: &Route, op: Op, since: Option<Moment>) -> Resul
     Ok(laid_out(alloc, route, &asked, &Position::root(alloc))?)
 }
 
-fn op_of(name: &str) -> Op {
-    Op::named(name.as_bytes()).unwrap_or(Op::Touch)
-}
-
-fn moment_of(word: &str) -> Option<Moment> {
-    word.parse::<u64>().ok().map(Moment)
-}
-
 /// A plan by the words of a row: a route, an operation, and the break that opened the era.
 fn planned(alloc: Global, row: &str) -> Result<Plan, Fail> {
-    let (name, row) = row.split_once(' ').ok_or("a route")?;
-    let (op, since) = row.split_once(' ').ok_or("an operation")?;
-    let route = route_of(alloc, name)?;
-    plan_of(alloc, &route, op_of(op), moment_of(since))
+    let route = route_of(alloc, word(row, 0)?)?;
+    plan_of(
+        alloc,
+        &route,
+        op_of(word(row, 1)?),
+        moment_of(word(row, 2)?),
+    )
 }
 
 /// An outcome as a row has it: the number of a leg, `=` and a word.
@@ -164,10 +136,16 @@ fn steps_of(alloc: Global, row: &str) -> Result<String, Fail> {
     steps(alloc, &plan, outcomes)
 }
 
+fn check_row(rt: &impl Abort, alloc: Global, row: &str) -> Result<(), Fail> {
+    let (asked, wanted) = halves(row)?;
+    let found = steps_of(alloc, asked)?;
+    check_found(rt, row, found.as_str(), wanted);
+    Ok(())
+}
+
 fn check_steps(rt: &impl Abort, alloc: Global, rows: &str) -> Result<(), Fail> {
     for row in rows.lines() {
-        let (asked, wanted) = halves(row)?;
-        check_found(rt, row, steps_of(alloc, asked)?.as_str(), wanted);
+        check_row(rt, alloc, row)?;
     }
     Ok(())
 }
@@ -272,11 +250,9 @@ migrate delete - 1";
 
 /// The most legs of a call of `a` in a row.
 fn most(alloc: Global, row: &str) -> Result<usize, Fail> {
-    let (name, row) = row.split_once(' ').ok_or("a route")?;
-    let (op, since) = row.split_once(' ').ok_or("an operation")?;
-    let route = route_of(alloc, name)?;
-    let rest = Rest::of(b"a").ok_or("no rest")?;
-    Ok(most_legs(&route, op_of(op), &rest, moment_of(since)))
+    let route = route_of(alloc, word(row, 0)?)?;
+    let (op, since) = (op_of(word(row, 1)?), moment_of(word(row, 2)?));
+    Ok(most_legs(&route, op, &rest_of_a()?, since))
 }
 
 #[test]

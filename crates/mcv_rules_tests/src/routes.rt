@@ -1,6 +1,6 @@
 //! Routes of the tests, and the positions in their tables.
 
-use mcv_base::{Op, Position, ServerId};
+use mcv_base::{Moment, Op, Position, Rest, ServerId};
 use mcv_route::{Leaf, OperationPolicy, PrefixPolicy, Route, Shadow};
 use std::alloc::{AllocError, Global};
 use std::process::Abort;
@@ -27,7 +27,7 @@ pub fn pool(alloc: Global, symbol: usize, servers: &[ServerId]) -> Result<Route,
     shadowed(alloc, symbol, servers, Vec::new(alloc))
 }
 
-pub fn warm_up(alloc: Global, cold: Route, warm: Route, exptime: u32) -> Result<Route, AllocError> {
+fn warm_up(alloc: Global, cold: Route, warm: Route, exptime: u32) -> Result<Route, AllocError> {
     Ok(Route::WarmUp {
         cold: Box::new(alloc, cold)?,
         warm: Box::new(alloc, warm)?,
@@ -35,7 +35,7 @@ pub fn warm_up(alloc: Global, cold: Route, warm: Route, exptime: u32) -> Result<
     })
 }
 
-pub fn migration(
+fn migration(
     alloc: Global,
     from: Route,
     to: Route,
@@ -157,11 +157,16 @@ fn warming(alloc: Global, routes: &mut Vec<Route>, exptime: u32) -> Result<Route
     warm_up(alloc, cold, warm, exptime)
 }
 
-/// From the last route but one to the last, from moment 1000 on, a step every hour.
-fn moving(alloc: Global, routes: &mut Vec<Route>) -> Result<Route, AllocError> {
+/// From the last route but one to the last, from this moment on.
+fn moving(
+    alloc: Global,
+    routes: &mut Vec<Route>,
+    start: u32,
+    interval: u32,
+) -> Result<Route, AllocError> {
     let to = routes.pop().unwrap_or(Route::Null);
     let from = routes.pop().unwrap_or(Route::Null);
-    migration(alloc, from, to, 1000, 3600)
+    migration(alloc, from, to, start, interval)
 }
 
 /// The route of a letter over its children.
@@ -197,7 +202,8 @@ fn lettered(alloc: Global, routes: &mut Vec<Route>, letter: u8) -> Result<Route,
         b'S' | b'F' => Ok(over(letter, last_of(alloc, routes, 3)?)),
         b'w' => warming(alloc, routes, 60),
         b'v' => warming(alloc, routes, 5),
-        b'M' => moving(alloc, routes),
+        b'M' => moving(alloc, routes, 1000, 3600),
+        b'G' => moving(alloc, routes, 100, 10),
         other => leaf_of(alloc, other),
     }
 }
@@ -211,7 +217,7 @@ fn push_lettered(alloc: Global, routes: &mut Vec<Route>, letter: u8) -> Result<(
 /// pool of servers 1 and 2, X a PrefixSelectorRoute, O and D OperationSelectorRoutes, D without a default; s, i, y, m and f
 /// an AllSyncRoute, an AllInitialRoute, an AllAsyncRoute, a MissFailoverRoute and a FailoverRoute of the last two, S and F an
 /// AllSyncRoute and a FailoverRoute of the last three, w and v WarmUpRoutes of the last two that add for 60 s and for 5 s, M
-/// a MigrateRoute of them; a digit a pool of the server with this number, and any other letter a pool of its own.
+/// and G MigrateRoutes of them, from moment 1000 on by steps of an hour and from 100 on by steps of 10 s; a digit a pool of the server with this number, and any other letter a pool of its own.
 pub fn spelled(alloc: Global, letters: &str) -> Result<Route, Fail> {
     let mut routes = Vec::new(alloc);
     for letter in letters.as_bytes() {
@@ -244,6 +250,26 @@ pub fn check_found(rt: &impl Abort, row: &str, found: &str, wanted: &str) {
 /// What is asked by a row, and what it wants.
 pub fn halves(row: &str) -> Result<(&str, &str), Fail> {
     Ok(row.split_once(" | ").ok_or("a row without a bar")?)
+}
+
+/// The word of a row at an index.
+pub fn word(row: &str, index: usize) -> Result<&str, Fail> {
+    Ok(row.split(' ').nth(index).ok_or("a word")?)
+}
+
+/// The operation of a name.
+pub fn op_of(name: &str) -> Op {
+    Op::named(name.as_bytes()).unwrap_or(Op::Touch)
+}
+
+/// The moment of a word, or none.
+pub fn moment_of(word: &str) -> Option<Moment> {
+    word.parse::<u64>().ok().map(Moment)
+}
+
+/// The rest of the key that every call asks for.
+pub fn rest_of_a() -> Result<Rest, Fail> {
+    Ok(Rest::of(b"a").ok_or("no rest")?)
 }
 
 /// The position with these steps; `-` is the root.

@@ -1,7 +1,7 @@
 //! What routes send and reply, a row a case; the values are those of mcrouter's wiki, List of Route Handles.
 
-use crate::routes::{check_found, halves, named, position};
-use mcv_base::{FixedReply, Moment, Op, Outcome, Part, Reply, split_key};
+use crate::routes::{check_found, halves, moment_of, named, op_of, position, word};
+use mcv_base::{FixedReply, Op, Outcome, Part, Reply, Rest, split_key};
 use mcv_pools::Choice;
 use mcv_route::{Answered, Launch, Route};
 use mcv_rules::{Eval, Outcomes, Status, default_reply};
@@ -31,11 +31,6 @@ const NAMES: [(&str, &str); 16] = [
     ("no_default", "D"),
 ];
 
-/// The operations of the rows.
-fn op_of(name: &str) -> Op {
-    Op::named(name.as_bytes()).unwrap_or(Op::Touch)
-}
-
 fn fault(alloc: Global, line: &[u8]) -> Result<Part, AllocError> {
     let line = Vec::from_slice(alloc, line)?;
     Ok(Part::Owned(Arc::new(alloc, Reply::Fault(line))?))
@@ -51,20 +46,28 @@ fn hit(alloc: Global) -> Result<Part, AllocError> {
     Ok(Part::Owned(Arc::new(alloc, reply)?))
 }
 
-/// An outcome as a row has it: a position, `=` and a word.
-fn answered(alloc: Global, word: &str) -> Result<Answered, AllocError> {
-    let (place, reply) = word.split_once('=').unwrap_or((word, ""));
-    Ok(Answered {
-        position: position(alloc, place)?,
-        reply: match reply {
-            "hit" => hit(alloc)?,
-            "miss" => Part::Fixed(FixedReply::Miss),
-            "not_found" => Part::Fixed(FixedReply::NotFound),
-            "deleted" => Part::Fixed(FixedReply::Deleted),
-            "fault" => fault(alloc, b"SERVER_ERROR x")?,
-            _ => fault(alloc, b"ERROR")?,
-        },
-    })
+/// The reply of a word.
+fn reply(alloc: Global, word: &str) -> Result<Part, AllocError> {
+    match word {
+        "hit" => hit(alloc),
+        "miss" => Ok(Part::Fixed(FixedReply::Miss)),
+        "not_found" => Ok(Part::Fixed(FixedReply::NotFound)),
+        "deleted" => Ok(Part::Fixed(FixedReply::Deleted)),
+        "fault" => fault(alloc, b"SERVER_ERROR x"),
+        _ => fault(alloc, b"ERROR"),
+    }
+}
+
+/// Adds the reply of a leg: a position, `=` and a word.
+fn push_answer(
+    alloc: Global,
+    answers: &mut Vec<Answered>,
+    place: &str,
+    word: &str,
+) -> Result<(), AllocError> {
+    let position = position(alloc, place)?;
+    let reply = reply(alloc, word)?;
+    Ok(answers.push(Answered { position, reply })?)
 }
 
 /// The legs as their positions, servers, operations and marks; the status, and what the reply amounts to.
@@ -87,11 +90,11 @@ fn shown(
 }
 
 /// The outcomes of a row.
-fn answers(alloc: Global, words: &str) -> Result<Vec<Answered>, AllocError> {
+fn answers(alloc: Global, row: &str) -> Result<Vec<Answered>, AllocError> {
     let mut answers = Vec::new(alloc);
-    for word in words.split(' ') {
-        if !word.is_empty() {
-            answers.push(answered(alloc, word)?)?;
+    for word in row.split(' ') {
+        if let Some((place, word)) = word.split_once('=') {
+            push_answer(alloc, &mut answers, place, word)?;
         }
     }
     Ok(answers)
@@ -105,31 +108,50 @@ fn evaluated(alloc: Global, eval: &Eval<'_>, answers: &[Answered]) -> Result<Str
     shown(alloc, legs.as_slice(), status, status.outcome(answers))
 }
 
-/// What a route gives for the operation, the key, the index of symbol 0, the break that opened the era, and the outcomes.
-fn given_by(alloc: Global, route: &Route, row: &str) -> Result<String, Fail> {
-    let (op, row) = row.split_once(' ').ok_or("an operation")?;
-    let (key, row) = row.split_once(' ').ok_or("a key")?;
-    let (index, row) = row.split_once(' ').ok_or("an index")?;
-    let (since, row) = row.split_once(' ').unwrap_or((row, ""));
-    let (_, rest) = split_key(key.as_bytes())?;
-    let since = since.parse::<u64>().ok().map(Moment);
-    let choice = Choice::new(Vec::from_slice(alloc, &[index.parse::<usize>()?])?);
-    let eval = Eval::new(alloc, route, op_of(op), &rest, since, &choice)?;
+/// The choice of an index for symbol 0.
+fn choice_of(alloc: Global, index: &str) -> Result<Choice, Fail> {
+    let index = index.parse::<usize>()?;
+    Ok(Choice::new(Vec::from_slice(alloc, &[index])?))
+}
+
+/// What a route gives for the operation, the break that opened the era, and the outcomes of a row.
+fn given_at(
+    alloc: Global,
+    route: &Route,
+    row: &str,
+    rest: &Rest,
+    choice: &Choice,
+) -> Result<String, Fail> {
+    let op = op_of(word(row, 1)?);
+    let eval = Eval::new(alloc, route, op, rest, moment_of(word(row, 4)?), choice)?;
     let answers = answers(alloc, row)?;
     evaluated(alloc, &eval, answers.as_slice())
 }
 
-/// What a row gives. Its first half is the name of a route and what is asked of it.
+/// The same for the key and the index of symbol 0.
+fn given_by(alloc: Global, route: &Route, row: &str) -> Result<String, Fail> {
+    let (_, rest) = split_key(word(row, 2)?.as_bytes())?;
+    let choice = choice_of(alloc, word(row, 3)?)?;
+    given_at(alloc, route, row, &rest, &choice)
+}
+
+/// What a row gives: the name of a route, an operation, a key, the index of symbol 0, a break, and outcomes.
 fn given(alloc: Global, row: &str) -> Result<String, Fail> {
-    let (name, row) = row.split_once(' ').ok_or("a route")?;
-    let route = named(alloc, &NAMES, name)?;
+    let route = named(alloc, &NAMES, word(row, 0)?)?;
     given_by(alloc, &route, row)
+}
+
+/// A row gives what it wants.
+fn check_row(rt: &impl Abort, alloc: Global, row: &str) -> Result<(), Fail> {
+    let (asked, wanted) = halves(row)?;
+    let found = given(alloc, asked)?;
+    check_found(rt, row, found.as_str(), wanted);
+    Ok(())
 }
 
 fn check_rows(rt: &impl Abort, alloc: Global, table: &str) -> Result<(), Fail> {
     for row in table.lines() {
-        let (asked, wanted) = halves(row)?;
-        check_found(rt, row, given(alloc, asked)?.as_str(), wanted);
+        check_row(rt, alloc, row)?;
     }
     Ok(())
 }

@@ -1,47 +1,46 @@
 //! What can be read and what is acknowledged, a row a case; each pool has one server.
 
-use crate::routes::{check_found, halves, spelled};
-use mcv_base::{Op, Outcome, Position, Rest};
+use crate::routes::{check_found, halves, rest_of_a, spelled};
+use mcv_base::{Op, Outcome, Position};
 use mcv_route::Route;
 use mcv_rules::PlannedLeg;
 use mcv_symbolic::{Case, LegAnswer};
 use std::alloc::Global;
+use std::process::Abort;
 use std::test::Fail;
 
-fn places(alloc: Global, legs: &[&PlannedLeg]) -> Result<String, Fail> {
-    let mut text = String::new(alloc);
+fn push_places(text: &mut String, legs: &[&PlannedLeg]) -> Result<(), Fail> {
     for leg in legs {
         let steps = leg.position.steps();
         write!(text, "{steps:?}")?;
     }
-    Ok(text)
+    Ok(())
 }
 
-/// The positions from which the route can be read by a get.
-fn readable(alloc: Global, route: &Route) -> Result<String, Fail> {
-    let rest = Rest::of(b"a").ok_or("no rest")?;
+/// Adds the positions from which the route can be read by a get.
+fn push_readable(alloc: Global, text: &mut String, route: &Route) -> Result<(), Fail> {
+    let rest = rest_of_a()?;
     let get = Case::new(alloc, route, Op::Get, &rest, None)?;
     let legs = get.readable(alloc)?;
-    places(alloc, legs.as_slice())
+    push_places(text, legs.as_slice())
 }
 
-/// The positions to which every delete that has a reply has been sent, and whether one can be acknowledged.
-fn acknowledged(alloc: Global, route: &Route) -> Result<String, Fail> {
-    let rest = Rest::of(b"a").ok_or("no rest")?;
+/// Adds the positions to which every delete that has a reply has been sent, and whether one can be acknowledged.
+fn push_acknowledged(alloc: Global, text: &mut String, route: &Route) -> Result<(), Fail> {
+    let rest = rest_of_a()?;
     let delete = Case::new(alloc, route, Op::Delete, &rest, None)?;
     let legs = delete.acknowledged_legs(alloc)?;
-    let mut text = places(alloc, legs.as_slice())?;
+    push_places(text, legs.as_slice())?;
     let can = delete.can_acknowledge();
-    write!(text, " {can}")?;
-    Ok(text)
+    Ok(write!(text, " {can}")?)
 }
 
-/// Where the route of these letters can be read, and what is acknowledged there.
-fn given(alloc: Global, letters: &str) -> Result<String, Fail> {
-    let route = spelled(alloc, letters)?;
-    let mut text = readable(alloc, &route)?;
+/// Where a route can be read, and what is acknowledged there.
+fn sets(alloc: Global, route: &Route) -> Result<String, Fail> {
+    let mut text = String::new(alloc);
+    push_readable(alloc, &mut text, route)?;
     text.push_str(" ")?;
-    text.push_str(acknowledged(alloc, &route)?.as_str())?;
+    push_acknowledged(alloc, &mut text, route)?;
     Ok(text)
 }
 
@@ -59,48 +58,36 @@ E |   false";
 
 #[test]
 fn sets_are_those_of_the_rows(rt: HostRuntime) -> Result<(), Fail> {
-    let alloc = rt.alloc();
-    for row in ROWS.lines() {
-        let (letters, wanted) = halves(row)?;
-        check_found(&rt, row, given(alloc, letters)?.as_str(), wanted);
-    }
-    Ok(())
+    check_rows(&rt, rt.alloc(), ROWS, Table::Sets)
 }
 
-fn shown(alloc: Global, answers: &[LegAnswer]) -> Result<String, Fail> {
-    let mut text = String::new(alloc);
+fn push_shown(text: &mut String, answers: &[LegAnswer]) -> Result<(), Fail> {
     for answer in answers {
         let steps = answer.leg.position.steps();
         let outcome = answer.outcome;
         write!(text, "{steps:?}{outcome:?}")?;
     }
-    Ok(text)
+    Ok(())
 }
 
-/// The answers by which a hit of this leaf is a get's answer, `-` where none do.
-fn hit(alloc: Global, get: &Case<'_>, leaf: &Position) -> Result<String, Fail> {
-    match get.hit_of(alloc, leaf)? {
-        Some(answers) => shown(alloc, answers.as_slice()),
-        None => Ok(String::from_str(alloc, "-")?),
+/// Adds the answers by which a hit of this leaf is a get's answer, `-` where none do, and a semicolon.
+fn push_hit(alloc: Global, text: &mut String, get: &Case<'_>, child: usize) -> Result<(), Fail> {
+    let leaf = Position::at(alloc, &[child])?;
+    match get.hit_of(alloc, &leaf)? {
+        Some(answers) => push_shown(text, answers.as_slice())?,
+        None => text.push_str("-")?,
     }
+    Ok(text.push_str(";")?)
 }
 
 /// The answers by which a hit of each of the first two children is a get's answer.
 fn hits(alloc: Global, route: &Route) -> Result<String, Fail> {
-    let rest = Rest::of(b"a").ok_or("no rest")?;
+    let rest = rest_of_a()?;
     let get = Case::new(alloc, route, Op::Get, &rest, None)?;
     let mut text = String::new(alloc);
-    for child in 0..2 {
-        let leaf = Position::at(alloc, &[child])?;
-        text.push_str(hit(alloc, &get, &leaf)?.as_str())?;
-        text.push_str(";")?;
-    }
+    push_hit(alloc, &mut text, &get, 0)?;
+    push_hit(alloc, &mut text, &get, 1)?;
     Ok(text)
-}
-
-fn hits_of(alloc: Global, letters: &str) -> Result<String, Fail> {
-    let route = spelled(alloc, letters)?;
-    hits(alloc, &route)
 }
 
 const HITS: &str = "\
@@ -115,28 +102,28 @@ Ebf | -;[1]Good;";
 
 #[test]
 fn hits_are_those_of_the_rows(rt: HostRuntime) -> Result<(), Fail> {
-    let alloc = rt.alloc();
-    for row in HITS.lines() {
-        let (letters, wanted) = halves(row)?;
-        check_found(&rt, row, hits_of(alloc, letters)?.as_str(), wanted);
-    }
-    Ok(())
+    check_rows(&rt, rt.alloc(), HITS, Table::Hits)
 }
 
-/// The answers of a delete where all legs answer so.
-fn answers(alloc: Global, route: &Route, outcome: Outcome) -> Result<String, Fail> {
-    let rest = Rest::of(b"a").ok_or("no rest")?;
+/// Adds the answers of a delete where all legs answer so.
+fn push_answers(
+    alloc: Global,
+    text: &mut String,
+    route: &Route,
+    outcome: Outcome,
+) -> Result<(), Fail> {
+    let rest = rest_of_a()?;
     let delete = Case::new(alloc, route, Op::Delete, &rest, None)?;
     let legs = delete.answers(alloc, outcome)?;
-    shown(alloc, legs.as_slice())
+    push_shown(text, legs.as_slice())
 }
 
 /// The answers of a delete where all legs answer Good, and where all answer Error.
-fn alike(alloc: Global, letters: &str) -> Result<String, Fail> {
-    let route = spelled(alloc, letters)?;
-    let mut text = answers(alloc, &route, Outcome::Good)?;
+fn both(alloc: Global, route: &Route) -> Result<String, Fail> {
+    let mut text = String::new(alloc);
+    push_answers(alloc, &mut text, route, Outcome::Good)?;
     text.push_str(" ")?;
-    text.push_str(answers(alloc, &route, Outcome::Error)?.as_str())?;
+    push_answers(alloc, &mut text, route, Outcome::Error)?;
     Ok(text)
 }
 
@@ -148,10 +135,42 @@ C | []Good []Error";
 
 #[test]
 fn answers_alike_are_those_of_the_rows(rt: HostRuntime) -> Result<(), Fail> {
-    let alloc = rt.alloc();
-    for row in ALIKE.lines() {
-        let (letters, wanted) = halves(row)?;
-        check_found(&rt, row, alike(alloc, letters)?.as_str(), wanted);
+    check_rows(&rt, rt.alloc(), ALIKE, Table::Alike)
+}
+
+/// What the rows of a table are of.
+#[derive(Clone, Copy)]
+enum Table {
+    Sets,
+    Hits,
+    Alike,
+}
+
+/// What a table has for a route.
+fn found(alloc: Global, route: &Route, table: Table) -> Result<String, Fail> {
+    match table {
+        Table::Sets => sets(alloc, route),
+        Table::Hits => hits(alloc, route),
+        Table::Alike => both(alloc, route),
+    }
+}
+
+/// The same for the route of these letters.
+fn found_for(alloc: Global, letters: &str, table: Table) -> Result<String, Fail> {
+    let route = spelled(alloc, letters)?;
+    found(alloc, &route, table)
+}
+
+fn check_row(rt: &impl Abort, alloc: Global, row: &str, table: Table) -> Result<(), Fail> {
+    let (letters, wanted) = halves(row)?;
+    let found = found_for(alloc, letters, table)?;
+    check_found(rt, row, found.as_str(), wanted);
+    Ok(())
+}
+
+fn check_rows(rt: &impl Abort, alloc: Global, rows: &str, table: Table) -> Result<(), Fail> {
+    for row in rows.lines() {
+        check_row(rt, alloc, row, table)?;
     }
     Ok(())
 }

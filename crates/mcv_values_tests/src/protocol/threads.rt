@@ -57,7 +57,7 @@ fn request(alloc: Global) -> Result<Request, Fail> {
 #[test]
 fn requests_are_moved(rt: HostRuntime) -> Result<(), Fail> {
     let request = moved(&rt, request(rt.alloc())?)?;
-    assert!(rt; matches!(request, Request::Ask(ask) if ask.keys.len() == 1));
+    assert!(rt; matches!(&request, Request::Ask(ask) if ask.keys.len() == 1));
     Ok(())
 }
 
