@@ -1,5 +1,6 @@
 //! What a configuration holds once it is read, and its limits.
 
+use crate::built::{check, check_text};
 use mcv_base::{Op, ServerId};
 use mcv_config::{ConfigParts, NamedPolicy, NamedRoute, NamedShadow, Pool, read_config};
 use mcv_pools::HashFunc;
@@ -24,12 +25,8 @@ fn repeated(alloc: Global, around: (&str, &str), part: &str, times: usize) -> Re
     Ok(text)
 }
 
-fn is_same(rt: &impl Abort, found: &str, want: &str) {
-    assert_eq!(rt; found, want);
-}
-
 /// What becomes of a text with the part so many times.
-fn check(
+fn check_times(
     rt: &impl Abort,
     alloc: Global,
     around: (&str, &str),
@@ -39,7 +36,7 @@ fn check(
 ) -> Result<(), Fail> {
     let text = repeated(alloc, around, part, times)?;
     let found = answer(alloc, text.as_str())?;
-    is_same(rt, found.as_str(), want);
+    check_text(rt, part, found.as_str(), want);
     Ok(())
 }
 
@@ -52,8 +49,8 @@ fn check_limit(
     most: usize,
     fault: &str,
 ) -> Result<(), Fail> {
-    check(rt, alloc, around, part, most, "read")?;
-    check(rt, alloc, around, part, most.saturating_add(1), fault)
+    check_times(rt, alloc, around, part, most, "read")?;
+    check_times(rt, alloc, around, part, most.saturating_add(1), fault)
 }
 
 const PREFIX: (&str, &str) = (
@@ -110,7 +107,7 @@ fn handles_are_on_at_most_32_levels(rt: HostRuntime) -> Result<(), Fail> {
     let (part, fault) = ("AllSyncRoute|", "configuration 7 at /route");
     check_limit(&rt, alloc, POOL_BELOW, part, 31, fault)?;
     check_limit(&rt, alloc, SERVERS_BELOW, part, 31, fault)?;
-    check(&rt, alloc, ("", ""), "[", 200, "configuration 1 at .")
+    check_times(&rt, alloc, ("", ""), "[", 200, "configuration 1 at .")
 }
 
 #[test]
@@ -137,26 +134,52 @@ const ROUTED: &str = "{
   ]
 }";
 
+/// What is asked of what a text holds.
+#[derive(Clone, Copy)]
+enum Asked {
+    Aliases,
+    Servers,
+    Policies,
+    Hash,
+    Phases,
+    Prefixes,
+}
+
+fn check_parts(rt: &impl Abort, parts: &ConfigParts, asked: Asked) -> Result<(), Fail> {
+    match asked {
+        Asked::Aliases => check_aliases(rt, parts),
+        Asked::Servers => check_servers(rt, parts),
+        Asked::Policies => check_selector(rt, parts),
+        Asked::Hash => check_pool(rt, parts),
+        Asked::Phases => check_phases(rt, parts),
+        Asked::Prefixes => check_prefixes(rt, parts),
+    }
+}
+
+fn check_of(rt: &impl Abort, alloc: Global, text: &str, asked: Asked) -> Result<(), Fail> {
+    let config = read_config(alloc, text.as_bytes())?;
+    check_parts(rt, config.parts(), asked)
+}
+
 #[test]
 fn routes_have_their_aliases(rt: HostRuntime) -> Result<(), Fail> {
-    let config = read_config(rt.alloc(), ROUTED.as_bytes())?;
-    check_aliases(&rt, config.parts())
+    check_of(&rt, rt.alloc(), ROUTED, Asked::Aliases)
 }
 
 fn check_aliases(rt: &impl Abort, parts: &ConfigParts) -> Result<(), Fail> {
-    assert_eq!(rt; parts.pools.len(), 3);
-    assert_eq!(rt; parts.servers.len(), 2);
+    check(rt, parts.pools.len() == 3, "three pools");
+    check(rt, parts.servers.len() == 2, "two servers");
     let [first, second] = parts.entries.as_slice() else {
         return Err(Fail::from("two routes"));
     };
     let [one, other] = first.aliases.as_slice() else {
         return Err(Fail::from("two aliases"));
     };
-    assert_eq!(rt; one.as_bytes(), b"/a/b/".as_slice());
-    assert_eq!(rt; other.as_bytes(), b"/a/c/".as_slice());
-    assert!(rt; is_pool(&first.route, 1));
-    assert_eq!(rt; second.aliases.len(), 1);
-    assert!(rt; is_pool(&second.route, 2));
+    check(rt, one.as_bytes() == b"/a/b/".as_slice(), "/a/b/");
+    check(rt, other.as_bytes() == b"/a/c/".as_slice(), "/a/c/");
+    check(rt, is_pool(&first.route, 1), "pool 1");
+    check(rt, second.aliases.len() == 1, "one alias");
+    check(rt, is_pool(&second.route, 2), "pool 2");
     Ok(())
 }
 
@@ -178,28 +201,32 @@ const WHOLE: &str = "{
 
 #[test]
 fn servers_are_numbered_by_first_appearance(rt: HostRuntime) -> Result<(), Fail> {
-    let config = read_config(rt.alloc(), WHOLE.as_bytes())?;
-    check_servers(&rt, config.parts())
+    check_of(&rt, rt.alloc(), WHOLE, Asked::Servers)
 }
 
 fn check_servers(rt: &impl Abort, parts: &ConfigParts) -> Result<(), Fail> {
-    assert_eq!(rt; parts.servers.len(), 3);
-    assert_eq!(rt; parts.servers.find("c:1"), Some(ServerId(0)));
-    assert_eq!(rt; parts.servers.find("b:1"), Some(ServerId(1)));
-    assert_eq!(rt; parts.servers.find("a:1"), Some(ServerId(2)));
+    check(rt, parts.servers.len() == 3, "three servers");
+    let (a, b, c) = (ServerId(2), ServerId(1), ServerId(0));
+    check(rt, parts.servers.find("c:1") == Some(c), "c:1");
+    check(rt, parts.servers.find("b:1") == Some(b), "b:1");
+    check(rt, parts.servers.find("a:1") == Some(a), "a:1");
     let [first, second] = parts.pools.as_slice() else {
         return Err(Fail::from("two pools"));
     };
-    let (a, b, c) = (ServerId(2), ServerId(1), ServerId(0));
-    assert_eq!(rt; first.servers.as_slice(), [c, b].as_slice());
-    assert_eq!(rt; second.servers.as_slice(), [b, a].as_slice());
+    check(rt, first.servers.as_slice() == [c, b].as_slice(), "A");
+    check(rt, second.servers.as_slice() == [b, a].as_slice(), "B");
+    check_alias(rt, parts)
+}
+
+/// The only route has the alias of the keys without a prefix.
+fn check_alias(rt: &impl Abort, parts: &ConfigParts) -> Result<(), Fail> {
     let [entry] = parts.entries.as_slice() else {
         return Err(Fail::from("one route"));
     };
     let [alias] = entry.aliases.as_slice() else {
         return Err(Fail::from("one alias"));
     };
-    assert_eq!(rt; alias.as_bytes(), b"/././".as_slice());
+    check(rt, alias.as_bytes() == b"/././".as_slice(), "/././");
     Ok(())
 }
 
@@ -217,9 +244,13 @@ fn is_server_of(route: &NamedRoute, number: usize, place: usize) -> bool {
     matches!(route, NamedRoute::Server { pool, index } if *pool == number && *index == place)
 }
 
-fn children(route: &NamedRoute) -> Option<&[NamedRoute]> {
+/// The children of an AllSyncRoute that has two.
+fn two_children(route: &NamedRoute) -> Option<(&NamedRoute, &NamedRoute)> {
     match route {
-        NamedRoute::AllSync(children) => Some(children.as_slice()),
+        NamedRoute::AllSync(children) => match children.as_slice() {
+            [first, second] => Some((first, second)),
+            _ => None,
+        },
         _ => None,
     }
 }
@@ -232,24 +263,26 @@ fn check_policies(
     let [first, second, third] = policies else {
         return Err(Fail::from("three policies"));
     };
-    assert_eq!(rt; first.op, Some(Op::Delete));
-    let both = children(&first.route).ok_or("children")?;
-    assert_eq!(rt; both.len(), 2);
-    assert!(rt; is_pool(&both[0], 0) && is_pool(&both[1], 1));
-    assert_eq!(rt; second.op, None);
-    assert!(rt; matches!(second.route, NamedRoute::Null));
-    assert_eq!(rt; third.op, Some(Op::Set));
-    let servers = children(&third.route).ok_or("children")?;
-    assert_eq!(rt; servers.len(), 2);
-    assert!(rt; is_server_of(&servers[0], 1, 0) && is_server_of(&servers[1], 1, 1));
-    assert!(rt; is_pool(default_policy.ok_or("a default")?, 1));
+    check(rt, first.op == Some(Op::Delete), "delete");
+    let (one, other) = two_children(&first.route).ok_or("two children")?;
+    check(rt, is_pool(one, 0) && is_pool(other, 1), "pools 0 and 1");
+    check(rt, second.op.is_none(), "no operation of a command");
+    check(rt, matches!(second.route, NamedRoute::Null), "a NullRoute");
+    check(rt, third.op == Some(Op::Set), "set");
+    let (one, other) = two_children(&third.route).ok_or("two children")?;
+    let are_servers = is_server_of(one, 1, 0) && is_server_of(other, 1, 1);
+    check(rt, are_servers, "servers 0 and 1 of pool 1");
+    check(rt, default_policy.is_some_and(is_pool_1), "the default");
     Ok(())
+}
+
+fn is_pool_1(route: &NamedRoute) -> bool {
+    is_pool(route, 1)
 }
 
 #[test]
 fn policies_are_in_byte_order(rt: HostRuntime) -> Result<(), Fail> {
-    let config = read_config(rt.alloc(), WHOLE.as_bytes())?;
-    check_selector(&rt, config.parts())
+    check_of(&rt, rt.alloc(), WHOLE, Asked::Policies)
 }
 
 fn check_selector(rt: &impl Abort, parts: &ConfigParts) -> Result<(), Fail> {
@@ -276,21 +309,24 @@ fn check_shadow(rt: &impl Abort, shadows: &[NamedShadow]) -> Result<(), Fail> {
     let [shadow] = shadows else {
         return Err(Fail::from("one shadow"));
     };
-    assert_eq!(rt; shadow.first, 1);
-    assert_eq!(rt; shadow.last, 18_446_744_073_709_551_615);
-    assert!(rt; is_pool(&shadow.target, 0));
+    check(rt, shadow.first == 1, "the first index");
+    check(
+        rt,
+        shadow.last == 18_446_744_073_709_551_615,
+        "the last index",
+    );
+    check(rt, is_pool(&shadow.target, 0), "the target");
     Ok(())
 }
 
 #[test]
 fn a_pool_has_a_hash_and_shadows(rt: HostRuntime) -> Result<(), Fail> {
-    let config = read_config(rt.alloc(), SHADOWED.as_bytes())?;
-    check_pool(&rt, config.parts())
+    check_of(&rt, rt.alloc(), SHADOWED, Asked::Hash)
 }
 
 fn check_pool(rt: &impl Abort, parts: &ConfigParts) -> Result<(), Fail> {
-    assert_eq!(rt; parts.pools.len(), 2);
-    assert_eq!(rt; parts.servers.find("c:1"), Some(ServerId(2)));
+    check(rt, parts.pools.len() == 2, "two pools");
+    check(rt, parts.servers.find("c:1") == Some(ServerId(2)), "c:1");
     match route_of(parts)? {
         NamedRoute::Pool {
             pool,
@@ -298,9 +334,9 @@ fn check_pool(rt: &impl Abort, parts: &ConfigParts) -> Result<(), Fail> {
             salt,
             shadows,
         } => {
-            assert_eq!(rt; *pool, 1);
-            assert_eq!(rt; *func, HashFunc::Crc32);
-            assert_eq!(rt; salt.as_slice(), b"x".as_slice());
+            check(rt, *pool == 1, "pool 1");
+            check(rt, *func == HashFunc::Crc32, "Crc32");
+            check(rt, salt.as_slice() == b"x".as_slice(), "the salt");
             check_shadow(rt, shadows.as_slice())
         }
         _ => Err(Fail::from("a pool")),
@@ -319,8 +355,7 @@ const IN_PHASES: &str = "{
 
 #[test]
 fn a_migration_takes_an_hour(rt: HostRuntime) -> Result<(), Fail> {
-    let config = read_config(rt.alloc(), IN_PHASES.as_bytes())?;
-    check_phases(&rt, config.parts())
+    check_of(&rt, rt.alloc(), IN_PHASES, Asked::Phases)
 }
 
 fn check_phases(rt: &impl Abort, parts: &ConfigParts) -> Result<(), Fail> {
@@ -331,10 +366,11 @@ fn check_phases(rt: &impl Abort, parts: &ConfigParts) -> Result<(), Fail> {
             start,
             interval,
         } => {
-            assert_eq!(rt; *start, 1_000);
-            assert_eq!(rt; *interval, 3_600);
-            assert!(rt; is_pool(&**to, 0));
-            assert!(rt; matches!(&**from, NamedRoute::WarmUp { exptime: 60, .. }));
+            check(rt, *start == 1_000, "the start");
+            check(rt, *interval == 3_600, "an hour");
+            check(rt, is_pool(&**to, 0), "pool 0");
+            let is_warm_up = matches!(&**from, NamedRoute::WarmUp { exptime: 60, .. });
+            check(rt, is_warm_up, "a WarmUpRoute");
             Ok(())
         }
         _ => Err(Fail::from("a migration")),
@@ -352,8 +388,7 @@ const BY_PREFIX: &str = "{
 
 #[test]
 fn prefixes_are_in_byte_order(rt: HostRuntime) -> Result<(), Fail> {
-    let config = read_config(rt.alloc(), BY_PREFIX.as_bytes())?;
-    check_prefixes(&rt, config.parts())
+    check_of(&rt, rt.alloc(), BY_PREFIX, Asked::Prefixes)
 }
 
 fn check_prefixes(rt: &impl Abort, parts: &ConfigParts) -> Result<(), Fail> {
@@ -362,10 +397,11 @@ fn check_prefixes(rt: &impl Abort, parts: &ConfigParts) -> Result<(), Fail> {
             let [first, second] = policies.as_slice() else {
                 return Err(Fail::from("two policies"));
             };
-            assert_eq!(rt; first.prefix.as_slice(), b"ab".as_slice());
-            assert!(rt; is_pool(&first.route, 0));
-            assert_eq!(rt; second.prefix.as_slice(), b"b".as_slice());
-            assert!(rt; matches!(wildcard.as_deref(), Some(NamedRoute::MissFailover(_))));
+            check(rt, first.prefix.as_slice() == b"ab".as_slice(), "ab");
+            check(rt, is_pool(&first.route, 0), "pool 0");
+            check(rt, second.prefix.as_slice() == b"b".as_slice(), "b");
+            let is_miss_failover = matches!(wildcard.as_deref(), Some(NamedRoute::MissFailover(_)));
+            check(rt, is_miss_failover, "a MissFailoverRoute");
             Ok(())
         }
         _ => Err(Fail::from("a selector")),

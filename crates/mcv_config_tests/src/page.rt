@@ -3,21 +3,32 @@
 //! A row is what becomes of a text and the text: the first route's handle with the number of its children, policies or
 //! shadows, or the number and path of a fault. In the tables `'` means a double quote and `^` a LF.
 
-use mcv_config::{NamedRoute, Pool, ReadFault, read_config};
+use crate::built::check_text;
+use mcv_config::{ConfigFault, ConfigParts, NamedRoute, Pool, ReadFault, read_config};
 use std::alloc::{AllocError, Global};
 use std::process::Abort;
 use std::test::Fail;
 
-/// The text of a row.
-fn meant(alloc: Global, row: &str) -> Result<String, AllocError> {
-    let mut text = String::new(alloc);
-    for sign in row.chars() {
+/// Adds what a piece of a row means.
+fn push_meant(text: &mut String, piece: &str) -> Result<(), AllocError> {
+    for sign in piece.chars() {
         match sign {
             '\'' => text.push('"')?,
             '^' => text.push('\n')?,
             other => text.push(other)?,
         }
     }
+    Ok(())
+}
+
+/// The text of a row between others.
+fn whole(alloc: Global, before: &[&str], row: &str, after: &str) -> Result<String, AllocError> {
+    let mut text = String::new(alloc);
+    for piece in before {
+        push_meant(&mut text, piece)?;
+    }
+    push_meant(&mut text, row)?;
+    push_meant(&mut text, after)?;
     Ok(text)
 }
 
@@ -40,36 +51,57 @@ fn head(route: &NamedRoute) -> (&'static str, usize) {
     }
 }
 
+/// The first route.
+fn read_as(alloc: Global, parts: &ConfigParts) -> Result<String, Fail> {
+    let entry = parts.entries.as_slice().first().ok_or("a route")?;
+    let (name, count) = head(&entry.route);
+    Ok(format!(in alloc; "{name} {count}")?)
+}
+
+fn refused_as(alloc: Global, fault: &ConfigFault) -> Result<String, AllocError> {
+    let number = fault.number();
+    let path = fault.path();
+    format!(in alloc; "{number} at {path}")
+}
+
 /// What becomes of a text.
 fn outcome(alloc: Global, text: &str) -> Result<String, Fail> {
     match read_config(alloc, text.as_bytes()) {
-        Ok(config) => {
-            let entry = config.parts().entries.as_slice().first().ok_or("a route")?;
-            let (name, count) = head(&entry.route);
-            Ok(format!(in alloc; "{name} {count}")?)
-        }
-        Err(ReadFault::Config(fault)) => {
-            let number = fault.number();
-            let path = fault.path();
-            Ok(format!(in alloc; "{number} at {path}")?)
-        }
+        Ok(config) => read_as(alloc, config.parts()),
+        Err(ReadFault::Config(fault)) => Ok(refused_as(alloc, &fault)?),
         Err(ReadFault::Memory) => Ok(String::from_str(alloc, "out of memory")?),
     }
 }
 
-/// Each row's text, between two others, becomes what the row says.
+/// What becomes of a row's text between others.
+fn outcome_between(alloc: Global, before: &[&str], row: &str, after: &str) -> Result<String, Fail> {
+    let text = whole(alloc, before, row, after)?;
+    outcome(alloc, text.as_str())
+}
+
+/// A row's text, between others, becomes what the row says.
+fn check_row(
+    rt: &impl Abort,
+    alloc: Global,
+    before: &[&str],
+    row: &str,
+    after: &str,
+) -> Result<(), Fail> {
+    let (expected, text) = row.split_once(" = ").ok_or("no row")?;
+    let found = outcome_between(alloc, before, text, after)?;
+    check_text(rt, row, found.as_str(), expected);
+    Ok(())
+}
+
 fn check_rows(
     rt: &impl Abort,
     alloc: Global,
     rows: &str,
-    before: &str,
+    before: &[&str],
     after: &str,
 ) -> Result<(), Fail> {
     for row in rows.lines() {
-        let (expected, text) = row.split_once(" = ").ok_or("no row")?;
-        let whole = format!(in alloc; "{before}{text}{after}")?;
-        let text = meant(alloc, whole.as_str())?;
-        assert_eq!(rt; outcome(alloc, text.as_str())?.as_str(), expected, "{row}");
+        check_row(rt, alloc, before, row, after)?;
     }
     Ok(())
 }
@@ -117,8 +149,8 @@ pool 0 = {'pools':{'A':{'servers':['a:1'],'name':'@B'}},'route':'PoolRoute|A'}
 
 #[test]
 fn the_text(rt: HostRuntime) -> Result<(), Fail> {
-    check_rows(&rt, rt.alloc(), TEXTS, "", "")?;
-    check_rows(&rt, rt.alloc(), OBJECTS, "", "")
+    check_rows(&rt, rt.alloc(), TEXTS, &[], "")?;
+    check_rows(&rt, rt.alloc(), OBJECTS, &[], "")
 }
 
 /// Server texts of pool A.
@@ -144,12 +176,12 @@ null 0 = 10.0.0.1:11211
 
 #[test]
 fn server_texts(rt: HostRuntime) -> Result<(), Fail> {
-    let before = "{'pools':{'A':{'servers':['";
+    let before = ["{'pools':{'A':{'servers':['"];
     check_rows(
         &rt,
         rt.alloc(),
         SERVERS,
-        before,
+        &before,
         "']}},'route':'NullRoute'}",
     )
 }
@@ -194,13 +226,13 @@ null 0 = /aaaaaaaaaaaaaaaaaa/bbbbbbbbbbbbbbbbbbb/
 
 #[test]
 fn routes_and_aliases(rt: HostRuntime) -> Result<(), Fail> {
-    check_rows(&rt, rt.alloc(), ENTRIES, "{'routes':", "}")?;
-    let before = "{'routes':[{'aliases':['";
+    check_rows(&rt, rt.alloc(), ENTRIES, &["{'routes':"], "}")?;
+    let before = ["{'routes':[{'aliases':['"];
     check_rows(
         &rt,
         rt.alloc(),
         ALIASES,
-        before,
+        &before,
         "'],'route':'NullRoute'}]}",
     )
 }
@@ -296,14 +328,13 @@ const POOLS: &str = "{'pools':{'A':{'servers':['a:1','b:1']},'B':{'servers':['c:
 
 #[test]
 fn handles(rt: HostRuntime) -> Result<(), Fail> {
-    check_rows(&rt, rt.alloc(), HANDLES, POOLS, "}")
+    check_rows(&rt, rt.alloc(), HANDLES, &[POOLS], "}")
 }
 
 /// Rows of a key of a PoolRoute over pool A.
 fn check_pool_rows(rt: &impl Abort, alloc: Global, rows: &str, key: &str) -> Result<(), Fail> {
-    let pool = "{'type':'PoolRoute','pool':'A','";
-    let before = format!(in alloc; "{POOLS}{pool}{key}':")?;
-    check_rows(rt, alloc, rows, before.as_str(), "}}")
+    let before = [POOLS, "{'type':'PoolRoute','pool':'A','", key, "':"];
+    check_rows(rt, alloc, rows, &before, "}}")
 }
 
 #[test]
@@ -360,10 +391,9 @@ operation_selector 1 = metaget
 #[test]
 fn short_forms_and_operations(rt: HostRuntime) -> Result<(), Fail> {
     let alloc = rt.alloc();
-    let before = format!(in alloc; "{POOLS}'")?;
-    check_rows(&rt, alloc, SHORT_FORMS, before.as_str(), "'}")?;
-    let before = "{'route':{'type':'OperationSelectorRoute','operation_policies':{'";
-    check_rows(&rt, alloc, OPERATIONS, before, "':'NullRoute'}}}")
+    check_rows(&rt, alloc, SHORT_FORMS, &[POOLS, "'"], "'}")?;
+    let before = ["{'route':{'type':'OperationSelectorRoute','operation_policies':{'"];
+    check_rows(&rt, alloc, OPERATIONS, &before, "':'NullRoute'}}}")
 }
 
 /// Each name that is left out, where it is: the path of its fault, and the text with `~` in place of the name.
@@ -387,27 +417,47 @@ const LEFT_OUT: &str = "\
 /route/children/0 = {'route':{'type':'AllSyncRoute','children':['~']}} = @import %macro%
 /routes/0/aliases/0 = {'routes':[{'aliases':['~'],'route':'NullRoute'}]} = /*/*/ /*/a/ /a/*/";
 
+/// The fault of a name that is left out, where its path has `~` in place of the name.
+fn left_out_at(alloc: Global, path: &str, name: &str) -> Result<String, AllocError> {
+    let mut text = String::from_str(alloc, "10 at ")?;
+    for sign in path.chars() {
+        match sign {
+            '~' => text.push_str(name)?,
+            other => text.push(other)?,
+        }
+    }
+    Ok(text)
+}
+
+/// A name between others has that fault.
+fn check_left_out(
+    rt: &impl Abort,
+    alloc: Global,
+    path: &str,
+    text: &str,
+    name: &str,
+) -> Result<(), Fail> {
+    let (before, after) = text.split_once('~').ok_or("no place")?;
+    let found = outcome_between(alloc, &[before], name, after)?;
+    let expected = left_out_at(alloc, path, name)?;
+    check_text(rt, text, found.as_str(), expected.as_str());
+    Ok(())
+}
+
+/// Each name of a row has that fault.
+fn check_names(rt: &impl Abort, alloc: Global, row: &str) -> Result<(), Fail> {
+    let (path, rest) = row.split_once(" = ").ok_or("no row")?;
+    let (text, names) = rest.split_once(" = ").ok_or("no names")?;
+    for name in names.split(' ') {
+        check_left_out(rt, alloc, path, text, name)?;
+    }
+    Ok(())
+}
+
 #[test]
 fn what_is_left_out(rt: HostRuntime) -> Result<(), Fail> {
-    let alloc = rt.alloc();
     for row in LEFT_OUT.lines() {
-        let (path, rest) = row.split_once(" = ").ok_or("no row")?;
-        let (text, names) = rest.split_once(" = ").ok_or("no names")?;
-        let (before, after) = text.split_once('~').ok_or("no place")?;
-        for name in names.split(' ') {
-            let whole = format!(in alloc; "{before}{name}{after}")?;
-            let given = outcome(alloc, meant(alloc, whole.as_str())?.as_str())?;
-            match path.split_once('~') {
-                Some((above, _)) => {
-                    let expected = format!(in alloc; "10 at {above}{name}")?;
-                    assert_eq!(rt; given.as_str(), expected.as_str(), "{whole}");
-                }
-                None => {
-                    let expected = format!(in alloc; "10 at {path}")?;
-                    assert_eq!(rt; given.as_str(), expected.as_str(), "{whole}");
-                }
-            }
-        }
+        check_names(&rt, rt.alloc(), row)?;
     }
     Ok(())
 }
@@ -424,5 +474,5 @@ const PATHS: &str = "\
 
 #[test]
 fn paths_of_faults(rt: HostRuntime) -> Result<(), Fail> {
-    check_rows(&rt, rt.alloc(), PATHS, "", "")
+    check_rows(&rt, rt.alloc(), PATHS, &[], "")
 }

@@ -1,6 +1,6 @@
 //! Routes that are built of a text.
 
-use crate::built::routes;
+use crate::built::{check, check_text, routes};
 use mcv_base::{Moment, Position, Prefix};
 use mcv_route::Routes;
 use std::alloc::{AllocError, Global};
@@ -80,7 +80,20 @@ fn shown(alloc: Global, routes: &Routes, number: usize, place: &str) -> Result<S
     Ok(text)
 }
 
-/// Each row is a position of a route and what leaf is there.
+/// A row is a position of a route and what leaf is there.
+fn check_leaf(
+    rt: &impl Abort,
+    alloc: Global,
+    routes: &Routes,
+    number: usize,
+    row: &str,
+) -> Result<(), Fail> {
+    let (place, leaf) = row.split_once(" = ").ok_or("no row")?;
+    let found = shown(alloc, routes, number, place)?;
+    check_text(rt, row, found.as_str(), leaf);
+    Ok(())
+}
+
 fn check_leaves(
     rt: &impl Abort,
     alloc: Global,
@@ -89,14 +102,30 @@ fn check_leaves(
     rows: &str,
 ) -> Result<(), Fail> {
     for row in rows.lines() {
-        let (place, leaf) = row.split_once(" = ").ok_or("no row")?;
-        assert_eq!(rt;
-            shown(alloc, routes, number, place)?.as_str(),
-            leaf,
-            "{row}"
-        );
+        check_leaf(rt, alloc, routes, number, row)?;
     }
     Ok(())
+}
+
+/// What is asked of routes: the leaves of the route of a number, the numbers of prefixes, or the breaks.
+#[derive(Clone, Copy)]
+enum Asked {
+    Leaves(usize, &'static str),
+    Numbers,
+    Breaks,
+}
+
+fn check_routes(rt: &impl Abort, alloc: Global, routes: &Routes, asked: Asked) -> Result<(), Fail> {
+    match asked {
+        Asked::Leaves(number, rows) => check_leaves(rt, alloc, routes, number, rows),
+        Asked::Numbers => Ok(check_numbers(rt, routes)),
+        Asked::Breaks => Ok(check_breaks(rt, routes)),
+    }
+}
+
+fn check_of(rt: &impl Abort, alloc: Global, text: &str, asked: Asked) -> Result<(), Fail> {
+    let routes = routes(rt, alloc, text)?;
+    check_routes(rt, alloc, &routes, asked)
 }
 
 const LEAVES: &str = "\
@@ -108,9 +137,7 @@ const LEAVES: &str = "\
 
 #[test]
 fn leaves_have_their_pools(rt: HostRuntime) -> Result<(), Fail> {
-    let alloc = rt.alloc();
-    let routes = routes(&rt, alloc, TEXT)?;
-    check_leaves(&rt, alloc, &routes, 0, LEAVES)
+    check_of(&rt, rt.alloc(), TEXT, Asked::Leaves(0, LEAVES))
 }
 
 const ELSEWHERE: &str = "\
@@ -123,31 +150,36 @@ const ELSEWHERE: &str = "\
 
 #[test]
 fn no_leaf_is_elsewhere(rt: HostRuntime) -> Result<(), Fail> {
-    let alloc = rt.alloc();
-    let routes = routes(&rt, alloc, TEXT)?;
-    check_leaves(&rt, alloc, &routes, 0, ELSEWHERE)?;
-    check_leaves(&rt, alloc, &routes, 1, "2 = none")
+    check_of(&rt, rt.alloc(), TEXT, Asked::Leaves(0, ELSEWHERE))?;
+    check_of(&rt, rt.alloc(), TEXT, Asked::Leaves(1, "2 = none"))
+}
+
+fn number_is(routes: &Routes, prefix: &[u8], number: Option<usize>) -> bool {
+    routes.route_of(&Prefix::of(prefix)) == number
+}
+
+fn check_numbers(rt: &impl Abort, routes: &Routes) {
+    check(rt, number_is(routes, b"/././", Some(0)), "the only route");
+    check(rt, number_is(routes, b"/a/b/", None), "no other route");
+    check(rt, routes.symbols().len() == 3, "three symbols");
+    check(rt, routes.since(Moment(u64::MAX)).is_none(), "no break");
+    check(rt, routes.route(0).is_some(), "route 0");
+    check(rt, routes.route(1).is_none(), "no route 1");
 }
 
 #[test]
 fn prefixes_select_routes(rt: HostRuntime) -> Result<(), Fail> {
-    let alloc = rt.alloc();
-    let routes = routes(&rt, alloc, TEXT)?;
-    assert_eq!(rt; routes.route_of(&Prefix::of(b"/././")), Some(0));
-    assert_eq!(rt; routes.route_of(&Prefix::of(b"/a/b/")), None);
-    assert_eq!(rt; routes.symbols().len(), 3);
-    assert_eq!(rt; routes.since(Moment(u64::MAX)), None);
-    assert!(rt; routes.route(0).is_some());
-    assert!(rt; routes.route(1).is_none());
-    Ok(())
+    check_of(&rt, rt.alloc(), TEXT, Asked::Numbers)
 }
 
-#[test]
-fn a_migration_has_three_breaks(rt: HostRuntime) -> Result<(), Fail> {
-    let alloc = rt.alloc();
-    let routes = routes(&rt, alloc, MIGRATION)?;
+/// Whether a moment is in this era, which this break opened.
+fn is_in(routes: &Routes, moment: u64, since: Option<u64>, era: usize) -> bool {
+    routes.since(Moment(moment)) == since.map(Moment) && routes.era_of(Moment(moment)) == era
+}
+
+fn check_breaks(rt: &impl Abort, routes: &Routes) {
     let breaks = [Moment(1000), Moment(4600), Moment(8200)];
-    assert_eq!(rt; routes.breaks(), breaks.as_slice());
+    check(rt, routes.breaks() == breaks.as_slice(), "the breaks");
     let cases: [(u64, Option<u64>, usize); 5] = [
         (999, None, 0),
         (1000, Some(1000), 1),
@@ -156,10 +188,13 @@ fn a_migration_has_three_breaks(rt: HostRuntime) -> Result<(), Fail> {
         (u64::MAX, Some(8200), 3),
     ];
     for (moment, since, era) in cases {
-        assert_eq!(rt; routes.since(Moment(moment)), since.map(Moment));
-        assert_eq!(rt; routes.era_of(Moment(moment)), era);
+        assert!(rt; is_in(routes, moment, since, era), "{moment}");
     }
-    Ok(())
+}
+
+#[test]
+fn a_migration_has_three_breaks(rt: HostRuntime) -> Result<(), Fail> {
+    check_of(&rt, rt.alloc(), MIGRATION, Asked::Breaks)
 }
 
 const SIDES: &str = "\
@@ -172,9 +207,7 @@ const SIDES: &str = "\
 
 #[test]
 fn sides_and_shadows_have_places(rt: HostRuntime) -> Result<(), Fail> {
-    let alloc = rt.alloc();
-    let routes = routes(&rt, alloc, MIGRATION)?;
-    check_leaves(&rt, alloc, &routes, 0, SIDES)
+    check_of(&rt, rt.alloc(), MIGRATION, Asked::Leaves(0, SIDES))
 }
 
 const SELECTED: &str = "\
@@ -186,7 +219,5 @@ const SELECTED: &str = "\
 
 #[test]
 fn the_wildcard_comes_after_all_prefixes(rt: HostRuntime) -> Result<(), Fail> {
-    let alloc = rt.alloc();
-    let routes = routes(&rt, alloc, PREFIXES)?;
-    check_leaves(&rt, alloc, &routes, 0, SELECTED)
+    check_of(&rt, rt.alloc(), PREFIXES, Asked::Leaves(0, SELECTED))
 }

@@ -8,7 +8,7 @@ use std::sync::Arc;
 use std::test::Fail;
 
 /// A pool of these servers, with its shadows.
-pub fn shadowed(
+fn shadowed(
     alloc: Global,
     symbol: usize,
     servers: &[ServerId],

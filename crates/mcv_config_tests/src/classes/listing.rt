@@ -1,7 +1,7 @@
 //! The classes of routes that were read, by the routes' numbers.
 
 use super::words::{NESTED, RESTS, shown};
-use crate::built::routes;
+use crate::built::{check, check_text, routes};
 use mcv_base::Rest;
 use mcv_classes::{Class, class_of, classes};
 use mcv_route::Routes;
@@ -35,35 +35,68 @@ fn classes_at(alloc: Global, routes: &Routes, number: usize) -> Result<Vec<Class
     Ok(classes(alloc, routes, number)?)
 }
 
+/// Whether the class of a rest at route 0 has this word.
+fn has_word(alloc: Global, routes: &Routes, rest: &str, word: &str) -> Result<bool, Fail> {
+    let rest = Rest::of(rest.as_bytes()).ok_or("no rest")?;
+    let class = class_at(alloc, routes, 0, &rest)?;
+    Ok(class.word() == word.as_bytes())
+}
+
 fn check_rests(rt: &impl Abort, alloc: Global, routes: &Routes) -> Result<(), Fail> {
     for row in RESTS.split('|') {
         let (rest, word) = row.split_once(' ').ok_or("a row without a blank")?;
-        let rest = Rest::of(rest.as_bytes()).ok_or("no rest")?;
-        let class = class_at(alloc, routes, 0, &rest)?;
-        assert_eq!(rt; class.word(), word.as_bytes());
+        assert!(rt; has_word(alloc, routes, rest, word)?, "{row}");
     }
     Ok(())
 }
 
-#[test]
-fn rests_have_classes(rt: HostRuntime) -> Result<(), Fail> {
-    let alloc = rt.alloc();
-    let routes = routes(&rt, alloc, TEXT)?;
-    check_rests(&rt, alloc, &routes)
+/// What is asked of routes.
+#[derive(Clone, Copy)]
+enum Asked {
+    Rests,
+    Classes,
+    First,
 }
 
-fn shown_at(alloc: Global, routes: &Routes, number: usize) -> Result<String, Fail> {
+fn check_routes(rt: &impl Abort, alloc: Global, routes: &Routes, asked: Asked) -> Result<(), Fail> {
+    match asked {
+        Asked::Rests => check_rests(rt, alloc, routes),
+        Asked::Classes => check_classes(rt, alloc, routes),
+        Asked::First => check_first(rt, alloc, routes),
+    }
+}
+
+fn check_of(rt: &impl Abort, alloc: Global, text: &str, asked: Asked) -> Result<(), Fail> {
+    let routes = routes(rt, alloc, text)?;
+    check_routes(rt, alloc, &routes, asked)
+}
+
+#[test]
+fn rests_have_classes(rt: HostRuntime) -> Result<(), Fail> {
+    check_of(&rt, rt.alloc(), TEXT, Asked::Rests)
+}
+
+fn check_shown(
+    rt: &impl Abort,
+    alloc: Global,
+    routes: &Routes,
+    number: usize,
+    wanted: &str,
+) -> Result<(), Fail> {
     let classes = classes_at(alloc, routes, number)?;
-    shown(alloc, classes.as_slice())
+    let found = shown(alloc, classes.as_slice())?;
+    check_text(rt, "classes", found.as_str(), wanted);
+    Ok(())
+}
+
+fn check_classes(rt: &impl Abort, alloc: Global, routes: &Routes) -> Result<(), Fail> {
+    check_shown(rt, alloc, routes, 0, NESTED)?;
+    check_shown(rt, alloc, routes, 1, "[] [33]|")
 }
 
 #[test]
 fn routes_have_classes(rt: HostRuntime) -> Result<(), Fail> {
-    let alloc = rt.alloc();
-    let routes = routes(&rt, alloc, TEXT)?;
-    assert_eq!(rt; shown_at(alloc, &routes, 0)?.as_str(), NESTED);
-    assert_eq!(rt; shown_at(alloc, &routes, 1)?.as_str(), "[] [33]|");
-    Ok(())
+    check_of(&rt, rt.alloc(), TEXT, Asked::Classes)
 }
 
 /// A configuration with a policy for each key byte that JSON text can have as a name of its own: 33 to 126.
@@ -87,18 +120,16 @@ fn one_byte_policies(alloc: Global) -> Result<String, AllocError> {
 /// The first class has the empty word.
 fn check_first(rt: &impl Abort, alloc: Global, routes: &Routes) -> Result<(), Fail> {
     let classes = classes_at(alloc, routes, 0)?;
-    assert_eq!(rt; classes.len(), 95);
+    check(rt, classes.len() == 95, "95 classes");
     let first = classes.first().ok_or("no class")?;
-    assert!(rt; first.word().is_empty());
+    check(rt, first.word().is_empty(), "the empty word");
     let member = first.member().ok_or("no member")?;
-    assert_eq!(rt; member.as_bytes(), [128].as_slice());
+    check(rt, member.as_bytes() == [128].as_slice(), "the byte 128");
     Ok(())
 }
 
 #[test]
 fn the_empty_word_takes_the_least_byte_without_a_policy(rt: HostRuntime) -> Result<(), Fail> {
-    let alloc = rt.alloc();
-    let text = one_byte_policies(alloc)?;
-    let routes = routes(&rt, alloc, text.as_str())?;
-    check_first(&rt, alloc, &routes)
+    let text = one_byte_policies(rt.alloc())?;
+    check_of(&rt, rt.alloc(), text.as_str(), Asked::First)
 }

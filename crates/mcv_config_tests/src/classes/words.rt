@@ -1,5 +1,6 @@
 //! The table of the class words of a route.
 
+use crate::built::{check, check_text};
 use mcv_base::Rest;
 use mcv_classes::{Class, ClassTable};
 use mcv_route::{PrefixPolicy, Route};
@@ -59,12 +60,17 @@ fn table_of(alloc: Global, route: Route) -> Result<ClassTable, AllocError> {
     ClassTable::new(alloc, &route)
 }
 
+/// Whether the class of a rest has this word.
+fn has_word(alloc: Global, table: &ClassTable, rest: &str, word: &str) -> Result<bool, Fail> {
+    let rest = Rest::of(rest.as_bytes()).ok_or("no rest")?;
+    let class = table.class_of(alloc, &rest)?;
+    Ok(class.word() == word.as_bytes())
+}
+
 fn check_rests(rt: &impl Abort, alloc: Global, table: &ClassTable) -> Result<(), Fail> {
     for row in RESTS.split('|') {
         let (rest, word) = row.split_once(' ').ok_or("a row without a blank")?;
-        let rest = Rest::of(rest.as_bytes()).ok_or("no rest")?;
-        let class = table.class_of(alloc, &rest)?;
-        assert_eq!(rt; class.word(), word.as_bytes());
+        assert!(rt; has_word(alloc, table, rest, word)?, "{row}");
     }
     Ok(())
 }
@@ -85,7 +91,7 @@ fn all_shown(alloc: Global, table: &ClassTable) -> Result<String, Fail> {
 fn classes_have_members(rt: HostRuntime) -> Result<(), Fail> {
     let alloc = rt.alloc();
     let table = table_of(alloc, nested(alloc)?)?;
-    assert_eq!(rt; all_shown(alloc, &table)?.as_str(), NESTED);
+    check_text(&rt, "nested", all_shown(alloc, &table)?.as_str(), NESTED);
     Ok(())
 }
 
@@ -98,9 +104,9 @@ fn check_classes(
     count: usize,
 ) -> Result<(), Fail> {
     let classes = table.classes(alloc)?;
-    assert_eq!(rt; classes.len(), count);
+    check(rt, classes.len() == count, "so many classes");
     let first = classes.first().ok_or("no class")?;
-    assert_eq!(rt; first.word(), word);
+    check(rt, first.word() == word, "the first word");
     Ok(())
 }
 
@@ -109,7 +115,7 @@ fn the_least_free_byte_is_a_member(rt: HostRuntime) -> Result<(), Fail> {
     let alloc = rt.alloc();
     let table = table_of(alloc, one_byte_policies(alloc, 126)?)?;
     let member = table.member_of(b"").ok_or("no member")?;
-    assert_eq!(rt; member.as_bytes(), [128].as_slice());
+    check(&rt, member.as_bytes() == [128].as_slice(), "the member");
     check_classes(&rt, alloc, &table, b"", 95)
 }
 
