@@ -39,13 +39,13 @@ fn number_reported<'a>(
 }
 
 /// What is reported where the leaf and the legs have these positions.
-fn reported_at(
+fn reported_at<'a>(
     certificate: &Certificate,
-    leaf: &Position,
-    first: &Position,
-    second: &Position,
-    third: &Position,
-    fourth: &Position,
+    leaf: &'a Position,
+    first: &'a Position,
+    second: &'a Position,
+    third: &'a Position,
+    fourth: &'a Position,
 ) -> u8
     requires first { first.now ≡ 0 ∷ 0 ∷ [] }
     requires second { second.now ≡ 0 ∷ 1 ∷ [] }

@@ -111,12 +111,12 @@ fn push_picked<'a>(
 
 /// Adds what is picked of three legs, the first of which has the server 7 and the others 8, for the last of them and for
 /// a leaf with another symbol and the server 7.
-fn push_picked_at(
+fn push_picked_at<'a>(
     alloc: Global,
     text: &mut Vec<u8>,
-    place: &Position,
-    next: &Position,
-    last: &Position,
+    place: &'a Position,
+    next: &'a Position,
+    last: &'a Position,
 ) -> Result<(), AllocError> {
     let seven = [ServerId(7)];
     let eight = [ServerId(8)];
