@@ -38,6 +38,14 @@ fn number_reported<'a>(
     }
 }
 
+const BOTH: [ServerId; 2] = [ServerId(7), ServerId(8)];
+
+const OTHERS: [ServerId; 2] = [ServerId(7), ServerId(9)];
+
+const SEVEN: [ServerId; 1] = [ServerId(7)];
+
+const EIGHT: [ServerId; 1] = [ServerId(8)];
+
 /// What is reported where the leaf and the legs have these positions.
 fn reported_at<'a>(
     certificate: &Certificate,
@@ -52,35 +60,31 @@ fn reported_at<'a>(
     requires third { third.now ≡ 0 ∷ 2 ∷ [] }
     requires fourth { fourth.now ≡ 0 ∷ 3 ∷ [] }
 {
-    let both = [ServerId(7), ServerId(8)];
-    let others = [ServerId(7), ServerId(9)];
-    let seven = [ServerId(7)];
-    let eight = [ServerId(8)];
     let readable = [Leg {
         position: leaf,
         symbol: 0,
-        servers: &both,
+        servers: &BOTH,
     }];
     let acknowledged = [
         Leg {
             position: first,
             symbol: 1,
-            servers: &seven,
+            servers: &SEVEN,
         },
         Leg {
             position: second,
             symbol: 1,
-            servers: &eight,
+            servers: &EIGHT,
         },
         Leg {
             position: third,
             symbol: 0,
-            servers: &others,
+            servers: &OTHERS,
         },
         Leg {
             position: fourth,
             symbol: 0,
-            servers: &both,
+            servers: &BOTH,
         },
     ];
     number_reported(b"", &readable, &acknowledged, certificate)

@@ -8,6 +8,10 @@ use mcv_picks::Picks;
 use std::alloc::{AllocError, Global};
 use std::test::Fail;
 
+const SEVEN: [ServerId; 1] = [ServerId(7)];
+
+const EIGHT: [ServerId; 1] = [ServerId(8)];
+
 /// Adds where the leg is.
 fn push_leg(text: &mut Vec<u8>, leg: Option<&Leg>) -> Result<(), AllocError> {
     match leg {
@@ -118,29 +122,27 @@ fn push_picked_at<'a>(
     next: &'a Position,
     last: &'a Position,
 ) -> Result<(), AllocError> {
-    let seven = [ServerId(7)];
-    let eight = [ServerId(8)];
     let legs = [
         Leg {
             position: place,
             symbol: 1,
-            servers: &seven,
+            servers: &SEVEN,
         },
         Leg {
             position: next,
             symbol: 1,
-            servers: &eight,
+            servers: &EIGHT,
         },
         Leg {
             position: last,
             symbol: 1,
-            servers: &eight,
+            servers: &EIGHT,
         },
     ];
     let other = Leg {
         position: last,
         symbol: 0,
-        servers: &seven,
+        servers: &SEVEN,
     };
     push_picked(alloc, text, &legs, &legs[2], &other)
 }
