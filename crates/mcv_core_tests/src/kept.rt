@@ -5,7 +5,6 @@ use crate::model::{Call, Leg, Model, Spot};
 use mcv_base::{LegId, Outcome, ServerId};
 use mcv_core::{Core, Place};
 use mcv_pools::Fnv;
-use std::alloc::Global;
 
 /// Where the core is to have a leg at this spot.
 fn place_of(spot: Spot) -> Option<Place> {
@@ -64,12 +63,12 @@ impl Model<'_> {
     }
 
     /// Whether the call is a delete that has a reply other than an error, taken or not.
-    fn is_acknowledged(&self, alloc: Global, call: &Call) -> Result<bool, Amiss> {
+    fn is_acknowledged(&self, rt: &HostRuntime, call: &Call) -> bool {
         if !call.op.is_delete() {
-            return Ok(false);
+            return false;
         }
-        let outcome = self.status(alloc, call)?.outcome(&call.answered);
-        Ok(matches!(outcome, Some(Outcome::Good | Outcome::Soft)))
+        let outcome = self.status(rt, call).outcome(&call.answered);
+        matches!(outcome, Some(Outcome::Good | Outcome::Soft))
     }
 
     /// Whether the call has a counted delete leg to the server that was performed, or that the core has, queued or
@@ -85,10 +84,10 @@ impl Model<'_> {
     }
 
     /// Checks that deletes are kept. Gives how many legs they keep.
-    pub(crate) fn check_kept(&self, alloc: Global, core: &Core<Fnv>) -> Result<usize, Amiss> {
+    pub(crate) fn check_kept(&self, rt: &HostRuntime, core: &Core<Fnv>) -> Result<usize, Amiss> {
         let mut count: usize = 0;
         for (number, call) in self.calls.iter().enumerate() {
-            if self.is_acknowledged(alloc, call)? {
+            if self.is_acknowledged(rt, call) {
                 count = count.saturating_add(self.check_call(core, number, call)?);
             }
         }

@@ -26,6 +26,8 @@ mod readable;
 #[cfg(test)]
 mod rows;
 #[cfg(test)]
+mod script;
+#[cfg(test)]
 mod setup;
 #[cfg(test)]
 mod spooled;
