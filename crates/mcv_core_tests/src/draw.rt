@@ -3,6 +3,7 @@
 use crate::model::{Model, Spot};
 use crate::setup::{bytes, shared};
 use mcv_base::{FixedReply, Op, Parts, Reply, ServerId};
+use std::process::Abort;
 
 /// What a server says to a leg.
 #[derive(Clone, Copy, Debug)]
@@ -82,7 +83,7 @@ impl Dice {
 
 impl Say {
     /// The reply. A value or an error line names its leg.
-    fn reply(self, rt: &HostRuntime, leg: usize) -> Option<Reply> {
+    fn reply(self, rt: &(impl AllocGlobal + Abort), leg: usize) -> Option<Reply> {
         let text = (leg as u64).to_be_bytes();
         match self {
             Say::Hit(cas) => Some(Reply::Hit {
@@ -96,7 +97,7 @@ impl Say {
     }
 
     /// The same, as the core takes it.
-    pub(crate) fn parts(self, rt: &HostRuntime, leg: usize) -> Parts {
+    pub(crate) fn parts(self, rt: &(impl AllocGlobal + Abort), leg: usize) -> Parts {
         if let Say::Short(reply) = self {
             return Parts::fixed(reply);
         }

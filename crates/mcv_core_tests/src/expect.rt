@@ -7,6 +7,7 @@ use mcv_base::{Moment, Outcome, Part, Reply, ServerId};
 use mcv_core::{Answer, CoreFault, Place};
 use mcv_route::Answered;
 use mcv_rules::{Source, Status};
+use std::process::Abort;
 
 /// What the core is to answer.
 #[derive(Clone, Copy)]
@@ -136,7 +137,7 @@ impl Model<'_> {
     }
 
     /// An error of a server, or what no server says to the leg's operation, is a failure.
-    fn is_failure(&self, rt: &HostRuntime, leg: usize, say: Say) -> bool {
+    fn is_failure(&self, rt: &(impl AllocGlobal + Abort), leg: usize, say: Say) -> bool {
         let parts = say.parts(rt, leg);
         match self.legs.get(leg) {
             Some(leg) => !parts.may_answer(leg.launch.op) || parts.outcome() == Outcome::Error,
@@ -152,7 +153,7 @@ impl Model<'_> {
         }
     }
 
-    fn of_take(&self, rt: &HostRuntime, number: usize) -> Expected {
+    fn of_take(&self, rt: &(impl AllocGlobal + Abort), number: usize) -> Expected {
         match self.calls.get(number) {
             Some(call) if !self.has_ended(number, call) => {
                 Expected::Reply(number, self.source(rt, call))
@@ -162,7 +163,7 @@ impl Model<'_> {
     }
 
     /// Where the call's reply is; None where there is none to be taken.
-    fn source(&self, rt: &HostRuntime, call: &Call) -> Option<Source> {
+    fn source(&self, rt: &(impl AllocGlobal + Abort), call: &Call) -> Option<Source> {
         match self.status(rt, call) {
             Status::Replied(source) if !call.taken => Some(source),
             _ => None,
@@ -170,7 +171,7 @@ impl Model<'_> {
     }
 
     /// What the core is to answer.
-    pub(crate) fn expected(&self, rt: &HostRuntime, deed: Deed) -> Expected {
+    pub(crate) fn expected(&self, rt: &(impl AllocGlobal + Abort), deed: Deed) -> Expected {
         match deed {
             Deed::Begin(_, key) => self.of_begin(key),
             Deed::Next(server) => self.of_sending(server, Spot::Waiting),

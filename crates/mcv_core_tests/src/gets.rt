@@ -5,6 +5,7 @@ use crate::setup::{A, ONE, core_of, request};
 use mcv_base::{FixedReply, Op, Part, Parts, Request};
 use mcv_core::{Core, CoreFault, Dispatcher, Place};
 use mcv_pools::Fnv;
+use std::process::Abort;
 use std::sync::Arc;
 
 const HIT: &str = "\
@@ -31,7 +32,12 @@ fn a_leg_has_what_its_call_asks(rt: HostRuntime) {
 }
 
 /// Begins so many calls.
-fn begin_many(rt: &HostRuntime, core: &mut Core<Fnv>, request: &Arc<Request>, count: u64) {
+fn begin_many(
+    rt: &(impl AllocGlobal + Abort),
+    core: &mut Core<Fnv>,
+    request: &Arc<Request>,
+    count: u64,
+) {
     for number in 0..count {
         let request = Arc::try_clone(request).expect(rt, "memory");
         let begun = core.begin(rt.alloc(), request, 0);
@@ -58,14 +64,23 @@ fn is_answered(core: &mut Dispatcher) -> bool {
 }
 
 /// Whether a get begins, has a miss and is taken.
-fn is_missed(rt: &HostRuntime, core: &mut Core<Fnv>, request: &Arc<Request>) -> bool {
+fn is_missed(
+    rt: &(impl AllocGlobal + Abort),
+    core: &mut Core<Fnv>,
+    request: &Arc<Request>,
+) -> bool {
     let request = Arc::try_clone(request).expect(rt, "memory");
     let call = core.begin(rt.alloc(), request, 0).expect(rt, "a call");
     let events = core.events();
     is_answered(events) && matches!(events.take(call), Ok(Some(Part::Fixed(FixedReply::Miss))))
 }
 
-fn miss_many(rt: &HostRuntime, core: &mut Core<Fnv>, request: &Arc<Request>, count: u64) {
+fn miss_many(
+    rt: &(impl AllocGlobal + Abort),
+    core: &mut Core<Fnv>,
+    request: &Arc<Request>,
+    count: u64,
+) {
     for number in 0..count {
         assert!(rt; is_missed(rt, core, request), "get {number}");
     }

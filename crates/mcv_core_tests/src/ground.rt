@@ -6,6 +6,7 @@ use mcv_base::{Moment, Op, Rest, ServerId, hashed_part, split_key};
 use mcv_check::Accepted;
 use mcv_pools::{Choice, Fnv, choose};
 use mcv_route::{Route, Routes};
+use std::process::Abort;
 use std::sync::Arc;
 
 /// A key word, with what its call asks by.
@@ -36,7 +37,7 @@ pub(crate) struct Ground {
 /// The words of the keys.
 const WORDS: [&[u8]; 3] = [b"a", b"ab|#|c", b"/x/y/bb"];
 
-fn key_of(rt: &HostRuntime, routes: &Routes, word: &'static [u8]) -> Key {
+fn key_of(rt: &(impl AllocGlobal + Abort), routes: &Routes, word: &'static [u8]) -> Key {
     let (prefix, rest) = split_key(word).expect(rt, "a key");
     let choice = choose(rt.alloc(), &Fnv, routes.symbols(), hashed_part(&rest));
     Key {
@@ -47,7 +48,7 @@ fn key_of(rt: &HostRuntime, routes: &Routes, word: &'static [u8]) -> Key {
     }
 }
 
-fn keys_of(rt: &HostRuntime, routes: &Routes) -> Vec<Key> {
+fn keys_of(rt: &(impl AllocGlobal + Abort), routes: &Routes) -> Vec<Key> {
     let mut keys = Vec::new(rt.alloc());
     for word in WORDS {
         keys.push(key_of(rt, routes, word)).expect(rt, "memory");
@@ -62,7 +63,7 @@ fn route_of<'a>(routes: &'a Routes, key: &Key) -> Option<&'a Route> {
 
 /// The servers that can be read of a key in an era.
 fn servers_of(
-    rt: &HostRuntime,
+    rt: &(impl AllocGlobal + Abort),
     routes: &Routes,
     key: &Key,
     since: Option<Moment>,
@@ -77,7 +78,7 @@ fn servers_of(
 
 impl Ground {
     /// None where the routes aren't covered.
-    pub(crate) fn of(rt: &HostRuntime, text: &str) -> Option<Ground> {
+    pub(crate) fn of(rt: &(impl AllocGlobal + Abort), text: &str) -> Option<Ground> {
         let accepted = accepted_of(rt, text)?;
         let keys = keys_of(rt, accepted.routes());
         Some(Ground {
@@ -88,14 +89,14 @@ impl Ground {
     }
 
     /// Takes in what can be read of each key.
-    pub(crate) fn read(&mut self, rt: &HostRuntime) {
+    pub(crate) fn read(&mut self, rt: &(impl AllocGlobal + Abort)) {
         for key in 0..self.keys.len() {
             self.read_key(rt, key);
         }
     }
 
     /// Takes in what can be read of a key, era by era.
-    fn read_key(&mut self, rt: &HostRuntime, key: usize) {
+    fn read_key(&mut self, rt: &(impl AllocGlobal + Abort), key: usize) {
         self.read_in(rt, key, None);
         for place in 0..self.routes().breaks().len() {
             let since = self.routes().breaks().get(place).copied();
@@ -103,7 +104,7 @@ impl Ground {
         }
     }
 
-    fn read_in(&mut self, rt: &HostRuntime, number: usize, since: Option<Moment>) {
+    fn read_in(&mut self, rt: &(impl AllocGlobal + Abort), number: usize, since: Option<Moment>) {
         let key = self.keys.get(number).expect(rt, "a key");
         let row = Readable {
             key: number,

@@ -5,6 +5,7 @@ use crate::model::{Call, Leg, Model, Spot};
 use mcv_base::{LegId, Outcome, ServerId};
 use mcv_core::{Core, Place};
 use mcv_pools::Fnv;
+use std::process::Abort;
 
 /// Where the core is to have a leg at this spot.
 fn place_of(spot: Spot) -> Option<Place> {
@@ -63,7 +64,7 @@ impl Model<'_> {
     }
 
     /// Whether the call is a delete that has a reply other than an error, taken or not.
-    fn is_acknowledged(&self, rt: &HostRuntime, call: &Call) -> bool {
+    fn is_acknowledged(&self, rt: &(impl AllocGlobal + Abort), call: &Call) -> bool {
         if !call.op.is_delete() {
             return false;
         }
@@ -84,7 +85,11 @@ impl Model<'_> {
     }
 
     /// Checks that deletes are kept. Gives how many legs they keep.
-    pub(crate) fn check_kept(&self, rt: &HostRuntime, core: &Core<Fnv>) -> Result<usize, Amiss> {
+    pub(crate) fn check_kept(
+        &self,
+        rt: &(impl AllocGlobal + Abort),
+        core: &Core<Fnv>,
+    ) -> Result<usize, Amiss> {
         let mut count: usize = 0;
         for (number, call) in self.calls.iter().enumerate() {
             if self.is_acknowledged(rt, call) {

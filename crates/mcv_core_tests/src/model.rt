@@ -7,6 +7,7 @@ use mcv_base::{FixedReply, Mark, Moment, Op, Part, Position, ServerId};
 use mcv_core::{Answer, Place};
 use mcv_route::{Answered, Launch};
 use mcv_rules::{Eval, Outcomes, Status};
+use std::process::Abort;
 
 /// Where a leg is.
 #[derive(Clone, Copy, PartialEq, Eq)]
@@ -71,12 +72,12 @@ impl Leg {
     }
 }
 
-fn outcomes_of(rt: &HostRuntime, answered: &[Answered]) -> Outcomes {
+fn outcomes_of<'a>(rt: &(impl AllocGlobal + Abort), answered: &'a [Answered]) -> Outcomes<'a> {
     Outcomes::of(rt.alloc(), answered).expect(rt, "memory")
 }
 
 impl<'a> Model<'a> {
-    pub(crate) fn new(rt: &HostRuntime, ground: &'a Ground) -> Model<'a> {
+    pub(crate) fn new(rt: &(impl AllocGlobal + Abort), ground: &'a Ground) -> Model<'a> {
         Model {
             ground,
             calls: Vec::new(rt.alloc()),
@@ -90,7 +91,7 @@ impl<'a> Model<'a> {
     }
 
     /// The rules of a call.
-    fn eval(&self, rt: &HostRuntime, call: &Call) -> Eval<'a> {
+    fn eval(&self, rt: &(impl AllocGlobal + Abort), call: &Call) -> Eval<'a> {
         let key = self.key(call.key).expect(rt, "a key");
         let route = self.ground.route(key).expect(rt, "a route");
         let eval = Eval::new(
@@ -105,13 +106,13 @@ impl<'a> Model<'a> {
     }
 
     /// Whether a call has its reply, and which.
-    pub(crate) fn status(&self, rt: &HostRuntime, call: &Call) -> Status {
+    pub(crate) fn status(&self, rt: &(impl AllocGlobal + Abort), call: &Call) -> Status {
         let eval = self.eval(rt, call);
         eval.status(&outcomes_of(rt, &call.answered))
     }
 
     /// The legs that the call has launched by now.
-    fn launched(&self, rt: &HostRuntime, call: &Call) -> Vec<Launch> {
+    fn launched(&self, rt: &(impl AllocGlobal + Abort), call: &Call) -> Vec<Launch> {
         let eval = self.eval(rt, call);
         let launched = eval.launched(rt.alloc(), &outcomes_of(rt, &call.answered));
         launched.expect(rt, "memory")
@@ -124,7 +125,7 @@ impl<'a> Model<'a> {
     }
 
     /// Numbers a leg of a call, unless it has a number.
-    fn add(&mut self, rt: &HostRuntime, call: usize, key: usize, launch: Launch) {
+    fn add(&mut self, rt: &(impl AllocGlobal + Abort), call: usize, key: usize, launch: Launch) {
         if !self.has_leg(call, &launch) {
             let leg = Leg {
                 call: Some(call),
@@ -137,7 +138,7 @@ impl<'a> Model<'a> {
     }
 
     /// Numbers the legs that the call has launched by now and that have no number, in the order of their positions.
-    fn launch(&mut self, rt: &HostRuntime, number: usize) {
+    fn launch(&mut self, rt: &(impl AllocGlobal + Abort), number: usize) {
         let Some(call) = self.calls.get(number) else {
             return;
         };
@@ -149,7 +150,7 @@ impl<'a> Model<'a> {
     }
 
     /// The call records this, unless it has an outcome there. Whether it had none.
-    fn hear(&mut self, rt: &HostRuntime, call: usize, heard: Answered) -> bool {
+    fn hear(&mut self, rt: &(impl AllocGlobal + Abort), call: usize, heard: Answered) -> bool {
         match self.calls.get_mut(call) {
             Some(call) if !has_outcome(&call.answered, &heard.position) => {
                 call.answered.push(heard).expect(rt, "memory");
@@ -160,7 +161,7 @@ impl<'a> Model<'a> {
     }
 
     /// The leg's call records this reply of it, unless it has an outcome.
-    fn record(&mut self, rt: &HostRuntime, number: usize, reply: Part) {
+    fn record(&mut self, rt: &(impl AllocGlobal + Abort), number: usize, reply: Part) {
         let Some(leg) = self.legs.get(number) else {
             return;
         };
@@ -173,7 +174,7 @@ impl<'a> Model<'a> {
         }
     }
 
-    fn begin(&mut self, rt: &HostRuntime, op: Op, key: usize) {
+    fn begin(&mut self, rt: &(impl AllocGlobal + Abort), op: Op, key: usize) {
         let number = self.calls.len();
         let call = Call {
             op,
@@ -187,7 +188,7 @@ impl<'a> Model<'a> {
     }
 
     /// A leg that the spool held at the start, if its server is in the table.
-    pub(crate) fn open(&mut self, rt: &HostRuntime, server: ServerId, key: usize) {
+    pub(crate) fn open(&mut self, rt: &(impl AllocGlobal + Abort), server: ServerId, key: usize) {
         if self.ground.routes().servers().text(server).is_none() {
             return;
         }
@@ -228,7 +229,7 @@ impl<'a> Model<'a> {
     }
 
     /// A leg in flight was answered, or lost, and the core says where it is then.
-    fn land(&mut self, rt: &HostRuntime, leg: usize, reply: Part, place: Place) {
+    fn land(&mut self, rt: &(impl AllocGlobal + Abort), leg: usize, reply: Part, place: Place) {
         let replayed = self.spot(leg) == Some(Spot::Replayed);
         self.place(leg, place);
         if !replayed && place != Place::Held {
@@ -237,7 +238,7 @@ impl<'a> Model<'a> {
     }
 
     /// What a server's reply to the leg counts as.
-    fn counted(&self, rt: &HostRuntime, leg: usize, say: Say) -> Part {
+    fn counted(&self, rt: &(impl AllocGlobal + Abort), leg: usize, say: Say) -> Part {
         let (reply, _, _) = say.parts(rt, leg).into_parts();
         match self.legs.get(leg) {
             Some(there) if reply.may_answer(there.launch.op) => reply,
@@ -252,7 +253,7 @@ impl<'a> Model<'a> {
     }
 
     /// Takes in what the core answered to an event on a leg.
-    fn take_in_place(&mut self, rt: &HostRuntime, deed: Deed, place: Place) {
+    fn take_in_place(&mut self, rt: &(impl AllocGlobal + Abort), deed: Deed, place: Place) {
         match deed {
             Deed::Answered(leg, say) => {
                 let reply = self.counted(rt, leg, say);
@@ -272,7 +273,7 @@ impl<'a> Model<'a> {
     }
 
     /// Takes in what the core answered.
-    pub(crate) fn take_in(&mut self, rt: &HostRuntime, deed: Deed, answer: &Answer) {
+    pub(crate) fn take_in(&mut self, rt: &(impl AllocGlobal + Abort), deed: Deed, answer: &Answer) {
         match (deed, answer) {
             (deed, Answer::Place(place)) => self.take_in_place(rt, deed, *place),
             (Deed::Begin(op, key), Answer::Call(_)) => self.begin(rt, op, key),

@@ -10,6 +10,7 @@ use mcv_base::{CallId, LegId, Moment, ServerId};
 use mcv_core::{Answer, Core, Event, Place};
 use mcv_pools::Fnv;
 use mcv_spool::SpoolRecord;
+use std::process::Abort;
 use std::sync::Arc;
 
 /// The pools of all configurations.
@@ -129,7 +130,7 @@ impl Seen {
 }
 
 /// A configuration of a line.
-fn text_of(rt: &HostRuntime, line: &str) -> String {
+fn text_of(rt: &(impl AllocGlobal + Abort), line: &str) -> String {
     let key = if line.starts_with('[') {
         "\"routes\":"
     } else {
@@ -139,7 +140,7 @@ fn text_of(rt: &HostRuntime, line: &str) -> String {
 }
 
 /// A stored record of the leg, or one of another key.
-fn spooled(rt: &HostRuntime, model: &Model<'_>, number: usize, own: bool) -> Event {
+fn spooled(rt: &(impl AllocGlobal + Abort), model: &Model<'_>, number: usize, own: bool) -> Event {
     let Some(leg) = model.legs.get(number) else {
         return Event::Lost(LegId(number as u64));
     };
@@ -150,7 +151,7 @@ fn spooled(rt: &HostRuntime, model: &Model<'_>, number: usize, own: bool) -> Eve
     Event::Spooled(LegId(number as u64), stored_after(rt, 0, server, rest))
 }
 
-fn event_of(rt: &HostRuntime, model: &Model<'_>, deed: Deed) -> Event {
+fn event_of(rt: &(impl AllocGlobal + Abort), model: &Model<'_>, deed: Deed) -> Event {
     match deed {
         Deed::Begin(op, key) => {
             let key = model.key(key).expect(rt, "a key");
@@ -171,7 +172,12 @@ fn event_of(rt: &HostRuntime, model: &Model<'_>, deed: Deed) -> Event {
 }
 
 /// A record of a server and a key, which the spool holds when the core is opened.
-fn record_of(rt: &HostRuntime, ground: &Ground, server: ServerId, key: usize) -> SpoolRecord {
+fn record_of(
+    rt: &(impl AllocGlobal + Abort),
+    ground: &Ground,
+    server: ServerId,
+    key: usize,
+) -> SpoolRecord {
     let text = ground.routes().servers().text(server).unwrap_or("x:1");
     let key = ground.keys.get(key).expect(rt, "a key");
     record(rt, text.as_bytes(), key.rest.as_bytes())
@@ -187,7 +193,7 @@ struct Run<'a> {
 
 impl<'a> Run<'a> {
     /// Opens a core with up to two records.
-    fn open(rt: &HostRuntime, ground: &'a Ground, dice: &mut Dice) -> Run<'a> {
+    fn open(rt: &(impl AllocGlobal + Abort), ground: &'a Ground, dice: &mut Dice) -> Run<'a> {
         let mut model = Model::new(rt, ground);
         let mut records = Vec::new(rt.alloc());
         for seq in 0..dice.below(3) {
@@ -209,7 +215,7 @@ impl<'a> Run<'a> {
     /// The core takes in an event, and the model what the core answers. Whether it is the expected answer.
     fn agrees(
         &mut self,
-        rt: &HostRuntime,
+        rt: &(impl AllocGlobal + Abort),
         deed: Deed,
         expected: Expected,
         seen: &mut Seen,
@@ -223,7 +229,12 @@ impl<'a> Run<'a> {
     }
 
     /// An event, and whether the core and the model are one after it.
-    fn step(&mut self, rt: &HostRuntime, deed: Deed, seen: &mut Seen) -> Result<(), Amiss> {
+    fn step(
+        &mut self,
+        rt: &(impl AllocGlobal + Abort),
+        deed: Deed,
+        seen: &mut Seen,
+    ) -> Result<(), Amiss> {
         let expected = self.model.expected(rt, deed);
         if !self.agrees(rt, deed, expected, seen) {
             return Err(Amiss::Answer(deed));
@@ -236,7 +247,7 @@ impl<'a> Run<'a> {
     }
 
     /// The same, where the list goes on with what is amiss.
-    fn go_on(&mut self, rt: &HostRuntime, deed: Deed, seen: &mut Seen) {
+    fn go_on(&mut self, rt: &(impl AllocGlobal + Abort), deed: Deed, seen: &mut Seen) {
         if let Err(amiss) = self.step(rt, deed, seen) {
             if self.amiss.is_none() {
                 self.amiss = Some(amiss);
@@ -245,7 +256,7 @@ impl<'a> Run<'a> {
     }
 
     /// Deletes are looked for first: a core that is wrong is shown by a delete that it lost, if it lost one.
-    fn end(&self, rt: &HostRuntime, seen: &mut Seen) -> Result<(), Amiss> {
+    fn end(&self, rt: &(impl AllocGlobal + Abort), seen: &mut Seen) -> Result<(), Amiss> {
         let kept = self.model.check_kept(rt, &self.core)?;
         seen.kept = seen.kept.saturating_add(kept as u64);
         seen.lists = seen.lists.saturating_add(1);
@@ -257,7 +268,12 @@ impl<'a> Run<'a> {
 }
 
 /// A list of events.
-fn run_list(rt: &HostRuntime, ground: &Ground, seed: u64, seen: &mut Seen) -> Result<(), Amiss> {
+fn run_list(
+    rt: &(impl AllocGlobal + Abort),
+    ground: &Ground,
+    seed: u64,
+    seen: &mut Seen,
+) -> Result<(), Amiss> {
     let mut dice = Dice::new(seed);
     let calm = dice.below(2) == 0;
     let mut run = Run::open(rt, ground, &mut dice);
@@ -269,7 +285,13 @@ fn run_list(rt: &HostRuntime, ground: &Ground, seed: u64, seen: &mut Seen) -> Re
 }
 
 /// The lists of one configuration.
-fn run_lists(rt: &HostRuntime, line: &str, ground: &Ground, first: u64, seen: &mut Seen) {
+fn run_lists(
+    rt: &(impl AllocGlobal + Abort),
+    line: &str,
+    ground: &Ground,
+    first: u64,
+    seen: &mut Seen,
+) {
     for number in 0..LISTS {
         let seed = first.wrapping_add(number);
         if let Err(amiss) = run_list(rt, ground, seed, seen) {
@@ -279,7 +301,7 @@ fn run_lists(rt: &HostRuntime, line: &str, ground: &Ground, first: u64, seen: &m
 }
 
 /// The lists of the configuration of a line. Whether it is covered.
-fn run_line(rt: &HostRuntime, number: usize, line: &str, seen: &mut Seen) -> bool {
+fn run_line(rt: &(impl AllocGlobal + Abort), number: usize, line: &str, seen: &mut Seen) -> bool {
     let text = text_of(rt, line);
     match Ground::of(rt, text.as_str()) {
         Some(mut ground) => {

@@ -4,6 +4,7 @@ use crate::ground::Key;
 use mcv_base::{FixedReply, Moment, Op, Part, Position, ServerId};
 use mcv_route::{Answered, Launch, Route};
 use mcv_rules::{Eval, Outcomes, Source, Status};
+use std::process::Abort;
 use std::sync::Arc;
 
 /// The most lists of outcomes of one search.
@@ -17,7 +18,7 @@ pub(crate) fn has_outcome(answered: &[Answered], position: &Position) -> bool {
     answered.iter().any(|there| there.position.is(position))
 }
 
-fn copy_of(rt: &HostRuntime, part: &Part) -> Part {
+fn copy_of(rt: &(impl AllocGlobal + Abort), part: &Part) -> Part {
     match part {
         Part::Fixed(reply) => Part::Fixed(*reply),
         Part::Owned(reply) => Part::Owned(Arc::try_clone(reply).expect(rt, "memory")),
@@ -25,14 +26,19 @@ fn copy_of(rt: &HostRuntime, part: &Part) -> Part {
 }
 
 /// Adds an outcome at a position.
-fn push_reply(rt: &HostRuntime, all: &mut Vec<Answered>, position: &Position, reply: Part) {
+fn push_reply(
+    rt: &(impl AllocGlobal + Abort),
+    all: &mut Vec<Answered>,
+    position: &Position,
+    reply: Part,
+) {
     let position = position.copy(rt.alloc()).expect(rt, "memory");
     all.push(Answered { position, reply }).expect(rt, "memory");
 }
 
 /// The list with one outcome more.
 fn with_reply(
-    rt: &HostRuntime,
+    rt: &(impl AllocGlobal + Abort),
     answered: &[Answered],
     position: &Position,
     reply: FixedReply,
@@ -47,7 +53,7 @@ fn with_reply(
 
 /// Adds the lists with one reply more of the leg, if it has none.
 fn push_longer(
-    rt: &HostRuntime,
+    rt: &(impl AllocGlobal + Abort),
     answered: &[Answered],
     launch: &Launch,
     open: &mut Vec<Vec<Answered>>,
@@ -76,7 +82,11 @@ fn hit_server(launched: &[Launch], answered: &[Answered], status: Status) -> Opt
     Some(leg.server)
 }
 
-fn push_server(rt: &HostRuntime, server: Option<ServerId>, servers: &mut Vec<ServerId>) {
+fn push_server(
+    rt: &(impl AllocGlobal + Abort),
+    server: Option<ServerId>,
+    servers: &mut Vec<ServerId>,
+) {
     if let Some(server) = server {
         if !servers.contains(&server) {
             servers.push(server).expect(rt, "memory");
@@ -86,7 +96,7 @@ fn push_server(rt: &HostRuntime, server: Option<ServerId>, servers: &mut Vec<Ser
 
 /// Adds the server whose hit is the reply at this list, and the lists that are longer by one outcome.
 fn visit(
-    rt: &HostRuntime,
+    rt: &(impl AllocGlobal + Abort),
     eval: &Eval<'_>,
     answered: &[Answered],
     open: &mut Vec<Vec<Answered>>,
@@ -104,7 +114,7 @@ fn visit(
 /// Adds the servers whose hit can be the reply: each leg that is sent hits, misses or fails, and the outcomes come in any
 /// order.
 pub(crate) fn push_readable(
-    rt: &HostRuntime,
+    rt: &(impl AllocGlobal + Abort),
     route: &Route,
     op: Op,
     key: &Key,
@@ -115,7 +125,7 @@ pub(crate) fn push_readable(
     search(rt, &eval.expect(rt, "memory"), servers);
 }
 
-fn search(rt: &HostRuntime, eval: &Eval<'_>, servers: &mut Vec<ServerId>) {
+fn search(rt: &(impl AllocGlobal + Abort), eval: &Eval<'_>, servers: &mut Vec<ServerId>) {
     let mut open = Vec::new(rt.alloc());
     open.push(Vec::new(rt.alloc())).expect(rt, "memory");
     for _ in 0..LISTS {

@@ -7,10 +7,11 @@ use mcv_core::{Core, CoreFault, Dispatcher, LegView, Place, Step};
 use mcv_pools::Fnv;
 use mcv_spool::SpoolRecord;
 use std::fmt::Debug;
+use std::process::Abort;
 use std::str::from_utf8;
 
 /// A record of a line: its number, its server and its rest.
-fn record_of(rt: &HostRuntime, line: &str) -> (u64, SpoolRecord) {
+fn record_of(rt: &(impl AllocGlobal + Abort), line: &str) -> (u64, SpoolRecord) {
     let (number, delete) = line.split_once(' ').expect(rt, "a number");
     let (server, rest) = delete.split_once(' ').expect(rt, "a server");
     (
@@ -19,12 +20,12 @@ fn record_of(rt: &HostRuntime, line: &str) -> (u64, SpoolRecord) {
     )
 }
 
-fn number_of(rt: &HostRuntime, word: &str) -> u64 {
+fn number_of(rt: &(impl AllocGlobal + Abort), word: &str) -> u64 {
     word.parse::<u64>().expect(rt, word)
 }
 
 /// A core over this configuration, opened with a record of each line.
-fn core_with(rt: &HostRuntime, config: &str, records: &str) -> Core<Fnv> {
+fn core_with(rt: &(impl AllocGlobal + Abort), config: &str, records: &str) -> Core<Fnv> {
     let mut list = Vec::new(rt.alloc());
     for line in records.lines() {
         list.push(record_of(rt, line)).expect(rt, "memory");
@@ -34,21 +35,21 @@ fn core_with(rt: &HostRuntime, config: &str, records: &str) -> Core<Fnv> {
 }
 
 /// Plays a script on a core over this configuration, opened with a record of each line.
-pub(crate) fn play(rt: &HostRuntime, config: &str, records: &str, script: &str) {
+pub(crate) fn play(rt: &(impl AllocGlobal + Abort), config: &str, records: &str, script: &str) {
     let mut core = core_with(rt, config, records);
     for line in script.lines() {
         play_line(rt, &mut core, line);
     }
 }
 
-fn play_line(rt: &HostRuntime, core: &mut Core<Fnv>, line: &str) {
+fn play_line(rt: &(impl AllocGlobal + Abort), core: &mut Core<Fnv>, line: &str) {
     let (event, wanted) = line.split_once(" = ").expect(rt, "an answer");
     let (word, more) = event.split_once(' ').unwrap_or((event, ""));
     let found = answer(rt, core, word, more);
     assert!(rt; found.as_str() == wanted, "{line}, not {found}");
 }
 
-fn answer(rt: &HostRuntime, core: &mut Core<Fnv>, word: &str, more: &str) -> String {
+fn answer(rt: &(impl AllocGlobal + Abort), core: &mut Core<Fnv>, word: &str, more: &str) -> String {
     match word {
         "begin" => begin(rt, core, more),
         "answered" => answered(rt, core.events(), more),
@@ -63,7 +64,12 @@ fn answer(rt: &HostRuntime, core: &mut Core<Fnv>, word: &str, more: &str) -> Str
 }
 
 /// The answer to an event of this number's server, leg, call or moment.
-fn moved(rt: &HostRuntime, core: &mut Dispatcher, word: &str, number: u64) -> String {
+fn moved(
+    rt: &(impl AllocGlobal + Abort),
+    core: &mut Dispatcher,
+    word: &str,
+    number: u64,
+) -> String {
     match word {
         "next" => shown(rt, core.next(server(number))),
         "replay" => shown(rt, core.replay(server(number))),
@@ -78,7 +84,7 @@ fn moved(rt: &HostRuntime, core: &mut Dispatcher, word: &str, number: u64) -> St
 }
 
 /// What is seen of this number's leg, call or server.
-fn seen(rt: &HostRuntime, core: &Dispatcher, word: &str, number: u64) -> String {
+fn seen(rt: &(impl AllocGlobal + Abort), core: &Dispatcher, word: &str, number: u64) -> String {
     match word {
         "place" => shown(rt, core.place(LegId(number))),
         "record" => shown(rt, core.record(LegId(number))),
@@ -90,7 +96,7 @@ fn seen(rt: &HostRuntime, core: &Dispatcher, word: &str, number: u64) -> String 
     }
 }
 
-fn shown<T: Debug + Drop>(rt: &HostRuntime, value: T) -> String {
+fn shown<T: Debug + Drop>(rt: &(impl AllocGlobal + Abort), value: T) -> String {
     format!(in rt.alloc(); "{value:?}").expect(rt, "memory")
 }
 
@@ -103,13 +109,13 @@ fn place(step: Result<Step, CoreFault>) -> Result<Place, CoreFault> {
 }
 
 /// Begins a call for the key `a`.
-fn begin(rt: &HostRuntime, core: &mut Core<Fnv>, op: &str) -> String {
+fn begin(rt: &(impl AllocGlobal + Abort), core: &mut Core<Fnv>, op: &str) -> String {
     let op = if op == "Get" { Op::Get } else { Op::Delete };
     shown(rt, core.begin(rt.alloc(), request(rt, op, b"a"), 0))
 }
 
 /// A reply by its name; any other name is the body of a hit.
-fn reply(rt: &HostRuntime, name: &str) -> Reply {
+fn reply(rt: &(impl AllocGlobal + Abort), name: &str) -> Reply {
     match name {
         "Deleted" => Reply::Deleted,
         "NotFound" => Reply::NotFound,
@@ -124,14 +130,14 @@ fn reply(rt: &HostRuntime, name: &str) -> Reply {
 }
 
 /// A leg is answered by the reply of this name.
-fn answered(rt: &HostRuntime, core: &mut Dispatcher, more: &str) -> String {
+fn answered(rt: &(impl AllocGlobal + Abort), core: &mut Dispatcher, more: &str) -> String {
     let (leg, name) = more.split_once(' ').expect(rt, "a reply");
     let parts = Parts::new(rt.alloc(), reply(rt, name)).expect(rt, "memory");
     shown(rt, place(core.answered(LegId(number_of(rt, leg)), parts)))
 }
 
 /// A leg is stored as the record of this number, which is of this rest.
-fn spooled(rt: &HostRuntime, core: &mut Dispatcher, more: &str) -> String {
+fn spooled(rt: &(impl AllocGlobal + Abort), core: &mut Dispatcher, more: &str) -> String {
     let (leg, record) = more.split_once(' ').expect(rt, "a record");
     let (number, rest) = record.split_once(' ').expect(rt, "a rest");
     let stored = stored_after(rt, number_of(rt, number), b"a:11211", rest.as_bytes());
@@ -139,7 +145,7 @@ fn spooled(rt: &HostRuntime, core: &mut Dispatcher, more: &str) -> String {
 }
 
 /// The operation, the rest, the server, the call and the record of a leg, and what its client asked.
-fn leg(rt: &HostRuntime, leg: Option<LegView<'_>>) -> String {
+fn leg(rt: &(impl AllocGlobal + Abort), leg: Option<LegView<'_>>) -> String {
     let Some(leg) = leg else {
         return shown(rt, "none");
     };
@@ -153,7 +159,7 @@ fn leg(rt: &HostRuntime, leg: Option<LegView<'_>>) -> String {
 }
 
 /// What a leg asks its server.
-fn asks(rt: &HostRuntime, core: &Dispatcher, leg: LegId) -> String {
+fn asks(rt: &(impl AllocGlobal + Abort), core: &Dispatcher, leg: LegId) -> String {
     match core.to_request(rt.alloc(), leg).expect(rt, "memory") {
         Some(request) => asked(rt, &request),
         None => shown(rt, "none"),
@@ -161,7 +167,7 @@ fn asks(rt: &HostRuntime, core: &Dispatcher, leg: LegId) -> String {
 }
 
 /// The operation, the rest, the flags, the time and the body of a request.
-fn asked(rt: &HostRuntime, request: &LegRequest) -> String {
+fn asked(rt: &(impl AllocGlobal + Abort), request: &LegRequest) -> String {
     let rest = from_utf8(request.rest.as_bytes()).expect(rt, "a text");
     let body = from_utf8(request.body.as_slice()).expect(rt, "a text");
     format!(in rt.alloc();

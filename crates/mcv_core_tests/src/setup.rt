@@ -9,6 +9,7 @@ use mcv_pools::Fnv;
 use mcv_spool::{Disk, DiskFailed, Spool, SpoolRecord, Stored};
 use mcv_verdict::{Judgement, judge_input};
 use std::alloc::Global;
+use std::process::Abort;
 use std::sync::Arc;
 
 /// One pool of one server.
@@ -32,7 +33,7 @@ pub(crate) const A: ServerId = ServerId(0);
 pub(crate) const B: ServerId = ServerId(1);
 
 /// What the checker accepts of a configuration; None where it can lose a delete.
-pub(crate) fn accepted_of(rt: &HostRuntime, text: &str) -> Option<Arc<Accepted>> {
+pub(crate) fn accepted_of(rt: &(impl AllocGlobal + Abort), text: &str) -> Option<Arc<Accepted>> {
     let judgement = judge_input(rt.alloc(), &mut text.as_bytes());
     match judgement.expect(rt, "a configuration") {
         Judgement::Covered { accepted, .. } => {
@@ -44,29 +45,29 @@ pub(crate) fn accepted_of(rt: &HostRuntime, text: &str) -> Option<Arc<Accepted>>
 
 /// A core over accepted routes, opened with these records.
 pub(crate) fn opened(
-    rt: &HostRuntime,
+    rt: &(impl AllocGlobal + Abort),
     accepted: Arc<Accepted>,
     records: &[(u64, SpoolRecord)],
 ) -> Core<Fnv> {
     Core::new(rt.alloc(), accepted, Fnv, records).expect(rt, "a core")
 }
 
-pub(crate) fn core_of(rt: &HostRuntime, text: &str) -> Core<Fnv> {
+pub(crate) fn core_of(rt: &(impl AllocGlobal + Abort), text: &str) -> Core<Fnv> {
     opened(rt, accepted_of(rt, text).expect(rt, "covered routes"), &[])
 }
 
 /// The bytes, owned.
-pub(crate) fn bytes(rt: &HostRuntime, bytes: &[u8]) -> Vec<u8> {
+pub(crate) fn bytes(rt: &(impl AllocGlobal + Abort), bytes: &[u8]) -> Vec<u8> {
     Vec::from_slice(rt.alloc(), bytes).expect(rt, "memory")
 }
 
 /// The bytes, shared.
-pub(crate) fn shared(rt: &HostRuntime, text: &[u8]) -> Arc<Vec<u8>> {
+pub(crate) fn shared(rt: &(impl AllocGlobal + Abort), text: &[u8]) -> Arc<Vec<u8>> {
     Arc::new(rt.alloc(), bytes(rt, text)).expect(rt, "memory")
 }
 
 /// What a client asks of one key.
-fn ask(rt: &HostRuntime, op: Op, key: &[u8]) -> Ask {
+fn ask(rt: &(impl AllocGlobal + Abort), op: Op, key: &[u8]) -> Ask {
     let mut keys = Vec::new(rt.alloc());
     keys.push(bytes(rt, key)).expect(rt, "memory");
     Ask {
@@ -81,11 +82,11 @@ fn ask(rt: &HostRuntime, op: Op, key: &[u8]) -> Ask {
 }
 
 /// A request for a key.
-pub(crate) fn request(rt: &HostRuntime, op: Op, key: &[u8]) -> Arc<Request> {
+pub(crate) fn request(rt: &(impl AllocGlobal + Abort), op: Op, key: &[u8]) -> Arc<Request> {
     Arc::new(rt.alloc(), Request::Ask(ask(rt, op, key))).expect(rt, "memory")
 }
 
-pub(crate) fn record(rt: &HostRuntime, server: &[u8], rest: &[u8]) -> SpoolRecord {
+pub(crate) fn record(rt: &(impl AllocGlobal + Abort), server: &[u8], rest: &[u8]) -> SpoolRecord {
     SpoolRecord {
         server: ServerText::of(server).expect(rt, "a server"),
         rest: Rest::of(rest).expect(rt, "a rest"),
@@ -93,7 +94,7 @@ pub(crate) fn record(rt: &HostRuntime, server: &[u8], rest: &[u8]) -> SpoolRecor
 }
 
 /// A spool without records, in memory.
-fn empty_spool(rt: &HostRuntime) -> Spool<MemoryDisk> {
+fn empty_spool(rt: &(impl AllocGlobal + Abort)) -> Spool<MemoryDisk> {
     let disk = MemoryDisk {
         bytes: Vec::new(rt.alloc()),
     };
@@ -101,7 +102,12 @@ fn empty_spool(rt: &HostRuntime) -> Spool<MemoryDisk> {
 }
 
 /// The record, stored by a spool of its own after so many others.
-pub(crate) fn stored_after(rt: &HostRuntime, others: u64, server: &[u8], rest: &[u8]) -> Stored {
+pub(crate) fn stored_after(
+    rt: &(impl AllocGlobal + Abort),
+    others: u64,
+    server: &[u8],
+    rest: &[u8],
+) -> Stored {
     let mut spool = empty_spool(rt);
     for _ in 0..others {
         let _ = spool.append(record(rt, server, rest)).expect(rt, "room");
