@@ -2,67 +2,88 @@
 
 ghost use Rattle.std.specs.Prelude.{◌≡◌, ◌+◌};
 
-use crate::setup::{A, ONE, SEATS, hub_of, request, stored};
+use crate::setup::{A, ONE, SEATS, hub_of, request, shared, stored};
 use mcv_base::{CallId, FixedReply, LegId, Op, Part, Reply};
 use mcv_core::{CoreFault, Place, Step};
 use mcv_hub::{Entry, Guard, LegReply, Receipt, ReceiptFault, Report, Seat, TakenReply};
-use std::alloc::Global;
 use std::marker::Brand;
+use std::process::Abort;
+use std::sync::Wait;
 use std::sync::ledger::{Blank, Ledger};
-use std::sync::{Arc, Wait};
-use std::test::Fail;
 
 /// Whether the event led its leg there.
 fn leads_to(step: Result<Step, CoreFault>, place: Place) -> bool {
     matches!(step, Ok(step) if step.place == place)
 }
 
-/// The reply that was taken, if there was one.
-fn taken(found: Result<Option<TakenReply>, CoreFault>) -> Result<TakenReply, Fail> {
-    match found {
-        Ok(Some(taken)) => Ok(taken),
-        _ => Err(Fail::from("no reply")),
-    }
+/// The call of the operation that is begun.
+fn begun<B: Ledger, T: Ledger>(
+    rt: &(impl AllocGlobal + Abort),
+    guard: &mut Guard<'_, B, T>,
+    seat: &mut Seat<B, T>,
+    op: Op,
+) -> CallId {
+    let request = request(rt, op, b"a");
+    guard
+        .begin(rt.alloc(), seat, request, 0)
+        .expect(rt, "a call")
+}
+
+/// The reply that is taken.
+fn taken<B: Ledger, T: Ledger>(
+    rt: &impl Abort,
+    guard: &mut Guard<'_, B, T>,
+    seat: &mut Seat<B, T>,
+    call: CallId,
+) -> TakenReply {
+    let found = guard.take_reply(seat, call).expect(rt, "the call");
+    found.expect(rt, "a reply")
+}
+
+/// The delete's leg is sent, lost and spooled.
+fn is_spooled<B: Ledger, T: Ledger>(
+    rt: &(impl AllocGlobal + Abort),
+    guard: &mut Guard<'_, B, T>,
+) -> bool {
+    guard.next(A) == Ok(LegId(0))
+        && leads_to(guard.lost(LegId(0)), Place::Held)
+        && leads_to(
+            guard.spooled(LegId(0), stored(rt, b"a:11211", b"a")),
+            Place::Spooled,
+        )
+}
+
+/// The delete's leg is sent again, and performed.
+fn is_performed<B: Ledger, T: Ledger>(guard: &mut Guard<'_, B, T>) -> bool {
+    guard.replay(A) == Ok(LegId(0))
+        && leads_to(
+            guard.answered(LegId(0), LegReply::fixed(FixedReply::Deleted)),
+            Place::Performed,
+        )
 }
 
 /// A delete is begun, sent, lost and spooled; its reply is taken, and then it is performed when it is sent again.
 fn delete_through_the_spool<B: Ledger, T: Ledger>(
-    alloc: Global,
+    rt: &(impl AllocGlobal + Abort),
     guard: &mut Guard<'_, B, T>,
     seat: &mut Seat<B, T>,
-) -> Result<Receipt, Fail> {
-    let Ok(call) = guard.begin(alloc, seat, request(alloc, Op::Delete)?, 0) else {
-        return Err(Fail::from("the delete is refused"));
-    };
-    let sent = guard.next(A);
-    let lost = guard.lost(LegId(0));
-    let kept = guard.spooled(LegId(0), stored(alloc, b"a:11211", b"a")?);
-    let reply = taken(guard.take_reply(seat, call))?;
-    let repeated = guard.replay(A);
-    let performed = guard.answered(LegId(0), LegReply::fixed(FixedReply::Deleted));
-    let as_wanted = matches!(sent, Ok(LegId(0)))
-        && leads_to(lost, Place::Held)
-        && leads_to(kept, Place::Spooled)
-        && matches!(reply.reply(), Part::Fixed(FixedReply::NotFound))
-        && matches!(repeated, Ok(LegId(0)))
-        && leads_to(performed, Place::Performed);
-    if !as_wanted {
-        return Err(Fail::from("the delete doesn't go this way"));
-    }
-    Ok(reply.receipt())
+) -> Receipt {
+    let call = begun(rt, guard, seat, Op::Delete);
+    assert!(rt; is_spooled(rt, guard), "the delete isn't spooled");
+    let reply = taken(rt, guard, seat, call);
+    assert!(rt; matches!(reply.reply(), Part::Fixed(FixedReply::NotFound)));
+    assert!(rt; is_performed(guard), "the delete isn't performed");
+    reply.receipt()
 }
 
 /// A hit with the value `x`.
-fn hit(alloc: Global) -> Result<LegReply, Fail> {
-    let body = Arc::new(alloc, Vec::from_slice(alloc, b"x")?)?;
-    Ok(LegReply::new(
-        alloc,
-        Reply::Hit {
-            flags: 0,
-            cas: None,
-            body,
-        },
-    )?)
+fn hit(rt: &(impl AllocGlobal + Abort)) -> LegReply {
+    let hit = Reply::Hit {
+        flags: 0,
+        cas: None,
+        body: shared(rt, b"x"),
+    };
+    LegReply::new(rt.alloc(), hit).expect(rt, "memory")
 }
 
 /// Whether a reply is a hit with the value `x`.
@@ -74,29 +95,33 @@ fn is_hit(part: &Part) -> bool {
     }
 }
 
-/// A get is begun, sent and answered by a hit, which is taken.
-fn get_a_hit<B: Ledger, T: Ledger>(
-    alloc: Global,
+/// Whether the call has no reply until its leg is answered by a hit.
+fn is_answered<B: Ledger, T: Ledger>(
+    rt: &(impl AllocGlobal + Abort),
     guard: &mut Guard<'_, B, T>,
     seat: &mut Seat<B, T>,
-) -> Result<Receipt, Fail> {
-    let Ok(call) = guard.begin(alloc, seat, request(alloc, Op::Get)?, 0) else {
-        return Err(Fail::from("the get is refused"));
-    };
-    let early = guard.take_reply(seat, call);
-    let sent = guard.next(A);
-    let answered = guard.answered(LegId(1), hit(alloc)?);
-    let reply = taken(guard.take_reply(seat, call))?;
-    let again = guard.take_reply(seat, call);
-    let as_wanted = matches!(early, Ok(None))
-        && matches!(sent, Ok(LegId(1)))
-        && leads_to(answered, Place::Gone)
-        && is_hit(reply.reply())
-        && matches!(again, Err(CoreFault::NoSuchCall));
-    if !as_wanted {
-        return Err(Fail::from("the get doesn't go this way"));
-    }
-    Ok(reply.receipt())
+    call: CallId,
+) -> bool {
+    matches!(guard.take_reply(seat, call), Ok(None))
+        && guard.next(A) == Ok(LegId(1))
+        && leads_to(guard.answered(LegId(1), hit(rt)), Place::Gone)
+}
+
+/// A get is begun, sent and answered by a hit, which is taken once.
+fn get_a_hit<B: Ledger, T: Ledger>(
+    rt: &(impl AllocGlobal + Abort),
+    guard: &mut Guard<'_, B, T>,
+    seat: &mut Seat<B, T>,
+) -> Receipt {
+    let call = begun(rt, guard, seat, Op::Get);
+    assert!(rt;
+        is_answered(rt, guard, seat, call),
+        "the get isn't answered"
+    );
+    let reply = taken(rt, guard, seat, call);
+    assert!(rt; is_hit(reply.reply()), "no hit");
+    assert!(rt; matches!(guard.take_reply(seat, call), Err(CoreFault::NoSuchCall)));
+    reply.receipt()
 }
 
 fn receipt(entry: usize, call: u64) -> Receipt {
@@ -107,15 +132,16 @@ fn receipt(entry: usize, call: u64) -> Receipt {
     }
 }
 
-/// Whether the hub closes over these receipts as wanted.
-fn closes<B: Ledger, T: Ledger>(
-    alloc: Global,
+/// The hub closes over these receipts as wanted.
+fn check_close<B: Ledger, T: Ledger>(
+    rt: &(impl AllocGlobal + Abort),
     guard: &mut Guard<'_, B, T>,
     seat: &mut Seat<B, T>,
     receipts: &[Receipt],
     wanted: Result<Report, ReceiptFault>,
-) -> bool {
-    guard.close(alloc, &mut seat.begun, &mut seat.taken, receipts) == wanted
+) {
+    let found = guard.close(rt.alloc(), &mut seat.begun, &mut seat.taken, receipts);
+    assert!(rt; found == wanted, "{found:?}, not {wanted:?}");
 }
 
 /// Whether the history has the entries of the two calls.
@@ -134,49 +160,65 @@ fn is_of_two_calls(history: &[Entry]) -> bool {
     )
 }
 
-/// Two sessions, one after the other, and what the hub says of their receipts.
-fn two_seats<B: Ledger, T: Ledger, R: Wait>(
-    rt: &R,
-    alloc: Global,
-    begun: Blank,
-    taken: Blank,
-) -> Result<bool, Fail>
-    requires begun { (begun.name ≡ B.name) × (begun.parts ≡ B.parts) × (begun.parts ≡ SEATS + 1) }
-    requires taken { (taken.name ≡ T.name) × (taken.parts ≡ T.parts) × (taken.parts ≡ SEATS + 1) }
-{
-    let (hub, mut passes) = hub_of::<B, T>(alloc, ONE, begun, taken)?;
-    let mut pass = passes.pass();
-    let (Some(mut one), Some(mut other)) = (passes.seat(), passes.seat()) else {
-        return Ok(false);
-    };
-    if passes.seat().is_some() {
-        return Ok(false);
-    }
-    let mut guard = hub.lock(rt, &mut pass);
-    let first = delete_through_the_spool(alloc, &mut guard, &mut one)?;
-    let second = get_a_hit(alloc, &mut guard, &mut other)?;
+/// What the hub says of the receipts of two calls.
+fn check_closes<B: Ledger, T: Ledger>(
+    rt: &(impl AllocGlobal + Abort),
+    guard: &mut Guard<'_, B, T>,
+    seat: &mut Seat<B, T>,
+    first: Receipt,
+    second: Receipt,
+) {
     let report = Report {
         begun: 2,
         taken: 2,
         older: 0,
     };
-    let twice = Err(ReceiptFault::Twice);
-    let stranger = Err(ReceiptFault::Stranger);
-    Ok(
-        first == receipt(2, 0)
-            && second == receipt(6, 1)
-            && is_of_two_calls(guard.history())
-            && closes(alloc, &mut guard, &mut one, &[first, second], Ok(report))
-            && closes(alloc, &mut guard, &mut one, &[first, first], twice)
-            && closes(alloc, &mut guard, &mut one, &[receipt(0, 0)], stranger),
-    )
+    check_close(rt, guard, seat, &[first, second], Ok(report));
+    check_close(rt, guard, seat, &[first, first], Err(ReceiptFault::Twice));
+    check_close(
+        rt,
+        guard,
+        seat,
+        &[receipt(0, 0)],
+        Err(ReceiptFault::Stranger),
+    );
+}
+
+/// Two sessions, one after the other, and what the hub says of their receipts.
+fn check_seats<B: Ledger, T: Ledger>(
+    rt: &(impl AllocGlobal + Abort),
+    guard: &mut Guard<'_, B, T>,
+    one: &mut Seat<B, T>,
+    other: &mut Seat<B, T>,
+) {
+    let first = delete_through_the_spool(rt, guard, one);
+    let second = get_a_hit(rt, guard, other);
+    assert!(rt; first == receipt(2, 0), "{first:?}");
+    assert!(rt; second == receipt(6, 1), "{second:?}");
+    assert!(rt; is_of_two_calls(guard.history()), "another history");
+    check_closes(rt, guard, one, first, second);
+}
+
+/// A hub has two seats, and no third one.
+fn two_seats<B: Ledger, T: Ledger>(
+    rt: &(impl AllocGlobal + Abort + Wait),
+    begun: Blank,
+    taken: Blank,
+)
+    requires begun { (begun.name ≡ B.name) × (begun.parts ≡ B.parts) × (begun.parts ≡ SEATS + 1) }
+    requires taken { (taken.name ≡ T.name) × (taken.parts ≡ T.parts) × (taken.parts ≡ SEATS + 1) }
+{
+    let (hub, mut passes) = hub_of::<B, T>(rt, ONE, begun, taken);
+    let mut pass = passes.pass();
+    let mut one = passes.seat().expect(rt, "a seat");
+    let mut other = passes.seat().expect(rt, "a second seat");
+    assert!(rt; passes.seat().is_none(), "a third seat");
+    check_seats(rt, &mut hub.lock(rt, &mut pass), &mut one, &mut other);
 }
 
 #[test]
-fn two_seats_have_their_receipts(rt: HostRuntime) -> Result<(), Fail> {
-    let alloc = rt.alloc();
+fn two_seats_have_their_receipts(rt: HostRuntime) {
     let begun = Blank::new(SEATS + 1);
     let taken = Blank::new(SEATS + 1);
-    assert!(rt; two_seats::<Brand, Brand, HostRuntime>(&rt, alloc, begun, taken)?);
-    Ok(())
+    two_seats::<Brand, Brand>(&rt, begun, taken);
 }

@@ -3,16 +3,13 @@
 ghost use Rattle.std.specs.Prelude.{◌≡◌, ◌+◌, []};
 
 use mcv_base::{Ask, Op, Request, Rest, ServerId, ServerText};
-use mcv_check::{Accepted, check};
-use mcv_config::read_config;
+use mcv_check::Accepted;
 use mcv_hub::{Hub, Passes};
-use mcv_make::make;
-use mcv_route::Routes;
 use mcv_spool::{Disk, DiskFailed, Spool, SpoolRecord, Stored};
-use std::alloc::Global;
+use mcv_verdict::{Judgement, judge_input};
+use std::process::Abort;
 use std::sync::Arc;
 use std::sync::ledger::{Blank, Ledger};
-use std::test::Fail;
 
 /// One pool of one server.
 pub(crate) const ONE: &str =
@@ -23,82 +20,80 @@ pub(crate) const A: ServerId = ServerId(0);
 /// How many seats there are.
 pub(crate) const SEATS: u64 = 2;
 
-/// What the checker makes of a configuration.
-pub(crate) fn accepted_of(alloc: Global, text: &str) -> Result<Arc<Accepted>, Fail> {
-    let Ok(config) = read_config(alloc, text.as_bytes()) else {
-        return Err(Fail::from("the text is refused"));
-    };
-    let routes = Routes::build(alloc, config)?;
-    let Ok(certificate) = make(alloc, &routes) else {
-        return Err(Fail::from("the routes aren't covered"));
-    };
-    match check(alloc, routes, &certificate) {
-        Ok(accepted) => Ok(Arc::new(alloc, accepted)?),
-        Err(_) => Err(Fail::from("the certificate is refused")),
+/// What the checker accepts of a configuration.
+pub(crate) fn accepted_of(rt: &(impl AllocGlobal + Abort), text: &str) -> Arc<Accepted> {
+    let judgement = judge_input(rt.alloc(), &mut text.as_bytes());
+    match judgement.expect(rt, "a configuration") {
+        Judgement::Covered { accepted, .. } => {
+            Arc::new(rt.alloc(), accepted).expect(rt, "memory")
+        }
+        Judgement::Lost { .. } => panic!(rt; "the routes aren't covered"),
     }
 }
 
 /// A hub with two seats that are numbered from the ledgers' parts.
 pub(crate) fn hub_of<B: Ledger, T: Ledger>(
-    alloc: Global,
+    rt: &(impl AllocGlobal + Abort),
     text: &str,
     begun: Blank,
     taken: Blank,
-) -> Result<(Hub<B, T>, Passes<B, T>), Fail>
+) -> (Hub<B, T>, Passes<B, T>)
     requires begun { (begun.name ≡ B.name) × (begun.parts ≡ B.parts) × (begun.parts ≡ SEATS + 1) }
     requires taken { (taken.name ≡ T.name) × (taken.parts ≡ T.parts) × (taken.parts ≡ SEATS + 1) }
 {
-    match Hub::new(
-        alloc,
-        accepted_of(alloc, text)?,
-        &[],
-        4,
-        SEATS,
-        begun,
-        taken,
-    ) {
-        Ok(made) => Ok(made),
-        Err(_) => Err(Fail::from("out of memory")),
+    let accepted = accepted_of(rt, text);
+    Hub::new(rt.alloc(), accepted, &[], 4, SEATS, begun, taken).expect(rt, "memory")
+}
+
+/// The bytes, owned.
+fn bytes(rt: &(impl AllocGlobal + Abort), bytes: &[u8]) -> Vec<u8> {
+    Vec::from_slice(rt.alloc(), bytes).expect(rt, "memory")
+}
+
+/// The bytes, shared.
+pub(crate) fn shared(rt: &(impl AllocGlobal + Abort), text: &[u8]) -> Arc<Vec<u8>> {
+    Arc::new(rt.alloc(), bytes(rt, text)).expect(rt, "memory")
+}
+
+/// What a client asks of one key.
+fn ask(rt: &(impl AllocGlobal + Abort), op: Op, key: &[u8]) -> Ask {
+    let mut keys = Vec::new(rt.alloc());
+    keys.push(bytes(rt, key)).expect(rt, "memory");
+    Ask {
+        op,
+        keys,
+        flags: 0,
+        exptime: 0,
+        body: shared(rt, b""),
+        cas: None,
+        noreply: false,
     }
 }
 
-/// A request for the key `a`.
-pub(crate) fn request(alloc: Global, op: Op) -> Result<Arc<Request>, Fail> {
-    let mut keys = Vec::new(alloc);
-    keys.push(Vec::from_slice(alloc, b"a")?)?;
-    Ok(Arc::new(
-        alloc,
-        Request::Ask(Ask {
-            op,
-            keys,
-            flags: 0,
-            exptime: 0,
-            body: Arc::new(alloc, Vec::new(alloc))?,
-            cas: None,
-            noreply: false,
-        }),
-    )?)
+/// A request for a key.
+pub(crate) fn request(rt: &(impl AllocGlobal + Abort), op: Op, key: &[u8]) -> Arc<Request> {
+    Arc::new(rt.alloc(), Request::Ask(ask(rt, op, key))).expect(rt, "memory")
 }
 
-pub(crate) fn record(server: &[u8], rest: &[u8]) -> Result<SpoolRecord, Fail> {
-    match (ServerText::of(server), Rest::of(rest)) {
-        (Some(server), Some(rest)) => Ok(SpoolRecord { server, rest }),
-        _ => Err(Fail::from("no record")),
+fn record(rt: &(impl AllocGlobal + Abort), server: &[u8], rest: &[u8]) -> SpoolRecord {
+    SpoolRecord {
+        server: ServerText::of(server).expect(rt, "a server"),
+        rest: Rest::of(rest).expect(rt, "a rest"),
     }
 }
 
-/// A record that a spool has stored, its first one.
-pub(crate) fn stored(alloc: Global, server: &[u8], rest: &[u8]) -> Result<Stored, Fail> {
+/// A spool without records, in memory.
+fn empty_spool(rt: &(impl AllocGlobal + Abort)) -> Spool<MemoryDisk> {
     let disk = MemoryDisk {
-        bytes: Vec::new(alloc),
+        bytes: Vec::new(rt.alloc()),
     };
-    let Ok(mut spool) = Spool::open(alloc, disk) else {
-        return Err(Fail::from("the spool is refused"));
-    };
-    match spool.append(record(server, rest)?) {
-        Ok(stored) => Ok(stored),
-        Err(_) => Err(Fail::from("the record is refused")),
-    }
+    Spool::open(rt.alloc(), disk).expect(rt, "a spool")
+}
+
+/// The record, stored by a spool of its own, its first one.
+pub(crate) fn stored(rt: &(impl AllocGlobal + Abort), server: &[u8], rest: &[u8]) -> Stored {
+    let mut spool = empty_spool(rt);
+    spool.append(record(rt, server, rest)).expect(rt, "room")
 }
 
 /// A file in memory. It says nothing of the model, so it isn't proved to keep it.
