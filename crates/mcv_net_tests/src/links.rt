@@ -4,46 +4,38 @@ ghost use Rattle.std.specs.Prelude.{◌≡◌, ◌+◌};
 
 use crate::memory::{Course, MemoryDial, Nobody, Seen};
 use mcv_base::{LegRequest, Op, Reply, Rest};
-use mcv_check::{Accepted, check};
-use mcv_config::read_config;
+use mcv_check::Accepted;
 use mcv_hub::{Hub, Pass};
-use mcv_make::make;
 use mcv_net::{Notice, TcpLink};
 use mcv_proxy::{Link, LinkFault};
-use mcv_route::Routes;
+use mcv_verdict::{Judgement, judge_input};
 use std::alloc::Global;
 use std::marker::Brand;
+use std::process::Abort;
 use std::sync::ledger::{Blank, Ledger};
 use std::sync::{Arc, Mutex, Wait};
 use std::test::Fail;
 
 const CONFIG: &str = "{\"pools\":{\"A\":{\"servers\":[\"a:11211\"]}},\"route\":\"PoolRoute|A\"}";
 
-/// What the checker makes of a configuration.
-pub(crate) fn accepted_of(alloc: Global, text: &str) -> Result<Arc<Accepted>, Fail> {
-    let Ok(config) = read_config(alloc, text.as_bytes()) else {
-        return Err(Fail::from("the text is refused"));
-    };
-    let routes = Routes::build(alloc, config)?;
-    let Ok(certificate) = make(alloc, &routes) else {
-        return Err(Fail::from("the routes aren't covered"));
-    };
-    match check(alloc, routes, &certificate) {
-        Ok(accepted) => Ok(Arc::new(alloc, accepted)?),
-        Err(_) => Err(Fail::from("the certificate is refused")),
+/// What the checker accepts of a configuration.
+pub(crate) fn accepted_of(rt: &impl Abort, alloc: Global, text: &str) -> Arc<Accepted> {
+    let judgement = judge_input(alloc, &mut text.as_bytes());
+    match judgement.expect(rt, "a configuration") {
+        Judgement::Covered { accepted, .. } => Arc::new(alloc, accepted).expect(rt, "memory"),
+        Judgement::Lost { .. } => panic!(rt; "the routes aren't covered"),
     }
 }
 
 /// A pass of a hub.
-fn pass_of<B: Ledger, T: Ledger>(alloc: Global, begun: Blank, taken: Blank) -> Result<Pass, Fail>
+fn pass_of<B: Ledger, T: Ledger>(rt: &impl Abort, alloc: Global, begun: Blank, taken: Blank) -> Pass
     requires begun { (begun.name ≡ B.name) × (begun.parts ≡ B.parts) × (begun.parts ≡ 2) }
     requires taken { (taken.name ≡ T.name) × (taken.parts ≡ T.parts) × (taken.parts ≡ 2) }
 {
-    let accepted = accepted_of(alloc, CONFIG)?;
-    match Hub::<B, T>::new(alloc, accepted, &[], 1, 1, begun, taken) {
-        Ok((_hub, passes)) => Ok(passes.pass()),
-        Err(_) => Err(Fail::from("out of memory")),
-    }
+    let accepted = accepted_of(rt, alloc, CONFIG);
+    let made = Hub::<B, T>::new(alloc, accepted, &[], 1, 1, begun, taken);
+    let (_hub, passes) = made.expect(rt, "memory");
+    passes.pass()
 }
 
 /// The leg of an operation on `k` with the value `x`.
@@ -229,7 +221,7 @@ fn legs_go_over_the_kept_connection_or_a_new_one(rt: HostRuntime) -> Result<(), 
     let alloc = rt.alloc();
     let begun = Blank::new(2);
     let taken = Blank::new(2);
-    let pass = pass_of::<Brand, Brand>(alloc, begun, taken)?;
+    let pass = pass_of::<Brand, Brand>(&rt, alloc, begun, taken);
     for row in ROWS {
         assert!(rt; holds(rt, alloc, &pass, *row, false)?, "{}", row.name);
         assert!(rt; holds(rt, alloc, &pass, *row, true)?, "{}, begun", row.name);
@@ -237,16 +229,30 @@ fn legs_go_over_the_kept_connection_or_a_new_one(rt: HostRuntime) -> Result<(), 
     Ok(())
 }
 
+fn check_notice(rt: &impl Abort, alloc: Global, notice: Notice<'_>, line: &str) {
+    let shown = format!(in alloc; "{notice}").expect(rt, "memory");
+    assert!(rt; shown.as_str() == line, "{shown}");
+}
+
 #[test]
-fn notices_are_lines(rt: HostRuntime) -> Result<(), Fail> {
+fn notices_are_lines(rt: HostRuntime) {
     let alloc = rt.alloc();
-    for (notice, line) in [
-        (Notice::Marked("a:1"), "mcv: server a:1 is marked"),
-        (Notice::Unmarked("a:1"), "mcv: server a:1 answers again"),
-        (Notice::Refusing, "mcv: the spool refuses records"),
-    ] {
-        let shown = format!(in alloc; "{notice}")?;
-        assert!(rt; shown.as_str() == line);
-    }
-    Ok(())
+    check_notice(
+        &rt,
+        alloc,
+        Notice::Marked("a:1"),
+        "mcv: server a:1 is marked",
+    );
+    check_notice(
+        &rt,
+        alloc,
+        Notice::Unmarked("a:1"),
+        "mcv: server a:1 answers again",
+    );
+    check_notice(
+        &rt,
+        alloc,
+        Notice::Refusing,
+        "mcv: the spool refuses records",
+    );
 }

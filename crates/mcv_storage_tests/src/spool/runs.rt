@@ -154,37 +154,33 @@ fn are_done_in_turn(spool: &mut Spool<Borrowed<'_>>) -> bool {
 }
 
 #[test]
-fn records_are_done_in_any_order(rt: HostRuntime) -> Result<(), Fail> {
+fn records_are_done_in_any_order(rt: HostRuntime) {
     let mut disk = empty_disk(rt.alloc());
-    let mut spool = open(rt.alloc(), &mut disk)?;
+    let mut spool = open(rt.alloc(), &mut disk).expect(&rt, "a spool");
     assert!(rt; three_are_appended(&mut spool) && are_pending(&spool, b"012"));
     assert!(rt; are_done_in_turn(&mut spool));
     assert!(rt; append(&mut spool, b"a:11211", b"d") == Some(3));
     assert!(rt; are_pending(&spool, b"03"));
     assert!(rt; spool.reopen().is_ok() && are_pending(&spool, b"03"));
-    Ok(())
 }
 
-/// Whether a record is of this server and rest.
-fn is_of(one: &SpoolRecord, server: &[u8], rest: &[u8]) -> Option<bool> {
-    let other = record(server, rest)?;
-    Some(one.is(&other.server, &other.rest))
+/// Whether a record and its copy are of this server and rest, or neither of the two is.
+fn check_of(rt: &impl Abort, one: &SpoolRecord, server: &[u8], rest: &[u8], is: bool) {
+    let other = record(server, rest).expect(rt, "a record");
+    assert!(rt; one.is(&other.server, &other.rest) == is, "{other:?}");
+    assert!(rt;
+        one.copied().is(&other.server, &other.rest) == is,
+        "the copy, {other:?}"
+    );
 }
 
 #[test]
-fn a_record_is_of_one_server_and_one_rest(rt: HostRuntime) -> Result<(), Fail> {
-    let one = record(b"a:11211", b"a").ok_or("record")?;
-    let copy = one.copied();
-    for (server, rest, is) in [
-        (b"a:11211", b"a", true),
-        (b"b:11211", b"a", false),
-        (b"a:11212", b"a", false),
-        (b"a:11211", b"b", false),
-    ] {
-        assert!(rt; is_of(&one, server, rest) == Some(is));
-        assert!(rt; is_of(&copy, server, rest) == Some(is));
-    }
-    Ok(())
+fn a_record_is_of_one_server_and_one_rest(rt: HostRuntime) {
+    let one = record(b"a:11211", b"a").expect(&rt, "a record");
+    check_of(&rt, &one, b"a:11211", b"a", true);
+    check_of(&rt, &one, b"b:11211", b"a", false);
+    check_of(&rt, &one, b"a:11212", b"a", false);
+    check_of(&rt, &one, b"a:11211", b"b", false);
 }
 
 /// The number of a record that is appended to the file.
@@ -193,53 +189,57 @@ fn append_to(alloc: Global, disk: &mut TestDisk) -> Option<u64> {
     append(&mut spool, b"a:11211", b"a")
 }
 
-/// A file with one record whose length doesn't read, and with an open end gate.
-fn damaged(alloc: Global) -> Option<TestDisk> {
-    let mut disk = empty_disk(alloc);
-    append_to(alloc, &mut disk)?;
-    *disk.bytes.get_mut(3)? = 0;
-    *disk.bytes.get_mut(640)? = 1;
-    Some(disk)
+/// Makes the length of the first record one that doesn't read, and opens the end gate.
+fn spoil(bytes: &mut Vec<u8>) -> Option<()> {
+    *bytes.get_mut(3)? = 0;
+    *bytes.get_mut(640)? = 1;
+    Some(())
 }
 
 /// An opening closes the end gate, and one that is refused for damage has written nothing.
 #[test]
-fn a_length_that_does_not_read_is_damage(rt: HostRuntime) -> Result<(), Fail> {
-    let mut disk = damaged(rt.alloc()).ok_or("file")?;
+fn a_length_that_does_not_read_is_damage(rt: HostRuntime) {
+    let mut disk = empty_disk(rt.alloc());
+    assert!(rt; append_to(rt.alloc(), &mut disk) == Some(0));
+    assert!(rt; spoil(&mut disk.bytes).is_some());
     assert!(rt; open(rt.alloc(), &mut disk).err() == Some(SpoolFault::Damaged(0)));
     assert!(rt; disk.bytes.len() == 641 && disk.bytes.last() == Some(&1));
-    Ok(())
 }
+
+const FAULTS: [SpoolFault; 5] = [
+    SpoolFault::Device,
+    SpoolFault::Full,
+    SpoolFault::Memory,
+    SpoolFault::Reopen,
+    SpoolFault::Damaged(0),
+];
 
 #[test]
 fn faults_have_numbers(rt: HostRuntime) {
-    for (fault, number) in [
-        (SpoolFault::Device, 1),
-        (SpoolFault::Full, 2),
-        (SpoolFault::Memory, 3),
-        (SpoolFault::Reopen, 4),
-        (SpoolFault::Damaged(0), 5),
-    ] {
-        assert!(rt; fault.number() == number, "{number}");
+    for (place, fault) in FAULTS.iter().enumerate() {
+        let number = usize::from(fault.number());
+        assert!(rt; number == place.saturating_add(1), "{number}");
     }
 }
 
-/// Why a record isn't taken.
-fn refused(spool: &mut Spool<Borrowed<'_>>) -> Option<SpoolFault> {
-    spool.append(record(b"b:11211", b"ab")?).err()
+/// Whether a record isn't taken, for this reason.
+fn is_refused(spool: &mut Spool<Borrowed<'_>>, fault: SpoolFault) -> bool {
+    match record(b"b:11211", b"ab") {
+        Some(record) => spool.append(record).err() == Some(fault),
+        None => false,
+    }
 }
 
 #[test]
-fn a_failed_sync_wants_a_reopen(rt: HostRuntime) -> Result<(), Fail> {
+fn a_failed_sync_wants_a_reopen(rt: HostRuntime) {
     let mut disk = empty_disk(rt.alloc());
     disk.trouble = Trouble::FailAt(12);
-    let mut spool = open(rt.alloc(), &mut disk)?;
+    let mut spool = open(rt.alloc(), &mut disk).expect(&rt, "a spool");
     assert!(rt; append(&mut spool, b"a:11211", b"a") == Some(0));
-    assert!(rt; refused(&mut spool) == Some(SpoolFault::Device) && are_pending(&spool, b"0"));
-    assert!(rt; refused(&mut spool) == Some(SpoolFault::Reopen));
-    assert!(rt; spool.done(0).err() == Some(SpoolFault::Reopen));
+    assert!(rt; is_refused(&mut spool, SpoolFault::Device) && are_pending(&spool, b"0"));
+    assert!(rt; is_refused(&mut spool, SpoolFault::Reopen));
+    assert!(rt; spool.done(0) == Err(SpoolFault::Reopen));
     assert!(rt; spool.reopen().is_ok() && are_pending(&spool, b"0"));
-    Ok(())
 }
 
 /// Whether each opening renews the disk once, and no other call does.
@@ -443,15 +443,29 @@ fn is_second_there(rt: &HostRuntime, path: &str) -> Result<bool, Fail> {
     Ok(is_second_pending(&spool) && slots_counted(&mut spool) == Some(2))
 }
 
+/// What of a file isn't as wanted: a torn one becomes empty, and two records are kept in it.
+fn records_kept(rt: &HostRuntime, path: &str) -> Result<&'static str, Fail> {
+    fs::write(rt, path, "\x01torn")?;
+    if !is_empty_there(rt, path)? {
+        return Ok("records in a torn file");
+    }
+    if fs::read(rt, path)?.as_slice() != b"\x00".as_slice() {
+        return Ok("no closed gate");
+    }
+    if !append_two_to(rt, path)? {
+        return Ok("not appended");
+    }
+    if !is_second_there(rt, path)? {
+        return Ok("not kept");
+    }
+    fs::remove_file(rt, path)?;
+    Ok("nothing")
+}
+
 #[test]
 fn a_file_of_the_system_keeps_records(rt: HostRuntime) -> Result<(), Fail> {
     let path = own_path(&rt, "records")?;
-    fs::write(&rt, path.as_str(), "\x01torn")?;
-    assert!(rt; is_empty_there(&rt, path.as_str())?);
-    assert!(rt; fs::read(&rt, path.as_str())?.as_slice() == b"\x00".as_slice());
-    assert!(rt; append_two_to(&rt, path.as_str())?);
-    assert!(rt; is_second_there(&rt, path.as_str())?);
-    fs::remove_file(&rt, path.as_str())?;
+    assert_eq!(rt; records_kept(&rt, path.as_str())?, "nothing");
     Ok(())
 }
 
@@ -472,12 +486,22 @@ fn takes_a_byte(rt: &HostRuntime, path: &str) -> Result<bool, Fail> {
     Ok(disk.write_at(0, b"\x00").is_ok() && disk.sync().is_ok() && disk.len() == Ok(1))
 }
 
+/// What of a file isn't as wanted: it is open once, and then takes a byte.
+fn opened_once(rt: &HostRuntime, path: &str) -> Result<&'static str, Fail> {
+    if !is_open_once(rt, path)? {
+        return Ok("open twice");
+    }
+    if !takes_a_byte(rt, path)? {
+        return Ok("no byte");
+    }
+    fs::remove_file(rt, path)?;
+    Ok("nothing")
+}
+
 #[test]
 fn a_file_of_the_system_is_open_once(rt: HostRuntime) -> Result<(), Fail> {
     let path = own_path(&rt, "lock")?;
-    assert!(rt; is_open_once(&rt, path.as_str())?);
-    assert!(rt; takes_a_byte(&rt, path.as_str())?);
-    fs::remove_file(&rt, path.as_str())?;
+    assert_eq!(rt; opened_once(&rt, path.as_str())?, "nothing");
     Ok(())
 }
 
@@ -494,12 +518,22 @@ fn writes_again(rt: &HostRuntime, path: &str) -> Result<bool, Fail> {
     )
 }
 
+/// What of a file isn't as wanted: it has the bytes that were written again.
+fn written_again(rt: &HostRuntime, path: &str) -> Result<&'static str, Fail> {
+    if !writes_again(rt, path)? {
+        return Ok("not written");
+    }
+    if fs::read(rt, path)?.as_slice() != b"axy".as_slice() {
+        return Ok("other bytes");
+    }
+    fs::remove_file(rt, path)?;
+    Ok("nothing")
+}
+
 #[test]
 fn what_is_not_synced_is_written_again(rt: HostRuntime) -> Result<(), Fail> {
     let path = own_path(&rt, "renewed")?;
-    assert!(rt; writes_again(&rt, path.as_str())?);
-    assert!(rt; fs::read(&rt, path.as_str())?.as_slice() == b"axy".as_slice());
-    fs::remove_file(&rt, path.as_str())?;
+    assert_eq!(rt; written_again(&rt, path.as_str())?, "nothing");
     Ok(())
 }
 
@@ -513,10 +547,8 @@ fn a_spool_goes_to_another_thread(rt: HostRuntime) -> Result<(), Fail> {
     let path = own_path(&rt, "thread")?;
     assert!(rt; append_two_to(&rt, path.as_str())?);
     let spool = open_file(&rt, path.as_str())?;
-    let child = thread::spawn(&rt, move || append_third(spool))
-        .ok()
-        .ok_or("thread")?;
-    assert!(rt; child.join(&rt));
+    let child = thread::spawn(&rt, move || append_third(spool));
+    assert!(rt; child.expect(&rt, "a thread").join(&rt));
     fs::remove_file(&rt, path.as_str())?;
     Ok(())
 }
