@@ -1,6 +1,6 @@
 //! What clients are answered, and what servers are sent.
 
-use crate::scene::{FREE, Guest, Manner, Role, Scene, bytes, play};
+use crate::scene::{Cues, Duties, Manner, NO_CUES, NO_DUTIES, Scene, bytes, play};
 use mcv_hub::Report;
 use mcv_proxy::ProxyFault;
 use std::alloc::Global;
@@ -40,65 +40,126 @@ const SECOND_FIRST: &str =
 const INITIAL: &str =
     "{\"pools\":{\"A\":{\"servers\":[\"a:11211\"]},\"B\":{\"servers\":[\"b:11211\"]}},\"route\":{\"type\":\"AllInitialRoute\",\"children\":[\"PoolRoute|A\",\"PoolRoute|B\"]}}";
 
-/// The first server, which never breaks and has no value.
-const A: Role = Role {
-    manner: Manner {
-        text: "a:11211",
-        has: "",
-        breaks_every: 0,
-        in_a_row: 1,
-        answers_probes: true,
-    },
-    waits_for: None,
+/// The first server, which has no value.
+const A: Manner = Manner {
+    text: "a:11211",
+    has: "",
+    breaks_every: 0,
+    in_a_row: 1,
+    answers_probes: true,
+};
+
+/// The first server, which has a value of `a`.
+const A_HAS_A: Manner = Manner {
+    text: "a:11211",
+    has: "a",
+    breaks_every: 0,
+    in_a_row: 1,
+    answers_probes: true,
+};
+
+/// The first server, which breaks each leg and answers no probe.
+const A_IS_DEAD: Manner = Manner {
+    text: "a:11211",
+    has: "",
+    breaks_every: 1,
+    in_a_row: 1,
+    answers_probes: false,
+};
+
+/// The first server, which breaks each leg and answers probes.
+const A_IS_BROKEN: Manner = Manner {
+    text: "a:11211",
+    has: "",
+    breaks_every: 1,
+    in_a_row: 1,
+    answers_probes: true,
+};
+
+/// The second server, which has no value.
+const B: Manner = Manner {
+    text: "b:11211",
+    has: "",
+    breaks_every: 0,
+    in_a_row: 1,
+    answers_probes: true,
+};
+
+/// The second server, which has a value of `a`.
+const B_HAS_A: Manner = Manner {
+    text: "b:11211",
+    has: "a",
+    breaks_every: 0,
+    in_a_row: 1,
+    answers_probes: true,
+};
+
+/// The second server, which has a value of `b`.
+const B_HAS_B: Manner = Manner {
+    text: "b:11211",
+    has: "b",
+    breaks_every: 0,
+    in_a_row: 1,
+    answers_probes: true,
+};
+
+const WAITS_FOR_0: Duties = Duties {
+    waits_for: Some(0),
     sets: None,
     starts: None,
     unmarks: None,
 };
 
-/// The first server, which has a value of `a`.
-const A_HAS_A: Role = Role {
-    manner: Manner {
-        has: "a",
-        ..A.manner
-    },
-    ..A
+const STARTS_0_WAITS_FOR_1: Duties = Duties {
+    waits_for: Some(1),
+    sets: None,
+    starts: Some(0),
+    unmarks: None,
 };
 
-/// The first server, which breaks each leg and answers no probe.
-const A_IS_BROKEN: Role = Role {
-    manner: Manner {
-        breaks_every: 1,
-        answers_probes: false,
-        ..A.manner
-    },
-    ..A
+const STARTS_1_WAITS_FOR_0: Duties = Duties {
+    waits_for: Some(0),
+    sets: None,
+    starts: Some(1),
+    unmarks: None,
 };
 
-/// The second server, which never breaks and has no value.
-const B: Role = Role {
-    manner: Manner {
-        text: "b:11211",
-        ..A.manner
-    },
-    ..A
+const DELETE_SETS_0: Duties = Duties {
+    waits_for: None,
+    sets: Some(0),
+    starts: None,
+    unmarks: None,
 };
 
-/// The second server, which has a value of `a`.
-const B_HAS_A: Role = Role {
-    manner: Manner {
-        has: "a",
-        ..B.manner
-    },
-    ..B
+const UNMARKS_0: Duties = Duties {
+    waits_for: None,
+    sets: None,
+    starts: None,
+    unmarks: Some(0),
 };
 
-/// The second server, which has a value of `b`.
-const B_HAS_B: Role = Role {
-    manner: Manner {
-        has: "b",
-        ..B.manner
-    },
-    ..B
+const SETS_0: Cues = Cues {
+    sets: Some(0),
+    comes_with: None,
+    waits_for: None,
+};
+
+const COMES_WITH_0: Cues = Cues {
+    sets: None,
+    comes_with: Some(0),
+    waits_for: None,
+};
+
+const COMES_WITH_0_SETS_1: Cues = Cues {
+    sets: Some(1),
+    comes_with: Some(0),
+    waits_for: None,
+};
+
+const GOES_WITH_0: Cues = Cues {
+    sets: None,
+    comes_with: None,
+    waits_for: Some(0),
 };
 
 const HIT_A: &str = "VALUE a 0 1\r\nx\r\nEND\r\n";
@@ -110,9 +171,9 @@ const HIT_B: &str = "VALUE b 0 1\r\nx\r\nEND\r\n";
 struct Row {
     config: &'static str,
     signs: usize,
-    servers: &'static [Role],
-    /// The last one comes first.
-    clients: &'static [Guest],
+    servers: &'static [(Manner, Duties)],
+    /// What they ask; the last one comes first.
+    clients: &'static [(&'static str, Cues)],
     /// How many calls there are.
     calls: u64,
     answers: &'static [&'static str],
@@ -121,18 +182,6 @@ struct Row {
     /// What the first servers are sent.
     texts: &'static [&'static str],
 }
-
-/// A client of one server.
-const ROW: Row = Row {
-    config: ONE,
-    signs: 0,
-    servers: &[A_HAS_A],
-    clients: &[],
-    calls: 1,
-    answers: &[],
-    legs: &[1],
-    texts: &[],
-};
 
 fn is_report(report: &Result<Report, ProxyFault>, calls: u64) -> bool {
     match report {
@@ -147,11 +196,11 @@ fn scene_of<R: Wait + Clock + Abort + Copy + Drop + Send + 'static>(
     row: &Row,
 ) -> Scene<R> {
     let mut scene = Scene::new(rt, alloc, row.signs);
-    for role in row.servers {
-        scene.add_server(role, 0);
+    for (manner, duties) in row.servers {
+        scene.add_server(*manner, *duties, 0);
     }
-    for guest in row.clients {
-        scene.add_client(bytes(&rt, alloc, guest.asks), guest);
+    for (asks, cues) in row.clients {
+        scene.add_client(bytes(&rt, alloc, *asks), *cues);
     }
     scene
 }
@@ -215,9 +264,14 @@ fn check_row<R: Threads + Wait + Clock + Abort + Copy + Drop + Send + 'static>(
 }
 
 const NO_CLIENT: Row = Row {
+    config: ONE,
+    signs: 0,
+    servers: &[(A_HAS_A, NO_DUTIES)],
+    clients: &[],
     calls: 0,
+    answers: &[],
     legs: &[0],
-    ..ROW
+    texts: &[],
 };
 
 #[test]
@@ -226,12 +280,14 @@ fn no_client_comes(rt: HostRuntime) {
 }
 
 const GET: Row = Row {
-    clients: &[Guest {
-        asks: "get a\r\n",
-        ..FREE
-    }],
+    config: ONE,
+    signs: 0,
+    servers: &[(A_HAS_A, NO_DUTIES)],
+    clients: &[("get a\r\n", NO_CUES)],
+    calls: 1,
     answers: &[HIT_A],
-    ..ROW
+    legs: &[1],
+    texts: &[],
 };
 
 #[test]
@@ -243,24 +299,8 @@ fn a_get_is_answered(rt: HostRuntime) {
 const TWO_CLIENTS: Row = Row {
     config: TWO,
     signs: 1,
-    servers: &[
-        Role {
-            waits_for: Some(0),
-            ..A_HAS_A
-        },
-        B_HAS_B,
-    ],
-    clients: &[
-        Guest {
-            asks: "get b\r\n",
-            sets: Some(0),
-            ..FREE
-        },
-        Guest {
-            asks: "get a\r\n",
-            ..FREE
-        },
-    ],
+    servers: &[(A_HAS_A, WAITS_FOR_0), (B_HAS_B, NO_DUTIES)],
+    clients: &[("get b\r\n", SETS_0), ("get a\r\n", NO_CUES)],
     calls: 2,
     answers: &[HIT_B, HIT_A],
     legs: &[1, 1],
@@ -274,16 +314,16 @@ fn two_sessions_go_on_at_once(rt: HostRuntime) {
 
 const WARM_UP_SESSION: Row = Row {
     config: WARM_UP,
-    servers: &[A_HAS_A, B],
-    clients: &[Guest {
-        asks: "get a b\r\nversion\r\nset /././k 05 0 1\r\nx\r\nquit\r\nget a\r\n",
-        ..FREE
-    }],
+    signs: 0,
+    servers: &[(A_HAS_A, NO_DUTIES), (B, NO_DUTIES)],
+    clients: &[(
+        "get a b\r\nversion\r\nset /././k 05 0 1\r\nx\r\nquit\r\nget a\r\n",
+        NO_CUES,
+    )],
     calls: 3,
     answers: &["VALUE a 0 1\r\nx\r\nEND\r\nVERSION mcv 1\r\nSTORED\r\n"],
     legs: &[3, 1],
     texts: &["get a\r\nget b\r\nset k 5 0 1\r\nx\r\n", "get b\r\n"],
-    ..ROW
 };
 
 #[test]
@@ -293,9 +333,13 @@ fn a_session_over_a_warm_up(rt: HostRuntime) {
 
 const SECOND_ANSWERS: Row = Row {
     config: FAILOVER,
-    servers: &[A_IS_BROKEN, B_HAS_A],
+    signs: 0,
+    servers: &[(A_IS_DEAD, NO_DUTIES), (B_HAS_A, NO_DUTIES)],
+    clients: &[("get a\r\n", NO_CUES)],
+    calls: 1,
+    answers: &[HIT_A],
     legs: &[1, 1],
-    ..GET
+    texts: &[],
 };
 
 #[test]
@@ -313,43 +357,29 @@ const FIVE_FAILED: &str =
 
 /// A server that breaks each leg and doesn't answer probes is sent three of five.
 const DEAD: Row = Row {
-    servers: &[A_IS_BROKEN],
-    clients: &[Guest {
-        asks: "get a\r\nget a\r\nget a\r\nget a\r\nget a\r\n",
-        ..FREE
-    }],
+    config: ONE,
+    signs: 0,
+    servers: &[(A_IS_DEAD, NO_DUTIES)],
+    clients: &[("get a\r\nget a\r\nget a\r\nget a\r\nget a\r\n", NO_CUES)],
     calls: 5,
     answers: &[FIVE_FAILED],
     legs: &[3],
-    ..ROW
+    texts: &[],
 };
 
 /// A server that breaks each leg and answers probes is sent three of four, and once its mark is taken away the next one.
 const PROBED: Row = Row {
+    config: ONE,
     signs: 1,
-    servers: &[Role {
-        manner: Manner {
-            breaks_every: 1,
-            ..A.manner
-        },
-        unmarks: Some(0),
-        ..A
-    }],
+    servers: &[(A_IS_BROKEN, UNMARKS_0)],
     clients: &[
-        Guest {
-            asks: "get a\r\n",
-            comes_with: Some(0),
-            ..FREE
-        },
-        Guest {
-            asks: "get a\r\nget a\r\nget a\r\nget a\r\n",
-            ..FREE
-        },
+        ("get a\r\n", COMES_WITH_0),
+        ("get a\r\nget a\r\nget a\r\nget a\r\n", NO_CUES),
     ],
     calls: 5,
     answers: &[FAILED, FOUR_FAILED],
     legs: &[4],
-    ..ROW
+    texts: &[],
 };
 
 #[test]
@@ -363,31 +393,12 @@ fn a_marked_server_is_sent_nothing_until_it_answers_a_probe(rt: HostRuntime) {
 const BUSY: Row = Row {
     config: TWO,
     signs: 1,
-    servers: &[
-        Role {
-            waits_for: Some(0),
-            ..A_HAS_A
-        },
-        B_HAS_B,
-    ],
+    servers: &[(A_HAS_A, WAITS_FOR_0), (B_HAS_B, NO_DUTIES)],
     clients: &[
-        Guest {
-            asks: "get b\r\n",
-            sets: Some(0),
-            ..FREE
-        },
-        Guest {
-            asks: "get a\r\nget a a\r\n",
-            ..FREE
-        },
-        Guest {
-            asks: "set a 0 0 1\r\nx\r\nget a\r\n",
-            ..FREE
-        },
-        Guest {
-            asks: "get a\r\n",
-            ..FREE
-        },
+        ("get b\r\n", SETS_0),
+        ("get a\r\nget a a\r\n", NO_CUES),
+        ("set a 0 0 1\r\nx\r\nget a\r\n", NO_CUES),
+        ("get a\r\n", NO_CUES),
     ],
     calls: 7,
     answers: &[
@@ -409,26 +420,12 @@ fn sessions_wait_for_a_busy_server_in_turn(rt: HostRuntime) {
 const AT_ONCE: Row = Row {
     config: BOTH,
     signs: 2,
-    servers: &[
-        Role {
-            waits_for: Some(1),
-            starts: Some(0),
-            ..A
-        },
-        Role {
-            waits_for: Some(0),
-            starts: Some(1),
-            ..B
-        },
-    ],
-    clients: &[Guest {
-        asks: "delete a\r\n",
-        ..FREE
-    }],
+    servers: &[(A, STARTS_0_WAITS_FOR_1), (B, STARTS_1_WAITS_FOR_0)],
+    clients: &[("delete a\r\n", NO_CUES)],
+    calls: 1,
     answers: &["DELETED\r\n"],
     legs: &[1, 1],
     texts: &["delete a\r\n", "delete a\r\n"],
-    ..ROW
 };
 
 #[test]
@@ -440,25 +437,10 @@ fn legs_of_one_call_are_under_way_at_once(rt: HostRuntime) {
 const SLOW: Row = Row {
     config: SECOND,
     signs: 2,
-    servers: &[
-        Role {
-            waits_for: Some(1),
-            starts: Some(0),
-            ..A
-        },
-        B_HAS_B,
-    ],
+    servers: &[(A, STARTS_0_WAITS_FOR_1), (B_HAS_B, NO_DUTIES)],
     clients: &[
-        Guest {
-            asks: "get b\r\n",
-            sets: Some(1),
-            comes_with: Some(0),
-            ..FREE
-        },
-        Guest {
-            asks: "delete a\r\n",
-            ..FREE
-        },
+        ("get b\r\n", COMES_WITH_0_SETS_1),
+        ("delete a\r\n", NO_CUES),
     ],
     calls: 2,
     answers: &[HIT_B, "DELETED\r\n"],
@@ -468,7 +450,16 @@ const SLOW: Row = Row {
 
 const SLOW_AFTER: Row = Row {
     config: SECOND_FIRST,
-    ..SLOW
+    signs: 2,
+    servers: &[(A, STARTS_0_WAITS_FOR_1), (B_HAS_B, NO_DUTIES)],
+    clients: &[
+        ("get b\r\n", COMES_WITH_0_SETS_1),
+        ("delete a\r\n", NO_CUES),
+    ],
+    calls: 2,
+    answers: &[HIT_B, "DELETED\r\n"],
+    legs: &[1, 2],
+    texts: &[],
 };
 
 #[test]
@@ -479,15 +470,16 @@ fn a_slow_server_holds_up_no_other_one(rt: HostRuntime) {
 
 const WITHOUT_A_REPLY: Row = Row {
     config: INITIAL,
-    servers: &[A_HAS_A, B_HAS_A],
-    clients: &[Guest {
-        asks: "set a 0 0 1\r\nx\r\nset b 0 0 1\r\nx\r\ndelete c\r\n",
-        ..FREE
-    }],
+    signs: 0,
+    servers: &[(A_HAS_A, NO_DUTIES), (B_HAS_A, NO_DUTIES)],
+    clients: &[(
+        "set a 0 0 1\r\nx\r\nset b 0 0 1\r\nx\r\ndelete c\r\n",
+        NO_CUES,
+    )],
     calls: 3,
     answers: &["STORED\r\nSTORED\r\nDELETED\r\n"],
     legs: &[3, 3],
-    ..ROW
+    texts: &[],
 };
 
 #[test]
@@ -496,14 +488,14 @@ fn legs_without_a_reply_are_sent_too(rt: HostRuntime) {
 }
 
 const REFUSED_KEY: Row = Row {
-    clients: &[Guest {
-        asks: "get a /x/y/z\r\nget a\r\n",
-        ..FREE
-    }],
+    config: ONE,
+    signs: 0,
+    servers: &[(A_HAS_A, NO_DUTIES)],
+    clients: &[("get a /x/y/z\r\nget a\r\n", NO_CUES)],
     calls: 2,
     answers: &["SERVER_ERROR no route\r\nVALUE a 0 1\r\nx\r\nEND\r\n"],
     legs: &[2],
-    ..ROW
+    texts: &[],
 };
 
 #[test]
@@ -512,14 +504,17 @@ fn a_refused_key_is_the_whole_answer(rt: HostRuntime) {
 }
 
 const NO_REPLY_WANTED: Row = Row {
-    clients: &[Guest {
-        asks: "delete a noreply\r\nset b 0 0 1 noreply\r\nx\r\nversion\r\n",
-        ..FREE
-    }],
+    config: ONE,
+    signs: 0,
+    servers: &[(A_HAS_A, NO_DUTIES)],
+    clients: &[(
+        "delete a noreply\r\nset b 0 0 1 noreply\r\nx\r\nversion\r\n",
+        NO_CUES,
+    )],
     calls: 2,
     answers: &["VERSION mcv 1\r\n"],
     legs: &[2],
-    ..ROW
+    texts: &[],
 };
 
 #[test]
@@ -529,27 +524,26 @@ fn nothing_is_written_where_no_reply_is_wanted(rt: HostRuntime) {
 
 /// A delete of a broken server is answered and stays in the spool.
 const SPOOLED: Row = Row {
-    servers: &[A_IS_BROKEN],
-    clients: &[Guest {
-        asks: "delete a\r\n",
-        ..FREE
-    }],
+    config: ONE,
+    signs: 0,
+    servers: &[(A_IS_DEAD, NO_DUTIES)],
+    clients: &[("delete a\r\n", NO_CUES)],
+    calls: 1,
     answers: &["NOT_FOUND\r\n"],
     legs: &[],
-    ..ROW
+    texts: &[],
 };
 
 /// A proxy that is started on its disk sends it again.
 const SENT_AGAIN: Row = Row {
+    config: ONE,
     signs: 1,
-    servers: &[Role { sets: Some(0), ..A }],
-    clients: &[Guest {
-        waits_for: Some(0),
-        ..FREE
-    }],
+    servers: &[(A, DELETE_SETS_0)],
+    clients: &[("", GOES_WITH_0)],
     calls: 0,
+    answers: &[""],
+    legs: &[1],
     texts: &["delete a\r\n"],
-    ..ROW
 };
 
 /// Runs a proxy on the disk of an earlier one.
@@ -582,19 +576,25 @@ fn a_spooled_delete_is_sent_again_after_a_stop(rt: HostRuntime) {
 }
 
 const REFUSED: Row = Row {
-    servers: &[A_IS_BROKEN],
-    clients: &[Guest {
-        asks: "delete a\r\nversion\r\n",
-        ..FREE
-    }],
+    config: ONE,
+    signs: 0,
+    servers: &[(A_IS_DEAD, NO_DUTIES)],
+    clients: &[("delete a\r\nversion\r\n", NO_CUES)],
+    calls: 1,
     answers: &["SERVER_ERROR destination failed\r\nVERSION mcv 1\r\n"],
     legs: &[],
-    ..ROW
+    texts: &[],
 };
 
 const KEPT: Row = Row {
+    config: ONE,
+    signs: 0,
+    servers: &[(A_IS_DEAD, NO_DUTIES)],
+    clients: &[("delete a\r\nversion\r\n", NO_CUES)],
+    calls: 1,
     answers: &["NOT_FOUND\r\nVERSION mcv 1\r\n"],
-    ..REFUSED
+    legs: &[],
+    texts: &[],
 };
 
 /// Plays a row where the disk fails at a write. How long the file is then.

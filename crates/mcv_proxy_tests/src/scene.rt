@@ -39,10 +39,9 @@ pub(crate) struct Manner {
     pub(crate) answers_probes: bool,
 }
 
-/// What a server does in a scene, whose signs have their numbers.
+/// What a server does with the signs of a scene, by their numbers.
 #[derive(Clone, Copy)]
-pub(crate) struct Role {
-    pub(crate) manner: Manner,
+pub(crate) struct Duties {
     /// It answers only once this is set.
     pub(crate) waits_for: Option<usize>,
     /// It sets this once it has performed a delete.
@@ -53,10 +52,17 @@ pub(crate) struct Role {
     pub(crate) unmarks: Option<usize>,
 }
 
-/// What a client does in a scene.
+/// A server that looks at no sign.
+pub(crate) const NO_DUTIES: Duties = Duties {
+    waits_for: None,
+    sets: None,
+    starts: None,
+    unmarks: None,
+};
+
+/// What a client does with the signs of a scene.
 #[derive(Clone, Copy)]
-pub(crate) struct Guest {
-    pub(crate) asks: &'static str,
+pub(crate) struct Cues {
     /// Each write to it sets this.
     pub(crate) sets: Option<usize>,
     /// It sends its first byte only once this is set.
@@ -65,9 +71,8 @@ pub(crate) struct Guest {
     pub(crate) waits_for: Option<usize>,
 }
 
-/// A client that waits for nothing.
-pub(crate) const FREE: Guest = Guest {
-    asks: "",
+/// A client that looks at no sign.
+pub(crate) const NO_CUES: Cues = Cues {
     sets: None,
     comes_with: None,
     waits_for: None,
@@ -363,14 +368,14 @@ impl<R: Wait + Clock + Abort + Copy + Drop + Send + 'static> Scene<R> {
     }
 
     /// One more server, which performs the deletes of so many numbers.
-    pub(crate) fn add_server(&mut self, role: &Role, numbers: usize) {
+    pub(crate) fn add_server(&mut self, manner: Manner, duties: Duties, numbers: usize) {
         let server = Server {
-            manner: role.manner,
+            manner,
             legs: AtomicU64::new(0),
-            waits_for: self.sign(role.waits_for),
-            sets: self.sign(role.sets),
-            starts: self.sign(role.starts),
-            unmarks: self.sign(role.unmarks),
+            waits_for: self.sign(duties.waits_for),
+            sets: self.sign(duties.sets),
+            starts: self.sign(duties.starts),
+            unmarks: self.sign(duties.unmarks),
             notes: Mutex::new(Notes {
                 text: Vec::new(self.alloc),
                 deleted: zeros(&self.rt, self.alloc, numbers),
@@ -381,21 +386,21 @@ impl<R: Wait + Clock + Abort + Copy + Drop + Send + 'static> Scene<R> {
     }
 
     /// One more client, which sends these bytes, and comes before those that are there already.
-    pub(crate) fn add_client(&mut self, bytes: Vec<u8>, guest: &Guest) {
+    pub(crate) fn add_client(&mut self, bytes: Vec<u8>, cues: Cues) {
         let text = shared_list(&self.rt, self.alloc);
         let answer = Arc::try_clone(&text).expect(&self.rt, "memory");
         self.answers.push(answer).expect(&self.rt, "memory");
         let output = Output {
             rt: self.rt,
             text,
-            sign: self.sign(guest.sets),
+            sign: self.sign(cues.sets),
         };
         let client = Client {
             rt: self.rt,
             bytes,
             at: 0,
-            comes_with: self.sign(guest.comes_with),
-            waits_for: self.sign(guest.waits_for),
+            comes_with: self.sign(cues.comes_with),
+            waits_for: self.sign(cues.waits_for),
         };
         self.clients
             .push((client, output))

@@ -1,7 +1,7 @@
 //! Many sessions at once over servers that break legs.
 
 use crate::disk::MemoryDisk;
-use crate::scene::{FREE, Manner, Role, Scene, number_of, play};
+use crate::scene::{Manner, NO_CUES, NO_DUTIES, Scene, number_of, play};
 use mcv_base::push_number;
 use mcv_hub::Report;
 use mcv_spool::{Slot, Spool};
@@ -22,26 +22,20 @@ const KEYS: usize = 1_000;
 
 const SESSIONS: usize = 16;
 
-/// What the server of this number does: it breaks one leg in ten, every second one three in a row, which marks it. A dead
+/// How the server of this number behaves: it breaks one leg in ten, every second one three in a row, which marks it. A dead
 /// one breaks all, and answers no probe.
-fn role_of(server: usize, text: &'static str, is_dead: bool) -> Role {
+fn manner_of(server: usize, text: &'static str, is_dead: bool) -> Manner {
     let (breaks_every, in_a_row) = match (is_dead, server % 2) {
         (true, _) => (1, 1),
         (false, 0) => (10, 1),
         (false, _) => (30, 3),
     };
-    Role {
-        manner: Manner {
-            text,
-            has: "",
-            breaks_every,
-            in_a_row,
-            answers_probes: !is_dead,
-        },
-        waits_for: None,
-        sets: None,
-        starts: None,
-        unmarks: None,
+    Manner {
+        text,
+        has: "",
+        breaks_every,
+        in_a_row,
+        answers_probes: !is_dead,
     }
 }
 
@@ -80,10 +74,11 @@ fn scene_of<R: Wait + Clock + Abort + Copy + Drop + Send + 'static>(
 ) -> Scene<R> {
     let mut scene = Scene::new(rt, alloc, 0);
     for (server, text) in SERVERS.iter().enumerate() {
-        scene.add_server(&role_of(server, *text, dead == Some(server)), KEYS);
+        let manner = manner_of(server, *text, dead == Some(server));
+        scene.add_server(manner, NO_DUTIES, KEYS);
     }
     for _session in 0..SESSIONS {
-        scene.add_client(requests(&rt, alloc, count), &FREE);
+        scene.add_client(requests(&rt, alloc, count), NO_CUES);
     }
     scene
 }
