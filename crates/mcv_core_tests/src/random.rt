@@ -198,7 +198,7 @@ impl<'a> Run<'a> {
         let mut records = Vec::new(rt.alloc());
         for seq in 0..dice.below(3) {
             let server = dice.below(ground.routes().servers().len().saturating_add(1));
-            let server = ServerId(server as u32);
+            let server = ServerId(u32::try_from(server).unwrap_or(0));
             let key = dice.below(ground.keys.len());
             let record = record_of(rt, ground, server, key);
             records.push((seq as u64, record)).expect(rt, "memory");

@@ -101,7 +101,7 @@ fn shown<T: Debug + Drop>(rt: &(impl AllocGlobal + Abort), value: T) -> String {
 }
 
 fn server(number: u64) -> ServerId {
-    ServerId(number as u32)
+    ServerId(u32::try_from(number).unwrap_or(u32::MAX))
 }
 
 fn place(step: Result<Step, CoreFault>) -> Result<Place, CoreFault> {

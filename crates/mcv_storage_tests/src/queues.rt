@@ -9,7 +9,7 @@ mod marks;
 
 /// The server of this number.
 fn server(number: u64) -> ServerId {
-    ServerId(number as u32)
+    ServerId(u32::try_from(number).unwrap_or(u32::MAX))
 }
 
 fn number_of(rt: &impl Abort, word: &str) -> u64 {
