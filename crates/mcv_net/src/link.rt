@@ -177,11 +177,7 @@ impl<D: Dial, N: Notices> TcpLink<D, N> {
     }
 
     /// Goes on with what was begun of a leg; where nothing was, sends it.
-    fn send_leg(
-        &mut self,
-        begun: Option<Begun<D::Stream>>,
-        leg: &LegRequest,
-    ) -> Result<Reply, Loss>
+    fn send_leg(&mut self, begun: Option<Begun<D::Stream>>, leg: &LegRequest) -> Result<Reply, Loss>
         ensures begun { IfSome begun (λ begun. GoesOn D.Stream.contents D.Stream.remaining (SpellsReply leg.now.op (arc_value leg.now.rest)) begun.text.items leg.now.op begun.over result self.new.kept) }
         ensures whole { IfNone begun (((result ≡ Err Loss.Memory) × (self.new.kept ≡ self.old.kept)) ⊎ Sends D.Stream.contents D.Stream.remaining (SpellsReply leg.now.op (arc_value leg.now.rest)) (leg_text (leg_value leg.now)) leg.now.op self.old.kept result self.new.kept) }
     {
@@ -238,10 +234,10 @@ impl<D: Dial, N: Notices> Link for TcpLink<D, N> {
     ghost answers = { λ old begun leg result new. AnswersLeg D.Stream.contents D.Stream.remaining leg begun old.kept result new.kept × IfOk result (λ reply. (bytes : List ℕ) × SpellsReply leg.op (arc_value leg.rest) bytes reply) };
 
     fn start(&mut self, _pass: &Pass, leg: &LegRequest) -> Option<Begun<D::Stream>> {
-        match leg_text(self.alloc, leg) {
-            Ok(text) => Some(self.begin(text)),
-            Err(_) => None,
-        }
+        let Ok(text) = leg_text(self.alloc, leg) else {
+            return None;
+        };
+        Some(self.begin(text))
     }
 
     fn send(

@@ -9,9 +9,10 @@ returns-in-Ok g c =
     let spells = SpellsReply c.args.leg.now.op (arc_value c.args.leg.now.rest) in
     let reply = c.in-Ok.reply in
     let begun = c.in-Ok.ensures.begun in
-    let whole = c.in-Ok.ensures.whole in
-    ( record { outcome = Ok reply; is = refl; goes_on = begun; whole = whole },
-      either_way c.args.begun _ _ _ begun whole (λ b s. goes_on_spelled _ _ spells _ _ _ _ reply s) (λ s. whole_spelled _ _ spells _ _ _ _ reply _ s) )
+    let whole = c.in-Ok.ensures.whole in (
+      record { outcome = Ok reply; is = refl; goes_on = begun; whole = whole },
+      either_way c.args.begun _ _ _ begun whole (λ b s. goes_on_spelled _ _ spells _ _ _ _ reply s) (λ s. whole_spelled _ _ spells _ _ _ _ reply _ s),
+    )
 
 pub returns-in-Err : goal.returns-in-Err
 returns-in-Err g c = (record { outcome = Err c.in-Err.loss; is = ap Err c.fault_of-in-Err.ensures; goes_on = c.in-Err.ensures.begun; whole = c.in-Err.ensures.whole }, tt)
