@@ -26,7 +26,7 @@ pub trait Link: Drop {
     ghost use Rattle.mcv_proxy.specs.declared.gates.LinkFault.{LinkFault};
 
     /// A leg that was begun.
-    type Begun: Drop;
+    type Begun: Drop + Send;
 
     /// What the link says of beginning a leg: the link before, the leg, what was begun of it, the link after. One that says
     /// nothing may begin anything.
