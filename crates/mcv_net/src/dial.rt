@@ -5,7 +5,7 @@ use std::net::{Net, TcpStream};
 
 /// Makes connections to servers.
 pub trait Dial: Drop {
-    type Stream: Read + Write + Drop + Send;
+    type Stream: Read + Write + Drop;
 
     /// A new connection to the server of a text, `host:port`; None where there is none to be had.
     fn dial(&mut self, server: &str) -> Option<Self::Stream>;

@@ -197,12 +197,7 @@ fn letters_of<L: Link>(
 }
 
 /// Whether the legs of a row came to what it says.
-fn holds<R: Wait + Copy + Drop + Send>(
-    rt: R,
-    alloc: Global,
-    pass: &Pass,
-    row: Row,
-) -> Result<bool, Fail> {
+fn holds<R: Wait + Copy + Drop>(rt: R, alloc: Global, pass: &Pass, row: Row) -> Result<bool, Fail> {
     let seen = Seen {
         dials: 0,
         text: Vec::new(alloc),

@@ -68,7 +68,7 @@ pub(crate) struct MemoryDial<R: Wait + Copy + Drop> {
     pub(crate) seen: Arc<Mutex<Seen>>,
 }
 
-impl<R: Wait + Copy + Drop + Send> Dial for MemoryDial<R> {
+impl<R: Wait + Copy + Drop> Dial for MemoryDial<R> {
     type Stream = Wire<R>;
 
     fn dial(&mut self, _server: &str) -> Option<Wire<R>> {

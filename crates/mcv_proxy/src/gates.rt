@@ -26,7 +26,7 @@ pub trait Link: Drop {
     ghost use Rattle.mcv_proxy.specs.declared.gates.LinkFault.{LinkFault};
 
     /// A leg that was begun.
-    type Begun: Drop + Send;
+    type Begun: Drop;
 
     /// What the link says of beginning a leg: the link before, the leg, what was begun of it, the link after. One that says
     /// nothing may begin anything.
@@ -76,7 +76,10 @@ pub trait Watch: Drop {
 
 /// What a proxy talks to: servers, a disk, clients and the clock.
 pub trait Gates: Drop {
-    type Link: Link + Send + 'static;
+    /// A leg that a link began.
+    type Begun: Drop + Send;
+
+    type Link: Link<Begun = Self::Begun> + Send + 'static;
 
     type Disk: Disk + Send + 'static;
 

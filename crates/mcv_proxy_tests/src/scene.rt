@@ -430,6 +430,8 @@ impl<R: Wait + Clock + Copy + Drop + Send + 'static> Scene<R> {
 }
 
 impl<R: Wait + Clock + Copy + Drop + Send + 'static> Gates for Scene<R> {
+    type Begun = ();
+
     type Link = Wire<R>;
 
     type Disk = MemoryDisk<R>;
