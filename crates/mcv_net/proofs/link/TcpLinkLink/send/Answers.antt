@@ -15,4 +15,4 @@ returns-in-Ok g c =
     )
 
 pub returns-in-Err : goal.returns-in-Err
-returns-in-Err g c = (record { outcome = Err c.in-Err.loss; is = ap Err c.fault_of-in-Err.ensures; goes_on = c.in-Err.ensures.begun; whole = c.in-Err.ensures.whole }, tt)
+returns-in-Err g c = (record { outcome = Err c.in-Err.loss; is = ap Err c.fault_of.ensures; goes_on = c.in-Err.ensures.begun; whole = c.in-Err.ensures.whole }, tt)
