@@ -592,6 +592,20 @@ fn open<B: Ledger, T: Ledger, D: Disk>(
     Ok((shared, passes))
 }
 
+/// What sessions share, with these links.
+fn context_of<B: Ledger, T: Ledger, D: Disk, L: Link>(
+    alloc: Global,
+    shared: &Shared<B, T, D>,
+    links: Vec<L>,
+) -> Result<SessionContext<B, T, L>, AllocError> {
+    Ok(SessionContext {
+        accepted: Arc::try_clone(&shared.accepted)?,
+        hub: Arc::try_clone(&shared.hub)?,
+        lanes: Arc::try_clone(&shared.lanes)?,
+        links: Arc::new(alloc, Links::new(alloc, links)?)?,
+    })
+}
+
 /// Serves all clients, and gives the receipts of their sessions; their shares are added to the seat's.
 fn run<
     B: Ledger + Send + Sync + 'static,
@@ -606,16 +620,11 @@ fn run<
     gates: &mut G,
     seat: &mut Seat<B, T>,
 ) -> Result<Vec<Receipt>, ProxyFault> {
+    let links = links_of(alloc, &shared.accepted, gates)?;
+    let context = context_of(alloc, shared, links)?;
     let mut crew = Crew {
         workers: Vec::new(alloc),
         spool: None,
-    };
-    let links = links_of(alloc, &shared.accepted, gates)?;
-    let context = SessionContext {
-        accepted: Arc::try_clone(&shared.accepted)?,
-        hub: Arc::try_clone(&shared.hub)?,
-        lanes: Arc::try_clone(&shared.lanes)?,
-        links: Arc::new(alloc, Links::new(alloc, links)?)?,
     };
     let mut pass = passes.pass();
     if let Err(fault) = ready(rt, alloc, shared, passes, gates, &mut crew) {
@@ -646,6 +655,38 @@ fn close<B: Ledger, T: Ledger, R: Wait>(
     Ok(report)
 }
 
+/// Serves all clients, and closes the books.
+fn conduct<
+    B: Ledger + Send + Sync + 'static,
+    T: Ledger + Send + Sync + 'static,
+    G: Gates,
+    R: Threads + Wait + Clock + Copy + Send + 'static,
+>(
+    rt: R,
+    alloc: Global,
+    shared: &Shared<B, T, G::Disk>,
+    passes: Passes<B, T>,
+    gates: &mut G,
+) -> Result<Report, ProxyFault>
+    ensures { IfOk result IsReport }
+{
+    let mut passes = passes;
+    let Some(mut seat) = passes.seat() else {
+        return Err(ProxyFault::Memory);
+    };
+    let receipts = run(rt, alloc, shared, &mut passes, gates, &mut seat)?;
+    let mut pass = passes.pass();
+    let report = close(
+        &rt,
+        alloc,
+        &shared.hub,
+        &mut pass,
+        &mut seat,
+        receipts.as_slice(),
+    )?;
+    Ok(report)
+}
+
 /// As `start`, with the ledgers of calls begun and of replies taken.
 fn started<
     B: Ledger + Send + Sync + 'static,
@@ -667,21 +708,8 @@ fn started<
     let Some(disk) = gates.disk() else {
         return Err(ProxyFault::Device);
     };
-    let (shared, mut passes) = open::<B, T, G::Disk>(alloc, accepted, disk, begun, taken)?;
-    let Some(mut seat) = passes.seat() else {
-        return Err(ProxyFault::Memory);
-    };
-    let receipts = run(rt, alloc, &shared, &mut passes, gates, &mut seat)?;
-    let mut pass = passes.pass();
-    let report = close(
-        &rt,
-        alloc,
-        &shared.hub,
-        &mut pass,
-        &mut seat,
-        receipts.as_slice(),
-    )?;
-    Ok(report)
+    let (shared, passes) = open::<B, T, G::Disk>(alloc, accepted, disk, begun, taken)?;
+    conduct(rt, alloc, &shared, passes, gates)
 }
 
 /// Runs a proxy: one worker for each server, one for the spool and the replayer, and each session in its thread. Where
