@@ -11,10 +11,14 @@ use mcv_check::Accepted;
 use mcv_core::CoreFault;
 use mcv_spool::SpoolRecord;
 use std::alloc::{AllocError, Global};
+use std::hint::spin_loop;
 use std::rt::Clock;
 use std::sync::ledger::{Blank, Ledger};
 use std::sync::{Arc, Condvar, Mutex, Wait};
 use std::time::Duration;
+
+/// How often the lock is tried before a thread sleeps until it is free: some ten microseconds.
+const TRIES: u32 = 400;
 
 /// What a thread waits for: a leg for a server's worker, the reply to a call for a session, a record for the spool's
 /// worker, a leg in the spool for the replayer, the end of all calls and legs for a session whose call found no place
@@ -83,8 +87,14 @@ impl<B: Ledger, T: Ledger> Hub<B, T> {
         Ok((hub, Passes::new(seats, begun, taken)))
     }
 
-    /// Waits for the lock.
+    /// Waits for the lock. It is held for about a microsecond, so it is tried for a while before the thread sleeps.
     pub fn lock<'a, R: Wait>(&'a self, rt: &R, _pass: &'a mut Pass) -> Guard<'a, B, T> {
+        for _ in 0..TRIES {
+            if let Some(state) = self.state.try_lock() {
+                return Guard::new(state);
+            }
+            spin_loop();
+        }
         Guard::new(self.state.lock(rt))
     }
 
