@@ -1,6 +1,7 @@
 -- What a proxy on sockets writes, reads and prints.
 pub mod Exchange
 pub mod Fault
+pub mod Legs
 pub mod Lines
 pub mod Repeat
 pub mod Sends

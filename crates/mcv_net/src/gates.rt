@@ -8,7 +8,7 @@ use crate::client::Client;
 use crate::dial::TcpDial;
 use crate::fault::NetFault;
 use crate::lines::{listening_line, print_line};
-use crate::link::TcpLink;
+use crate::link::{Begun, TcpLink};
 use crate::notice::{Notice, Notices, StandardError};
 use crate::system_watch::SystemWatch;
 use mcv_proxy::{Gates, ProxyFault};
@@ -125,6 +125,8 @@ where
         + Send
         + 'static,
 {
+    type Begun = Option<Begun<TcpStream>>;
+
     type Link = TcpLink<TcpDial<R>, StandardError<R>>;
 
     type Disk = D;

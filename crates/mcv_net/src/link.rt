@@ -5,6 +5,7 @@ ghost use Rattle.std.specs.Arc.{arc_value};
 ghost use Rattle.mcv_text.specs.Answer.{line_end};
 ghost use Rattle.mcv_text.specs.Leg.{leg_text, leg_value};
 ghost use Rattle.mcv_net.specs.Exchange.{AnswersProbe, SpellsReply};
+ghost use Rattle.mcv_net.specs.Legs.{AnswersLeg, BeginsLeg, link_fault};
 ghost use Rattle.mcv_net.specs.Sends.{AsksAnew, AsksOver, Begins, Finishes, GoesOn, Sends, kept_behind};
 
 use crate::dial::Dial;
@@ -32,8 +33,6 @@ pub struct TcpLink<D: Dial, N: Notices> {
     dial: D,
     notices: N,
     kept: Option<D::Stream>,
-    /// The leg that is under way. Its connection isn't kept meanwhile.
-    begun: Option<Begun<D::Stream>>,
     room: Vec<u8>,
 }
 
@@ -46,12 +45,14 @@ struct Written<S: Drop> {
 
 /// A leg's text, and the connection to which it was written, if one was kept.
 #[derive(Drop)]
-struct Begun<S: Drop> {
+pub struct Begun<S: Drop> {
     text: Vec<u8>,
     over: Option<Written<S>>,
 }
 
-fn fault_of(loss: Loss) -> LinkFault {
+fn fault_of(loss: Loss) -> LinkFault
+    ensures { result ≡ link_fault loss }
+{
     match loss {
         Loss::Memory => LinkFault::Memory,
         Loss::Unwritten | Loss::Unread | Loss::Broken => LinkFault::Broken,
@@ -85,7 +86,6 @@ impl<D: Dial, N: Notices> TcpLink<D, N> {
             dial,
             notices,
             kept: None,
-            begun: None,
             room,
         })
     }
@@ -176,12 +176,12 @@ impl<D: Dial, N: Notices> TcpLink<D, N> {
         self.ask(leg, text)
     }
 
-    /// Goes on with the leg that was begun; where none was, sends this one.
-    fn send_leg(&mut self, leg: &LegRequest) -> Result<Reply, Loss>
-        ensures begun { IfSome self.old.begun (λ begun. GoesOn D.Stream.contents D.Stream.remaining (SpellsReply leg.now.op (arc_value leg.now.rest)) begun.text.items leg.now.op begun.over result self.new.kept) }
-        ensures whole { IfNone self.old.begun (((result ≡ Err Loss.Memory) × (self.new.kept ≡ self.old.kept)) ⊎ Sends D.Stream.contents D.Stream.remaining (SpellsReply leg.now.op (arc_value leg.now.rest)) (leg_text (leg_value leg.now)) leg.now.op self.old.kept result self.new.kept) }
+    /// Goes on with what was begun of a leg; where nothing was, sends it.
+    fn send_leg(&mut self, begun: Option<Begun<D::Stream>>, leg: &LegRequest) -> Result<Reply, Loss>
+        ensures begun { IfSome begun (λ begun. GoesOn D.Stream.contents D.Stream.remaining (SpellsReply leg.now.op (arc_value leg.now.rest)) begun.text.items leg.now.op begun.over result self.new.kept) }
+        ensures whole { IfNone begun (((result ≡ Err Loss.Memory) × (self.new.kept ≡ self.old.kept)) ⊎ Sends D.Stream.contents D.Stream.remaining (SpellsReply leg.now.op (arc_value leg.now.rest)) (leg_text (leg_value leg.now)) leg.now.op self.old.kept result self.new.kept) }
     {
-        let Some(begun) = self.begun.take() else {
+        let Some(begun) = begun else {
             return self.send_whole(leg);
         };
         self.kept = None;
@@ -224,21 +224,29 @@ impl<D: Dial, N: Notices> TcpLink<D, N> {
 }
 
 impl<D: Dial, N: Notices> Link for TcpLink<D, N> {
-    // A reply is one that bytes spell.
-    ghost answers = { λ _ leg result _. IfOk result (λ reply. (bytes : List ℕ) × SpellsReply leg.op (arc_value leg.rest) bytes reply) };
+    /// None where there was no memory for the leg's text.
+    type Begun = Option<Begun<D::Stream>>;
 
-    fn start(&mut self, _pass: &Pass, leg: &LegRequest)
-        ensures begun { IfSome self.new.begun (λ begun. (begun.text.items ≡ leg_text (leg_value leg.now)) × Begins D.Stream.contents begun.text.items self.old.kept begun.over × (self.new.kept ≡ None)) }
-        ensures unbegun { IfNone self.new.begun (self.new.kept ≡ self.old.kept) }
-    {
-        self.begun = None;
-        if let Ok(text) = leg_text(self.alloc, leg) {
-            self.begun = Some(self.begin(text));
-        }
+    // The text is that of the leg.
+    ghost begins = { λ old leg begun new. BeginsLeg D.Stream.contents leg old.kept begun new.kept };
+
+    // What was begun goes on; and a reply is one that bytes spell.
+    ghost answers = { λ old begun leg result new. AnswersLeg D.Stream.contents D.Stream.remaining leg begun old.kept result new.kept × IfOk result (λ reply. (bytes : List ℕ) × SpellsReply leg.op (arc_value leg.rest) bytes reply) };
+
+    fn start(&mut self, _pass: &Pass, leg: &LegRequest) -> Option<Begun<D::Stream>> {
+        let Ok(text) = leg_text(self.alloc, leg) else {
+            return None;
+        };
+        Some(self.begin(text))
     }
 
-    fn send(&mut self, _pass: &Pass, leg: &LegRequest) -> Result<Reply, LinkFault> {
-        match self.send_leg(leg) {
+    fn send(
+        &mut self,
+        _pass: &Pass,
+        begun: Option<Begun<D::Stream>>,
+        leg: &LegRequest,
+    ) -> Result<Reply, LinkFault> {
+        match self.send_leg(begun, leg) {
             Ok(reply) => Ok(reply),
             Err(loss) => Err(fault_of(loss)),
         }

@@ -180,33 +180,24 @@ fn is_text(bytes: &[u8], text: &str) -> bool {
     bytes == text.as_bytes()
 }
 
-/// A letter for each leg that is sent over a link, one after another; where `begins` each is begun first.
+/// A letter for each leg that is sent over a link, one after another.
 fn letters_of<L: Link>(
     alloc: Global,
     link: &mut L,
     pass: &Pass,
     ops: &[Op],
-    begins: bool,
 ) -> Result<Vec<u8>, Fail> {
     let mut letters = Vec::new(alloc);
     for op in ops {
         let leg = leg_of(alloc, *op)?;
-        if begins {
-            link.start(pass, &leg);
-        }
-        letters.push(letter(&link.send(pass, &leg)))?;
+        let begun = link.start(pass, &leg);
+        letters.push(letter(&link.send(pass, begun, &leg)))?;
     }
     Ok(letters)
 }
 
 /// Whether the legs of a row came to what it says.
-fn holds<R: Wait + Copy + Drop>(
-    rt: R,
-    alloc: Global,
-    pass: &Pass,
-    row: Row,
-    begins: bool,
-) -> Result<bool, Fail> {
+fn holds<R: Wait + Copy + Drop>(rt: R, alloc: Global, pass: &Pass, row: Row) -> Result<bool, Fail> {
     let seen = Seen {
         dials: 0,
         text: Vec::new(alloc),
@@ -218,7 +209,7 @@ fn holds<R: Wait + Copy + Drop>(
         seen: Arc::try_clone(&seen)?,
     };
     let mut link = TcpLink::new(alloc, "a:11211", dial, Nobody)?;
-    let letters = letters_of(alloc, &mut link, pass, row.ops, begins)?;
+    let letters = letters_of(alloc, &mut link, pass, row.ops)?;
     let seen = seen.lock(&rt);
     let is_sent = seen.dials == row.dials && is_text(seen.text.as_slice(), row.text);
     Ok(is_sent && is_text(letters.as_slice(), row.letters))
@@ -231,8 +222,7 @@ fn legs_go_over_the_kept_connection_or_a_new_one(rt: HostRuntime) -> Result<(), 
     let taken = Blank::new(2);
     let pass = pass_of::<Brand, Brand>(alloc, begun, taken)?;
     for row in ROWS {
-        assert!(rt; holds(rt, alloc, &pass, *row, false)?, "{}", row.name);
-        assert!(rt; holds(rt, alloc, &pass, *row, true)?, "{}, begun", row.name);
+        assert!(rt; holds(rt, alloc, &pass, *row)?, "{}", row.name);
     }
     Ok(())
 }

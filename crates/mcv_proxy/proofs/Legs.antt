@@ -45,7 +45,7 @@ record_is texts state leg v text delete e there server rest =
     }
 
 -- a reply that a link gave to the request that there is
-pub has_reply : {L : Type 0} (answers : L → LegRequest → Result Reply LinkFault → L → Type 0) (o : Option LegRequest) (asked : LegRequest) (reply : Result ReplyValue LinkFault)
-    → o ≡ Some asked → IsAnswerTo answers asked reply → IfOk reply (HasReply answers o)
-has_reply answers o asked (Ok x) there answer = record { asked = asked; there = there; answer = answer }
-has_reply answers o asked (Err fault) there answer = tt
+pub has_reply : {L B : Type 0} (begins : L → LegRequest → B → L → Type 0) (answers : L → B → LegRequest → Result Reply LinkFault → L → Type 0) (o : Option LegRequest) (asked : LegRequest) (reply : Result ReplyValue LinkFault)
+    → o ≡ Some asked → IsAnswerTo begins answers asked reply → IfOk reply (HasReply begins answers o)
+has_reply begins answers o asked (Ok x) there answer = record { asked = asked; there = there; answer = answer }
+has_reply begins answers o asked (Err fault) there answer = tt

@@ -49,11 +49,19 @@ pub record MayBeSent (server : ServerId) (leg : LegId) (request : LegRequest) : 
 
 -- ---- what its link answered
 
--- a link was asked this, and answered so
-pub record HasAnswered {L : Type 0} (answers : L → LegRequest → Result Reply LinkFault → L → Type 0) (request : LegRequest) (sent : Result Reply LinkFault) : Type 0 where
+-- a link began the request so
+pub record HasBegun {L B : Type 0} (begins : L → LegRequest → B → L → Type 0) (request : LegRequest) (begun : B) : Type 0 where
   pub before : L
   pub after : L
-  pub answer : answers before request sent after
+  pub start : begins before request begun after
+
+-- a link was asked this, and answered so to what had been begun of the same request
+pub record HasAnswered {L B : Type 0} (begins : L → LegRequest → B → L → Type 0) (answers : L → B → LegRequest → Result Reply LinkFault → L → Type 0) (request : LegRequest) (sent : Result Reply LinkFault) : Type 0 where
+  pub begun : B
+  pub start : HasBegun begins request begun
+  pub before : L
+  pub after : L
+  pub answer : answers before begun request sent after
 
 -- a fault stays, and a reply too; but memory for it may run out
 abbrev pub IsLeftOf : Result Reply LinkFault → Result ReplyValue LinkFault → Type 0
@@ -64,16 +72,16 @@ IsLeftOf (Err f) (Ok x) = ⊥
 IsLeftOf (Err f) (Err g) = g ≡ f
 
 -- this is what a link answered to the request
-pub record IsAnswerTo {L : Type 0} (answers : L → LegRequest → Result Reply LinkFault → L → Type 0) (request : LegRequest) (reply : Result ReplyValue LinkFault) : Type 0 where
+pub record IsAnswerTo {L B : Type 0} (begins : L → LegRequest → B → L → Type 0) (answers : L → B → LegRequest → Result Reply LinkFault → L → Type 0) (request : LegRequest) (reply : Result ReplyValue LinkFault) : Type 0 where
   pub sent : Result Reply LinkFault
-  pub asked : HasAnswered answers request sent
+  pub asked : HasAnswered begins answers request sent
   pub left : IsLeftOf sent reply
 
 -- the request was one of these, and a link answered it with this reply
-pub record HasReply {L : Type 0} (answers : L → LegRequest → Result Reply LinkFault → L → Type 0) (request : Option LegRequest) (reply : ReplyValue) : Type 0 where
+pub record HasReply {L B : Type 0} (begins : L → LegRequest → B → L → Type 0) (answers : L → B → LegRequest → Result Reply LinkFault → L → Type 0) (request : Option LegRequest) (reply : ReplyValue) : Type 0 where
   pub asked : LegRequest
   pub there : request ≡ Some asked
-  pub answer : IsAnswerTo answers asked (Ok reply)
+  pub answer : IsAnswerTo begins answers asked (Ok reply)
 
 -- ---- which record is done
 

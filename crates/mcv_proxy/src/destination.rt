@@ -181,9 +181,9 @@ fn send<B: Ledger, T: Ledger, L: Link>(
 ) -> Landed<L>
     ensures { result.flight ≡ flight }
 {
-    link.start(pass, &flight.request);
+    let begun = link.start(pass, &flight.request);
     agenda.ring_all();
-    let reply = answer_of(alloc, pass, link, &flight.request);
+    let reply = answer_of(alloc, pass, link, begun, &flight.request);
     Landed {
         flight,
         reply,

@@ -1,6 +1,7 @@
 //! The legs that a session sends itself.
 
-ghost use Rattle.std.specs.Prelude.{◌≡◌, IfErr, IfOk};
+ghost use Rattle.std.specs.Prelude.{◌≡◌, IfErr, IfOk, IfSome};
+ghost use Rattle.mcv_proxy.specs.Flights.{HasBegun};
 
 use crate::agenda::{Agenda, Due};
 use crate::departure::take_next;
@@ -44,18 +45,23 @@ pub(crate) struct Errands<'a, B: Ledger, T: Ledger, L: Link> {
     marked: Option<ServerId>,
 }
 
-/// Sends a leg that is in flight over the link of its server; without a link the flight is given back.
+/// Goes on with a leg in flight that the link of its server began; without a link the flight is given back.
 fn send_over<L: Link, R: Wait>(
     rt: &R,
     alloc: Global,
     links: &Links<L>,
     pass: &Pass,
+    begun: Option<L::Begun>,
     flight: Flight,
 ) -> Result<Landed<L>, Flight>
+    requires { IfSome begun (HasBegun L.begins flight.request) }
     ensures sent { IfOk result (λ came. came.flight ≡ flight) }
     ensures back { IfErr result (λ back. back ≡ flight) }
 {
-    match links.ask(rt, alloc, pass, flight.server, &flight.request) {
+    let Some(begun) = begun else {
+        return Err(flight);
+    };
+    match links.ask(rt, alloc, pass, flight.server, begun, &flight.request) {
         Some(reply) => Ok(Landed {
             flight,
             reply,
@@ -296,9 +302,9 @@ impl<'a, B: Ledger, T: Ledger, L: Link> Errands<'a, B, T, L> {
         let Some(flight) = self.flight.take() else {
             return;
         };
-        links.start(rt, pass, flight.server, &flight.request);
+        let begun = links.start(rt, pass, flight.server, &flight.request);
         self.agenda.ring_all();
-        match send_over(rt, alloc, links, pass, flight) {
+        match send_over(rt, alloc, links, pass, begun, flight) {
             Ok(came) => self.landed = Some(came),
             Err(flight) => self.flight = Some(flight),
         }

@@ -25,17 +25,29 @@ pub trait Link: Drop {
     ghost use Rattle.mcv_base.specs.declared.request.LegRequest.{LegRequest};
     ghost use Rattle.mcv_proxy.specs.declared.gates.LinkFault.{LinkFault};
 
-    /// What the link says of an answer: the link before, what it was asked, the reply or the fault, the link after. One
-    /// that says nothing may answer anything.
-    ghost answers: { Self → LegRequest → Result Reply LinkFault → Self → Type 0 } = { λ _ _ _ _. ⊤ };
+    /// A leg that was begun.
+    type Begun: Drop;
+
+    /// What the link says of beginning a leg: the link before, the leg, what was begun of it, the link after. One that says
+    /// nothing may begin anything.
+    ghost begins: { Self → LegRequest → Self.Begun → Self → Type 0 } = { λ _ _ _ _. ⊤ };
+
+    /// What the link says of an answer: the link before, what was begun, what it was asked, the reply or the fault, the link
+    /// after. One that says nothing may answer anything.
+    ghost answers: { Self → Self.Begun → LegRequest → Result Reply LinkFault → Self → Type 0 } = { λ _ _ _ _ _. ⊤ };
 
     /// Begins to send a leg, as far as that goes without its reply, so that legs to several servers are under way at once.
-    /// `send` of the same leg comes next.
-    fn start(&mut self, _pass: &Pass, _leg: &LegRequest) {}
+    fn start(&mut self, pass: &Pass, leg: &LegRequest) -> Self::Begun
+        ensures { begins self.old leg.now result self.new };
 
-    /// Sends a leg, or what `start` left of it, and waits for its reply.
-    fn send(&mut self, pass: &Pass, leg: &LegRequest) -> Result<Reply, LinkFault>
-        ensures { answers self.old leg.now result self.new };
+    /// Sends what is left of a leg that was begun, and waits for its reply.
+    fn send(
+        &mut self,
+        pass: &Pass,
+        begun: Self::Begun,
+        leg: &LegRequest,
+    ) -> Result<Reply, LinkFault>
+        ensures { answers self.old begun leg.now result self.new };
 
     /// Whether the server answers at all.
     fn probe(&mut self, pass: &Pass) -> Result<(), LinkFault>;
@@ -64,7 +76,10 @@ pub trait Watch: Drop {
 
 /// What a proxy talks to: servers, a disk, clients and the clock.
 pub trait Gates: Drop {
-    type Link: Link + Send + 'static;
+    /// A leg that a link began.
+    type Begun: Drop + Send;
+
+    type Link: Link<Begun = Self::Begun> + Send + 'static;
 
     type Disk: Disk + Send + 'static;
 

@@ -1,7 +1,7 @@
 //! What came of legs in flight is reported.
 
 ghost use Rattle.std.specs.Prelude.{◌≡◌, ◌&&◌, not};
-ghost use Rattle.mcv_proxy.specs.Flights.{IsAnswerTo, IsLeftOf, is_marked};
+ghost use Rattle.mcv_proxy.specs.Flights.{HasBegun, IsAnswerTo, IsLeftOf, is_marked};
 ghost use Rattle.mcv_proxy.specs.Steps.{IsReported, WasAnswered};
 
 use crate::agenda::Agenda;
@@ -27,16 +27,18 @@ fn reply_of(alloc: Global, sent: Result<Reply, LinkFault>) -> Result<LegReply, L
     }
 }
 
-/// Asks a link: what is left of its answer.
+/// Goes on with a leg that a link began: what is left of its answer.
 pub(crate) fn answer_of<L: Link>(
     alloc: Global,
     pass: &Pass,
     link: &mut L,
+    begun: L::Begun,
     request: &LegRequest,
 ) -> Result<LegReply, LinkFault>
-    ensures { IsAnswerTo L.answers request.now result }
+    requires { HasBegun L.begins request.now begun }
+    ensures { IsAnswerTo L.begins L.answers request.now result }
 {
-    let sent = link.send(pass, request);
+    let sent = link.send(pass, begun, request);
     reply_of(alloc, sent)
 }
 

@@ -1,7 +1,7 @@
 //! The links over which sessions send their legs, and who waits while another leg of a server is in flight.
 
 ghost use Rattle.std.specs.Prelude.{◌≡◌, ◌<◌, [], false, vec_len, IfOk, IfSome, OnErr};
-ghost use Rattle.mcv_proxy.specs.Flights.{IsAnswerTo};
+ghost use Rattle.mcv_proxy.specs.Flights.{HasBegun, IsAnswerTo};
 
 use crate::gates::{Link, LinkFault};
 use crate::landing::answer_of;
@@ -204,27 +204,38 @@ impl<L: Link> Links<L> {
         Ok(Links { links: locked })
     }
 
-    /// `Link::start`.
-    pub(crate) fn start<R: Wait>(&self, rt: &R, pass: &Pass, server: ServerId, leg: &LegRequest) {
-        if let Some(link) = self.links.get(server.0 as usize) {
-            link.lock(rt).start(pass, leg);
-        }
+    /// Begins a leg over the server's link; None where there is no such server.
+    pub(crate) fn start<R: Wait>(
+        &self,
+        rt: &R,
+        pass: &Pass,
+        server: ServerId,
+        leg: &LegRequest,
+    ) -> Option<L::Begun>
+        ensures { IfSome result (HasBegun L.begins leg.now) }
+    {
+        let link = self.links.get(server.0 as usize)?;
+        let mut link = link.lock(rt);
+        Some(link.start(pass, leg))
     }
 
-    /// Asks the server's link: what is left of its answer; None where there is no such server.
+    /// Goes on with a leg that was begun, over the server's link: what is left of its answer; None where there is no such
+    /// server.
     pub(crate) fn ask<R: Wait>(
         &self,
         rt: &R,
         alloc: Global,
         pass: &Pass,
         server: ServerId,
+        begun: L::Begun,
         leg: &LegRequest,
     ) -> Option<Result<LegReply, LinkFault>>
-        ensures { IfSome result (IsAnswerTo L.answers leg.now) }
+        requires { HasBegun L.begins leg.now begun }
+        ensures { IfSome result (IsAnswerTo L.begins L.answers leg.now) }
     {
         let link = self.links.get(server.0 as usize)?;
         let mut link = link.lock(rt);
-        Some(answer_of(alloc, pass, &mut *link, leg))
+        Some(answer_of(alloc, pass, &mut *link, begun, leg))
     }
 
     /// `Link::note_marked`.

@@ -123,13 +123,16 @@ fn ask<B: Ledger, T: Ledger, L: Link, R: Wait>(
     link: &mut L,
     repeat: &Repeat,
 ) -> Result<LegReply, LinkFault>
-    ensures { IfOk result (HasReply L.answers repeat.now.request) }
+    ensures { IfOk result (HasReply L.begins L.answers repeat.now.request) }
 {
     if repeat.is_marked && !probe(rt, hub, pass, link, repeat.server) {
         return Err(LinkFault::Broken);
     }
     match &repeat.request {
-        Some(request) => answer_of(alloc, pass, link, request),
+        Some(request) => {
+            let begun = link.start(pass, request);
+            answer_of(alloc, pass, link, begun, request)
+        }
         None => Err(LinkFault::Memory),
     }
 }

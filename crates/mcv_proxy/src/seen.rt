@@ -33,7 +33,7 @@ pub(crate) struct Landed<L: Link> {
     pub(crate) flight: Flight,
     pub(crate) reply: Result<LegReply, LinkFault>,
     pub(crate) link: PhantomData<L>,
-    ghost answered: { ∥ IsAnswerTo L.answers flight.request reply ∥₁ },
+    ghost answered: { ∥ IsAnswerTo L.begins L.answers flight.request reply ∥₁ },
 }
 
 /// A leg in flight again that its server has performed.

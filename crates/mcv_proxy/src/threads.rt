@@ -95,7 +95,10 @@ fn employ<
     pass: Pass,
     link: L,
     server: ServerId,
-) -> Option<JoinHandle<()>> {
+) -> Option<JoinHandle<()>>
+where
+    L::Begun: Send,
+{
     let job = move || work(&rt, alloc, &*hub, &*lanes, &*ends, pass, link, server);
     thread::spawn(&rt, job).ok()
 }
@@ -180,7 +183,10 @@ fn employ_replayer<
     pass: Pass,
     links: Vec<L>,
     watch: W,
-) -> Option<JoinHandle<()>> {
+) -> Option<JoinHandle<()>>
+where
+    L::Begun: Send,
+{
     let job = move || send_again(
         &rt, alloc, &*hub, &*lanes, &*spool, &*ends, pass, links, watch,
     );
@@ -248,7 +254,10 @@ fn host<
     pass: Pass,
     seat: Seat<B, T>,
     visitor: Visitor<I, O, W>,
-) -> Option<JoinHandle<Done<B, T>>> {
+) -> Option<JoinHandle<Done<B, T>>>
+where
+    L::Begun: Send,
+{
     let job = move || serve(&rt, alloc, context, pass, seat, visitor);
     thread::spawn(&rt, job).ok()
 }
@@ -270,7 +279,10 @@ fn admit<
     seat: Seat<B, T>,
     client: (I, O),
     watch: W,
-) -> Option<JoinHandle<Done<B, T>>> {
+) -> Option<JoinHandle<Done<B, T>>>
+where
+    L::Begun: Send,
+{
     let context = SessionContext {
         accepted: Arc::try_clone(&context.accepted).ok()?,
         hub: Arc::try_clone(&context.hub).ok()?,
@@ -347,7 +359,10 @@ fn employ_all<
     passes: &Passes<B, T>,
     links: Vec<L>,
     workers: &mut Vec<JoinHandle<()>>,
-) -> Result<(), AllocError> {
+) -> Result<(), AllocError>
+where
+    L::Begun: Send,
+{
     workers.reserve(links.len())?;
     let mut number = 0u32;
     for link in links {

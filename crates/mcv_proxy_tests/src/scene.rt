@@ -210,13 +210,15 @@ impl<R: Wait + Clock + Drop> Wire<R> {
 }
 
 impl<R: Wait + Clock + Drop> Link for Wire<R> {
+    type Begun = ();
+
     fn start(&mut self, _pass: &Pass, _leg: &LegRequest) {
         if let Some(sign) = &self.server.starts {
             sign.store(true, Ordering::SeqCst);
         }
     }
 
-    fn send(&mut self, _pass: &Pass, leg: &LegRequest) -> Result<Reply, LinkFault> {
+    fn send(&mut self, _pass: &Pass, _begun: (), leg: &LegRequest) -> Result<Reply, LinkFault> {
         if !self.hold() || self.server.breaks() {
             return Err(LinkFault::Broken);
         }
@@ -428,6 +430,8 @@ impl<R: Wait + Clock + Copy + Drop + Send + 'static> Scene<R> {
 }
 
 impl<R: Wait + Clock + Copy + Drop + Send + 'static> Gates for Scene<R> {
+    type Begun = ();
+
     type Link = Wire<R>;
 
     type Disk = MemoryDisk<R>;

@@ -1,0 +1,37 @@
+-- What a link does for a leg that it began (own).
+use Rattle.std.specs.Prelude.{◌≡◌, ◌⊎◌, ℕ, List, Option, Some, None, Result, Ok, Err, IfNone, IfSome}
+use Rattle.std.specs.Arc.{arc_value}
+use Rattle.mcv_base.specs.declared.reply.Reply.{Reply}
+use Rattle.mcv_base.specs.declared.request.LegRequest.{LegRequest}
+use Rattle.mcv_text.specs.Leg.{leg_text, leg_value}
+use Rattle.mcv_proxy.specs.declared.gates.LinkFault.{LinkFault}
+use Rattle.mcv_proxy.specs.declared.gates.LinkFault.TheVariants as links
+use Rattle.mcv_net.specs.declared.link.Begun.{Begun}
+use Rattle.mcv_net.specs.declared.loss.Loss.{Loss}
+use Rattle.mcv_net.specs.declared.loss.Loss.TheVariants.{Unwritten, Unread, Broken, Memory}
+use Rattle.mcv_net.specs.Exchange.{SpellsReply}
+use Rattle.mcv_net.specs.Sends.{Begins, GoesOn, Sends}
+
+abbrev pub link_fault : Loss → LinkFault
+link_fault Unwritten = links.Broken
+link_fault Unread = links.Broken
+link_fault Broken = links.Broken
+link_fault Memory = links.Memory
+
+-- what came of a leg, as a link answers it
+abbrev pub link_answer : Result Reply Loss → Result Reply LinkFault
+link_answer (Ok reply) = Ok reply
+link_answer (Err loss) = Err (link_fault loss)
+
+module _ {S : Type 0} (contents : S → Option (List ℕ)) where
+  -- the leg's text is begun over the kept connection; or nothing is
+  abbrev pub BeginsLeg : LegRequest → Option S → Option (Begun S) → Option S → Type 0
+  BeginsLeg leg old None kept = kept ≡ old
+  BeginsLeg leg old (Some begun) kept = (begun.text.items ≡ leg_text (leg_value leg)) × Begins contents begun.text.items old begun.over × (kept ≡ None)
+
+  -- the text that was begun goes on; where none was, the leg's text is sent, unless there is no memory for it
+  pub record AnswersLeg (remaining : S → Option (List ℕ)) (leg : LegRequest) (begun : Option (Begun S)) (old : Option S) (result : Result Reply LinkFault) (kept : Option S) : Type 0 where
+    pub outcome : Result Reply Loss
+    pub is : result ≡ link_answer outcome
+    pub goes_on : IfSome begun (λ b. GoesOn contents remaining (SpellsReply leg.op (arc_value leg.rest)) b.text.items leg.op b.over outcome kept)
+    pub whole : IfNone begun (((outcome ≡ Err Memory) × (kept ≡ old)) ⊎ Sends contents remaining (SpellsReply leg.op (arc_value leg.rest)) (leg_text (leg_value leg)) leg.op old outcome kept)
