@@ -1,8 +1,9 @@
 //! Certificates of small configurations, a row a case: accepted, or the number of the first fault.
 
-use crate::built::routes;
-use mcv_cert::read_certificate;
+use crate::built::{check_number, routes};
+use mcv_cert::{Certificate, read_certificate};
 use mcv_check::check;
+use mcv_route::Routes;
 use std::alloc::{AllocError, Global};
 use std::process::Abort;
 use std::test::Fail;
@@ -39,17 +40,37 @@ fn certificate_text(alloc: Global, lines: &str) -> Result<String, AllocError> {
     Ok(text)
 }
 
-/// The number of the first fault of the certificate with these lines; 0 where it is accepted.
-fn judged(rt: &impl Abort, alloc: Global, name: &str, lines: &str) -> Result<u8, AllocError> {
-    let routes = routes(rt, alloc, configuration(name))?;
+fn certificate_of(rt: &impl Abort, alloc: Global, lines: &str) -> Result<Certificate, AllocError> {
     let text = certificate_text(alloc, lines)?;
-    let Ok(certificate) = read_certificate(alloc, text.as_bytes()) else {
-        panic!(rt; "the certificate isn't read");
-    };
-    match check(alloc, routes, &certificate) {
-        Ok(_) => Ok(0),
-        Err(fault) => Ok(fault.number()),
+    match read_certificate(alloc, text.as_bytes()) {
+        Ok(certificate) => Ok(certificate),
+        Err(_) => panic!(rt; "the certificate isn't read"),
     }
+}
+
+/// The number of the first fault of a certificate for the routes; 0 where it is accepted.
+fn number_of(alloc: Global, routes: Routes, certificate: &Certificate) -> u8 {
+    match check(alloc, routes, certificate) {
+        Ok(_) => 0,
+        Err(fault) => fault.number(),
+    }
+}
+
+/// The same for the configuration of a name.
+fn judged_at(
+    rt: &impl Abort,
+    alloc: Global,
+    name: &str,
+    certificate: &Certificate,
+) -> Result<u8, AllocError> {
+    let routes = routes(rt, alloc, configuration(name))?;
+    Ok(number_of(alloc, routes, certificate))
+}
+
+/// The same for the certificate with these lines.
+fn judged(rt: &impl Abort, alloc: Global, name: &str, lines: &str) -> Result<u8, AllocError> {
+    let certificate = certificate_of(rt, alloc, lines)?;
+    judged_at(rt, alloc, name, &certificate)
 }
 
 /// A configuration, the lines of a certificate, and its number.
@@ -78,15 +99,18 @@ prefixes|0 = 0 1 twin 1|1
 nothing||0
 nothing|0 = 0 - never|2";
 
+fn check_row(rt: &impl Abort, alloc: Global, row: &str) -> Result<(), Fail> {
+    let (name, others) = row.split_once('|').ok_or("a row without a bar")?;
+    let (lines, number) = others.split_once('|').ok_or("a row with one bar")?;
+    let found = judged(rt, alloc, name, lines)?;
+    check_number(rt, row, found, number.parse::<u8>()?);
+    Ok(())
+}
+
 #[test]
 fn certificates_are_judged(rt: HostRuntime) -> Result<(), Fail> {
-    let alloc = rt.alloc();
     for row in ROWS.lines() {
-        let (name, others) = row.split_once('|').ok_or("a row without a bar")?;
-        let (lines, number) = others.split_once('|').ok_or("a row with one bar")?;
-        let wanted = number.parse::<u8>().ok().ok_or("no number")?;
-        let found = judged(&rt, alloc, name, lines)?;
-        assert!(rt; found == wanted, "{row}: {found}");
+        check_row(&rt, rt.alloc(), row)?;
     }
     Ok(())
 }

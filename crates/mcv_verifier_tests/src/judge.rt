@@ -1,14 +1,16 @@
 //! Certificates beside one block. Gets go to the leaf 1 with the servers 7 and 8 by its hash; every delete that has a
 //! reply has sent the legs 0.0 to 0.3.
 
-ghost use Rattle.std.specs.Prelude.{◌<◌, length, All};
+ghost use Rattle.std.specs.Prelude.{◌≡◌, ◌<◌, ◌∷◌, [], length, All};
 ghost use Rattle.mcv_judge.specs.Faults.{AreLegsRising};
 ghost use Rattle.mcv_judge.specs.InMemory.{legs_of};
 
+use crate::built::check_number;
 use mcv_base::{Position, ServerId};
 use mcv_cert::{Certificate, read_certificate};
 use mcv_judge::{Block, Leg, judge};
 use std::alloc::{AllocError, Global};
+use std::process::Abort;
 use std::test::Fail;
 
 /// The number of the first fault of a certificate, 0 where there is none.
@@ -36,46 +38,72 @@ fn number_reported<'a>(
     }
 }
 
-/// What is reported of the certificate with this text.
-fn text_judged(alloc: Global, text: &[u8]) -> Result<u8, Fail> {
-    let certificate = read_certificate(alloc, text)?;
+const BOTH: [ServerId; 2] = [ServerId(7), ServerId(8)];
+
+const OTHERS: [ServerId; 2] = [ServerId(7), ServerId(9)];
+
+const SEVEN: [ServerId; 1] = [ServerId(7)];
+
+const EIGHT: [ServerId; 1] = [ServerId(8)];
+
+/// What is reported where the leaf and the legs have these positions.
+fn reported_at<'a>(
+    certificate: &Certificate,
+    leaf: &'a Position,
+    first: &'a Position,
+    second: &'a Position,
+    third: &'a Position,
+    fourth: &'a Position,
+) -> u8
+    requires first { first.now ≡ 0 ∷ 0 ∷ [] }
+    requires second { second.now ≡ 0 ∷ 1 ∷ [] }
+    requires third { third.now ≡ 0 ∷ 2 ∷ [] }
+    requires fourth { fourth.now ≡ 0 ∷ 3 ∷ [] }
+{
+    let readable = [Leg {
+        position: leaf,
+        symbol: 0,
+        servers: &BOTH,
+    }];
+    let acknowledged = [
+        Leg {
+            position: first,
+            symbol: 1,
+            servers: &SEVEN,
+        },
+        Leg {
+            position: second,
+            symbol: 1,
+            servers: &EIGHT,
+        },
+        Leg {
+            position: third,
+            symbol: 0,
+            servers: &OTHERS,
+        },
+        Leg {
+            position: fourth,
+            symbol: 0,
+            servers: &BOTH,
+        },
+    ];
+    number_reported(b"", &readable, &acknowledged, certificate)
+}
+
+/// What is reported of a certificate.
+fn reported(alloc: Global, certificate: &Certificate) -> Result<u8, AllocError> {
     let leaf = Position::at(alloc, &[1])?;
     let first = Position::at(alloc, &[0, 0])?;
     let second = Position::at(alloc, &[0, 1])?;
     let third = Position::at(alloc, &[0, 2])?;
     let fourth = Position::at(alloc, &[0, 3])?;
-    let both = [ServerId(7), ServerId(8)];
-    let others = [ServerId(7), ServerId(9)];
-    let seven = [ServerId(7)];
-    let eight = [ServerId(8)];
-    let readable = [Leg {
-        position: &leaf,
-        symbol: 0,
-        servers: &both,
-    }];
-    let acknowledged = [
-        Leg {
-            position: &first,
-            symbol: 1,
-            servers: &seven,
-        },
-        Leg {
-            position: &second,
-            symbol: 1,
-            servers: &eight,
-        },
-        Leg {
-            position: &third,
-            symbol: 0,
-            servers: &others,
-        },
-        Leg {
-            position: &fourth,
-            symbol: 0,
-            servers: &both,
-        },
-    ];
-    Ok(number_reported(b"", &readable, &acknowledged, &certificate))
+    Ok(reported_at(certificate, &leaf, &first, &second, &third, &fourth))
+}
+
+/// What is reported of the certificate with this text.
+fn text_judged(alloc: Global, text: &[u8]) -> Result<u8, Fail> {
+    let certificate = read_certificate(alloc, text)?;
+    Ok(reported(alloc, &certificate)?)
 }
 
 /// The text of a certificate with the pairs of a row, each ended by a `^`.
@@ -87,6 +115,12 @@ fn certificate_of(alloc: Global, row: &str) -> Result<Vec<u8>, AllocError> {
     }
     text.extend_from_slice(b"end\n")?;
     Ok(text)
+}
+
+/// What is reported of the certificate with these pairs.
+fn judged(alloc: Global, pairs: &str) -> Result<u8, Fail> {
+    let text = certificate_of(alloc, pairs)?;
+    text_judged(alloc, text.as_slice())
 }
 
 /// Pairs with the number of the first fault.
@@ -109,17 +143,16 @@ const ROWS: &str = "0 = 0 1 all 0 0.0^0 = 0 1 all 1 0.1^|0
 0 = 0 1 twin 0.2^|4
 0 = 0 1 never^|5";
 
+fn check_row(rt: &impl Abort, alloc: Global, row: &str) -> Result<(), Fail> {
+    let (pairs, number) = row.split_once('|').ok_or("a row")?;
+    check_number(rt, row, judged(alloc, pairs)?, number.parse::<u8>()?);
+    Ok(())
+}
+
 #[test]
 fn the_first_fault_is_reported(rt: HostRuntime) -> Result<(), Fail> {
-    let alloc = rt.alloc();
     for row in ROWS.lines() {
-        let Some((pairs, expected)) = row.split_once('|') else {
-            return Ok(assert!(rt; false, "{row}"));
-        };
-        let text = certificate_of(alloc, pairs)?;
-        let number = text_judged(alloc, text.as_slice())?;
-        let reported = format!(in alloc; "{number}")?;
-        assert!(rt; reported.as_str() == expected, "{row}");
+        check_row(&rt, rt.alloc(), row)?;
     }
     Ok(())
 }

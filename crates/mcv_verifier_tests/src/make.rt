@@ -1,9 +1,8 @@
 //! Configurations that aren't covered, and the text of what shows it.
 
-use crate::built::{lines, routes};
+use crate::built::{check_true, halves, routes};
 use mcv_make::{MakeFault, make};
 use mcv_route::Routes;
-use mcv_witness::{confirm, finding_text};
 use std::alloc::Global;
 use std::process::Abort;
 use std::test::Fail;
@@ -31,24 +30,21 @@ const LOST: &str = "\
 /// The routes have this finding.
 fn check_lost(rt: &impl Abort, alloc: Global, routes: &Routes, wanted: &str) -> Result<(), Fail> {
     match make(alloc, routes) {
-        Err(MakeFault::Lost(finding)) => {
-            assert!(rt; confirm(routes, &finding), "{wanted}");
-            let found = finding_text(alloc, &finding, routes)?;
-            let text = lines(alloc, wanted)?;
-            assert!(rt; found.as_slice() == text.as_slice(), "{wanted}");
-            Ok(())
-        }
-        _ => panic!(rt; "no finding"),
+        Err(MakeFault::Lost(finding)) => check_true(rt, alloc, routes, &finding, wanted),
+        _ => panic!(rt; "no finding: {wanted}"),
     }
+}
+
+fn check_case(rt: &impl Abort, alloc: Global, case: &str) -> Result<(), Fail> {
+    let (text, wanted) = halves(case)?;
+    let routes = routes(rt, alloc, text)?;
+    check_lost(rt, alloc, &routes, wanted)
 }
 
 #[test]
 fn losses_have_their_finding(rt: HostRuntime) -> Result<(), Fail> {
-    let alloc = rt.alloc();
     for case in LOST.lines() {
-        let (text, wanted) = case.split_once(" => ").ok_or("a case in two parts")?;
-        let routes = routes(&rt, alloc, text)?;
-        check_lost(&rt, alloc, &routes, wanted)?;
+        check_case(&rt, rt.alloc(), case)?;
     }
     Ok(())
 }

@@ -1,11 +1,16 @@
 //! The legs and reasons that are picked for leaves, as one text.
 
+use crate::built::check_lines;
 use mcv_base::{Position, ServerId};
 use mcv_cert::Reason;
 use mcv_judge::Leg;
 use mcv_picks::Picks;
 use std::alloc::{AllocError, Global};
 use std::test::Fail;
+
+const SEVEN: [ServerId; 1] = [ServerId(7)];
+
+const EIGHT: [ServerId; 1] = [ServerId(8)];
 
 /// Adds where the leg is.
 fn push_leg(text: &mut Vec<u8>, leg: Option<&Leg>) -> Result<(), AllocError> {
@@ -44,6 +49,29 @@ fn push_positions(text: &mut Vec<u8>, positions: &[Position]) -> Result<(), Allo
     Ok(())
 }
 
+/// Adds the reason for a whole leaf.
+fn push_whole<'a>(
+    alloc: Global,
+    text: &mut Vec<u8>,
+    picks: &Picks<'a>,
+    leaf: &Leg<'a>,
+) -> Result<(), AllocError> {
+    let reason = picks.whole_reason(alloc, true, leaf)?;
+    push_reason(text, &reason)
+}
+
+/// Adds the reason for a leaf with the server at index 0.
+fn push_at<'a>(
+    alloc: Global,
+    text: &mut Vec<u8>,
+    picks: &Picks<'a>,
+    leaf: &Leg<'a>,
+    server: ServerId,
+) -> Result<(), AllocError> {
+    let reason = picks.reason_at(alloc, leaf, 0, server)?;
+    push_reason(text, &reason)
+}
+
 /// Adds what is picked for a leaf with the server at index 0.
 fn push_picks<'a>(
     alloc: Global,
@@ -54,63 +82,83 @@ fn push_picks<'a>(
 ) -> Result<(), AllocError> {
     push_leg(text, picks.twin(leaf))?;
     push_leg(text, picks.same(leaf.symbol, server, 0))?;
-    push_reason(text, &picks.whole_reason(alloc, true, leaf)?)?;
+    push_whole(alloc, text, picks, leaf)?;
     text.push(b' ')?;
-    push_reason(text, &picks.reason_at(alloc, leaf, 0, server)?)?;
+    push_at(alloc, text, picks, leaf, server)?;
     Ok(text.push(b'\n')?)
 }
 
-/// Adds what is picked for the last leg, and for another leaf with the server 7 and with one that no leg has.
-fn push_all_picks<'a>(
+/// Adds what is picked for a leaf with the server 8, and for another one with the server 7 and with one that no leg has.
+fn push_all<'a>(
+    alloc: Global,
+    text: &mut Vec<u8>,
+    picks: &Picks<'a>,
+    leaf: &Leg<'a>,
+    other: &Leg<'a>,
+) -> Result<(), AllocError> {
+    push_picks(alloc, text, picks, leaf, ServerId(8))?;
+    push_picks(alloc, text, picks, other, ServerId(7))?;
+    push_picks(alloc, text, picks, other, ServerId(9))
+}
+
+/// Adds what is picked of these legs for the leaves.
+fn push_picked<'a>(
     alloc: Global,
     text: &mut Vec<u8>,
     legs: &'a [Leg<'a>],
+    leaf: &Leg<'a>,
     other: &Leg<'a>,
 ) -> Result<(), AllocError> {
     let picks = Picks::new(alloc, legs)?;
-    if let Some(last) = legs.last() {
-        push_picks(alloc, text, &picks, last, ServerId(8))?;
-    }
-    push_picks(alloc, text, &picks, other, ServerId(7))?;
-    push_picks(alloc, text, &picks, other, ServerId(9))
+    push_all(alloc, text, &picks, leaf, other)
+}
+
+/// Adds what is picked of three legs, the first of which has the server 7 and the others 8, for the last of them and for
+/// a leaf with another symbol and the server 7.
+fn push_picked_at<'a>(
+    alloc: Global,
+    text: &mut Vec<u8>,
+    place: &'a Position,
+    next: &'a Position,
+    last: &'a Position,
+) -> Result<(), AllocError> {
+    let legs = [
+        Leg {
+            position: place,
+            symbol: 1,
+            servers: &SEVEN,
+        },
+        Leg {
+            position: next,
+            symbol: 1,
+            servers: &EIGHT,
+        },
+        Leg {
+            position: last,
+            symbol: 1,
+            servers: &EIGHT,
+        },
+    ];
+    let other = Leg {
+        position: last,
+        symbol: 0,
+        servers: &SEVEN,
+    };
+    push_picked(alloc, text, &legs, &legs[2], &other)
+}
+
+/// What is picked where the legs are at 0, 1 and 2.
+fn picked(alloc: Global) -> Result<Vec<u8>, AllocError> {
+    let place = Position::at(alloc, &[0])?;
+    let next = Position::at(alloc, &[1])?;
+    let last = Position::at(alloc, &[2])?;
+    let mut text = Vec::new(alloc);
+    push_picked_at(alloc, &mut text, &place, &next, &last)?;
+    Ok(text)
 }
 
 #[test]
 fn the_first_that_holds_is_picked(rt: HostRuntime) -> Result<(), Fail> {
-    let alloc = rt.alloc();
-    let place = Position::at(alloc, &[0])?;
-    let next = Position::at(alloc, &[1])?;
-    let last = Position::at(alloc, &[2])?;
-    let seven = [ServerId(7)];
-    let eight = [ServerId(8)];
-    let legs = [
-        Leg {
-            position: &place,
-            symbol: 1,
-            servers: &seven,
-        },
-        Leg {
-            position: &next,
-            symbol: 1,
-            servers: &eight,
-        },
-        Leg {
-            position: &last,
-            symbol: 1,
-            servers: &eight,
-        },
-    ];
-    let other = Leg {
-        position: &last,
-        symbol: 0,
-        servers: &seven,
-    };
-    let mut text = Vec::new(alloc);
-    push_all_picks(alloc, &mut text, &legs, &other)?;
-    let expected = b"1 1 twin 1 same 1
-none none none all 0
-none none none none
-";
-    assert!(rt; text.as_slice() == expected.as_slice(), "picks");
-    Ok(())
+    let expected = "1 1 twin 1 same 1 / none none none all 0 / none none none none";
+    check_lines(&rt, rt.alloc(), picked(rt.alloc())?.as_slice(), expected)
 }

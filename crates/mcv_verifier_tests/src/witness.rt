@@ -1,10 +1,10 @@
 //! Findings, true ones with their texts, and false ones.
 
-use crate::built::{lines, routes};
+use crate::built::{check_true, halves, routes};
 use mcv_base::{Op, Outcome, Position, ServerId};
 use mcv_pools::Choice;
 use mcv_route::Routes;
-use mcv_witness::{Finding, LegOutcome, confirm, finding_text};
+use mcv_witness::{Finding, LegOutcome, confirm};
 use std::alloc::Global;
 use std::process::Abort;
 use std::test::Fail;
@@ -91,20 +91,22 @@ fn outcome(word: &str) -> Outcome {
     }
 }
 
-/// Positions with their outcomes, or `-`.
-fn outcomes(alloc: Global, text: &str) -> Result<Vec<LegOutcome>, Fail> {
-    let mut legs = Vec::new(alloc);
-    if text == "-" {
-        return Ok(legs);
+/// Adds a leg with its outcome: a position, `=` and a word.
+fn push_outcome(alloc: Global, legs: &mut Vec<LegOutcome>, leg: &str) -> Result<(), Fail> {
+    let (at, word) = leg.split_once('=').ok_or("an outcome")?;
+    let position = position(alloc, at)?;
+    let outcome = outcome(word);
+    Ok(legs.push(LegOutcome { position, outcome })?)
+}
+
+/// Adds legs with their outcomes; `-` is none.
+fn push_outcomes(alloc: Global, legs: &mut Vec<LegOutcome>, text: &str) -> Result<(), Fail> {
+    if text != "-" {
+        for leg in text.split(',') {
+            push_outcome(alloc, legs, leg)?;
+        }
     }
-    for leg in text.split(',') {
-        let (at, word) = leg.split_once('=').ok_or("an outcome")?;
-        legs.push(LegOutcome {
-            position: position(alloc, at)?,
-            outcome: outcome(word),
-        })?;
-    }
-    Ok(legs)
+    Ok(())
 }
 
 fn op(word: &str) -> Op {
@@ -115,83 +117,64 @@ fn op(word: &str) -> Op {
     }
 }
 
-/// The words of a finding, up to the leaf and from the leaf on.
-#[derive(Drop)]
-struct Place<'a> {
-    route: &'a str,
-    class: &'a str,
-    era: &'a str,
-    key: &'a str,
-    read: &'a str,
-}
-
-fn words(line: &str) -> Result<Place<'_>, Fail> {
-    let (route, line) = line.split_once(' ').ok_or("a route")?;
-    let (class, line) = line.split_once(' ').ok_or("a class")?;
-    let (era, line) = line.split_once(' ').ok_or("an era")?;
-    let (key, read) = line.split_once(' ').ok_or("a key")?;
-    Ok(Place {
-        route,
-        class,
-        era,
-        key,
-        read,
-    })
-}
-
-/// The words of what is read, and how.
-#[derive(Drop)]
-struct Read<'a> {
-    leaf: &'a str,
-    at: &'a str,
-    server: &'a str,
-    choice: &'a str,
-    op: &'a str,
-    gets: &'a str,
-    deletes: &'a str,
-}
-
-fn reading(line: &str) -> Result<Read<'_>, Fail> {
-    let (leaf, line) = line.split_once(' ').ok_or("a leaf")?;
-    let (at, line) = line.split_once(' ').ok_or("an index")?;
-    let (server, line) = line.split_once(' ').ok_or("a server")?;
-    let (choice, line) = line.split_once(' ').ok_or("a choice")?;
-    let (op, line) = line.split_once(' ').ok_or("an operation")?;
-    let (gets, deletes) = line.split_once(' ').ok_or("outcomes")?;
-    Ok(Read {
-        leaf,
-        at,
-        server,
-        choice,
-        op,
-        gets,
-        deletes,
-    })
+/// The word of a case at an index.
+fn word(case: &str, index: usize) -> Result<&str, Fail> {
+    Ok(case.split(' ').nth(index).ok_or("a word")?)
 }
 
 fn class(word: &str) -> &[u8] {
     if word == "-" { b"" } else { word.as_bytes() }
 }
 
-/// The finding of a line.
-fn finding(alloc: Global, line: &str) -> Result<Finding, Fail> {
-    let words = words(line)?;
-    let read = reading(words.read)?;
-    let (route, era) = (words.route.parse::<usize>()?, words.era.parse::<usize>()?);
-    let (at, server) = (read.at.parse::<usize>()?, read.server.parse::<u32>()?);
-    Ok(Finding {
-        route,
-        class: Vec::from_slice(alloc, class(words.class))?,
-        era,
-        key: Vec::from_slice(alloc, words.key.as_bytes())?,
-        leaf: position(alloc, read.leaf)?,
-        at,
-        server: ServerId(server),
-        choice: Choice::new(numbers(alloc, read.choice, ',')?),
-        op: op(read.op),
-        gets: outcomes(alloc, read.gets)?,
-        deletes: outcomes(alloc, read.deletes)?,
-    })
+/// A finding without a key, read at the root.
+fn empty(alloc: Global) -> Finding {
+    Finding {
+        route: 0,
+        class: Vec::new(alloc),
+        era: 0,
+        key: Vec::new(alloc),
+        leaf: Position::root(alloc),
+        at: 0,
+        server: ServerId(0),
+        choice: Choice::new(Vec::new(alloc)),
+        op: Op::Get,
+        gets: Vec::new(alloc),
+        deletes: Vec::new(alloc),
+    }
+}
+
+/// Takes in where the finding of a case is.
+fn set_place(alloc: Global, finding: &mut Finding, case: &str) -> Result<(), Fail> {
+    finding.route = word(case, 1)?.parse::<usize>()?;
+    finding.class.extend_from_slice(class(word(case, 2)?))?;
+    finding.era = word(case, 3)?.parse::<usize>()?;
+    finding.key.extend_from_slice(word(case, 4)?.as_bytes())?;
+    finding.leaf = position(alloc, word(case, 5)?)?;
+    Ok(())
+}
+
+/// Takes in what the finding of a case reads, and the choice.
+fn set_read(alloc: Global, finding: &mut Finding, case: &str) -> Result<(), Fail> {
+    finding.at = word(case, 6)?.parse::<usize>()?;
+    finding.server = ServerId(word(case, 7)?.parse::<u32>()?);
+    finding.choice = Choice::new(numbers(alloc, word(case, 8)?, ',')?);
+    finding.op = op(word(case, 9)?);
+    Ok(())
+}
+
+/// Takes in the outcomes of the finding of a case.
+fn set_outcomes(alloc: Global, finding: &mut Finding, case: &str) -> Result<(), Fail> {
+    push_outcomes(alloc, &mut finding.gets, word(case, 10)?)?;
+    push_outcomes(alloc, &mut finding.deletes, word(case, 11)?)
+}
+
+/// The finding of a case, whose first word is the number of its configuration.
+fn finding(alloc: Global, case: &str) -> Result<Finding, Fail> {
+    let mut finding = empty(alloc);
+    set_place(alloc, &mut finding, case)?;
+    set_read(alloc, &mut finding, case)?;
+    set_outcomes(alloc, &mut finding, case)?;
+    Ok(finding)
 }
 
 /// The configuration of this number.
@@ -200,43 +183,40 @@ fn config(number: &str) -> Result<&'static str, Fail> {
     Ok(CONFIGS.lines().nth(number).ok_or("a configuration")?)
 }
 
-/// The finding is true and has this text.
-fn check_true(
+/// The finding of a case is true and has this text, or is false for this reason.
+fn check_finding(
     rt: &impl Abort,
     alloc: Global,
     routes: &Routes,
-    finding: &Finding,
-    wanted: &str,
+    case: &str,
+    is_true: bool,
 ) -> Result<(), Fail> {
-    assert!(rt; confirm(routes, finding), "{wanted}");
-    let found = finding_text(alloc, finding, routes)?;
-    let text = lines(alloc, wanted)?;
-    assert!(rt; found.as_slice() == text.as_slice(), "{wanted}");
+    let (line, wanted) = halves(case)?;
+    let finding = finding(alloc, line)?;
+    if is_true {
+        return check_true(rt, alloc, routes, &finding, wanted);
+    }
+    assert!(rt; !confirm(routes, &finding), "{case}");
     Ok(())
+}
+
+fn check_case(rt: &impl Abort, alloc: Global, case: &str, is_true: bool) -> Result<(), Fail> {
+    let routes = routes(rt, alloc, config(word(case, 0)?)?)?;
+    check_finding(rt, alloc, &routes, case, is_true)
 }
 
 #[test]
 fn what_breaks_coverage_is_confirmed(rt: HostRuntime) -> Result<(), Fail> {
-    let alloc = rt.alloc();
     for case in TRUE.lines() {
-        let (row, wanted) = case.split_once(" => ").ok_or("a case in two parts")?;
-        let (number, line) = row.split_once(' ').ok_or("a configuration")?;
-        let routes = routes(&rt, alloc, config(number)?)?;
-        let finding = finding(alloc, line)?;
-        check_true(&rt, alloc, &routes, &finding, wanted)?;
+        check_case(&rt, rt.alloc(), case, true)?;
     }
     Ok(())
 }
 
 #[test]
 fn what_does_not_is_refused(rt: HostRuntime) -> Result<(), Fail> {
-    let alloc = rt.alloc();
     for case in FALSE.lines() {
-        let (row, wrong) = case.split_once(" => ").ok_or("a case in two parts")?;
-        let (number, line) = row.split_once(' ').ok_or("a configuration")?;
-        let routes = routes(&rt, alloc, config(number)?)?;
-        let finding = finding(alloc, line)?;
-        assert!(rt; !confirm(&routes, &finding), "{wrong}");
+        check_case(&rt, rt.alloc(), case, false)?;
     }
     Ok(())
 }
