@@ -139,6 +139,6 @@ module _ (I O W : RattleType) where
   pub visitor_send : IsSend I → IsSend O → IsSend W → IsSend (Visitor.the_row I O W)
   visitor_send i o w = search (visitor.the_send, sendable, crosses) depth 24
 
-module _ (B T L : RattleType) (b : Ghosts B.Denot) (t : Ghosts T.Denot) where
-  pub context_send : IsSend L → IsSend (Context.the_row B T L b t)
+module _ (B T L Begun : RattleType) (b : Ghosts B.Denot) (t : Ghosts T.Denot) where
+  pub context_send : IsSend L → IsSend (Context.the_row B T L Begun b t)
   context_send s = search (accepted_send, accepted_sync, hub_send, hub_sync, lanes_send, lanes_sync, links.the_send, links.the_sync, sendable, crosses) depth 24

@@ -77,7 +77,7 @@ pub trait Watch: Drop {
 /// What a proxy talks to: servers, a disk, clients and the clock.
 pub trait Gates: Drop {
     /// A leg that a link began.
-    type Begun: Drop + Send;
+    type Begun: Drop + Send + 'static;
 
     type Link: Link<Begun = Self::Begun> + Send + 'static;
 

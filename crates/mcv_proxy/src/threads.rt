@@ -256,7 +256,7 @@ fn host<
     visitor: Visitor<I, O, W>,
 ) -> Option<JoinHandle<Done<B, T>>>
 where
-    L::Begun: Send,
+    L::Begun: Send + 'static,
 {
     let job = move || serve(&rt, alloc, context, pass, seat, visitor);
     thread::spawn(&rt, job).ok()
@@ -281,7 +281,7 @@ fn admit<
     watch: W,
 ) -> Option<JoinHandle<Done<B, T>>>
 where
-    L::Begun: Send,
+    L::Begun: Send + 'static,
 {
     let context = SessionContext {
         accepted: Arc::try_clone(&context.accepted).ok()?,
