@@ -15,7 +15,7 @@ use Rattle.mcv_route.specs.Outcomes.{Choice}
 use Rattle.mcv_route.specs.Places.{pool_at_position}
 use Rattle.mcv_route.specs.Routes.{IsSoundRoutes, IsSoundTree, RouteEntry, RoutesValue}
 use Rattle.mcv_route.specs.Situation.{asked, under}
-use Rattle.mcv_route.specs.Tree.{Pool, Tree, pool, all_sync, operation_selector, none, child}
+use Rattle.mcv_route.specs.Tree.{Pool, Tree, pool, many, AllSync, operation_selector, none, child}
 use Rattle.mcv_rules.specs.Plan.{Leg}
 use Rattle.mcv_rules.specs.Plans as plans
 use Rattle.mcv_classes.specs.Class.{IsFree}
@@ -47,7 +47,7 @@ abbrev second : Pool
 second = record { symbol = 1; servers = 1 ∷ [] }
 
 abbrev tree : Tree
-tree = operation_selector (Some Delete ∷ []) (child (all_sync (child (pool first [] none) (child (pool second [] none) none))) (child (pool hashed [] none) none))
+tree = operation_selector (Some Delete ∷ []) (child (many AllSync (child (pool first [] none) (child (pool second [] none) none))) (child (pool hashed [] none) none))
 
 abbrev entry : RouteEntry
 entry = record { aliases = []; tree = tree }

@@ -15,7 +15,7 @@ use Rattle.mcv_classes.specs.Class.{ClassValue, IsBefore, IsClassList, IsListed}
 use Rattle.mcv_classes.specs.Words.{class_words}
 use Rattle.mcv_route.specs.Limits.{AreWithinLimits, handles_in}
 use Rattle.mcv_route.specs.Routes.{RouteEntry, RoutesValue}
-use Rattle.mcv_route.specs.Tree.{Tree, pool, null, error, all_sync, all_initial, all_async, failover, miss_failover, warm_up, migrate, prefix_selector, operation_selector}
+use Rattle.mcv_route.specs.Tree.{Tree, pool, null, error, many, warm_up, migrate, prefix_selector, operation_selector}
 use Rattle.mcv_blocks.specs.Places.{AreRouteClasses, IsRouteClass, class_cmp, of_route}
 use Rattle.mcv_blocks.specs.declared.classes.RouteClass.{RouteClass}
 use Rattle.mcv_route.proofs.RisingLists.{rises_behind}
@@ -130,11 +130,7 @@ some-handles : (t : Tree) → 0 < handles_in t
 some-handles (pool p ranges targets) = omega arith
 some-handles null = omega arith
 some-handles error = omega arith
-some-handles (all_sync ts) = omega arith
-some-handles (all_initial ts) = omega arith
-some-handles (all_async ts) = omega arith
-some-handles (failover ts) = omega arith
-some-handles (miss_failover ts) = omega arith
+some-handles (many kind ts) = omega arith
 some-handles (warm_up cold warm exptime) = omega arith
 some-handles (migrate from to start interval) = omega arith
 some-handles (prefix_selector prefixes ts) = omega arith

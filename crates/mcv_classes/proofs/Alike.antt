@@ -10,7 +10,7 @@ use Rattle.mcv_route.specs.Outcomes.{Outcomes, Choice, History, outcomes}
 use Rattle.mcv_route.specs.Replies.{refused, replies, replies_each, the_worse, or_after_error, or_after_miss}
 use Rattle.mcv_route.specs.Reply.{reply, arrivals, arrival, answers_of, came, is_waiting, last_worse, next_after_error, next_after_miss}
 use Rattle.mcv_route.specs.Situation.{Situation, under, asked, asynchronous, shadowed, adding}
-use Rattle.mcv_route.specs.Tree.{Tree, Trees, pool, null, error, all_sync, all_initial, all_async, failover, miss_failover, warm_up, migrate, prefix_selector, operation_selector, none, child}
+use Rattle.mcv_route.specs.Tree.{Tree, Trees, pool, null, error, many, AllSync, AllInitial, AllAsync, Failover, MissFailover, warm_up, migrate, prefix_selector, operation_selector, none, child}
 use Rattle.mcv_classes.specs.Class.{IsClassWord}
 use Rattle.mcv_classes.specs.Words.{prefixes_in, prefixes_below, class_words}
 use Rattle.mcv_classes.specs.Laws.{AlikeAreSent, AlikeAreReplied, AlikeAreAnswered}
@@ -31,11 +31,11 @@ mutual
   replies-alike (pool p ranges targets) s r o h = refl
   replies-alike null s r o h = refl
   replies-alike error s r o h = refl
-  replies-alike (all_sync ts) s r o h = λ i. together the_worse (refused ∷ []) (replies_each-alike 0 ts s r o h i)
-  replies-alike (all_initial ts) s r o h = λ i. child_or (refused ∷ []) 0 (replies_each-alike 0 ts s r o h i)
-  replies-alike (all_async ts) s r o h = refl
-  replies-alike (failover ts) s r o h = λ i. together or_after_error (refused ∷ []) (replies_each-alike 0 ts s r o h i)
-  replies-alike (miss_failover ts) s r o h = λ i.
+  replies-alike (many AllSync ts) s r o h = λ i. together the_worse (refused ∷ []) (replies_each-alike 0 ts s r o h i)
+  replies-alike (many AllInitial ts) s r o h = λ i. child_or (refused ∷ []) 0 (replies_each-alike 0 ts s r o h i)
+  replies-alike (many AllAsync ts) s r o h = refl
+  replies-alike (many Failover ts) s r o h = λ i. together or_after_error (refused ∷ []) (replies_each-alike 0 ts s r o h i)
+  replies-alike (many MissFailover ts) s r o h = λ i.
       if is_reading s.op then together or_after_miss (refused ∷ []) (replies_each-alike 0 ts s r o h i)
       else child_or (refused ∷ []) 0 (replies_each-alike 0 ts s r o h i)
   replies-alike (warm_up cold warm exptime) s r o h =
@@ -64,11 +64,11 @@ mutual
   launched-alike (pool p ranges targets) s r c o h = λ i. own_leg p s c ∷ of_those_holding (c p.symbol) ranges (launched_each-alike 0 targets (shadowed s) r c o h i)
   launched-alike null s r c o h = refl
   launched-alike error s r c o h = refl
-  launched-alike (all_sync ts) s r c o h = λ i. joined (launched_each-alike 0 ts s r c o h i)
-  launched-alike (all_initial ts) s r c o h = λ i. child_or [] 0 (launched_each-alike 0 ts s r c o h i) ++ joined (rest_of (launched_each-alike 0 ts (asynchronous s) r c o h i))
-  launched-alike (all_async ts) s r c o h = λ i. joined (launched_each-alike 0 ts (asynchronous s) r c o h i)
-  launched-alike (failover ts) s r c o h = λ i. in_turn is_error (replies_each-alike 0 ts s r o h i) (launched_each-alike 0 ts s r c o h i)
-  launched-alike (miss_failover ts) s r c o h = λ i.
+  launched-alike (many AllSync ts) s r c o h = λ i. joined (launched_each-alike 0 ts s r c o h i)
+  launched-alike (many AllInitial ts) s r c o h = λ i. child_or [] 0 (launched_each-alike 0 ts s r c o h i) ++ joined (rest_of (launched_each-alike 0 ts (asynchronous s) r c o h i))
+  launched-alike (many AllAsync ts) s r c o h = λ i. joined (launched_each-alike 0 ts (asynchronous s) r c o h i)
+  launched-alike (many Failover ts) s r c o h = λ i. in_turn is_error (replies_each-alike 0 ts s r o h i) (launched_each-alike 0 ts s r c o h i)
+  launched-alike (many MissFailover ts) s r c o h = λ i.
       if is_reading s.op then in_turn is_missed (replies_each-alike 0 ts s r o h i) (launched_each-alike 0 ts s r c o h i)
       else child_or [] 0 (launched_each-alike 0 ts s r c o h i)
   launched-alike (warm_up cold warm exptime) s r c o h =
@@ -106,11 +106,11 @@ mutual
   reply-alike (pool p ranges targets) s r es h = refl
   reply-alike null s r es h = refl
   reply-alike error s r es h = refl
-  reply-alike (all_sync ts) s r es h = λ i. (together last_worse (arrival (Some refused) 0) (arrivals-alike 0 ts s r es h i)).answer
-  reply-alike (all_initial ts) s r es h = λ i. child_or (Some refused) 0 (answers_of (arrivals-alike 0 ts s r es h i))
-  reply-alike (all_async ts) s r es h = refl
-  reply-alike (failover ts) s r es h = λ i. together next_after_error (Some refused) (answers_of (arrivals-alike 0 ts s r es h i))
-  reply-alike (miss_failover ts) s r es h = λ i.
+  reply-alike (many AllSync ts) s r es h = λ i. (together last_worse (arrival (Some refused) 0) (arrivals-alike 0 ts s r es h i)).answer
+  reply-alike (many AllInitial ts) s r es h = λ i. child_or (Some refused) 0 (answers_of (arrivals-alike 0 ts s r es h i))
+  reply-alike (many AllAsync ts) s r es h = refl
+  reply-alike (many Failover ts) s r es h = λ i. together next_after_error (Some refused) (answers_of (arrivals-alike 0 ts s r es h i))
+  reply-alike (many MissFailover ts) s r es h = λ i.
       if is_reading s.op then together next_after_miss (Some refused) (answers_of (arrivals-alike 0 ts s r es h i))
       else child_or (Some refused) 0 (answers_of (arrivals-alike 0 ts s r es h i))
   reply-alike (warm_up cold warm exptime) s r es h =

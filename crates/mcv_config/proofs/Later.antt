@@ -5,7 +5,7 @@ use Rattle.serde_json.specs.Data.{Data, Members, no_members, member}
 use Rattle.mcv_names.specs.Fault.{Read}
 use Rattle.mcv_names.specs.Lists.{each, each_member}
 use Rattle.mcv_names.specs.Path.{key_step, item_step}
-use Rattle.mcv_config.specs.Plan.{Named, Nameds, no_named, named, pool, server, null, error, all_sync, all_initial, all_async, failover, miss_failover, warm_up, migrate, prefix_selector, operation_selector, IsSoundRoute, AreSoundRoutes}
+use Rattle.mcv_config.specs.ConfigValue.{Named, Nameds, no_named, named, pool, server, null, error, many, warm_up, migrate, prefix_selector, operation_selector, IsSoundRoute, AreSoundRoutes}
 use Rattle.mcv_config.specs.Pools.{Table}
 use Rattle.mcv_config.specs.Walk.{SoFar, with_pool}
 use Rattle.mcv_names.proofs.Holds.{Holds, holds_bind}
@@ -38,11 +38,7 @@ mutual
   route_keeps ps qs l (server i k) h = (omega (arith, h.0, l.longer), subst (λ (p : List ℕ). k < length p) (sym (l.same i h.0)) h.1)
   route_keeps ps qs l null h = tt
   route_keeps ps qs l error h = tt
-  route_keeps ps qs l (all_sync ts) h = (h.0, routes_keep ps qs l ts h.1)
-  route_keeps ps qs l (all_initial ts) h = (h.0, routes_keep ps qs l ts h.1)
-  route_keeps ps qs l (all_async ts) h = (h.0, routes_keep ps qs l ts h.1)
-  route_keeps ps qs l (failover ts) h = (h.0, routes_keep ps qs l ts h.1)
-  route_keeps ps qs l (miss_failover ts) h = (h.0, routes_keep ps qs l ts h.1)
+  route_keeps ps qs l (many kind ts) h = (h.0, routes_keep ps qs l ts h.1)
   route_keeps ps qs l (warm_up cold warm exptime) h = (route_keeps ps qs l cold h.0, route_keeps ps qs l warm h.1)
   route_keeps ps qs l (migrate from to start interval) h = (route_keeps ps qs l from h.0, route_keeps ps qs l to h.1)
   route_keeps ps qs l (prefix_selector prefixes ts) h = routes_keep ps qs l ts h

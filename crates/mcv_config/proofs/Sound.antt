@@ -1,4 +1,4 @@
--- Every plan that a value names is sound.
+-- Every configuration that a value names is sound.
 use Rattle.std.proofs.Common.{◌≡◌, ℕ, List, Option, Some, None, bytes_eq, codes, subst}
 use Rattle.std.specs.Cmp.Lexicographic.{bytes_decides}
 use Rattle.serde_json.specs.Data.{Data, Members}
@@ -9,9 +9,9 @@ use Rattle.mcv_names.specs.Fault.{good}
 use Rattle.mcv_names.specs.Handles.{key_fault, keys_read}
 use Rattle.mcv_names.specs.Path.{key_step}
 use Rattle.mcv_names.proofs.Holds.{Holds, holds_bind, holds_also}
-use Rattle.mcv_config.specs.Config.{at_first, plan_of_members, plan_read, plan_with, root}
+use Rattle.mcv_config.specs.Config.{at_first, config_of_members, config_read, config_with, root}
 use Rattle.mcv_config.specs.Entries.{routing_read}
-use Rattle.mcv_config.specs.Plan.{EntryPlan, IsSound, Plan, all_aliases}
+use Rattle.mcv_config.specs.ConfigValue.{EntryValue, IsSound, ConfigValue, all_aliases}
 use Rattle.mcv_config.specs.Pools.{Pools, Table, pools_read}
 use Rattle.mcv_config.specs.Walk.{SoFar}
 use Rattle.mcv_config.proofs.Later.{IsSoFar}
@@ -21,8 +21,8 @@ use Rattle.mcv_config.proofs.SoundPools.{ArePools, IsText, all_of, pools_sound, 
 first_sound : (ps : Pools × Table) → ArePools ps → IsSoFar (at_first ps)
 first_sound ps h = record { fits = h.named; pools = h.pools; is_table = h.is_table }
 
-plan_with_sound : (ps : List (List ℕ)) (t : List EntryPlan × SoFar) → AreEntries ps t → IsSound (plan_with t)
-plan_with_sound ps t h = record {
+config_with_sound : (ps : List (List ℕ)) (t : List EntryValue × SoFar) → AreEntries ps t → IsSound (config_with t)
+config_with_sound ps t h = record {
   texts = all_of IsText t.1.table h.grows.sound.is_table.texts;
   once = one_to_one bytes_eq bytes_decides t.1.table h.grows.sound.is_table.apart;
   apart = one_to_one bytes_eq bytes_decides (all_aliases t.0) h.apart;
@@ -32,20 +32,20 @@ plan_with_sound ps t h = record {
   aliases = sound_aliases ps t h;
 }
 
-plan_sound : (path : List ℕ) (d : Data) → Holds IsSound (plan_read path d)
-unfolding plan_read
-plan_sound path d =
+config_sound : (path : List ℕ) (d : Data) → Holds IsSound (config_read path d)
+unfolding config_read
+config_sound path d =
     holds_bind ArePools IsSound (pools_read (key_step path (codes "pools")) (get (codes "pools") d)) _ (pools_sound (key_step path (codes "pools")) (get (codes "pools") d))
     (λ ps h. holds_bind (AreEntries (at_first ps).pools.servers) IsSound (routing_read (at_first ps) path d) _ (routing_sound (at_first ps) path d (first_sound ps h))
-    (λ t k. plan_with_sound (at_first ps).pools.servers t k))
+    (λ t k. config_with_sound (at_first ps).pools.servers t k))
 
-members_sound : (path : List ℕ) (d : Data) (o : Option Members) → Holds IsSound (plan_of_members path d o)
+members_sound : (path : List ℕ) (d : Data) (o : Option Members) → Holds IsSound (config_of_members path d o)
 members_sound path d None = tt
-members_sound path d (Some ms) = holds_also IsSound (keys_read (key_fault objects.Root) path ms) (plan_read path d) (plan_sound path d)
+members_sound path d (Some ms) = holds_also IsSound (keys_read (key_fault objects.Root) path ms) (config_read path d) (config_sound path d)
 
 root_sound : (path : List ℕ) (d : Data) → Holds IsSound (root path d)
 unfolding root
 root_sound path d = members_sound path d (as_object d)
 
-pub read_plans_are_sound : (path : List ℕ) (d : Data) (plan : Plan) → root path d ≡ good plan → IsSound plan
-read_plans_are_sound path d plan h = subst (Holds IsSound) h (root_sound path d)
+pub read_configs_are_sound : (path : List ℕ) (d : Data) (config : ConfigValue) → root path d ≡ good config → IsSound config
+read_configs_are_sound path d config h = subst (Holds IsSound) h (root_sound path d)

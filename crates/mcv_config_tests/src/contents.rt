@@ -1,7 +1,7 @@
 //! What a configuration holds once it is read, and its limits.
 
 use mcv_base::{Op, ServerId};
-use mcv_config::{ConfigParts, NamedPolicy, NamedRoute, NamedShadow, Pool, read_config};
+use mcv_config::{ConfigParts, Many, NamedPolicy, NamedRoute, NamedShadow, Pool, read_config};
 use mcv_pools::HashFunc;
 use std::alloc::Global;
 use std::process::Abort;
@@ -219,7 +219,7 @@ fn is_server_of(route: &NamedRoute, number: usize, place: usize) -> bool {
 
 fn children(route: &NamedRoute) -> Option<&[NamedRoute]> {
     match route {
-        NamedRoute::AllSync(children) => Some(children.as_slice()),
+        NamedRoute::Many(Many::AllSync, children) => Some(children.as_slice()),
         _ => None,
     }
 }
@@ -365,7 +365,12 @@ fn check_prefixes(rt: &impl Abort, parts: &ConfigParts) -> Result<(), Fail> {
             assert_eq!(rt; first.prefix.as_slice(), b"ab".as_slice());
             assert!(rt; is_pool(&first.route, 0));
             assert_eq!(rt; second.prefix.as_slice(), b"b".as_slice());
-            assert!(rt; matches!(wildcard.as_deref(), Some(NamedRoute::MissFailover(_))));
+            assert!(rt;
+                matches!(
+                    wildcard.as_deref(),
+                    Some(NamedRoute::Many(Many::MissFailover, _))
+                )
+            );
             Ok(())
         }
         _ => Err(Fail::from("a selector")),

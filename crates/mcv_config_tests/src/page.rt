@@ -3,7 +3,7 @@
 //! A row is what becomes of a text and the text: the first route's handle with the number of its children, policies or
 //! shadows, or the number and path of a fault. In the tables `'` means a double quote and `^` a LF.
 
-use mcv_config::{NamedRoute, Pool, ReadFault, read_config};
+use mcv_config::{Many, NamedRoute, Pool, ReadFault, read_config};
 use std::alloc::{AllocError, Global};
 use std::process::Abort;
 use std::test::Fail;
@@ -28,11 +28,11 @@ fn head(route: &NamedRoute) -> (&'static str, usize) {
         NamedRoute::Server { .. } => ("server", 0),
         NamedRoute::Null => ("null", 0),
         NamedRoute::Error => ("error", 0),
-        NamedRoute::AllSync(children) => ("all_sync", children.len()),
-        NamedRoute::AllInitial(children) => ("all_initial", children.len()),
-        NamedRoute::AllAsync(children) => ("all_async", children.len()),
-        NamedRoute::Failover(children) => ("failover", children.len()),
-        NamedRoute::MissFailover(children) => ("miss_failover", children.len()),
+        NamedRoute::Many(Many::AllSync, children) => ("all_sync", children.len()),
+        NamedRoute::Many(Many::AllInitial, children) => ("all_initial", children.len()),
+        NamedRoute::Many(Many::AllAsync, children) => ("all_async", children.len()),
+        NamedRoute::Many(Many::Failover, children) => ("failover", children.len()),
+        NamedRoute::Many(Many::MissFailover, children) => ("miss_failover", children.len()),
         NamedRoute::WarmUp { .. } => ("warm_up", 2),
         NamedRoute::Migrate { .. } => ("migrate", 2),
         NamedRoute::PrefixSelector { policies, .. } => ("prefix_selector", policies.len()),

@@ -8,7 +8,7 @@ use Rattle.mcv_pools.specs.declared.symbol.HashFunc.TheVariants.{Ch3}
 use Rattle.mcv_route.specs.declared.launch.Answered.{Answered}
 use Rattle.mcv_route.specs.declared.launch.Launch.{Launch}
 use Rattle.mcv_route.specs.Routes.{RoutesValue}
-use Rattle.mcv_route.specs.Tree.{Tree, pool, failover, none, child}
+use Rattle.mcv_route.specs.Tree.{Tree, pool, many, Failover, none, child}
 use Rattle.mcv_world.specs.World.{Place, Queued, Call, reply_of}
 use Rattle.mcv_world.specs.Moves.{WasPerformed, new_call, with_reply}
 use Rattle.mcv_events.specs.Entries.{is_launched, is_due}
@@ -29,7 +29,7 @@ abbrev routes : RoutesValue
 routes = record {
   servers = [] ∷ [] ∷ [];
   symbols = record { func = Ch3; salt = []; n = 1 } ∷ [];
-  entries = record { aliases = []; tree = failover (child (server 5) (child (server 7) none)) } ∷ [];
+  entries = record { aliases = []; tree = many Failover (child (server 5) (child (server 7) none)) } ∷ [];
 }
 
 -- ---- a delete: its entries are both legs, and it launches the first one when it begins

@@ -1,13 +1,14 @@
 -- What a handle of a configuration names, one level at a time.
 use Rattle.std.proofs.Common.{◌≡◌, ℕ, List, ◌++◌, map, Vec, Box, Global, Option, Some, None, rules}
 use Rattle.mcv_base.specs.declared.operation.Op.{Op}
+use Rattle.mcv_names.specs.declared.handle.Many.{Many as Kind}
 use Rattle.mcv_pools.specs.declared.symbol.HashFunc.{HashFunc}
-use Rattle.mcv_config.specs.Plan.{Range, Named, Nameds, nameds_of, named_of, policy_of, prefix_of, shadow_of, pool, server, null, error, all_sync, all_initial, all_async, failover, miss_failover, warm_up, migrate, prefix_selector, operation_selector}
+use Rattle.mcv_config.specs.ConfigValue.{Range, Named, Nameds, nameds_of, named_of, policy_of, prefix_of, shadow_of, pool, server, null, error, many, warm_up, migrate, prefix_selector, operation_selector}
 pub use Rattle.mcv_route.specs.Walk.{last_named}
 use Rattle.mcv_config.specs.declared.config.NamedPolicy.{NamedPolicy, out-NamedPolicy}
 use Rattle.mcv_config.specs.declared.config.NamedPrefix.{NamedPrefix, out-NamedPrefix}
 use Rattle.mcv_config.specs.declared.config.NamedShadow.{NamedShadow, out-NamedShadow}
-use Rattle.mcv_config.specs.declared.config.NamedRoute.{NamedRoute, Pool, Server, Null, Error, AllSync, AllInitial, AllAsync, Failover, MissFailover, WarmUp, Migrate, PrefixSelector, OperationSelector, the_lemmas}
+use Rattle.mcv_config.specs.declared.config.NamedRoute.{NamedRoute, Pool, Server, Null, Error, Many, WarmUp, Migrate, PrefixSelector, OperationSelector, the_lemmas}
 
 abbrev pub children_of : List NamedRoute → Nameds
 children_of children = nameds_of (map named_of children)
@@ -45,20 +46,8 @@ named_of-Null = search (rules, the_lemmas)
 pub named_of-Error : named_of Error ≡ error
 named_of-Error = search (rules, the_lemmas)
 
-pub named_of-AllSync : (v : Vec NamedRoute Global) → named_of (AllSync v) ≡ all_sync (children_of v.items)
-named_of-AllSync v = search (rules, the_lemmas)
-
-pub named_of-AllInitial : (v : Vec NamedRoute Global) → named_of (AllInitial v) ≡ all_initial (children_of v.items)
-named_of-AllInitial v = search (rules, the_lemmas)
-
-pub named_of-AllAsync : (v : Vec NamedRoute Global) → named_of (AllAsync v) ≡ all_async (children_of v.items)
-named_of-AllAsync v = search (rules, the_lemmas)
-
-pub named_of-Failover : (v : Vec NamedRoute Global) → named_of (Failover v) ≡ failover (children_of v.items)
-named_of-Failover v = search (rules, the_lemmas)
-
-pub named_of-MissFailover : (v : Vec NamedRoute Global) → named_of (MissFailover v) ≡ miss_failover (children_of v.items)
-named_of-MissFailover v = search (rules, the_lemmas)
+pub named_of-Many : (kind : Kind) (v : Vec NamedRoute Global) → named_of (Many kind v) ≡ many kind (children_of v.items)
+named_of-Many kind v = search (rules, the_lemmas)
 
 pub named_of-WarmUp : (cold warm : Box NamedRoute Global) (exptime : ℕ) → named_of (WarmUp cold warm exptime) ≡ warm_up (named_of cold.value) (named_of warm.value) exptime
 named_of-WarmUp cold warm exptime = search (rules, the_lemmas)

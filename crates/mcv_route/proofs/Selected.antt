@@ -10,18 +10,18 @@ use Rattle.std.proofs.lemmas.List.Sums.{position_or_len_is}
 use Rattle.std.proofs.lemmas.Map.Keys.{any_passes_from_place}
 use Rattle.std.proofs.lemmas.Option.{none-some, same_Some, option_and_then_some, slice_get_within, slice_get-get_or, get_or_from_slice_get}
 use Rattle.mcv_config.specs.Aliases.{IsAlias, alias_limit}
-use Rattle.mcv_config.specs.Plan.{AreAliases, EntryPlan, IsSound, Plan}
+use Rattle.mcv_config.specs.ConfigValue.{AreAliases, EntryValue, IsSound, ConfigValue}
 use Rattle.mcv_pools.specs.Table.{IsOneToOne}
 use Rattle.mcv_route.specs.Aliases.{AreSelected, all_aliases, first_alias}
 use Rattle.mcv_route.specs.Built.{routes_named, symbols_named, tree_named}
 use Rattle.mcv_route.specs.Places.{is_alias, route_of_prefix}
 use Rattle.mcv_route.specs.Routes.{RouteEntry, RoutesValue}
 
--- ---- the routes of a sound plan
+-- ---- the routes of a sound configuration
 
-pub selected-built : (p : Plan) → IsSound p → AreSelected (routes_named p).entries
+pub selected-built : (p : ConfigValue) → IsSound p → AreSelected (routes_named p).entries
 selected-built p sound =
-    let built : EntryPlan → RouteEntry = λ e. record { aliases = e.aliases; tree = tree_named (symbols_named p) p.pools e.route } in
+    let built : EntryValue → RouteEntry = λ e. record { aliases = e.aliases; tree = tree_named (symbols_named p) p.pools e.route } in
     record {
       each = All-map (λ e. AreAliases e.aliases) built p.entries sound.aliases;
       apart = subst IsOneToOne (sym (flat_map-map (λ e. e.aliases) built p.entries)) sound.apart;

@@ -7,6 +7,7 @@ use Rattle.std.proofs.lemmas.Option.{slice_get-map, slice_get-get_or, slice_get_
 use Rattle.std.proofs.lemmas.List.{length-map}
 use Rattle.std.proofs.lemmas.List.Concat.{flat_map-append}
 use Rattle.std.proofs.lemmas.Simd.{map-map}
+use Rattle.mcv_names.specs.declared.handle.Many.{Many as Kind}
 use Rattle.mcv_route.specs.Eras.{breaks, breaks_each}
 use Rattle.mcv_route.specs.Places.{child_at, children_of}
 use Rattle.mcv_route.specs.RoutesView.{entry_view}
@@ -17,9 +18,9 @@ use Rattle.mcv_route.specs.declared.tree.Leaf.{Leaf}
 use Rattle.mcv_route.specs.declared.tree.OperationPolicy.{OperationPolicy}
 use Rattle.mcv_route.specs.declared.tree.PrefixPolicy.{PrefixPolicy}
 use Rattle.mcv_route.specs.declared.tree.Shadow.{Shadow}
-use Rattle.mcv_route.specs.declared.tree.Route.{Route, Pool, Null, Error, AllSync, AllInitial, AllAsync, Failover, MissFailover, WarmUp, Migrate, PrefixSelector, OperationSelector}
+use Rattle.mcv_route.specs.declared.tree.Route.{Route, Pool, Null, Error, Many, WarmUp, Migrate, PrefixSelector, OperationSelector}
 use Rattle.mcv_route.proofs.Building.{map-more}
-use Rattle.mcv_route.proofs.Views.{targets_of, children_view, view-Pool, view-Null, view-Error, view-AllSync, view-AllInitial, view-AllAsync, view-Failover, view-MissFailover, view-WarmUp, view-Migrate, view-PrefixSelector, view-OperationSelector}
+use Rattle.mcv_route.proofs.Views.{targets_of, children_view, view-Pool, view-Null, view-Error, view-Many, view-WarmUp, view-Migrate, view-PrefixSelector, view-OperationSelector}
 
 -- what `get` of a slice borrows
 pub borrowed-at : {X Y : Type 0} (f : X → Y) (xs : List X) (i : ℕ) (r : Option (Bor X)) → IsItemAt xs i r → option_map (λ x. f x.now) r ≡ option_map f (slice_get xs i)
@@ -42,20 +43,8 @@ child_at-Null k = ap (λ t. child_at (children_of t) k) view-Null
 pub child_at-Error : (k : ℕ) → child_at (children_of (view Error)) k ≡ None
 child_at-Error k = ap (λ t. child_at (children_of t) k) view-Error
 
-pub child_at-AllSync : (v : Vec Route Global) (k : ℕ) → child_at (children_of (view (AllSync v))) k ≡ option_map view (slice_get v.items k)
-child_at-AllSync v k = ap (λ t. child_at (children_of t) k) (view-AllSync v) ∙ child_at-trees_of (map view v.items) k ∙ slice_get-map view v.items k
-
-pub child_at-AllInitial : (v : Vec Route Global) (k : ℕ) → child_at (children_of (view (AllInitial v))) k ≡ option_map view (slice_get v.items k)
-child_at-AllInitial v k = ap (λ t. child_at (children_of t) k) (view-AllInitial v) ∙ child_at-trees_of (map view v.items) k ∙ slice_get-map view v.items k
-
-pub child_at-AllAsync : (v : Vec Route Global) (k : ℕ) → child_at (children_of (view (AllAsync v))) k ≡ option_map view (slice_get v.items k)
-child_at-AllAsync v k = ap (λ t. child_at (children_of t) k) (view-AllAsync v) ∙ child_at-trees_of (map view v.items) k ∙ slice_get-map view v.items k
-
-pub child_at-Failover : (v : Vec Route Global) (k : ℕ) → child_at (children_of (view (Failover v))) k ≡ option_map view (slice_get v.items k)
-child_at-Failover v k = ap (λ t. child_at (children_of t) k) (view-Failover v) ∙ child_at-trees_of (map view v.items) k ∙ slice_get-map view v.items k
-
-pub child_at-MissFailover : (v : Vec Route Global) (k : ℕ) → child_at (children_of (view (MissFailover v))) k ≡ option_map view (slice_get v.items k)
-child_at-MissFailover v k = ap (λ t. child_at (children_of t) k) (view-MissFailover v) ∙ child_at-trees_of (map view v.items) k ∙ slice_get-map view v.items k
+pub child_at-Many : (kind : Kind) (v : Vec Route Global) (k : ℕ) → child_at (children_of (view (Many kind v))) k ≡ option_map view (slice_get v.items k)
+child_at-Many kind v k = ap (λ t. child_at (children_of t) k) (view-Many kind v) ∙ child_at-trees_of (map view v.items) k ∙ slice_get-map view v.items k
 
 pub child_at-WarmUp : (cold warm : Box Route Global) (exptime k : ℕ)
     → child_at (children_of (view (WarmUp cold warm exptime))) k ≡ child_at (child (view cold.value) (child (view warm.value) (child (view cold.value) none))) k
@@ -189,20 +178,8 @@ breaks-Null = ap breaks view-Null
 pub breaks-Error : breaks (view Error) ≡ []
 breaks-Error = ap breaks view-Error
 
-pub breaks-AllSync : (v : Vec Route Global) → breaks (view (AllSync v)) ≡ breaks_each (children_view v.items)
-breaks-AllSync v = ap breaks (view-AllSync v)
-
-pub breaks-AllInitial : (v : Vec Route Global) → breaks (view (AllInitial v)) ≡ breaks_each (children_view v.items)
-breaks-AllInitial v = ap breaks (view-AllInitial v)
-
-pub breaks-AllAsync : (v : Vec Route Global) → breaks (view (AllAsync v)) ≡ breaks_each (children_view v.items)
-breaks-AllAsync v = ap breaks (view-AllAsync v)
-
-pub breaks-Failover : (v : Vec Route Global) → breaks (view (Failover v)) ≡ breaks_each (children_view v.items)
-breaks-Failover v = ap breaks (view-Failover v)
-
-pub breaks-MissFailover : (v : Vec Route Global) → breaks (view (MissFailover v)) ≡ breaks_each (children_view v.items)
-breaks-MissFailover v = ap breaks (view-MissFailover v)
+pub breaks-Many : (kind : Kind) (v : Vec Route Global) → breaks (view (Many kind v)) ≡ breaks_each (children_view v.items)
+breaks-Many kind v = ap breaks (view-Many kind v)
 
 pub breaks-PrefixSelector : (v : Vec PrefixPolicy Global) (d : Option (Box Route Global))
     → breaks (view (PrefixSelector v d)) ≡ breaks_each (trees_of (map (λ p. p.1) (map prefix_view v.items))) ++ breaks_each (trees_of (last_view d))

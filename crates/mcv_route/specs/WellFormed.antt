@@ -1,6 +1,6 @@
 -- Which trees there are.
 use Rattle.std.specs.Prelude.{ℕ, ◌<◌, List, length}
-use Rattle.mcv_route.specs.Tree.{Tree, Trees, pool, null, error, all_sync, all_initial, all_async, failover, miss_failover, warm_up, migrate, prefix_selector, operation_selector, none, child}
+use Rattle.mcv_route.specs.Tree.{Tree, Trees, pool, null, error, many, warm_up, migrate, prefix_selector, operation_selector, none, child}
 
 abbrev mutual
   -- each pool's symbol is one of those that have a size
@@ -8,11 +8,7 @@ abbrev mutual
   IsWellFormed sizes (pool p ranges targets) = (p.symbol < length sizes) × AreWellFormed sizes targets
   IsWellFormed sizes null = Unit {0}
   IsWellFormed sizes error = Unit {0}
-  IsWellFormed sizes (all_sync ts) = AreWellFormed sizes ts
-  IsWellFormed sizes (all_initial ts) = AreWellFormed sizes ts
-  IsWellFormed sizes (all_async ts) = AreWellFormed sizes ts
-  IsWellFormed sizes (failover ts) = AreWellFormed sizes ts
-  IsWellFormed sizes (miss_failover ts) = AreWellFormed sizes ts
+  IsWellFormed sizes (many kind ts) = AreWellFormed sizes ts
   IsWellFormed sizes (warm_up cold warm exptime) = IsWellFormed sizes cold × IsWellFormed sizes warm
   IsWellFormed sizes (migrate from to start interval) = IsWellFormed sizes from × IsWellFormed sizes to
   IsWellFormed sizes (prefix_selector prefixes ts) = AreWellFormed sizes ts

@@ -7,7 +7,7 @@ use Rattle.mcv_route.specs.declared.launch.Launch.{Launch}
 use Rattle.mcv_route.specs.declared.tree.Route.{Route}
 use Rattle.mcv_route.specs.declared.tree.Shadow.{Shadow}
 use Rattle.mcv_route.specs.Outcomes.{Outcomes, Choice, History}
-use Rattle.mcv_route.specs.Tree.{Pool, Range, Tree, pool, null, error, all_initial, all_async, none, child}
+use Rattle.mcv_route.specs.Tree.{Pool, Range, Tree, pool, null, error, many, AllInitial, AllAsync, none, child}
 use Rattle.mcv_route.specs.Situation.{Situation, under, asynchronous, shadowed}
 use Rattle.mcv_route.specs.Children.{joined, is_within, of_those_holding}
 use Rattle.mcv_route.specs.View.{view, shadow_view, trees_of}
@@ -165,7 +165,7 @@ abbrev pub first_of : List Tree → Tree
 first_of [] = error
 first_of (t ∷ ts) = t
 
-pub initial_beyond : (t : Tree) (ts : List Tree) (s : Situation) → Beyond (all_initial (child t (trees_of ts))) s t (under 0 s) (child_legs 1 ts (asynchronous s))
+pub initial_beyond : (t : Tree) (ts : List Tree) (s : Situation) → Beyond (many AllInitial (child t (trees_of ts))) s t (under 0 s) (child_legs 1 ts (asynchronous s))
 initial_beyond t ts s = record {
   op = refl;
   sends = λ c o. ap (λ ls. launched t (under 0 s) c o ++ joined ls) (sym (child_legs-launched 1 ts (asynchronous s) c o));
@@ -174,7 +174,7 @@ initial_beyond t ts s = record {
   reply = λ es. refl;
 }
 
-pub async_beyond : (ts : List Tree) (s : Situation) → Beyond (all_async (trees_of ts)) s null s (child_legs 0 ts (asynchronous s))
+pub async_beyond : (ts : List Tree) (s : Situation) → Beyond (many AllAsync (trees_of ts)) s null s (child_legs 0 ts (asynchronous s))
 async_beyond ts s = record {
   op = refl;
   sends = λ c o. ap joined (sym (child_legs-launched 0 ts (asynchronous s) c o));
@@ -191,7 +191,7 @@ pub first_served : (p : Plan) (routes : List Route) (first : Route) (others : Li
 first_served p routes first others s is h = rw is h
 
 pub first_beyond : (routes : List Route) (first : Route) (others : List Route) (s : Situation) → routes ≡ first ∷ others
-    → Beyond (all_initial (trees_of (map view routes))) s (first_of (map view routes)) (under 0 s) (child_legs 1 (map view others) (asynchronous s))
+    → Beyond (many AllInitial (trees_of (map view routes))) s (first_of (map view routes)) (under 0 s) (child_legs 1 (map view others) (asynchronous s))
 first_beyond routes first others s is = rw is (initial_beyond (view first) (map view others) s)
 
 -- ---- shadows

@@ -5,7 +5,7 @@ use Rattle.mcv_base.specs.declared.reply.FixedReply.TheVariants.{ErrorRoute}
 use Rattle.mcv_base.specs.Key.{begins_with}
 use Rattle.mcv_base.specs.Operation.{is_reading}
 use Rattle.mcv_route.specs.Outcomes.{Outcomes, Choice, History}
-use Rattle.mcv_route.specs.Tree.{Tree, Trees, error, all_sync, all_initial, miss_failover, warm_up, migrate, prefix_selector, operation_selector, none}
+use Rattle.mcv_route.specs.Tree.{Tree, Trees, error, many, AllSync, AllInitial, MissFailover, warm_up, migrate, prefix_selector, operation_selector, none}
 use Rattle.mcv_route.specs.Situation.{Situation, under}
 use Rattle.mcv_route.specs.Children.{child_or, policy_of, prefix_policy, is_policy_for, longest_from, way_of, to_from, to_to, to_both}
 use Rattle.mcv_route.specs.Replies as replies
@@ -71,7 +71,7 @@ operation_chooses ops ts s n e = record { sends = λ c o. rw e refl; replies = �
 pub prefix_chooses : (prefixes : List (List ℕ)) (ts : Trees) (s : Situation) (n : ℕ) → n ≡ prefix_policy s.rest prefixes → Chooses n (prefix_selector prefixes ts) ts s
 prefix_chooses prefixes ts s n e = record { sends = λ c o. rw e refl; replies = λ o. rw e refl; reply = λ es. rw e refl; plans = rw e refl }
 
-pub miss_chooses : (ts : Trees) (s : Situation) → is_reading s.op ≡ false → Chooses 0 (miss_failover ts) ts s
+pub miss_chooses : (ts : Trees) (s : Situation) → is_reading s.op ≡ false → Chooses 0 (many MissFailover ts) ts s
 miss_chooses ts s h = record { sends = λ c o. rw h refl; replies = λ o. rw h refl; reply = λ es. rw h refl; plans = rw h refl }
 
 pub does_child : (n : ℕ) (u : Tree) (ts : List Tree) (s : Situation) (t : Tree) → Chooses n u (trees_of ts) s → n < length ts → t ≡ get_or ts n t → Does u s t (under n s)
@@ -267,19 +267,19 @@ serves-no_wildcard policies n s e h =
 -- ---- a handle's first child, and no child
 
 pub serves-first_child : (plan : Plan) (routes : List Route) (first : Route) (s : Situation) → is_reading s.op ≡ false → 0 < length routes → first ≡ get_or routes 0 first
-    → Serves plan (view first) (under 0 s) → Serves plan (miss_failover (trees_of (map view routes))) s
+    → Serves plan (view first) (under 0 s) → Serves plan (many MissFailover (trees_of (map view routes))) s
 serves-first_child plan [] first s h n is f = absurd (omega (arith, n))
 serves-first_child plan (r ∷ routes) first s h n is f =
-    serves-does plan (miss_failover (trees_of (map view (r ∷ routes)))) (view r) s (under 0 s)
-    (does_child 0 (miss_failover (trees_of (map view (r ∷ routes)))) (map view (r ∷ routes)) s (view r) (miss_chooses (trees_of (map view (r ∷ routes))) s h) (omega arith) refl)
+    serves-does plan (many MissFailover (trees_of (map view (r ∷ routes)))) (view r) s (under 0 s)
+    (does_child 0 (many MissFailover (trees_of (map view (r ∷ routes)))) (map view (r ∷ routes)) s (view r) (miss_chooses (trees_of (map view (r ∷ routes))) s h) (omega arith) refl)
     (subst (λ x. Serves plan (view x) (under 0 s)) is f)
 
-pub serves-no_child : (routes : List Route) (s : Situation) → is_reading s.op ≡ false → length routes ≡ 0 → Serves (Reply ErrorRoute) (miss_failover (trees_of (map view routes))) s
-serves-no_child [] s h n = serves-does (Reply ErrorRoute) (miss_failover none) error s s (does_error 0 (miss_failover none) [] s (miss_chooses none s h) (omega arith)) (serves-error s)
+pub serves-no_child : (routes : List Route) (s : Situation) → is_reading s.op ≡ false → length routes ≡ 0 → Serves (Reply ErrorRoute) (many MissFailover (trees_of (map view routes))) s
+serves-no_child [] s h n = serves-does (Reply ErrorRoute) (many MissFailover none) error s s (does_error 0 (many MissFailover none) [] s (miss_chooses none s h) (omega arith)) (serves-error s)
 serves-no_child (r ∷ routes) s h n = absurd (omega (arith, n))
 
-pub serves-no_initial : (routes : List Route) (s : Situation) → length routes ≡ 0 → Serves (Reply ErrorRoute) (all_initial (trees_of (map view routes))) s
-serves-no_initial [] s n = serves-does (Reply ErrorRoute) (all_initial none) error s s (record { op = refl; sends = λ c o. refl; replies = λ o. refl; reply = λ es. refl; whole = refl }) (serves-error s)
+pub serves-no_initial : (routes : List Route) (s : Situation) → length routes ≡ 0 → Serves (Reply ErrorRoute) (many AllInitial (trees_of (map view routes))) s
+serves-no_initial [] s n = serves-does (Reply ErrorRoute) (many AllInitial none) error s s (record { op = refl; sends = λ c o. refl; replies = λ o. refl; reply = λ es. refl; whole = refl }) (serves-error s)
 serves-no_initial (r ∷ routes) s n = absurd (omega (arith, n))
 
 -- ---- migrations and warm-ups
@@ -290,7 +290,7 @@ migrates_from from to start interval s w = record { op = refl; sends = λ c o. r
 pub migrates_to : (from to : Tree) (start interval : ℕ) (s : Situation) → way_of s start interval ≡ to_to → Does (migrate from to start interval) s to (under 1 s)
 migrates_to from to start interval s w = record { op = refl; sends = λ c o. rw w refl; replies = λ o. rw w refl; reply = λ es. rw w refl; whole = rw w refl }
 
-pub migrates_both : (from to : Tree) (start interval : ℕ) (s : Situation) → way_of s start interval ≡ to_both → Does (migrate from to start interval) s (all_sync (trees_of (from ∷ to ∷ []))) s
+pub migrates_both : (from to : Tree) (start interval : ℕ) (s : Situation) → way_of s start interval ≡ to_both → Does (migrate from to start interval) s (many AllSync (trees_of (from ∷ to ∷ []))) s
 migrates_both from to start interval s w = record {
   op = refl;
   sends = λ c o. rw w (ap (λ ls. launched from (under 0 s) c o ++ ls) (sym (append-nil (launched to (under 1 s) c o))));

@@ -5,8 +5,10 @@ pub mod Later
 pub mod Orders
 pub mod Launches
 pub mod Relate
+pub mod ByKind
 pub mod Replied
 pub mod Sent
+pub mod EachLeg
 pub mod Stays
 pub mod Verdicts
 pub mod Sound

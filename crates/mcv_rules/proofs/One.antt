@@ -7,7 +7,7 @@ use Rattle.mcv_route.specs.Outcomes.{History, outcomes}
 use Rattle.mcv_base.specs.Reply.{is_error, is_good, badness}
 use Rattle.mcv_rules.proofs.Basics
 use Rattle.mcv_rules.proofs.Orders
-use Rattle.mcv_route.specs.Tree.{Tree, Trees, pool, null, error, all_sync, all_initial, all_async, failover, miss_failover, warm_up, migrate, prefix_selector, operation_selector, none, child}
+use Rattle.mcv_route.specs.Tree.{Tree, Trees, pool, null, error, many, AllSync, AllInitial, AllAsync, Failover, MissFailover, warm_up, migrate, prefix_selector, operation_selector, none, child}
 use Rattle.mcv_route.specs.Situation.{Situation, under}
 use Rattle.mcv_base.specs.Operation.{is_reading}
 use Rattle.mcv_route.specs.Children.{child_or, together, policy_of, prefix_policy, way_of}
@@ -146,11 +146,11 @@ mutual
   reply_one (pool p ranges targets) s es = own_one s.position (outcomes es s.position)
   reply_one null s es = single default_answer
   reply_one error s es = single refused
-  reply_one (all_sync ts) s es = Relate.together_related OneArrives last_worse the_worse worse_one (arrival (Some refused) 0) (refused ∷ []) (arrivals 0 ts s es) (replies_each 0 ts s (outcomes es)) (single refused) (arrivals_one 0 ts s es)
-  reply_one (all_initial ts) s es = Relate.child_related One (Some refused) (refused ∷ []) 0 (answers_of (arrivals 0 ts s es)) (replies_each 0 ts s (outcomes es)) (single refused) (answers_related (arrivals 0 ts s es) (replies_each 0 ts s (outcomes es)) (arrivals_one 0 ts s es))
-  reply_one (all_async ts) s es = single default_answer
-  reply_one (failover ts) s es = Relate.together_related One next_after_error or_after_error error_one (Some refused) (refused ∷ []) (answers_of (arrivals 0 ts s es)) (replies_each 0 ts s (outcomes es)) (single refused) (answers_related (arrivals 0 ts s es) (replies_each 0 ts s (outcomes es)) (arrivals_one 0 ts s es))
-  reply_one (miss_failover ts) s es =
+  reply_one (many AllSync ts) s es = Relate.together_related OneArrives last_worse the_worse worse_one (arrival (Some refused) 0) (refused ∷ []) (arrivals 0 ts s es) (replies_each 0 ts s (outcomes es)) (single refused) (arrivals_one 0 ts s es)
+  reply_one (many AllInitial ts) s es = Relate.child_related One (Some refused) (refused ∷ []) 0 (answers_of (arrivals 0 ts s es)) (replies_each 0 ts s (outcomes es)) (single refused) (answers_related (arrivals 0 ts s es) (replies_each 0 ts s (outcomes es)) (arrivals_one 0 ts s es))
+  reply_one (many AllAsync ts) s es = single default_answer
+  reply_one (many Failover ts) s es = Relate.together_related One next_after_error or_after_error error_one (Some refused) (refused ∷ []) (answers_of (arrivals 0 ts s es)) (replies_each 0 ts s (outcomes es)) (single refused) (answers_related (arrivals 0 ts s es) (replies_each 0 ts s (outcomes es)) (arrivals_one 0 ts s es))
+  reply_one (many MissFailover ts) s es =
       if_one (is_reading s.op) (together next_after_miss (Some refused) (answers_of (arrivals 0 ts s es))) (child_or (Some refused) 0 (answers_of (arrivals 0 ts s es)))
       (together or_after_miss (refused ∷ []) (replies_each 0 ts s (outcomes es))) (child_or (refused ∷ []) 0 (replies_each 0 ts s (outcomes es)))
       (Relate.together_related One next_after_miss or_after_miss miss_one (Some refused) (refused ∷ []) (answers_of (arrivals 0 ts s es)) (replies_each 0 ts s (outcomes es)) (single refused) (answers_related (arrivals 0 ts s es) (replies_each 0 ts s (outcomes es)) (arrivals_one 0 ts s es)))
@@ -256,13 +256,13 @@ mutual
   reply_same (pool q ranges targets) s p x es n = own_same s.position (outcomes es s.position) (outcomes ((p, x) ∷ es) s.position) (Orders.one_more p x es n s.position)
   reply_same null s p x es n = inr refl
   reply_same error s p x es n = inr refl
-  reply_same (all_sync ts) s p x es n =
+  reply_same (many AllSync ts) s p x es n =
       arrival_same (together last_worse (arrival (Some refused) 0) (arrivals 0 ts s es)) (together last_worse (arrival (Some refused) 0) (arrivals 0 ts s ((p, x) ∷ es)))
       (Relate.together_related SameArrival last_worse last_worse worse_same (arrival (Some refused) 0) (arrival (Some refused) 0) (arrivals 0 ts s es) (arrivals 0 ts s ((p, x) ∷ es)) (inr refl) (arrivals_same 0 ts s p x es n))
-  reply_same (all_initial ts) s p x es n = Relate.child_related Same (Some refused) (Some refused) 0 (answers_of (arrivals 0 ts s es)) (answers_of (arrivals 0 ts s ((p, x) ∷ es))) (inr refl) (answers_same (arrivals 0 ts s es) (arrivals 0 ts s ((p, x) ∷ es)) (arrivals_same 0 ts s p x es n))
-  reply_same (all_async ts) s p x es n = inr refl
-  reply_same (failover ts) s p x es n = Relate.together_related Same next_after_error next_after_error error_same (Some refused) (Some refused) (answers_of (arrivals 0 ts s es)) (answers_of (arrivals 0 ts s ((p, x) ∷ es))) (inr refl) (answers_same (arrivals 0 ts s es) (arrivals 0 ts s ((p, x) ∷ es)) (arrivals_same 0 ts s p x es n))
-  reply_same (miss_failover ts) s p x es n =
+  reply_same (many AllInitial ts) s p x es n = Relate.child_related Same (Some refused) (Some refused) 0 (answers_of (arrivals 0 ts s es)) (answers_of (arrivals 0 ts s ((p, x) ∷ es))) (inr refl) (answers_same (arrivals 0 ts s es) (arrivals 0 ts s ((p, x) ∷ es)) (arrivals_same 0 ts s p x es n))
+  reply_same (many AllAsync ts) s p x es n = inr refl
+  reply_same (many Failover ts) s p x es n = Relate.together_related Same next_after_error next_after_error error_same (Some refused) (Some refused) (answers_of (arrivals 0 ts s es)) (answers_of (arrivals 0 ts s ((p, x) ∷ es))) (inr refl) (answers_same (arrivals 0 ts s es) (arrivals 0 ts s ((p, x) ∷ es)) (arrivals_same 0 ts s p x es n))
+  reply_same (many MissFailover ts) s p x es n =
       Relate.if_related Same (is_reading s.op)
       (together next_after_miss (Some refused) (answers_of (arrivals 0 ts s es))) (child_or (Some refused) 0 (answers_of (arrivals 0 ts s es)))
       (together next_after_miss (Some refused) (answers_of (arrivals 0 ts s ((p, x) ∷ es)))) (child_or (Some refused) 0 (answers_of (arrivals 0 ts s ((p, x) ∷ es))))

@@ -6,7 +6,7 @@ use Rattle.mcv_base.specs.declared.reply.Outcome.TheVariants.{Good, Soft, Error}
 use Rattle.mcv_rules.specs.Plan.{Leg, Plan, Send, Reply, Both, Beside, OnError, OnMiss, OnHit, Shadowed, both, on_error, on_miss, reply, IsMissed, HitAt}
 use Rattle.mcv_route.specs.Outcomes.{Outcomes}
 use Rattle.mcv_base.specs.Reply.{is_error, is_good, badness, worse}
-use Rattle.mcv_route.specs.Tree.{Range, Tree, Trees, pool, null, error, all_sync, all_initial, all_async, failover, miss_failover, warm_up, migrate, prefix_selector, operation_selector, none, child}
+use Rattle.mcv_route.specs.Tree.{Range, Tree, Trees, pool, null, error, many, AllSync, AllInitial, AllAsync, Failover, MissFailover, warm_up, migrate, prefix_selector, operation_selector, none, child}
 use Rattle.mcv_route.specs.Situation.{Situation, under, asynchronous, shadowed, adding}
 use Rattle.mcv_base.specs.Operation.{is_reading}
 use Rattle.mcv_route.specs.Children.{child_or, rest_of, together, policy_of, prefix_policy, way_of}
@@ -245,13 +245,13 @@ mutual
   replied (pool p ranges targets) s o = shadows_match o (own_answers s.position (o s.position)) p.symbol (Send (leg_of p s)) ranges (plan_each 0 targets (shadowed s)) (own_matches o (leg_of p s) (o s.position) refl)
   replied null s o = fixed_matches o Soft fixed (inl refl)
   replied error s o = refused_matches o
-  replied (all_sync ts) s o = Relate.together_related (Matches o) the_worse Both (both_matches o) (refused ∷ []) (Reply Error) (replies_each 0 ts s o) (plan_each 0 ts s) (refused_matches o) (replied_each 0 ts s o)
-  replied (all_initial ts) s o =
+  replied (many AllSync ts) s o = Relate.together_related (Matches o) the_worse Both (both_matches o) (refused ∷ []) (Reply Error) (replies_each 0 ts s o) (plan_each 0 ts s) (refused_matches o) (replied_each 0 ts s o)
+  replied (many AllInitial ts) s o =
       all_beside o (child_or (refused ∷ []) 0 (replies_each 0 ts s o)) (child_or (Reply Error) 0 (plan_each 0 ts s)) (rest_of (plan_each 0 ts (asynchronous s)))
       (Relate.child_related (Matches o) (refused ∷ []) (Reply Error) 0 (replies_each 0 ts s o) (plan_each 0 ts s) (refused_matches o) (replied_each 0 ts s o))
-  replied (all_async ts) s o = all_beside o (default_answer ∷ []) (Reply Soft) (plan_each 0 ts (asynchronous s)) (fixed_matches o Soft fixed (inl refl))
-  replied (failover ts) s o = Relate.together_related (Matches o) or_after_error OnError (error_matches o) (refused ∷ []) (Reply Error) (replies_each 0 ts s o) (plan_each 0 ts s) (refused_matches o) (replied_each 0 ts s o)
-  replied (miss_failover ts) s o =
+  replied (many AllAsync ts) s o = all_beside o (default_answer ∷ []) (Reply Soft) (plan_each 0 ts (asynchronous s)) (fixed_matches o Soft fixed (inl refl))
+  replied (many Failover ts) s o = Relate.together_related (Matches o) or_after_error OnError (error_matches o) (refused ∷ []) (Reply Error) (replies_each 0 ts s o) (plan_each 0 ts s) (refused_matches o) (replied_each 0 ts s o)
+  replied (many MissFailover ts) s o =
       Relate.if_related (Matches o) (is_reading s.op)
       (together or_after_miss (refused ∷ []) (replies_each 0 ts s o)) (child_or (refused ∷ []) 0 (replies_each 0 ts s o))
       (together OnMiss (Reply Error) (plan_each 0 ts s)) (child_or (Reply Error) 0 (plan_each 0 ts s))

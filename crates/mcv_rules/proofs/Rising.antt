@@ -1,6 +1,6 @@
 -- The legs of a plan, and so those of a route, come in the order of their positions.
-use Rattle.std.proofs.Common.{◌≡◌, inl, inr, ⊎_elim, ℕ, zero, suc, ◌<◌, Bool, true, false, cond, ◌==◌, List, [], ◌∷◌, ◌++◌, map, Option, Some, None, refl, sym, ap, ◌∙◌, subst, arith, append_assoc, append-nil}
-use Rattle.std.specs.Prelude.{⊤, ◌&&◌, fold, if◌then◌else◌, nat_le}
+use Rattle.std.proofs.Common.{◌≡◌, inl, inr, ⊎_elim, ℕ, suc, ◌<◌, Bool, true, false, cond, ◌==◌, List, [], ◌∷◌, ◌++◌, map, Option, Some, None, refl, sym, ap, ◌∙◌, subst, arith, append_assoc, append-nil}
+use Rattle.std.specs.Prelude.{⊤, ◌&&◌, if◌then◌else◌, nat_le}
 use Rattle.std.specs.Cmp.Lexicographic.{slice_cmp}
 use Rattle.std.specs.List.{All, AllPairs}
 use Rattle.std.specs.Ordering.{nat_cmp, ordering_then}
@@ -11,17 +11,18 @@ use Rattle.std.proofs.lemmas.List.Elements.{All-cons, All-nil}
 use Rattle.std.proofs.lemmas.List.Kept.{AllPairs-cons}
 use Rattle.std.proofs.lemmas.Cmp.{nat_cmp_total, tied_itself}
 use Rattle.mcv_base.specs.declared.reply.Outcome.{Outcome}
-use Rattle.mcv_base.specs.declared.reply.Outcome.TheVariants.{Soft, Error}
+use Rattle.mcv_base.specs.declared.reply.Outcome.TheVariants.{Error}
 use Rattle.mcv_base.specs.Reply.{is_error, is_missed, is_good}
 use Rattle.mcv_base.specs.Operation.{is_reading}
 use Rattle.mcv_route.specs.Outcomes.{Outcomes, Choice}
-use Rattle.mcv_route.specs.Children.{child_or, rest_of, together, policy_of, prefix_policy, Way, to_from, to_to, to_both, way_of, by_way}
+use Rattle.mcv_route.specs.Children.{child_or, policy_of, prefix_policy, Way, to_from, to_to, to_both, way_of, by_way}
 use Rattle.mcv_route.specs.Situation.{Situation, under, asynchronous, shadowed, adding}
-use Rattle.mcv_route.specs.Tree.{Range, Tree, Trees, pool, null, error, all_sync, all_initial, all_async, failover, miss_failover, warm_up, migrate, prefix_selector, operation_selector, none, child}
+use Rattle.mcv_route.specs.Tree.{Range, Tree, Trees, pool, null, error, many, warm_up, migrate, prefix_selector, operation_selector, none, child}
 use Rattle.mcv_rules.specs.Plan.{Leg, Plan, Send, Reply, Both, Beside, OnError, OnMiss, OnHit, Shadowed, reply, on_reply, launched}
 use Rattle.mcv_rules.specs.Plans.{leg_of, plan, plan_each, with_shadows, launch_of}
 use Rattle.mcv_rules.specs.Rows.{LegsComeInOrder, ComesBefore}
 use Rattle.mcv_rules.specs.Sound.{positions, In}
+use Rattle.mcv_rules.proofs.ByKind.{AllAt, Grows, chosen, many_grown}
 use Rattle.mcv_rules.proofs.Orders.{in_left, in_right}
 use Rattle.mcv_rules.proofs.Sent
 use Rattle.mcv_rules.proofs.Sound.{in_either}
@@ -74,9 +75,15 @@ record AreEarly (base : List ℕ) (k : ℕ) (ps : List (List ℕ)) : Type 0 wher
   all : (p : List ℕ) → In ps p → IsEarly base k p
   rising : IsRising ps
 
+-- the plan of child k, and that of all children before it
+abbrev Child : List ℕ → ℕ → Plan → Type 0
+Child base k t = AreOrdered (base ++ k ∷ []) (positions t)
+
+abbrev Early : List ℕ → ℕ → Plan → Type 0
+Early base k t = AreEarly base k (positions t)
+
 abbrev AreEach : List ℕ → ℕ → List Plan → Type 0
-AreEach base k [] = ⊤
-AreEach base k (t ∷ ts) = AreOrdered (base ++ k ∷ []) (positions t) × AreEach base (suc k) ts
+AreEach base k us = AllAt (Child base) k us
 
 -- what is at child k of the base
 at-child : (base p : List ℕ) (k : ℕ) → IsAt (base ++ k ∷ []) p → (more : List ℕ) × (p ≡ base ++ k ∷ more)
@@ -120,23 +127,23 @@ nothing-there base = record { all = λ p i. absurd i; rising = tt }
 nothing-early : (base : List ℕ) (k : ℕ) → AreEarly base k []
 nothing-early base k = record { all = λ p i. absurd i; rising = tt }
 
-folded : (join : Plan → Plan → Plan) → ((t u : Plan) → positions (join t u) ≡ positions t ++ positions u) → (base : List ℕ) (k : ℕ) (t : Plan) (us : List Plan) → AreEarly base k (positions t) → AreEach base k us → AreOrdered base (positions (fold join t us))
-folded join is base k t [] h g = done base k (positions t) h
-folded join is base k t (u ∷ us) h g = folded join is base (suc k) (join t u) us (subst (AreEarly base (suc k)) (sym (is t u)) (with-child base k (positions t) (positions u) h g.0)) g.1
-
-joined : (join : Plan → Plan → Plan) → ((t u : Plan) → positions (join t u) ≡ positions t ++ positions u) → (base : List ℕ) (us : List Plan) → AreEach base 0 us → AreOrdered base (positions (together join (Reply Error) us))
-joined join is base [] g = nothing-there base
-joined join is base (u ∷ us) g = folded join is base 1 u us (first-child base 0 (positions u) g.0) g.1
+rising_grows : (base : List ℕ) (b : Bool) → Grows b (Child base) (Early base)
+rising_grows base b = record {
+  reply = λ k x w. nothing-early base k;
+  first = λ k u h. first-child base k (positions u) h;
+  all = λ k t u h g. with-child base k (positions t) (positions u) h g;
+  beside = λ k t u h g. with-child base k (positions t) (positions u) h g;
+  after_error = λ k t u h g. with-child base k (positions t) (positions u) h g;
+  after_miss = λ e k t u h g. with-child base k (positions t) (positions u) h g;
+}
 
 shaded : (base : List ℕ) (symbol k : ℕ) (t : Plan) (rs : List Range) (us : List Plan) → AreEarly base k (positions t) → AreEach base k us → AreOrdered base (positions (with_shadows symbol t rs us))
 shaded base symbol k t [] us h g = done base k (positions t) h
 shaded base symbol k t (r ∷ rs) [] h g = done base k (positions t) h
 shaded base symbol k t (r ∷ rs) (u ∷ us) h g = shaded base symbol (suc k) (Shadowed symbol r.first r.last t u) rs us (with-child base k (positions t) (positions u) h g.0) g.1
 
-chosen : (base : List ℕ) (k n : ℕ) (us : List Plan) → AreEach base k us → AreOrdered base (positions (child_or (Reply Error) n us))
-chosen base k n [] g = nothing-there base
-chosen base k zero (u ∷ us) g = done base (suc k) (positions u) (first-child base k (positions u) g.0)
-chosen base k (suc n) (u ∷ us) g = chosen base (suc k) n us g.1
+one-of : (base : List ℕ) (n : ℕ) (us : List Plan) → AreEach base 0 us → AreOrdered base (positions (child_or (Reply Error) n us))
+one-of base n us g = let whole = chosen true (Child base) (Early base) (rising_grows base true) 0 n us g in done base whole.0 (positions (child_or (Reply Error) n us)) whole.1
 
 by-test : (base : List ℕ) (b : Bool) (t u : Plan) → AreOrdered base (positions t) → AreOrdered base (positions u) → AreOrdered base (positions (if b then t else u))
 by-test base true t u h g = h
@@ -152,12 +159,6 @@ filled base c w a h g f =
     let both = with-child base 1 (positions c) (positions w) (first-child base 0 (positions c) h) g in
     subst (AreOrdered base) (append_assoc (positions c) (positions w) (positions a)) (done base 3 ((positions c ++ positions w) ++ positions a) (with-child base 2 (positions c ++ positions w) (positions a) both f))
 
-initial : (base : List ℕ) (us vs : List Plan) → AreEach base 0 us → AreEach base 0 vs → AreOrdered base (positions (fold Beside (child_or (Reply Error) 0 us) (rest_of vs)))
-initial base [] [] h g = nothing-there base
-initial base [] (v ∷ vs) h g = folded Beside (λ t u. refl) base 1 (Reply Error) vs (nothing-early base 1) g.1
-initial base (u ∷ us) [] h g = done base 1 (positions u) (first-child base 0 (positions u) h.0)
-initial base (u ∷ us) (v ∷ vs) h g = folded Beside (λ t u. refl) base 1 u vs (first-child base 0 (positions u) h.0) g.1
-
 own : (base : List ℕ) → AreEarly base 0 (base ∷ [])
 own base = record { all = λ p i. at-base p i; rising = ((λ q i. absurd i), tt) }
   where
@@ -170,20 +171,16 @@ mutual
   ordered (pool p ranges targets) s = shaded s.position p.symbol 0 (Send (leg_of p s)) ranges (plan_each 0 targets (shadowed s)) (own s.position) (ordered_each 0 targets (shadowed s))
   ordered null s = nothing-there s.position
   ordered error s = nothing-there s.position
-  ordered (all_sync ts) s = joined Both (λ t u. refl) s.position (plan_each 0 ts s) (ordered_each 0 ts s)
-  ordered (all_initial ts) s = initial s.position (plan_each 0 ts s) (plan_each 0 ts (asynchronous s)) (ordered_each 0 ts s) (ordered_each 0 ts (asynchronous s))
-  ordered (all_async ts) s = folded Beside (λ t u. refl) s.position 0 (Reply Soft) (plan_each 0 ts (asynchronous s)) (nothing-early s.position 0) (ordered_each 0 ts (asynchronous s))
-  ordered (failover ts) s = joined OnError (λ t u. refl) s.position (plan_each 0 ts s) (ordered_each 0 ts s)
-  ordered (miss_failover ts) s =
-      by-test s.position (is_reading s.op) (together OnMiss (Reply Error) (plan_each 0 ts s)) (child_or (Reply Error) 0 (plan_each 0 ts s))
-      (joined OnMiss (λ t u. refl) s.position (plan_each 0 ts s) (ordered_each 0 ts s)) (chosen s.position 0 0 (plan_each 0 ts s) (ordered_each 0 ts s))
+  ordered (many kind ts) s =
+      let whole = many_grown (Child s.position) (Early s.position) kind ts s (rising_grows s.position (is_reading s.op)) (ordered_each 0 ts s) (ordered_each 0 ts (asynchronous s)) in
+      done s.position whole.0 (positions (plan (many kind ts) s)) whole.1
   ordered (warm_up cold warm exptime) s =
       by-test s.position (is_reading s.op) (OnMiss (plan cold (under 0 s)) (OnHit (plan warm (under 1 s)) (plan cold (under 2 (adding s))))) (plan cold (under 0 s))
       (filled s.position (plan cold (under 0 s)) (plan warm (under 1 s)) (plan cold (under 2 (adding s))) (ordered cold (under 0 s)) (ordered warm (under 1 s)) (ordered cold (under 2 (adding s))))
       (done s.position 1 (positions (plan cold (under 0 s))) (first-child s.position 0 (positions (plan cold (under 0 s))) (ordered cold (under 0 s))))
   ordered (migrate from to start interval) s = by-direction s.position (way_of s start interval) (plan from (under 0 s)) (plan to (under 1 s)) (ordered from (under 0 s)) (ordered to (under 1 s))
-  ordered (prefix_selector prefixes ts) s = chosen s.position 0 (prefix_policy s.rest prefixes) (plan_each 0 ts s) (ordered_each 0 ts s)
-  ordered (operation_selector ops ts) s = chosen s.position 0 (policy_of s.op ops) (plan_each 0 ts s) (ordered_each 0 ts s)
+  ordered (prefix_selector prefixes ts) s = one-of s.position (prefix_policy s.rest prefixes) (plan_each 0 ts s) (ordered_each 0 ts s)
+  ordered (operation_selector ops ts) s = one-of s.position (policy_of s.op ops) (plan_each 0 ts s) (ordered_each 0 ts s)
 
   ordered_each : (k : ℕ) (ts : Trees) (s : Situation) → AreEach s.position k (plan_each k ts s)
   ordered_each k none s = tt

@@ -10,7 +10,7 @@ use Rattle.mcv_base.specs.declared.reply.FixedReply.TheVariants.{ErrorRoute}
 use Rattle.mcv_route.specs.declared.launch.Answered.{Answered}
 use Rattle.mcv_route.specs.declared.launch.Launch.{Launch}
 use Rattle.mcv_route.specs.Outcomes.{Outcomes, Choice, History, outcomes}
-use Rattle.mcv_route.specs.Tree.{Tree, Trees, failover, miss_failover, warm_up}
+use Rattle.mcv_route.specs.Tree.{Tree, Trees, many, Failover, MissFailover, warm_up}
 use Rattle.mcv_route.specs.Situation.{Situation, under, adding}
 use Rattle.mcv_route.specs.Children.{joined, together}
 use Rattle.mcv_route.specs.View.{trees_of}
@@ -251,10 +251,10 @@ serves-search w v t ts s h a = record {
   answers = λ xs. rw (arrived-InTurn (own_arrived xs) w v) (search_answers w xs v.items t ts s h a);
 }
 
-pub failover_searches : (ts : Trees) (s : Situation) → Searches after.Error (failover ts) ts s
+pub failover_searches : (ts : Trees) (s : Situation) → Searches after.Error (many Failover ts) ts s
 failover_searches ts s = record { legs = λ c o. refl; answers = λ o. refl; answer = λ es. refl; plans = refl }
 
-pub miss_searches : (ts : Trees) (s : Situation) → is_reading s.op ≡ true → Searches after.Miss (miss_failover ts) ts s
+pub miss_searches : (ts : Trees) (s : Situation) → is_reading s.op ≡ true → Searches after.Miss (many MissFailover ts) ts s
 miss_searches ts s h = record { legs = λ c o. rw h refl; answers = λ o. rw h refl; answer = λ es. rw h refl; plans = rw h refl }
 
 -- ---- warm-ups

@@ -9,7 +9,7 @@ use Rattle.mcv_route.specs.Outcomes.{Outcomes, Choice}
 use Rattle.mcv_base.specs.Reply.{is_error, is_missed, is_good}
 use Rattle.mcv_rules.specs.Plan.{on_reply}
 use Rattle.mcv_rules.specs.Plan as planned
-use Rattle.mcv_route.specs.Tree.{Range, Tree, Trees, pool, null, error, all_sync, all_initial, all_async, failover, miss_failover, warm_up, migrate, prefix_selector, operation_selector, none, child}
+use Rattle.mcv_route.specs.Tree.{Range, Tree, Trees, pool, null, error, many, AllSync, AllInitial, AllAsync, Failover, MissFailover, warm_up, migrate, prefix_selector, operation_selector, none, child}
 use Rattle.mcv_route.specs.Situation.{Situation, under, asynchronous, shadowed, adding}
 use Rattle.mcv_base.specs.Operation.{is_reading}
 use Rattle.mcv_route.specs.Children.{joined, child_or, rest_of, together, is_within, of_those_holding, policy_of, prefix_policy, way_of}
@@ -167,14 +167,14 @@ mutual
   sent (pool p ranges targets) s c o = shadows_send c o p.symbol (Send (leg_of p s)) ranges (launched_each 0 targets (shadowed s) c o) (plan_each 0 targets (shadowed s)) (sent_each 0 targets (shadowed s) c o)
   sent null s c o = refl
   sent error s c o = refl
-  sent (all_sync ts) s c o = all_joined c o (launched_each 0 ts s c o) (plan_each 0 ts s) (sent_each 0 ts s c o)
-  sent (all_initial ts) s c o =
+  sent (many AllSync ts) s c o = all_joined c o (launched_each 0 ts s c o) (plan_each 0 ts s) (sent_each 0 ts s c o)
+  sent (many AllInitial ts) s c o =
       ap (λ ls. ls ++ joined (rest_of (launched_each 0 ts (asynchronous s) c o))) (Relate.child_related (Gives c o) [] (Reply Error) 0 (launched_each 0 ts s c o) (plan_each 0 ts s) refl (sent_each 0 ts s c o))
       ∙ fold_joined c o Beside (beside_at_once c o) (child_or (Reply Error) 0 (plan_each 0 ts s)) (rest_of (launched_each 0 ts (asynchronous s) c o)) (rest_of (plan_each 0 ts (asynchronous s)))
       (Relate.rest_related (Gives c o) (launched_each 0 ts (asynchronous s) c o) (plan_each 0 ts (asynchronous s)) (sent_each 0 ts (asynchronous s) c o))
-  sent (all_async ts) s c o = fold_joined c o Beside (beside_at_once c o) (Reply Soft) (launched_each 0 ts (asynchronous s) c o) (plan_each 0 ts (asynchronous s)) (sent_each 0 ts (asynchronous s) c o)
-  sent (failover ts) s c o = all_in_turn c o is_error OnError (after_error c o) (replies_each 0 ts s o) (launched_each 0 ts s c o) (plan_each 0 ts s) (Replied.replied_each 0 ts s o) (sent_each 0 ts s c o)
-  sent (miss_failover ts) s c o =
+  sent (many AllAsync ts) s c o = fold_joined c o Beside (beside_at_once c o) (Reply Soft) (launched_each 0 ts (asynchronous s) c o) (plan_each 0 ts (asynchronous s)) (sent_each 0 ts (asynchronous s) c o)
+  sent (many Failover ts) s c o = all_in_turn c o is_error OnError (after_error c o) (replies_each 0 ts s o) (launched_each 0 ts s c o) (plan_each 0 ts s) (Replied.replied_each 0 ts s o) (sent_each 0 ts s c o)
+  sent (many MissFailover ts) s c o =
       Relate.if_related (Gives c o) (is_reading s.op)
       (in_turn is_missed (replies_each 0 ts s o) (launched_each 0 ts s c o)) (child_or [] 0 (launched_each 0 ts s c o))
       (together OnMiss (Reply Error) (plan_each 0 ts s)) (child_or (Reply Error) 0 (plan_each 0 ts s))

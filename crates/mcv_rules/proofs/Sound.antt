@@ -1,6 +1,5 @@
 -- Every plan of a route is sound.
 use Rattle.std.proofs.Common.{◌≡◌, ◌≢◌, ◌⊎◌, cond, inl, inr, ⊎_elim, ℕ, zero, suc, ◌+◌, ◌≤◌, ◌<◌, Bool, true, false, List, [], ◌∷◌, ◌++◌, length, refl, sym, ap, ◌∙◌, subst, arith, append_assoc, append-nil, true≢false}
-use Rattle.std.specs.Prelude.{fold}
 use Rattle.mcv_base.specs.declared.operation.Op.{Op}
 use Rattle.mcv_base.specs.declared.operation.Op.TheVariants.{Get, Gets, Set, Add, Replace, Append, Prepend, Cas, Delete, Touch}
 use Rattle.mcv_base.specs.declared.operation.Mark.{Mark}
@@ -13,12 +12,13 @@ use Rattle.mcv_rules.specs.Plan.{Leg, Plan, Send, Reply, Both, Beside, OnError, 
 use Rattle.mcv_rules.specs.Sound.{positions}
 use Rattle.mcv_rules.specs.Sound.{In, AreApart, IsApart, IsForDelete, IsMarked, IsHonest}
 use Rattle.mcv_rules.specs.Sound.{IsSized, IsSound}
-use Rattle.mcv_route.specs.Tree.{Range, Tree, Trees, pool, null, error, all_sync, all_initial, all_async, failover, miss_failover, warm_up, migrate, prefix_selector, operation_selector, none, child}
+use Rattle.mcv_route.specs.Tree.{Range, Tree, Trees, pool, null, error, many, warm_up, migrate, prefix_selector, operation_selector, none, child}
 use Rattle.mcv_route.specs.Situation.{Situation, under, asked, marked_async, marked_add, asynchronous, shadowed, adding}
 use Rattle.mcv_base.specs.Operation.{is_reading, is_delete}
-use Rattle.mcv_route.specs.Children.{child_or, rest_of, together, Way, to_from, to_to, to_both, policy_of, prefix_policy, way_of, by_way}
+use Rattle.mcv_route.specs.Children.{child_or, Way, to_from, to_to, to_both, policy_of, prefix_policy, way_of, by_way}
 use Rattle.mcv_rules.specs.Plans.{leg_of, with_shadows, plan, plan_each}
 use Rattle.mcv_route.specs.WellFormed.{IsWellFormed, AreWellFormed}
+use Rattle.mcv_rules.proofs.ByKind.{AllAt, Grows, chosen, many_grown}
 
 pub in_either : (ps qs : List (List ℕ)) (p : List ℕ) → In (ps ++ qs) p → In ps p ⊎ In qs p
 in_either [] qs p h = inr h
@@ -144,10 +144,16 @@ miss_join d off = record {
 widen : (sizes : List ℕ) (d m : Bool) (A B : List ℕ → Type 0) (t : Plan) → ((q : List ℕ) → A q → B q) → Fits sizes d m A t → Fits sizes d m B t
 widen sizes d m A B t h f = record { here = λ q i. h q (f.here q i); is_apart = f.is_apart; is_marked = f.is_marked; is_honest = f.is_honest; is_sized = f.is_sized; for_delete = f.for_delete }
 
+-- the plan of child k of the handle at p, and that of all children before it
+abbrev ChildFits : List ℕ → Bool → Bool → List ℕ → ℕ → Plan → Type 0
+ChildFits sizes d m p k t = Fits sizes d m (IsUnder (p ++ k ∷ [])) t
+
+abbrev EarlyFit : List ℕ → Bool → Bool → List ℕ → ℕ → Plan → Type 0
+EarlyFit sizes d m p k t = Fits sizes d m (IsBelow p k) t
+
 -- the children of the handle at p, the first of which has number k
 abbrev AllFit : List ℕ → Bool → Bool → List ℕ → ℕ → List Plan → Type 0
-AllFit sizes d m p k [] = Unit {0}
-AllFit sizes d m p k (t ∷ ts) = Fits sizes d m (IsUnder (p ++ k ∷ [])) t × AllFit sizes d m p (suc k) ts
+AllFit sizes d m p k us = AllAt (ChildFits sizes d m p) k us
 
 reply_fits : (sizes : List ℕ) (d m : Bool) (Here : List ℕ → Type 0) (x : Outcome) → x ≢ Good → Fits sizes d m Here (Reply x)
 reply_fits sizes d m Here x w = record { here = λ q h. absurd h; is_apart = tt; is_marked = tt; is_honest = w; is_sized = tt; for_delete = λ e. tt }
@@ -158,26 +164,20 @@ error_fits sizes d m Here = reply_fits sizes d m Here Error (λ e. absurd cc)
 soft_fits : (sizes : List ℕ) (d m : Bool) (Here : List ℕ → Type 0) → Fits sizes d m Here (Reply Soft)
 soft_fits sizes d m Here = reply_fits sizes d m Here Soft (λ e. absurd cc)
 
-fold_fits : (sizes : List ℕ) (d m : Bool) (p : List ℕ) (k : ℕ) (join : Plan → Plan → Plan) → IsJoin d join → (t : Plan) (us : List Plan) → Fits sizes d m (IsBelow p k) t → AllFit sizes d m p k us → Fits sizes d m (IsUnder p) (fold join t us)
-fold_fits sizes d m p k join j t [] f h = widen sizes d m (IsBelow p k) (IsUnder p) t (below_under p k) f
-fold_fits sizes d m p k join j t (u ∷ us) f h = fold_fits sizes d m p (suc k) join j (join t u) us (j.fits sizes m p k t u f h.0) h.1
+fits_grow : (sizes : List ℕ) (d m : Bool) (p : List ℕ) (b : Bool) → (b ≡ true → d ≡ false) → Grows b (ChildFits sizes d m p) (EarlyFit sizes d m p)
+fits_grow sizes d m p b off = record {
+  reply = λ k x w. reply_fits sizes d m (IsBelow p k) x w;
+  first = λ k u f. widen sizes d m (IsUnder (p ++ k ∷ [])) (IsBelow p (suc k)) u (child_below p k) f;
+  all = λ k t u f g. (both_join d).fits sizes m p k t u f g;
+  beside = λ k t u f g. (beside_join d).fits sizes m p k t u f g;
+  after_error = λ k t u f g. (error_join d).fits sizes m p k t u f g;
+  after_miss = λ e k t u f g. (miss_join d (off e)).fits sizes m p k t u f g;
+}
 
-together_fits : (sizes : List ℕ) (d m : Bool) (p : List ℕ) (join : Plan → Plan → Plan) → IsJoin d join → (us : List Plan) → AllFit sizes d m p 0 us → Fits sizes d m (IsUnder p) (together join (Reply Error) us)
-together_fits sizes d m p join j [] h = error_fits sizes d m (IsUnder p)
-together_fits sizes d m p join j (u ∷ us) h = fold_fits sizes d m p 1 join j u us (widen sizes d m (IsUnder (p ++ 0 ∷ [])) (IsBelow p 1) u (child_below p 0) h.0) h.1
-
-child_fits : (sizes : List ℕ) (d m : Bool) (p : List ℕ) (k n : ℕ) (us : List Plan) → AllFit sizes d m p k us → Fits sizes d m (IsUnder p) (child_or (Reply Error) n us)
-child_fits sizes d m p k n [] h = error_fits sizes d m (IsUnder p)
-child_fits sizes d m p k zero (u ∷ us) h = widen sizes d m (IsUnder (p ++ k ∷ [])) (IsUnder p) u (child_under p k) h.0
-child_fits sizes d m p k (suc n) (u ∷ us) h = child_fits sizes d m p (suc k) n us h.1
-
-first_fits : (sizes : List ℕ) (d m : Bool) (p : List ℕ) (us : List Plan) → AllFit sizes d m p 0 us → Fits sizes d m (IsBelow p 1) (child_or (Reply Error) 0 us)
-first_fits sizes d m p [] h = error_fits sizes d m (IsBelow p 1)
-first_fits sizes d m p (u ∷ us) h = widen sizes d m (IsUnder (p ++ 0 ∷ [])) (IsBelow p 1) u (child_below p 0) h.0
-
-rest_fit : (sizes : List ℕ) (d m : Bool) (p : List ℕ) (us : List Plan) → AllFit sizes d m p 0 us → AllFit sizes d m p 1 (rest_of us)
-rest_fit sizes d m p [] h = tt
-rest_fit sizes d m p (u ∷ us) h = h.1
+child_fits : (sizes : List ℕ) (d m : Bool) (p : List ℕ) (n : ℕ) (us : List Plan) → AllFit sizes d m p 0 us → Fits sizes d m (IsUnder p) (child_or (Reply Error) n us)
+child_fits sizes d m p n us h =
+    let whole = chosen false (ChildFits sizes d m p) (EarlyFit sizes d m p) (fits_grow sizes d m p false (λ e. absurd (true≢false (sym e)))) 0 n us h in
+    widen sizes d m (IsBelow p whole.0) (IsUnder p) (child_or (Reply Error) n us) (below_under p whole.0) whole.1
 
 shadow_fits : (sizes : List ℕ) (d m : Bool) (p : List ℕ) (i s low high : ℕ) (t u : Plan) → Fits sizes d m (IsBelow p i) t → Fits sizes d false (IsUnder (p ++ i ∷ [])) u → Fits sizes d m (IsBelow p (suc i)) (Shadowed s low high t u)
 shadow_fits sizes d m p i s low high t u f g =
@@ -256,7 +256,8 @@ lift : (sizes : List ℕ) (d m : Bool) (p : List ℕ) (k : ℕ) (t : Plan) → F
 lift sizes d m p k t f = widen sizes d m (IsUnder (p ++ k ∷ [])) (IsUnder p) t (child_under p k) f
 
 both_fits : (sizes : List ℕ) (d m : Bool) (p : List ℕ) (t u : Plan) → Fits sizes d m (IsUnder (p ++ 0 ∷ [])) t → Fits sizes d m (IsUnder (p ++ 1 ∷ [])) u → Fits sizes d m (IsUnder p) (Both t u)
-both_fits sizes d m p t u f g = fold_fits sizes d m p 1 Both (both_join d) t (u ∷ []) (widen sizes d m (IsUnder (p ++ 0 ∷ [])) (IsBelow p 1) t (child_below p 0) f) (g, tt)
+both_fits sizes d m p t u f g =
+    widen sizes d m (IsBelow p 2) (IsUnder p) (Both t u) (below_under p 2) ((both_join d).fits sizes m p 1 t u (widen sizes d m (IsUnder (p ++ 0 ∷ [])) (IsBelow p 1) t (child_below p 0) f) g)
 
 -- what the plan of the tree in the situation has
 abbrev PlanFits : List ℕ → Tree → Situation → Type 0
@@ -272,19 +273,12 @@ mutual
       (own_fits sizes (is_delete s.op) (is_counting s.mark) (leg_of p s) w.0 refl) (each_fits sizes 0 targets (shadowed s) w.1)
   plan_fits sizes null s w = soft_fits sizes (is_delete s.op) (is_counting s.mark) (IsUnder s.position)
   plan_fits sizes error s w = error_fits sizes (is_delete s.op) (is_counting s.mark) (IsUnder s.position)
-  plan_fits sizes (all_sync ts) s w = together_fits sizes (is_delete s.op) (is_counting s.mark) s.position Both (both_join (is_delete s.op)) (plan_each 0 ts s) (each_fits sizes 0 ts s w)
-  plan_fits sizes (all_initial ts) s w =
-      fold_fits sizes (is_delete s.op) (is_counting s.mark) s.position 1 Beside (beside_join (is_delete s.op)) (child_or (Reply Error) 0 (plan_each 0 ts s)) (rest_of (plan_each 0 ts (asynchronous s)))
-      (first_fits sizes (is_delete s.op) (is_counting s.mark) s.position (plan_each 0 ts s) (each_fits sizes 0 ts s w))
-      (rest_fit sizes (is_delete s.op) (is_counting s.mark) s.position (plan_each 0 ts (asynchronous s)) (async_fits sizes ts s (each_fits sizes 0 ts (asynchronous s) w)))
-  plan_fits sizes (all_async ts) s w =
-      fold_fits sizes (is_delete s.op) (is_counting s.mark) s.position 0 Beside (beside_join (is_delete s.op)) (Reply Soft) (plan_each 0 ts (asynchronous s))
-      (soft_fits sizes (is_delete s.op) (is_counting s.mark) (IsBelow s.position 0)) (async_fits sizes ts s (each_fits sizes 0 ts (asynchronous s) w))
-  plan_fits sizes (failover ts) s w = together_fits sizes (is_delete s.op) (is_counting s.mark) s.position OnError (error_join (is_delete s.op)) (plan_each 0 ts s) (each_fits sizes 0 ts s w)
-  plan_fits sizes (miss_failover ts) s w =
-      if_fits sizes (is_delete s.op) (is_counting s.mark) (IsUnder s.position) (is_reading s.op) (together OnMiss (Reply Error) (plan_each 0 ts s)) (child_or (Reply Error) 0 (plan_each 0 ts s))
-      (λ e. together_fits sizes (is_delete s.op) (is_counting s.mark) s.position OnMiss (miss_join (is_delete s.op) (reading_is_no_delete s.op e)) (plan_each 0 ts s) (each_fits sizes 0 ts s w))
-      (child_fits sizes (is_delete s.op) (is_counting s.mark) s.position 0 0 (plan_each 0 ts s) (each_fits sizes 0 ts s w))
+  plan_fits sizes (many kind ts) s w =
+      let p = s.position in
+      let d = is_delete s.op in
+      let m = is_counting s.mark in
+      let whole = many_grown (ChildFits sizes d m p) (EarlyFit sizes d m p) kind ts s (fits_grow sizes d m p (is_reading s.op) (reading_is_no_delete s.op)) (each_fits sizes 0 ts s w) (async_fits sizes ts s (each_fits sizes 0 ts (asynchronous s) w)) in
+      widen sizes d m (IsBelow p whole.0) (IsUnder p) (plan (many kind ts) s) (below_under p whole.0) whole.1
   plan_fits sizes (warm_up cold warm exptime) s w =
       if_fits sizes (is_delete s.op) (is_counting s.mark) (IsUnder s.position) (is_reading s.op)
       (OnMiss (plan cold (under 0 s)) (OnHit (plan warm (under 1 s)) (plan cold (under 2 (adding s))))) (plan cold (under 0 s))
@@ -297,8 +291,8 @@ mutual
       (lift sizes (is_delete s.op) (is_counting s.mark) s.position 0 (plan from (under 0 s)) (plan_fits sizes from (under 0 s) w.0))
       (lift sizes (is_delete s.op) (is_counting s.mark) s.position 1 (plan to (under 1 s)) (plan_fits sizes to (under 1 s) w.1))
       (both_fits sizes (is_delete s.op) (is_counting s.mark) s.position (plan from (under 0 s)) (plan to (under 1 s)) (plan_fits sizes from (under 0 s) w.0) (plan_fits sizes to (under 1 s) w.1))
-  plan_fits sizes (prefix_selector prefixes ts) s w = child_fits sizes (is_delete s.op) (is_counting s.mark) s.position 0 (prefix_policy s.rest prefixes) (plan_each 0 ts s) (each_fits sizes 0 ts s w)
-  plan_fits sizes (operation_selector ops ts) s w = child_fits sizes (is_delete s.op) (is_counting s.mark) s.position 0 (policy_of s.op ops) (plan_each 0 ts s) (each_fits sizes 0 ts s w)
+  plan_fits sizes (prefix_selector prefixes ts) s w = child_fits sizes (is_delete s.op) (is_counting s.mark) s.position (prefix_policy s.rest prefixes) (plan_each 0 ts s) (each_fits sizes 0 ts s w)
+  plan_fits sizes (operation_selector ops ts) s w = child_fits sizes (is_delete s.op) (is_counting s.mark) s.position (policy_of s.op ops) (plan_each 0 ts s) (each_fits sizes 0 ts s w)
 
   each_fits : (sizes : List ℕ) (k : ℕ) (ts : Trees) (s : Situation) → AreWellFormed sizes ts → AllFit sizes (is_delete s.op) (is_counting s.mark) s.position k (plan_each k ts s)
   each_fits sizes k none s w = tt
@@ -318,11 +312,7 @@ abbrev mutual
   above (pool p ranges targets) = suc p.symbol + above_each targets
   above null = 0
   above error = 0
-  above (all_sync ts) = above_each ts
-  above (all_initial ts) = above_each ts
-  above (all_async ts) = above_each ts
-  above (failover ts) = above_each ts
-  above (miss_failover ts) = above_each ts
+  above (many kind ts) = above_each ts
   above (warm_up cold warm exptime) = above cold + above warm
   above (migrate from to start interval) = above from + above to
   above (prefix_selector prefixes ts) = above_each ts
@@ -337,11 +327,7 @@ mutual
   well sizes (pool p ranges targets) h = (omega (arith, h), well_each sizes targets (omega (arith, h)))
   well sizes null h = tt
   well sizes error h = tt
-  well sizes (all_sync ts) h = well_each sizes ts h
-  well sizes (all_initial ts) h = well_each sizes ts h
-  well sizes (all_async ts) h = well_each sizes ts h
-  well sizes (failover ts) h = well_each sizes ts h
-  well sizes (miss_failover ts) h = well_each sizes ts h
+  well sizes (many kind ts) h = well_each sizes ts h
   well sizes (warm_up cold warm exptime) h = (well sizes cold (omega (arith, h)), well sizes warm (omega (arith, h)))
   well sizes (migrate from to start interval) h = (well sizes from (omega (arith, h)), well sizes to (omega (arith, h)))
   well sizes (prefix_selector prefixes ts) h = well_each sizes ts h

@@ -4,12 +4,13 @@ use Rattle.mcv_base.specs.declared.reply.Outcome.{Outcome}
 use Rattle.mcv_route.specs.Outcomes.{Outcomes}
 use Rattle.mcv_rules.specs.Laws.{Extends}
 use Rattle.mcv_base.specs.Reply.{is_error, is_good}
-use Rattle.mcv_route.specs.Tree.{Trees, pool, null, error, all_sync, all_initial, all_async, failover, miss_failover, warm_up, migrate, prefix_selector, operation_selector, none, child}
+use Rattle.mcv_route.specs.Tree.{Trees, pool, null, error, many, warm_up, migrate, prefix_selector, operation_selector, none, child}
 use Rattle.mcv_route.specs.Situation.{Situation, under}
 use Rattle.mcv_base.specs.Operation.{is_reading}
-use Rattle.mcv_route.specs.Children.{child_or, together, policy_of, prefix_policy, way_of}
+use Rattle.mcv_route.specs.Children.{policy_of, prefix_policy, way_of}
 use Rattle.mcv_route.specs.Replies.{Answer, refused, own_answers, the_worse, or_after_error, or_after_miss, replies, replies_each}
 use Rattle.mcv_rules.specs.Laws.{ReplyStays}
+use Rattle.mcv_rules.proofs.ByKind.{IsKept, many_related}
 use Rattle.mcv_rules.proofs.Relate
 
 -- there was no answer, or the same
@@ -56,21 +57,21 @@ miss_stays a b x y (inl e) h = inl (ap (λ z. or_after_miss z b) e)
 miss_stays a b x y (inr e) (inr f) = inr (ap₂ or_after_miss e f)
 miss_stays a b x y (inr e) (inl f) = ⊎_elim (λ h. inr (ap (λ z. or_after_miss z y) e ∙ h y b)) (λ h. inl (h b ∙ f)) (miss_either a)
 
+stays_kept : IsKept Stays
+stays_kept = record {
+  refusals = inr refl;
+  defaults = inr refl;
+  worse = λ a b x y e f. worse_stays a b x y e f;
+  after_error = λ a b x y e f. error_stays a b x y e f;
+  after_miss = λ a b x y e f. miss_stays a b x y e f;
+}
+
 mutual
   pub reply_stays : ReplyStays
   reply_stays (pool p ranges targets) s o o2 h = own_stays s.position (o s.position) (o2 s.position) (h s.position)
   reply_stays null s o o2 h = inr refl
   reply_stays error s o o2 h = inr refl
-  reply_stays (all_sync ts) s o o2 h = Relate.together_related Stays the_worse the_worse (λ a b x y e f. worse_stays a b x y e f) (refused ∷ []) (refused ∷ []) (replies_each 0 ts s o) (replies_each 0 ts s o2) (inr refl) (each_stays 0 ts s o o2 h)
-  reply_stays (all_initial ts) s o o2 h = Relate.child_related Stays (refused ∷ []) (refused ∷ []) 0 (replies_each 0 ts s o) (replies_each 0 ts s o2) (inr refl) (each_stays 0 ts s o o2 h)
-  reply_stays (all_async ts) s o o2 h = inr refl
-  reply_stays (failover ts) s o o2 h = Relate.together_related Stays or_after_error or_after_error (λ a b x y e f. error_stays a b x y e f) (refused ∷ []) (refused ∷ []) (replies_each 0 ts s o) (replies_each 0 ts s o2) (inr refl) (each_stays 0 ts s o o2 h)
-  reply_stays (miss_failover ts) s o o2 h =
-      Relate.if_related Stays (is_reading s.op)
-      (together or_after_miss (refused ∷ []) (replies_each 0 ts s o)) (child_or (refused ∷ []) 0 (replies_each 0 ts s o))
-      (together or_after_miss (refused ∷ []) (replies_each 0 ts s o2)) (child_or (refused ∷ []) 0 (replies_each 0 ts s o2))
-      (Relate.together_related Stays or_after_miss or_after_miss (λ a b x y e f. miss_stays a b x y e f) (refused ∷ []) (refused ∷ []) (replies_each 0 ts s o) (replies_each 0 ts s o2) (inr refl) (each_stays 0 ts s o o2 h))
-      (Relate.child_related Stays (refused ∷ []) (refused ∷ []) 0 (replies_each 0 ts s o) (replies_each 0 ts s o2) (inr refl) (each_stays 0 ts s o o2 h))
+  reply_stays (many kind ts) s o o2 h = many_related Stays stays_kept kind ts s o o2 (each_stays 0 ts s o o2 h)
   reply_stays (warm_up cold warm exptime) s o o2 h =
       Relate.if_related Stays (is_reading s.op)
       (or_after_miss (replies cold (under 0 s) o) (replies warm (under 1 s) o)) (replies cold (under 0 s) o)

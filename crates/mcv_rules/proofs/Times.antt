@@ -3,7 +3,7 @@ use Rattle.std.proofs.Common.{◌≡◌, ◌≢◌, ◌⊎◌, ◌≤◌, cond, 
 use Rattle.std.specs.Prelude.{fold}
 use Rattle.mcv_route.specs.Outcomes.{History, outcomes}
 use Rattle.mcv_base.specs.Reply.{is_error, is_good}
-use Rattle.mcv_route.specs.Tree.{Tree, Trees, all_sync, none, child}
+use Rattle.mcv_route.specs.Tree.{Tree, Trees, many, AllSync, none, child}
 use Rattle.mcv_route.specs.Situation.{Situation, under}
 use Rattle.mcv_route.specs.Replies.{Answer, the_worse, or_after_error, or_after_miss, replies, replies_each}
 use Rattle.mcv_route.specs.Reply.{is_waiting, came}
@@ -55,7 +55,7 @@ fold_time f k (child t ts) s es =
 
 pub time_of_all_sync : TimeOfAllSync
 time_of_all_sync t ts s es =
-    came_time (all_sync (child t ts)) s es
+    came_time (many AllSync (child t ts)) s es
     ∙ fold_time (λ h. replies t (under 0 s) (outcomes h)) 1 ts s es
     ∙ ap (λ n. fold max n (came_each 1 ts s es)) (sym (came_time t (under 0 s) es))
 

@@ -4,12 +4,13 @@ use Rattle.mcv_base.specs.Operation.{is_reading}
 use Rattle.mcv_base.specs.Reply.{is_error, is_good, badness}
 use Rattle.mcv_base.specs.declared.reply.Outcome.{Outcome}
 use Rattle.mcv_route.specs.Outcomes.{Outcomes}
-use Rattle.mcv_route.specs.Tree.{Tree, Trees, pool, null, error, all_sync, all_initial, all_async, failover, miss_failover, warm_up, migrate, prefix_selector, operation_selector, none, child}
+use Rattle.mcv_route.specs.Tree.{Tree, Trees, pool, null, error, many, warm_up, migrate, prefix_selector, operation_selector, none, child}
 use Rattle.mcv_route.specs.Situation.{Situation, under}
-use Rattle.mcv_route.specs.Children.{child_or, together, policy_of, prefix_policy, way_of}
+use Rattle.mcv_route.specs.Children.{child_or, policy_of, prefix_policy, way_of}
 use Rattle.mcv_route.specs.Replies.{Answer, default_answer, refused, own_answers, the_worse, or_after_error, or_after_miss, replies, replies_each}
 use Rattle.mcv_rules.specs.Laws.{outcome_at, AnswersAreTrue}
 use Rattle.mcv_rules.proofs.Among.{Among, among_either}
+use Rattle.mcv_rules.proofs.ByKind.{IsKept, many_related}
 use Rattle.mcv_rules.proofs.Relate
 
 abbrev AreTrue : Outcomes → List Answer → Type 0
@@ -48,25 +49,24 @@ miss_true : (o : Outcomes) (r q : List Answer) → AreTrue o r → AreTrue o q �
 miss_true o [] q e f = λ a h. absurd h
 miss_true o (b ∷ r) q e f = if_true o (is_good b.outcome) (b ∷ r) q e f
 
-together_true : (o : Outcomes) (put : List Answer → List Answer → List Answer) → ((r q : List Answer) → AreTrue o r → AreTrue o q → AreTrue o (put r q)) → (rs : List (List Answer)) → Relate.Related (BothTrue o) rs rs → AreTrue o (together put (refused ∷ []) rs)
-together_true o put h rs r = Relate.together_related (BothTrue o) put put (λ a b x y e f. h a b e f) (refused ∷ []) (refused ∷ []) rs rs (one_true o refused refl) r
-
 child_true : (o : Outcomes) (k : ℕ) (rs : List (List Answer)) → Relate.Related (BothTrue o) rs rs → AreTrue o (child_or (refused ∷ []) k rs)
 child_true o k rs r = Relate.child_related (BothTrue o) (refused ∷ []) (refused ∷ []) k rs rs (one_true o refused refl) r
+
+true_kept : (o : Outcomes) → IsKept (BothTrue o)
+true_kept o = record {
+  refusals = one_true o refused refl;
+  defaults = one_true o default_answer refl;
+  worse = λ a b x y e f. worse_true o a b e f;
+  after_error = λ a b x y e f. error_true o a b e f;
+  after_miss = λ a b x y e f. miss_true o a b e f;
+}
 
 mutual
   answers_true : (t : Tree) (s : Situation) (o : Outcomes) → AreTrue o (replies t s o)
   answers_true (pool p ranges targets) s o = own_true o s.position (o s.position) refl
   answers_true null s o = one_true o default_answer refl
   answers_true error s o = one_true o refused refl
-  answers_true (all_sync ts) s o = together_true o the_worse (worse_true o) (replies_each 0 ts s o) (each_true 0 ts s o)
-  answers_true (all_initial ts) s o = child_true o 0 (replies_each 0 ts s o) (each_true 0 ts s o)
-  answers_true (all_async ts) s o = one_true o default_answer refl
-  answers_true (failover ts) s o = together_true o or_after_error (error_true o) (replies_each 0 ts s o) (each_true 0 ts s o)
-  answers_true (miss_failover ts) s o =
-      if_true o (is_reading s.op) (together or_after_miss (refused ∷ []) (replies_each 0 ts s o)) (child_or (refused ∷ []) 0 (replies_each 0 ts s o))
-      (together_true o or_after_miss (miss_true o) (replies_each 0 ts s o) (each_true 0 ts s o))
-      (child_true o 0 (replies_each 0 ts s o) (each_true 0 ts s o))
+  answers_true (many kind ts) s o = many_related (BothTrue o) (true_kept o) kind ts s o o (each_true 0 ts s o)
   answers_true (warm_up cold warm exptime) s o =
       if_true o (is_reading s.op) (or_after_miss (replies cold (under 0 s) o) (replies warm (under 1 s) o)) (replies cold (under 0 s) o)
       (miss_true o (replies cold (under 0 s) o) (replies warm (under 1 s) o) (answers_true cold (under 0 s) o) (answers_true warm (under 1 s) o))

@@ -5,7 +5,7 @@ use crate::routes::{pool, position, two, warm_up};
 use mcv_asks::{Call, Heard, client_request, leg_request};
 use mcv_base::{Ask, FixedReply, LegRequest, Mark, Op, Part, Reply, Request, Rest, ServerId};
 use mcv_pools::Choice;
-use mcv_route::{Answered, Launch, Route};
+use mcv_route::{Answered, Launch, Many, Route};
 use std::alloc::{AllocError, Global};
 use std::process::Abort;
 use std::str::from_utf8;
@@ -27,16 +27,18 @@ fn plain(alloc: Global) -> Result<Route, AllocError> {
 }
 
 fn behind_error(alloc: Global) -> Result<Route, AllocError> {
-    Ok(Route::Failover(two(alloc, lone(alloc)?, plain(alloc)?)?))
+    Ok(Route::Many(Many::Failover, two(alloc, lone(alloc)?, plain(alloc)?)?))
 }
 
 fn of_failovers(alloc: Global) -> Result<Route, AllocError> {
-    let cold = Route::Failover(two_pools(alloc)?);
-    warm_up(alloc, cold, Route::Failover(two_pools(alloc)?), 60)
+    let cold = Route::Many(Many::Failover, two_pools(alloc)?);
+    let warm = Route::Many(Many::Failover, two_pools(alloc)?);
+    warm_up(alloc, cold, warm, 60)
 }
 
 fn of_all(alloc: Global) -> Result<Route, AllocError> {
-    warm_up(alloc, lone(alloc)?, Route::AllSync(two_pools(alloc)?), 60)
+    let warm = Route::Many(Many::AllSync, two_pools(alloc)?);
+    warm_up(alloc, lone(alloc)?, warm, 60)
 }
 
 /// The route that a row's first word names.

@@ -5,7 +5,7 @@ use crate::routes::{migration, pool, shadowed, warm_up};
 use mcv_base::{Mark, Moment, Op, Outcome, Position, Rest, ServerId};
 use mcv_plan::{EvalState, Source, most_legs};
 use mcv_pools::Choice;
-use mcv_route::{Launch, Route, Shadow};
+use mcv_route::{Launch, Many, Route, Shadow};
 use mcv_rules::{Asked, Plan, laid_out};
 use std::alloc::{AllocError, Global};
 use std::process::Abort;
@@ -50,8 +50,8 @@ fn moving(alloc: Global) -> Result<Route, AllocError> {
 /// A MissFailoverRoute of so many pools, which is sent and not waited for.
 fn async_miss_failover(alloc: Global, count: u32) -> Result<Route, AllocError> {
     let mut children = Vec::new(alloc);
-    children.push(Route::MissFailover(pools(alloc, count)?))?;
-    Ok(Route::AllAsync(children))
+    children.push(Route::Many(Many::MissFailover, pools(alloc, count)?))?;
+    Ok(Route::Many(Many::AllAsync, children))
 }
 
 /// The route that a row's first word names; behind a dot the number of its children, where they aren't two.
@@ -60,11 +60,11 @@ fn route_of(alloc: Global, word: &str) -> Result<Route, Fail> {
     let count = count.parse::<u32>()?;
     Ok(match name {
         "shadowed" => copied(alloc)?,
-        "sync" => Route::AllSync(pools(alloc, count)?),
-        "initial" => Route::AllInitial(pools(alloc, count)?),
-        "async" => Route::AllAsync(pools(alloc, count)?),
-        "failover" => Route::Failover(pools(alloc, count)?),
-        "miss_failover" => Route::MissFailover(pools(alloc, count)?),
+        "sync" => Route::Many(Many::AllSync, pools(alloc, count)?),
+        "initial" => Route::Many(Many::AllInitial, pools(alloc, count)?),
+        "async" => Route::Many(Many::AllAsync, pools(alloc, count)?),
+        "failover" => Route::Many(Many::Failover, pools(alloc, count)?),
+        "miss_failover" => Route::Many(Many::MissFailover, pools(alloc, count)?),
         "async_miss_failover" => async_miss_failover(alloc, count)?,
         "warm_up" => filling(alloc)?,
         "migrate" => moving(alloc)?,

@@ -3,7 +3,7 @@
 use crate::routes::{migration, pool, position, shadowed, two, warm_up};
 use mcv_base::{FixedReply, Moment, Op, Outcome, Part, Reply, ServerId, split_key};
 use mcv_pools::Choice;
-use mcv_route::{Answered, Launch, OperationPolicy, PrefixPolicy, Route, Shadow};
+use mcv_route::{Answered, Launch, Many, OperationPolicy, PrefixPolicy, Route, Shadow};
 use mcv_rules::{Eval, Outcomes, Status, default_reply};
 use std::alloc::{AllocError, Global};
 use std::process::Abort;
@@ -39,16 +39,16 @@ fn null_first(alloc: Global) -> Result<Vec<Route>, AllocError> {
 
 /// Two pools in the background, the second after an error of the first.
 fn in_background(alloc: Global) -> Result<Route, AllocError> {
-    let search = Route::Failover(two_pools(alloc)?);
-    Ok(Route::AllAsync(two(alloc, search, Route::Error)?))
+    let search = Route::Many(Many::Failover, two_pools(alloc)?);
+    Ok(Route::Many(Many::AllAsync, two(alloc, search, Route::Error)?))
 }
 
 /// Three children, the middle one of which is itself such a route.
 fn nested(alloc: Global) -> Result<Route, AllocError> {
-    let within = Route::AllSync(two_pools(alloc)?);
+    let within = Route::Many(Many::AllSync, two_pools(alloc)?);
     let mut children = two(alloc, pool(alloc, 0, &[ServerId(0)])?, within)?;
     children.push(pool(alloc, 0, &[ServerId(3)])?)?;
-    Ok(Route::AllSync(children))
+    Ok(Route::Many(Many::AllSync, children))
 }
 
 /// Server 1 is cold, and server 2 warm.
@@ -117,13 +117,13 @@ fn route_of(alloc: Global, name: &str) -> Result<Route, AllocError> {
         "pool" => pool(alloc, 0, &[ServerId(1), ServerId(2)])?,
         "shadows" => two_shadows(alloc)?,
         "null" => Route::Null,
-        "sync" => Route::AllSync(two_pools(alloc)?),
-        "null_sync" => Route::AllSync(null_first(alloc)?),
+        "sync" => Route::Many(Many::AllSync, two_pools(alloc)?),
+        "null_sync" => Route::Many(Many::AllSync, null_first(alloc)?),
         "nested" => nested(alloc)?,
-        "initial" => Route::AllInitial(two_pools(alloc)?),
+        "initial" => Route::Many(Many::AllInitial, two_pools(alloc)?),
         "async" => in_background(alloc)?,
-        "failover" => Route::Failover(two_pools(alloc)?),
-        "miss_failover" => Route::MissFailover(two_pools(alloc)?),
+        "failover" => Route::Many(Many::Failover, two_pools(alloc)?),
+        "miss_failover" => Route::Many(Many::MissFailover, two_pools(alloc)?),
         "warm_up" => warming(alloc)?,
         "migrate" => moving(alloc)?,
         "prefixes" => prefixes(alloc)?,

@@ -2,7 +2,7 @@
 
 use crate::routes::{pool, shadowed, warm_up};
 use mcv_base::{Op, Outcome, Position, Rest, ServerId};
-use mcv_route::{Route, Shadow};
+use mcv_route::{Many, Route, Shadow};
 use mcv_rules::PlannedLeg;
 use mcv_symbolic::{Case, LegAnswer};
 use std::alloc::{AllocError, Global};
@@ -50,12 +50,12 @@ fn lettered(alloc: Global, routes: &mut Vec<Route>, letter: u8) -> Result<Route,
         b'N' => Route::Null,
         b'E' => Route::Error,
         b'C' => copied(alloc)?,
-        b's' => Route::AllSync(last_of(alloc, routes, 2)?),
-        b'i' => Route::AllInitial(last_of(alloc, routes, 2)?),
-        b'm' => Route::MissFailover(last_of(alloc, routes, 2)?),
-        b'f' => Route::Failover(last_of(alloc, routes, 2)?),
+        b's' => Route::Many(Many::AllSync, last_of(alloc, routes, 2)?),
+        b'i' => Route::Many(Many::AllInitial, last_of(alloc, routes, 2)?),
+        b'm' => Route::Many(Many::MissFailover, last_of(alloc, routes, 2)?),
+        b'f' => Route::Many(Many::Failover, last_of(alloc, routes, 2)?),
         b'w' => warming(alloc, routes)?,
-        b'F' => Route::Failover(last_of(alloc, routes, 3)?),
+        b'F' => Route::Many(Many::Failover, last_of(alloc, routes, 3)?),
         other => lone(alloc, u32::from(other))?,
     })
 }

@@ -9,7 +9,7 @@ use Rattle.std.proofs.lemmas.Option.{none-some, slice_get_cases}
 use Rattle.mcv_base.specs.Key.{IsRest, begins_with, is_key_byte, is_key_word}
 use Rattle.mcv_pools.specs.Symbol.{SymbolValue}
 use Rattle.mcv_route.specs.Routes.{IsSoundTree, AreSoundTrees, IsSoundRoutes, RouteEntry, RoutesValue}
-use Rattle.mcv_route.specs.Tree.{Tree, Trees, pool, null, error, all_sync, all_initial, all_async, failover, miss_failover, warm_up, migrate, prefix_selector, operation_selector, none, child}
+use Rattle.mcv_route.specs.Tree.{Tree, Trees, pool, null, error, many, warm_up, migrate, prefix_selector, operation_selector, none, child}
 use Rattle.mcv_route.specs.WellFormed.{IsWellFormed, AreWellFormed}
 use Rattle.mcv_classes.specs.Class.{IsClassWord, IsMember}
 use Rattle.mcv_classes.specs.Words.{class_words}
@@ -35,11 +35,7 @@ mutual
       (omega (arith, under, length-map symbols (λ s. s.n)), well-formed-each servers symbols targets h.1)
   well-formed servers symbols null h = tt
   well-formed servers symbols error h = tt
-  well-formed servers symbols (all_sync ts) h = well-formed-each servers symbols ts h.1
-  well-formed servers symbols (all_initial ts) h = well-formed-each servers symbols ts h.1
-  well-formed servers symbols (all_async ts) h = well-formed-each servers symbols ts h.1
-  well-formed servers symbols (failover ts) h = well-formed-each servers symbols ts h.1
-  well-formed servers symbols (miss_failover ts) h = well-formed-each servers symbols ts h.1
+  well-formed servers symbols (many kind ts) h = well-formed-each servers symbols ts h.1
   well-formed servers symbols (warm_up cold warm exptime) h = (well-formed servers symbols cold h.0, well-formed servers symbols warm h.1)
   well-formed servers symbols (migrate from to start interval) h = (well-formed servers symbols from h.0, well-formed servers symbols to h.1)
   well-formed servers symbols (prefix_selector prefixes ts) h = well-formed-each servers symbols ts h

@@ -14,7 +14,7 @@ use Rattle.mcv_route.specs.Launched.{in_turn, launched, launched_each, once, own
 use Rattle.mcv_route.specs.Outcomes.{Choice, History, Outcomes, is_same, outcomes}
 use Rattle.mcv_route.specs.Replies.{Answer, default_answer, leg, or_after_error, or_after_miss, own_answers, refused, replies, replies_each, the_worse}
 use Rattle.mcv_route.specs.Situation.{Situation, adding, asynchronous, shadowed, under}
-use Rattle.mcv_route.specs.Tree.{Pool, Range, Tree, Trees, pool, null, error, all_sync, all_initial, all_async, failover, miss_failover, warm_up, migrate, prefix_selector, operation_selector, none, child}
+use Rattle.mcv_route.specs.Tree.{Pool, Range, Tree, Trees, pool, null, error, many, AllSync, AllInitial, AllAsync, Failover, MissFailover, warm_up, migrate, prefix_selector, operation_selector, none, child}
 use Rattle.mcv_route.specs.declared.launch.Launch.{Launch}
 use Rattle.mcv_rules.proofs.Orders.{same_is, same_self}
 use Rattle.mcv_witness.specs.Walk.{Known, Pass, at_once, behind, below, filled, finish, front, gather, gather_all, goes_on, if_empty, is_below, reply_passes, joined_seen, only, only_nth, pass, pass_each, past, shade, warmed}
@@ -544,11 +544,11 @@ module _ (leaf : List ℕ) (server : ℕ) (c : Choice) where
     pass_right (pool p ranges targets) base s k o f a = pool_sees leaf server c p ranges targets (each_right targets) base s k.depth o k.legs f a
     pass_right null base s k o f a = nothing_after leaf server false k.legs (default_answer ∷ [])
     pass_right error base s k o f a = nothing_after leaf server false k.legs (refused ∷ [])
-    pass_right (all_sync ts) base s k o f a = sync_right ts (each_right ts) base k.depth k.legs o s f a
-    pass_right (all_initial ts) base s k o f a = initial_right ts (each_right ts) base k.depth k.legs o s f a
-    pass_right (all_async ts) base s k o f a = unheard_right leaf server c ts (each_right ts) base k.depth k.legs o (asynchronous s) f a
-    pass_right (failover ts) base s k o f a = error_right ts (each_right ts) base k.depth k.legs o s f a
-    pass_right (miss_failover ts) base s k o f a =
+    pass_right (many AllSync ts) base s k o f a = sync_right ts (each_right ts) base k.depth k.legs o s f a
+    pass_right (many AllInitial ts) base s k o f a = initial_right ts (each_right ts) base k.depth k.legs o s f a
+    pass_right (many AllAsync ts) base s k o f a = unheard_right leaf server c ts (each_right ts) base k.depth k.legs o (asynchronous s) f a
+    pass_right (many Failover ts) base s k o f a = error_right ts (each_right ts) base k.depth k.legs o s f a
+    pass_right (many MissFailover ts) base s k o f a =
         either_right (is_reading s.op) k.legs (gather_all OnMiss (pass_each leaf server c ts s) (rest_of (pass_each leaf server c ts s)) k) (only_nth 0 (pass_each leaf server c ts s) 0 k)
         (together or_after_miss (refused ∷ []) (replies_each 0 ts (moved base s) o)) (child_or (refused ∷ []) 0 (replies_each 0 ts (moved base s) o))
         (in_turn is_missed (replies_each 0 ts (moved base s) o) (launched_each 0 ts (moved base s) c o)) (child_or [] 0 (launched_each 0 ts (moved base s) c o))

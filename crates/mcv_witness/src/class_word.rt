@@ -43,11 +43,7 @@ fn longest(route: &Route, rest: &Rest, most: usize) -> usize
         Route::Pool { leaf: _, shadows } => longest_of_shadows(shadows, rest, most),
         Route::Null => most,
         Route::Error => most,
-        Route::AllSync(children) => longest_of_children(children, rest, most),
-        Route::AllInitial(children) => longest_of_children(children, rest, most),
-        Route::AllAsync(children) => longest_of_children(children, rest, most),
-        Route::Failover(children) => longest_of_children(children, rest, most),
-        Route::MissFailover(children) => longest_of_children(children, rest, most),
+        Route::Many(_, children) => longest_of_children(children, rest, most),
         Route::WarmUp {
             cold,
             warm,

@@ -11,7 +11,7 @@ use Rattle.mcv_base.specs.Reply.{ReplyValue, hit, not_found, deleted, fault, los
 use Rattle.mcv_pools.specs.declared.symbol.HashFunc.TheVariants.{Ch3}
 use Rattle.mcv_route.specs.Outcomes.{outcomes}
 use Rattle.mcv_route.specs.Routes.{RoutesValue}
-use Rattle.mcv_route.specs.Tree.{Tree, Trees, pool, all_initial, failover, migrate, operation_selector, none, child}
+use Rattle.mcv_route.specs.Tree.{Tree, Trees, pool, many, AllInitial, Failover, migrate, operation_selector, none, child}
 use Rattle.mcv_route.specs.Verdict.{IsReadable}
 use Rattle.mcv_world.specs.World.{Place, Queued, Performed, Spooled, Gone, Call, Leg, World, choice_of, reply_of, is_counted_delete, put}
 use Rattle.mcv_world.specs.Moves.{Move, Began, Answered, WasSpooled, WasRefused, WasPerformed, EraBegan, Taken, is_move, run}
@@ -133,27 +133,27 @@ refused_delete_is_not_refused_again = refl
 -- ---- several legs
 
 -- both legs are queued when the call begins, before either is answered
-both_legs_are_queued_at_once : place_in (all_initial (two (server 5) (server 7))) (begins Delete ∷ []) 1 ≡ Some Queued
+both_legs_are_queued_at_once : place_in (many AllInitial (two (server 5) (server 7))) (begins Delete ∷ []) 1 ≡ Some Queued
 both_legs_are_queued_at_once = refl
 
-second_leg_has_its_own_server : server_in (all_initial (two (server 5) (server 7))) (begins Delete ∷ []) 1 ≡ Some 7
+second_leg_has_its_own_server : server_in (many AllInitial (two (server 5) (server 7))) (begins Delete ∷ []) 1 ≡ Some 7
 second_leg_has_its_own_server = refl
 
-first_reply_is_the_reply : reply_in (all_initial (two (server 5) (server 7))) (begins Delete ∷ Answered 0 deleted ∷ []) 0 ≡ Some deleted
+first_reply_is_the_reply : reply_in (many AllInitial (two (server 5) (server 7))) (begins Delete ∷ Answered 0 deleted ∷ []) 0 ≡ Some deleted
 first_reply_is_the_reply = refl
 
 -- an error launches a further leg, under the next number
-error_launches_the_second_leg : server_in (failover (two (server 5) (server 7))) (begins Delete ∷ begins Get ∷ WasRefused 0 ∷ []) 2 ≡ Some 7
+error_launches_the_second_leg : server_in (many Failover (two (server 5) (server 7))) (begins Delete ∷ begins Get ∷ WasRefused 0 ∷ []) 2 ≡ Some 7
 error_launches_the_second_leg = refl
 
-further_leg_is_queued : place_in (failover (two (server 5) (server 7))) (begins Delete ∷ begins Get ∷ WasRefused 0 ∷ []) 2 ≡ Some Queued
+further_leg_is_queued : place_in (many Failover (two (server 5) (server 7))) (begins Delete ∷ begins Get ∷ WasRefused 0 ∷ []) 2 ≡ Some Queued
 further_leg_is_queued = refl
 
 -- in the era of its call, not in that of the moment
-further_leg_goes_by_the_calls_era : server_in (failover (two (server 4) (migrate (server 5) (server 7) 10 10))) (begins Delete ∷ EraBegan (Some 30) ∷ WasRefused 0 ∷ []) 1 ≡ Some 5
+further_leg_goes_by_the_calls_era : server_in (many Failover (two (server 4) (migrate (server 5) (server 7) 10 10))) (begins Delete ∷ EraBegan (Some 30) ∷ WasRefused 0 ∷ []) 1 ≡ Some 5
 further_leg_goes_by_the_calls_era = refl
 
-later_call_has_the_later_era : server_in (failover (two (server 4) (migrate (server 5) (server 7) 10 10))) (EraBegan (Some 30) ∷ begins Delete ∷ WasRefused 0 ∷ []) 1 ≡ Some 7
+later_call_has_the_later_era : server_in (many Failover (two (server 4) (migrate (server 5) (server 7) 10 10))) (EraBegan (Some 30) ∷ begins Delete ∷ WasRefused 0 ∷ []) 1 ≡ Some 7
 later_call_has_the_later_era = refl
 
 -- a shadow's leg counts for nothing: it can be lost
@@ -177,10 +177,10 @@ call_ends_once_its_reply_is_taken : runs_in (server 5) (begins Delete ∷ WasSpo
 call_ends_once_its_reply_is_taken = refl
 
 -- and not before each leg that it launched has an outcome
-call_runs_on_for_its_second_leg : option_map (λ c. c.taken) (runs_in (all_initial (two (server 5) (server 7))) (begins Delete ∷ Answered 0 deleted ∷ Taken 0 ∷ []) 0) ≡ Some true
+call_runs_on_for_its_second_leg : option_map (λ c. c.taken) (runs_in (many AllInitial (two (server 5) (server 7))) (begins Delete ∷ Answered 0 deleted ∷ Taken 0 ∷ []) 0) ≡ Some true
 call_runs_on_for_its_second_leg = refl
 
-call_ends_with_its_second_leg : runs_in (all_initial (two (server 5) (server 7))) (begins Delete ∷ Answered 0 deleted ∷ Taken 0 ∷ WasSpooled 1 ∷ []) 0 ≡ None
+call_ends_with_its_second_leg : runs_in (many AllInitial (two (server 5) (server 7))) (begins Delete ∷ Answered 0 deleted ∷ Taken 0 ∷ WasSpooled 1 ∷ []) 0 ≡ None
 call_ends_with_its_second_leg = refl
 
 -- a spooled leg isn't forgotten when its call has ended; a performed one is
@@ -201,7 +201,7 @@ queued_delete_can_be_spooled = record { allowed = tt; move = refl }
 -- ---- deletes that are kept
 
 -- the server needn't have performed it: the leg is queued, or it is spooled
-queued_leg_is_kept : KeepsLeg (world (all_initial (two (server 5) (server 7))) (begins Delete ∷ Answered 0 deleted ∷ [])) 0 7
+queued_leg_is_kept : KeepsLeg (world (many AllInitial (two (server 5) (server 7))) (begins Delete ∷ Answered 0 deleted ∷ [])) 0 7
 queued_leg_is_kept = record {
   number = 1;
   leg = record { call = Some 0; launch = record { position = 1 ∷ []; server = record { 0 = 7 }; op = Delete; mark = Async }; rest = 97 ∷ []; place = Queued };

@@ -5,7 +5,7 @@ use Rattle.mcv_route.specs.Children.{policy_of, prefix_policy, to_both, to_from,
 use Rattle.mcv_route.specs.Situation.{shadowed, under}
 use Rattle.mcv_route.specs.Tree.{migrate, warm_up}
 use Rattle.mcv_route.specs.View.{pool_view, view}
-use Rattle.mcv_route.proofs.Views.{shadow_view-out, view-AllAsync, view-AllInitial, view-AllSync, view-Error, view-Failover, view-Migrate, view-MissFailover, view-Null, view-Pool, view-WarmUp}
+use Rattle.mcv_route.proofs.Views.{shadow_view-out, view-Error, view-Many, view-Migrate, view-Null, view-Pool, view-WarmUp}
 use Rattle.mcv_rules.specs.Laid.{children_of, operations_of, prefixes_of, situation_at, way_seen}
 use Rattle.mcv_rules.proofs.Choosing.{migrates_from, migrates_to, warms_not}
 use Rattle.mcv_plan.specs.Counts.{capped}
@@ -44,6 +44,13 @@ count-returns-in-Null t c = λ position. rw (c.in-Null.is, view-Null) refl
 pub count-returns-in-Error : goal.count-returns-in-Error
 count-returns-in-Error t c = λ position. rw (c.in-Error.is, view-Error) refl
 
+-- ---- children only
+
+pub count-returns-in-Many : goal.count-returns-in-Many
+count-returns-in-Many t c = λ position.
+    let m = c.in-Many in
+    rw (m.is, view-Many m.kind m.children) (rw c.deref-in-Many.ensures.value at (c.count_many.ensures position))
+
 -- ---- children one by one
 
 pub count_each-loop-child-init : goal.count_each-loop-child-init
@@ -59,24 +66,21 @@ count_each-loop-child-preserved t c = λ position.
 pub count_each-returns : goal.count_each-returns
 count_each-returns t c = λ position. rw (take_all c.loop-child.child-index c.args.children.now c.loop-child-test.false) at (c.loop-child.invariant position)
 
-pub count-returns-in-AllSync : goal.count-returns-in-AllSync
-count-returns-in-AllSync t c = λ position.
+pub count_many-returns-in-AllSync : goal.count_many-returns-in-AllSync
+count_many-returns-in-AllSync t c = λ position.
     let s = situation_at c.args.asked.now position in
-    let v = c.in-AllSync.children in
-    rw (c.in-AllSync.is, view-AllSync v) ((rw c.deref-in-AllSync.ensures.value at (c.count_each.ensures position)) ∙ ap capped (sym (all_sync_count (children_of v.items) s)))
+    rw c.in-AllSync.is (c.count_each.ensures position ∙ ap capped (sym (all_sync_count (children_of c.args.children.now) s)))
 
-pub count-returns-in-AllAsync : goal.count-returns-in-AllAsync
-count-returns-in-AllAsync t c = λ position.
+pub count_many-returns-in-AllAsync : goal.count_many-returns-in-AllAsync
+count_many-returns-in-AllAsync t c = λ position.
     let s = situation_at c.args.asked.now position in
-    let v = c.in-AllAsync.children in
-    rw (c.in-AllAsync.is, view-AllAsync v)
-    ((rw (c.deref-in-AllAsync.ensures.value, c.asynchronous-unheard.ensures) at (c.count_each-in-AllAsync.ensures position)) ∙ ap capped (sym (all_async_count (children_of v.items) s)))
+    rw c.in-AllAsync.is
+    ((rw c.asynchronous-unheard.ensures at (c.count_each-in-AllAsync.ensures position)) ∙ ap capped (sym (all_async_count (children_of c.args.children.now) s)))
 
-pub count-returns-in-Failover : goal.count-returns-in-Failover
-count-returns-in-Failover t c = λ position.
+pub count_many-returns-in-Failover : goal.count_many-returns-in-Failover
+count_many-returns-in-Failover t c = λ position.
     let s = situation_at c.args.asked.now position in
-    let v = c.in-Failover.children in
-    rw (c.in-Failover.is, view-Failover v) ((rw c.deref-in-Failover.ensures.value at (c.count_each-in-Failover.ensures position)) ∙ ap capped (sym (failover_count (children_of v.items) s)))
+    rw c.in-Failover.is (c.count_each-in-Failover.ensures position ∙ ap capped (sym (failover_count (children_of c.args.children.now) s)))
 
 -- ---- the first waited for
 
@@ -102,11 +106,6 @@ count_initial-returns t c = λ position.
 pub count_initial-returns-in_default : goal.count_initial-returns-in_default
 count_initial-returns-in_default t c = λ position. no_initial c.args.children.now (situation_at c.args.asked.now position) (search rules)
 
-pub count-returns-in-AllInitial : goal.count-returns-in-AllInitial
-count-returns-in-AllInitial t c = λ position.
-    let v = c.in-AllInitial.children in
-    rw (c.in-AllInitial.is, view-AllInitial v) (rw c.deref-in-AllInitial.ensures.value at (c.count_initial.ensures position))
-
 -- ---- a search for a hit
 
 pub count_misses-returns-in-Some : goal.count_misses-returns-in-Some
@@ -126,11 +125,6 @@ count_misses-returns t c = λ position.
     let s = situation_at c.args.asked.now position in
     let reads : is_reading s.op ≡ true = sym c.is_reading.ensures ∙ c.if-not-is_reading.false in
     c.count_each.ensures position ∙ ap capped (sym (miss_count (children_of c.args.children.now) s reads))
-
-pub count-returns-in-MissFailover : goal.count-returns-in-MissFailover
-count-returns-in-MissFailover t c = λ position.
-    let v = c.in-MissFailover.children in
-    rw (c.in-MissFailover.is, view-MissFailover v) (rw c.deref-in-MissFailover.ensures.value at (c.count_misses.ensures position))
 
 -- ---- warm-ups
 

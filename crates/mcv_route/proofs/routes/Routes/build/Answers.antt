@@ -1,7 +1,7 @@
 use Rattle.std.proofs.Common.{◌≡◌, ◌<◌, true, map, ap, sym, subst, ◌∙◌}
 use Rattle.std.specs.List.{All, flat_map}
 use Rattle.mcv_base.specs.Server.{is_server}
-use Rattle.mcv_config.specs.Plan.{IsSound}
+use Rattle.mcv_config.specs.ConfigValue.{IsSound}
 use Rattle.mcv_route.specs.Aliases.{AreSelected}
 use Rattle.mcv_route.specs.Built.{routes_named}
 use Rattle.mcv_route.specs.Eras.{breaks, IsBreakTable}
@@ -19,13 +19,13 @@ use Rattle.mcv_route.proofs.routes.Routes.build.Goals as goal
 pub build_entries-requires-clause-sound : goal.build_entries-requires-clause-sound
 build_entries-requires-clause-sound c =
     sound-entries c.into_parts-servers.result (map list_view c.as_slice.result.now) (ap (map list_view) c.as_slice.ensures.value ∙ c.in_ok-lists.ensures)
-    (subst IsSound (sym c.into_parts-servers.ensures.plan) c.into_parts-servers.ensures.sound)
+    (subst IsSound (sym c.into_parts-servers.ensures.config) c.into_parts-servers.ensures.sound)
 
 pub invariant_of-result : goal.invariant_of-result
 invariant_of-result c =
     let pools = map list_view c.as_slice.result.now in
     let is = routes-are c.into_parts-servers.result pools c.build_entries.new.symbols c.in_ok-entries.entries.items (ap (map list_view) c.as_slice.ensures.value ∙ c.in_ok-lists.ensures) c.in_ok-entries.ensures.aliases
-    (rw (← c.new-symbols.ensures) c.in_ok-entries.ensures.routes) ∙ ap routes_named c.into_parts-servers.ensures.plan in
+    (rw (← c.new-symbols.ensures) c.in_ok-entries.ensures.routes) ∙ ap routes_named c.into_parts-servers.ensures.config in
     let P : _ → Type 0 = λ bs. IsBreakTable bs (numbers_of c.in_ok-break_table.break_table.items) in
     record {
       trees = subst IsSoundRoutes (sym is) (sound-built c.args.config c.into_parts-servers.ensures.sound);
@@ -39,4 +39,4 @@ invariant_of-result c =
 pub returns : goal.returns
 returns c =
     routes-are c.into_parts-servers.result (map list_view c.as_slice.result.now) c.build_entries.new.symbols c.in_ok-entries.entries.items (ap (map list_view) c.as_slice.ensures.value ∙ c.in_ok-lists.ensures) c.in_ok-entries.ensures.aliases
-    (rw (← c.new-symbols.ensures) c.in_ok-entries.ensures.routes) ∙ ap routes_named c.into_parts-servers.ensures.plan
+    (rw (← c.new-symbols.ensures) c.in_ok-entries.ensures.routes) ∙ ap routes_named c.into_parts-servers.ensures.config

@@ -3,6 +3,7 @@ use Rattle.std.specs.Prelude.{◌≡◌, ◌≢◌, true, ℕ, ◌<◌, ◌≤�
 use Rattle.std.specs.List.{All, flat_map}
 use Rattle.mcv_base.specs.Server.{is_server}
 use Rattle.mcv_base.specs.declared.operation.Op.{Op}
+use Rattle.mcv_names.specs.declared.handle.Many.{Many}
 use Rattle.mcv_pools.specs.declared.symbol.HashFunc.{HashFunc}
 use Rattle.mcv_pools.specs.Table.{IsOneToOne}
 use Rattle.mcv_config.specs.Aliases.{IsAlias, alias_limit}
@@ -30,11 +31,7 @@ mutual
     server : ℕ → ℕ → Named
     null : Named
     error : Named
-    all_sync : Nameds → Named
-    all_initial : Nameds → Named
-    all_async : Nameds → Named
-    failover : Nameds → Named
-    miss_failover : Nameds → Named
+    many : Many → Nameds → Named
     -- cold, warm, and the exptime of the add
     warm_up : Named → Named → ℕ → Named
     -- from, to, the start and the interval
@@ -48,34 +45,34 @@ mutual
     no_named : Nameds
     named : Named → Nameds → Nameds
 
-pub record EntryPlan : Type 0 where
+pub record EntryValue : Type 0 where
   pub aliases : List (List ℕ)
   pub route : Named
 
-pub record Plan : Type 0 where
+pub record ConfigValue : Type 0 where
   -- the texts of the servers, in the order of their numbers
   pub servers : List (List ℕ)
   -- the servers of each pool: those of `pools` in the order of their names, then those that routes hold, as the reader meets them
   pub pools : List (List ℕ)
-  pub entries : List EntryPlan
+  pub entries : List EntryValue
 
--- ---- the plan of a `ConfigParts`
+-- ---- what a `ConfigParts` is
 
 abbrev pub nameds_of : List Named → Nameds
 nameds_of [] = no_named
 nameds_of (t ∷ ts) = named t (nameds_of ts)
 
 -- a shadow, with its target seen as what it names
-abbrev pub ShadowPlan : Type 0
-ShadowPlan = Range × Named
+abbrev pub ShadowValue : Type 0
+ShadowValue = Range × Named
 
 -- a prefix, with its route seen as what it names
-abbrev pub PrefixPlan : Type 0
-PrefixPlan = List ℕ × Named
+abbrev pub PrefixValue : Type 0
+PrefixValue = List ℕ × Named
 
 -- a policy, with its route seen as what it names
-abbrev pub PolicyPlan : Type 0
-PolicyPlan = Option Op × Named
+abbrev pub PolicyValue : Type 0
+PolicyValue = Option Op × Named
 
 -- the route after all policies, if there is one
 abbrev pub last_of : Option Named → List Named
@@ -83,16 +80,12 @@ last_of None = []
 last_of (Some t) = t ∷ []
 
 -- one level, with each route inside already seen as what it names
-abbrev pub named_step : NamedRoute-F Named PolicyPlan PrefixPlan ShadowPlan → Named
+abbrev pub named_step : NamedRoute-F Named PolicyValue PrefixValue ShadowValue → Named
 named_step (NamedRoute-F.Pool i func salt shadows) = pool i func salt.items (map (λ s. s.0) shadows.items) (nameds_of (map (λ s. s.1) shadows.items))
 named_step (NamedRoute-F.Server i k) = server i k
 named_step NamedRoute-F.Null = null
 named_step NamedRoute-F.Error = error
-named_step (NamedRoute-F.AllSync children) = all_sync (nameds_of children.items)
-named_step (NamedRoute-F.AllInitial children) = all_initial (nameds_of children.items)
-named_step (NamedRoute-F.AllAsync children) = all_async (nameds_of children.items)
-named_step (NamedRoute-F.Failover children) = failover (nameds_of children.items)
-named_step (NamedRoute-F.MissFailover children) = miss_failover (nameds_of children.items)
+named_step (NamedRoute-F.Many kind children) = many kind (nameds_of children.items)
 named_step (NamedRoute-F.WarmUp cold warm exptime) = warm_up cold.value warm.value exptime
 named_step (NamedRoute-F.Migrate from to start interval) = migrate from.value to.value start interval
 named_step (NamedRoute-F.PrefixSelector policies wildcard) =
@@ -100,37 +93,37 @@ named_step (NamedRoute-F.PrefixSelector policies wildcard) =
 named_step (NamedRoute-F.OperationSelector policies default) =
     operation_selector (map (λ p. p.0) policies.items) (nameds_of (map (λ p. p.1) policies.items ++ last_of (option_map (λ r. r.value) default)))
 
-abbrev pub policy_step : NamedPolicy-F Named PolicyPlan PrefixPlan ShadowPlan → PolicyPlan
+abbrev pub policy_step : NamedPolicy-F Named PolicyValue PrefixValue ShadowValue → PolicyValue
 policy_step p = (p.op, p.route)
 
-abbrev pub prefix_step : NamedPrefix-F Named PolicyPlan PrefixPlan ShadowPlan → PrefixPlan
+abbrev pub prefix_step : NamedPrefix-F Named PolicyValue PrefixValue ShadowValue → PrefixValue
 prefix_step p = (p.«prefix».items, p.route)
 
-abbrev pub shadow_step : NamedShadow-F Named PolicyPlan PrefixPlan ShadowPlan → ShadowPlan
+abbrev pub shadow_step : NamedShadow-F Named PolicyValue PrefixValue ShadowValue → ShadowValue
 shadow_step s = (record { first = s.first; last = s.last }, s.target)
 
 abbrev pub named_of : NamedRoute → Named
-named_of = fold-NamedRoute Named PolicyPlan PrefixPlan ShadowPlan named_step policy_step prefix_step shadow_step
+named_of = fold-NamedRoute Named PolicyValue PrefixValue ShadowValue named_step policy_step prefix_step shadow_step
 
-abbrev pub policy_of : NamedPolicy → PolicyPlan
-policy_of = fold-NamedPolicy Named PolicyPlan PrefixPlan ShadowPlan named_step policy_step prefix_step shadow_step
+abbrev pub policy_of : NamedPolicy → PolicyValue
+policy_of = fold-NamedPolicy Named PolicyValue PrefixValue ShadowValue named_step policy_step prefix_step shadow_step
 
-abbrev pub prefix_of : NamedPrefix → PrefixPlan
-prefix_of = fold-NamedPrefix Named PolicyPlan PrefixPlan ShadowPlan named_step policy_step prefix_step shadow_step
+abbrev pub prefix_of : NamedPrefix → PrefixValue
+prefix_of = fold-NamedPrefix Named PolicyValue PrefixValue ShadowValue named_step policy_step prefix_step shadow_step
 
-abbrev pub shadow_of : NamedShadow → ShadowPlan
-shadow_of = fold-NamedShadow Named PolicyPlan PrefixPlan ShadowPlan named_step policy_step prefix_step shadow_step
+abbrev pub shadow_of : NamedShadow → ShadowValue
+shadow_of = fold-NamedShadow Named PolicyValue PrefixValue ShadowValue named_step policy_step prefix_step shadow_step
 
-abbrev pub pool_plan : Pool → List ℕ
-pool_plan p = map (λ s. s.0) p.servers.items
+abbrev pub pool_servers : Pool → List ℕ
+pool_servers p = map (λ s. s.0) p.servers.items
 
-abbrev pub entry_plan : Entry → EntryPlan
-entry_plan e = record { aliases = e.aliases.items; route = named_of e.route }
+abbrev pub entry_value : Entry → EntryValue
+entry_value e = record { aliases = e.aliases.items; route = named_of e.route }
 
-abbrev pub plan_of : ConfigParts → Plan
-plan_of c = record { servers = c.servers; pools = map pool_plan c.pools.items; entries = map entry_plan c.entries.items }
+abbrev pub config_value : ConfigParts → ConfigValue
+config_value c = record { servers = c.servers; pools = map pool_servers c.pools.items; entries = map entry_value c.entries.items }
 
--- ---- what every plan that a text names is
+-- ---- what every configuration that a text names is
 
 abbrev mutual
   -- each pool is there, each index is one of its servers, and each list of children has one or more
@@ -139,11 +132,7 @@ abbrev mutual
   IsSoundRoute pools (server i k) = (i < length pools) × (k < length (slice_index_or pools i []))
   IsSoundRoute pools null = Unit {0}
   IsSoundRoute pools error = Unit {0}
-  IsSoundRoute pools (all_sync ts) = (ts ≢ no_named) × AreSoundRoutes pools ts
-  IsSoundRoute pools (all_initial ts) = (ts ≢ no_named) × AreSoundRoutes pools ts
-  IsSoundRoute pools (all_async ts) = (ts ≢ no_named) × AreSoundRoutes pools ts
-  IsSoundRoute pools (failover ts) = (ts ≢ no_named) × AreSoundRoutes pools ts
-  IsSoundRoute pools (miss_failover ts) = (ts ≢ no_named) × AreSoundRoutes pools ts
+  IsSoundRoute pools (many kind ts) = (ts ≢ no_named) × AreSoundRoutes pools ts
   IsSoundRoute pools (warm_up cold warm exptime) = IsSoundRoute pools cold × IsSoundRoute pools warm
   IsSoundRoute pools (migrate from to start interval) = IsSoundRoute pools from × IsSoundRoute pools to
   IsSoundRoute pools (prefix_selector prefixes ts) = AreSoundRoutes pools ts
@@ -164,17 +153,17 @@ pub record AreAliases (aliases : List (List ℕ)) : Type 0 where
   pub each : All (λ a. IsAlias a × (length a ≤ alias_limit)) aliases
 
 -- the aliases of all routes, in the order of the routes
-abbrev pub all_aliases : List EntryPlan → List (List ℕ)
+abbrev pub all_aliases : List EntryValue → List (List ℕ)
 all_aliases entries = flat_map (λ e. e.aliases) entries
 
-pub record IsSound (plan : Plan) : Type 0 where
+pub record IsSound (config : ConfigValue) : Type 0 where
   -- each server's text is a host, a colon and a port
-  pub texts : All (λ text. is_server text ≡ true) plan.servers
+  pub texts : All (λ text. is_server text ≡ true) config.servers
   -- no server and no alias comes twice
-  pub once : IsOneToOne plan.servers
-  pub apart : IsOneToOne (all_aliases plan.entries)
-  pub pools : All (IsSoundPool (length plan.servers)) plan.pools
+  pub once : IsOneToOne config.servers
+  pub apart : IsOneToOne (all_aliases config.entries)
+  pub pools : All (IsSoundPool (length config.servers)) config.pools
   -- one route or more
-  pub some : 0 < length plan.entries
-  pub routes : All (λ e. IsSoundRoute plan.pools e.route) plan.entries
-  pub aliases : All (λ e. AreAliases e.aliases) plan.entries
+  pub some : 0 < length config.entries
+  pub routes : All (λ e. IsSoundRoute config.pools e.route) config.entries
+  pub aliases : All (λ e. AreAliases e.aliases) config.entries
