@@ -143,13 +143,13 @@ member_rest words (c ∷ class) member bytes m = subst IsRest (sym m.0) (record 
 
 pub covered_has_reasons : CoveredByMembers → CoveredHasReasons
 covered_has_reasons by_members r b leaf i sound positive covered own bytes readable low =
-    let place = own.place in
-    let e = place.entry in
-    let tree : e.tree ≡ own.tree = place.has_tree in
-    let at : Contains r.entries e = (b.route, slice_get_within r.entries b.route e place.numbered, get_or_from_slice_get r.entries b.route e e place.numbered) in
-    let rest = member_rest (class_words own.tree) b.class own.member bytes place.has_member in
-    let listed = subst (λ t. Contains (class_words t) b.class) (sym tree) place.listed in
-    let has = subst (λ t. IsMember (class_words t) b.class (Some own.member)) (sym tree) place.has_member in
-    let is = (by_members r sound).0 covered e b.class own.member own.since at listed has rest (era_there r b.era own.since place.opened) in
+    let at_spot = own.spot in
+    let e = at_spot.entry in
+    let tree : e.tree ≡ own.tree = at_spot.has_tree in
+    let at : Contains r.entries e = (b.spot.route, slice_get_within r.entries b.spot.route e at_spot.numbered, get_or_from_slice_get r.entries b.spot.route e e at_spot.numbered) in
+    let rest = member_rest (class_words own.tree) b.spot.class own.member bytes at_spot.has_member in
+    let listed = subst (λ t. Contains (class_words t) b.spot.class) (sym tree) at_spot.listed in
+    let has = subst (λ t. IsMember (class_words t) b.spot.class (Some own.member)) (sym tree) at_spot.has_member in
+    let is = (by_members r sound).0 covered e b.spot.class own.member own.since at listed has rest (era_there r b.spot.era own.since at_spot.opened) in
     let block = subst (λ t. IsBlockAt t own.member own.since b) (sym tree) own.has in
     by_justified (sizes_of r) e.tree own.member own.since positive (entry_sized r e sound at) b block leaf i low readable is

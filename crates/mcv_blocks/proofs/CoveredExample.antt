@@ -20,17 +20,17 @@ use Rattle.mcv_rules.specs.Plan.{Leg}
 use Rattle.mcv_rules.specs.Plans as plans
 use Rattle.mcv_classes.specs.Class.{IsFree}
 use Rattle.mcv_classes.specs.Words.{class_words}
-use Rattle.mcv_route.specs.Eras.{IsEra}
+use Rattle.mcv_route.specs.Eras.{IsEra, IsEraOf}
 use Rattle.mcv_symbolic.specs.Covered.{AreCovered}
 use Rattle.mcv_symbolic.specs.Justified.{IsNeverAcknowledged, IsReadableAt}
 use Rattle.mcv_symbolic.proofs.Exactness.{acknowledged_is_exact, done_is_exact, hits_are_exact}
 use Rattle.mcv_symbolic.proofs.Whole.{covered_by_members}
-use Rattle.mcv_cert.specs.Pair.{AreRising, PairValue, all, list_cmp}
+use Rattle.mcv_cert.specs.Pair.{AreRising, PairValue, SpotValue, all, list_cmp}
 use Rattle.mcv_judge.specs.Answers.{AnswersAll, IsAnswer}
 use Rattle.mcv_judge.specs.Faults.{AreInOrder, AreLegsRising, IsFaultless, IsInOrder}
 use Rattle.mcv_judge.specs.Reason.{BlockValue, LegValue, is_whole}
 use Rattle.mcv_judge.proofs.Answered.{answered_faultless}
-use Rattle.mcv_blocks.specs.Blocks.{AreBlocksOf, AreLeavesAt, HasBlockFor, IsAcknowledgedAt, IsBlockOf, IsJustifiedBy, IsPlaceOf, pool_for}
+use Rattle.mcv_blocks.specs.Blocks.{AreBlocksOf, AreLeavesAt, HasBlockFor, IsAcknowledgedAt, IsBlockOf, IsJustifiedBy, IsSpotOf, pool_for}
 use Rattle.mcv_route.proofs.BreakTables.{era_there}
 use Rattle.mcv_route.proofs.RisingLists.{at_first, behind_first, first_or_behind, none_there}
 use Rattle.mcv_blocks.proofs.Sound.{justified_is_covered}
@@ -78,8 +78,11 @@ first_leg = record { position = 0 ∷ 0 ∷ []; symbol = 1; servers = 0 ∷ [] }
 abbrev second_leg : LegValue
 second_leg = record { position = 0 ∷ 1 ∷ []; symbol = 1; servers = 1 ∷ [] }
 
+abbrev spot : SpotValue
+spot = record { route = 0; class = []; era = 0 }
+
 abbrev block : BlockValue
-block = record { route = 0; class = []; era = 0; readable = leaf ∷ []; acknowledged = first_leg ∷ second_leg ∷ []; can_be_acknowledged = true }
+block = record { spot = spot; readable = leaf ∷ []; acknowledged = first_leg ∷ second_leg ∷ []; can_be_acknowledged = true }
 
 -- the member of the class of the empty word
 abbrev member : List ℕ
@@ -160,8 +163,8 @@ byte_not_listed b at =
 from_33 : (c : ℕ) → IsFree (class_words tree) c → 33 ≤ c
 from_33 c free = leb-true 33 c (and_parts (nat_le 33 c) (not (c == 127)) free.key).0
 
-place_of_block : IsPlaceOf routes 0 [] 0 tree member None
-place_of_block = record {
+is_spot : IsSpotOf routes spot tree member None
+is_spot = record {
   entry = entry;
   numbered = refl;
   has_tree = refl;
@@ -175,7 +178,7 @@ is_block = record {
   tree = tree;
   member = member;
   since = None;
-  place = place_of_block;
+  spot = is_spot;
   has = record { readable = readable_leaves; acknowledged = acknowledged_leaves; never = can_be };
 }
 
@@ -192,20 +195,24 @@ only_class class at =
       | inr h ↦ absurd (none_there class h)
     ]
 
-only_era : (route : ℕ) (class : List ℕ) (era : ℕ) (t : Tree) (m : List ℕ) (since : Option ℕ) → IsPlaceOf routes route class era t m since → 0 ≡ era
-only_era route class zero t m since place = refl
-only_era route class (suc k) t m since place = by since (era_there routes (suc k) since place.opened) place.opened.3
+only_era : (s : SpotValue) (t : Tree) (m : List ℕ) (since : Option ℕ) → IsSpotOf routes s t m since → 0 ≡ s.era
+only_era s t m since is = by s.era since is.opened
   where
-    by : (z : Option ℕ) → IsEra routes z → (z ≢ None) → 0 ≡ suc k
-    by None h some = absurd (some refl)
-    by (Some b) h some = absurd (none_there b h)
+    no_break : (k : ℕ) (z : Option ℕ) → IsEra routes z → (z ≢ None) → 0 ≡ suc k
+    no_break k None h some = absurd (some refl)
+    no_break k (Some b) h some = absurd (none_there b h)
 
-has_block : (route : ℕ) (class : List ℕ) (era : ℕ) (t : Tree) (m : List ℕ) (since : Option ℕ) → IsPlaceOf routes route class era t m since → HasBlockFor (block ∷ []) route class era
-has_block route class era t m since place =
-    let route_is = only_route route place.entry place.numbered in
-    let t_is : tree ≡ t = ap (λ (e : RouteEntry). e.tree) route_is.1 ∙ place.has_tree in
-    let class_is = only_class class (subst (λ x. Contains (class_words x) class) (sym t_is) place.listed) in
-    (block, at_first block [] block refl, route_is.0, class_is, only_era route class era t m since place)
+    by : (era : ℕ) (z : Option ℕ) → IsEraOf routes era z → 0 ≡ era
+    by zero z opened = refl
+    by (suc k) z opened = no_break k z (era_there routes (suc k) z opened) opened.3
+
+has_block : (s : SpotValue) (t : Tree) (m : List ℕ) (since : Option ℕ) → IsSpotOf routes s t m since → HasBlockFor (block ∷ []) s
+has_block s t m since is =
+    let route_is = only_route s.route is.entry is.numbered in
+    let t_is : tree ≡ t = ap (λ (e : RouteEntry). e.tree) route_is.1 ∙ is.has_tree in
+    let class_is = only_class s.class (subst (λ x. Contains (class_words x) s.class) (sym t_is) is.listed) in
+    let era_is = only_era s t m since is in
+    (block, at_first block [] block refl, λ i. record { route = route_is.0 i; class = class_is i; era = era_is i })
 
 are_blocks : AreBlocksOf routes (block ∷ [])
 are_blocks = record {
@@ -217,7 +224,7 @@ are_blocks = record {
 -- ---- a certificate: at each index of the leaf the pool that has its server
 
 abbrev pair : ℕ → List ℕ → PairValue
-pair i leg = record { route = 0; class = []; era = 0; leaf = 1 ∷ []; reason = all i (leg ∷ []) }
+pair i leg = record { place = record { spot = spot; leaf = 1 ∷ [] }; reason = all i (leg ∷ []) }
 
 abbrev pairs : List PairValue
 pairs = pair 0 (0 ∷ 0 ∷ []) ∷ pair 1 (0 ∷ 1 ∷ []) ∷ []

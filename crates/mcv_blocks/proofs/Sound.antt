@@ -13,12 +13,12 @@ use Rattle.mcv_classes.specs.Words.{class_words}
 use Rattle.mcv_route.specs.Eras.{IsEra}
 use Rattle.mcv_symbolic.specs.Covered.{CoveredByMembers, sizes_of}
 use Rattle.mcv_symbolic.specs.Justified.{IsAcknowledgedPool, IsAnswered, IsJustified, IsNeverAcknowledged, IsReadableAt}
-use Rattle.mcv_cert.specs.Pair.{AreRising, PairValue, ReasonValue, never, twin, same, all, index_of, list_cmp}
+use Rattle.mcv_cert.specs.Pair.{AreRising, PairValue, ReasonValue, SpotValue, never, twin, same, all, index_of, list_cmp}
 use Rattle.mcv_judge.specs.Faults.{IsFaultless}
 use Rattle.mcv_judge.specs.Reason.{BlockValue, HasReason, LegValue, fault_of, fault_of_leg, fill_a_symbol, fill_symbol_of, has_server, have_server, is_one_missing, is_same_list, is_same_server, is_there_with, is_twin, is_whole, leg_at, server_at, unless}
 use Rattle.mcv_judge.specs.declared.fault.PairFault.{PairFault}
 use Rattle.mcv_judge.specs.declared.fault.PairFault.TheVariants.{CanBeAcknowledged, NotAcknowledged, OtherServer}
-use Rattle.mcv_blocks.specs.Blocks.{AreBlocksOf, IsAcknowledgedAt, IsBlockAt, IsBlockOf, IsPlaceOf, pool_for}
+use Rattle.mcv_blocks.specs.Blocks.{AreBlocksOf, IsAcknowledgedAt, IsBlockAt, IsBlockOf, IsSpotOf, pool_for}
 use Rattle.mcv_blocks.specs.Coverage.{JustifiedIsCovered}
 use Rattle.mcv_blocks.proofs.Answered.{equal_of, has_reason, list_equal, required_there}
 use Rattle.mcv_route.proofs.BreakTables.{era_numbered}
@@ -163,11 +163,12 @@ module _ (r : RoutesValue) (pairs : List PairValue) (sound : IsSoundRoutes r) (u
   at_member : (e : RouteEntry) (word member : List ℕ) (since : Option ℕ) → Contains r.entries e → Contains (class_words e.tree) word → IsMember (class_words e.tree) word (Some member) → IsEra r since → IsJustified (sizes_of r) e.tree member since
   at_member e word member since at listed has era =
       let number = era_numbered r since era in
-      let place : IsPlaceOf r at.0 word number.0 e.tree member since =
+      let spot : SpotValue = record { route = at.0; class = word; era = number.0 } in
+      let is : IsSpotOf r spot e.tree member since =
       record { entry = e; numbered = slice_get-get_or r.entries at.0 e at.1 ∙ ap Some at.2; has_tree = refl; listed = listed; has_member = has; opened = number.1 } in
-      let b = are.all at.0 word number.0 e.tree member since place in
+      let b = are.all spot e.tree member since is in
       let own = All-contains (IsBlockOf r) blocks b.0 are.only b.1 in
-      let block = block_has r at.0 word number.0 e.tree member since place b.0 own b.2 b.3 b.4 in
+      let block = block_has r spot e.tree member since is b.0 own b.2 in
       justified (sizes_of r) e.tree member since (entry_sized r e sound at) b.0 block
       (λ leaf readable i low. has_reason pairs blocks up fine b.0 leaf (required_there r blocks are b.0 b.1 leaf readable) i low)
 

@@ -1,9 +1,8 @@
--- A block is determined by its route, class and era, and so a list of all blocks by the routes.
+-- A block is determined by its spot, and so a list of all blocks by the routes.
 use Rattle.std.proofs.Common.{◌≡◌, ◌↔◌, ℕ, Bool, true, false, List, [], ◌∷◌, Option, Some, refl, sym, ap, ◌∙◌, subst, arith}
 use Rattle.std.specs.List.{Contains}
-use Rattle.std.specs.Cmp.{IsTotalOrder}
 use Rattle.std.specs.declared.cmp.Ordering.TheVariants.{Less}
-use Rattle.std.proofs.lemmas.Cmp.{nat_cmp_total, nat_list_cmp_total, on_total, then_total}
+use Rattle.std.proofs.lemmas.Cmp.{nat_list_cmp_total}
 use Rattle.std.proofs.lemmas.List.Elements.{All-contains}
 use Rattle.std.proofs.lemmas.Option.{same_Some}
 use Rattle.mcv_route.specs.Places.{pool_at_position}
@@ -11,11 +10,11 @@ use Rattle.mcv_route.specs.Routes.{RouteEntry, RoutesValue}
 use Rattle.mcv_route.specs.Tree.{Tree}
 use Rattle.mcv_classes.specs.Class.{IsMember}
 use Rattle.mcv_classes.specs.Words.{class_words}
-use Rattle.mcv_cert.specs.Pair.{list_cmp}
-use Rattle.mcv_judge.specs.Faults.{block_cmp}
+use Rattle.mcv_cert.specs.Pair.{SpotValue, list_cmp, spot_cmp}
+use Rattle.mcv_cert.proofs.Rising.{spots_total}
 use Rattle.mcv_judge.specs.Reason.{BlockValue, LegValue}
 use Rattle.mcv_symbolic.specs.Justified.{IsNeverAcknowledged, IsReadableAt}
-use Rattle.mcv_blocks.specs.Blocks.{AreBlocksOf, AreLeavesAt, IsAcknowledgedAt, IsBlockAt, IsBlockOf, IsPlaceOf, pool_for, positions_of}
+use Rattle.mcv_blocks.specs.Blocks.{AreBlocksOf, AreLeavesAt, IsAcknowledgedAt, IsBlockAt, IsBlockOf, IsSpotOf, pool_for, positions_of}
 use Rattle.mcv_blocks.specs.Coverage.{OneListOfBlocks}
 use Rattle.mcv_route.proofs.BreakTables.{one_era}
 use Rattle.mcv_route.proofs.RisingLists.{not_both, rising_same}
@@ -61,20 +60,17 @@ one_member words [] m n h g =
     h.1 ∙ ap (λ b. b ∷ []) same ∙ sym g.1
 one_member words (b ∷ word) m n h g = h.0 ∙ sym g.0
 
-one_place : (r : RoutesValue) (route : ℕ) (class : List ℕ) (era : ℕ) (t u : Tree) (m n : List ℕ) (s z : Option ℕ) → IsPlaceOf r route class era t m s → IsPlaceOf r route class era u n z → (t ≡ u) × (m ≡ n) × (s ≡ z)
-one_place r route class era t u m n s z h g =
+one_spot : (r : RoutesValue) (p : SpotValue) (t u : Tree) (m n : List ℕ) (s z : Option ℕ) → IsSpotOf r p t m s → IsSpotOf r p u n z → (t ≡ u) × (m ≡ n) × (s ≡ z)
+one_spot r p t u m n s z h g =
     let entry = same_Some h.entry g.entry (sym h.numbered ∙ g.numbered) in
     let tree : t ≡ u = sym h.has_tree ∙ ap (λ (e : RouteEntry). e.tree) entry ∙ g.has_tree in
-    (tree, one_member (class_words u) class m n (subst (λ x. IsMember (class_words x) class (Some m)) tree h.has_member) g.has_member, one_era r era s z h.opened g.opened)
+    (tree, one_member (class_words u) p.class m n (subst (λ x. IsMember (class_words x) p.class (Some m)) tree h.has_member) g.has_member, one_era r p.era s z h.opened g.opened)
 
--- what a block of the place has
-pub block_has : (r : RoutesValue) (route : ℕ) (class : List ℕ) (era : ℕ) (t : Tree) (m : List ℕ) (s : Option ℕ) → IsPlaceOf r route class era t m s → (b : BlockValue) → IsBlockOf r b → b.route ≡ route → b.class ≡ class → b.era ≡ era → IsBlockAt t m s b
-block_has r route class era t m s place b own e f g =
-    let here : IsPlaceOf r route class era own.tree own.member own.since =
-    subst (λ x. IsPlaceOf r route class x own.tree own.member own.since) g
-    (subst (λ x. IsPlaceOf r route x b.era own.tree own.member own.since) f
-    (subst (λ x. IsPlaceOf r x b.class b.era own.tree own.member own.since) e own.place)) in
-    let same = one_place r route class era t own.tree m own.member s own.since place here in
+-- what a block of the spot has
+pub block_has : (r : RoutesValue) (p : SpotValue) (t : Tree) (m : List ℕ) (s : Option ℕ) → IsSpotOf r p t m s → (b : BlockValue) → IsBlockOf r b → b.spot ≡ p → IsBlockAt t m s b
+block_has r p t m s is b own e =
+    let here : IsSpotOf r p own.tree own.member own.since = subst (λ x. IsSpotOf r x own.tree own.member own.since) e own.spot in
+    let same = one_spot r p t own.tree m own.member s own.since is here in
     subst (λ x. IsBlockAt x m s b) (sym same.0) (subst (λ x. IsBlockAt own.tree x s b) (sym same.1) (subst (λ x. IsBlockAt own.tree own.member x b) (sym same.2) own.has))
 
 -- ---- blocks
@@ -85,28 +81,25 @@ same_test true false N h g = h.1 (g.0 refl)
 same_test false true N h g = sym (g.1 (h.0 refl))
 same_test false false N h g = refl
 
-pub one_block : (r : RoutesValue) (b c : BlockValue) → IsBlockOf r b → IsBlockOf r c → b.route ≡ c.route → b.class ≡ c.class → b.era ≡ c.era → b ≡ c
-one_block r b c h g route class era =
+pub one_block : (r : RoutesValue) (b c : BlockValue) → IsBlockOf r b → IsBlockOf r c → b.spot ≡ c.spot → b ≡ c
+one_block r b c h g spot =
     let t = h.tree in
     let m = h.member in
     let s = h.since in
-    let other = block_has r b.route b.class b.era t m s h.place c g (sym route) (sym class) (sym era) in
+    let other = block_has r b.spot t m s h.spot c g (sym spot) in
     let readable = one_list_of_legs t (IsReadableAt t m s) b.readable c.readable h.has.readable other.readable in
     let acknowledged = one_list_of_legs t (IsAcknowledgedAt t m s) b.acknowledged c.acknowledged h.has.acknowledged other.acknowledged in
     let can = same_test b.can_be_acknowledged c.can_be_acknowledged (IsNeverAcknowledged t m s) h.has.never other.never in
-    λ i. record { route = route i; class = class i; era = era i; readable = readable i; acknowledged = acknowledged i; can_be_acknowledged = can i }
-
-blocks_total : IsTotalOrder block_cmp
-blocks_total = then_total (on_total (λ (b : BlockValue). b.route) nat_cmp_total) (then_total (on_total (λ (b : BlockValue). b.class) nat_list_cmp_total) (on_total (λ (b : BlockValue). b.era) nat_cmp_total))
+    λ i. record { spot = spot i; readable = readable i; acknowledged = acknowledged i; can_be_acknowledged = can i }
 
 block_too : (r : RoutesValue) (blocks others : List BlockValue) → AreBlocksOf r blocks → AreBlocksOf r others → (b : BlockValue) → Contains blocks b → Contains others b
 block_too r blocks others h g b at =
     let own = All-contains (IsBlockOf r) blocks b h.only at in
-    let other = g.all b.route b.class b.era own.tree own.member own.since own.place in
+    let other = g.all b.spot own.tree own.member own.since own.spot in
     let is = All-contains (IsBlockOf r) others other.0 g.only other.1 in
-    subst (Contains others) (one_block r other.0 b is own other.2 other.3 other.4) other.1
+    subst (Contains others) (one_block r other.0 b is own other.2) other.1
 
 pub one_list_of_blocks : OneListOfBlocks
 one_list_of_blocks r blocks others h g =
-    rising_same (λ (b c : BlockValue). block_cmp b c ≡ Less) (λ b c x y. not_both (block_cmp b c) (block_cmp c b) (blocks_total.antisymm b c) x y) blocks others h.rising g.rising
+    rising_same (λ (b c : BlockValue). spot_cmp b.spot c.spot ≡ Less) (λ b c x y. not_both (spot_cmp b.spot c.spot) (spot_cmp c.spot b.spot) (spots_total.antisymm b.spot c.spot) x y) blocks others h.rising g.rising
     (block_too r blocks others h g) (block_too r others blocks g h)

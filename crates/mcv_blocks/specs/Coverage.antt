@@ -18,5 +18,5 @@ JustifiedIsCovered = (r : RoutesValue) (pairs : List PairValue) → IsSoundRoute
 -- where routes are covered, some reason answers for each leaf that can be read, at each of its indexes. Each symbol has an index (were there one without, no choice would be left, and all would be covered), and class words are of bytes (no rest has others)
 abbrev pub CoveredHasReasons : Type 0
 CoveredHasReasons =
-    (r : RoutesValue) (b : BlockValue) (leaf : LegValue) (i : ℕ) → IsSoundRoutes r → All (λ n. 0 < n) (sizes_of r) → AreCovered r → IsBlockOf r b → All (λ c. c < 256) b.class → Contains b.readable leaf → i < length leaf.servers
+    (r : RoutesValue) (b : BlockValue) (leaf : LegValue) (i : ℕ) → IsSoundRoutes r → All (λ n. 0 < n) (sizes_of r) → AreCovered r → IsBlockOf r b → All (λ c. c < 256) b.spot.class → Contains b.readable leaf → i < length leaf.servers
     → HasReason b leaf i

@@ -70,10 +70,10 @@ clean_reason (all index legs) fits =
 
 pub clean_words : (p : PairValue) → IsPair p → AreClean (pair_words p)
 clean_words p is = (
-  clean_decimal p.route is.route,
+  clean_decimal p.place.spot.route is.spot.route,
   (
-    All-cons (λ b. 32 < b) 61 (escaped p.class) (omega arith) (clean_escaped p.class),
-    (clean_decimal p.era is.era, (clean_position p.leaf is.leaf, clean_reason p.reason is.reason)),
+    All-cons (λ b. 32 < b) 61 (escaped p.place.spot.class) (omega arith) (clean_escaped p.place.spot.class),
+    (clean_decimal p.place.spot.era is.spot.era, (clean_position p.place.leaf is.leaf, clean_reason p.reason is.reason)),
   ),
 )
 

@@ -8,6 +8,18 @@ use Rattle.std.specs.declared.cmp.Ordering.TheVariants.{Less}
 use Rattle.mcv_cert.specs.declared.pair.Reason.{Reason}
 use Rattle.mcv_cert.specs.declared.pair.Reason.TheVariants as reasons
 use Rattle.mcv_cert.specs.declared.pair.Pair.{Pair}
+use Rattle.mcv_cert.specs.declared.place.Place.{Place}
+
+-- what a block is of: the rests of a class of a route, in an era
+pub record SpotValue : Type 0 where
+  pub route : ℕ
+  pub class : List ℕ
+  pub era : ℕ
+
+-- where a leaf is: at which spot, and at which position in the route's tree
+pub record PlaceValue : Type 0 where
+  pub spot : SpotValue
+  pub leaf : List ℕ
 
 -- why each delete that is acknowledged was sent to a leaf's server. Legs are named by their positions
 pub data ReasonValue : Type 0 where
@@ -22,10 +34,7 @@ pub data ReasonValue : Type 0 where
 
 -- a leaf that can be read, at one index or at all, and why a delete reaches its server
 pub record PairValue : Type 0 where
-  pub route : ℕ
-  pub class : List ℕ
-  pub era : ℕ
-  pub leaf : List ℕ
+  pub place : PlaceValue
   pub reason : ReasonValue
 
 -- ---- what the code's values mean
@@ -36,28 +45,25 @@ reason_of (reasons.Twin leg) = twin leg
 reason_of (reasons.Same index leg) = same index leg
 reason_of (reasons.All index legs) = all index legs.items
 
+abbrev pub place_of : Place → PlaceValue
+place_of p = record { spot = record { route = p.route; class = p.class.items; era = p.era }; leaf = p.leaf }
+
 abbrev pub pair_of : Pair → PairValue
-pair_of p = record { route = p.route; class = p.class.items; era = p.era; leaf = p.leaf; reason = reason_of p.reason }
+pair_of p = record { place = place_of p.place; reason = reason_of p.reason }
 
 -- ---- order
-
--- where a leaf is: of which route, for the rests of which class, in which era, and at which position
-pub record Place : Type 0 where
-  pub route : ℕ
-  pub class : List ℕ
-  pub era : ℕ
-  pub leaf : List ℕ
-
-abbrev pub place_of : PairValue → Place
-place_of p = record { route = p.route; class = p.class; era = p.era; leaf = p.leaf }
 
 -- lists of numbers, a prefix before its longer ones
 abbrev pub list_cmp : List ℕ → List ℕ → Ordering
 list_cmp = slice_cmp nat_cmp
 
--- by route, class (bytes), era and leaf
-unfoldable pub place_cmp : Place → Place → Ordering
-place_cmp p q = ordering_then (nat_cmp p.route q.route) (ordering_then (list_cmp p.class q.class) (ordering_then (nat_cmp p.era q.era) (list_cmp p.leaf q.leaf)))
+-- by route, class (bytes) and era
+abbrev pub spot_cmp : SpotValue → SpotValue → Ordering
+spot_cmp s t = ordering_then (ordering_then (nat_cmp s.route t.route) (list_cmp s.class t.class)) (nat_cmp s.era t.era)
+
+-- by spot, then by leaf
+unfoldable pub place_cmp : PlaceValue → PlaceValue → Ordering
+place_cmp p q = ordering_then (spot_cmp p.spot q.spot) (list_cmp p.leaf q.leaf)
 
 -- a reason that speaks of all indexes is at 0
 abbrev pub index_of : ReasonValue → ℕ
@@ -67,11 +73,11 @@ index_of (same index leg) = index
 index_of (all index legs) = index
 
 -- an index at a place: by place, then by index
-abbrev pub index_cmp : Place → ℕ → Place → ℕ → Ordering
+abbrev pub index_cmp : PlaceValue → ℕ → PlaceValue → ℕ → Ordering
 index_cmp p i q j = ordering_then (place_cmp p q) (nat_cmp i j)
 
 abbrev pub pair_cmp : PairValue → PairValue → Ordering
-pair_cmp p q = index_cmp (place_of p) (index_of p.reason) (place_of q) (index_of q.reason)
+pair_cmp p q = index_cmp p.place (index_of p.reason) q.place (index_of q.reason)
 
 -- each pair comes before all later ones
 abbrev pub AreRising : List PairValue → Type 0
@@ -109,11 +115,15 @@ FitsReason (twin leg) = FitsPosition leg
 FitsReason (same index leg) = (index < 2 ^ 64) × FitsPosition leg
 FitsReason (all index legs) = (index < 2 ^ 64) × All FitsPosition legs
 
+-- a spot whose numbers have 64 bits, and its class bytes
+pub record FitsSpot (s : SpotValue) : Type 0 where
+  pub route : s.route < 2 ^ 64
+  pub class : All (λ b. b < 256) s.class
+  pub era : s.era < 2 ^ 64
+
 -- a pair whose numbers have 64 bits, and that names a leg where it has to: such pairs have a text
 pub record IsPair (p : PairValue) : Type 0 where
-  pub route : p.route < 2 ^ 64
-  pub class : All (λ b. b < 256) p.class
-  pub era : p.era < 2 ^ 64
-  pub leaf : FitsPosition p.leaf
+  pub spot : FitsSpot p.place.spot
+  pub leaf : FitsPosition p.place.leaf
   pub reason : FitsReason p.reason
   pub legs : NamesLegs p

@@ -53,10 +53,10 @@ fn reason_fits(reason: &Reason)
 pub fn pair_fits(pair: &Pair)
     ensures { NamesLegs (pair_of pair.now) → IsPair (pair_of pair.now) }
 {
-    number_fits(pair.route);
-    bytes_fit(&pair.class);
-    number_fits(pair.era);
-    steps_fit(pair.leaf.steps());
+    number_fits(pair.place.route);
+    bytes_fit(&pair.place.class);
+    number_fits(pair.place.era);
+    steps_fit(pair.place.leaf.steps());
     reason_fits(&pair.reason);
 }
 

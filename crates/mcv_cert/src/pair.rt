@@ -3,6 +3,7 @@
 ghost use Rattle.std.specs.Prelude.{◌≡◌};
 ghost use Rattle.mcv_cert.specs.Pair.{index_of, names_legs, pair_cmp, pair_of, reason_of};
 
+use crate::place::Place;
 use mcv_base::Position;
 use std::cmp::Ordering;
 
@@ -46,28 +47,17 @@ impl Reason {
 /// A line of a certificate.
 #[derive(Drop)]
 pub struct Pair {
-    /// The number of the route, from 0.
-    pub route: usize,
-    /// The bytes of the class word.
-    pub class: Vec<u8>,
-    /// The number of the era, from 0.
-    pub era: usize,
-    /// The position of the leaf.
-    pub leaf: Position,
+    pub place: Place,
     pub reason: Reason,
 }
 
 impl Pair {
     /// How the two come in a certificate: by route, class, era, leaf and index.
-    #[tactic(auto, unfolding(crate::specs::Pair::place_cmp))]
     pub fn compare(&self, other: &Pair) -> Ordering
         ensures { result ≡ pair_cmp (pair_of self.now) (pair_of other.now) }
     {
-        self.route
-            .cmp(&other.route)
-            .then(self.class.as_slice().cmp(other.class.as_slice()))
-            .then(self.era.cmp(&other.era))
-            .then(self.leaf.steps().cmp(other.leaf.steps()))
+        self.place
+            .compare(&other.place)
             .then(self.reason.index().cmp(&other.reason.index()))
     }
 }

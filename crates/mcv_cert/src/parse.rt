@@ -12,6 +12,7 @@ ghost use Rattle.mcv_cert.specs.Text.{pair_text, pair_words, reason_words};
 use crate::escape::unescaped;
 use crate::fits::pair_fits;
 use crate::pair::{Pair, Reason};
+use crate::place::Place;
 use mcv_base::Position;
 use std::alloc::{AllocError, Global};
 use std::str;
@@ -232,13 +233,13 @@ fn pair_of_words(
     let Some(reason) = read_reason(alloc, reason, steps)? else {
         return Ok(None);
     };
-    let pair = Pair {
+    let place = Place {
         route,
         class,
         era,
         leaf,
-        reason,
     };
+    let pair = Pair { place, reason };
     pair_fits(&pair);
     Ok(Some(pair))
 }

@@ -13,7 +13,7 @@ use Rattle.mcv_route.specs.Routes.{IsSoundRoutes, RoutesValue}
 use Rattle.mcv_route.specs.Eras.{HasEra}
 use Rattle.mcv_blocks.specs.Blocks.{IsJustifiedBy}
 use Rattle.mcv_blocks.specs.Places.{AreRouteClasses}
-use Rattle.mcv_blocks.specs.Spots.{spots_of}
+use Rattle.mcv_blocks.specs.Spots.{classes_in_eras}
 use Rattle.mcv_blocks.specs.declared.classes.RouteClass.{RouteClass}
 use Rattle.mcv_blocks.proofs.BlocksOfSpots.{blocks_of_spots, in_order, spots_are}
 use Rattle.mcv_certify.specs.Made.{AddsFor}
@@ -38,13 +38,13 @@ leaf_names b leaf ps (inr h) = λ k d low. names b leaf (get_or ps k d).reason (
 all_name : (blocks : List BlockValue) (ps : List PairValue) → AnswersAll blocks ps → All NamesLegs ps
 all_name blocks ps h = in_turn_all AnswersBlock (λ b own a. in_turn_all (AnswersLeaf b) (leaf_names b) b.readable own a) blocks ps h
 
-module _ (r : RoutesValue) (cs : List RouteClass) (n : ℕ) (ps : List PairValue) (sound : IsSoundRoutes r) (classes : AreRouteClasses r cs) (count : (era : ℕ) → (era < n) ↔ HasEra r era) (h : AddsFor r (spots_of cs n) [] ps) where
+module _ (r : RoutesValue) (cs : List RouteClass) (n : ℕ) (ps : List PairValue) (sound : IsSoundRoutes r) (classes : AreRouteClasses r cs) (count : (era : ℕ) → (era < n) ↔ HasEra r era) (h : AddsFor r (classes_in_eras cs n) [] ps) where
   answers : AnswersAll h.blocks ps
   answers = subst (AnswersAll h.blocks) (sym h.adds.added) h.adds.have
 
   pub is_certificate : IsCertificate ps
   is_certificate = record {
-    rising = (answered_faultless h.blocks ps (in_order r (spots_of cs n) h.blocks sound (spots_are r cs n classes count) h.blocks_are) answers).0;
+    rising = (answered_faultless h.blocks ps (in_order r (classes_in_eras cs n) h.blocks sound (spots_are r cs n classes count) h.blocks_are) answers).0;
     legs = all_name h.blocks ps answers;
   }
 
@@ -52,9 +52,9 @@ module _ (r : RoutesValue) (cs : List RouteClass) (n : ℕ) (ps : List PairValue
   is_justified = (
     h.blocks,
     blocks_of_spots r cs n h.blocks classes count h.blocks_are,
-    (answered_faultless h.blocks ps (in_order r (spots_of cs n) h.blocks sound (spots_are r cs n classes count) h.blocks_are) answers).1,
+    (answered_faultless h.blocks ps (in_order r (classes_in_eras cs n) h.blocks sound (spots_are r cs n classes count) h.blocks_are) answers).1,
   )
 
 -- pairs that were added to none
-pub are_picked : (r : RoutesValue) (cs : List RouteClass) (n : ℕ) (ps : List PairValue) → AddsFor r (spots_of cs n) [] ps → All (IsPickedOf r) ps
+pub are_picked : (r : RoutesValue) (cs : List RouteClass) (n : ℕ) (ps : List PairValue) → AddsFor r (classes_in_eras cs n) [] ps → All (IsPickedOf r) ps
 are_picked r cs n ps h = subst (All (IsPickedOf r)) (sym h.picked.added) h.picked.have

@@ -14,10 +14,10 @@ use Rattle.mcv_blocks.proofs.Unique.{pool_of_leg}
 -- a server that a readable leaf has is one of the table
 pub server_known : (r : RoutesValue) → IsSoundRoutes r → (b : BlockValue) → IsBlockOf r b → (l : LegValue) (i x : ℕ) → Contains b.readable l → slice_get l.servers i ≡ Some x → x < length r.servers
 server_known r sound b own l i x has is =
-    let entry = own.place.entry in
-    let there : Contains r.entries entry = (b.route, slice_get_within r.entries b.route entry own.place.numbered, get_or_from_slice_get r.entries b.route entry entry own.place.numbered) in
+    let entry = own.spot.entry in
+    let there : Contains r.entries entry = (b.spot.route, slice_get_within r.entries b.spot.route entry own.spot.numbered, get_or_from_slice_get r.entries b.spot.route entry entry own.spot.numbered) in
     let tree : IsSoundTree (length r.servers) r.symbols entry.tree = All-contains (λ (e : RouteEntry). IsSoundTree (length r.servers) r.symbols e.tree) r.entries entry sound there in
-    let same : IsSoundTree (length r.servers) r.symbols own.tree = subst (IsSoundTree (length r.servers) r.symbols) own.place.has_tree tree in
+    let same : IsSoundTree (length r.servers) r.symbols own.tree = subst (IsSoundTree (length r.servers) r.symbols) own.spot.has_tree tree in
     let pool = pool_of_leg own.tree (IsReadableAt own.tree own.member own.since) b.readable own.has.readable l has in
     let known = (pool_sound (length r.servers) r.symbols own.tree l.position (pool_for l) same pool).known in
     subst (λ y. y < length r.servers) (get_or_from_slice_get l.servers i x x is) (known i x (slice_get_within l.servers i x is))

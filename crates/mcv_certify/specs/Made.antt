@@ -1,7 +1,7 @@
 -- How the code goes from block to block. Only private contracts cite this.
 use Rattle.std.specs.Prelude.{All, ◌≡◌, ◌<◌, ◌++◌, ◌∷◌, ℕ, List, Some}
 use Rattle.std.specs.List.{AllZip}
-use Rattle.mcv_cert.specs.Pair.{PairValue}
+use Rattle.mcv_cert.specs.Pair.{PairValue, place_of}
 use Rattle.mcv_judge.specs.Answers.{AnswersAll, AnswersBlock}
 use Rattle.mcv_judge.specs.Faults.{place_required, require}
 use Rattle.mcv_judge.specs.Reason.{BlockValue, HasReasons, LegValue, server_at}
@@ -11,9 +11,8 @@ use Rattle.mcv_pairs.specs.Gaps.{IsFirstGapIn, IsSized}
 use Rattle.mcv_pairs.specs.Reasons.{IsPickedIn}
 use Rattle.mcv_blocks.specs.Blocks.{AreLeavesAt, IsAcknowledgedAt}
 use Rattle.mcv_blocks.specs.Sets.{SetsValue}
-use Rattle.mcv_blocks.specs.Spots.{IsBlockFor, IsBlockWith, Spot}
+use Rattle.mcv_blocks.specs.Spots.{IsBlockFor, IsBlockWith, ClassInEra}
 use Rattle.mcv_blocks.specs.declared.classes.RouteClass.{RouteClass}
-use Rattle.mcv_certify.specs.Gap.{place_of_gap}
 use Rattle.mcv_certify.specs.Picked.{IsPickedOf}
 use Rattle.mcv_certify.specs.declared.gap.Gap.{Gap}
 
@@ -29,7 +28,7 @@ pub record AddsWith (s : SetsValue) (c : RouteClass) (number : ℕ) (old new : L
   pub picked : Adds (All (IsPickedIn block)) old new
 
 -- pairs were added that answer blocks at these spots
-pub record AddsFor (r : RoutesValue) (spots : List Spot) (old new : List PairValue) : Type 0 where
+pub record AddsFor (r : RoutesValue) (spots : List ClassInEra) (old new : List PairValue) : Type 0 where
   pub blocks : List BlockValue
   pub blocks_are : AllZip (IsBlockFor r) spots blocks
   pub adds : Adds (AnswersAll blocks) old new
@@ -39,9 +38,9 @@ pub record AddsFor (r : RoutesValue) (spots : List Spot) (old new : List PairVal
 pub record ReportsGapOf (b : BlockValue) (f : Gap) : Type 0 where
   pub number : ℕ
   pub gap : IsFirstGapIn b number f.at
-  pub placed : place_required (require b gap.leaf) ≡ place_of_gap f
+  pub placed : place_required (require b gap.leaf) ≡ place_of f.place
   pub has : server_at gap.leaf f.at ≡ Some f.server.0
-  pub bytes : All (λ c. c < 256) f.class.items
+  pub bytes : All (λ c. c < 256) f.place.class.items
 
 -- that of the block of the sets
 pub record ReportsGapWith (s : SetsValue) (c : RouteClass) (number : ℕ) (f : Gap) : Type 0 where
@@ -50,16 +49,16 @@ pub record ReportsGapWith (s : SetsValue) (c : RouteClass) (number : ℕ) (f : G
   pub reports : ReportsGapOf block f
 
 -- that of the block at the spot
-pub record ReportsGapAt (r : RoutesValue) (s : Spot) (f : Gap) : Type 0 where
+pub record ReportsGapAt (r : RoutesValue) (s : ClassInEra) (f : Gap) : Type 0 where
   pub block : BlockValue
   pub block_is : IsBlockFor r s block
   pub reports : ReportsGapOf block f
 
 -- that of the block at one of the spots, and blocks at those before it have a reason for each index
-pub record ReportsGapIn (r : RoutesValue) (spots : List Spot) (f : Gap) : Type 0 where
-  pub before : List Spot
-  pub spot : Spot
-  pub behind : List Spot
+pub record ReportsGapIn (r : RoutesValue) (spots : List ClassInEra) (f : Gap) : Type 0 where
+  pub before : List ClassInEra
+  pub spot : ClassInEra
+  pub behind : List ClassInEra
   pub parts : spots ≡ before ++ spot ∷ behind
   pub blocks : List BlockValue
   pub blocks_are : AllZip (IsBlockFor r) before blocks

@@ -13,7 +13,7 @@ ghost use Rattle.mcv_certify.specs.Made.{AddsWith, AreLegsSized, ReportsGapOf, R
 use crate::gap::{CertifyFault, gap_of};
 use mcv_blocks::{RouteClass, Sets};
 use mcv_cert::Pair;
-use mcv_judge::Block;
+use mcv_judge::{Block, Spot};
 use mcv_pairs::push_block;
 use std::alloc::Global;
 
@@ -46,9 +46,11 @@ pub fn push_sets(
     let readable = sets.readable(alloc)?;
     let acknowledged = sets.acknowledged(alloc)?;
     let block = Block {
-        route: class.route,
-        class: class.class.word(),
-        era,
+        spot: Spot {
+            route: class.route,
+            class: class.class.word(),
+            era,
+        },
         readable: readable.as_slice(),
         acknowledged: acknowledged.as_slice(),
         can_be_acknowledged: sets.can_be_acknowledged(),

@@ -8,7 +8,7 @@ use Rattle.mcv_judge.specs.declared.fault.PairFault.{PairFault}
 use Rattle.mcv_route.specs.Eras.{HasEra, IsEraOf}
 use Rattle.mcv_route.specs.Routes.{RouteEntry, RoutesValue}
 use Rattle.mcv_blocks.specs.Sets.{SetsValue}
-use Rattle.mcv_blocks.specs.Spots.{AreSpotsOf, IsBlockFor, IsBlockWith, Spot}
+use Rattle.mcv_blocks.specs.Spots.{AreClassesInEras, IsBlockFor, IsBlockWith, ClassInEra}
 use Rattle.mcv_blocks.specs.declared.classes.RouteClass.{RouteClass}
 use Rattle.mcv_check.specs.declared.fault.CheckFault.{CheckFault}
 use Rattle.mcv_check.specs.declared.fault.CheckFault.TheVariants.{Memory, Pair}
@@ -41,14 +41,14 @@ StopsWith s c number pairs (Pair fault) = IsFirstWith s c number pairs fault
 StopsWith s c number pairs Memory = ⊤
 
 -- the pairs have with the blocks at all spots the faults that those left have with the blocks at the spots left
-abbrev pub IsJudged : RoutesValue → List PairValue → List Spot → List PairValue → List Spot → Type 0
+abbrev pub IsJudged : RoutesValue → List PairValue → List ClassInEra → List PairValue → List ClassInEra → Type 0
 IsJudged r pairs all rest left = (later : List BlockValue) → AllZip (IsBlockFor r) left later → (blocks : List BlockValue) × AllZip (IsBlockFor r) all blocks × HaveSameFaults pairs blocks rest later
 
 -- these pairs are left behind the spots, whatever spots come later
-abbrev pub Leaves : RoutesValue → List PairValue → List Spot → List PairValue → Type 0
-Leaves r pairs spots rest = (more : List Spot) → AreSpotsOf r (spots ++ more) → IsJudged r pairs (spots ++ more) rest more
+abbrev pub Leaves : RoutesValue → List PairValue → List ClassInEra → List PairValue → Type 0
+Leaves r pairs spots rest = (more : List ClassInEra) → AreClassesInEras r (spots ++ more) → IsJudged r pairs (spots ++ more) rest more
 
 -- the fault is the first, whatever spots come later. Memory may run out anywhere
-abbrev pub Stops : RoutesValue → List PairValue → List Spot → CheckFault → Type 0
-Stops r pairs spots (Pair fault) = (more : List Spot) → AreSpotsOf r (spots ++ more) → (blocks : List BlockValue) × AllZip (IsBlockFor r) (spots ++ more) blocks × IsFirstFault pairs blocks fault
+abbrev pub Stops : RoutesValue → List PairValue → List ClassInEra → CheckFault → Type 0
+Stops r pairs spots (Pair fault) = (more : List ClassInEra) → AreClassesInEras r (spots ++ more) → (blocks : List BlockValue) × AllZip (IsBlockFor r) (spots ++ more) blocks × IsFirstFault pairs blocks fault
 Stops r pairs spots Memory = ⊤

@@ -11,7 +11,7 @@ use Rattle.mcv_route.specs.Routes.{RoutesValue}
 use Rattle.mcv_symbolic.specs.Covered.{AreCovered}
 use Rattle.mcv_world.specs.Laws.{HasReply, IsWorld}
 use Rattle.mcv_world.specs.Live.{has_ended, live_of, running}
-use Rattle.mcv_world.specs.Moves.{Move, Began, Answered, WasSpooled, WasRefused, WasPerformed, EraBegan, Taken, after, answered_place, changed, counted_as, has_no_outcome, is_move, new_call, placed, recorded_by, recorded_for, recorded_if, run, with_call, with_leg, with_reply, with_taken}
+use Rattle.mcv_world.specs.Moves.{Move, Began, Answered, WasSpooled, WasRefused, WasPerformed, EraBegan, Taken, after, answered_state, changed, counted_as, has_no_outcome, is_move, new_call, with_leg_state, recorded_by, recorded_for, recorded_if, run, with_call, with_leg, with_reply, with_taken}
 use Rattle.mcv_world.specs.Possible.{IsPossible}
 use Rattle.mcv_world.specs.World.{Spooled, Call, Leg, World, put, reply_of}
 use Rattle.mcv_world.proofs.DeletesAreKept.{covered_worlds_are_kept}
@@ -89,8 +89,8 @@ changed_called r w (Began op route rest choice) i k call h =
     let ne : w.next_call ≡ k → ⊥ = λ e. omega (arith, low, e) in
     record { now = h.now; is = put_other w.calls w.next_call k (Some (new_call w op route rest choice)) ne ∙ h.is; op = h.op; route = h.route; rest = h.rest; choice = h.choice }
 changed_called r w (Answered n y) i k call h = with_leg_called w (w.legs n) _ k call h (λ z.
-    let v = counted_as z.launch.op y in recorded_called r (placed w n z (answered_place z.launch.op v)) z v z.call k call h)
-changed_called r w (WasSpooled n) i k call h = with_leg_called w (w.legs n) _ k call h (λ z. recorded_called r (placed w n z Spooled) z not_found z.call k call h)
+    let v = counted_as z.launch.op y in recorded_called r (with_leg_state w n z (answered_state z.launch.op v)) z v z.call k call h)
+changed_called r w (WasSpooled n) i k call h = with_leg_called w (w.legs n) _ k call h (λ z. recorded_called r (with_leg_state w n z Spooled) z not_found z.call k call h)
 changed_called r w (WasRefused n) i k call h = with_leg_called w (w.legs n) _ k call h (λ z. recorded_called r w z (fixed_value Lost) z.call k call h)
 changed_called r w (WasPerformed n) i k call h = with_leg_called w (w.legs n) _ k call h (λ z. h)
 changed_called r w (EraBegan since) i k call h = h

@@ -18,7 +18,7 @@ use Rattle.mcv_spool.specs.declared.record.Stored.{Stored}
 use Rattle.mcv_world.specs.Moves.{Began, Taken, is_move}
 use Rattle.mcv_world.specs.World.{reply_of}
 use Rattle.mcv_events.specs.Rows.{world_of}
-use Rattle.mcv_core.specs.Answers.{call_answer, done_answer, leg_answer, place_answer, reply_answer}
+use Rattle.mcv_core.specs.Answers.{call_answer, done_answer, leg_answer, state_answer, reply_answer}
 use Rattle.mcv_core.specs.declared.begin.Asked.{Asked}
 use Rattle.mcv_core.specs.Asking.{HasBegunFor, IsAsked, IsRefusedFor}
 use Rattle.mcv_core.specs.Beginning.{HasBegun, IsFull}
@@ -90,19 +90,19 @@ module _ (chosen : SymbolValue → List ℕ → ℕ) (v w : CoreView) where
   replays server (Ok leg) h same = answered_by chosen v w _ _ (None) (replayed server leg w h)
   replays server (Err fault) h same = refuse (event.Replay server) fault same
 
-  pub answers : (leg : LegId) (reply : ReplyValue) (e : Effect) (r : Result Done CoreFault) → HasEffect e v w r → IfOk r (λ s. Does v w (change_move leg.0 reply s.change)) → IsAnswered chosen v (event.Answered leg reply) (place_answer r) w
+  pub answers : (leg : LegId) (reply : ReplyValue) (e : Effect) (r : Result Done CoreFault) → HasEffect e v w r → IfOk r (λ s. Does v w (change_move leg.0 reply s.change)) → IsAnswered chosen v (event.Answered leg reply) (state_answer r) w
   answers leg reply e (Ok s) h does_so = answered_by chosen v w _ _ (change_move leg.0 reply s.change) (answered leg reply s w does_so)
   answers leg reply e (Err fault) h does_so = refuse (event.Answered leg reply) fault (effect_same e v w (Err fault) h)
 
-  pub loses : (leg : LegId) (e : Effect) (r : Result Done CoreFault) → HasEffect e v w r → IfOk r (λ s. Does v w (change_move leg.0 (fixed_value Lost) s.change)) → IsAnswered chosen v (event.Lost leg) (place_answer r) w
+  pub loses : (leg : LegId) (e : Effect) (r : Result Done CoreFault) → HasEffect e v w r → IfOk r (λ s. Does v w (change_move leg.0 (fixed_value Lost) s.change)) → IsAnswered chosen v (event.Lost leg) (state_answer r) w
   loses leg e (Ok s) h does_so = answered_by chosen v w _ _ (change_move leg.0 (fixed_value Lost) s.change) (lost leg s w does_so)
   loses leg e (Err fault) h does_so = refuse (event.Lost leg) fault (effect_same e v w (Err fault) h)
 
-  pub stores : (leg : LegId) (stored : Stored) (e : Effect) (r : Result Done CoreFault) → HasEffect e v w r → IfOk r (λ s. Does v w (change_move leg.0 not_found s.change)) → IsAnswered chosen v (event.Spooled leg stored) (place_answer r) w
+  pub stores : (leg : LegId) (stored : Stored) (e : Effect) (r : Result Done CoreFault) → HasEffect e v w r → IfOk r (λ s. Does v w (change_move leg.0 not_found s.change)) → IsAnswered chosen v (event.Spooled leg stored) (state_answer r) w
   stores leg stored e (Ok s) h does_so = answered_by chosen v w _ _ (change_move leg.0 not_found s.change) (spooled leg stored s w does_so)
   stores leg stored e (Err fault) h does_so = refuse (event.Spooled leg stored) fault (effect_same e v w (Err fault) h)
 
-  pub refuses_it : (leg : LegId) (e : Effect) (r : Result Done CoreFault) → HasEffect e v w r → IfOk r (λ s. Does v w (change_move leg.0 (fixed_value Lost) s.change)) → IsAnswered chosen v (event.SpoolRefused leg) (place_answer r) w
+  pub refuses_it : (leg : LegId) (e : Effect) (r : Result Done CoreFault) → HasEffect e v w r → IfOk r (λ s. Does v w (change_move leg.0 (fixed_value Lost) s.change)) → IsAnswered chosen v (event.SpoolRefused leg) (state_answer r) w
   refuses_it leg e (Ok s) h does_so = answered_by chosen v w _ _ (change_move leg.0 (fixed_value Lost) s.change) (spool_refused leg s w does_so)
   refuses_it leg e (Err fault) h does_so = refuse (event.SpoolRefused leg) fault (effect_same e v w (Err fault) h)
 

@@ -8,7 +8,7 @@ use Rattle.mcv_queues.specs.Marks.{answered_mark, lost_mark}
 use Rattle.mcv_world.specs.World.{is_counted_delete}
 use Rattle.mcv_world.specs.Moves.{counted_as, has_no_outcome, is_error_reply, is_one}
 use Rattle.mcv_events.specs.Rows as rows
-use Rattle.mcv_events.specs.Rows.{CallRow, IsCore, LegRow, awaits, leg_of, place_of, with_leg_row}
+use Rattle.mcv_events.specs.Rows.{CallRow, IsCore, LegRow, awaits, leg_of, leg_state, with_leg_row}
 use Rattle.mcv_events.proofs.EventsAreMoves.{answered_moves, performed_moves, refused_moves, spooled_moves, states_are_no_moves, states_keep_cores}
 use Rattle.mcv_core.specs.declared.step.Step.{Step}
 use Rattle.mcv_core.specs.CoreView.{CoreView, Does, Effect, HasEffect, answer_at, answer_in, at_row, change_move, does, finished, flies, held, is_record, loss_at, loss_in, refuses, refusing_at, refusing_in, replayed_in, sent_in, spooling_at, spooling_in, with_mark}
@@ -34,7 +34,7 @@ module _ (v : CoreView) (core : IsCore v.routes v.rows) (n : ℕ) (s : LegRow) (
   sent g x is =
       by_test v n x (is_counted_delete (leg_of s) && is_error_reply (counted_as s.launch.op x)) (held (with_mark v s.launch.server.0 g) n s) (finished (with_mark v s.launch.server.0 g) n (counted_as s.launch.op x) s)
       (λ e. record {
-        world = states_are_no_moves v.rows n s rows.Held at (sym (ap place_of is));
+        world = states_are_no_moves v.rows n s rows.Held at (sym (ap leg_state is));
         core = states_keep_cores v.routes v.rows n s rows.Held core at (λ t. absurd (true≢false (sym t))) (λ t. both_first (is_counted_delete (leg_of s)) _ e);
         routes = refl;
       })

@@ -24,7 +24,7 @@ Beginning = (Request × ℕ) × ℕ
 abbrev pub begun_call : Answer → Option ℕ
 begun_call (answer.Call call) = Some call.0
 begun_call (answer.Leg leg) = None
-begun_call (answer.Place place) = None
+begun_call (answer.State state) = None
 begun_call (answer.Reply reply) = None
 begun_call answer.Done = None
 begun_call (answer.Refused fault) = None
@@ -46,7 +46,7 @@ beginning_of (event.Take call) a = None
 abbrev pub taken_reply : Answer → Option Part
 taken_reply (answer.Call call) = None
 taken_reply (answer.Leg leg) = None
-taken_reply (answer.Place place) = None
+taken_reply (answer.State state) = None
 taken_reply (answer.Reply reply) = reply
 taken_reply answer.Done = None
 taken_reply (answer.Refused fault) = None

@@ -19,8 +19,8 @@ use Rattle.mcv_core.specs.declared.fault.CoreFault.{CoreFault}
 use Rattle.mcv_core.specs.declared.fault.CoreFault.TheVariants.{NoSuchLeg}
 use Rattle.mcv_core.specs.declared.step.Change.{Change}
 use Rattle.mcv_core.specs.declared.step.Change.TheVariants as changes
-use Rattle.mcv_core.specs.declared.step.Place.{Place}
-use Rattle.mcv_core.specs.declared.step.Place.TheVariants as places
+use Rattle.mcv_core.specs.declared.step.LegState.{LegState}
+use Rattle.mcv_core.specs.declared.step.LegState.TheVariants as leg_states
 use Rattle.mcv_core.specs.declared.step.Step.{Step}
 
 pub record CoreView : Type 0 where
@@ -89,20 +89,20 @@ with_mark v server g = record v { marks = put_mark (length v.routes.servers) v.m
 abbrev pub landed : CoreView → LegRow → CoreView
 landed v s = record v { flights = put v.flights s.launch.server.0 None }
 
-abbrev pub step_to : Place → Change → Step
-step_to place change = record { place = place; change = change }
+abbrev pub step_to : LegState → Change → Step
+step_to state change = record { state = state; change = change }
 
 -- a delete is performed by any answer but an error
-abbrev pub place_after : LegRow → ReplyValue → Place
-place_after s y = cond (is_delete s.launch.op && not (is_error_reply y)) places.Performed places.Gone
+abbrev pub state_after : LegRow → ReplyValue → LegState
+state_after s y = cond (is_delete s.launch.op && not (is_error_reply y)) leg_states.Performed leg_states.Gone
 
 -- a counted delete leg that its server didn't perform is held, and its call has no outcome of it yet
 abbrev pub held : CoreView → ℕ → LegRow → Effect
-held v n s = does (step_to places.Held changes.Nothing) (record (landed v s) { rows = with_leg_row v.rows n (Some (in_state s rows.Held)) })
+held v n s = does (step_to leg_states.Held changes.Nothing) (record (landed v s) { rows = with_leg_row v.rows n (Some (in_state s rows.Held)) })
 
 -- any other leg is done with, and its call records the reply
 abbrev pub finished : CoreView → ℕ → ReplyValue → LegRow → Effect
-finished v n y s = does (step_to (place_after s y) changes.Answered) (record (landed v s) { rows = recorded_rows_for v.routes (with_leg_row v.rows n None) s y s.call })
+finished v n y s = does (step_to (state_after s y) changes.Answered) (record (landed v s) { rows = recorded_rows_for v.routes (with_leg_row v.rows n None) s y s.call })
 
 -- a leg that was sent has this reply
 abbrev pub sent_in : CoreView → ℕ → ReplyValue → LegRow → Effect
@@ -111,15 +111,15 @@ sent_in v n y s = cond (is_counted_delete (leg_of s) && is_error_reply y) (held 
 -- a leg in replay is performed, or waits in the spool again
 abbrev pub replayed_in : CoreView → ℕ → Bool → LegRow → Effect
 replayed_in v n failed s =
-    cond failed (does (step_to places.Spooled changes.Nothing) (landed v s)) (does (step_to places.Performed changes.Performed) (record (landed v s) { rows = with_leg_row v.rows n None }))
+    cond failed (does (step_to leg_states.Spooled changes.Nothing) (landed v s)) (does (step_to leg_states.Performed changes.Performed) (record (landed v s) { rows = with_leg_row v.rows n None }))
 
 -- a held leg is in the spool, and its call records NOT_FOUND, if it has no outcome
 abbrev pub stores : CoreView → ℕ → LegRow → Effect
-stores v n s = does (step_to places.Spooled changes.Spooled) (record v { rows = spooled_rows v.routes v.rows n s })
+stores v n s = does (step_to leg_states.Spooled changes.Spooled) (record v { rows = spooled_rows v.routes v.rows n s })
 
 -- the spool refused a held leg: its call records an error, once
 abbrev pub refused : CoreView → LegRow → Effect
-refused v s = cond (awaits v.rows.calls s s.call) (does (step_to places.Held changes.Refused) (record v { rows = refused_rows v.routes v.rows s })) (does (step_to places.Held changes.Nothing) v)
+refused v s = cond (awaits v.rows.calls s s.call) (does (step_to leg_states.Held changes.Refused) (record v { rows = refused_rows v.routes v.rows s })) (does (step_to leg_states.Held changes.Nothing) v)
 
 abbrev pub is_text : List ℕ → Option (List ℕ) → Bool
 is_text text None = false

@@ -39,11 +39,11 @@ pub data Step (chosen : SymbolValue → List ℕ → ℕ) (v : CoreView) : Event
       → Step chosen v (event.Begin request key) (answer.Call call) (Some (Began b.op b.route b.rest b.choice)) w
   sent : (server : ServerId) (leg : LegId) (w : CoreView) → Unmoved v w → Step chosen v (event.Next server) (answer.Leg leg) None w
   replayed : (server : ServerId) (leg : LegId) (w : CoreView) → Unmoved v w → Step chosen v (event.Replay server) (answer.Leg leg) None w
-  answered : (leg : LegId) (reply : ReplyValue) (done : Done) (w : CoreView) → Does v w (change_move leg.0 reply done.change) → Step chosen v (event.Answered leg reply) (answer.Place done.place) (change_move leg.0 reply done.change) w
-  lost : (leg : LegId) (done : Done) (w : CoreView) → Does v w (change_move leg.0 (fixed_value Lost) done.change) → Step chosen v (event.Lost leg) (answer.Place done.place) (change_move leg.0 (fixed_value Lost) done.change) w
-  spooled : (leg : LegId) (stored : Stored) (done : Done) (w : CoreView) → Does v w (change_move leg.0 not_found done.change) → Step chosen v (event.Spooled leg stored) (answer.Place done.place) (change_move leg.0 not_found done.change) w
+  answered : (leg : LegId) (reply : ReplyValue) (done : Done) (w : CoreView) → Does v w (change_move leg.0 reply done.change) → Step chosen v (event.Answered leg reply) (answer.State done.state) (change_move leg.0 reply done.change) w
+  lost : (leg : LegId) (done : Done) (w : CoreView) → Does v w (change_move leg.0 (fixed_value Lost) done.change) → Step chosen v (event.Lost leg) (answer.State done.state) (change_move leg.0 (fixed_value Lost) done.change) w
+  spooled : (leg : LegId) (stored : Stored) (done : Done) (w : CoreView) → Does v w (change_move leg.0 not_found done.change) → Step chosen v (event.Spooled leg stored) (answer.State done.state) (change_move leg.0 not_found done.change) w
   spool_refused : (leg : LegId) (done : Done) (w : CoreView) → Does v w (change_move leg.0 (fixed_value Lost) done.change)
-      → Step chosen v (event.SpoolRefused leg) (answer.Place done.place) (change_move leg.0 (fixed_value Lost) done.change) w
+      → Step chosen v (event.SpoolRefused leg) (answer.State done.state) (change_move leg.0 (fixed_value Lost) done.change) w
   marked : (server : ServerId) (w : CoreView) → w ≡ with_mark v server.0 checked_mark → Step chosen v (event.Mark server) answer.Done None w
   unmarked : (server : ServerId) (w : CoreView) → w ≡ with_mark v server.0 (λ m. no_mark) → Step chosen v (event.Unmark server) answer.Done None w
   clocked : (moment : Moment) (era : Option Era) (w : CoreView) → Does v w (era_move era) → Step chosen v (event.Clock moment) answer.Done (era_move era) w

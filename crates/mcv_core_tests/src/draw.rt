@@ -1,7 +1,7 @@
 //! Events that are drawn.
 
 use crate::amiss::Amiss;
-use crate::model::{Model, Spot};
+use crate::model::{Model, Stage};
 use mcv_base::{FixedReply, Op, Parts, Reply, ServerId};
 use std::alloc::Global;
 use std::sync::Arc;
@@ -152,8 +152,8 @@ fn drawn_op(dice: &mut Dice) -> Op {
     }
 }
 
-/// The number of a leg at one of these spots, or of any leg, or of none.
-fn drawn_leg(dice: &mut Dice, model: &Model<'_>, spots: &[Spot]) -> usize {
+/// The number of a leg at one of these stages, or of any leg, or of none.
+fn drawn_leg(dice: &mut Dice, model: &Model<'_>, stages: &[Stage]) -> usize {
     let count = model.legs.len();
     let start = dice.below(count.saturating_add(1));
     if dice.once_in(10) {
@@ -163,20 +163,20 @@ fn drawn_leg(dice: &mut Dice, model: &Model<'_>, spots: &[Spot]) -> usize {
         .legs
         .iter()
         .enumerate()
-        .position(|(at, leg)| at >= start && spots.contains(&leg.spot));
+        .position(|(at, leg)| at >= start && stages.contains(&leg.stage));
     match after {
         Some(leg) => leg,
         None => model
             .legs
             .iter()
-            .position(|leg| spots.contains(&leg.spot))
+            .position(|leg| stages.contains(&leg.stage))
             .unwrap_or(start),
     }
 }
 
-/// The server of a leg at one of these spots, or of any leg, or any server, or none.
-fn drawn_server(dice: &mut Dice, model: &Model<'_>, spots: &[Spot]) -> ServerId {
-    let leg = drawn_leg(dice, model, spots);
+/// The server of a leg at one of these stages, or of any leg, or any server, or none.
+fn drawn_server(dice: &mut Dice, model: &Model<'_>, stages: &[Stage]) -> ServerId {
+    let leg = drawn_leg(dice, model, stages);
     match model.legs.get(leg) {
         Some(leg) => leg.launch.server,
         None => ServerId(u32::try_from(dice.below(7)).unwrap_or(0)),
@@ -184,7 +184,7 @@ fn drawn_server(dice: &mut Dice, model: &Model<'_>, spots: &[Spot]) -> ServerId 
 }
 
 fn drawn_reply(dice: &mut Dice, model: &Model<'_>) -> Deed {
-    let leg = drawn_leg(dice, model, &[Spot::Sent, Spot::Replayed]);
+    let leg = drawn_leg(dice, model, &[Stage::Sent, Stage::Replayed]);
     let op = match model.legs.get(leg) {
         Some(leg) => leg.launch.op,
         None => Op::Get,
@@ -220,17 +220,17 @@ pub(crate) fn drawn(dice: &mut Dice, model: &Model<'_>, calm: bool) -> Deed {
     let letters = if calm { CALM } else { BUSY };
     match dice.letter(letters) {
         b'b' => Deed::Begin(drawn_op(dice), dice.below(model.ground.keys.len())),
-        b'n' => Deed::Next(drawn_server(dice, model, &[Spot::Waiting])),
+        b'n' => Deed::Next(drawn_server(dice, model, &[Stage::Waiting])),
         b'a' => drawn_reply(dice, model),
-        b'l' => Deed::Lost(drawn_leg(dice, model, &[Spot::Sent, Spot::Replayed])),
+        b'l' => Deed::Lost(drawn_leg(dice, model, &[Stage::Sent, Stage::Replayed])),
         b's' => Deed::Spooled(
-            drawn_leg(dice, model, &[Spot::Held, Spot::Refused]),
+            drawn_leg(dice, model, &[Stage::Held, Stage::Refused]),
             !dice.once_in(8),
         ),
-        b'f' => Deed::SpoolRefused(drawn_leg(dice, model, &[Spot::Held, Spot::Refused])),
-        b'r' => Deed::Replay(drawn_server(dice, model, &[Spot::Spooled])),
-        b'm' => Deed::Mark(drawn_server(dice, model, &[Spot::Waiting])),
-        b'u' => Deed::Unmark(drawn_server(dice, model, &[Spot::Waiting])),
+        b'f' => Deed::SpoolRefused(drawn_leg(dice, model, &[Stage::Held, Stage::Refused])),
+        b'r' => Deed::Replay(drawn_server(dice, model, &[Stage::Spooled])),
+        b'm' => Deed::Mark(drawn_server(dice, model, &[Stage::Waiting])),
+        b'u' => Deed::Unmark(drawn_server(dice, model, &[Stage::Waiting])),
         b'c' => Deed::Clock(drawn_moment(dice, model)),
         b'T' => Deed::Turn,
         _ => Deed::Take(drawn_call(dice, model)),

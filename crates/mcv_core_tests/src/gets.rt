@@ -2,7 +2,7 @@
 
 use crate::setup::{A, ONE, begin, core_of, leads_to, request};
 use mcv_base::{FixedReply, LegId, Op, Part, Parts, Reply, Request};
-use mcv_core::{Core, CoreFault, Place};
+use mcv_core::{Core, CoreFault, LegState};
 use mcv_pools::Fnv;
 use std::alloc::Global;
 use std::sync::Arc;
@@ -25,9 +25,9 @@ fn a_get_has_its_hit(rt: HostRuntime) -> Result<(), Fail> {
     let mut core = core_of(alloc, ONE)?;
     let call = begin(alloc, &mut core, Op::Get)?;
     let events = core.events();
-    assert!(rt; matches!(events.place(LegId(0)), Some(Place::Waiting)));
+    assert!(rt; matches!(events.leg_state(LegId(0)), Some(LegState::Waiting)));
     assert!(rt; matches!(events.next(A), Ok(LegId(0))));
-    assert!(rt; matches!(events.place(LegId(0)), Some(Place::Sent)));
+    assert!(rt; matches!(events.leg_state(LegId(0)), Some(LegState::Sent)));
     let body = Arc::new(alloc, Vec::from_slice(alloc, b"v")?)?;
     let hit = Reply::Hit {
         flags: 7,
@@ -37,7 +37,7 @@ fn a_get_has_its_hit(rt: HostRuntime) -> Result<(), Fail> {
     assert!(rt;
         leads_to(
             events.answered(LegId(0), Parts::new(alloc, hit)?),
-            Place::Gone
+            LegState::Gone
         )
     );
     let Ok(Some(part)) = events.take(call) else {
@@ -100,7 +100,7 @@ fn is_missed(alloc: Global, core: &mut Core<Fnv>, request: Arc<Request>) -> bool
     };
     leads_to(
         events.answered(leg, Parts::fixed(FixedReply::Miss)),
-        Place::Gone,
+        LegState::Gone,
     ) && matches!(events.take(call), Ok(Some(Part::Fixed(FixedReply::Miss))))
 }
 

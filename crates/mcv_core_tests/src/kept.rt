@@ -1,33 +1,33 @@
 //! Where the core has its legs, and that deletes are kept.
 
 use crate::amiss::Amiss;
-use crate::model::{Call, Leg, Model, Spot};
+use crate::model::{Call, Leg, Model, Stage};
 use mcv_base::{LegId, Outcome, ServerId};
-use mcv_core::{Core, Place};
+use mcv_core::{Core, LegState};
 use mcv_pools::Fnv;
 use std::alloc::Global;
 
-/// Where the core is to have a leg at this spot.
-fn place_of(spot: Spot) -> Option<Place> {
-    match spot {
-        Spot::Waiting => Some(Place::Waiting),
-        Spot::Sent => Some(Place::Sent),
-        Spot::Held | Spot::Refused => Some(Place::Held),
-        Spot::Spooled | Spot::Replayed => Some(Place::Spooled),
-        Spot::Performed | Spot::Gone => None,
+/// Where the core is to have a leg at this stage.
+fn leg_state(stage: Stage) -> Option<LegState> {
+    match stage {
+        Stage::Waiting => Some(LegState::Waiting),
+        Stage::Sent => Some(LegState::Sent),
+        Stage::Held | Stage::Refused => Some(LegState::Held),
+        Stage::Spooled | Stage::Replayed => Some(LegState::Spooled),
+        Stage::Performed | Stage::Gone => None,
     }
 }
 
 impl Model<'_> {
     /// Whether the core has the leg where the model has it, and sends of it what the model has.
     fn is_leg(&self, core: &Core<Fnv>, number: usize, leg: &Leg) -> bool {
-        let place = core.state().place(LegId(number as u64));
-        if place != place_of(leg.spot) {
+        let state = core.state().leg_state(LegId(number as u64));
+        if state != leg_state(leg.stage) {
             return false;
         }
         let (Some(view), Some(key)) = (core.state().leg(LegId(number as u64)), self.key(leg.key))
         else {
-            return place.is_none();
+            return state.is_none();
         };
         view.call.map(|call| call.0 as usize) == leg.call
             && view.server.is(leg.launch.server)
@@ -43,7 +43,7 @@ impl Model<'_> {
                 return Err(Amiss::Leg(number));
             }
         }
-        match core.state().place(LegId(self.legs.len() as u64)) {
+        match core.state().leg_state(LegId(self.legs.len() as u64)) {
             None => Ok(()),
             Some(_) => Err(Amiss::Unknown),
         }
@@ -54,7 +54,7 @@ impl Model<'_> {
         let spooled = self
             .legs
             .iter()
-            .filter(|leg| leg.spot == Spot::Spooled)
+            .filter(|leg| leg.stage == Stage::Spooled)
             .count();
         if core.state().entries() == spooled {
             Ok(())
@@ -79,8 +79,8 @@ impl Model<'_> {
             leg.call == Some(call)
                 && leg.launch.server.is(server)
                 && leg.is_counted_delete()
-                && (leg.spot == Spot::Performed
-                    || core.state().place(LegId(number as u64)).is_some())
+                && (leg.stage == Stage::Performed
+                    || core.state().leg_state(LegId(number as u64)).is_some())
         })
     }
 

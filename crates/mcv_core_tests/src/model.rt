@@ -5,14 +5,14 @@ use crate::draw::{Deed, Say};
 use crate::ground::{Ground, Key};
 use crate::readable::has_outcome;
 use mcv_base::{FixedReply, Mark, Moment, Op, Part, Position, ServerId};
-use mcv_core::{Answer, Place};
+use mcv_core::{Answer, LegState};
 use mcv_route::{Answered, Launch};
 use mcv_rules::{Eval, Outcomes, Status};
 use std::alloc::Global;
 
 /// Where a leg is.
 #[derive(Clone, Copy, Debug, PartialEq, Eq)]
-pub(crate) enum Spot {
+pub(crate) enum Stage {
     Waiting,
     Sent,
     /// It waits for the spool, which hasn't refused it.
@@ -33,7 +33,7 @@ pub(crate) struct Leg {
     pub(crate) launch: Launch,
     /// The number of its key.
     pub(crate) key: usize,
-    pub(crate) spot: Spot,
+    pub(crate) stage: Stage,
 }
 
 #[derive(Drop)]
@@ -56,13 +56,13 @@ pub(crate) struct Model<'a> {
     pub(crate) moment: Moment,
 }
 
-impl Spot {
+impl Stage {
     pub(crate) fn is_in_flight(self) -> bool {
-        matches!(self, Spot::Sent | Spot::Replayed)
+        matches!(self, Stage::Sent | Stage::Replayed)
     }
 
     pub(crate) fn is_held(self) -> bool {
-        matches!(self, Spot::Held | Spot::Refused)
+        matches!(self, Stage::Held | Stage::Refused)
     }
 }
 
@@ -126,7 +126,7 @@ impl<'a> Model<'a> {
                     call: Some(number),
                     launch,
                     key,
-                    spot: Spot::Waiting,
+                    stage: Stage::Waiting,
                 })?;
             }
         }
@@ -185,32 +185,38 @@ impl<'a> Model<'a> {
             call: None,
             launch,
             key,
-            spot: Spot::Spooled,
+            stage: Stage::Spooled,
         })?;
         Ok(())
     }
 
-    pub(crate) fn spot(&self, leg: usize) -> Option<Spot> {
-        Some(self.legs.get(leg)?.spot)
+    pub(crate) fn stage(&self, leg: usize) -> Option<Stage> {
+        Some(self.legs.get(leg)?.stage)
     }
 
-    fn put(&mut self, leg: usize, spot: Spot) {
+    fn put(&mut self, leg: usize, stage: Stage) {
         if let Some(leg) = self.legs.get_mut(leg) {
-            leg.spot = spot;
+            leg.stage = stage;
         }
     }
 
     /// A leg in flight was answered, or lost, and the core says where it is then.
-    fn land(&mut self, alloc: Global, leg: usize, reply: Part, place: Place) -> Result<(), Amiss> {
-        let replayed = self.spot(leg) == Some(Spot::Replayed);
-        match place {
-            Place::Performed => self.put(leg, Spot::Performed),
-            Place::Gone => self.put(leg, Spot::Gone),
-            Place::Spooled => self.put(leg, Spot::Spooled),
-            Place::Held => self.put(leg, Spot::Held),
-            Place::Waiting | Place::Sent => {}
+    fn land(
+        &mut self,
+        alloc: Global,
+        leg: usize,
+        reply: Part,
+        state: LegState,
+    ) -> Result<(), Amiss> {
+        let replayed = self.stage(leg) == Some(Stage::Replayed);
+        match state {
+            LegState::Performed => self.put(leg, Stage::Performed),
+            LegState::Gone => self.put(leg, Stage::Gone),
+            LegState::Spooled => self.put(leg, Stage::Spooled),
+            LegState::Held => self.put(leg, Stage::Held),
+            LegState::Waiting | LegState::Sent => {}
         }
-        if replayed || place == Place::Held {
+        if replayed || state == LegState::Held {
             return Ok(());
         }
         self.record(alloc, leg, reply)
@@ -234,21 +240,21 @@ impl<'a> Model<'a> {
     ) -> Result<(), Amiss> {
         match (deed, answer) {
             (Deed::Begin(op, key), Answer::Call(_)) => self.begin(alloc, op, key)?,
-            (Deed::Next(_), Answer::Leg(leg)) => self.put(leg.0 as usize, Spot::Sent),
-            (Deed::Replay(_), Answer::Leg(leg)) => self.put(leg.0 as usize, Spot::Replayed),
-            (Deed::Answered(leg, say), Answer::Place(place)) => {
+            (Deed::Next(_), Answer::Leg(leg)) => self.put(leg.0 as usize, Stage::Sent),
+            (Deed::Replay(_), Answer::Leg(leg)) => self.put(leg.0 as usize, Stage::Replayed),
+            (Deed::Answered(leg, say), Answer::State(state)) => {
                 let reply = self.counted(alloc, leg, say)?;
-                self.land(alloc, leg, reply, *place)?;
+                self.land(alloc, leg, reply, *state)?;
             }
-            (Deed::Lost(leg), Answer::Place(place)) => {
-                self.land(alloc, leg, Part::Fixed(FixedReply::Lost), *place)?;
+            (Deed::Lost(leg), Answer::State(state)) => {
+                self.land(alloc, leg, Part::Fixed(FixedReply::Lost), *state)?;
             }
-            (Deed::Spooled(leg, _), Answer::Place(_)) => {
-                self.put(leg, Spot::Spooled);
+            (Deed::Spooled(leg, _), Answer::State(_)) => {
+                self.put(leg, Stage::Spooled);
                 self.record(alloc, leg, Part::Fixed(FixedReply::NotFound))?;
             }
-            (Deed::SpoolRefused(leg), Answer::Place(_)) => {
-                self.put(leg, Spot::Refused);
+            (Deed::SpoolRefused(leg), Answer::State(_)) => {
+                self.put(leg, Stage::Refused);
                 self.record(alloc, leg, Part::Fixed(FixedReply::Lost))?;
             }
             (Deed::Clock(moment), Answer::Done) => self.moment = Moment(moment),
@@ -264,13 +270,13 @@ impl<'a> Model<'a> {
 
     /// The number of the leg that is in flight to a server.
     pub(crate) fn flight(&self, server: ServerId) -> Option<usize> {
-        self.legs.iter().position(|leg| leg.launch.server.is(server) && leg.spot.is_in_flight())
+        self.legs.iter().position(|leg| leg.launch.server.is(server) && leg.stage.is_in_flight())
     }
 
-    /// The least number of a leg to the server at this spot.
-    pub(crate) fn first_at(&self, server: ServerId, spot: Spot) -> Option<usize> {
+    /// The least number of a leg to the server at this stage.
+    pub(crate) fn first_at(&self, server: ServerId, stage: Stage) -> Option<usize> {
         self.legs
             .iter()
-            .position(|leg| leg.launch.server.is(server) && leg.spot == spot)
+            .position(|leg| leg.launch.server.is(server) && leg.stage == stage)
     }
 }

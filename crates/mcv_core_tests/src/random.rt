@@ -6,7 +6,7 @@ use crate::ground::{Ground, Key};
 use crate::model::Model;
 use crate::setup::stored_record;
 use mcv_base::{Ask, CallId, LegId, Moment, Op, Request, Rest, ServerId, ServerText};
-use mcv_core::{Answer, Core, Event, Place};
+use mcv_core::{Answer, Core, Event, LegState};
 use mcv_pools::Fnv;
 use mcv_spool::SpoolRecord;
 use std::alloc::Global;
@@ -110,8 +110,8 @@ impl Seen {
 
     fn count(&mut self, deed: Deed, answer: &Answer) {
         let counter = match (deed, answer) {
-            (_, Answer::Place(Place::Performed)) => &mut self.performed,
-            (Deed::Spooled(_, _), Answer::Place(_)) => &mut self.spooled,
+            (_, Answer::State(LegState::Performed)) => &mut self.performed,
+            (Deed::Spooled(_, _), Answer::State(_)) => &mut self.spooled,
             (_, Answer::Reply(Some(_))) => &mut self.taken,
             (Deed::Turn, Answer::Done) => &mut self.turned,
             _ => return,

@@ -2,7 +2,7 @@
 
 use crate::setup::{A, B, BOTH, MOVING, ONE, begin, core_of};
 use mcv_base::{CallId, LegId, Moment, Op, Parts, Reply};
-use mcv_core::{CoreFault, Place};
+use mcv_core::{CoreFault, LegState};
 use std::test::Fail;
 
 #[test]
@@ -16,7 +16,7 @@ fn an_answered_delete_is_performed(rt: HostRuntime) -> Result<(), Fail> {
     assert!(rt; matches!(events.next(A), Ok(LegId(0))));
     assert!(rt; matches!(events.next(A), Err(CoreFault::Busy)));
     let step = events.answered(LegId(0), Parts::new(alloc, Reply::NotFound)?);
-    assert!(rt; matches!(step, Ok(step) if step.place == Place::Performed));
+    assert!(rt; matches!(step, Ok(step) if step.state == LegState::Performed));
     assert!(rt; matches!(events.next(A), Ok(LegId(1))));
     assert!(rt;
         matches!(
@@ -36,15 +36,15 @@ fn the_first_reply_is_taken_once(rt: HostRuntime) -> Result<(), Fail> {
     assert!(rt; matches!(events.next(A), Ok(LegId(0))));
     assert!(rt; matches!(events.take(call), Ok(None)));
     let step = events.answered(LegId(0), Parts::new(alloc, Reply::Deleted)?);
-    assert!(rt; matches!(step, Ok(step) if step.place == Place::Performed));
+    assert!(rt; matches!(step, Ok(step) if step.state == LegState::Performed));
     assert!(rt; matches!(events.take(call), Ok(Some(_))));
     assert!(rt; matches!(events.take(call), Ok(None)));
     assert!(rt; matches!(events.next(B), Ok(LegId(1))));
     let step = events.lost(LegId(1));
-    assert!(rt; matches!(step, Ok(step) if step.place == Place::Held));
+    assert!(rt; matches!(step, Ok(step) if step.state == LegState::Held));
     assert!(rt; matches!(events.turn(), Err(CoreFault::Busy)));
     let step = events.spool_refused(LegId(1));
-    assert!(rt; matches!(step, Ok(step) if step.place == Place::Held));
+    assert!(rt; matches!(step, Ok(step) if step.state == LegState::Held));
     assert!(rt; matches!(events.take(call), Err(CoreFault::NoSuchCall)));
     assert!(rt; matches!(events.turn(), Err(CoreFault::Busy)));
     Ok(())
@@ -70,7 +70,7 @@ fn three_failures_mark(rt: HostRuntime) -> Result<(), Fail> {
         let _call = begin(alloc, &mut core, Op::Get)?;
         let events = core.events();
         assert!(rt; matches!(events.next(A), Ok(_)));
-        assert!(rt; matches!(events.lost(LegId(number)), Ok(step) if step.place == Place::Gone));
+        assert!(rt; matches!(events.lost(LegId(number)), Ok(step) if step.state == LegState::Gone));
         events.mark(A);
         assert!(rt; events.marked(A) == (number == 2));
     }

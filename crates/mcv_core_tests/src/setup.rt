@@ -5,7 +5,7 @@ ghost use Rattle.std.specs.Prelude.{[]};
 use mcv_base::{Ask, CallId, Op, Request, Rest, ServerId, ServerText};
 use mcv_check::check;
 use mcv_config::read_config;
-use mcv_core::{Core, CoreFault, Place, Step};
+use mcv_core::{Core, CoreFault, LegState, Step};
 use mcv_make::make;
 use mcv_pools::Fnv;
 use mcv_route::Routes;
@@ -86,8 +86,8 @@ pub(crate) fn begin(alloc: Global, core: &mut Core<Fnv>, op: Op) -> Result<CallI
 }
 
 /// Whether the event led its leg there.
-pub(crate) fn leads_to(step: Result<Step, CoreFault>, place: Place) -> bool {
-    matches!(step, Ok(step) if step.place == place)
+pub(crate) fn leads_to(step: Result<Step, CoreFault>, state: LegState) -> bool {
+    matches!(step, Ok(step) if step.state == state)
 }
 
 pub(crate) fn record(server: &[u8], rest: &[u8]) -> Result<SpoolRecord, Fail> {

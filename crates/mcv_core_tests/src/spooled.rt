@@ -2,7 +2,7 @@
 
 use crate::setup::{A, ONE, begin, core_of, core_with, leads_to, record, stored, stored_after};
 use mcv_base::{CallId, FixedReply, LegId, Op, Part, Parts, Reply};
-use mcv_core::{Core, CoreFault, Place};
+use mcv_core::{Core, CoreFault, LegState};
 use mcv_pools::Fnv;
 use std::alloc::Global;
 use std::test::Fail;
@@ -12,7 +12,7 @@ fn with_a_lost_delete(alloc: Global) -> Result<Core<Fnv>, Fail> {
     let mut core = core_of(alloc, ONE)?;
     let _call = begin(alloc, &mut core, Op::Delete)?;
     let events = core.events();
-    if events.next(A).is_err() || !leads_to(events.lost(LegId(0)), Place::Held) {
+    if events.next(A).is_err() || !leads_to(events.lost(LegId(0)), LegState::Held) {
         return Err(Fail::from("the leg isn't held"));
     }
     Ok(core)
@@ -27,8 +27,8 @@ fn opened_records_are_replayed(rt: HostRuntime) -> Result<(), Fail> {
     ];
     let mut core = core_with(alloc, ONE, &records)?;
     let events = core.events();
-    assert!(rt; matches!(events.place(LegId(0)), Some(Place::Spooled)));
-    assert!(rt; events.place(LegId(1)).is_none());
+    assert!(rt; matches!(events.leg_state(LegId(0)), Some(LegState::Spooled)));
+    assert!(rt; events.leg_state(LegId(1)).is_none());
     assert!(rt; events.record(LegId(0)) == Some(7));
     assert!(rt; events.record(LegId(1)).is_none());
     assert!(rt; matches!(events.next(A), Err(CoreFault::NothingWaiting)));
@@ -36,8 +36,8 @@ fn opened_records_are_replayed(rt: HostRuntime) -> Result<(), Fail> {
     assert!(rt; events.record(LegId(0)) == Some(7));
     assert!(rt; matches!(events.turn(), Err(CoreFault::Busy)));
     let step = events.answered(LegId(0), Parts::new(alloc, Reply::Deleted)?);
-    assert!(rt; leads_to(step, Place::Performed));
-    assert!(rt; events.place(LegId(0)).is_none());
+    assert!(rt; leads_to(step, LegState::Performed));
+    assert!(rt; events.leg_state(LegId(0)).is_none());
     assert!(rt; events.record(LegId(0)).is_none());
     assert!(rt; matches!(events.replay(A), Err(CoreFault::NothingWaiting)));
     Ok(())
@@ -59,7 +59,7 @@ fn a_chapter_begins_with_its_spooled_legs(rt: HostRuntime) -> Result<(), Fail> {
     assert!(rt; events.entries() == 3);
     assert!(rt; matches!(events.replay(A), Ok(LegId(0))));
     let step = events.answered(LegId(0), Parts::new(alloc, Reply::NotFound)?);
-    assert!(rt; leads_to(step, Place::Performed));
+    assert!(rt; leads_to(step, LegState::Performed));
     assert!(rt; events.entries() == 3);
     assert!(rt; events.turn().is_ok());
     assert!(rt; events.entries() == 2);
@@ -94,7 +94,7 @@ fn a_stored_delete_is_not_found(rt: HostRuntime) -> Result<(), Fail> {
     assert!(rt; matches!(other, Err(CoreFault::NoSuchLeg)));
     assert!(rt; events.record(LegId(0)).is_none());
     let step = events.spooled(LegId(0), stored(alloc, b"a:11211", b"a")?);
-    assert!(rt; leads_to(step, Place::Spooled));
+    assert!(rt; leads_to(step, LegState::Spooled));
     assert!(rt; events.record(LegId(0)) == Some(0));
     assert!(rt; events.held().is_none());
     assert!(rt;
@@ -115,22 +115,22 @@ fn a_stored_delete_is_replayed_until_it_is_performed(rt: HostRuntime) -> Result<
     let mut core = with_a_lost_delete(alloc)?;
     let events = core.events();
     let step = events.spooled(LegId(0), stored_after(alloc, 3, b"a:11211", b"a")?);
-    assert!(rt; leads_to(step, Place::Spooled));
+    assert!(rt; leads_to(step, LegState::Spooled));
     assert!(rt; events.record(LegId(0)) == Some(3));
     assert!(rt; matches!(events.replay(A), Ok(LegId(0))));
     let fault = Reply::Fault(Vec::from_slice(alloc, b"SERVER_ERROR busy")?);
     assert!(rt;
         leads_to(
             events.answered(LegId(0), Parts::new(alloc, fault)?),
-            Place::Spooled
+            LegState::Spooled
         )
     );
     assert!(rt; matches!(events.replay(A), Ok(LegId(0))));
-    assert!(rt; leads_to(events.lost(LegId(0)), Place::Spooled));
+    assert!(rt; leads_to(events.lost(LegId(0)), LegState::Spooled));
     assert!(rt; events.record(LegId(0)) == Some(3));
     assert!(rt; matches!(events.replay(A), Ok(LegId(0))));
     let step = events.answered(LegId(0), Parts::new(alloc, Reply::Deleted)?);
-    assert!(rt; leads_to(step, Place::Performed));
+    assert!(rt; leads_to(step, LegState::Performed));
     assert!(rt; matches!(events.replay(A), Err(CoreFault::NothingWaiting)));
     Ok(())
 }
@@ -140,19 +140,19 @@ fn a_refused_delete_is_an_error_and_stays_held(rt: HostRuntime) -> Result<(), Fa
     let alloc = rt.alloc();
     let mut core = with_a_lost_delete(alloc)?;
     let events = core.events();
-    assert!(rt; leads_to(events.spool_refused(LegId(0)), Place::Held));
+    assert!(rt; leads_to(events.spool_refused(LegId(0)), LegState::Held));
     assert!(rt;
         matches!(
             events.take(CallId(0)),
             Ok(Some(Part::Fixed(FixedReply::Lost)))
         )
     );
-    assert!(rt; leads_to(events.spool_refused(LegId(0)), Place::Held));
-    assert!(rt; matches!(events.place(LegId(0)), Some(Place::Held)));
+    assert!(rt; leads_to(events.spool_refused(LegId(0)), LegState::Held));
+    assert!(rt; matches!(events.leg_state(LegId(0)), Some(LegState::Held)));
     assert!(rt; matches!(events.turn(), Err(CoreFault::Busy)));
     assert!(rt; events.record(LegId(0)).is_none());
     let step = events.spooled(LegId(0), stored_after(alloc, 1, b"a:11211", b"a")?);
-    assert!(rt; leads_to(step, Place::Spooled));
+    assert!(rt; leads_to(step, LegState::Spooled));
     assert!(rt; events.record(LegId(0)) == Some(1));
     assert!(rt; events.turn().is_ok());
     Ok(())
@@ -165,11 +165,11 @@ fn legs_without_an_outcome_are_held_first(rt: HostRuntime) -> Result<(), Fail> {
     let _call = begin(alloc, &mut core, Op::Delete)?;
     let events = core.events();
     assert!(rt; matches!(events.next(A), Ok(LegId(1))));
-    assert!(rt; leads_to(events.lost(LegId(1)), Place::Held));
+    assert!(rt; leads_to(events.lost(LegId(1)), LegState::Held));
     assert!(rt; matches!(events.held(), Some(LegId(0))));
-    assert!(rt; leads_to(events.spool_refused(LegId(0)), Place::Held));
+    assert!(rt; leads_to(events.spool_refused(LegId(0)), LegState::Held));
     assert!(rt; matches!(events.held(), Some(LegId(1))));
-    assert!(rt; leads_to(events.spool_refused(LegId(1)), Place::Held));
+    assert!(rt; leads_to(events.spool_refused(LegId(1)), LegState::Held));
     assert!(rt; matches!(events.held(), Some(LegId(0))));
     Ok(())
 }

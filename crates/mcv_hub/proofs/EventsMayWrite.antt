@@ -21,7 +21,7 @@ use Rattle.mcv_world.specs.Moves.{Taken, can_be_taken, counted_as, is_error_repl
 use Rattle.mcv_world.proofs.Numbers.{no_some}
 use Rattle.mcv_events.specs.Events.{in_state, refused_rows}
 use Rattle.mcv_events.specs.Rows as rows
-use Rattle.mcv_events.specs.Rows.{CallRow, IsCore, LegRow, Rows, awaits, leg_of, place_of, with_leg_row, world_of}
+use Rattle.mcv_events.specs.Rows.{CallRow, IsCore, LegRow, Rows, awaits, leg_of, leg_state, with_leg_row, world_of}
 use Rattle.mcv_events.specs.Runs.{OpenedRecord, opened, spooled_row}
 use Rattle.mcv_events.specs.Sums.{sum_below}
 use Rattle.mcv_core.specs.Asking.{HasBegunFor}
@@ -36,7 +36,7 @@ use Rattle.mcv_core.specs.declared.engine.Core.{Core}
 use Rattle.mcv_core.specs.declared.fault.CoreFault.{CoreFault}
 use Rattle.mcv_core.specs.declared.fault.CoreFault.TheVariants.{NoSuchCall}
 use Rattle.mcv_core.specs.declared.step.Change.TheVariants as changes
-use Rattle.mcv_core.specs.declared.step.Place.TheVariants as places
+use Rattle.mcv_core.specs.declared.step.LegState.TheVariants as leg_states
 use Rattle.mcv_core.specs.declared.step.Step.{Step}
 use Rattle.mcv_core.specs.declared.turn.Era.{Era}
 use Rattle.mcv_hub.specs.History.{entries_in, era_entry}
@@ -138,7 +138,7 @@ module _ (v : CoreView) (i : IsCore v.routes v.rows) (n : ℕ) (s : LegRow) (at 
   refused_writes = by (awaits v.rows.calls s s.call) refl
     where
       by : (b : Bool) → awaits v.rows.calls s s.call ≡ b
-          → WritesAfter v (cond b (does (step_to places.Held changes.Refused) (record v { rows = refused_rows v.routes v.rows s })) (does (step_to places.Held changes.Nothing) v))
+          → WritesAfter v (cond b (does (step_to leg_states.Held changes.Refused) (record v { rows = refused_rows v.routes v.rows s })) (does (step_to leg_states.Held changes.Nothing) v))
       by true e = by_rows v _ 1 refl refl (refusing_writes v.routes v.rows n s i at e)
       by false e = by_rows v v 0 refl refl (omega arith)
 
@@ -248,7 +248,7 @@ no_call : (o : Option CallRow) → option_map (λ c. c.call) o ≡ None → o �
 no_call None e = refl
 no_call (Some c) e = no_some (sym e)
 
-in_spool : (t : rows.State) → place_of t ≡ Spooled → t ≡ rows.InSpool
+in_spool : (t : rows.State) → leg_state t ≡ Spooled → t ≡ rows.InSpool
 in_spool rows.Waiting e = absurd cc
 in_spool rows.Sent e = absurd cc
 in_spool rows.Held e = absurd cc

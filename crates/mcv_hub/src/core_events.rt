@@ -106,7 +106,7 @@ pub(crate) fn replay(core: &mut Core<Fnv>, server: ServerId) -> Result<LegId, Co
 pub(crate) fn answered(core: &mut Core<Fnv>, leg: LegId, parts: Parts) -> Result<Step, CoreFault>
     ensures effect { HasEffect (answer_at (core_view core.old.dispatcher) leg.0 parts) (core_view core.old.dispatcher) (core_view core.new.dispatcher) result }
     ensures does { IfOk result (λ step. Does (core_view core.old.dispatcher) (core_view core.new.dispatcher) (change_move leg.0 parts step.change)) }
-    ensures records { IfOk result (λ step. records_of core.new.dispatcher ≡ records_after step.place leg.0 (records_of core.old.dispatcher)) }
+    ensures records { IfOk result (λ step. records_of core.new.dispatcher ≡ records_after step.state leg.0 (records_of core.old.dispatcher)) }
     ensures kept { OnErr result (records_of core.new.dispatcher ≡ records_of core.old.dispatcher) }
     ensures chapter { (core_view core.new.dispatcher).chapter ≡ (core_view core.old.dispatcher).chapter }
     ensures err { OnErr result (core_view core.new.dispatcher ≡ core_view core.old.dispatcher) }
@@ -119,7 +119,7 @@ pub(crate) fn answered(core: &mut Core<Fnv>, leg: LegId, parts: Parts) -> Result
 pub(crate) fn lost(core: &mut Core<Fnv>, leg: LegId) -> Result<Step, CoreFault>
     ensures effect { HasEffect (loss_at (core_view core.old.dispatcher) leg.0) (core_view core.old.dispatcher) (core_view core.new.dispatcher) result }
     ensures does { IfOk result (λ step. Does (core_view core.old.dispatcher) (core_view core.new.dispatcher) (change_move leg.0 (fixed_value LostReply) step.change)) }
-    ensures records { IfOk result (λ step. records_of core.new.dispatcher ≡ records_after step.place leg.0 (records_of core.old.dispatcher)) }
+    ensures records { IfOk result (λ step. records_of core.new.dispatcher ≡ records_after step.state leg.0 (records_of core.old.dispatcher)) }
     ensures kept { OnErr result (records_of core.new.dispatcher ≡ records_of core.old.dispatcher) }
     ensures chapter { (core_view core.new.dispatcher).chapter ≡ (core_view core.old.dispatcher).chapter }
     ensures err { OnErr result (core_view core.new.dispatcher ≡ core_view core.old.dispatcher) }

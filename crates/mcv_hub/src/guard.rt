@@ -187,7 +187,7 @@ impl<'a, B: Ledger, T: Ledger> Guard<'a, B, T> {
     /// A leg in flight was answered. It takes no memory. An error is NoSuchLeg, where the leg isn't in flight.
     pub fn answered(&mut self, leg: LegId, reply: LegReply) -> Result<Step, CoreFault>
         ensures event { IsLegEvent (answer_at (core_view self.old.core) leg.0 reply) reply leg self.old self.new result }
-        ensures records { IfOk result (λ step. records_of self.new.core ≡ records_after step.place leg.0 (records_of self.old.core)) }
+        ensures records { IfOk result (λ step. records_of self.new.core ≡ records_after step.state leg.0 (records_of self.old.core)) }
         ensures kept { OnErr result (records_of self.new.core ≡ records_of self.old.core) }
     {
         self.state.answered(leg, reply)
@@ -196,7 +196,7 @@ impl<'a, B: Ledger, T: Ledger> Guard<'a, B, T> {
     /// A leg in flight was lost. It takes no memory. An error is NoSuchLeg, where the leg isn't in flight.
     pub fn lost(&mut self, leg: LegId) -> Result<Step, CoreFault>
         ensures event { IsLegEvent (loss_at (core_view self.old.core) leg.0) (fixed_value lost_reply) leg self.old self.new result }
-        ensures records { IfOk result (λ step. records_of self.new.core ≡ records_after step.place leg.0 (records_of self.old.core)) }
+        ensures records { IfOk result (λ step. records_of self.new.core ≡ records_after step.state leg.0 (records_of self.old.core)) }
         ensures kept { OnErr result (records_of self.new.core ≡ records_of self.old.core) }
     {
         self.state.lost(leg)

@@ -4,7 +4,7 @@ ghost use Rattle.std.specs.Prelude.{◌≡◌, ◌+◌};
 
 use crate::setup::{A, ONE, SEATS, hub_of, request, stored};
 use mcv_base::{CallId, FixedReply, LegId, Op, Part, Reply};
-use mcv_core::{CoreFault, Place, Step};
+use mcv_core::{CoreFault, LegState, Step};
 use mcv_hub::{Entry, Guard, LegReply, Receipt, ReceiptFault, Report, Seat, TakenReply};
 use std::alloc::Global;
 use std::marker::Brand;
@@ -13,8 +13,8 @@ use std::sync::{Arc, Wait};
 use std::test::Fail;
 
 /// Whether the event led its leg there.
-fn leads_to(step: Result<Step, CoreFault>, place: Place) -> bool {
-    matches!(step, Ok(step) if step.place == place)
+fn leads_to(step: Result<Step, CoreFault>, state: LegState) -> bool {
+    matches!(step, Ok(step) if step.state == state)
 }
 
 /// The reply that was taken, if there was one.
@@ -41,11 +41,11 @@ fn delete_through_the_spool<B: Ledger, T: Ledger>(
     let repeated = guard.replay(A);
     let performed = guard.answered(LegId(0), LegReply::fixed(FixedReply::Deleted));
     let as_wanted = matches!(sent, Ok(LegId(0)))
-        && leads_to(lost, Place::Held)
-        && leads_to(kept, Place::Spooled)
+        && leads_to(lost, LegState::Held)
+        && leads_to(kept, LegState::Spooled)
         && matches!(reply.reply(), Part::Fixed(FixedReply::NotFound))
         && matches!(repeated, Ok(LegId(0)))
-        && leads_to(performed, Place::Performed);
+        && leads_to(performed, LegState::Performed);
     if !as_wanted {
         return Err(Fail::from("the delete doesn't go this way"));
     }
@@ -90,7 +90,7 @@ fn get_a_hit<B: Ledger, T: Ledger>(
     let again = guard.take_reply(seat, call);
     let as_wanted = matches!(early, Ok(None))
         && matches!(sent, Ok(LegId(1)))
-        && leads_to(answered, Place::Gone)
+        && leads_to(answered, LegState::Gone)
         && is_hit(reply.reply())
         && matches!(again, Err(CoreFault::NoSuchCall));
     if !as_wanted {

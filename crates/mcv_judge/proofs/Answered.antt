@@ -8,7 +8,8 @@ use Rattle.std.proofs.lemmas.Bool.{cases_Bool, le-ltb, lt-ltb}
 use Rattle.std.proofs.lemmas.Cmp.{tied_itself}
 use Rattle.std.proofs.lemmas.List.{append-nil, append_assoc, length-append}
 use Rattle.std.proofs.lemmas.List.Elements.{All-head, All-tail}
-use Rattle.mcv_cert.specs.Pair.{Place, PairValue, ReasonValue, index_of, place_of, index_cmp}
+use Rattle.mcv_cert.specs.Pair.{PlaceValue, PairValue, ReasonValue, index_of, index_cmp}
+use Rattle.mcv_cert.proofs.Rising.{places_total}
 use Rattle.mcv_judge.specs.Answers.{AnsweredIsFaultless, AnswersAll, AnswersEach, AnswersLeaf, AnswersLeaves, AreInTurn, IsAnswer}
 use Rattle.mcv_judge.specs.Faults.{IsInOrder, require, required_by}
 use Rattle.mcv_judge.specs.Reason.{LegValue, BlockValue, is_whole}
@@ -16,7 +17,7 @@ use Rattle.mcv_judge.specs.Walk.{Entry, after, entries, entry_from, or_else, wal
 use Rattle.mcv_judge.proofs.Bridge.{of_blocks}
 use Rattle.mcv_judge.proofs.First.{chain, judges, rising_after, self}
 use Rattle.mcv_judge.proofs.Open.{IsBelowPairs, ArePairsAscending, IsBelowEntries, AreEntriesRising, Judges, fault_from}
-use Rattle.mcv_judge.proofs.Order.{places_total, all_rise, entries_both, rising}
+use Rattle.mcv_judge.proofs.Order.{all_rise, entries_both, rising}
 use Rattle.mcv_judge.proofs.Steps.{by}
 
 -- the pairs are those that the entries want, one after the other
@@ -24,16 +25,16 @@ abbrev Serves : List Entry → List PairValue → Type 0
 Serves [] [] = ⊤
 Serves (e ∷ es) [] = ⊥
 Serves [] (r ∷ pairs) = ⊥
-Serves (e ∷ es) (r ∷ pairs) = (place_of r ≡ e.place) × (index_of r.reason ≡ e.from) × (e.judge r.reason ≡ None) × Serves (after r.reason e es) pairs
+Serves (e ∷ es) (r ∷ pairs) = (r.place ≡ e.place) × (index_of r.reason ≡ e.from) × (e.judge r.reason ≡ None) × Serves (after r.reason e es) pairs
 
 -- ---- they rise
 
 -- the index comes before what the first entry wants
-abbrev ComesBefore : Place → ℕ → List Entry → Type 0
+abbrev ComesBefore : PlaceValue → ℕ → List Entry → Type 0
 ComesBefore s i [] = ⊤
 ComesBefore s i (e ∷ es) = index_cmp s i e.place e.from ≡ Less
 
-before_more : (s : Place) (i : ℕ) (q : Place) (j : ℕ) (es : List Entry) → index_cmp s i q j ≡ Less → ComesBefore q j es → ComesBefore s i es
+before_more : (s : PlaceValue) (i : ℕ) (q : PlaceValue) (j : ℕ) (es : List Entry) → index_cmp s i q j ≡ Less → ComesBefore q j es → ComesBefore s i es
 before_more s i q j [] less h = tt
 before_more s i q j (e ∷ es) less h = chain places_total s i q j e.place e.from less h
 
@@ -41,7 +42,7 @@ before_others : (e : Entry) (es : List Entry) → IsBelowEntries e.place es → 
 before_others e [] below = tt
 before_others e (f ∷ es) below = rw below.0 refl
 
-before_next_index : (s : Place) (i : ℕ) → index_cmp s i s (suc i) ≡ Less
+before_next_index : (s : PlaceValue) (i : ℕ) → index_cmp s i s (suc i) ≡ Less
 before_next_index s i =
     let index : nat_cmp i (suc i) ≡ Less = sym (nat_cmp_is i (suc i) Less (omega arith)) in
     rw (tied_itself places_total s, index) refl
@@ -55,7 +56,7 @@ before_next r e es below = elim (cases_Bool (is_whole r)) [
   ]
 ]
 
-serving_below : (pairs : List PairValue) (es : List Entry) (s : Place) (i : ℕ) → AreEntriesRising es → ComesBefore s i es → Serves es pairs → IsBelowPairs s i pairs
+serving_below : (pairs : List PairValue) (es : List Entry) (s : PlaceValue) (i : ℕ) → AreEntriesRising es → ComesBefore s i es → Serves es pairs → IsBelowPairs s i pairs
 serving_below [] es s i up before h = tt
 serving_below (r ∷ pairs) [] s i up before h = absurd h
 serving_below (r ∷ pairs) (e ∷ es) s i up before h = (
@@ -80,10 +81,10 @@ serving_walks [] [] h = refl
 serving_walks [] (e ∷ es) h = absurd h
 serving_walks (r ∷ pairs) [] h = absurd h
 serving_walks (r ∷ pairs) (e ∷ es) h =
-    let level : index_cmp (place_of r) (index_of r.reason) e.place e.from ≡ Equal = ap (λ q. index_cmp q (index_of r.reason) e.place e.from) h.0 ∙ ap (λ i. index_cmp e.place i e.place e.from) h.1 ∙ self places_total e.place e.from in
+    let level : index_cmp r.place (index_of r.reason) e.place e.from ≡ Equal = ap (λ q. index_cmp q (index_of r.reason) e.place e.from) h.0 ∙ ap (λ i. index_cmp e.place i e.place e.from) h.1 ∙ self places_total e.place e.from in
     ap (by r pairs e es) level ∙ ap (λ f. or_else f (walk pairs (after r.reason e es))) h.2 ∙ serving_walks pairs (after r.reason e es) h.3
 
-serving_faultless : (pairs : List PairValue) (es : List Entry) → AreEntriesRising es → Serves es pairs → (s : Place) (i : ℕ) → fault_from pairs es s i ≡ None
+serving_faultless : (pairs : List PairValue) (es : List Entry) → AreEntriesRising es → Serves es pairs → (s : PlaceValue) (i : ℕ) → fault_from pairs es s i ≡ None
 serving_faultless pairs es up h s i =
     let judged = judges places_total pairs es [] (serving_ascends pairs es up h) (subst AreEntriesRising (sym (append-nil es)) up) in
     let same = (subst (Judges pairs es []) (serving_walks pairs es h) judged).1 in

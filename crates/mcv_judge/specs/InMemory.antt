@@ -1,11 +1,12 @@
 -- What pairs and blocks in memory mean.
 use Rattle.std.specs.Prelude.{ℕ, List, map}
 use Rattle.mcv_base.specs.declared.request.ServerId.{ServerId}
-use Rattle.mcv_cert.specs.Pair.{PairValue, pair_of}
+use Rattle.mcv_cert.specs.Pair.{PairValue, SpotValue, pair_of}
 use Rattle.mcv_judge.specs.Reason.{LegValue, BlockValue}
 use Rattle.mcv_cert.specs.declared.pair.Pair.{Pair}
 use Rattle.mcv_judge.specs.declared.block.Leg.{Leg}
 use Rattle.mcv_judge.specs.declared.block.Block.{Block}
+use Rattle.mcv_judge.specs.declared.block.Spot.{Spot}
 
 abbrev pub pairs_of : List Pair → List PairValue
 pairs_of rs = map pair_of rs
@@ -20,5 +21,8 @@ leg_of l = record { position = l.position.now; symbol = l.symbol; servers = numb
 abbrev pub legs_of : List Leg → List LegValue
 legs_of ls = map leg_of ls
 
+abbrev pub spot_of : Spot → SpotValue
+spot_of s = record { route = s.route; class = s.class.now; era = s.era }
+
 abbrev pub block_of : Block → BlockValue
-block_of b = record { route = b.route; class = b.class.now; era = b.era; readable = legs_of b.readable.now; acknowledged = legs_of b.acknowledged.now; can_be_acknowledged = b.can_be_acknowledged }
+block_of b = record { spot = spot_of b.spot; readable = legs_of b.readable.now; acknowledged = legs_of b.acknowledged.now; can_be_acknowledged = b.can_be_acknowledged }

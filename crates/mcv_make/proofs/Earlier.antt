@@ -4,18 +4,19 @@ use Rattle.std.specs.Prelude.{slice_get, slice_index}
 use Rattle.std.specs.List.{Contains}
 use Rattle.std.proofs.lemmas.Bool.{false≢true}
 use Rattle.std.proofs.lemmas.Option.{get_or_from_slice_get, none-some, same_Some, slice_get_within}
+use Rattle.mcv_cert.specs.Pair.{place_of}
 use Rattle.mcv_base.specs.Operation.{is_counting, is_reading}
 use Rattle.mcv_base.specs.declared.operation.Op.{Op}
 use Rattle.mcv_base.specs.declared.operation.Op.TheVariants.{Get, Gets, Set, Add, Replace, Append, Prepend, Cas, Delete, Touch}
 use Rattle.mcv_base.specs.declared.reply.Outcome.TheVariants.{Good, Error}
-use Rattle.mcv_blocks.specs.Blocks.{IsBlockAt, IsPlaceOf, pool_for}
-use Rattle.mcv_blocks.specs.Spots.{IsBlockFor, Spot, spot}
+use Rattle.mcv_blocks.specs.Blocks.{IsBlockAt, IsSpotOf, pool_for}
+use Rattle.mcv_blocks.specs.Spots.{IsBlockFor, ClassInEra, in_era}
 use Rattle.mcv_blocks.proofs.BlocksOfSpots.{class-there}
 use Rattle.mcv_blocks.proofs.Existing.{block_exists}
 use Rattle.mcv_blocks.proofs.PoolSizes.{AreSized, entry_sized}
 use Rattle.mcv_blocks.proofs.Sound.{answers}
 use Rattle.mcv_blocks.proofs.Unique.{block_has, leg_there, pool_of_leg}
-use Rattle.mcv_certify.specs.Gap.{IsFirstGap, IsGap, place_of_gap}
+use Rattle.mcv_certify.specs.Gap.{IsFirstGap, IsGap}
 use Rattle.mcv_certify.specs.declared.gap.Gap.{Gap}
 use Rattle.mcv_classes.specs.Class.{IsClassWord, IsMember}
 use Rattle.mcv_classes.specs.Laws.{AreAlike}
@@ -26,7 +27,7 @@ use Rattle.mcv_classes.proofs.Members.{members_are_inside, one_class}
 use Rattle.mcv_judge.specs.Faults.{require, place_required}
 use Rattle.mcv_judge.specs.Reason.{BlockValue, HasReason, LegValue, server_at}
 use Rattle.mcv_make.specs.First.{IsFirstFinding}
-use Rattle.mcv_make.specs.Place.{IsAtGap, place_of}
+use Rattle.mcv_make.specs.Place.{IsAtGap}
 use Rattle.mcv_route.specs.Launched.{launched}
 use Rattle.mcv_route.specs.Outcomes.{Choice, History, Outcomes, outcomes}
 use Rattle.mcv_route.specs.Places.{pool_at_position}
@@ -119,46 +120,46 @@ module _ (r : RoutesValue) (sound : IsSoundRoutes r) (f : FindingValue) (b : Bre
   abbrev since : Option ℕ
   since = b.since
 
-  entry : (e : RouteEntry) × (slice_get r.entries f.route ≡ Some e) × (e.tree ≡ t)
-  entry = entry_at r.entries f.route t b.placed.route
+  entry : (e : RouteEntry) × (slice_get r.entries f.place.spot.route ≡ Some e) × (e.tree ≡ t)
+  entry = entry_at r.entries f.place.spot.route t b.placed.route
 
-  member : (m : List ℕ) × IsMember (class_words t) f.class (Some m)
+  member : (m : List ℕ) × IsMember (class_words t) f.place.spot.class (Some m)
   member =
       let h = rests_have_classes t b.rest b.placed.rest_is.key b.placed.rest_is.bytes in
-      (h.1, subst (λ w. IsMember (class_words t) w (Some h.1)) (one_class (class_words t) b.rest h.0 f.class h.2 b.placed.class) h.3)
+      (h.1, subst (λ w. IsMember (class_words t) w (Some h.1)) (one_class (class_words t) b.rest h.0 f.place.spot.class h.2 b.placed.class) h.3)
 
   abbrev rest : List ℕ
   rest = member.0
 
-  inside : IsClassWord (class_words t) rest f.class
-  inside = (members_are_inside t f.class rest member.1 b.placed.class.listed).0
+  inside : IsClassWord (class_words t) rest f.place.spot.class
+  inside = (members_are_inside t f.place.spot.class rest member.1 b.placed.class.listed).0
 
   alike : AreAlike t b.rest rest
-  alike = (f.class, b.placed.class, inside)
+  alike = (f.place.spot.class, b.placed.class, inside)
 
   back : AreAlike t rest b.rest
-  back = (f.class, inside, b.placed.class)
+  back = (f.place.spot.class, inside, b.placed.class)
 
-  place : IsPlaceOf r f.route f.class f.era t rest since
-  place = record { entry = entry.0; numbered = entry.1; has_tree = entry.2; listed = b.placed.class.listed; has_member = member.1; opened = b.placed.era }
+  at_spot : IsSpotOf r f.place.spot t rest since
+  at_spot = record { entry = entry.0; numbered = entry.1; has_tree = entry.2; listed = b.placed.class.listed; has_member = member.1; opened = b.placed.era }
 
-  abbrev here : Spot
-  here = spot (record { route = f.route; class = record { word = f.class; member = Some rest } }) f.era
+  abbrev here : ClassInEra
+  here = in_era (record { route = f.place.spot.route; class = record { word = f.place.spot.class; member = Some rest } }) f.place.spot.era
 
   block : (d : BlockValue) × IsBlockFor r here d
-  block = block_exists r here (class-there r f.route f.class f.era t rest since place, (since, b.placed.era))
+  block = block_exists r here (class-there r f.place.spot t rest since at_spot, (since, b.placed.era))
 
   has : IsBlockAt t rest since block.0
-  has = block_has r f.route f.class f.era t rest since place block.0 block.1.is block.1.route block.1.class block.1.era
+  has = block_has r f.place.spot t rest since at_spot block.0 block.1.is block.1.spot
 
   -- the leaf can be read at the member too
-  readable : IsReadableAt t rest since f.leaf
+  readable : IsReadableAt t rest since f.place.leaf
   readable =
-      readable_by f.op t rest since (chosen f) f.leaf b.read.reading
-      (outcomes f.gets, alike_reachable t b.rest rest alike f.op since (chosen f) (outcomes f.gets) b.read.reachable, alike_hit t b.rest rest alike f.op since (outcomes f.gets) f.leaf b.read.hit)
+      readable_by f.op t rest since (chosen f) f.place.leaf b.read.reading
+      (outcomes f.gets, alike_reachable t b.rest rest alike f.op since (chosen f) (outcomes f.gets) b.read.reachable, alike_hit t b.rest rest alike f.op since (outcomes f.gets) f.place.leaf b.read.hit)
 
-  leaf : (l : LegValue) × Contains block.0.readable l × (l.position ≡ f.leaf)
-  leaf = leg_there t (IsReadableAt t rest since) block.0.readable has.readable f.leaf readable
+  leaf : (l : LegValue) × Contains block.0.readable l × (l.position ≡ f.place.leaf)
+  leaf = leg_there t (IsReadableAt t rest since) block.0.readable has.readable f.place.leaf readable
 
   pool_there : pool_at_position t leaf.0.position ≡ Some (pool_for leaf.0)
   pool_there = pool_of_leg t (IsReadableAt t rest since) block.0.readable has.readable leaf.0 leaf.1
@@ -175,7 +176,7 @@ module _ (r : RoutesValue) (sound : IsSoundRoutes r) (f : FindingValue) (b : Bre
   sized : AreSized (sizes_of r) t
   sized =
       let e = entry.0 in
-      subst (AreSized (sizes_of r)) entry.2 (entry_sized r e sound (f.route, slice_get_within r.entries f.route e entry.1, get_or_from_slice_get r.entries f.route e e entry.1))
+      subst (AreSized (sizes_of r)) entry.2 (entry_sized r e sound (f.place.spot.route, slice_get_within r.entries f.place.spot.route e entry.1, get_or_from_slice_get r.entries f.place.spot.route e e entry.1))
 
   reached : IsReachable t (asked Delete rest since) (chosen f) (outcomes f.deletes)
   reached = alike_reachable t b.rest rest alike Delete since (chosen f) (outcomes f.deletes) b.missed.reachable
@@ -194,17 +195,17 @@ module _ (r : RoutesValue) (sound : IsSoundRoutes r) (f : FindingValue) (b : Bre
             (answered_sent t rest since (chosen f) (outcomes f.deletes) reached done (sizes_of r) (pool_for leaf.0) f.at f.server b.choice index (get_or_from_slice_get leaf.0.servers f.at f.server 0 server) answered))
       ]
 
-  placed : place_required (require block.0 leaf.0) ≡ place_of f
-  placed = λ i. record { route = block.1.route i; class = block.1.class i; era = block.1.era i; leaf = leaf.2 i }
+  placed : place_required (require block.0 leaf.0) ≡ f.place
+  placed = λ i. record { spot = block.1.spot i; leaf = leaf.2 i }
 
-  pub finding_is_gap : IsGap r (place_of f) f.at f.server
+  pub finding_is_gap : IsGap r f.place f.at f.server
   finding_is_gap = record { block = block.0; leaf = leaf.0; block_is = block.1.is; readable = leaf.1; placed = placed; has = server; unanswered = unanswered }
 
 -- ---- the first
 
-pub first_finding : (r : RoutesValue) → IsSoundRoutes r → (f : FindingValue) → IsFirstGap r (place_of f) f.at f.server → BreaksCoverage r f → IsFirstFinding r f
-first_finding r sound f gap breaks = record { breaks = breaks; first = λ g less other. gap.first (place_of g) g.at g.server less (finding_is_gap r sound g other) }
+pub first_finding : (r : RoutesValue) → IsSoundRoutes r → (f : FindingValue) → IsFirstGap r f.place f.at f.server → BreaksCoverage r f → IsFirstFinding r f
+first_finding r sound f gap breaks = record { breaks = breaks; first = λ g less other. gap.first g.place g.at g.server less (finding_is_gap r sound g other) }
 
 -- the finding of the first gap
-pub first_of_gap : (r : RoutesValue) → IsSoundRoutes r → (g : Gap) (f : FindingValue) → IsFirstGap r (place_of_gap g) g.at g.server.0 → IsAtGap g f → BreaksCoverage r f → IsFirstFinding r f
+pub first_of_gap : (r : RoutesValue) → IsSoundRoutes r → (g : Gap) (f : FindingValue) → IsFirstGap r (place_of g.place) g.at g.server.0 → IsAtGap g f → BreaksCoverage r f → IsFirstFinding r f
 first_of_gap r sound g f gap at breaks = first_finding r sound f (at-finding (IsFirstGap r) g f at gap) breaks

@@ -2,7 +2,6 @@
 use Rattle.std.specs.Prelude.{◌≡◌}
 use Rattle.std.specs.declared.cmp.Ordering.TheVariants.{Less}
 use Rattle.mcv_cert.specs.Pair.{index_cmp}
-use Rattle.mcv_make.specs.Place.{place_of}
 use Rattle.mcv_make.specs.declared.fault.MakeFault.{MakeFault}
 use Rattle.mcv_make.specs.declared.fault.MakeFault.TheVariants.{Lost, Memory}
 use Rattle.mcv_route.specs.Routes.{RoutesValue}
@@ -13,7 +12,7 @@ use Rattle.mcv_witness.specs.declared.finding.Finding.{Finding}
 -- the finding breaks coverage, and none at an earlier place, or at an earlier index of this one, does
 pub record IsFirstFinding (r : RoutesValue) (f : FindingValue) : Type 0 where
   pub breaks : BreaksCoverage r f
-  pub first : (g : FindingValue) → index_cmp (place_of g) g.at (place_of f) f.at ≡ Less → BreaksCoverage r g → ⊥
+  pub first : (g : FindingValue) → index_cmp g.place g.at f.place f.at ≡ Less → BreaksCoverage r g → ⊥
 
 -- what is shown to be lost is a first finding
 abbrev pub IsRightLoss : RoutesValue → MakeFault → Type 0

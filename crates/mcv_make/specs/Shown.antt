@@ -28,24 +28,24 @@ pub record IsShownWith (r : RoutesValue) (prefix : List ℕ) (f : FindingValue) 
   pub since : Option ℕ
   pub pool : Pool
   pub legs : List PlannedLeg
-  pub numbered : slice_get r.entries f.route ≡ Some entry
-  pub listed : Contains (class_words entry.tree) f.class
-  pub member : IsMember (class_words entry.tree) f.class (Some rest)
+  pub numbered : slice_get r.entries f.place.spot.route ≡ Some entry
+  pub listed : Contains (class_words entry.tree) f.place.spot.class
+  pub member : IsMember (class_words entry.tree) f.place.spot.class (Some rest)
   pub rest_is : IsRest rest
-  pub opened : IsEraOf r f.era since
+  pub opened : IsEraOf r f.place.spot.era since
   pub key : f.key ≡ prefix ++ rest
-  pub pool_there : pool_at_position entry.tree f.leaf ≡ Some pool
+  pub pool_there : pool_at_position entry.tree f.place.leaf ≡ Some pool
   -- the least indexes at which no leg that each acknowledged delete has sent has the server
   pub are : (c : Choice) → AreLegsAt entry.tree (IsAcknowledged entry.tree rest since c) legs
   pub choice : f.choice ≡ free_indexes legs f.server pool.symbol f.at 0 r.symbols
   -- gets only where no get can be answered from the leaf
   pub reading : is_reading f.op ≡ true
-  pub first : f.op ≡ Gets → (c : Choice) → CanHitAt entry.tree (asked Get rest since) c f.leaf → ⊥
+  pub first : f.op ≡ Gets → (c : Choice) → CanHitAt entry.tree (asked Get rest since) c f.place.leaf → ⊥
   -- the leaf's hit is the answer
-  pub gets : leaf_hit f.leaf (plan entry.tree (asked f.op rest since)) ≡ Some f.gets
+  pub gets : leaf_hit f.place.leaf (plan entry.tree (asked f.op rest since)) ≡ Some f.gets
   -- each leg that the reply needs has deleted
   pub deletes : f.deletes ≡ answers Good (plan entry.tree (asked Delete rest since))
 
 -- the prefix is the first one that selects the route
 abbrev pub IsShown : RoutesValue → FindingValue → Type 0
-IsShown r f = (prefix : List ℕ) × (first_alias r f.route ≡ Some prefix) × IsShownWith r prefix f
+IsShown r f = (prefix : List ℕ) × (first_alias r f.place.spot.route ≡ Some prefix) × IsShownWith r prefix f

@@ -9,7 +9,7 @@ use Rattle.std.proofs.lemmas.Bool.{cases_lt}
 use Rattle.std.proofs.lemmas.List.{ext_get_or, get_or_default}
 use Rattle.std.proofs.lemmas.List.Elements.{All-cons, All-contains_itself, All-head, All-nil, All-tail}
 use Rattle.std.proofs.lemmas.Option.{slice_get-get_or}
-use Rattle.mcv_cert.specs.Pair.{PairValue, Place, ReasonValue, all, index_of, list_cmp, never, place_of}
+use Rattle.mcv_cert.specs.Pair.{PairValue, PlaceValue, ReasonValue, all, index_of, list_cmp, never}
 use Rattle.mcv_judge.specs.Answers.{AnswersEach, AnswersLeaf, AnswersLeaves}
 use Rattle.mcv_judge.specs.Faults.{AreLegsRising, require, place_required}
 use Rattle.mcv_judge.specs.Reason.{BlockValue, LegValue, is_whole, server_at}
@@ -76,7 +76,7 @@ module _ (b : BlockValue) (leaf : LegValue) where
   one_pair p q h g index =
       let place = h.place ∙ sym g.place in
       let reason = one_reason whole p.reason q.reason index h.reason g.reason in
-      λ i. record { route = (place i).route; class = (place i).class; era = (place i).era; leaf = (place i).leaf; reason = reason i }
+      λ i. record { place = place i; reason = reason i }
 
   first_of : (p : PairValue) (ps : List PairValue) → ps ≡ p ∷ [] → All (IsPickedFor b leaf) ps → IsPickedFor b leaf p
   first_of p ps is every = All-head (IsPickedFor b leaf) p [] (subst (All (IsPickedFor b leaf)) is every)
@@ -104,8 +104,8 @@ module _ (b : BlockValue) (leaf : LegValue) where
 
   -- ---- the leaf of a pair
 
-  placed : (ps : List PairValue) → AnswersLeaf b leaf ps → All (λ p. place_of p ≡ place_required (require b leaf)) ps
-  placed ps (inl h) = subst (All (λ p. place_of p ≡ place_required (require b leaf))) (sym h.1) (All-cons (λ p. place_of p ≡ place_required (require b leaf)) h.0 [] h.2.place (All-nil (λ p. place_of p ≡ place_required (require b leaf))))
+  placed : (ps : List PairValue) → AnswersLeaf b leaf ps → All (λ p. p.place ≡ place_required (require b leaf)) ps
+  placed ps (inl h) = subst (All (λ p. p.place ≡ place_required (require b leaf))) (sym h.1) (All-cons (λ p. p.place ≡ place_required (require b leaf)) h.0 [] h.2.place (All-nil (λ p. p.place ≡ place_required (require b leaf))))
   placed ps (inr h) = λ i p l. (h.each i (get_or ps i p) (slice_get-get_or ps i p l)).0.place
 
 no_less : (p q : List ℕ) → p ≡ q → list_cmp p q ≡ Less → ⊥
@@ -138,7 +138,7 @@ module _ (b : BlockValue) (up : AreLegsRising b.readable) where
   own_picked leaf is_readable ps answers picked i p l =
       let h = picked i p l in
       let place = placed b leaf ps answers i p l in
-      let same : h.0 ≡ leaf = one_leaf b.readable up h.0 leaf h.1 is_readable (ap (λ (s : Place). s.leaf) (sym h.2.place ∙ place)) in
+      let same : h.0 ≡ leaf = one_leaf b.readable up h.0 leaf h.1 is_readable (ap (λ (s : PlaceValue). s.leaf) (sym h.2.place ∙ place)) in
       subst (λ d. IsPickedFor b d (get_or ps i p)) same h.2
 
   abbrev IsLeafOf : LegValue → Type 0

@@ -1,6 +1,7 @@
 -- Pairs that are added at the end (own).
 use Rattle.std.specs.Prelude.{◌≡◌, ◌++◌, List}
 use Rattle.mcv_cert.specs.Pair.{PairValue, ReasonValue}
+use Rattle.mcv_judge.specs.Faults.{place_required, require}
 use Rattle.mcv_judge.specs.Reason.{BlockValue, LegValue}
 
 -- the new list is the old one, and behind it pairs with the property
@@ -11,4 +12,4 @@ pub record Adds (P : List PairValue → Type 0) (old new : List PairValue) : Typ
 
 -- the pair that gives a leaf of a block this reason
 abbrev pub pair_with : BlockValue → LegValue → ReasonValue → PairValue
-pair_with b leaf reason = record { route = b.route; class = b.class; era = b.era; leaf = leaf.position; reason = reason }
+pair_with b leaf reason = record { place = place_required (require b leaf); reason = reason }

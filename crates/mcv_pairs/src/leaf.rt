@@ -10,7 +10,7 @@ ghost use Rattle.mcv_pairs.specs.Adds.{Adds, pair_with};
 ghost use Rattle.mcv_pairs.specs.Gaps.{IsFirstGapOf, IsSized};
 ghost use Rattle.mcv_pairs.specs.Reasons.{IsPickedFor};
 
-use mcv_cert::{Pair, Reason};
+use mcv_cert::{Pair, Place, Reason};
 use mcv_judge::{Block, Leg};
 use mcv_picks::Picks;
 use std::alloc::{AllocError, Global};
@@ -20,10 +20,12 @@ fn pair_with(alloc: Global, block: &Block, leaf: &Leg, reason: Reason) -> Result
     ensures { IfOk result (λ p. pair_of p ≡ pair_with (block_of block.now) (leg_of leaf.now) (reason_of reason)) }
 {
     Ok(Pair {
-        route: block.route,
-        class: Vec::from_slice(alloc, block.class)?,
-        era: block.era,
-        leaf: leaf.position.copy(alloc)?,
+        place: Place {
+            route: block.spot.route,
+            class: Vec::from_slice(alloc, block.spot.class)?,
+            era: block.spot.era,
+            leaf: leaf.position.copy(alloc)?,
+        },
         reason,
     })
 }

@@ -27,7 +27,7 @@ word_at version key = None
 word_at quit key = None
 
 -- the key word has this rest, and this is the route of its prefix
-pub record IsPlace (r : RoutesValue) (word : List ℕ) (route : ℕ) (rest : List ℕ) : Type 0 where
+pub record IsRouted (r : RoutesValue) (word : List ℕ) (route : ℕ) (rest : List ℕ) : Type 0 where
   pub prefix : List ℕ
   pub is_key : is_key_word word ≡ true
   pub cut : IsCut word prefix rest
@@ -46,18 +46,18 @@ pub record HasNoRoute (r : RoutesValue) (word : List ℕ) : Type 0 where
   pub cut : IsCut word prefix rest
   pub unrouted : route_of_prefix prefix r.entries ≡ None
 
--- why a word has no place
-abbrev pub HasNoPlace : RoutesValue → List ℕ → CoreFault → Type 0
-HasNoPlace r word UnknownPrefix = HasNoRoute r word
-HasNoPlace r word BadKey = IsNoKey word
-HasNoPlace r word LegsFull = ⊥
-HasNoPlace r word ChapterFull = ⊥
-HasNoPlace r word NothingWaiting = ⊥
-HasNoPlace r word NoSuchLeg = ⊥
-HasNoPlace r word Busy = ⊥
-HasNoPlace r word ClockBack = ⊥
-HasNoPlace r word Memory = ⊥
-HasNoPlace r word NoSuchCall = ⊥
+-- why no route takes a word
+abbrev pub IsUnrouted : RoutesValue → List ℕ → CoreFault → Type 0
+IsUnrouted r word UnknownPrefix = HasNoRoute r word
+IsUnrouted r word BadKey = IsNoKey word
+IsUnrouted r word LegsFull = ⊥
+IsUnrouted r word ChapterFull = ⊥
+IsUnrouted r word NothingWaiting = ⊥
+IsUnrouted r word NoSuchLeg = ⊥
+IsUnrouted r word Busy = ⊥
+IsUnrouted r word ClockBack = ⊥
+IsUnrouted r word Memory = ⊥
+IsUnrouted r word NoSuchCall = ⊥
 
 -- ---- replies
 
@@ -75,7 +75,7 @@ pub record WasTaken (t : TakenReply) : Type 0 where
 pub record IsFor (r : RoutesValue) (request : RequestValue) (key : ℕ) (t : TakenReply) : Type 0 where
   pub word : List ℕ
   pub there : word_at request key ≡ Some (t.asked.op, word)
-  pub place : IsPlace r word t.asked.route t.asked.rest
+  pub routed : IsRouted r word t.asked.route t.asked.rest
 
 -- the replies are for the first keys of the request, in their order
 abbrev pub AreFor : RoutesValue → RequestValue → List TakenReply → Type 0
@@ -94,7 +94,7 @@ pub record IsRefusedAt (r : RoutesValue) (request : RequestValue) (key : ℕ) (f
   pub op : Op
   pub word : List ℕ
   pub there : word_at request key ≡ Some (op, word)
-  pub no_place : HasNoPlace r word fault
+  pub unrouted : IsUnrouted r word fault
 
 -- the hub refuses to begin a call for these reasons alone
 abbrev pub IsRefusal : CoreFault → Type 0

@@ -1,7 +1,7 @@
 //! What events leave to be done by the thread that had the lock.
 
 use mcv_base::{CallId, LegId, Mark, ServerId};
-use mcv_core::{Dispatcher, LegView, Place};
+use mcv_core::{Dispatcher, LegState, LegView};
 use mcv_hub::{Bell, Hub};
 use std::alloc::Global;
 use std::sync::ledger::Ledger;
@@ -86,7 +86,7 @@ impl<'a, B: Ledger, T: Ledger> Agenda<'a, B, T> {
     /// Leaves the legs that are due and still wait to the workers of their servers.
     pub(crate) fn leave(&mut self, core: &Dispatcher) {
         for due in self.due.iter() {
-            if core.place(due.leg) == Some(Place::Waiting) {
+            if core.leg_state(due.leg) == Some(LegState::Waiting) {
                 keep_in_mind(self.hub, &mut self.bells, Bell::Server(due.server));
             }
         }

@@ -5,7 +5,7 @@ ghost use Rattle.std.specs.Arc.{arc_value};
 ghost use Rattle.std.specs.List.{All, filter};
 ghost use Rattle.mcv_text.specs.Request.{request_value};
 ghost use Rattle.mcv_session.specs.Desk.{keys_of};
-ghost use Rattle.mcv_proxy.specs.Desk.{AreFor, Asks, HasNoPlace, IsFor, IsPlace, IsRefusal, IsUnanswered, IsUnbegun, WasTaken, desk_fault, with_receipt, word_at};
+ghost use Rattle.mcv_proxy.specs.Desk.{AreFor, Asks, IsFor, IsRefusal, IsRouted, IsUnanswered, IsUnbegun, IsUnrouted, WasTaken, desk_fault, with_receipt, word_at};
 
 use crate::errands::Errands;
 use crate::events;
@@ -68,9 +68,9 @@ struct Kept {
     ghost current: { All (λ r. chapter ≤ r.chapter) receipts.items },
 }
 
-/// Where a key word leads.
+/// A key word that a route takes.
 #[derive(Drop)]
-struct Place {
+struct RoutedKey {
     /// The number of its route.
     route: usize,
     /// The word without its routing prefix.
@@ -142,25 +142,26 @@ fn key_of(request: &Request, key: usize) -> Option<(Op, &[u8])>
     Some((ask.op, word.as_slice()))
 }
 
-/// Where a key word leads. An error is BadKey, where it is no key, or UnknownPrefix, where no route has its prefix.
-fn place_of(routes: &Routes, word: &[u8]) -> Result<Place, CoreFault>
-    ensures place { IfOk result (λ place. IsPlace routes.now word.now place.route place.rest) }
-    ensures err { IfErr result (HasNoPlace routes.now word.now) }
+/// The route of a key word, and its rest. An error is BadKey, where it is no key, or UnknownPrefix, where no route has its
+/// prefix.
+fn routed_key(routes: &Routes, word: &[u8]) -> Result<RoutedKey, CoreFault>
+    ensures routed { IfOk result (λ key. IsRouted routes.now word.now key.route key.rest) }
+    ensures err { IfErr result (IsUnrouted routes.now word.now) }
 {
     let Ok((prefix, rest)) = split_key(word) else {
         return Err(CoreFault::BadKey);
     };
     match routes.route_of(&prefix) {
-        Some(route) => Ok(Place { route, rest }),
+        Some(route) => Ok(RoutedKey { route, rest }),
         None => Err(CoreFault::UnknownPrefix),
     }
 }
 
-/// Whether the call of a reply asked this operation at this place.
-fn has_asked(taken: &TakenReply, op: Op, place: &Place) -> bool
-    ensures { (result ≡ true) ↔ ((taken.now.asked.op ≡ op) × (taken.now.asked.route ≡ place.now.route) × (taken.now.asked.rest ≡ place.now.rest)) }
+/// Whether the call of a reply asked this operation of this route and rest.
+fn has_asked(taken: &TakenReply, op: Op, routed: &RoutedKey) -> bool
+    ensures { (result ≡ true) ↔ ((taken.now.asked.op ≡ op) × (taken.now.asked.route ≡ routed.now.route) × (taken.now.asked.rest ≡ routed.now.rest)) }
 {
-    taken.op() == op && taken.route() == place.route && *taken.rest() == place.rest
+    taken.op() == op && taken.route() == routed.route && *taken.rest() == routed.rest
 }
 
 /// Whether a reply is for this key: its call asked the operation of the request, of the key's route and rest.
@@ -171,8 +172,8 @@ fn is_for(routes: &Routes, request: &Request, key: usize, taken: &TakenReply) ->
     let Some((op, word)) = key_of(request, key) else {
         return false;
     };
-    match place_of(routes, word) {
-        Ok(place) => has_asked(taken, op, &place),
+    match routed_key(routes, word) {
+        Ok(routed) => has_asked(taken, op, &routed),
         Err(_) => false,
     }
 }
@@ -189,8 +190,7 @@ fn are_for(routes: &Routes, request: &Request, taken: &[TakenReply]) -> bool
     true
 }
 
-/// Why the hub began no call for a key, as far as the routes say so: where they have a place for a key that the hub has none
-/// for, it is NoSuchCall.
+/// Why the hub began no call for a key, as far as the routes say so: where one of them takes it, it is NoSuchCall.
 fn confirmed(routes: &Routes, request: &Request, key: usize, fault: CoreFault) -> CoreFault
     requires { IsRefusal fault }
     ensures { IsUnbegun routes.now (request_value request.now) key result }
@@ -200,7 +200,7 @@ fn confirmed(routes: &Routes, request: &Request, key: usize, fault: CoreFault) -
             let Some((_op, word)) = key_of(request, key) else {
                 return CoreFault::NoSuchCall;
             };
-            match place_of(routes, word) {
+            match routed_key(routes, word) {
                 Ok(_) => CoreFault::NoSuchCall,
                 Err(fault) => fault,
             }

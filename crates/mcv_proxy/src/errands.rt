@@ -10,7 +10,7 @@ use crate::landing::{land, lose};
 use crate::lanes::{Lanes, Links};
 use crate::seen::{Departure, Flight, Landed};
 use mcv_base::{CallId, ServerId};
-use mcv_core::Place;
+use mcv_core::LegState;
 use mcv_hub::{Bell, Guard, Hub, Pass};
 use std::alloc::Global;
 use std::marker::PhantomData;
@@ -175,7 +175,7 @@ impl<'a, B: Ledger, T: Ledger, L: Link> Errands<'a, B, T, L> {
         own: &[CallId],
         due: Due,
     ) -> Attention {
-        if guard.core().place(due.leg) != Some(Place::Waiting) {
+        if guard.core().leg_state(due.leg) != Some(LegState::Waiting) {
             return Attention::None;
         }
         match self.flies_to() {
@@ -313,7 +313,7 @@ impl<'a, B: Ledger, T: Ledger, L: Link> Errands<'a, B, T, L> {
     /// Whether a leg of the session waits for the server.
     fn has_due(&self, guard: &Guard<'_, B, T>, server: ServerId) -> bool {
         self.agenda.due.iter().any(|due| {
-            due.server == server && guard.core().place(due.leg) == Some(Place::Waiting)
+            due.server == server && guard.core().leg_state(due.leg) == Some(LegState::Waiting)
         })
     }
 

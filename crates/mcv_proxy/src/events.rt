@@ -16,7 +16,7 @@ ghost use Rattle.mcv_proxy.specs.Steps.{IsLanding};
 use crate::agenda::Agenda;
 use crate::gates::LinkFault;
 use mcv_base::{CallId, LegId, Request, ServerId};
-use mcv_core::{CoreFault, Dispatcher, Place, Step};
+use mcv_core::{CoreFault, Dispatcher, LegState, Step};
 use mcv_hub::{Bell, Guard, LegReply, Seat};
 use mcv_spool::Stored;
 use std::alloc::Global;
@@ -65,7 +65,7 @@ fn note_after<B: Ledger, T: Ledger>(
     core: &Dispatcher,
     own: &[CallId],
     concerned: Concerned,
-    place: Place,
+    state: LegState,
 ) {
     agenda.note_launched(core, concerned.first, own);
     if let Some(call) = concerned.call {
@@ -76,10 +76,10 @@ fn note_after<B: Ledger, T: Ledger>(
     if core.entries() >= MANY_ENTRIES {
         agenda.add(Bell::Chapter);
     }
-    match place {
-        Place::Held => agenda.add(Bell::Spool),
-        Place::Spooled => agenda.add(Bell::Replayer),
-        Place::Waiting | Place::Sent | Place::Performed | Place::Gone => {}
+    match state {
+        LegState::Held => agenda.add(Bell::Spool),
+        LegState::Spooled => agenda.add(Bell::Replayer),
+        LegState::Waiting | LegState::Sent | LegState::Performed | LegState::Gone => {}
     }
 }
 
@@ -116,11 +116,11 @@ pub(crate) fn answered<B: Ledger, T: Ledger>(
     reply: LegReply,
 ) -> Result<Step, CoreFault>
     ensures event { IsLegEvent (answer_at (core_view guard.old.core) leg.0 reply) reply leg guard.old guard.new result }
-    ensures records { IfOk result (λ step. records_of guard.new.core ≡ records_after step.place leg.0 (records_of guard.old.core)) }
+    ensures records { IfOk result (λ step. records_of guard.new.core ≡ records_after step.state leg.0 (records_of guard.old.core)) }
 {
     let concerned = concerned_by(guard.core(), leg);
     let step = guard.answered(leg, reply)?;
-    note_after(agenda, guard.core(), own, concerned, step.place);
+    note_after(agenda, guard.core(), own, concerned, step.state);
     Ok(step)
 }
 
@@ -137,7 +137,7 @@ pub(crate) fn lost<B: Ledger, T: Ledger>(
     let concerned = concerned_by(guard.core(), leg);
     let step = guard.lost(leg)?;
     guard.mark(server);
-    note_after(agenda, guard.core(), own, concerned, step.place);
+    note_after(agenda, guard.core(), own, concerned, step.state);
     Ok(step)
 }
 
@@ -170,7 +170,7 @@ pub(crate) fn spooled<B: Ledger, T: Ledger>(
 {
     let concerned = concerned_by(guard.core(), leg);
     let step = guard.spooled(leg, stored)?;
-    note_after(agenda, guard.core(), &[], concerned, step.place);
+    note_after(agenda, guard.core(), &[], concerned, step.state);
     Ok(step)
 }
 
@@ -185,6 +185,6 @@ pub(crate) fn spool_refused<B: Ledger, T: Ledger>(
 {
     let concerned = concerned_by(guard.core(), leg);
     let step = guard.spool_refused(leg)?;
-    note_after(agenda, guard.core(), &[], concerned, step.place);
+    note_after(agenda, guard.core(), &[], concerned, step.state);
     Ok(step)
 }

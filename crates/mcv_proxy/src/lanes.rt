@@ -6,7 +6,7 @@ ghost use Rattle.mcv_proxy.specs.Flights.{HasBegun, IsAnswerTo};
 use crate::gates::{Link, LinkFault};
 use crate::landing::answer_of;
 use mcv_base::{CallId, LegId, LegRequest, ServerId};
-use mcv_core::{Dispatcher, Place};
+use mcv_core::{Dispatcher, LegState};
 use mcv_hub::{Bell, LegReply, Pass};
 use std::alloc::{AllocError, Global};
 use std::collections::VecDeque;
@@ -82,7 +82,7 @@ impl Lane {
     fn clear(&mut self, core: &Dispatcher) {
         for _waiter in 0..self.waiters.len() {
             match self.waiters.front() {
-                Some(waiter) if core.place(waiter.leg) == Some(Place::Waiting) => return,
+                Some(waiter) if core.leg_state(waiter.leg) == Some(LegState::Waiting) => return,
                 _ => {
                     let _ = self.waiters.pop_front();
                 }

@@ -8,7 +8,7 @@ use Rattle.mcv_reply.specs.declared.word.Row.{Row}
 use Rattle.mcv_reply.specs.declared.candidate.Head.{Head}
 use Rattle.mcv_reply.specs.Word.{has_cas, tail_of, word_text}
 use Rattle.mcv_reply.specs.Line.{Form, word, number, Next, Writes, IsWritten, IsDigits, IsLine, cas_forms, decimal_from, flags_forms, size_forms, spaces, tail_forms}
-use Rattle.mcv_reply.specs.Place.{is_clean}
+use Rattle.mcv_reply.specs.Candidate.{is_clean}
 use Rattle.mcv_reply.proofs.Writing.{Starts, behind_first, number_starts}
 use Rattle.mcv_reply.proofs.Words.{word_clean, word_starts}
 

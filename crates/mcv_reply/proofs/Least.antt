@@ -9,11 +9,11 @@ use Rattle.mcv_reply.specs.declared.candidate.Name.{Name}
 use Rattle.mcv_reply.specs.declared.candidate.Name.TheVariants.{First, Key}
 use Rattle.mcv_reply.specs.declared.candidate.Number.{Number}
 use Rattle.mcv_reply.specs.declared.candidate.Number.TheVariants.{Flags, Size, Cas}
-use Rattle.mcv_reply.specs.declared.candidate.Place.{Place}
-use Rattle.mcv_reply.specs.declared.candidate.Place.TheVariants.{BeforeName, InName, BeforeNumber, InNumber, Blank, Return, Text}
+use Rattle.mcv_reply.specs.declared.candidate.LinePart.{LinePart}
+use Rattle.mcv_reply.specs.declared.candidate.LinePart.TheVariants.{BeforeName, InName, BeforeNumber, InNumber, Blank, Return, Text}
 use Rattle.mcv_reply.specs.Word.{tail_of}
 use Rattle.mcv_reply.specs.Line.{Form, word, number, text, Next, Writes, cas_forms, tail_forms, spaces}
-use Rattle.mcv_reply.specs.Place.{Follows, behind_name, behind_number, fewest, limit_of, name_text, needed, number_in, zero_head}
+use Rattle.mcv_reply.specs.Candidate.{Follows, behind_name, behind_number, fewest, limit_of, name_text, needed, number_in, zero_head}
 
 next_length : (form : Form) (least : ℕ) (Then : List ℕ → Type 0) (line : List ℕ) (n : Next form least Then line) → length line ≡ n.gap + (length n.written + length n.after)
 next_length form least Then line n = omega (arith, ap length n.parts, length-append (spaces n.gap) (n.written ++ n.after), length-append n.written n.after, length-replicate {A = ℕ} n.gap 32)
@@ -46,7 +46,7 @@ fewest_number Flags has head = omega (arith, fewest_cas has head.cas)
 fewest_number Size has head = fewest_cas has head.cas
 fewest_number Cas has head = refl
 
-pub needed_least : (first : Word) (has : Bool) (key : List ℕ) (read : Head) (place : Place) (head : Head) (more : List ℕ) → Follows first has key read place head more → needed first has key place ≤ length more
+pub needed_least : (first : Word) (has : Bool) (key : List ℕ) (read : Head) (part : LinePart) (head : Head) (more : List ℕ) → Follows first has key read part head more → needed first has key part ≤ length more
 needed_least first has key read (BeforeName name) head more f = omega (arith, writes_least (word (name_text name first key) ∷ behind_name name first has key head) 0 more f, fewest_name name first has key head)
 needed_least first has key read (InName name at) head more f = omega (arith, ap length f.parts, length-append (drop at (name_text name first key)) f.after, writes_least (behind_name name first has key head) 1 f.after f.rest, fewest_name name first has key head)
 needed_least first has key read (BeforeNumber n) head more f = omega (arith, writes_least (number (limit_of n) (number_in n head) ∷ behind_number n has head) 0 more f.1, fewest_number n has head)

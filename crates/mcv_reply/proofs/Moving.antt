@@ -4,7 +4,7 @@ use Rattle.std.proofs.lemmas.Bool.{eqb-true, eqb-false}
 use Rattle.mcv_reply.specs.declared.candidate.Head.{Head}
 use Rattle.mcv_reply.specs.declared.candidate.Candidate.{Candidate}
 use Rattle.mcv_reply.specs.declared.candidate.Move.{Move}
-use Rattle.mcv_reply.specs.Place.{Moves, MovesOn}
+use Rattle.mcv_reply.specs.Candidate.{Moves, MovesOn}
 
 module _ (has : Bool) (key : List ℕ) (c : Candidate) (b : ℕ) where
   -- the same may follow

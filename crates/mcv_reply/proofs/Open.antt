@@ -12,12 +12,12 @@ use Rattle.mcv_reply.specs.declared.candidate.Name.{Name}
 use Rattle.mcv_reply.specs.declared.candidate.Name.TheVariants.{First, Key}
 use Rattle.mcv_reply.specs.declared.candidate.Number.{Number}
 use Rattle.mcv_reply.specs.declared.candidate.Number.TheVariants.{Flags, Size, Cas}
-use Rattle.mcv_reply.specs.declared.candidate.Place.{Place}
-use Rattle.mcv_reply.specs.declared.candidate.Place.TheVariants.{BeforeName, InName, BeforeNumber, InNumber, Blank, Return, Text}
+use Rattle.mcv_reply.specs.declared.candidate.LinePart.{LinePart}
+use Rattle.mcv_reply.specs.declared.candidate.LinePart.TheVariants.{BeforeName, InName, BeforeNumber, InNumber, Blank, Return, Text}
 use Rattle.mcv_reply.specs.declared.candidate.Candidate.{Candidate}
 use Rattle.mcv_reply.specs.Word.{tail_of}
 use Rattle.mcv_reply.specs.Line.{Form, word, number, text, Writes, cas_forms, size_forms, tail_forms, spaces}
-use Rattle.mcv_reply.specs.Place.{Follows, IsValid, IsValidAt, Open, behind_name, fewest, is_clean, limit_of, name_text, needed, zero_head}
+use Rattle.mcv_reply.specs.Candidate.{Follows, IsValid, IsValidAt, Open, behind_name, fewest, is_clean, limit_of, name_text, needed, zero_head}
 use Rattle.mcv_reply.proofs.Ending.{all_read}
 use Rattle.mcv_reply.proofs.Words.{name_clean}
 
@@ -89,11 +89,11 @@ head_at Size read n = record { flags = read.flags; size = n; cas = 0 }
 head_at Cas read n = record { flags = read.flags; size = read.size; cas = n }
 
 -- what may follow, and no more than must
-pub record Completes (first : Word) (has : Bool) (key : List ℕ) (read : Head) (place : Place) : Type 0 where
+pub record Completes (first : Word) (has : Bool) (key : List ℕ) (read : Head) (part : LinePart) : Type 0 where
   pub head : Head
   pub more : List ℕ
-  pub follows : Follows first has key read place head more
-  pub len : length more ≡ needed first has key place
+  pub follows : Follows first has key read part head more
+  pub len : length more ≡ needed first has key part
   pub no_end : All (λ b. b ≢ 10) more
 
 before_number : (first : Word) (has : Bool) (key : List ℕ) (read : Head) (n : Number) → Completes first has key read (BeforeNumber n)
@@ -106,7 +106,7 @@ in_number first has key read Flags value l = let s = shortest (size_forms has ze
 in_number first has key read Size value l = let s = shortest (cas_forms has 0) 1 (plain_cas has) in record { head = head_at Size read value; more = s.more; follows = (refl, record { digits = []; after = s.more; parts = refl; are = tt; value_is = refl; within = l; rest = s.writes }); len = s.len; no_end = s.no_end }
 in_number first has key read Cas value l = record { head = head_at Cas read value; more = []; follows = ((refl, refl), record { digits = []; after = []; parts = refl; are = tt; value_is = refl; within = l; rest = tt }); len = refl; no_end = All-nil (λ b. b ≢ 10) }
 
-pub completes : (first : Word) (has : Bool) (key : List ℕ) (read : Head) (place : Place) → is_clean key ≡ true → IsValidAt first has place → Completes first has key read place
+pub completes : (first : Word) (has : Bool) (key : List ℕ) (read : Head) (part : LinePart) → is_clean key ≡ true → IsValidAt first has part → Completes first has key read part
 completes first has key read (BeforeName name) clean valid =
     let s = shortest (word (name_text name first key) ∷ behind_name name first has key zero_head) 0 (name_clean name first key clean, plain_name name first has key clean) in
     record { head = zero_head; more = s.more; follows = s.writes; len = s.len; no_end = s.no_end }
@@ -128,5 +128,5 @@ completes first has key read Text clean valid = record { head = read; more = [];
 
 pub candidate_opens : (has : Bool) (key : List ℕ) (c : Candidate) → is_clean key ≡ true → IsValid has c → (head : Head) × (more : List ℕ) × Open has key c head more
 candidate_opens has key c clean valid =
-    let k = completes c.first has key c.head c.place clean valid in
+    let k = completes c.first has key c.head c.part clean valid in
     (k.head, k.more, record { follows = k.follows; short = omega (arith, k.len); no_end = k.no_end })

@@ -14,7 +14,7 @@ use Rattle.mcv_reply.specs.declared.fault.ReplyFault.TheVariants.{NotAReply, Clo
 use Rattle.mcv_reply.specs.declared.progress.Progress.{Progress}
 use Rattle.mcv_reply.specs.Word.{has_cas}
 use Rattle.mcv_reply.specs.Line.{IsLine}
-use Rattle.mcv_reply.specs.Place.{zero_head}
+use Rattle.mcv_reply.specs.Candidate.{zero_head}
 use Rattle.mcv_reply.specs.Plain.{EndsValue, value_end}
 use Rattle.mcv_reply.specs.Reply.{Spells, with_value, cas_said}
 use Rattle.mcv_reply.specs.Reader.{Fed}

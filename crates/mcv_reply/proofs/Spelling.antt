@@ -11,7 +11,7 @@ use Rattle.mcv_reply.specs.declared.word.Row.TheVariants as rows
 use Rattle.mcv_reply.specs.declared.candidate.Head.{Head}
 use Rattle.mcv_reply.specs.Word.{has_cas}
 use Rattle.mcv_reply.specs.Line.{IsLine}
-use Rattle.mcv_reply.specs.Place.{is_clean}
+use Rattle.mcv_reply.specs.Candidate.{is_clean}
 use Rattle.mcv_reply.specs.Reply.{Spells, alone, with_value, cas_said, said_alone}
 use Rattle.mcv_reply.proofs.Alike.{first_one, value_one}
 

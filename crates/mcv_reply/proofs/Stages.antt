@@ -16,7 +16,7 @@ use Rattle.mcv_reply.specs.declared.candidate.Head.{Head}
 use Rattle.mcv_reply.specs.declared.candidate.Candidate.{Candidate}
 use Rattle.mcv_reply.specs.Word.{answers, has_cas}
 use Rattle.mcv_reply.specs.Line.{IsLine}
-use Rattle.mcv_reply.specs.Place.{IsKept, is_clean, zero_head}
+use Rattle.mcv_reply.specs.Candidate.{IsKept, is_clean, zero_head}
 use Rattle.mcv_reply.specs.Reply.{Spells, alone, with_value, cas_said, said_alone}
 use Rattle.mcv_reply.specs.Reader.{BeginsNone, IsFront}
 use Rattle.std.specs.Prelude.{codes}

@@ -24,7 +24,7 @@ use Rattle.mcv_reply.specs.declared.progress.Stage.TheVariants as stages
 use Rattle.mcv_reply.specs.Reader as reader_states
 use Rattle.mcv_reply.specs.Word.{answers, has_cas}
 use Rattle.mcv_reply.specs.Line.{IsLine}
-use Rattle.mcv_reply.specs.Place.{GoesOn, IsKept, is_clean, zero_head}
+use Rattle.mcv_reply.specs.Candidate.{GoesOn, IsKept, is_clean, zero_head}
 use Rattle.mcv_reply.specs.Reply.{Spells, cas_said}
 use Rattle.mcv_reply.specs.Reader.{ReaderState, Fed, Answered, Answers, FeedsAt, IsFront, BeginsNone}
 use Rattle.mcv_reply.specs.Progress.{bytes_at, HitMade, IsAt, IsAtStage, LastEnds, FirstEnds, ReadsPiece, StepMakes, Steps, reader_state_at}

@@ -1,7 +1,7 @@
 pub mod Word
 pub mod Line
 pub mod Reply
-pub mod Place
+pub mod Candidate
 pub mod Reader
 pub mod Plain
 pub mod Progress

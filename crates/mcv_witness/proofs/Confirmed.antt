@@ -53,29 +53,29 @@ reply_by_hits leaf (a ∷ rs) e = e
 
 module _ (f : FindingValue) (t : Tree) (rest : List ℕ) (since : Option ℕ) where
   abbrev pub read_walk : Option Seen
-  read_walk = pass f.leaf f.server (chosen f) t (asked f.op rest since) (record { legs = f.gets; depth = 0 })
+  read_walk = pass f.place.leaf f.server (chosen f) t (asked f.op rest since) (record { legs = f.gets; depth = 0 })
 
   abbrev read_seen : Seen
-  read_seen = record { reply = seen_reply f.leaf (replies t (asked f.op rest since) (outcomes f.gets)); sent = reaches f.server (launched t (asked f.op rest since) (chosen f) (outcomes f.gets)) }
+  read_seen = record { reply = seen_reply f.place.leaf (replies t (asked f.op rest since) (outcomes f.gets)); sent = reaches f.server (launched t (asked f.op rest since) (chosen f) (outcomes f.gets)) }
 
   pub read_right : is_reading f.op ≡ true → AreRising f.gets → hit_seen read_walk ≡ true → IsRead f t rest since
   read_right reading rising e =
-      let walk = sees f.leaf f.server (chosen f) t (asked f.op rest since) f.gets (rising_rises f.gets rising) in
+      let walk = sees f.place.leaf f.server (chosen f) t (asked f.op rest since) f.gets (rising_rises f.gets rising) in
       let parts = cond_hit (all_sent (launched t (asked f.op rest since) (chosen f) (outcomes f.gets)) f.gets) read_seen (sym (ap hit_seen walk) ∙ e) in
       let rs = replies t (asked f.op rest since) (outcomes f.gets) in
       record {
         reading = reading;
         rising = rising;
         reachable = all_reachable t (asked f.op rest since) (chosen f) f.gets parts.0;
-        hit = hits_has f.leaf rs (hits_by_reply f.leaf rs parts.1);
+        hit = hits_has f.place.leaf rs (hits_by_reply f.place.leaf rs parts.1);
       }
 
   pub read_left : IsRead f t rest since → hit_seen read_walk ≡ true
   read_left read =
       let rs = replies t (asked f.op rest since) (outcomes f.gets) in
-      ap hit_seen (sees f.leaf f.server (chosen f) t (asked f.op rest since) f.gets (rising_rises f.gets read.rising))
+      ap hit_seen (sees f.place.leaf f.server (chosen f) t (asked f.op rest since) f.gets (rising_rises f.gets read.rising))
       ∙ ap (λ a. hit_seen (cond a (Some read_seen) None)) (reachable_all t (asked f.op rest since) (chosen f) f.gets read.reachable)
-      ∙ reply_by_hits f.leaf rs (has_hits f.leaf rs read.hit)
+      ∙ reply_by_hits f.place.leaf rs (has_hits f.place.leaf rs read.hit)
 
 -- ---- the delete
 
@@ -101,20 +101,20 @@ fine_of leaf (a ∷ rs) x e h = not_false (is_error a.outcome) (ap is_error (sam
 
 module _ (f : FindingValue) (t : Tree) (rest : List ℕ) (since : Option ℕ) where
   abbrev pub missed_walk : Option Seen
-  missed_walk = pass f.leaf f.server (chosen f) t (asked Delete rest since) (record { legs = f.deletes; depth = 0 })
+  missed_walk = pass f.place.leaf f.server (chosen f) t (asked Delete rest since) (record { legs = f.deletes; depth = 0 })
 
   abbrev missed_is : Seen
-  missed_is = record { reply = seen_reply f.leaf (replies t (asked Delete rest since) (outcomes f.deletes)); sent = reaches f.server (launched t (asked Delete rest since) (chosen f) (outcomes f.deletes)) }
+  missed_is = record { reply = seen_reply f.place.leaf (replies t (asked Delete rest since) (outcomes f.deletes)); sent = reaches f.server (launched t (asked Delete rest since) (chosen f) (outcomes f.deletes)) }
 
   pub missed_right : AreRising f.deletes → missed_seen missed_walk ≡ true → IsMissed f t rest since
   missed_right rising e =
-      let walk = sees f.leaf f.server (chosen f) t (asked Delete rest since) f.deletes (rising_rises f.deletes rising) in
+      let walk = sees f.place.leaf f.server (chosen f) t (asked Delete rest since) f.deletes (rising_rises f.deletes rising) in
       let ls = launched t (asked Delete rest since) (chosen f) (outcomes f.deletes) in
       let parts = cond_missed (all_sent ls f.deletes) missed_is (sym (ap missed_seen walk) ∙ e) in
       record {
         rising = rising;
         reachable = all_reachable t (asked Delete rest since) (chosen f) f.deletes parts.0;
-        done = fine_has f.leaf (replies t (asked Delete rest since) (outcomes f.deletes)) parts.2;
+        done = fine_has f.place.leaf (replies t (asked Delete rest since) (outcomes f.deletes)) parts.2;
         unsent = λ h. false≢true (sym parts.1 ∙ has_reaches f.server ls h);
       }
 
@@ -128,14 +128,14 @@ module _ (f : FindingValue) (t : Tree) (rest : List ℕ) (since : Option ℕ) wh
       let o = outcomes f.deletes in
       let ls = launched t s (chosen f) o in
       let done = done_planned t rest since o missed.done in
-      ap missed_seen (sees f.leaf f.server (chosen f) t s f.deletes (rising_rises f.deletes missed.rising))
+      ap missed_seen (sees f.place.leaf f.server (chosen f) t s f.deletes (rising_rises f.deletes missed.rising))
       ∙ ap (λ a. missed_seen (cond a (Some missed_is) None)) (reachable_all t s (chosen f) f.deletes missed.reachable)
-      ∙ and_from (not (reaches f.server ls)) (reply_acknowledges (seen_reply f.leaf (replies t s o))) (not_false (reaches f.server ls) (reaches_no (reaches f.server ls) (λ e. missed.unsent (reaches_has f.server ls e))))
-      (fine_of f.leaf (replies t s o) done.0 (reply_is_planned t s o ∙ done.1) done.2)
+      ∙ and_from (not (reaches f.server ls)) (reply_acknowledges (seen_reply f.place.leaf (replies t s o))) (not_false (reaches f.server ls) (reaches_no (reaches f.server ls) (λ e. missed.unsent (reaches_has f.server ls e))))
+      (fine_of f.place.leaf (replies t s o) done.0 (reply_is_planned t s o ∙ done.1) done.2)
 
 -- ---- one place
 
 -- a finding is at one place
 pub one_place : (r : RoutesValue) (f : FindingValue) (t u : Tree) (rest more : List ℕ) (since other : Option ℕ) → IsAtPlace r f t rest since → IsAtPlace r f u more other → (t ≡ u) × (rest ≡ more) × (since ≡ other)
 one_place r f t u rest more since other h g =
-    (same_Some t u (sym h.route ∙ g.route), (one_reading f.key h.prefix rest g.prefix more h.cut g.cut).1, one_era r f.era since other h.era g.era)
+    (same_Some t u (sym h.route ∙ g.route), (one_reading f.key h.prefix rest g.prefix more h.cut g.cut).1, one_era r f.place.spot.era since other h.era g.era)

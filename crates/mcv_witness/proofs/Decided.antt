@@ -157,18 +157,18 @@ leaf-in entries n p t e = by (slice_get entries n) e
     by None g = absurd (none-some t g)
     by (Some x) g = ap (λ u. pool_at_position u p) (same_Some x.tree t g)
 
-module _ (r : RoutesValue) (f : FindingValue) (t : Tree) (is : option_map (λ e. e.tree) (slice_get r.entries f.route) ≡ Some t) where
-  pool-in : (p : Pool) → Some p ≡ leaf_in r f.route f.leaf → pool_at_position t f.leaf ≡ Some p
-  pool-in p e = sym (leaf-in r.entries f.route f.leaf t is) ∙ sym e
+module _ (r : RoutesValue) (f : FindingValue) (t : Tree) (is : option_map (λ e. e.tree) (slice_get r.entries f.place.spot.route) ≡ Some t) where
+  pool-in : (p : Pool) → Some p ≡ leaf_in r f.place.spot.route f.place.leaf → pool_at_position t f.place.leaf ≡ Some p
+  pool-in p e = sym (leaf-in r.entries f.place.spot.route f.place.leaf t is) ∙ sym e
 
-  pub no_pool : None ≡ leaf_in r f.route f.leaf → IsTrue false ↔ IsLeafOf f t
-  no_pool e = (λ g. absurd (false≢true g), λ h. absurd (none-some h.pool (e ∙ leaf-in r.entries f.route f.leaf t is ∙ h.pool_there)))
+  pub no_pool : None ≡ leaf_in r f.place.spot.route f.place.leaf → IsTrue false ↔ IsLeafOf f t
+  no_pool e = (λ g. absurd (false≢true g), λ h. absurd (none-some h.pool (e ∙ leaf-in r.entries f.place.spot.route f.place.leaf t is ∙ h.pool_there)))
 
-  pub other_index : (p : Pool) → Some p ≡ leaf_in r f.route f.leaf → chosen f p.symbol ≢ f.at → IsTrue false ↔ IsLeafOf f t
+  pub other_index : (p : Pool) → Some p ≡ leaf_in r f.place.spot.route f.place.leaf → chosen f p.symbol ≢ f.at → IsTrue false ↔ IsLeafOf f t
   other_index p e other =
       (λ g. absurd (false≢true g), λ h. absurd (other (ap (λ q. chosen f q.symbol) (same_Some p h.pool (sym (pool-in p e) ∙ h.pool_there)) ∙ h.index)))
 
-  pub at_leaf : (p : Pool) (b : Bool) → Some p ≡ leaf_in r f.route f.leaf → chosen f p.symbol ≡ f.at → IsTrue b ↔ (slice_get p.servers f.at ≡ Some f.server) → IsTrue b ↔ IsLeafOf f t
+  pub at_leaf : (p : Pool) (b : Bool) → Some p ≡ leaf_in r f.place.spot.route f.place.leaf → chosen f p.symbol ≡ f.at → IsTrue b ↔ (slice_get p.servers f.at ≡ Some f.server) → IsTrue b ↔ IsLeafOf f t
   at_leaf p b e index decides = (
     λ g. record { pool = p; pool_there = pool-in p e; index = index; server = decides.0 g },
     λ h. decides.1 (ap (λ q. slice_get q.servers f.at) (same_Some p h.pool (sym (pool-in p e) ∙ h.pool_there)) ∙ h.server),
@@ -216,29 +216,29 @@ module _ (r : RoutesValue) (f : FindingValue) where
   faulty_key fault h t rest since s = no-key f.key fault s.prefix rest h s.word s.cut s.rest_is
 
   module _ (routed more : List ℕ) (cut : IsCut f.key routed more) where
-    selects : (t : Tree) (rest : List ℕ) (since : Option ℕ) → IsAtPlace r f t rest since → route_of_prefix routed r.entries ≡ Some f.route
+    selects : (t : Tree) (rest : List ℕ) (since : Option ℕ) → IsAtPlace r f t rest since → route_of_prefix routed r.entries ≡ Some f.place.spot.route
     selects t rest since s = ap (λ p. route_of_prefix p r.entries) (one_reading f.key routed more s.prefix rest cut s.cut).0 ∙ s.selects
 
     pub no_route : None ≡ route_of_prefix routed r.entries → IsNowhere r f
-    no_route e t rest since s = none-some f.route (e ∙ selects t rest since s)
+    no_route e t rest since s = none-some f.place.spot.route (e ∙ selects t rest since s)
 
-    pub other_route : (n : ℕ) → Some n ≡ route_of_prefix routed r.entries → n ≢ f.route → IsNowhere r f
-    other_route n e other t rest since s = other (same_Some n f.route (e ∙ selects t rest since s))
+    pub other_route : (n : ℕ) → Some n ≡ route_of_prefix routed r.entries → n ≢ f.place.spot.route → IsNowhere r f
+    other_route n e other t rest since s = other (same_Some n f.place.spot.route (e ∙ selects t rest since s))
 
-    pub other_class : (u : Tree) (b : Bool) → Some u ≡ option_map (λ e. e.tree) (slice_get r.entries f.route) → b ≡ false → IsTrue b ↔ IsClassWord (class_words u) more f.class → IsNowhere r f
+    pub other_class : (u : Tree) (b : Bool) → Some u ≡ option_map (λ e. e.tree) (slice_get r.entries f.place.spot.route) → b ≡ false → IsTrue b ↔ IsClassWord (class_words u) more f.place.spot.class → IsNowhere r f
     other_class u b e bad decides t rest since s =
         let tree : t ≡ u = same_Some t u (sym s.route ∙ sym e) in
         let same : rest ≡ more = sym (one_reading f.key routed more s.prefix rest cut s.cut).1 in
-        false≢true (sym bad ∙ decides.1 (subst (λ x. IsClassWord (class_words x) more f.class) tree (subst (λ x. IsClassWord (class_words t) x f.class) same s.class)))
+        false≢true (sym bad ∙ decides.1 (subst (λ x. IsClassWord (class_words x) more f.place.spot.class) tree (subst (λ x. IsClassWord (class_words t) x f.place.spot.class) same s.class)))
 
-  pub no_tree : None ≡ option_map (λ e. e.tree) (slice_get r.entries f.route) → IsNowhere r f
+  pub no_tree : None ≡ option_map (λ e. e.tree) (slice_get r.entries f.place.spot.route) → IsNowhere r f
   no_tree e t rest since s = none-some t (e ∙ s.route)
 
-  pub no_era : (HasEra r f.era → ⊥) → IsNowhere r f
+  pub no_era : (HasEra r f.place.spot.era → ⊥) → IsNowhere r f
   no_era none t rest since s = none (since, s.era)
 
-  pub found_at : (routed more : List ℕ) (t : Tree) (since : Option ℕ) (n : ℕ) → is_key_word f.key ≡ true → IsCut f.key routed more → IsRest more → Some n ≡ route_of_prefix routed r.entries → n ≡ f.route
-      → Some t ≡ option_map (λ e. e.tree) (slice_get r.entries n) → IsClassWord (class_words t) more f.class → IsEraOf r f.era since → IsAtPlace r f t more since
+  pub found_at : (routed more : List ℕ) (t : Tree) (since : Option ℕ) (n : ℕ) → is_key_word f.key ≡ true → IsCut f.key routed more → IsRest more → Some n ≡ route_of_prefix routed r.entries → n ≡ f.place.spot.route
+      → Some t ≡ option_map (λ e. e.tree) (slice_get r.entries n) → IsClassWord (class_words t) more f.place.spot.class → IsEraOf r f.place.spot.era since → IsAtPlace r f t more since
   found_at routed more t since n word cut rest selects same tree class era = record {
     prefix = routed;
     route = ap (λ k. option_map (λ e. e.tree) (slice_get r.entries k)) (sym same) ∙ sym tree;

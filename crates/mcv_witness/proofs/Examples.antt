@@ -35,13 +35,10 @@ routes = record {
 
 abbrev finding : FindingValue
 finding = record {
-  route = 0;
-  class = [];
-  era = 0;
-  key = codes "/././!";
-  leaf = 1 ∷ [];
+  place = record { spot = record { route = 0; class = []; era = 0 }; leaf = 1 ∷ [] };
   at = 0;
   server = 1;
+  key = codes "/././!";
   choice = 0 ∷ [];
   op = Get;
   gets = (0 ∷ [], Soft) ∷ (1 ∷ [], Good) ∷ [];

@@ -74,7 +74,7 @@ can_hit f t rest since leaf read =
     let s = asked f.op rest since in
     let c = chosen f in
     let o = outcomes f.gets in
-    let k = (hit_is_planned t s o f.leaf).0 read.hit in
+    let k = (hit_is_planned t s o f.place.leaf).0 read.hit in
     let sends = hit_sent (plan t s) c o k.0 k.1 in
     let own = legs_are_of_pools t f.op rest since c o (launch_of c k.0) (sends_has t s c o (λ m. m ≡ launch_of c k.0) k.0 sends refl) in
     let same = same_Some own.0 leaf.pool (sym own.1 ∙ ap (pool_at_position t) k.2 ∙ leaf.pool_there) in
@@ -97,7 +97,7 @@ readable Touch t rest since c x e h = absurd (false≢true e)
 
 pub findings_are_losses : FindingsAreLosses
 findings_are_losses r f b covered =
-    let e = entry_at r.entries f.route b.tree b.placed.route in
-    let here = subst (λ u. IsCovered (sizes_of r) u b.rest b.since) e.2 (covered e.0 b.rest b.since e.1 b.placed.rest_is (era_there r f.era b.since b.placed.era)) in
+    let e = entry_at r.entries f.place.spot.route b.tree b.placed.route in
+    let here = subst (λ u. IsCovered (sizes_of r) u b.rest b.since) e.2 (covered e.0 b.rest b.since e.1 b.placed.rest_is (era_there r f.place.spot.era b.since b.placed.era)) in
     b.missed.unsent (here (chosen f) (outcomes f.deletes) b.choice b.missed.reachable b.missed.done f.server
     (readable f.op b.tree b.rest b.since (chosen f) f.server b.read.reading (can_hit f b.tree b.rest b.since b.leaf b.read)))

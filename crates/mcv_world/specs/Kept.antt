@@ -18,7 +18,7 @@ pub record KeepsLeg (w : World) (k x : ℕ) : Type 0 where
   pub server : leg.launch.server.0 ≡ x
   pub deletes : leg.launch.op ≡ Delete
   pub counts : is_counting leg.launch.mark ≡ true
-  pub place : (leg.place ≡ Performed) ⊎ (leg.place ≡ Queued) ⊎ (leg.place ≡ Spooled)
+  pub state : (leg.state ≡ Performed) ⊎ (leg.state ≡ Queued) ⊎ (leg.state ≡ Spooled)
 
 -- each delete that has a reply that isn't an error, taken or not, keeps a leg to each server that a get or gets of its
 -- rest could be answered by, by its route, in its era and under its choice, whatever the servers reply

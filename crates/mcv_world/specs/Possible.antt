@@ -11,7 +11,7 @@ use Rattle.mcv_world.specs.Moves.{Move, Began, Answered, WasSpooled, WasRefused,
 -- spooled legs alone, and no call. Legs of an earlier chapter may name their call, whose number is no later call's
 pub record IsOpening (r : RoutesValue) (w : World) : Type 0 where
   pub calls : (k : ℕ) → w.calls k ≡ None
-  pub spooled : (n : ℕ) (s : Leg) → w.legs n ≡ Some s → s.place ≡ Spooled
+  pub spooled : (n : ℕ) (s : Leg) → w.legs n ≡ Some s → s.state ≡ Spooled
   pub number : (n : ℕ) (s : Leg) → w.legs n ≡ Some s → n < w.next_leg
   pub owner : (n : ℕ) (s : Leg) (k : ℕ) → w.legs n ≡ Some s → s.call ≡ Some k → k < w.next_call
   pub era : IsEra r w.since

@@ -1,8 +1,8 @@
 use Rattle.std.proofs.Common.{◌≡◌, ◌+◌, ◌-◌, ◌*◌, List, ℕ, refl, arith, sym, subst}
 use Rattle.mcv_reply.specs.declared.candidate.Head.{Head}
-use Rattle.mcv_reply.specs.declared.candidate.Place.TheVariants.{InNumber}
+use Rattle.mcv_reply.specs.declared.candidate.LinePart.TheVariants.{InNumber}
 use Rattle.mcv_reply.specs.Line.{Writes}
-use Rattle.mcv_reply.specs.Place.{behind_number, limit_of, number_in, Digits, Follows, SoFar}
+use Rattle.mcv_reply.specs.Candidate.{behind_number, limit_of, number_in, Digits, Follows, SoFar}
 use Rattle.mcv_reply.proofs.Writing.{digit_never, digit_on, digit_back, digits_end, digits_none, digits_least}
 use Rattle.mcv_reply.proofs.Moving.{moves_same}
 use Rattle.mcv_reply.proofs.candidate.in_number.Goals as goal

@@ -26,28 +26,28 @@ returns-in-Answered-clause-answered g c =
     let h = g.H.KeyHash.chosen c.args.self.now.hash in
     let v = core_view c.args.self.now.dispatcher in
     let w = core_view c.answered.new.self in
-    subst (λ e. IsAnswered h v e c.place.result w) (sym c.in-Answered.is) (subst (λ a. IsAnswered h v (event.Answered c.in-Answered.leg c.in-Answered.parts) a w) (sym c.place.ensures) (Answering.answers h v w c.in-Answered.leg c.in-Answered.parts (answer_at v c.in-Answered.leg.0 c.in-Answered.parts) c.answered.result c.answered.ensures.effect c.answered.ensures.does))
+    subst (λ e. IsAnswered h v e c.state.result w) (sym c.in-Answered.is) (subst (λ a. IsAnswered h v (event.Answered c.in-Answered.leg c.in-Answered.parts) a w) (sym c.state.ensures) (Answering.answers h v w c.in-Answered.leg c.in-Answered.parts (answer_at v c.in-Answered.leg.0 c.in-Answered.parts) c.answered.result c.answered.ensures.effect c.answered.ensures.does))
 
 pub returns-in-Lost-clause-answered : goal.returns-in-Lost-clause-answered
 returns-in-Lost-clause-answered g c =
     let h = g.H.KeyHash.chosen c.args.self.now.hash in
     let v = core_view c.args.self.now.dispatcher in
     let w = core_view c.lost.new.self in
-    subst (λ e. IsAnswered h v e c.place-in-Lost.result w) (sym c.in-Lost.is) (subst (λ a. IsAnswered h v (event.Lost c.in-Lost.leg) a w) (sym c.place-in-Lost.ensures) (Answering.loses h v w c.in-Lost.leg (loss_at v c.in-Lost.leg.0) c.lost.result c.lost.ensures.effect c.lost.ensures.does))
+    subst (λ e. IsAnswered h v e c.state-in-Lost.result w) (sym c.in-Lost.is) (subst (λ a. IsAnswered h v (event.Lost c.in-Lost.leg) a w) (sym c.state-in-Lost.ensures) (Answering.loses h v w c.in-Lost.leg (loss_at v c.in-Lost.leg.0) c.lost.result c.lost.ensures.effect c.lost.ensures.does))
 
 pub returns-in-Spooled-clause-answered : goal.returns-in-Spooled-clause-answered
 returns-in-Spooled-clause-answered g c =
     let h = g.H.KeyHash.chosen c.args.self.now.hash in
     let v = core_view c.args.self.now.dispatcher in
     let w = core_view c.spooled.new.self in
-    subst (λ e. IsAnswered h v e c.place-in-Spooled.result w) (sym c.in-Spooled.is) (subst (λ a. IsAnswered h v (event.Spooled c.in-Spooled.leg c.in-Spooled.stored) a w) (sym c.place-in-Spooled.ensures) (Answering.stores h v w c.in-Spooled.leg c.in-Spooled.stored (spooling_at v c.in-Spooled.leg.0 c.in-Spooled.stored.record.server c.in-Spooled.stored.record.rest) c.spooled.result c.spooled.ensures.effect c.spooled.ensures.does))
+    subst (λ e. IsAnswered h v e c.state-in-Spooled.result w) (sym c.in-Spooled.is) (subst (λ a. IsAnswered h v (event.Spooled c.in-Spooled.leg c.in-Spooled.stored) a w) (sym c.state-in-Spooled.ensures) (Answering.stores h v w c.in-Spooled.leg c.in-Spooled.stored (spooling_at v c.in-Spooled.leg.0 c.in-Spooled.stored.record.server c.in-Spooled.stored.record.rest) c.spooled.result c.spooled.ensures.effect c.spooled.ensures.does))
 
 pub returns-in-SpoolRefused-clause-answered : goal.returns-in-SpoolRefused-clause-answered
 returns-in-SpoolRefused-clause-answered g c =
     let h = g.H.KeyHash.chosen c.args.self.now.hash in
     let v = core_view c.args.self.now.dispatcher in
     let w = core_view c.spool_refused.new.self in
-    subst (λ e. IsAnswered h v e c.place-in-SpoolRefused.result w) (sym c.in-SpoolRefused.is) (subst (λ a. IsAnswered h v (event.SpoolRefused c.in-SpoolRefused.leg) a w) (sym c.place-in-SpoolRefused.ensures) (Answering.refuses_it h v w c.in-SpoolRefused.leg (refusing_at v c.in-SpoolRefused.leg.0) c.spool_refused.result c.spool_refused.ensures.effect c.spool_refused.ensures.does))
+    subst (λ e. IsAnswered h v e c.state-in-SpoolRefused.result w) (sym c.in-SpoolRefused.is) (subst (λ a. IsAnswered h v (event.SpoolRefused c.in-SpoolRefused.leg) a w) (sym c.state-in-SpoolRefused.ensures) (Answering.refuses_it h v w c.in-SpoolRefused.leg (refusing_at v c.in-SpoolRefused.leg.0) c.spool_refused.result c.spool_refused.ensures.effect c.spool_refused.ensures.does))
 
 pub returns-in-Replay-clause-answered : goal.returns-in-Replay-clause-answered
 returns-in-Replay-clause-answered g c =

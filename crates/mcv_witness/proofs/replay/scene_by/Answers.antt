@@ -5,7 +5,7 @@ use Rattle.mcv_classes.specs.Words.{class_words}
 use Rattle.mcv_route.specs.View.{view}
 use Rattle.mcv_witness.specs.Finding.{finding_of}
 use Rattle.mcv_witness.proofs.Decided.{found_at, no_era, no_route, no_tree, other_class, other_route}
-use Rattle.mcv_witness.proofs.replay.place_by.Goals as goal
+use Rattle.mcv_witness.proofs.replay.scene_by.Goals as goal
 
 pub returns-in_err-number : goal.returns-in_err-number
 returns-in_err-number c =
@@ -24,7 +24,7 @@ pub returns-then-finding-era_count : goal.returns-then-finding-era_count
 returns-then-finding-era_count c =
     let f = finding_of c.args.finding.now in
     let past = c.if-finding-era_count.true in
-    no_era c.args.routes.now f (λ h. let low = (c.era_count.ensures c.args.finding.now.era).1 h in omega (arith, low, past))
+    no_era c.args.routes.now f (λ h. let low = (c.era_count.ensures c.args.finding.now.place.era).1 h in omega (arith, low, past))
 
 pub returns-then-not-is_class_word : goal.returns-then-not-is_class_word
 returns-then-not-is_class_word c =
@@ -42,4 +42,4 @@ returns c =
     found_at c.args.routes.now f c.args.prefix.now c.args.rest t (option_map (λ m. m.0) c.opened-since.result) c.in_ok-number.number c.requires.word c.requires.cut c.as_bytes.ensures.rest
     c.in_ok-number.ensures c.if-number-finding.false c.in_ok-route.ensures
     ((subst (λ (w : List ℕ). IsTrue c.is_class_word.result ↔ IsClassWord (class_words t) c.args.rest w) c.as_slice.ensures.value c.is_class_word.ensures).0 c.if-not-is_class_word.false)
-    (c.opened-since.ensures.some ((c.era_count.ensures c.args.finding.now.era).0 low))
+    (c.opened-since.ensures.some ((c.era_count.ensures c.args.finding.now.place.era).0 low))

@@ -11,8 +11,8 @@ use Rattle.mcv_reply.specs.declared.candidate.Name.{Name}
 use Rattle.mcv_reply.specs.declared.candidate.Name.TheVariants.{First, Key}
 use Rattle.mcv_reply.specs.declared.candidate.Number.{Number}
 use Rattle.mcv_reply.specs.declared.candidate.Number.TheVariants.{Flags, Size, Cas}
-use Rattle.mcv_reply.specs.declared.candidate.Place.{Place}
-use Rattle.mcv_reply.specs.declared.candidate.Place.TheVariants.{BeforeName, InName, BeforeNumber, InNumber, Blank, Return, Text}
+use Rattle.mcv_reply.specs.declared.candidate.LinePart.{LinePart}
+use Rattle.mcv_reply.specs.declared.candidate.LinePart.TheVariants.{BeforeName, InName, BeforeNumber, InNumber, Blank, Return, Text}
 use Rattle.mcv_reply.specs.declared.candidate.Candidate.{Candidate}
 use Rattle.mcv_reply.specs.declared.candidate.Move.{Move}
 use Rattle.mcv_reply.specs.declared.line.Meaning.{Meaning}
@@ -77,8 +77,8 @@ pub record Digits (limit value n : ℕ) (Then : List ℕ → Type 0) (more : Lis
   pub within : n ≤ limit
   pub rest : Then after
 
--- what may follow at a place, for a line with these numbers
-abbrev pub Follows : Word → Bool → List ℕ → Head → Place → Head → List ℕ → Type 0
+-- what may follow in a part, for a line with these numbers
+abbrev pub Follows : Word → Bool → List ℕ → Head → LinePart → Head → List ℕ → Type 0
 Follows first has key read (BeforeName name) head more = Writes (word (name_text name first key) ∷ behind_name name first has key head) 0 more
 Follows first has key read (InName name at) head more = Goes (drop at (name_text name first key)) (Writes (behind_name name first has key head) 1) more
 Follows first has key read (BeforeNumber n) head more = SoFar n read head × Writes (number (limit_of n) (number_in n head) ∷ behind_number n has head) 0 more
@@ -97,8 +97,8 @@ fewest (text ∷ forms) least = 0
 abbrev pub zero_head : Head
 zero_head = record { flags = 0; size = 0; cas = 0 }
 
--- how many bytes must follow at a place
-abbrev pub needed : Word → Bool → List ℕ → Place → ℕ
+-- how many bytes must follow in a part
+abbrev pub needed : Word → Bool → List ℕ → LinePart → ℕ
 needed first has key (BeforeName name) = fewest (word (name_text name first key) ∷ behind_name name first has key zero_head) 0
 needed first has key (InName name at) = length (drop at (name_text name first key)) + fewest (behind_name name first has key zero_head) 1
 needed first has key (BeforeNumber n) = 1 + fewest (behind_number n has zero_head) 1
@@ -118,7 +118,7 @@ HasNumber first has Size = tail_of first ≡ tails.Value
 HasNumber first has Cas = (tail_of first ≡ tails.Value) × (has ≡ true)
 
 -- and the value of a number so far is no more than its limit
-abbrev pub IsValidAt : Word → Bool → Place → Type 0
+abbrev pub IsValidAt : Word → Bool → LinePart → Type 0
 IsValidAt first has (BeforeName name) = HasName first name
 IsValidAt first has (InName name at) = HasName first name
 IsValidAt first has (BeforeNumber n) = HasNumber first has n
@@ -128,7 +128,7 @@ IsValidAt first has Return = Unit {0}
 IsValidAt first has Text = Unit {0}
 
 abbrev pub IsValid : Bool → Candidate → Type 0
-IsValid has c = IsValidAt c.first has c.place
+IsValid has c = IsValidAt c.first has c.part
 
 -- a digit and its value
 abbrev pub IsDigitOf : ℕ → Option ℕ → Type 0
@@ -137,19 +137,19 @@ IsDigitOf b (Some d) = (48 ≤ b) × (b ≤ 57) × (d ≡ b - 48)
 
 -- one byte on, where so many bytes must come: what may follow behind it there is what may follow here
 pub record MovesOn (has : Bool) (key : List ℕ) (c : Candidate) (From : Head → List ℕ → Type 0) (need b : ℕ) (m : Move) : Type 0 where
-  pub on : (head : Head) (more : List ℕ) → From head (b ∷ more) → Follows m.next.first has key m.next.head m.next.place head more
-  pub back : (head : Head) (more : List ℕ) → Follows m.next.first has key m.next.head m.next.place head more → From head (b ∷ more)
+  pub on : (head : Head) (more : List ℕ) → From head (b ∷ more) → Follows m.next.first has key m.next.head m.next.part head more
+  pub back : (head : Head) (more : List ℕ) → Follows m.next.first has key m.next.head m.next.part head more → From head (b ∷ more)
   pub first : m.next.first ≡ c.first
   pub spare : m.next.spare ≡ c.spare
   pub valid : IsValid has m.next
-  pub needs : need + (if m.free then 1 else 0) ≡ needed m.next.first has key m.next.place + 1
+  pub needs : need + (if m.free then 1 else 0) ≡ needed m.next.first has key m.next.part + 1
 
 abbrev pub Moves : Bool → List ℕ → Candidate → (Head → List ℕ → Type 0) → ℕ → ℕ → Option Move → Type 0
 Moves has key c From need b None = (head : Head) (more : List ℕ) → From head (b ∷ more) → ⊥
 Moves has key c From need b (Some m) = MovesOn has key c From need b m
 
-abbrev pub MovesAt : Bool → List ℕ → Candidate → Place → ℕ → Option Move → Type 0
-MovesAt has key c place b m = Moves has key c (λ head more. Follows c.first has key c.head place head more) (needed c.first has key place) b m
+abbrev pub MovesAt : Bool → List ℕ → Candidate → LinePart → ℕ → Option Move → Type 0
+MovesAt has key c part b m = Moves has key c (λ head more. Follows c.first has key c.head part head more) (needed c.first has key part) b m
 
 abbrev pub MovesBehindName : Bool → List ℕ → Candidate → Name → ℕ → Option Move → Type 0
 MovesBehindName has key c name b m = Moves has key c (λ head more. Writes (behind_name name c.first has key head) 1 more) (fewest (behind_name name c.first has key zero_head) 1) b m
@@ -159,8 +159,8 @@ MovesBehindNumber has key c n value b m = Moves has key c (λ head more. SoFar n
 
 -- what may follow a line that has come in part, for it to be one of the candidate's first word with these numbers
 pub record Open (has : Bool) (key : List ℕ) (c : Candidate) (head : Head) (more : List ℕ) : Type 0 where
-  pub follows : Follows c.first has key c.head c.place head more
-  pub short : length more ≤ needed c.first has key c.place + c.spare
+  pub follows : Follows c.first has key c.head c.part head more
+  pub short : length more ≤ needed c.first has key c.part + c.spare
   pub no_end : All (λ b. b ≢ 10) more
 
 -- the candidate after these bytes, or none where the line is not of its word
@@ -176,12 +176,12 @@ Reads has key c bytes (Some next) = ReadsOn has key c bytes next
 
 -- whether the line may end here, and with which numbers
 abbrev pub Ends : Bool → List ℕ → Candidate → Option Head → Type 0
-Ends has key c None = (head : Head) → Follows c.first has key c.head c.place head [] → ⊥
-Ends has key c (Some read) = Follows c.first has key c.head c.place read []
+Ends has key c None = (head : Head) → Follows c.first has key c.head c.part head [] → ⊥
+Ends has key c (Some read) = Follows c.first has key c.head c.part read []
 
 -- a line of which nothing has come
 abbrev pub new_candidate : Bool → List ℕ → Word → Candidate
-new_candidate has key first = record { first = first; place = BeforeName First; head = zero_head; spare = 2048 - needed first has key (BeforeName First) }
+new_candidate has key first = record { first = first; part = BeforeName First; head = zero_head; spare = 2048 - needed first has key (BeforeName First) }
 
 -- a word that can be distinguished from spaces and the end of a line
 abbrev pub is_clean : List ℕ → Bool

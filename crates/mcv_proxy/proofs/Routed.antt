@@ -16,7 +16,7 @@ use Rattle.mcv_hub.specs.declared.seat.TakenReply.{TakenReply}
 use Rattle.mcv_route.specs.Places.{route_of_prefix}
 use Rattle.mcv_route.specs.Routes.{RoutesValue}
 use Rattle.mcv_text.specs.Request.{RequestValue}
-use Rattle.mcv_proxy.specs.Desk.{AreFor, HasNoPlace, IsFor, IsPlace, word_at}
+use Rattle.mcv_proxy.specs.Desk.{AreFor, IsUnrouted, IsFor, IsRouted, word_at}
 
 abbrev pub OneReading : Type 0
 OneReading = (word prefix rest other more : List ℕ) → IsCut word prefix rest → IsCut word other more → (prefix ≡ other) × (rest ≡ more)
@@ -27,9 +27,9 @@ NoRestReadsEmpty = (word prefix rest : List ℕ) → IsKeyFault word NoRest → 
 same_in_some : {A : Type 0} {x y : A} → Some x ≡ Some y → x ≡ y
 same_in_some e = cc
 
--- a word leads to one place
-pub one_place : OneReading → (r : RoutesValue) (word : List ℕ) (route other : ℕ) (rest more : List ℕ) → IsPlace r word route rest → IsPlace r word other more → (route ≡ other) × (rest ≡ more)
-one_place one r word route other rest more p q =
+-- a word has one route and one rest
+pub one_routed : OneReading → (r : RoutesValue) (word : List ℕ) (route other : ℕ) (rest more : List ℕ) → IsRouted r word route rest → IsRouted r word other more → (route ≡ other) × (rest ≡ more)
+one_routed one r word route other rest more p q =
     let e : (p.prefix ≡ q.prefix) × (rest ≡ more) = one word p.prefix rest q.prefix more p.cut q.cut in
     (same_in_some (sym p.routed ∙ ap (λ x. route_of_prefix x r.entries) e.0 ∙ q.routed), e.1)
 
@@ -45,24 +45,24 @@ long_is_no_key word h k = grind (arith, nat_tests)
 bad_byte_is_no_key : (word : List ℕ) → list_all is_key_byte word ≡ false → is_key_word word ≡ true → ⊥
 bad_byte_is_no_key word h k = grind (arith, common_steps)
 
-is_some_key : NoRestReadsEmpty → (r : RoutesValue) (word : List ℕ) (route : ℕ) (rest : List ℕ) (fault : KeyFault) → IsKeyFault word fault → IsPlace r word route rest → ⊥
+is_some_key : NoRestReadsEmpty → (r : RoutesValue) (word : List ℕ) (route : ℕ) (rest : List ℕ) (fault : KeyFault) → IsKeyFault word fault → IsRouted r word route rest → ⊥
 is_some_key empty r word route rest Empty h p = empty_is_no_key word h p.is_key
 is_some_key empty r word route rest TooLong h p = long_is_no_key word h p.is_key
 is_some_key empty r word route rest BadByte h p = bad_byte_is_no_key word h.2 p.is_key
 is_some_key empty r word route rest NoRest h p = p.some (empty word p.prefix rest h p.cut)
 
--- and a word that has no place leads to none
-pub no_place : OneReading → NoRestReadsEmpty → (r : RoutesValue) (word : List ℕ) (fault : CoreFault) (route : ℕ) (rest : List ℕ) → HasNoPlace r word fault → IsPlace r word route rest → ⊥
-no_place one empty r word UnknownPrefix route rest h p = clash (sym h.unrouted ∙ ap (λ x. route_of_prefix x r.entries) (one word h.prefix h.rest p.prefix rest h.cut p.cut).0 ∙ p.routed)
-no_place one empty r word BadKey route rest h p = is_some_key empty r word route rest h.fault h.faulty p
-no_place one empty r word LegsFull route rest h p = h
-no_place one empty r word ChapterFull route rest h p = h
-no_place one empty r word NothingWaiting route rest h p = h
-no_place one empty r word NoSuchLeg route rest h p = h
-no_place one empty r word Busy route rest h p = h
-no_place one empty r word ClockBack route rest h p = h
-no_place one empty r word Memory route rest h p = h
-no_place one empty r word NoSuchCall route rest h p = h
+-- and a word that no route takes has none
+pub unrouted_is_not_routed : OneReading → NoRestReadsEmpty → (r : RoutesValue) (word : List ℕ) (fault : CoreFault) (route : ℕ) (rest : List ℕ) → IsUnrouted r word fault → IsRouted r word route rest → ⊥
+unrouted_is_not_routed one empty r word UnknownPrefix route rest h p = clash (sym h.unrouted ∙ ap (λ x. route_of_prefix x r.entries) (one word h.prefix h.rest p.prefix rest h.cut p.cut).0 ∙ p.routed)
+unrouted_is_not_routed one empty r word BadKey route rest h p = is_some_key empty r word route rest h.fault h.faulty p
+unrouted_is_not_routed one empty r word LegsFull route rest h p = h
+unrouted_is_not_routed one empty r word ChapterFull route rest h p = h
+unrouted_is_not_routed one empty r word NothingWaiting route rest h p = h
+unrouted_is_not_routed one empty r word NoSuchLeg route rest h p = h
+unrouted_is_not_routed one empty r word Busy route rest h p = h
+unrouted_is_not_routed one empty r word ClockBack route rest h p = h
+unrouted_is_not_routed one empty r word Memory route rest h p = h
+unrouted_is_not_routed one empty r word NoSuchCall route rest h p = h
 
 -- ---- replies and keys
 
@@ -78,31 +78,31 @@ same_word r key t op word e f =
     let w : (t.asked.op, f.word) ≡ (op, word) = same_in_some (sym f.there ∙ e) in
     (ap (λ x. x.0) w, ap (λ x. x.1) w)
 
--- nor for one that leads nowhere
-pub misplaced : OneReading → NoRestReadsEmpty → (r : RoutesValue) (request : RequestValue) (key : ℕ) (t : TakenReply) (op : Op) (word : List ℕ) (fault : CoreFault)
-    → word_at request key ≡ Some (op, word) → HasNoPlace r word fault → IsFor r request key t → ⊥
-misplaced one empty r request key t op word fault e h f =
-    let P : List ℕ → Type 0 = λ w. IsPlace r w t.asked.route t.asked.rest in
-    no_place one empty r word fault t.asked.route t.asked.rest h (subst P (same_word r key t op word e f).1 f.place)
+-- nor for one that no route takes
+pub not_for_unrouted : OneReading → NoRestReadsEmpty → (r : RoutesValue) (request : RequestValue) (key : ℕ) (t : TakenReply) (op : Op) (word : List ℕ) (fault : CoreFault)
+    → word_at request key ≡ Some (op, word) → IsUnrouted r word fault → IsFor r request key t → ⊥
+not_for_unrouted one empty r request key t op word fault e h f =
+    let P : List ℕ → Type 0 = λ w. IsRouted r w t.asked.route t.asked.rest in
+    unrouted_is_not_routed one empty r word fault t.asked.route t.asked.rest h (subst P (same_word r key t op word e f).1 f.routed)
 
 abbrev pub AskedAt : TakenReply → Op → ℕ → List ℕ → Type 0
 AskedAt t op route rest = (t.asked.op ≡ op) × (t.asked.route ≡ route) × (t.asked.rest ≡ rest)
 
--- one is for the key that leads to this place where its call asked this there
-pub placed : OneReading → (r : RoutesValue) (request : RequestValue) (key : ℕ) (t : TakenReply) (op : Op) (word : List ℕ) (route : ℕ) (rest : List ℕ)
-    → word_at request key ≡ Some (op, word) → IsPlace r word route rest → IsFor r request key t → AskedAt t op route rest
-placed one r request key t op word route rest e p f =
-    let P : List ℕ → Type 0 = λ w. IsPlace r w t.asked.route t.asked.rest in
+-- one is for the key of this route and rest exactly where its call asked this there
+pub asked_at : OneReading → (r : RoutesValue) (request : RequestValue) (key : ℕ) (t : TakenReply) (op : Op) (word : List ℕ) (route : ℕ) (rest : List ℕ)
+    → word_at request key ≡ Some (op, word) → IsRouted r word route rest → IsFor r request key t → AskedAt t op route rest
+asked_at one r request key t op word route rest e p f =
+    let P : List ℕ → Type 0 = λ w. IsRouted r w t.asked.route t.asked.rest in
     let s = same_word r key t op word e f in
-    let q = one_place one r word t.asked.route route t.asked.rest rest (subst P s.1 f.place) p in
+    let q = one_routed one r word t.asked.route route t.asked.rest rest (subst P s.1 f.routed) p in
     (s.0, q.0, q.1)
 
-pub is_placed : (r : RoutesValue) (request : RequestValue) (key : ℕ) (t : TakenReply) (op : Op) (word : List ℕ) (route : ℕ) (rest : List ℕ)
-    → word_at request key ≡ Some (op, word) → IsPlace r word route rest → AskedAt t op route rest → IsFor r request key t
-is_placed r request key t op word route rest e p a =
-    let P : ℕ → Type 0 = λ n. IsPlace r word n t.asked.rest in
-    let Q : List ℕ → Type 0 = λ x. IsPlace r word route x in
-    record { word = word; there = e ∙ ap (λ o. Some (o, word)) (sym a.0); place = subst P (sym a.1) (subst Q (sym a.2) p) }
+pub is_for_asked : (r : RoutesValue) (request : RequestValue) (key : ℕ) (t : TakenReply) (op : Op) (word : List ℕ) (route : ℕ) (rest : List ℕ)
+    → word_at request key ≡ Some (op, word) → IsRouted r word route rest → AskedAt t op route rest → IsFor r request key t
+is_for_asked r request key t op word route rest e p a =
+    let P : ℕ → Type 0 = λ n. IsRouted r word n t.asked.rest in
+    let Q : List ℕ → Type 0 = λ x. IsRouted r word route x in
+    record { word = word; there = e ∙ ap (λ o. Some (o, word)) (sym a.0); routed = subst P (sym a.1) (subst Q (sym a.2) p) }
 
 -- one more
 pub one_more : (P : ℕ → TakenReply → Type 0) (taken : List TakenReply) (n : ℕ) (x : TakenReply) → n < length taken → x ≡ get_or taken n x
