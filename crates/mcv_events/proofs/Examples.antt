@@ -49,8 +49,8 @@ first = waiting 0 0 (97 ∷ []) (to_server 0 5)
 abbrev state_at : Rows → ℕ → Option State
 state_at w n = option_map (λ s. s.state) (w.legs n)
 
-abbrev state_at : Rows → ℕ → Option LegState
-state_at w n = option_map (λ s. s.state) ((world_of w).legs n)
+abbrev world_state_at : Rows → ℕ → Option LegState
+world_state_at w n = option_map (λ s. s.state) ((world_of w).legs n)
 
 abbrev reply_at : Rows → ℕ → Option ReplyValue
 reply_at w k = option_and_then (λ c. reply_of routes c.call) (w.calls k)
@@ -81,7 +81,7 @@ one_leg_is_queued = refl
 abbrev in_first : State → Rows
 in_first t = with_leg_row begun 0 (Some (in_state first t))
 
-held_leg_is_queued : state_at (in_first Held) 0 ≡ Some Queued
+held_leg_is_queued : world_state_at (in_first Held) 0 ≡ Some Queued
 held_leg_is_queued = refl
 
 abbrev refused : Rows
