@@ -2,7 +2,7 @@
 """Adds up the processor time of each process of the gate by crate: /tmp/costs.json, each second."""
 import os, time, json, re, sys
 hz=os.sysconf('SC_CLK_TCK'); seen={}
-roots=('/work/w/last','/work/w/gate','/work/w/second')
+roots=('/work/w/gate','/work/w/all')
 def each():
     for p in os.listdir('/proc'):
         if not p.isdigit(): continue
@@ -11,12 +11,15 @@ def each():
             st=open(f'/proc/{p}/stat').read(); cwd=os.readlink(f'/proc/{p}/cwd')
         except OSError: continue
         f=st[st.rindex(')')+2:].split()
-        yield int(p), cmd, int(f[19]), (int(f[11])+int(f[12]))/hz, cwd
+        try:
+            if 'rattle' in os.path.basename(os.readlink(f'/proc/{f[1]}/exe')): continue
+        except OSError: pass
+        yield int(p), cmd, int(f[19]), (int(f[11])+int(f[12])+int(f[13])+int(f[14]))/hz, cwd
 n=0
 while True:
     for pid,cmd,start,used,cwd in each():
         if not cmd or not any(w in cmd[0] for w in ('rattle','clang','opt','llc','python','ld')): continue
-        if not (cwd.startswith(roots) or (cwd.startswith('/tmp/rt-') and not os.path.exists('/tmp/nocosts')) ): continue
+        if not (cwd.startswith(roots) or cwd.startswith('/tmp/rt-') ): continue
         if 'python' in cmd[0] and 'rt' not in ' '.join(cmd[1:2]): continue
         crate=''; 
         if '--crate-name' in cmd: crate=cmd[cmd.index('--crate-name')+1]

@@ -1,7 +1,0 @@
-use Rattle.std.proofs.Common.{◌≡◌, take}
-use Rattle.mcv_judge.specs.InMemory.{legs_of}
-use Rattle.mcv_blocks.specs.Merged.{leaves_of}
-use Rattle.mcv_blocks.proofs.legs.all_lent.Given as goal
-
-abbrev pub invariant-loop-leg : goal.invariant-loop-leg
-invariant-loop-leg l = legs_of l.all.items ≡ leaves_of (take l.leg-index l.legs)

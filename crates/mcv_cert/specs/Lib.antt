@@ -1,6 +1,0 @@
-pub mod Pair
-pub mod Escape
-pub mod Text
-pub mod Reading
-pub mod Fault
-pub mod Fronts

@@ -1,5 +1,0 @@
-use Rattle.mcv_certify.proofs.Loss.{gap_lost}
-use Rattle.mcv_certify.proofs.laws.gap_is_loss.Goals as goal
-
-pub returns : goal.returns
-returns c = gap_lost

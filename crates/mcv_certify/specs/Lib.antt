@@ -1,3 +1,0 @@
-pub mod Gap
-pub mod Made
-pub mod Picked

@@ -1,9 +1,0 @@
-//! What a gap means.
-
-ghost use Rattle.mcv_certify.specs.Gap.{GapIsLoss};
-
-/// Routes with a gap aren't covered: for some rest, era, choice and outcomes a server that an acknowledged delete
-/// hasn't been sent to can be read.
-pub fn gap_is_loss()
-    ensures { GapIsLoss }
-{}

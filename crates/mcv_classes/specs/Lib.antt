@@ -1,4 +1,0 @@
-pub mod Words
-pub mod Class
-pub mod Table
-pub mod Laws

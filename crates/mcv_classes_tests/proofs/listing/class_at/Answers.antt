@@ -1,5 +1,0 @@
-use Rattle.mcv_classes_tests.proofs.Numbers.{number_within}
-use Rattle.mcv_classes_tests.proofs.listing.class_at.Goals as goal
-
-pub class_of-requires : goal.class_of-requires
-class_of-requires c = number_within c.args.routes.now c.args.number _ c.in-Some.ensures

@@ -1,5 +1,0 @@
-mod Examples
-pub mod Taken
-pub mod Given
-pub mod Matches
-pub mod Finished

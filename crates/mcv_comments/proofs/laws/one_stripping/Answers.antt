@@ -1,5 +1,0 @@
-use Rattle.mcv_comments.proofs.Unique.{strips_one}
-use Rattle.mcv_comments.proofs.laws.one_stripping.Goals as goal
-
-pub returns : goal.returns
-returns c = λ text out other a b. strips_one text out other a b

@@ -1,5 +1,0 @@
-use Rattle.mcv_comments.proofs.Every.{each_text}
-use Rattle.mcv_comments.proofs.laws.stripped_or_open.Goals as goal
-
-pub returns : goal.returns
-returns c = λ text. each_text text

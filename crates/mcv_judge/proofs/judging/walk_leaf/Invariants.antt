@@ -1,8 +1,0 @@
-use Rattle.std.proofs.Common.{◌≡◌}
-use Rattle.mcv_judge.specs.Faults.{owe}
-use Rattle.mcv_judge.specs.InMemory.{block_of, leg_of, pairs_of}
-use Rattle.mcv_judge.specs.Walk.{entries_left, walk}
-use Rattle.mcv_judge.proofs.judging.walk_leaf.Given as goal
-
-abbrev pub invariant-loop-index : goal.invariant-loop-index
-invariant-loop-index l = walk (pairs_of l.pairs) (entries_left l.index (owe (block_of l.block) (leg_of l.leaf))) ≡ walk (pairs_of l.fn.pairs) (entries_left 0 (owe (block_of l.block) (leg_of l.leaf)))

@@ -1,8 +1,0 @@
-//! What holds of the definitions.
-
-ghost use Rattle.mcv_judge.specs.Answers.{AnsweredIsFaultless};
-
-/// Pairs that answer each readable leaf of the blocks, one leaf after the other, rise, and no fault stands in them.
-pub fn answered_is_faultless()
-    ensures { AnsweredIsFaultless }
-{}

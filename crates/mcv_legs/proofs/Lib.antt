@@ -1,4 +1,0 @@
-pub mod Lines
-pub mod Limits
-pub mod Found
-pub mod Told

@@ -1,4 +1,0 @@
-pub mod Free
-pub mod Place
-pub mod First
-pub mod Told

@@ -1,4 +1,0 @@
-pub mod Fault
-pub mod Path
-pub mod Lists
-pub mod Handles

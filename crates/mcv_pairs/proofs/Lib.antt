@@ -1,4 +1,0 @@
-pub mod Added
-pub mod One
-pub mod Picked
-pub mod Reasoned

@@ -1,3 +1,0 @@
-pub mod Adds
-pub mod Gaps
-pub mod Reasons

@@ -1,5 +1,0 @@
-use Rattle.mcv_picks.proofs.Hold.{picked_hold}
-use Rattle.mcv_picks.proofs.laws.picked_reasons_hold.Goals as goal
-
-pub returns : goal.returns
-returns c = λ b leaf r up h. picked_hold b leaf r up h

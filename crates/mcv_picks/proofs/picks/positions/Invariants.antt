@@ -1,6 +1,0 @@
-use Rattle.std.proofs.Common.{◌≡◌, map, take}
-use Rattle.mcv_picks.specs.Picks.{lent}
-use Rattle.mcv_picks.proofs.picks.positions.Given as goal
-
-abbrev pub invariant-loop-leg : goal.invariant-loop-leg
-invariant-loop-leg l = l.positions.items ≡ map (λ d. d.position) (map lent (take l.leg-index l.legs))

@@ -1,8 +1,0 @@
-use Rattle.std.proofs.Common.{◌≡◌, drop, map}
-use Rattle.mcv_judge.specs.InMemory.{numbers}
-use Rattle.mcv_picks.specs.Picks.{each_with, lent}
-use Rattle.mcv_picks.proofs.Each.{behind}
-use Rattle.mcv_picks.proofs.tables.each_with.Given as goal
-
-abbrev pub invariant-loop-index : goal.invariant-loop-index
-invariant-loop-index l = behind (map lent l.legs.items) (each_with l.tables l.symbol l.server.0 l.index (numbers (drop l.index l.servers))) ≡ each_with l.tables l.symbol l.server.0 0 (numbers l.servers)

@@ -1,5 +1,0 @@
-//! Tests of `mcv_picks`, apart from it, so that it isn't proved a second time for them.
-#![tactic(auto)]
-
-#[cfg(test)]
-mod named;

@@ -1,4 +1,0 @@
-pub mod Symbol
-pub mod Table
-pub mod Hash
-pub mod Choice

@@ -1,7 +1,0 @@
-pub mod Word
-pub mod Line
-pub mod Reply
-pub mod Place
-pub mod Reader
-pub mod Progress
-pub mod Probe

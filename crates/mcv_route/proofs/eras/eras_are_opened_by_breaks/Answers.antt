@@ -1,5 +1,0 @@
-use Rattle.mcv_route.proofs.Passed.{since_is_last, eras_are_opened, eras_tell}
-use Rattle.mcv_route.proofs.eras.eras_are_opened_by_breaks.Goals as goal
-
-pub returns : goal.returns
-returns c = record { last = since_is_last; one_era = eras_are_opened; passed = eras_tell }

@@ -1,5 +1,0 @@
-use Rattle.mcv_symbolic.proofs.Stated.{symbols_are_independent}
-use Rattle.mcv_symbolic.proofs.laws.symbols_are_independent.Goals as goal
-
-pub returns : goal.returns
-returns c = symbols_are_independent

@@ -1,5 +1,0 @@
-use Rattle.mcv_text.proofs.Fails.{reads_fail}
-use Rattle.mcv_text.proofs.laws.failing_is_refused.Goals as goal
-
-pub returns : goal.returns
-returns c = λ from items reads. reads_fail from items reads

@@ -1,3 +1,0 @@
-pub mod Text
-pub mod Verdict
-pub mod Fault
