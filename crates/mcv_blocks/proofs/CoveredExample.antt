@@ -11,6 +11,8 @@ use Rattle.mcv_base.specs.declared.operation.Op.TheVariants.{Get, Gets, Delete}
 use Rattle.mcv_base.specs.declared.reply.Outcome.{Outcome}
 use Rattle.mcv_base.specs.declared.reply.Outcome.TheVariants.{Good, Error}
 use Rattle.mcv_pools.specs.declared.symbol.HashFunc.TheVariants.{Ch3}
+use Rattle.mcv_symbolic.specs.Sets.{CanHitAt}
+use Rattle.mcv_route.proofs.Readings.{get_or_gets}
 use Rattle.mcv_route.specs.Outcomes.{Choice}
 use Rattle.mcv_route.specs.Places.{pool_at_position}
 use Rattle.mcv_route.specs.Routes.{IsSoundRoutes, IsSoundTree, RouteEntry, RoutesValue}
@@ -93,13 +95,13 @@ any s = 0
 
 readable_there : (p : List ℕ) → IsReadableAt tree member None p → (1 ∷ []) ≡ p
 readable_there p h =
-    elim h.1 [
-      | inl g ↦ let l = (hits_are_exact tree Get member None h.0 p).0 g in ap (λ (k : Leg). k.position) l.1 ∙ l.2
-      | inr g ↦ let l = (hits_are_exact tree Gets member None h.0 p).0 g in ap (λ (k : Leg). k.position) l.1 ∙ l.2
+    elim (get_or_gets (λ op. CanHitAt tree (asked op member None) h.2 p) h.0 h.1 h.3) [
+      | inl g ↦ let l = (hits_are_exact tree Get member None h.2 p).0 g in ap (λ (k : Leg). k.position) l.1 ∙ l.2
+      | inr g ↦ let l = (hits_are_exact tree Gets member None h.2 p).0 g in ap (λ (k : Leg). k.position) l.1 ∙ l.2
     ]
 
 readable_here : IsReadableAt tree member None (1 ∷ [])
-readable_here = (any, inl ((hits_are_exact tree Get member None any (1 ∷ [])).1 (plans.leg_of hashed (under 1 (asked Get member None)), refl, refl)))
+readable_here = (Get, refl, any, (hits_are_exact tree Get member None any (1 ∷ [])).1 (plans.leg_of hashed (under 1 (asked Get member None)), refl, refl))
 
 acknowledged_there : (p : List ℕ) → IsAcknowledgedAt tree member None p → ((0 ∷ 0 ∷ []) ≡ p) ⊎ ((0 ∷ 1 ∷ []) ≡ p)
 acknowledged_there p h =

@@ -15,6 +15,7 @@ use Rattle.mcv_classes.specs.Class.{IsBefore, IsMember}
 use Rattle.mcv_classes.specs.Words.{class_words}
 use Rattle.mcv_judge.specs.Faults.{AreLegsRising}
 use Rattle.mcv_judge.specs.Reason.{BlockValue, LegValue}
+use Rattle.mcv_route.proofs.Readings.{get_or_gets}
 use Rattle.mcv_route.specs.Outcomes.{Choice}
 use Rattle.mcv_route.specs.Places.{pool_at_position}
 use Rattle.mcv_route.specs.Routes.{RoutesValue}
@@ -101,15 +102,14 @@ acknowledged-leaves t rest since =
 
 -- a get or a gets
 pub either_hit : (t : Tree) (rest : List ℕ) (since : Option ℕ) (p : List ℕ) → IsReadableAt t rest since p → CanHit t Get rest since p ⊎ CanHit t Gets rest since p
-either_hit t rest since p (c, inl h) = inl (c, h)
-either_hit t rest since p (c, inr h) = inr (c, h)
+either_hit t rest since p h = get_or_gets (λ op. CanHit t op rest since p) h.0 h.1 (h.2, h.3)
 
 readable-leaves : (t : Tree) (rest : List ℕ) (since : Option ℕ) → (ls : List LegValue) × AreLeavesAt t (IsReadableAt t rest since) ls
 readable-leaves t rest since =
     let get = leaves (hits (plan t (asked Get rest since))) in
     let gets = leaves (hits (plan t (asked Gets rest since))) in (
       merge get gets,
-      merged_leaves t (CanHit t Get rest since) (CanHit t Gets rest since) (IsReadableAt t rest since) (λ p h. (h.0, inl h.1)) (λ p h. (h.0, inr h.1)) (either_hit t rest since) get gets (hit-leaves t Get rest since) (hit-leaves t Gets rest since),
+      merged_leaves t (CanHit t Get rest since) (CanHit t Gets rest since) (IsReadableAt t rest since) (λ p h. (Get, refl, h)) (λ p h. (Gets, refl, h)) (either_hit t rest since) get gets (hit-leaves t Get rest since) (hit-leaves t Gets rest since),
     )
 
 can-or-never : (t : Tree) (rest : List ℕ) (since : Option ℕ) (x : Outcome) → if_all Good (plan t (asked Delete rest since)) ≡ x → (can : Bool) × ((can ≡ false) ↔ IsNeverAcknowledged t rest since)

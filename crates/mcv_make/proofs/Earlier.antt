@@ -2,12 +2,11 @@
 use Rattle.std.proofs.Common.{◌≡◌, ◌≢◌, ◌<◌, inl, inr, ℕ, true, List, [], ◌∷◌, length, zero, suc, Option, Some, option_map, refl, sym, ap, ◌∙◌, subst}
 use Rattle.std.specs.Prelude.{slice_get, slice_index}
 use Rattle.std.specs.List.{Contains}
-use Rattle.std.proofs.lemmas.Bool.{false≢true}
 use Rattle.std.proofs.lemmas.Option.{get_or_from_slice_get, none-some, same_Some, slice_get_within}
 use Rattle.mcv_cert.specs.Pair.{place_of}
-use Rattle.mcv_base.specs.Operation.{is_counting, is_reading}
+use Rattle.mcv_base.specs.Operation.{is_counting}
 use Rattle.mcv_base.specs.declared.operation.Op.{Op}
-use Rattle.mcv_base.specs.declared.operation.Op.TheVariants.{Get, Gets, Set, Add, Replace, Append, Prepend, Cas, Delete, Touch}
+use Rattle.mcv_base.specs.declared.operation.Op.TheVariants.{Delete}
 use Rattle.mcv_base.specs.declared.reply.Outcome.TheVariants.{Good, Error}
 use Rattle.mcv_blocks.specs.Blocks.{IsBlockAt, IsSpotOf, pool_for}
 use Rattle.mcv_blocks.specs.Spots.{IsBlockFor, ClassInEra, in_era}
@@ -39,7 +38,7 @@ use Rattle.mcv_route.specs.Verdict.{Has, IsDone, IsHit, IsLegal, IsReachable, Is
 use Rattle.mcv_rules.proofs.Leaves.{legs_are_of_pools}
 use Rattle.mcv_symbolic.specs.Covered.{sizes_of}
 use Rattle.mcv_symbolic.specs.Justified.{IsAcknowledgedPool, IsAnswered, IsReadableAt}
-use Rattle.mcv_symbolic.specs.Sets.{CanHitAt, IsCountedAt}
+use Rattle.mcv_symbolic.specs.Sets.{IsCountedAt}
 use Rattle.mcv_witness.specs.Breaks.{BreaksCoverage, chosen}
 use Rattle.mcv_witness.specs.Finding.{FindingValue}
 use Rattle.mcv_make.proofs.Gaps.{at-finding}
@@ -76,18 +75,6 @@ alike_done t rest other alike since o h = subst (λ rs. Has rs (λ b. b.outcome 
 
 alike_sent : (t : Tree) (rest other : List ℕ) → AreAlike t rest other → (since : Option ℕ) (c : Choice) (o : Outcomes) (x : ℕ) → IsSent t rest since c o x → IsSent t other since c o x
 alike_sent t rest other alike since c o x h = subst (λ ls. Has ls (λ l. (l.server.0 ≡ x) × (is_counting l.mark ≡ true))) (alike_are_sent t rest other alike Delete since c o) h
-
-readable_by : (op : Op) (t : Tree) (rest : List ℕ) (since : Option ℕ) (c : Choice) (p : List ℕ) → is_reading op ≡ true → CanHitAt t (asked op rest since) c p → IsReadableAt t rest since p
-readable_by Get t rest since c p e h = (c, inl h)
-readable_by Gets t rest since c p e h = (c, inr h)
-readable_by Set t rest since c p e h = absurd (false≢true e)
-readable_by Add t rest since c p e h = absurd (false≢true e)
-readable_by Replace t rest since c p e h = absurd (false≢true e)
-readable_by Append t rest since c p e h = absurd (false≢true e)
-readable_by Prepend t rest since c p e h = absurd (false≢true e)
-readable_by Cas t rest since c p e h = absurd (false≢true e)
-readable_by Delete t rest since c p e h = absurd (false≢true e)
-readable_by Touch t rest since c p e h = absurd (false≢true e)
 
 -- ---- a pool to which every delete that has a reply has been sent was sent this one
 
@@ -155,8 +142,7 @@ module _ (r : RoutesValue) (sound : IsSoundRoutes r) (f : FindingValue) (b : Bre
   -- the leaf can be read at the member too
   readable : IsReadableAt t rest since f.place.leaf
   readable =
-      readable_by f.op t rest since (chosen f) f.place.leaf b.read.reading
-      (outcomes f.gets, alike_reachable t b.rest rest alike f.op since (chosen f) (outcomes f.gets) b.read.reachable, alike_hit t b.rest rest alike f.op since (outcomes f.gets) f.place.leaf b.read.hit)
+      (f.op, b.read.reading, chosen f, outcomes f.gets, alike_reachable t b.rest rest alike f.op since (chosen f) (outcomes f.gets) b.read.reachable, alike_hit t b.rest rest alike f.op since (outcomes f.gets) f.place.leaf b.read.hit)
 
   leaf : (l : LegValue) × Contains block.0.readable l × (l.position ≡ f.place.leaf)
   leaf = leg_there t (IsReadableAt t rest since) block.0.readable has.readable f.place.leaf readable

@@ -3,6 +3,7 @@ use Rattle.std.proofs.Common.{◌≡◌, inl, inr, ℕ, List, Option, Some, None
 use Rattle.std.proofs.lemmas.Option.{none-some}
 use Rattle.mcv_base.specs.declared.operation.Op.{Op}
 use Rattle.mcv_base.specs.declared.operation.Op.TheVariants.{Get, Gets}
+use Rattle.mcv_route.proofs.Readings.{get_or_gets}
 use Rattle.mcv_route.specs.Outcomes.{Choice, History, outcomes}
 use Rattle.mcv_route.specs.Situation.{asked}
 use Rattle.mcv_route.specs.Tree.{Tree}
@@ -50,5 +51,8 @@ module _ (t : Tree) (op : Op) (rest : List ℕ) (since : Option ℕ) (p : List �
 
 -- a leaf that can be read is shown to hit by get or by gets
 pub one-reads : (t : Tree) (rest : List ℕ) (since : Option ℕ) (p : List ℕ) → leaf_hit p (plan t (asked Get rest since)) ≡ None → leaf_hit p (plan t (asked Gets rest since)) ≡ None → IsReadableAt t rest since p → ⊥
-one-reads t rest since p by-get by-gets (c, inl h) = cannot t Get rest since p c by-get h
-one-reads t rest since p by-get by-gets (c, inr h) = cannot t Gets rest since p c by-gets h
+one-reads t rest since p by-get by-gets h =
+    elim (get_or_gets (λ op. CanHitAt t (asked op rest since) h.2 p) h.0 h.1 h.3) [
+      | inl g ↦ cannot t Get rest since p h.2 by-get g
+      | inr g ↦ cannot t Gets rest since p h.2 by-gets g
+    ]

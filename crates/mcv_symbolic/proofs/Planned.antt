@@ -9,6 +9,7 @@ use Rattle.mcv_route.specs.Tree.{Tree}
 use Rattle.mcv_route.specs.WellFormed.{IsWellFormed}
 use Rattle.mcv_route.specs.Situation.{Situation, asked}
 use Rattle.mcv_route.specs.Replies.{Answer, outcome_of, replies}
+use Rattle.mcv_route.proofs.Readings.{get_or_gets}
 use Rattle.mcv_route.specs.Verdict.{Has, IsHit, CanHit, IsSent, IsDone, IsCovered}
 use Rattle.mcv_rules.specs.Plan.{Leg, Plan, Send, Reply, Both, Beside, OnError, OnMiss, OnHit, Shadowed, HitAt, server}
 use Rattle.mcv_rules.specs.Plans.{plan}
@@ -83,9 +84,9 @@ covered_planned : (sizes : List ℕ) (t : Tree) (rest : List ℕ) (since : Optio
     IsCovered sizes t rest since ↔ plans.IsCovered sizes (plan t (asked Get rest since)) (plan t (asked Gets rest since)) (plan t (asked Delete rest since))
 covered_planned sizes t rest since w = (
   λ h c o i r d x q. sent_planned t rest since c o x (h c o i (Verdicts.planned_reachable t (asked Delete rest since) c o r) (planned_done t rest since o d) x
-      (⊎_elim (λ g. inl (planned_can t (asked Get rest since) c x g)) (λ g. inr (planned_can t (asked Gets rest since) c x g)) q)),
+      (⊎_elim (λ g. (Get, refl, planned_can t (asked Get rest since) c x g)) (λ g. (Gets, refl, planned_can t (asked Gets rest since) c x g)) q)),
   λ h c o i r d x q. planned_sent t rest since c o x (h c o i (Verdicts.reachable_planned t (asked Delete rest since) c o r) (done_planned t rest since o d) x
-      (⊎_elim (λ g. inl (can_planned t (asked Get rest since) c x (Sound.plan_sound sizes t Get rest since w).2 g)) (λ g. inr (can_planned t (asked Gets rest since) c x (Sound.plan_sound sizes t Gets rest since w).2 g)) q)),
+      (get_or_gets (λ op. plans.IsReadable (plan t (asked op rest since)) c x) q.0 q.1 (can_planned t (asked q.0 rest since) c x (Sound.plan_sound sizes t q.0 rest since w).2 q.2))),
 )
 
 -- coverage is the comparison of the plans

@@ -6,6 +6,8 @@ use Rattle.std.proofs.lemmas.Option.{same_Some}
 use Rattle.mcv_base.specs.declared.operation.Mark.TheVariants.{Plain}
 use Rattle.mcv_base.specs.declared.operation.Op.TheVariants.{Get, Gets, Delete}
 use Rattle.mcv_base.specs.declared.reply.Outcome.TheVariants.{Good, Error}
+use Rattle.mcv_symbolic.specs.Sets.{CanHitAt}
+use Rattle.mcv_route.proofs.Readings.{get_or_gets}
 use Rattle.mcv_route.specs.Outcomes.{Choice}
 use Rattle.mcv_route.specs.Places.{pool_at_position}
 use Rattle.mcv_route.specs.Situation.{asked}
@@ -85,14 +87,14 @@ module _ (sizes : List ℕ) (t : Tree) (rest : List ℕ) (since : Option ℕ) wh
 
   readable-leg : (p : List ℕ) (leaf : Pool) → IsReadableAt t rest since p → pool_at_position t p ≡ Some leaf → (l : Leg) × CanRead l × (leaf_of l ≡ leaf)
   readable-leg p leaf h at =
-      elim h.1 [
-        | inl g ↦ let k = (hits_are_exact t Get rest since h.0 p).0 g in (k.0, inl k.1, same_Some (leaf_of k.0) leaf (sym (hits_are_there t (asked Get rest since) k.0 refl k.1) ∙ ap (pool_at_position t) k.2 ∙ at))
-        | inr g ↦ let k = (hits_are_exact t Gets rest since h.0 p).0 g in (k.0, inr k.1, same_Some (leaf_of k.0) leaf (sym (hits_are_there t (asked Gets rest since) k.0 refl k.1) ∙ ap (pool_at_position t) k.2 ∙ at))
+      elim (get_or_gets (λ op. CanHitAt t (asked op rest since) h.2 p) h.0 h.1 h.3) [
+        | inl g ↦ let k = (hits_are_exact t Get rest since h.2 p).0 g in (k.0, inl k.1, same_Some (leaf_of k.0) leaf (sym (hits_are_there t (asked Get rest since) k.0 refl k.1) ∙ ap (pool_at_position t) k.2 ∙ at))
+        | inr g ↦ let k = (hits_are_exact t Gets rest since h.2 p).0 g in (k.0, inr k.1, same_Some (leaf_of k.0) leaf (sym (hits_are_there t (asked Gets rest since) k.0 refl k.1) ∙ ap (pool_at_position t) k.2 ∙ at))
       ]
 
   leg-readable : (l : Leg) → CanRead l → IsReadableAt t rest since l.position × (pool_at_position t l.position ≡ Some (leaf_of l))
-  leg-readable l (inl g) = ((any_choice, inl ((hits_are_exact t Get rest since any_choice l.position).1 (l, g, refl))), hits_are_there t (asked Get rest since) l refl g)
-  leg-readable l (inr g) = ((any_choice, inr ((hits_are_exact t Gets rest since any_choice l.position).1 (l, g, refl))), hits_are_there t (asked Gets rest since) l refl g)
+  leg-readable l (inl g) = ((Get, refl, any_choice, (hits_are_exact t Get rest since any_choice l.position).1 (l, g, refl)), hits_are_there t (asked Get rest since) l refl g)
+  leg-readable l (inr g) = ((Gets, refl, any_choice, (hits_are_exact t Gets rest since any_choice l.position).1 (l, g, refl)), hits_are_there t (asked Gets rest since) l refl g)
 
   abbrev IsJustifiedByPlans : Type 0
   IsJustifiedByPlans = plans.IsJustified sizes (plan t (asked Get rest since)) (plan t (asked Gets rest since)) delete
