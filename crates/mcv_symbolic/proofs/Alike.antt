@@ -1,9 +1,9 @@
 -- Rests of one class are covered together.
-use Rattle.std.proofs.Common.{◌≡◌, ◌≢◌, inl, inr, ⊎_elim, ℕ, true, List, [], ◌∷◌, Option, subst}
+use Rattle.std.proofs.Common.{◌≡◌, ◌≢◌, inl, inr, ℕ, true, List, [], ◌∷◌, Option, subst}
 use Rattle.mcv_base.specs.declared.reply.Outcome.TheVariants.{Good, Error}
 use Rattle.mcv_base.specs.Operation.{is_counting}
 use Rattle.mcv_base.specs.declared.operation.Op.{Op}
-use Rattle.mcv_base.specs.declared.operation.Op.TheVariants.{Get, Gets, Delete}
+use Rattle.mcv_base.specs.declared.operation.Op.TheVariants.{Delete}
 use Rattle.mcv_route.specs.Launched.{launched}
 use Rattle.mcv_route.specs.Outcomes.{Outcomes, Choice, History, outcomes}
 use Rattle.mcv_route.specs.Replies.{leg, replies}
@@ -51,9 +51,9 @@ pub alike_are_covered : AlikeAreCovered
 alike_are_covered sizes t rest other since a covered c o is r done x readable =
     let back = same t other rest Delete since (turned t rest other a) in
     let sent : IsSent t rest since c o x =
-    covered c o is (same-reachable t (asked Delete other since) (asked Delete rest since) c o back r) (subst (λ answers. Has answers (λ b. b.outcome ≢ Error)) (back.replied o) done) x
-    (⊎_elim
-    (λ h. inl (same-hits t (asked Get other since) (asked Get rest since) c x (same t other rest Get since (turned t rest other a)) h))
-    (λ h. inr (same-hits t (asked Gets other since) (asked Gets rest since) c x (same t other rest Gets since (turned t rest other a)) h))
-    readable) in
+    covered c o is (same-reachable t (asked Delete other since) (asked Delete rest since) c o back r) (subst (λ answers. Has answers (λ b. b.outcome ≢ Error)) (back.replied o) done) x (
+      readable.0,
+      readable.1,
+      same-hits t (asked readable.0 other since) (asked readable.0 rest since) c x (same t other rest readable.0 since (turned t rest other a)) readable.2,
+    ) in
     subst (λ ls. Has ls (λ l. (l.server.0 ≡ x) × (is_counting l.mark ≡ true))) ((same t rest other Delete since a).sent c o) sent
