@@ -9,9 +9,9 @@ use Rattle.mcv_queues.specs.Marks.{answered_mark, lost_mark, put_mark}
 use Rattle.mcv_queues.specs.Numbers.{names}
 use Rattle.mcv_route.specs.Routes.{RoutesValue}
 use Rattle.mcv_world.specs.World.{is_counted_delete, put}
-use Rattle.mcv_world.specs.Live.{live_of}
+use Rattle.mcv_world.specs.LiveWorld.{live_of}
 use Rattle.mcv_world.specs.Moves.{Move, Answered, WasSpooled, WasRefused, WasPerformed, counted_as, is_error_reply}
-use Rattle.mcv_world.specs.Possible.{IsAllowed, IsOpening}
+use Rattle.mcv_world.specs.PossibleMoves.{IsAllowed, IsOpening}
 use Rattle.mcv_events.specs.Rows as rows
 use Rattle.mcv_events.specs.Rows.{CallRow, IsCore, LegRow, Rows, awaits, leg_of, with_leg_row, world_of}
 use Rattle.mcv_events.specs.Events.{Moves, in_state, recorded_rows_for, refused_rows, spooled_rows, taken_rows}

@@ -28,8 +28,8 @@ use Rattle.mcv_core.specs.Asking.{HasBegunFor}
 use Rattle.mcv_core.proofs.Dispatchers.{view_has_era, view_is_core}
 use Rattle.mcv_core.specs.CoreView.{CoreView, Moved, Effect, HasEffect, IsQuiet, answer_at, answer_in, at_row, does, finished, flies, held, in_row_state, is_record, is_waiting, loss_at, loss_in, refused, refuses, refusing_at, refusing_in, replayed_in, sent_in, spooling_at, spooling_in, step_to, stores, taken_view, taken_row, waits_in, with_mark}
 use Rattle.mcv_core.specs.Opening.{known_records, opened_view}
-use Rattle.mcv_core.specs.Sound.{spooled_in, spooled_one}
-use Rattle.mcv_core.specs.Turning.{in_era, spooled_legs}
+use Rattle.mcv_core.specs.Soundness.{spooled_in, spooled_one}
+use Rattle.mcv_core.specs.Chapters.{in_era, spooled_legs}
 use Rattle.mcv_core.specs.View.{core_view}
 use Rattle.mcv_core.specs.declared.dispatcher.Dispatcher.{Dispatcher}
 use Rattle.mcv_core.specs.declared.engine.Core.{Core}
@@ -40,7 +40,7 @@ use Rattle.mcv_core.specs.declared.step.LegState.TheVariants as leg_states
 use Rattle.mcv_core.specs.declared.step.Step.{Step}
 use Rattle.mcv_core.specs.declared.turn.Era.{Era}
 use Rattle.mcv_hub.specs.History.{entries_in, era_entry}
-use Rattle.mcv_hub.specs.MayWrite.{break_count, breaks_left, call_may_write, leg_may_write, leg_may_write_in, may_write, rows_may_write, written_by}
+use Rattle.mcv_hub.specs.RemainingEntries.{break_count, breaks_left, call_may_write, leg_may_write, leg_may_write_in, may_write, rows_may_write, written_by}
 use Rattle.mcv_hub.proofs.BreaksLeft.{all_breaks, no_more_breaks, one_break_less}
 use Rattle.mcv_hub.proofs.RowsMayWrite.{beginning_writes, call_below, leg_below, leg_changes, recording_for_writes, refusing_writes, taking_writes}
 

@@ -8,7 +8,7 @@ use Rattle.std.specs.Ordering.{nat_cmp, ordering_then}
 use Rattle.std.specs.declared.cmp.Ordering.{Ordering}
 use Rattle.mcv_base.specs.declared.request.ServerId.{ServerId}
 use Rattle.mcv_judge.specs.declared.block.Leg.{Leg}
-use Rattle.mcv_judge.specs.InMemory.{numbers}
+use Rattle.mcv_judge.specs.PairsInMemory.{numbers}
 use Rattle.mcv_judge.specs.Reason.{LegValue, is_same_list, is_same_server, is_twin, has_server, server_at}
 use Rattle.mcv_picks.specs.Picks.{borrowed, filling}
 

@@ -1,7 +1,7 @@
 //! Legs by class: those of one class have the same symbol and the same servers.
 
 ghost use Rattle.std.specs.Prelude.{IfOk, map};
-ghost use Rattle.mcv_judge.specs.InMemory.{legs_of};
+ghost use Rattle.mcv_judge.specs.PairsInMemory.{legs_of};
 ghost use Rattle.mcv_picks.specs.Picks.{borrowed};
 ghost use Rattle.mcv_picks.specs.Tables.{FindTheSame, IsByClass};
 

@@ -6,7 +6,7 @@ use Rattle.mcv_reply.specs.declared.candidate.Head.{Head}
 use Rattle.mcv_reply.specs.declared.candidate.Candidate.{Candidate}
 use Rattle.mcv_reply.specs.declared.candidate.Move.{Move}
 use Rattle.mcv_reply.specs.Candidate.{IsValid, MovesAt, Open, Reads, ReadsOn, needed}
-use Rattle.mcv_reply.proofs.Least.{needed_least}
+use Rattle.mcv_reply.proofs.LeastLengths.{needed_least}
 
 module _ (has : Bool) (key : List ℕ) (c : Candidate) (b : ℕ) (no_end : b ≢ 10) where
   -- the line goes on, and may have so many bytes more than it must

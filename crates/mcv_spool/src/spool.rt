@@ -4,7 +4,7 @@ ghost use Rattle.std.specs.Prelude.{◌≡◌, ◌≢◌, ◌⊎◌, ◌↔◌, 
 ghost use Rattle.std.specs.List.{Contains};
 ghost use Rattle.mcv_spool.specs.Disk.{LeavesOnly, Only};
 ghost use Rattle.mcv_spool.specs.File.{damage, marked, slot_of, slots};
-ghost use Rattle.mcv_spool.specs.Found.{IsAppendFault, IsDoneFault, IsFound, IsOpenFault, WritesNothing};
+ghost use Rattle.mcv_spool.specs.FoundFile.{IsAppendFault, IsDoneFault, IsFound, IsOpenFault, WritesNothing};
 ghost use Rattle.mcv_spool.specs.History.{Call, HasNumber, History, Reported, append_reported, append_stopped, done_reported, records_of, reopen_reported, reported_found, shut, world};
 ghost use Rattle.mcv_spool.specs.declared.record.SpoolRecord.{SpoolRecord};
 ghost use Rattle.mcv_spool.specs.Version.{HasSlotsOf, IsBeforeOrAfter, IsSettled, IsVersion};

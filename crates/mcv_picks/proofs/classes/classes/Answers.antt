@@ -3,12 +3,12 @@ use Rattle.std.specs.BTreeMap.{get}
 use Rattle.std.specs.Option.{option_map}
 use Rattle.std.specs.Prelude.{find, is_some}
 use Rattle.std.proofs.lemmas.List.{map-append}
-use Rattle.mcv_judge.specs.InMemory.{leg_of, legs_of}
+use Rattle.mcv_judge.specs.PairsInMemory.{leg_of, legs_of}
 use Rattle.mcv_judge.specs.Reason.{is_twin}
 use Rattle.mcv_picks.specs.Picks.{borrowed}
 use Rattle.mcv_picks.specs.Tables.{class_cmp}
-use Rattle.mcv_picks.proofs.Equal.{class_level}
-use Rattle.mcv_picks.proofs.Found.{firsts_more, firsts_still, mapped_cond, mapped_some, table_more, table_still}
+use Rattle.mcv_picks.proofs.TwinsAreEqual.{class_level}
+use Rattle.mcv_picks.proofs.SearchResults.{firsts_more, firsts_still, mapped_cond, mapped_some, table_more, table_still}
 use Rattle.mcv_picks.proofs.classes.classes.Goals as goal
 use Rattle.mcv_picks.proofs.classes.classes.Goals.{then-not-contains_key+in_ok-insert+in_ok-push, else-not-contains_key}
 

@@ -1,5 +1,5 @@
 use Rattle.std.proofs.Common.{map, take}
-use Rattle.mcv_judge.specs.InMemory.{legs_of}
+use Rattle.mcv_judge.specs.PairsInMemory.{legs_of}
 use Rattle.mcv_picks.specs.Picks.{borrowed}
 use Rattle.mcv_picks.specs.Tables.{IsByClass, FindTheSame}
 use Rattle.mcv_picks.proofs.classes.classes.Given as goal

@@ -2,7 +2,7 @@ use Rattle.std.proofs.Common.{◌<◌, ◌++◌, [], ◌∷◌, ◌∙◌, ap, a
 use Rattle.std.proofs.lemmas.Result.{err_from_is_err_and}
 use Rattle.mcv_spool.specs.File.{slots}
 use Rattle.mcv_spool.specs.History.{Call, world}
-use Rattle.mcv_spool.proofs.Settled.{counted_slots, settled_append}
+use Rattle.mcv_spool.proofs.SettledSpool.{counted_slots, settled_append}
 use Rattle.mcv_spool.proofs.spool.Spool.append.Goals as goal
 
 pub invariant_of-self-2 : goal.invariant_of-self-2

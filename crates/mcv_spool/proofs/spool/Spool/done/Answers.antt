@@ -6,7 +6,7 @@ use Rattle.mcv_spool.specs.Version.{IsVersion}
 use Rattle.mcv_spool.proofs.Marks.{records_marked}
 use Rattle.mcv_spool.proofs.Moments.{started}
 use Rattle.mcv_spool.proofs.Records.{nothing_there}
-use Rattle.mcv_spool.proofs.Settled.{counted_slots, settled_done}
+use Rattle.mcv_spool.proofs.SettledSpool.{counted_slots, settled_done}
 use Rattle.mcv_spool.proofs.spool.Spool.done.Goals as goal
 
 pub returns-then-not-has-clause-pending : goal.returns-then-not-has-clause-pending
