@@ -8,7 +8,7 @@ use Rattle.std.proofs.lemmas.List.Folds.{find-append}
 use Rattle.mcv_judge.specs.declared.block.Leg.{Leg}
 use Rattle.mcv_judge.specs.PairsInMemory.{leg_of, legs_of}
 use Rattle.mcv_judge.specs.Reason.{LegValue, is_twin}
-use Rattle.mcv_picks.specs.Tables.{Class, FindTheSame, IsSameOnTwins, is_of}
+use Rattle.mcv_picks.specs.Tables.{TwinKey, FindTheSame, IsSameOnTwins, is_of}
 use Rattle.mcv_picks.proofs.TwinsAreEqual.{is_of-twins, of_both}
 
 pub one_more : (legs : List Leg) (i : ℕ) (leg : Leg) → i < length legs → leg ≡ get_or legs i leg → legs_of (take (i + 1) legs) ≡ legs_of (take i legs) ++ leg_of leg ∷ []
@@ -54,8 +54,8 @@ pub same_more : (firsts xs : List LegValue) (d : LegValue) → FindTheSame first
 same_more firsts xs d find_same test alike = last test firsts d ∙ ap (λ o. option_or o (cond (test d) (Some d) None)) (find_same test alike) ∙ sym (last test xs d)
 
 -- a class that had no leg has this one
-pub class_begins : (k : Class) (xs : List LegValue) (d : LegValue) → is_some (find (is_twin d) xs) ≡ false → find (is_of k) (xs ++ d ∷ []) ≡ cond (is_of k d) (Some d) (find (is_of k) xs)
-class_begins k xs d none = last (is_of k) xs d ∙ elim (cases_Bool (is_of k d)) [
+pub twin_begins : (k : TwinKey) (xs : List LegValue) (d : LegValue) → is_some (find (is_twin d) xs) ≡ false → find (is_of k) (xs ++ d ∷ []) ≡ cond (is_of k d) (Some d) (find (is_of k) xs)
+twin_begins k xs d none = last (is_of k) xs d ∙ elim (cases_Bool (is_of k d)) [
   | inl is ↦
       let absent : is_some (find (is_of k) xs) ≡ false = elim (cases_Bool (is_some (find (is_of k) xs))) [
         | inl some ↦ absurd (true≢false (sym (also_found (is_of k) (is_twin d) (λ e g. of_both k d e is g) xs some) ∙ none))
@@ -79,17 +79,17 @@ module _ (legs : List Leg) (i : ℕ) (leg : Leg) (l : i < length legs) (is : leg
   further : (test : LegValue → Bool) → find test (legs_of (take i legs) ++ leg_of leg ∷ []) ≡ find test (legs_of (take (i + 1) legs))
   further test = ap (find test) (sym (one_more legs i leg l is))
 
-  pub table_still : (k : Class) → is_some (find (is_twin (leg_of leg)) (legs_of (take i legs))) ≡ true → find (is_of k) (legs_of (take i legs)) ≡ find (is_of k) (legs_of (take (i + 1) legs))
+  pub table_still : (k : TwinKey) → is_some (find (is_twin (leg_of leg)) (legs_of (take i legs))) ≡ true → find (is_of k) (legs_of (take i legs)) ≡ find (is_of k) (legs_of (take (i + 1) legs))
   table_still k found = sym (twin_again (is_of k) (is_of-twins k) (legs_of (take i legs)) (leg_of leg) found) ∙ further (is_of k)
 
   pub firsts_still : (firsts : List LegValue) → is_some (find (is_twin (leg_of leg)) (legs_of (take i legs))) ≡ true → FindTheSame firsts (legs_of (take i legs)) → FindTheSame firsts (legs_of (take (i + 1) legs))
   firsts_still firsts found find_same test alike = same_still firsts (legs_of (take i legs)) (leg_of leg) found find_same test alike ∙ further test
 
-  pub table_more : (k : Class) (b : Bool) (old : Option LegValue) → b ≡ is_of k (leg_of leg) → is_some (find (is_twin (leg_of leg)) (legs_of (take i legs))) ≡ false → old ≡ find (is_of k) (legs_of (take i legs)) → cond b (Some (leg_of leg)) old ≡ find (is_of k) (legs_of (take (i + 1) legs))
+  pub table_more : (k : TwinKey) (b : Bool) (old : Option LegValue) → b ≡ is_of k (leg_of leg) → is_some (find (is_twin (leg_of leg)) (legs_of (take i legs))) ≡ false → old ≡ find (is_of k) (legs_of (take i legs)) → cond b (Some (leg_of leg)) old ≡ find (is_of k) (legs_of (take (i + 1) legs))
   table_more k b old same none before =
       ap (λ c. cond c (Some (leg_of leg)) old) same
       ∙ ap (cond (is_of k (leg_of leg)) (Some (leg_of leg))) before
-      ∙ sym (class_begins k (legs_of (take i legs)) (leg_of leg) none)
+      ∙ sym (twin_begins k (legs_of (take i legs)) (leg_of leg) none)
       ∙ further (is_of k)
 
   pub firsts_more : (firsts : List LegValue) → FindTheSame firsts (legs_of (take i legs)) → FindTheSame (firsts ++ leg_of leg ∷ []) (legs_of (take (i + 1) legs))

@@ -12,7 +12,7 @@ use Rattle.mcv_judge.specs.PairsInMemory.{numbers}
 use Rattle.mcv_judge.proofs.FirstFault.{equal_is, nat_equal, then_equal}
 use Rattle.mcv_judge.proofs.Servers.{by_numbers}
 use Rattle.mcv_judge.specs.Reason.{LegValue, is_same_list, is_twin}
-use Rattle.mcv_picks.specs.Tables.{Class, Slot, IsSameOnTwins, class_cmp, is_at, is_of, slot_cmp}
+use Rattle.mcv_picks.specs.Tables.{TwinKey, Slot, IsSameOnTwins, twin_cmp, is_at, is_of, slot_cmp}
 
 then_eq : (a b : Ordering) → is_eq (ordering_then a b) ≡ (is_eq a && is_eq b)
 then_eq Less b = refl
@@ -26,8 +26,8 @@ and_three : (a b c : Bool) → ((a && b) && c) ≡ (a && (b && c))
 and_three true b c = refl
 and_three false b c = refl
 
-pub class_level : (j k : Class) → is_eq (class_cmp j k) ≡ (nat_eq j.0 k.0 && is_same_list (numbers j.1.now) (numbers k.1.now))
-class_level j k =
+pub twin_level : (j k : TwinKey) → is_eq (twin_cmp j k) ≡ (nat_eq j.0 k.0 && is_same_list (numbers j.1.now) (numbers k.1.now))
+twin_level j k =
     then_eq (nat_cmp j.0 k.0) (slice_cmp (λ (x y : ServerId). nat_cmp x.0 y.0) j.1.now k.1.now)
     ∙ rw (nat_level j.0 k.0, by_numbers j.1.now k.1.now) refl
 
@@ -57,19 +57,19 @@ twin_parts d e h =
     let both = and_parts (nat_eq e.symbol d.symbol) (is_same_list e.servers d.servers) h in
     (eqb-true e.symbol d.symbol both.0, same_list e.servers d.servers both.1)
 
-pub of_parts : (k : Class) (d : LegValue) → is_of k d ≡ true → (d.symbol ≡ k.0) × (d.servers ≡ numbers k.1.now)
+pub of_parts : (k : TwinKey) (d : LegValue) → is_of k d ≡ true → (d.symbol ≡ k.0) × (d.servers ≡ numbers k.1.now)
 of_parts k d h =
     let both = and_parts (nat_eq d.symbol k.0) (is_same_list d.servers (numbers k.1.now)) h in
     (eqb-true d.symbol k.0 both.0, same_list d.servers (numbers k.1.now) both.1)
 
-pub is_of-twins : (k : Class) → IsSameOnTwins (is_of k)
+pub is_of-twins : (k : TwinKey) → IsSameOnTwins (is_of k)
 is_of-twins k d e h = let p = twin_parts d e h in rw (p.0, p.1) refl
 
 pub is_at-twins : (q : Slot) → IsSameOnTwins (is_at q)
 is_at-twins q d e h = let p = twin_parts d e h in rw (p.0, p.1) refl
 
 -- two of one class are twins
-pub of_both : (k : Class) (d e : LegValue) → is_of k d ≡ true → is_of k e ≡ true → is_twin d e ≡ true
+pub of_both : (k : TwinKey) (d e : LegValue) → is_of k d ≡ true → is_of k e ≡ true → is_twin d e ≡ true
 of_both k d e h g =
     let p = of_parts k d h in let q = of_parts k e g in
     rw (p.0, q.0, p.1, q.1, eq-eqb k.0 k.0 refl, same_itself (numbers k.1.now)) refl

@@ -28,13 +28,13 @@ impl<'a> Model for Tables<'a> {
     ghost use Rattle.std.specs.Prelude.{List};
     ghost use Rattle.mcv_judge.specs.PairsInMemory.{legs_of};
     ghost use Rattle.mcv_judge.specs.Reason.{LegValue};
-    ghost use Rattle.mcv_picks.specs.Tables.{IsByClass, IsBySlot};
+    ghost use Rattle.mcv_picks.specs.Tables.{IsByTwinKey, IsBySlot};
 
     ghost Value = { List LegValue };
 
     ghost view = { λ t. legs_of t.legs.now };
 
-    ghost invariant = { λ t. IsByClass t.by_class (legs_of t.legs.now) × IsBySlot t.by_slot (legs_of t.legs.now) };
+    ghost invariant = { λ t. IsByTwinKey t.by_class (legs_of t.legs.now) × IsBySlot t.by_slot (legs_of t.legs.now) };
 }
 
 impl<'a> Tables<'a> {
