@@ -39,7 +39,7 @@ fn count(route: &Route, asked: &Asked) -> usize
         Route::Many(kind, children) => count_many(*kind, children, asked),
         Route::WarmUp { cold, warm, .. } => {
             let first = count(cold, asked);
-            if asked.op.is_reading() {
+            if asked.is_warmed_up() {
                 let second = count(warm, asked);
                 let adding = asked.adding();
                 let filling = count(cold, &adding);
@@ -137,12 +137,12 @@ fn count_initial(children: &[Route], asked: &Asked) -> usize
     total
 }
 
-/// Those of all children for what reads, and of the first child for the rest.
+/// Those of all children for what fails over, and of the first child for the rest.
 #[cycle(counting)]
 fn count_misses(children: &[Route], asked: &Asked) -> usize
     ensures { (position : List ℕ) → result ≡ capped (legs_in (many MissFailover (children_of children.now)) (situation_at asked.now position)) }
 {
-    if !asked.op.is_reading() {
+    if !asked.fails_over_on_miss() {
         return match children.first() {
             Some(first) => count(first, asked),
             None => 0,

@@ -3,6 +3,7 @@ pub mod Tree
 pub mod WellFormedTrees
 pub mod Situation
 pub mod Children
+pub mod Misses
 pub mod Replies
 pub mod Launched
 pub mod Reply

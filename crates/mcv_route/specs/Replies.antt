@@ -5,7 +5,7 @@ use Rattle.mcv_base.specs.declared.reply.Outcome.TheVariants.{Good, Soft, Error}
 use Rattle.mcv_route.specs.Outcomes.{Outcomes}
 use Rattle.mcv_base.specs.Reply.{is_error, is_good, badness}
 use Rattle.mcv_route.specs.Tree.{Tree, Trees, pool, null, error, many, AllSync, AllInitial, AllAsync, Failover, MissFailover, warm_up, migrate, prefix_selector, operation_selector, none, child}
-use Rattle.mcv_base.specs.Operation.{is_reading}
+use Rattle.mcv_route.specs.Misses.{fails_over_on_miss, is_warmed_up}
 use Rattle.mcv_route.specs.Situation.{Situation, under}
 use Rattle.mcv_route.specs.Children.{child_or, together, policy_of, prefix_policy, way_of, by_way}
 
@@ -65,10 +65,10 @@ abbrev mutual
   replies (many AllAsync ts) s o = default_answer ∷ []
   replies (many Failover ts) s o = together or_after_error (refused ∷ []) (replies_each 0 ts s o)
   replies (many MissFailover ts) s o =
-      if is_reading s.op then together or_after_miss (refused ∷ []) (replies_each 0 ts s o)
+      if fails_over_on_miss s.op then together or_after_miss (refused ∷ []) (replies_each 0 ts s o)
       else child_or (refused ∷ []) 0 (replies_each 0 ts s o)
   replies (warm_up cold warm exptime) s o =
-      if is_reading s.op then or_after_miss (replies cold (under 0 s) o) (replies warm (under 1 s) o) else replies cold (under 0 s) o
+      if is_warmed_up s.op then or_after_miss (replies cold (under 0 s) o) (replies warm (under 1 s) o) else replies cold (under 0 s) o
   replies (migrate from to start interval) s o =
       by_way (way_of s start interval) (replies from (under 0 s) o) (replies to (under 1 s) o)
       (the_worse (replies from (under 0 s) o) (replies to (under 1 s) o))

@@ -4,7 +4,7 @@ use Rattle.mcv_base.specs.declared.reply.Outcome.{Outcome}
 use Rattle.mcv_route.specs.Outcomes.{History, outcomes}
 use Rattle.mcv_base.specs.Reply.{is_error, is_good, badness}
 use Rattle.mcv_route.specs.Tree.{Tree, Trees, pool, null, error, many, AllSync, AllInitial, AllAsync, Failover, MissFailover, warm_up, migrate, prefix_selector, operation_selector, none, child}
-use Rattle.mcv_base.specs.Operation.{is_reading}
+use Rattle.mcv_route.specs.Misses.{fails_over_on_miss, is_warmed_up}
 use Rattle.mcv_route.specs.Situation.{Situation, under}
 use Rattle.mcv_route.specs.Children.{child_or, together, policy_of, prefix_policy, way_of, by_way}
 use Rattle.mcv_route.specs.Replies.{Answer, leg, default_answer, refused, replies}
@@ -64,10 +64,10 @@ abbrev mutual
   reply (many AllAsync ts) s es = Some default_answer
   reply (many Failover ts) s es = together next_after_error (Some refused) (answers_of (arrivals 0 ts s es))
   reply (many MissFailover ts) s es =
-      if is_reading s.op then together next_after_miss (Some refused) (answers_of (arrivals 0 ts s es))
+      if fails_over_on_miss s.op then together next_after_miss (Some refused) (answers_of (arrivals 0 ts s es))
       else child_or (Some refused) 0 (answers_of (arrivals 0 ts s es))
   reply (warm_up cold warm exptime) s es =
-      if is_reading s.op then next_after_miss (reply cold (under 0 s) es) (reply warm (under 1 s) es) else reply cold (under 0 s) es
+      if is_warmed_up s.op then next_after_miss (reply cold (under 0 s) es) (reply warm (under 1 s) es) else reply cold (under 0 s) es
   reply (migrate from to start interval) s es =
       by_way (way_of s start interval) (reply from (under 0 s) es) (reply to (under 1 s) es)
       (last_worse (arrival (reply from (under 0 s) es) (came from (under 0 s) es)) (arrival (reply to (under 1 s) es) (came to (under 1 s) es))).answer

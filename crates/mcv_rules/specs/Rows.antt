@@ -10,7 +10,8 @@ use Rattle.mcv_base.specs.declared.operation.Mark.TheVariants.{Shadow}
 use Rattle.mcv_base.specs.declared.reply.Outcome.{Outcome}
 use Rattle.mcv_base.specs.declared.reply.Outcome.TheVariants.{Good, Error}
 use Rattle.mcv_base.specs.Key.{begins_with}
-use Rattle.mcv_base.specs.Operation.{is_reading, is_delete}
+use Rattle.mcv_base.specs.Operation.{is_delete}
+use Rattle.mcv_route.specs.Misses.{fails_over_on_miss, is_warmed_up}
 use Rattle.mcv_pools.specs.Table.{IsOneToOne}
 use Rattle.mcv_route.specs.declared.launch.Launch.{Launch}
 use Rattle.mcv_route.specs.Outcomes.{Outcomes, Choice}
@@ -64,11 +65,11 @@ ShadowsAreMarked = (t : Tree) (s : Situation) (c : Choice) (o : Outcomes) (l : L
 
 -- a leg has the operation that is asked, but for the add of a warm-up, which get and gets alone send
 abbrev pub LegsHaveTheOperation : Type 0
-LegsHaveTheOperation = (t : Tree) (s : Situation) (c : Choice) (o : Outcomes) (l : Launch) → Sends t s c o l → (l.op ≡ s.op) ⊎ ((is_reading s.op ≡ true) × (l.op ≡ Add))
+LegsHaveTheOperation = (t : Tree) (s : Situation) (c : Choice) (o : Outcomes) (l : Launch) → Sends t s c o l → (l.op ≡ s.op) ⊎ ((is_warmed_up s.op ≡ true) × (l.op ≡ Add))
 
 -- so what reads nothing sends its own operation alone, and a delete sends deletes
 abbrev pub OwnOperation : Type 0
-OwnOperation = (t : Tree) (s : Situation) (c : Choice) (o : Outcomes) (l : Launch) → is_reading s.op ≡ false → Sends t s c o l → l.op ≡ s.op
+OwnOperation = (t : Tree) (s : Situation) (c : Choice) (o : Outcomes) (l : Launch) → is_warmed_up s.op ≡ false → Sends t s c o l → l.op ≡ s.op
 
 -- ---- one row for each handle
 
@@ -104,23 +105,23 @@ FailoverRow = (ts : Trees) (s : Situation) (c : Choice) (o : Outcomes) (l : Laun
 
 -- for get and gets what a child sends, once all before it have replied and none with a hit
 abbrev pub MissFailoverReads : Type 0
-MissFailoverReads = (ts : Trees) (s : Situation) (c : Choice) (o : Outcomes) (l : Launch) → is_reading s.op ≡ true →
+MissFailoverReads = (ts : Trees) (s : Situation) (c : Choice) (o : Outcomes) (l : Launch) → fails_over_on_miss s.op ≡ true →
     Sends (many MissFailover ts) s c o l ↔ ((k : ℕ) × ((j : ℕ) → j < k → IsMissed (child_replied ts j s o)) × ChildSends ts k s c o l)
 
 -- for the rest what the first child sends
 abbrev pub MissFailoverWrites : Type 0
-MissFailoverWrites = (ts : Trees) (s : Situation) (c : Choice) (o : Outcomes) (l : Launch) → is_reading s.op ≡ false → Sends (many MissFailover ts) s c o l ↔ ChildSends ts 0 s c o l
+MissFailoverWrites = (ts : Trees) (s : Situation) (c : Choice) (o : Outcomes) (l : Launch) → fails_over_on_miss s.op ≡ false → Sends (many MissFailover ts) s c o l ↔ ChildSends ts 0 s c o l
 
 -- for get and gets what cold sends; once cold has replied and not with a hit, what warm sends; and once warm has hit then, what cold sends for the add
 abbrev pub WarmUpReads : Type 0
-WarmUpReads = (cold warm : Tree) (exptime : ℕ) (s : Situation) (c : Choice) (o : Outcomes) (l : Launch) → is_reading s.op ≡ true →
+WarmUpReads = (cold warm : Tree) (exptime : ℕ) (s : Situation) (c : Choice) (o : Outcomes) (l : Launch) → is_warmed_up s.op ≡ true →
     Sends (warm_up cold warm exptime) s c o l ↔
     (Sends cold (under 0 s) c o l
     ⊎ (IsMissed (replied cold (under 0 s) o) × (Sends warm (under 1 s) c o l ⊎ ((replied warm (under 1 s) o ≡ Some Good) × Sends cold (under 2 (adding s)) c o l))))
 
 -- for the rest what cold sends
 abbrev pub WarmUpWrites : Type 0
-WarmUpWrites = (cold warm : Tree) (exptime : ℕ) (s : Situation) (c : Choice) (o : Outcomes) (l : Launch) → is_reading s.op ≡ false →
+WarmUpWrites = (cold warm : Tree) (exptime : ℕ) (s : Situation) (c : Choice) (o : Outcomes) (l : Launch) → is_warmed_up s.op ≡ false →
     Sends (warm_up cold warm exptime) s c o l ↔ Sends cold (under 0 s) c o l
 
 -- before its start a migration sends to the old place
@@ -183,5 +184,5 @@ FailoverReplies = (ts : Trees) (s : Situation) (o : Outcomes) (k : ℕ) (t : Tre
 
 -- a child that hasn't replied, or with a hit, and all before it have and without one, or the last one
 abbrev pub MissFailoverReplies : Type 0
-MissFailoverReplies = (ts : Trees) (s : Situation) (o : Outcomes) (k : ℕ) (t : Tree) → is_reading s.op ≡ true → child_at ts k ≡ Some t → ((j : ℕ) → j < k → IsMissed (child_replied ts j s o))
+MissFailoverReplies = (ts : Trees) (s : Situation) (o : Outcomes) (k : ℕ) (t : Tree) → fails_over_on_miss s.op ≡ true → child_at ts k ≡ Some t → ((j : ℕ) → j < k → IsMissed (child_replied ts j s o))
     → (IsMissed (replied t (under k s) o) → ⊥) ⊎ (child_at ts (suc k) ≡ None) → replies (many MissFailover ts) s o ≡ replies t (under k s) o

@@ -1,8 +1,8 @@
 //! The plan of a route, laid out for what it is asked at its place: one arm for each handle.
 
 ghost use Rattle.std.specs.Prelude.{◌≡◌, ℕ, IfOk, [], ◌∷◌, map, true};
-ghost use Rattle.mcv_base.specs.Operation.{is_reading};
 ghost use Rattle.mcv_route.specs.Children.{is_policy_for, policy_of, prefix_policy};
+ghost use Rattle.mcv_route.specs.Misses.{is_warmed_up};
 ghost use Rattle.mcv_route.specs.Situation.{Situation, adding, under};
 ghost use Rattle.mcv_route.specs.Tree.{Tree, many, AllSync, AllInitial, AllAsync, MissFailover, child, none, pool, warm_up};
 ghost use Rattle.mcv_route.specs.View.{operation_view, pool_view, view};
@@ -38,7 +38,7 @@ pub fn laid_out(
             exptime: _,
         } => {
             let first = child_laid_out(alloc, cold, asked, position, 0)?;
-            if asked.op.is_reading() {
+            if asked.is_warmed_up() {
                 let second = child_laid_out(alloc, warm, asked, position, 1)?;
                 let filling = child_laid_out(alloc, cold, &asked.adding(), position, 2)?;
                 filled(alloc, first, second, filling)
@@ -231,7 +231,7 @@ fn none_waited_for(
     Ok(Plan::Beside(plans))
 }
 
-/// For what reads, the children one after another until one has a hit; for the rest the first child.
+/// The children one after another until one has a hit, for what fails over; for the rest the first child.
 #[cycle(planning)]
 fn misses_passed_on(
     alloc: Global,
@@ -241,7 +241,7 @@ fn misses_passed_on(
 ) -> Result<Plan, AllocError>
     ensures { IfOk result (λ p. Serves p (many MissFailover (children_of children.now)) (situation_at asked.now position.now)) }
 {
-    if !asked.op.is_reading() {
+    if !asked.fails_over_on_miss() {
         return match children.first() {
             Some(first) => child_laid_out(alloc, first, asked, position, 0),
             None => Ok(Plan::Reply(FixedReply::ErrorRoute)),
@@ -253,7 +253,7 @@ fn misses_passed_on(
 
 /// Cold's plan, after a miss warm's, and after its hit the add's.
 fn filled(alloc: Global, cold: Plan, warm: Plan, filling: Plan) -> Result<Plan, AllocError>
-    ensures { (t u : Tree) (exptime : ℕ) (s : Situation) → is_reading s.op ≡ true → Serves cold t (under 0 s) → Serves warm u (under 1 s) → Serves filling t (under 2 (adding s)) → IfOk result (λ p. Serves p (warm_up t u exptime) s) }
+    ensures { (t u : Tree) (exptime : ℕ) (s : Situation) → is_warmed_up s.op ≡ true → Serves cold t (under 0 s) → Serves warm u (under 1 s) → Serves filling t (under 2 (adding s)) → IfOk result (λ p. Serves p (warm_up t u exptime) s) }
 {
     let filled = Plan::OnHit(Box::new(alloc, warm)?, Box::new(alloc, filling)?);
     Ok(Plan::InTurn(After::Miss, pair(alloc, cold, filled)?))

@@ -2,7 +2,6 @@
 //! counts, where each outcome is of a leg that is sent. It takes no memory.
 
 ghost use Rattle.std.specs.Prelude.{◌≡◌, [], map, slice_index};
-ghost use Rattle.mcv_base.specs.Operation.{is_counting};
 ghost use Rattle.mcv_base.specs.declared.reply.Outcome.TheVariants.{Soft as Missed};
 ghost use Rattle.mcv_route.specs.Children.{is_within, rest_of};
 ghost use Rattle.mcv_route.specs.Situation.{asynchronous, shadowed};
@@ -14,7 +13,7 @@ ghost use Rattle.mcv_witness.specs.declared.seen.Join.TheVariants.{Beside as bes
 
 use crate::known::Known;
 use crate::seen::{Join, Seen, is_good};
-use mcv_base::{Mark, Outcome, Position, ServerId};
+use mcv_base::{Outcome, Position, ServerId};
 use mcv_pools::Choice;
 use mcv_route::{Leaf, Many, Route, Shadow};
 use mcv_rules::{Asked, Way, policy_number, prefix_number};
@@ -44,7 +43,7 @@ pub fn walk(route: &Route, asked: &Asked, sought: &Sought, known: Known) -> Opti
             warm,
             exptime: _,
         } => {
-            if !asked.op.is_reading() {
+            if !asked.is_warmed_up() {
                 return walk_only(cold, 0, asked, sought, known);
             }
             let (own, past) = known.split(0);
@@ -120,7 +119,7 @@ fn walk_many(
         Many::AllAsync => walk_unheard(children, &asked.asynchronous(), sought, known),
         Many::Failover => walk_joined(children, asked, sought, Join::OnError, known),
         Many::MissFailover => {
-            if asked.op.is_reading() {
+            if asked.fails_over_on_miss() {
                 walk_joined(children, asked, sought, Join::OnMiss, known)
             } else {
                 walk_first(children, asked, sought, known)
@@ -192,7 +191,7 @@ fn walk_pool(
     let own = server_at(&leaf.servers, index);
     let seen = Seen {
         reply,
-        sent: own.0 == sought.server.0 && is_counting(asked.mark),
+        sent: own.0 == sought.server.0 && asked.mark.is_counting(),
     };
     walk_shadows(shadows, &asked.shadowed(), sought, index, seen, past)
 }
@@ -202,12 +201,6 @@ fn server_at(servers: &[ServerId], index: usize) -> ServerId
     ensures { result.0 ≡ slice_index (map (λ s. s.0) servers.now) index }
 {
     servers.get(index).copied().unwrap_or(ServerId(0))
-}
-
-fn is_counting(mark: Mark) -> bool
-    ensures { result ≡ is_counting mark }
-{
-    !matches!(mark, Mark::Shadow)
 }
 
 /// Beside what was seen the targets of the shadows that hold the index.

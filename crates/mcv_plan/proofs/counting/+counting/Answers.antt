@@ -111,41 +111,41 @@ count_initial-returns-in_default t c = λ position. no_initial c.args.children.n
 pub count_misses-returns-in-Some : goal.count_misses-returns-in-Some
 count_misses-returns-in-Some t c = λ position.
     let s = situation_at c.args.asked.now position in
-    let writes : is_reading s.op ≡ false = sym c.is_reading.ensures ∙ c.if-not-is_reading.true in
+    let writes : is_reading s.op ≡ false = sym c.fails_over_on_miss.ensures ∙ c.if-not-fails_over_on_miss.true in
     first_child_count c.args.children.now c.in-Some.first.now s c.count.result writes (search rules) (search rules) (c.count.ensures (position ++ 0 ∷ []))
 
 pub count_misses-returns-in-None : goal.count_misses-returns-in-None
 count_misses-returns-in-None t c = λ position.
     let s = situation_at c.args.asked.now position in
-    let writes : is_reading s.op ≡ false = sym c.is_reading.ensures ∙ c.if-not-is_reading.true in
+    let writes : is_reading s.op ≡ false = sym c.fails_over_on_miss.ensures ∙ c.if-not-fails_over_on_miss.true in
     no_child_count c.args.children.now s writes (search rules)
 
 pub count_misses-returns : goal.count_misses-returns
 count_misses-returns t c = λ position.
     let s = situation_at c.args.asked.now position in
-    let reads : is_reading s.op ≡ true = sym c.is_reading.ensures ∙ c.if-not-is_reading.false in
+    let reads : is_reading s.op ≡ true = sym c.fails_over_on_miss.ensures ∙ c.if-not-fails_over_on_miss.false in
     c.count_each.ensures position ∙ ap capped (sym (miss_count (children_of c.args.children.now) s reads))
 
 -- ---- warm-ups
 
-pub count-returns-then-is_reading : goal.count-returns-then-is_reading
-count-returns-then-is_reading t c = λ position.
+pub count-returns-then-is_warmed_up : goal.count-returns-then-is_warmed_up
+count-returns-then-is_warmed_up t c = λ position.
     let s = situation_at c.args.asked.now position in
     let w = c.in-WarmUp in
-    let reads : is_reading s.op ≡ true = sym c.is_reading.ensures ∙ c.if-is_reading.true in
+    let reads : is_reading s.op ≡ true = sym c.is_warmed_up.ensures ∙ c.if-is_warmed_up.true in
     let first = rw c.deref-in-WarmUp.ensures at (c.count-first.ensures (position ++ 0 ∷ [])) in
-    let second = rw c.deref-then-is_reading.ensures at (c.count-second.ensures (position ++ 1 ∷ [])) in
-    let filling = rw (c.deref-then-is_reading-2.ensures, c.adding-adding.ensures) at (c.count-filling.ensures (position ++ 2 ∷ [])) in
+    let second = rw c.deref-then-is_warmed_up.ensures at (c.count-second.ensures (position ++ 1 ∷ [])) in
+    let filling = rw (c.deref-then-is_warmed_up-2.ensures, c.adding-adding.ensures) at (c.count-filling.ensures (position ++ 2 ∷ [])) in
     rw (w.is, view-WarmUp w.cold w.warm w.exptime)
     (c.saturating_add.ensures
     ∙ capped_more c.saturating_add-both.result c.count-filling.result _ _ (c.saturating_add-both.ensures ∙ capped_more c.count-first.result c.count-second.result _ _ first second) filling
     ∙ ap capped (sym (warm_up_count (view w.cold.value) (view w.warm.value) w.exptime s reads)))
 
-pub count-returns-else-is_reading : goal.count-returns-else-is_reading
-count-returns-else-is_reading t c = λ position.
+pub count-returns-else-is_warmed_up : goal.count-returns-else-is_warmed_up
+count-returns-else-is_warmed_up t c = λ position.
     let s = situation_at c.args.asked.now position in
     let w = c.in-WarmUp in
-    let writes : is_reading s.op ≡ false = sym c.is_reading.ensures ∙ c.if-is_reading.false in
+    let writes : is_reading s.op ≡ false = sym c.is_warmed_up.ensures ∙ c.if-is_warmed_up.false in
     rw (w.is, view-WarmUp w.cold w.warm w.exptime)
     (counts_as (warm_up (view w.cold.value) (view w.warm.value) w.exptime) (view w.cold.value) s (under 0 s) c.count-first.result (warms_not (view w.cold.value) (view w.warm.value) w.exptime s writes)
     (rw c.deref-in-WarmUp.ensures at (c.count-first.ensures (position ++ 0 ∷ []))))

@@ -79,7 +79,7 @@ with_shadows-returns t c =
 pub misses_passed_on-returns-in-None : goal.misses_passed_on-returns-in-None
 misses_passed_on-returns-in-None t c =
     let s = situation_at c.args.asked.now c.args.position.now in
-    let writes : is_reading s.op ≡ false = sym c.is_reading.ensures ∙ c.if-not-is_reading.true in
+    let writes : is_reading s.op ≡ false = sym c.fails_over_on_miss.ensures ∙ c.if-not-fails_over_on_miss.true in
     serves-no_child c.args.children.now s writes (search rules)
 
 pub with_shadows-returns-then-is_empty : goal.with_shadows-returns-then-is_empty
@@ -88,11 +88,11 @@ with_shadows-returns-then-is_empty t c =
 
 -- ---- warm-ups
 
-pub laid_out-returns-else-is_reading : goal.laid_out-returns-else-is_reading
-laid_out-returns-else-is_reading t c =
+pub laid_out-returns-else-is_warmed_up : goal.laid_out-returns-else-is_warmed_up
+laid_out-returns-else-is_warmed_up t c =
     let s = situation_at c.args.asked.now c.args.position.now in
     let w = c.in-WarmUp in
-    let writes : is_reading s.op ≡ false = sym c.is_reading.ensures ∙ c.if-is_reading.false in
+    let writes : is_reading s.op ≡ false = sym c.is_warmed_up.ensures ∙ c.if-is_warmed_up.false in
     rw (w.is, view-WarmUp w.cold w.warm w.exptime)
     (serves-does c.in_ok-first-in-WarmUp.first (warm_up (view w.cold.value) (view w.warm.value) w.exptime) (view w.cold.value) s (under 0 s) (warms_not (view w.cold.value) (view w.warm.value) w.exptime s writes)
     (rw c.deref-in-WarmUp.ensures at c.in_ok-first-in-WarmUp.ensures))
@@ -101,12 +101,12 @@ pub laid_out-returns-in_ok-filling-in-WarmUp : goal.laid_out-returns-in_ok-filli
 laid_out-returns-in_ok-filling-in-WarmUp t c =
     let s = situation_at c.args.asked.now c.args.position.now in
     let w = c.in-WarmUp in
-    let reads : is_reading s.op ≡ true = sym c.is_reading.ensures ∙ c.if-is_reading.true in
+    let reads : is_reading s.op ≡ true = sym c.is_warmed_up.ensures ∙ c.if-is_warmed_up.true in
     rw (w.is, view-WarmUp w.cold w.warm w.exptime)
     (c.filled.ensures (view w.cold.value) (view w.warm.value) w.exptime s reads
     (rw c.deref-in-WarmUp.ensures at c.in_ok-first-in-WarmUp.ensures)
-    (rw c.deref-then-is_reading.ensures at c.in_ok-second-in-WarmUp.ensures)
-    (rw (c.deref-then-is_reading-2.ensures, c.adding.ensures) at c.in_ok-filling-in-WarmUp.ensures))
+    (rw c.deref-then-is_warmed_up.ensures at c.in_ok-second-in-WarmUp.ensures)
+    (rw (c.deref-then-is_warmed_up-2.ensures, c.adding.ensures) at c.in_ok-filling-in-WarmUp.ensures))
 
 -- ---- migrations
 
@@ -285,6 +285,6 @@ misses_passed_on-returns-in-Some t c =
     let s = situation_at c.args.asked.now c.args.position.now in
     let children = c.args.children.now in
     let first = c.in-Some.first.now in
-    let writes : is_reading s.op ≡ false = sym c.is_reading.ensures ∙ c.if-not-is_reading.true in
+    let writes : is_reading s.op ≡ false = sym c.fails_over_on_miss.ensures ∙ c.if-not-fails_over_on_miss.true in
     served c.child_laid_out.result (λ p. Serves p (view first) (under 0 s)) (λ p. Serves p (many MissFailover (children_of children)) s)
     (λ p. serves-first_child p children first s writes (search rules) (search rules)) c.child_laid_out.ensures
