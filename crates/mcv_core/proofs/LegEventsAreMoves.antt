@@ -3,7 +3,7 @@ use Rattle.std.proofs.Common.{◌≡◌, ◌&&◌, cond, ℕ, Bool, true, false,
 use Rattle.std.specs.Prelude.{⊤}
 use Rattle.mcv_base.specs.declared.reply.FixedReply.TheVariants.{Lost}
 use Rattle.mcv_base.specs.Reply.{ReplyValue, fixed_value, not_found}
-use Rattle.mcv_queues.specs.declared.marks.Mark.{Mark}
+use Rattle.mcv_queues.specs.declared.marks.ServerFailures.{ServerFailures}
 use Rattle.mcv_queues.specs.Marks.{answered_mark, lost_mark}
 use Rattle.mcv_world.specs.World.{is_counted_delete}
 use Rattle.mcv_world.specs.Moves.{counted_as, has_no_outcome, is_error_reply, is_one}
@@ -30,7 +30,7 @@ by_test v n x true e f one other = one refl
 by_test v n x false e f one other = other refl
 
 module _ (v : CoreView) (core : IsCore v.routes v.rows) (n : ℕ) (s : LegRow) (at : v.rows.legs n ≡ Some s) where
-  sent : (g : Mark → Mark) (x : ReplyValue) → s.state ≡ rows.Sent → IsMove v n x (sent_in (with_mark v s.launch.server.0 g) n (counted_as s.launch.op x) s)
+  sent : (g : ServerFailures → ServerFailures) (x : ReplyValue) → s.state ≡ rows.Sent → IsMove v n x (sent_in (with_mark v s.launch.server.0 g) n (counted_as s.launch.op x) s)
   sent g x is =
       by_test v n x (is_counted_delete (leg_of s) && is_error_reply (counted_as s.launch.op x)) (held (with_mark v s.launch.server.0 g) n s) (finished (with_mark v s.launch.server.0 g) n (counted_as s.launch.op x) s)
       (λ e. record {
@@ -44,7 +44,7 @@ module _ (v : CoreView) (core : IsCore v.routes v.rows) (n : ℕ) (s : LegRow) (
       both_first true c e = refl
       both_first false c e = absurd (true≢false (sym e))
 
-  replayed : (g : Mark → Mark) (x : ReplyValue) (failed : Bool) → s.state ≡ rows.InSpool → IsMove v n x (replayed_in (with_mark v s.launch.server.0 g) n failed s)
+  replayed : (g : ServerFailures → ServerFailures) (x : ReplyValue) (failed : Bool) → s.state ≡ rows.InSpool → IsMove v n x (replayed_in (with_mark v s.launch.server.0 g) n failed s)
   replayed g x failed is =
       by_test v n x failed _ _ (λ e. record { world = refl; core = core; routes = refl }) (λ e. record { allowed = tt; moves = performed_moves v.routes v.rows n s core at is; routes = refl })
 

@@ -18,7 +18,7 @@ use Rattle.mcv_pools.specs.Table.{number_in}
 use Rattle.mcv_queues.specs.declared.leg.Leg.{Leg}
 use Rattle.mcv_queues.specs.declared.leg.State.{State}
 use Rattle.mcv_queues.specs.declared.leg.State.TheVariants.{InSpool}
-use Rattle.mcv_queues.specs.declared.marks.Mark.{Mark}
+use Rattle.mcv_queues.specs.declared.marks.ServerFailures.{ServerFailures}
 use Rattle.mcv_queues.specs.Legs.{stored_as, with_stored}
 use Rattle.mcv_queues.specs.Marks.{no_mark}
 use Rattle.mcv_route.specs.Eras.{breaks_of, since_at}
@@ -253,7 +253,7 @@ module _ (r : RoutesValue) (records : List OpenedRecord) (numbers : List ℕ) (c
   }
 
 pub view : (r : RoutesValue) (records : List (ℕ × SpoolRecord)) (calls : ℕ → Option Call) → calls ≡ (λ k. None) → (legs : ℕ → Option (Leg Errand)) (count : ℕ) → AreOpened (known_records r.servers records) (known_numbers r.servers records) legs count
-    → (since : Option ℕ) → since ≡ since_at (breaks_of r) 0 → (flights : ℕ → Option ℕ) → ((s : ℕ) → flights s ≡ None) → (marks : ℕ → Mark) → ((s : ℕ) → marks s ≡ no_mark) → (v : CoreView)
+    → (since : Option ℕ) → since ≡ since_at (breaks_of r) 0 → (flights : ℕ → Option ℕ) → ((s : ℕ) → flights s ≡ None) → (marks : ℕ → ServerFailures) → ((s : ℕ) → marks s ≡ no_mark) → (v : CoreView)
     → v ≡ record { routes = r; rows = rows_of calls legs since 0 count; flights = flights; marks = marks; moment = 0; chapter = 0; entries = count } → v ≡ opened_view r records
 view r records calls no_calls legs count are since since_is flights none marks unmarked v is =
     let same = rows_are r (known_records r.servers records) (known_numbers r.servers records) calls no_calls legs count are since since_is state_of refl in
