@@ -9,7 +9,7 @@ use Rattle.mcv_cert.specs.Pair.{SpotValue}
 use Rattle.mcv_judge.specs.Reason.{BlockValue, LegValue}
 use Rattle.mcv_route.specs.Routes.{RouteEntry, RoutesValue}
 use Rattle.mcv_route.specs.Tree.{Tree}
-use Rattle.mcv_symbolic.specs.Justified.{IsNeverAcknowledged, IsReadableAt}
+use Rattle.mcv_symbolic.specs.JustifiedRoutes.{IsNeverAcknowledged, IsReadableAt}
 use Rattle.mcv_route.specs.Eras.{HasEra, IsEraOf}
 use Rattle.mcv_blocks.specs.Blocks.{AreLeavesAt, IsAcknowledgedAt, IsBlockAt, IsSpotOf}
 use Rattle.mcv_blocks.specs.Places.{IsRouteClass}

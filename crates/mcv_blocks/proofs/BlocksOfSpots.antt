@@ -20,7 +20,7 @@ use Rattle.mcv_blocks.specs.Blocks.{AreBlocksOf, HasBlockFor, IsBlockOf, IsSpotO
 use Rattle.mcv_blocks.specs.Places.{AreRouteClasses, IsRouteClass, class_cmp}
 use Rattle.mcv_blocks.specs.Spots.{AreClassesInEras, ClassInEra, IsBlockFor, classes_in_eras, eras_from, in_era, spot_of}
 use Rattle.mcv_blocks.specs.declared.classes.RouteClass.{RouteClass}
-use Rattle.mcv_blocks.proofs.Listed.{less}
+use Rattle.mcv_blocks.proofs.RouteClasses.{less}
 use Rattle.mcv_blocks.proofs.PoolSizes.{pool_sound}
 use Rattle.mcv_route.proofs.RisingLists.{at_first, behind_first, first_or_behind, none_there, rises_behind}
 

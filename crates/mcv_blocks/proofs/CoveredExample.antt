@@ -23,19 +23,19 @@ use Rattle.mcv_rules.specs.Plans as plans
 use Rattle.mcv_classes.specs.Class.{IsFree}
 use Rattle.mcv_classes.specs.Words.{class_words}
 use Rattle.mcv_route.specs.Eras.{IsEra, IsEraOf}
-use Rattle.mcv_symbolic.specs.Covered.{AreCovered}
-use Rattle.mcv_symbolic.specs.Justified.{IsNeverAcknowledged, IsReadableAt}
+use Rattle.mcv_symbolic.specs.CoveredRoutes.{AreCovered}
+use Rattle.mcv_symbolic.specs.JustifiedRoutes.{IsNeverAcknowledged, IsReadableAt}
 use Rattle.mcv_symbolic.proofs.Exactness.{acknowledged_is_exact, done_is_exact, hits_are_exact}
-use Rattle.mcv_symbolic.proofs.Whole.{covered_by_members}
+use Rattle.mcv_symbolic.proofs.CoveredByMembers.{covered_by_members}
 use Rattle.mcv_cert.specs.Pair.{AreRising, PairValue, SpotValue, all, list_cmp}
 use Rattle.mcv_judge.specs.Answers.{AnswersAll, IsAnswer}
 use Rattle.mcv_judge.specs.Faults.{AreInOrder, AreLegsRising, IsFaultless, IsInOrder}
 use Rattle.mcv_judge.specs.Reason.{BlockValue, LegValue, is_whole}
-use Rattle.mcv_judge.proofs.Answered.{answered_faultless}
+use Rattle.mcv_judge.proofs.AnsweringPairs.{answered_faultless}
 use Rattle.mcv_blocks.specs.Blocks.{AreBlocksOf, AreLeavesAt, HasBlockFor, IsAcknowledgedAt, IsBlockOf, IsJustifiedBy, IsSpotOf, pool_for}
 use Rattle.mcv_route.proofs.BreakTables.{era_there}
 use Rattle.mcv_route.proofs.RisingLists.{at_first, behind_first, first_or_behind, none_there}
-use Rattle.mcv_blocks.proofs.Sound.{justified_is_covered}
+use Rattle.mcv_blocks.proofs.JustifiedIsCovered.{justified_is_covered}
 
 -- ---- the configuration
 

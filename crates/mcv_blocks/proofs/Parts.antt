@@ -17,15 +17,15 @@ use Rattle.mcv_route.specs.Situation.{asked}
 use Rattle.mcv_route.specs.Tree.{Tree}
 use Rattle.mcv_rules.specs.declared.plan.PlannedLeg.{PlannedLeg}
 use Rattle.mcv_symbolic.specs.Case.{CaseValue, situation_of}
-use Rattle.mcv_symbolic.specs.InMemory.{pool_of}
-use Rattle.mcv_symbolic.specs.Justified.{IsNeverAcknowledged, IsReadableAt}
+use Rattle.mcv_symbolic.specs.LegInMemory.{pool_of}
+use Rattle.mcv_symbolic.specs.JustifiedRoutes.{IsNeverAcknowledged, IsReadableAt}
 use Rattle.mcv_symbolic.specs.Sets as sets
 use Rattle.mcv_symbolic.specs.Sets.{AreLegsAt, CanBeAcknowledged, CanHitAt, IsAcknowledged}
 use Rattle.mcv_blocks.specs.Blocks.{AreLeavesAt, IsAcknowledgedAt, pool_for, positions_of}
-use Rattle.mcv_blocks.specs.Merged.{leaf_of, leaves_of, merge}
+use Rattle.mcv_blocks.specs.MergedLegs.{leaf_of, leaves_of, merge}
 use Rattle.mcv_blocks.specs.Sets.{AreCases, SetsValue}
-use Rattle.mcv_blocks.proofs.Existing.{either_hit}
-use Rattle.mcv_blocks.proofs.Merging.{merged_leaves, positions-all}
+use Rattle.mcv_blocks.proofs.BlockAtEachSpot.{either_hit}
+use Rattle.mcv_blocks.proofs.MergesRise.{merged_leaves, positions-all}
 use Rattle.mcv_route.proofs.RisingLists.{rises_behind}
 
 -- ---- the legs of a plan, borrowed

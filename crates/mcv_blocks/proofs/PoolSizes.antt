@@ -8,7 +8,7 @@ use Rattle.mcv_pools.specs.Symbol.{SymbolValue}
 use Rattle.mcv_route.specs.Places.{children_of, child_at, pool_at_position, pool_of, tree_at}
 use Rattle.mcv_route.specs.Routes.{AreSoundTrees, IsSoundPool, IsSoundRoutes, IsSoundTree, RouteEntry, RoutesValue}
 use Rattle.mcv_route.specs.Tree.{Pool, Tree, Trees, pool, null, error, many, warm_up, migrate, prefix_selector, operation_selector, none, child}
-use Rattle.mcv_symbolic.specs.Covered.{sizes_of}
+use Rattle.mcv_symbolic.specs.CoveredRoutes.{sizes_of}
 
 module _ (servers : ℕ) (symbols : List SymbolValue) where
   children_sound : (t : Tree) → IsSoundTree servers symbols t → AreSoundTrees servers symbols (children_of t)

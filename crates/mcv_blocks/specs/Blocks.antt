@@ -9,7 +9,7 @@ use Rattle.mcv_route.specs.Routes.{RouteEntry, RoutesValue}
 use Rattle.mcv_route.specs.Tree.{Pool, Tree}
 use Rattle.mcv_classes.specs.Class.{IsMember}
 use Rattle.mcv_classes.specs.Words.{class_words}
-use Rattle.mcv_symbolic.specs.Justified.{IsNeverAcknowledged, IsReadableAt}
+use Rattle.mcv_symbolic.specs.JustifiedRoutes.{IsNeverAcknowledged, IsReadableAt}
 use Rattle.mcv_symbolic.specs.Sets.{IsAcknowledged}
 use Rattle.mcv_judge.specs.Faults.{AreLegsRising, IsFaultless, IsFirstFault}
 use Rattle.mcv_judge.specs.Reason.{BlockValue, LegValue}

@@ -2,7 +2,7 @@
 use Rattle.std.specs.Prelude.{◌≡◌, ◌<◌, ℕ, List, length}
 use Rattle.std.specs.List.{All, Contains}
 use Rattle.mcv_route.specs.Routes.{IsSoundRoutes, RoutesValue}
-use Rattle.mcv_symbolic.specs.Covered.{AreCovered, sizes_of}
+use Rattle.mcv_symbolic.specs.CoveredRoutes.{AreCovered, sizes_of}
 use Rattle.mcv_judge.specs.Reason.{BlockValue, HasReason, LegValue}
 use Rattle.mcv_cert.specs.Pair.{AreRising, PairValue}
 use Rattle.mcv_blocks.specs.Blocks.{AreBlocksOf, IsBlockOf, IsJustifiedBy}

@@ -14,9 +14,9 @@ use Rattle.mcv_blocks.specs.Spots.{AreClassesInEras, IsBlockFor, ClassInEra, cla
 use Rattle.mcv_blocks.specs.declared.classes.RouteClass.{RouteClass}
 use Rattle.mcv_blocks.proofs.BlocksOfSpots.{class-there, in-spots, same-cmp, spots_are, spots_behind}
 use Rattle.mcv_route.proofs.RisingLists.{first_or_behind}
-use Rattle.mcv_blocks.proofs.Unique.{one_block}
+use Rattle.mcv_blocks.proofs.OneListOfBlocks.{one_block}
 use Rattle.mcv_certify.specs.Gap.{IsFirstGap, IsGap}
-use Rattle.mcv_certify.specs.Made.{ReportsGapIn}
+use Rattle.mcv_certify.specs.BlockSteps.{ReportsGapIn}
 use Rattle.mcv_certify.specs.declared.gap.Gap.{Gap}
 use Rattle.mcv_certify.proofs.BlockGap.{before_gap}
 use Rattle.mcv_certify.proofs.Lists.{zip_there}

@@ -8,14 +8,14 @@ use Rattle.mcv_cert.specs.Pair.{PairValue}
 use Rattle.mcv_judge.specs.Answers.{AnswersBlock}
 use Rattle.mcv_judge.specs.Reason.{BlockValue, HasReasons}
 use Rattle.mcv_route.specs.Routes.{RoutesValue}
-use Rattle.mcv_pairs.specs.Adds.{Adds}
+use Rattle.mcv_pairs.specs.AddedPairs.{Adds}
 use Rattle.mcv_pairs.specs.Reasons.{IsPickedIn}
-use Rattle.mcv_pairs.proofs.Added.{all_more, all_none}
-use Rattle.mcv_pairs.proofs.Reasoned.{answered_have}
+use Rattle.mcv_pairs.proofs.AddedPairs.{all_more, all_none}
+use Rattle.mcv_pairs.proofs.AnsweredHasReasons.{answered_have}
 use Rattle.mcv_blocks.specs.Spots.{IsBlockFor, ClassInEra, eras_from, in_era, classes_in_eras}
 use Rattle.mcv_blocks.specs.declared.classes.RouteClass.{RouteClass}
-use Rattle.mcv_certify.specs.Made.{AddsFor, ReportsGapAt, ReportsGapIn}
-use Rattle.mcv_certify.specs.Picked.{IsPickedOf}
+use Rattle.mcv_certify.specs.BlockSteps.{AddsFor, ReportsGapAt, ReportsGapIn}
+use Rattle.mcv_certify.specs.PickedReasons.{IsPickedOf}
 use Rattle.mcv_certify.specs.declared.gap.Gap.{Gap}
 use Rattle.mcv_certify.proofs.Lists.{in_turn_both, zip_both}
 use Rattle.mcv_certify.proofs.Spots.{eras_more, eras_parted, spots_more, spots_parted}

@@ -5,7 +5,7 @@ use Rattle.std.proofs.lemmas.List.{length-map}
 use Rattle.std.proofs.lemmas.Option.{same_Some, slice_get-get_or, slice_get-map, slice_get_within}
 use Rattle.mcv_cert.specs.Pair.{PlaceValue}
 use Rattle.mcv_judge.specs.Faults.{require, place_required}
-use Rattle.mcv_judge.specs.InMemory.{leg_of, legs_of}
+use Rattle.mcv_judge.specs.PairsInMemory.{leg_of, legs_of}
 use Rattle.mcv_judge.specs.Reason.{BlockValue, LegValue}
 use Rattle.mcv_judge.specs.declared.block.Leg.{Leg}
 

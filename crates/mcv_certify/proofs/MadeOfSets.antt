@@ -8,7 +8,7 @@ use Rattle.mcv_judge.specs.Reason.{LegValue}
 use Rattle.mcv_route.specs.Places.{pool_at_position}
 use Rattle.mcv_route.specs.Routes.{IsSoundRoutes, RouteEntry, RoutesValue}
 use Rattle.mcv_route.specs.Tree.{Tree}
-use Rattle.mcv_symbolic.specs.Covered.{sizes_of}
+use Rattle.mcv_symbolic.specs.CoveredRoutes.{sizes_of}
 use Rattle.mcv_pairs.specs.Gaps.{IsSized}
 use Rattle.mcv_blocks.specs.Blocks.{AreLeavesAt, IsAcknowledgedAt, pool_for}
 use Rattle.mcv_route.specs.Eras.{HasEra, IsEraOf}
@@ -17,7 +17,7 @@ use Rattle.mcv_blocks.specs.Spots.{IsClassInEra, in_era}
 use Rattle.mcv_blocks.specs.declared.classes.RouteClass.{RouteClass}
 use Rattle.mcv_blocks.proofs.PoolSizes.{entry_sized}
 use Rattle.mcv_blocks.proofs.BlockOfSets.{block_is_there, tree_of}
-use Rattle.mcv_certify.specs.Made.{AddsFor, AddsWith, AreLegsSized, ReportsGapAt, ReportsGapWith}
+use Rattle.mcv_certify.specs.BlockSteps.{AddsFor, AddsWith, AreLegsSized, ReportsGapAt, ReportsGapWith}
 use Rattle.mcv_certify.specs.declared.gap.Gap.{Gap}
 use Rattle.mcv_certify.proofs.GapsOfSpots.{adds_one}
 

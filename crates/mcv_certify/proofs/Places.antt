@@ -8,7 +8,7 @@ use Rattle.mcv_cert.specs.Pair.{PlaceValue, index_cmp, list_cmp, place_cmp, spot
 use Rattle.mcv_cert.proofs.Rising.{places_total}
 use Rattle.mcv_judge.specs.Faults.{require, place_required}
 use Rattle.mcv_judge.specs.Reason.{BlockValue, LegValue}
-use Rattle.mcv_judge.proofs.First.{nat_less}
+use Rattle.mcv_judge.proofs.FirstFault.{nat_less}
 use Rattle.mcv_judge.proofs.Order.{in_one_spot, in_two_spots}
 use Rattle.mcv_route.proofs.RisingLists.{not_both}
 

@@ -4,17 +4,17 @@ use Rattle.std.specs.List.{All}
 use Rattle.mcv_cert.specs.Pair.{place_of}
 use Rattle.mcv_route.specs.Routes.{IsSoundRoutes, RoutesValue}
 use Rattle.mcv_route.specs.Eras.{HasEra}
-use Rattle.mcv_symbolic.specs.Covered.{AreCovered, sizes_of}
+use Rattle.mcv_symbolic.specs.CoveredRoutes.{AreCovered, sizes_of}
 use Rattle.mcv_blocks.specs.Places.{AreRouteClasses}
 use Rattle.mcv_blocks.specs.Spots.{classes_in_eras}
 use Rattle.mcv_blocks.specs.declared.classes.RouteClass.{RouteClass}
 use Rattle.mcv_certify.specs.Gap.{IfLost, IsRightFault}
-use Rattle.mcv_certify.specs.Made.{ReportsGapIn}
+use Rattle.mcv_certify.specs.BlockSteps.{ReportsGapIn}
 use Rattle.mcv_certify.specs.declared.gap.CertifyFault.{CertifyFault}
 use Rattle.mcv_certify.specs.declared.gap.CertifyFault.TheVariants.{Lost, Memory}
 use Rattle.mcv_certify.proofs.FirstGap.{first_gap, own}
-use Rattle.mcv_certify.proofs.Loss.{gap_lost}
-use Rattle.mcv_certify.proofs.Known.{server_known}
+use Rattle.mcv_certify.proofs.GapIsLoss.{gap_lost}
+use Rattle.mcv_certify.proofs.ReportedServerIsKnown.{server_known}
 
 module _ (r : RoutesValue) (cs : List RouteClass) (n : ℕ) (sound : IsSoundRoutes r) (classes : AreRouteClasses r cs) (count : (era : ℕ) → (era < n) ↔ HasEra r era) where
   pub right : (e : CertifyFault) → IfLost e (ReportsGapIn r (classes_in_eras cs n)) → IsRightFault r e

@@ -6,7 +6,7 @@ use Rattle.mcv_cert.specs.Pair.{PlaceValue, index_cmp, place_of}
 use Rattle.mcv_judge.specs.Faults.{place_required, require}
 use Rattle.mcv_judge.specs.Reason.{BlockValue, HasReason, LegValue, server_at}
 use Rattle.mcv_route.specs.Routes.{IsSoundRoutes, RoutesValue}
-use Rattle.mcv_symbolic.specs.Covered.{AreCovered, sizes_of}
+use Rattle.mcv_symbolic.specs.CoveredRoutes.{AreCovered, sizes_of}
 use Rattle.mcv_blocks.specs.Blocks.{IsBlockOf}
 use Rattle.mcv_certify.specs.declared.gap.Gap.{Gap}
 use Rattle.mcv_certify.specs.declared.gap.CertifyFault.{CertifyFault}

@@ -3,12 +3,12 @@
 ghost use Rattle.std.specs.Prelude.{All, IfErr, OnOk};
 ghost use Rattle.mcv_judge.specs.Answers.{AnswersBlock};
 ghost use Rattle.mcv_judge.specs.Faults.{AreLegsRising};
-ghost use Rattle.mcv_judge.specs.InMemory.{block_of, legs_of, pairs_of};
-ghost use Rattle.mcv_pairs.specs.Adds.{Adds};
+ghost use Rattle.mcv_judge.specs.PairsInMemory.{block_of, legs_of, pairs_of};
+ghost use Rattle.mcv_pairs.specs.AddedPairs.{Adds};
 ghost use Rattle.mcv_pairs.specs.Gaps.{IsSized};
 ghost use Rattle.mcv_pairs.specs.Reasons.{IsPickedIn};
 ghost use Rattle.mcv_certify.specs.Gap.{IfLost};
-ghost use Rattle.mcv_certify.specs.Made.{AddsWith, AreLegsSized, ReportsGapOf, ReportsGapWith};
+ghost use Rattle.mcv_certify.specs.BlockSteps.{AddsWith, AreLegsSized, ReportsGapOf, ReportsGapWith};
 
 use crate::gap::{CertifyFault, gap_of};
 use mcv_blocks::{RouteClass, Sets};

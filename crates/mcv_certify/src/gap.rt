@@ -1,9 +1,9 @@
 //! Where a delete can be lost.
 
 ghost use Rattle.std.specs.Prelude.{◌≡◌, ◌<◌, All, IfOk};
-ghost use Rattle.mcv_judge.specs.InMemory.{block_of};
+ghost use Rattle.mcv_judge.specs.PairsInMemory.{block_of};
 ghost use Rattle.mcv_pairs.specs.Gaps.{IsFirstGapIn};
-ghost use Rattle.mcv_certify.specs.Made.{ReportsGapOf};
+ghost use Rattle.mcv_certify.specs.BlockSteps.{ReportsGapOf};
 ghost use Rattle.mcv_certify.specs.declared.gap.CertifyFault.TheVariants.{Memory as out_of_memory};
 
 use mcv_base::ServerId;

@@ -5,12 +5,12 @@ ghost use Rattle.mcv_route.specs.Eras.{HasEra};
 ghost use Rattle.mcv_blocks.specs.Blocks.{IsJustifiedBy};
 ghost use Rattle.mcv_blocks.specs.Places.{IsRouteClass};
 ghost use Rattle.mcv_blocks.specs.Spots.{IsClassInEra, eras_from, in_era};
-ghost use Rattle.mcv_judge.specs.InMemory.{pairs_of};
+ghost use Rattle.mcv_judge.specs.PairsInMemory.{pairs_of};
 ghost use Rattle.mcv_route.specs.Routes.{IsSoundRoutes};
-ghost use Rattle.mcv_symbolic.specs.Covered.{AreCovered};
+ghost use Rattle.mcv_symbolic.specs.CoveredRoutes.{AreCovered};
 ghost use Rattle.mcv_certify.specs.Gap.{IfLost, IsRightFault};
-ghost use Rattle.mcv_certify.specs.Made.{AddsFor, ReportsGapAt, ReportsGapIn};
-ghost use Rattle.mcv_certify.specs.Picked.{IsPickedOf};
+ghost use Rattle.mcv_certify.specs.BlockSteps.{AddsFor, ReportsGapAt, ReportsGapIn};
+ghost use Rattle.mcv_certify.specs.PickedReasons.{IsPickedOf};
 ghost use Rattle.mcv_certify.specs.declared.gap.CertifyFault.TheVariants.{Memory as out_of_memory};
 
 use crate::block::push_sets;

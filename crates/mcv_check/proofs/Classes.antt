@@ -12,7 +12,7 @@ use Rattle.mcv_blocks.specs.Spots.{AreClassesInEras, eras_from, classes_in_eras}
 use Rattle.mcv_blocks.specs.declared.classes.RouteClass.{RouteClass}
 use Rattle.mcv_blocks.proofs.BlocksOfSpots.{blocks_of_spots, spots_are, spots_behind}
 use Rattle.mcv_check.specs.Fault.{IsFaultOfPairs}
-use Rattle.mcv_check.specs.Judged.{IsJudged, Leaves, Stops}
+use Rattle.mcv_check.specs.Judgements.{IsJudged, Leaves, Stops}
 use Rattle.mcv_check.specs.declared.fault.CheckFault.{CheckFault}
 use Rattle.mcv_check.specs.declared.fault.CheckFault.TheVariants.{Memory, Pair}
 use Rattle.mcv_check.proofs.Steps.{IsFirstAt, brought-back, further, nothing_judged}

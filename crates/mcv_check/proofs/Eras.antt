@@ -4,7 +4,7 @@ use Rattle.mcv_cert.specs.Pair.{PairValue}
 use Rattle.mcv_route.specs.Routes.{RoutesValue}
 use Rattle.mcv_blocks.specs.Spots.{AreClassesInEras, ClassInEra, eras_from, in_era}
 use Rattle.mcv_blocks.specs.declared.classes.RouteClass.{RouteClass}
-use Rattle.mcv_check.specs.Judged.{IsJudged, Leaves, Stops}
+use Rattle.mcv_check.specs.Judgements.{IsJudged, Leaves, Stops}
 use Rattle.mcv_check.specs.declared.fault.CheckFault.{CheckFault}
 use Rattle.mcv_check.specs.declared.fault.CheckFault.TheVariants.{Memory, Pair}
 use Rattle.mcv_check.proofs.Steps.{brought-back, further, nothing_judged}

@@ -9,8 +9,8 @@ use Rattle.mcv_judge.proofs.Bridge.{carried}
 use Rattle.mcv_route.specs.Routes.{IsSoundRoutes, RoutesValue}
 use Rattle.mcv_blocks.specs.Spots.{IsBlockFor, ClassInEra}
 use Rattle.mcv_blocks.proofs.BlocksOfSpots.{in_order}
-use Rattle.mcv_blocks.proofs.Existing.{blocks_exist}
-use Rattle.mcv_check.specs.Judged.{IsJudged, Leaves, Stops}
+use Rattle.mcv_blocks.proofs.BlockAtEachSpot.{blocks_exist}
+use Rattle.mcv_check.specs.Judgements.{IsJudged, Leaves, Stops}
 use Rattle.mcv_check.specs.declared.fault.CheckFault.TheVariants.{Pair}
 
 -- ---- one block

@@ -2,8 +2,8 @@
 
 ghost use Rattle.std.specs.Prelude.{IfErr, IfOk};
 ghost use Rattle.mcv_cert.specs.Pair.{AreRising};
-ghost use Rattle.mcv_check.specs.Judged.{IsInOrderWith, LeavesWith, StopsWith};
-ghost use Rattle.mcv_judge.specs.InMemory.{pairs_of};
+ghost use Rattle.mcv_check.specs.Judgements.{IsInOrderWith, LeavesWith, StopsWith};
+ghost use Rattle.mcv_judge.specs.PairsInMemory.{pairs_of};
 
 use crate::fault::CheckFault;
 use mcv_blocks::{RouteClass, Sets};

@@ -7,8 +7,8 @@ ghost use Rattle.mcv_blocks.specs.Places.{IsRouteClass};
 ghost use Rattle.mcv_blocks.specs.Spots.{IsClassInEra, eras_from, in_era};
 ghost use Rattle.mcv_cert.specs.Pair.{AreRising};
 ghost use Rattle.mcv_check.specs.Fault.{IsFaultOfPairs};
-ghost use Rattle.mcv_check.specs.Judged.{AreSetsOf, Leaves, Stops};
-ghost use Rattle.mcv_judge.specs.InMemory.{pairs_of};
+ghost use Rattle.mcv_check.specs.Judgements.{AreSetsOf, Leaves, Stops};
+ghost use Rattle.mcv_judge.specs.PairsInMemory.{pairs_of};
 ghost use Rattle.mcv_route.specs.Routes.{IsSoundRoutes};
 
 use crate::block::judge_sets;

@@ -9,7 +9,7 @@ use Rattle.mcv_names.specs.Fault.{good}
 use Rattle.mcv_names.specs.Handles.{key_fault, keys_read}
 use Rattle.mcv_names.specs.Lists.{each, items_list, some_items}
 use Rattle.mcv_names.specs.Path.{key_step, item_step}
-use Rattle.mcv_names.proofs.Holds.{Holds, holds_bind, holds_then, holds_also}
+use Rattle.mcv_names.proofs.ReadFacts.{Holds, holds_bind, holds_then, holds_also}
 use Rattle.mcv_config.specs.Aliases.{aliases_field}
 use Rattle.mcv_config.specs.Config.{at_first, node_limit, config_of_members, config_read, config_with, root}
 use Rattle.mcv_config.specs.Entries.{Turn, depth_limit, entries_of_list, entries_read, entry_fields, entry_of_members, entry_read, routing, routing_read}
@@ -18,7 +18,7 @@ use Rattle.mcv_config.specs.ConfigValue.{EntryValue, ConfigValue}
 use Rattle.mcv_config.specs.Pools.{pools_read}
 use Rattle.mcv_config.specs.Routes.{route}
 use Rattle.mcv_config.specs.Walk.{SoFar, route_under}
-use Rattle.mcv_config.proofs.Fits.{Each, Fits, IsSmall, IsSmallPool, counts, more_fit, none_fit}
+use Rattle.mcv_config.proofs.HandleRoom.{Each, Fits, IsSmall, IsSmallPool, counts, more_fit, none_fit}
 use Rattle.mcv_config.proofs.LimitsOfPools.{HasSmall, pools_small}
 use Rattle.mcv_config.proofs.LimitsOfRoutes.{route_fits, under_fits}
 use Rattle.mcv_config.proofs.SoundPools.{all_of}

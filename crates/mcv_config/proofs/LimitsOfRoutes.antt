@@ -15,7 +15,7 @@ use Rattle.mcv_names.specs.Fault.{Read, good, bad, ◌>>=◌}
 use Rattle.mcv_names.specs.Handles.{default_key, is_elsewhere, key_fault, keys_read, handle_named, name_fault, policies_key, prefix_limit, stray_fault, type_read}
 use Rattle.mcv_names.specs.Lists.{each, items_list, items_or_none, member_names, required, some_items}
 use Rattle.mcv_names.specs.Path.{key_step}
-use Rattle.mcv_names.proofs.Holds.{Holds, holds_bind, holds_then, holds_also, holds_if}
+use Rattle.mcv_names.proofs.ReadFacts.{Holds, holds_bind, holds_then, holds_also, holds_if}
 use Rattle.mcv_config.specs.Hash.{hash_read}
 use Rattle.mcv_config.specs.Limits.{handles_in, handles_below, IsWithin, AreWithin}
 use Rattle.mcv_config.specs.ConfigValue.{Named, PrefixValue, ShadowValue, server, null, error, nameds_of, last_of}
@@ -24,7 +24,7 @@ use Rattle.mcv_config.specs.Routes.{listed, servers, only_child, plain_pool, cut
 use Rattle.mcv_config.specs.Selectors.{policy_read, policies_of_members, policies_read, default_read, of_operation, selecting, selector_fields}
 use Rattle.mcv_config.specs.Shadows.{range_read, shadow_fields, shadow_of_members, shadow_read, shadows_read}
 use Rattle.mcv_config.specs.Walk.{SoFar, Reader, route_under, taken, two_under}
-use Rattle.mcv_config.proofs.Fits.{holds_both, holds_more, IsSmall, pool_more, Fits, no_handle, still, counts, Each, none_fit, each_fits, each_member_fits}
+use Rattle.mcv_config.proofs.HandleRoom.{holds_both, holds_more, IsSmall, pool_more, Fits, no_handle, still, counts, Each, none_fit, each_fits, each_member_fits}
 use Rattle.mcv_config.proofs.LimitsOfFields.{IsHash, IsName, IsSeconds, exptime_within, start_within, interval_within, hash_within, names_within}
 use Rattle.mcv_config.proofs.LimitsOfPools.{IsSmallRead, pool_small}
 use Rattle.mcv_config.proofs.SoundPools.{all_of}

@@ -10,13 +10,13 @@ use Rattle.mcv_names.specs.Fault.{Read, good, bad, ◌>>=◌}
 use Rattle.mcv_names.specs.Handles.{key_fault, keys_read}
 use Rattle.mcv_names.specs.Lists.{each, items_list, some_items}
 use Rattle.mcv_names.specs.Path.{key_step, item_step}
-use Rattle.mcv_names.proofs.Holds.{Holds, holds_bind, holds_also}
+use Rattle.mcv_names.proofs.ReadFacts.{Holds, holds_bind, holds_also}
 use Rattle.mcv_config.specs.Aliases.{aliases_field}
 use Rattle.mcv_config.specs.Entries.{Turn, depth_limit, entries_of_list, entries_read, entry_fields, entry_of_members, entry_read, only_entry, routing, routing_read}
 use Rattle.mcv_config.specs.ConfigValue.{AreAliases, EntryValue, Named, IsSoundRoute, all_aliases}
 use Rattle.mcv_config.specs.Routes.{route}
 use Rattle.mcv_config.specs.Walk.{SoFar, route_under}
-use Rattle.mcv_config.proofs.Later.{Later, route_keeps, IsSoFar, Grows, Each, none_grow, more_grow}
+use Rattle.mcv_config.proofs.LaterPools.{Later, route_keeps, IsSoFar, Grows, Each, none_grow, more_grow}
 use Rattle.mcv_config.proofs.SoundAliases.{AreSome, IsShortAlias, aliases_some, default_is}
 use Rattle.mcv_config.proofs.SoundPools.{all_of, nothing_twice}
 use Rattle.mcv_config.proofs.SoundRoutes.{route_sound, under_sound}

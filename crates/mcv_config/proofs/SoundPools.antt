@@ -16,7 +16,7 @@ use Rattle.mcv_names.specs.Lists.{each, each_member, items_list, member_names, r
 use Rattle.mcv_names.specs.Path.{key_step, item_step}
 use Rattle.mcv_config.specs.ConfigValue.{IsSoundPool}
 use Rattle.mcv_config.specs.Pools.{Pools, Table, entered, is_full, listed_servers, pool_limit, pool_of_members, pool_read, pools_of_members, pools_read, server_read, server_text, servers_of_list, servers_read}
-use Rattle.mcv_names.proofs.Holds.{Holds, holds_bind, holds_then, holds_also, holds_if}
+use Rattle.mcv_names.proofs.ReadFacts.{Holds, holds_bind, holds_then, holds_also, holds_if}
 
 -- ---- a text more in a table
 

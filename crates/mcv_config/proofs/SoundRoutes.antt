@@ -23,8 +23,8 @@ use Rattle.mcv_config.specs.Routes.{listed, servers, only_child, plain_pool, cut
 use Rattle.mcv_config.specs.Selectors.{policy_read, policies_of_members, policies_read, default_read, of_operation, selecting, selector_fields}
 use Rattle.mcv_config.specs.Shadows.{range_read, shadow_fields, shadow_of_members, shadow_read, shadows_read}
 use Rattle.mcv_config.specs.Walk.{SoFar, Reader, route_under, taken, two_under, with_pool}
-use Rattle.mcv_names.proofs.Holds.{Holds, holds_bind, holds_then, holds_also, holds_if}
-use Rattle.mcv_config.proofs.Later.{Later, later_than, later_more, route_keeps, IsSoFar, Grows, still, pool_behind, Each, none_grow, each_grows, each_member_grows}
+use Rattle.mcv_names.proofs.ReadFacts.{Holds, holds_bind, holds_then, holds_also, holds_if}
+use Rattle.mcv_config.proofs.LaterPools.{Later, later_than, later_more, route_keeps, IsSoFar, Grows, still, pool_behind, Each, none_grow, each_grows, each_member_grows}
 use Rattle.mcv_config.proofs.SoundPools.{Grown, IsPool, pool_grown, some_servers}
 
 -- ---- what is read, under so many pools

@@ -7,7 +7,7 @@ use Rattle.mcv_base.specs.Reply.{ReplyValue, fixed_value, not_found}
 use Rattle.mcv_queues.specs.declared.leg.Leg.{Leg}
 use Rattle.mcv_queues.specs.declared.leg.State.{State}
 use Rattle.mcv_queues.specs.declared.leg.State.TheVariants as states
-use Rattle.mcv_queues.specs.declared.marks.Mark.{Mark}
+use Rattle.mcv_queues.specs.declared.marks.ServerFailures.{ServerFailures}
 use Rattle.mcv_queues.specs.declared.marks.Marks.{Marks}
 use Rattle.mcv_queues.specs.Legs.{IsSentTo, is_flight, is_in_flight, with_stored}
 use Rattle.mcv_queues.specs.Marks.{answered_mark, lost_mark, marks, put_mark, servers as marked_servers}
@@ -86,7 +86,7 @@ refusal : (e : Effect) (v : CoreView) (fault : CoreFault) → e ≡ refuses NoSu
 refusal e v fault is f = subst (λ x. HasEffect x v v (Err fault)) (sym is) (ap (λ x. Err x) f, refl)
 
 -- the view of a dispatcher whose marks have changed
-pub marked_view : (d : Dispatcher) (m : Marks) (server : ℕ) (server2 : ℕ) (g : Mark → Mark) → marks m ≡ put_mark (marked_servers d.marks) (marks d.marks) server g → server ≡ server2
+pub marked_view : (d : Dispatcher) (m : Marks) (server : ℕ) (server2 : ℕ) (g : ServerFailures → ServerFailures) → marks m ≡ put_mark (marked_servers d.marks) (marks d.marks) server g → server ≡ server2
     → record (core_view d) { marks = marks m } ≡ with_mark (core_view d) server2 g
 marked_view d m server server2 g is same = λ j. record (core_view d) { marks = (is ∙ ap (λ n. put_mark n (marks d.marks) server g) d.table ∙ ap (λ s. put_mark (length (arc_value d.accepted).servers) (marks d.marks) s g) same) j }
 

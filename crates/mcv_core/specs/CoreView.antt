@@ -4,14 +4,14 @@ use Rattle.std.specs.Str.{bytes_eq}
 use Rattle.mcv_base.specs.declared.reply.FixedReply.TheVariants.{Lost}
 use Rattle.mcv_base.specs.Operation.{is_delete}
 use Rattle.mcv_base.specs.Reply.{ReplyValue, fixed_value}
-use Rattle.mcv_queues.specs.declared.marks.Mark.{Mark}
+use Rattle.mcv_queues.specs.declared.marks.ServerFailures.{ServerFailures}
 use Rattle.mcv_queues.specs.Marks.{answered_mark, lost_mark, put_mark}
 use Rattle.mcv_queues.specs.Numbers.{names}
 use Rattle.mcv_route.specs.Routes.{RoutesValue}
 use Rattle.mcv_world.specs.World.{is_counted_delete, put}
-use Rattle.mcv_world.specs.Live.{live_of}
+use Rattle.mcv_world.specs.LiveWorld.{live_of}
 use Rattle.mcv_world.specs.Moves.{Move, Answered, WasSpooled, WasRefused, WasPerformed, counted_as, is_error_reply}
-use Rattle.mcv_world.specs.Possible.{IsAllowed, IsOpening}
+use Rattle.mcv_world.specs.PossibleMoves.{IsAllowed, IsOpening}
 use Rattle.mcv_events.specs.Rows as rows
 use Rattle.mcv_events.specs.Rows.{CallRow, IsCore, LegRow, Rows, awaits, leg_of, with_leg_row, world_of}
 use Rattle.mcv_events.specs.Events.{Moves, in_state, recorded_rows_for, refused_rows, spooled_rows, taken_rows}
@@ -29,7 +29,7 @@ pub record CoreView : Type 0 where
   pub rows : Rows
   -- what is in flight to each server, sent or in replay
   pub flights : ℕ → Option ℕ
-  pub marks : ℕ → Mark
+  pub marks : ℕ → ServerFailures
   pub moment : ℕ
   pub chapter : ℕ
   -- how many entries of its history the chapter's calls and spooled legs may write
@@ -82,7 +82,7 @@ HasDone (refuses fault) new step = ⊥
 HasDone (does done v) new step = (step ≡ done) × (new ≡ v)
 
 -- the mark of a server changes
-abbrev pub with_mark : CoreView → ℕ → (Mark → Mark) → CoreView
+abbrev pub with_mark : CoreView → ℕ → (ServerFailures → ServerFailures) → CoreView
 with_mark v server g = record v { marks = put_mark (length v.routes.servers) v.marks server g }
 
 -- the leg isn't in flight any more

@@ -14,16 +14,16 @@ use Rattle.mcv_base.specs.Reply.{ReplyValue, fixed_value, not_found, part_value}
 use Rattle.mcv_pools.specs.Symbol.{SymbolValue}
 use Rattle.mcv_queues.specs.Marks.{checked_mark, no_mark}
 use Rattle.mcv_spool.specs.declared.record.Stored.{Stored}
-use Rattle.mcv_world.specs.Kept.{Kept}
-use Rattle.mcv_world.specs.Live.{live_of}
+use Rattle.mcv_world.specs.KeptLegs.{Kept}
+use Rattle.mcv_world.specs.LiveWorld.{live_of}
 use Rattle.mcv_world.specs.Moves.{Move, Began, Taken, is_move, run}
 use Rattle.mcv_world.specs.World.{reply_of}
 use Rattle.mcv_events.specs.Rows.{world_of}
-use Rattle.mcv_core.specs.Acknowledged.{AnsweredCallsAreKept}
+use Rattle.mcv_core.specs.AcknowledgedCalls.{AnsweredCallsAreKept}
 use Rattle.mcv_core.specs.Asking.{HasBegunFor}
 use Rattle.mcv_core.specs.CoreView.{CoreView, Does, Moved, Unmoved, change_move, with_mark}
 use Rattle.mcv_core.specs.KeptDeletes.{DeletesStayKept}
-use Rattle.mcv_core.specs.Turning.{era_move}
+use Rattle.mcv_core.specs.Chapters.{era_move}
 use Rattle.mcv_core.specs.declared.fault.CoreFault.{CoreFault}
 use Rattle.mcv_core.specs.declared.run.Answer.{Answer}
 use Rattle.mcv_core.specs.declared.run.Answer.TheVariants as answer

@@ -6,8 +6,8 @@ use Rattle.std.proofs.lemmas.Option.{slice_get_past}
 use Rattle.mcv_route.specs.Routes.{RoutesValue}
 use Rattle.mcv_world.specs.World.{Leg, is_counted_delete}
 use Rattle.mcv_world.specs.Moves.{is_move, after, run}
-use Rattle.mcv_world.specs.Live.{live_of}
-use Rattle.mcv_world.specs.Possible.{IsPossible}
+use Rattle.mcv_world.specs.LiveWorld.{live_of}
+use Rattle.mcv_world.specs.PossibleMoves.{IsPossible}
 use Rattle.mcv_events.specs.Rows.{LegRow, Rows, leg_state, leg_of, world_of, is_unanswered, IsCore}
 use Rattle.mcv_events.specs.Runs.{OpenedRecord, spooled_row, opened, done, moved, no_move, RunsAreMoves, OpenedIsCore, SpooledRowsOpen, CoresKeepDeletes}
 use Rattle.mcv_world.proofs.Numbers.{same_some, no_some}

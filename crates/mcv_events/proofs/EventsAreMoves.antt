@@ -10,7 +10,7 @@ use Rattle.mcv_route.specs.Outcomes.{outcomes}
 use Rattle.mcv_route.specs.Routes.{RoutesValue}
 use Rattle.mcv_world.specs.World.{LegState, Performed, Spooled, Gone, Call, Leg, World, history_of, launched_by, is_settled, is_counted_delete, is_queued, is_spooled, put}
 use Rattle.mcv_world.specs.Moves.{Move, Answered, WasSpooled, WasRefused, WasPerformed, Taken, counted_as, is_error_reply, is_one, has_no_outcome, is_awaited, can_be_answered, can_be_spooled, can_be_refused, can_be_taken, is_move, queue, new_call, began, recorded_by, recorded_if, recorded_for, with_leg_state, answered_state, with_taken, with_leg, with_call, changed, after}
-use Rattle.mcv_world.specs.Live.{has_ended, running, live_in, live_leg, live_of}
+use Rattle.mcv_world.specs.LiveWorld.{has_ended, running, live_in, live_leg, live_of}
 use Rattle.mcv_events.specs.Entries.{IsLaidOut, is_launched}
 use Rattle.mcv_events.specs.Rows.{State, Sent, Held, InSpool, LegRow, CallRow, Rows, leg_state, leg_of, world_of, is_unanswered, IsCallRow, IsCore, queued_rows, recorded_rows, with_leg_row, CanRecord}
 use Rattle.mcv_events.specs.Events.{recorded_rows_if, recorded_rows_for, in_state, new_row, began_rows, taken_rows, StatesAreNoMoves, AnsweredMoves, SpooledMoves, RefusedMoves, PerformedMoves, BeganMoves, TakenMoves, EraMoves, StatesKeepCores}

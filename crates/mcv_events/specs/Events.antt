@@ -7,7 +7,7 @@ use Rattle.mcv_route.specs.declared.launch.Launch.{Launch}
 use Rattle.mcv_route.specs.Routes.{RoutesValue}
 use Rattle.mcv_world.specs.World.{Call, reply_of, is_counted_delete, put}
 use Rattle.mcv_world.specs.Moves.{Move, Began, Answered, WasSpooled, WasRefused, WasPerformed, EraBegan, Taken, counted_as, is_error_reply, has_no_outcome, is_move, new_call, with_taken, after}
-use Rattle.mcv_world.specs.Live.{has_ended, live_of}
+use Rattle.mcv_world.specs.LiveWorld.{has_ended, live_of}
 use Rattle.mcv_events.specs.Entries.{IsLaidOut, is_launched}
 use Rattle.mcv_events.specs.Rows.{State, Sent, Held, InSpool, LegRow, CallRow, Rows, leg_state, leg_of, world_of, is_unanswered, IsCore, numbered, queued_rows, recorded_rows, with_leg_row}
 

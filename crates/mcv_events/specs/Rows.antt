@@ -7,7 +7,7 @@ use Rattle.mcv_route.specs.Outcomes.{outcomes}
 use Rattle.mcv_route.specs.Routes.{RoutesValue}
 use Rattle.mcv_world.specs.World.{LegState, Queued, Spooled, Call, Leg, World, history_of, launched_by, is_counted_delete, put}
 use Rattle.mcv_world.specs.Moves.{is_one, has_no_outcome, with_reply, recorded_by}
-use Rattle.mcv_world.specs.Live.{has_ended, live_of}
+use Rattle.mcv_world.specs.LiveWorld.{has_ended, live_of}
 use Rattle.mcv_events.specs.Entries.{IsLaidOut, is_launched, is_due, has_leg_at}
 
 -- the state of a leg that is queued or spooled

@@ -15,11 +15,11 @@ ghost use Rattle.mcv_events.specs.Rows.{world_of};
 ghost use Rattle.mcv_core.specs.Asking.{IsRefusedFor};
 ghost use Rattle.mcv_core.specs.CoreView.{Does, IsQuiet, Moved, Unmoved, answer_at, in_row_state, is_spooled, is_waiting, loss_at, refusing_at, spooling_at, with_mark};
 ghost use Rattle.mcv_core.specs.Opening.{opened_view};
-ghost use Rattle.mcv_core.specs.Turning.{CanTurn, era_move, in_era, spooled_legs};
+ghost use Rattle.mcv_core.specs.Chapters.{CanTurn, era_move, in_era, spooled_legs};
 ghost use Rattle.mcv_core.specs.View.{core_view, records_after, records_of};
 ghost use Rattle.mcv_core.specs.declared.fault.CoreFault.TheVariants.{Memory as OutOfMemory};
 ghost use Rattle.mcv_hub.specs.History.{era_entry, with_entry};
-ghost use Rattle.mcv_hub.specs.MayWrite.{break_count};
+ghost use Rattle.mcv_hub.specs.RemainingEntries.{break_count};
 ghost use Rattle.mcv_hub.specs.Receipts.{ArePassed, AreRefused};
 
 use crate::core_events;
@@ -76,7 +76,7 @@ impl<B: Ledger, T: Ledger> Model for HubState<B, T> {
 
     ghost use Rattle.std.specs.Prelude.{◌≡◌, vec_len, vec_capacity};
     ghost use Rattle.mcv_core.specs.View.{core_view};
-    ghost use Rattle.mcv_hub.specs.MayWrite.{break_count, may_write};
+    ghost use Rattle.mcv_hub.specs.RemainingEntries.{break_count, may_write};
 
     ghost view = { λ s. record { core = s.core.dispatcher; history = s.history.items; chapter = s.chapter; begun = s.begun.total; taken = s.taken.total; begun_before = s.begun_before; taken_before = s.taken_before } };
 

@@ -10,7 +10,7 @@ use Rattle.mcv_names.specs.declared.fault.ReadFault.{ReadFault}
 use Rattle.mcv_names.specs.declared.fault.ReadFault.TheVariants as read_faults
 use Rattle.mcv_config.specs.Config.{Faulty, Names}
 use Rattle.mcv_config.specs.ConfigValue.{ConfigValue}
-use Rattle.mcv_route.specs.Built.{routes_named}
+use Rattle.mcv_route.specs.NamedRoutes.{routes_named}
 use Rattle.mcv_route.specs.Routes.{RoutesValue}
 use Rattle.mcv_input.specs.declared.fault.RunFault.{RunFault}
 use Rattle.mcv_input.specs.declared.fault.RunFault.TheVariants.{Line, NoRoute, Config, CertificateText, Certificate, Memory, Device}

@@ -10,16 +10,16 @@ use Rattle.mcv_cert.specs.Pair.{PlaceValue, PairValue, AreRising, pair_of, place
 use Rattle.mcv_cert.proofs.Rising.{places_total}
 use Rattle.mcv_judge.specs.Reason.{BlockValue}
 use Rattle.mcv_judge.specs.Faults.{Required, AreInOrder, HaveSameFaults, IsFaultless, IsFirstFault, IsInOrder, fault_at, fault_there, required_at, required_by, is_answered_whole, pair_at, place_required}
-use Rattle.mcv_judge.specs.InMemory.{block_of, pairs_of}
+use Rattle.mcv_judge.specs.PairsInMemory.{block_of, pairs_of}
 use Rattle.mcv_judge.specs.Walk.{entries, entry_from, fault_in, walk, walked}
 use Rattle.mcv_judge.specs.Reason.{unless}
 use Rattle.mcv_judge.specs.declared.fault.PairFault.{PairFault}
 use Rattle.mcv_judge.specs.declared.fault.PairFault.TheVariants.{Stray}
 use Rattle.mcv_cert.specs.declared.pair.Pair.{Pair}
 use Rattle.mcv_judge.specs.declared.block.Block.{Block}
-use Rattle.mcv_judge.proofs.Open.{Judges, IsFirst, AreEntriesRising, entry_at, fault_beside, fault_from}
+use Rattle.mcv_judge.proofs.FaultAtPlace.{Judges, IsFirst, AreEntriesRising, entry_at, fault_beside, fault_from}
 use Rattle.mcv_judge.proofs.Order.{all_rise, one_rises, ascending, rising, entries_both, in_order_from}
-use Rattle.mcv_judge.proofs.First.{judges, end_stray}
+use Rattle.mcv_judge.proofs.FirstFault.{judges, end_stray}
 
 entry_of_required : (os : List Required) (s : PlaceValue) → entry_at (entries os) s ≡ option_map (entry_from 0) (required_at os s)
 entry_of_required [] s = refl

@@ -12,7 +12,7 @@ use Rattle.mcv_cert.proofs.Rising.{spots_total}
 use Rattle.mcv_judge.specs.Reason.{LegValue, BlockValue}
 use Rattle.mcv_judge.specs.Faults.{Required, AreInOrder, AreLegsRising, IsInOrder, require, required_by}
 use Rattle.mcv_judge.specs.Walk.{Entry, entries}
-use Rattle.mcv_judge.proofs.Open.{IsBelowPairs, ArePairsAscending, IsBelowEntries, AreEntriesRising}
+use Rattle.mcv_judge.proofs.FaultAtPlace.{IsBelowPairs, ArePairsAscending, IsBelowEntries, AreEntriesRising}
 
 -- ---- lists by index, from the front
 

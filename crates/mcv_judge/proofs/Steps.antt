@@ -10,7 +10,7 @@ use Rattle.std.specs.declared.cmp.Ordering.TheVariants.{Less, Equal, Greater}
 use Rattle.mcv_cert.specs.Pair.{PairValue, ReasonValue, index_of, index_cmp}
 use Rattle.mcv_judge.specs.Reason.{BlockValue, is_whole}
 use Rattle.mcv_judge.specs.Faults.{require}
-use Rattle.mcv_judge.specs.InMemory.{leg_of, legs_of, pairs_of}
+use Rattle.mcv_judge.specs.PairsInMemory.{leg_of, legs_of, pairs_of}
 use Rattle.mcv_judge.specs.Walk.{Entry, after, entries, entries_left, or_else, walk, walked}
 use Rattle.mcv_judge.specs.declared.block.Leg.{Leg}
 use Rattle.mcv_cert.specs.declared.pair.Pair.{Pair}

@@ -5,7 +5,7 @@ use Rattle.std.specs.Borrow.{Bor}
 use Rattle.mcv_cert.specs.Pair.{ReasonValue, PlaceValue, PairValue, index_of, index_cmp}
 use Rattle.mcv_judge.specs.Reason.{fault_of, is_whole}
 use Rattle.mcv_judge.specs.Faults.{Required, place_required}
-use Rattle.mcv_judge.specs.InMemory.{pairs_of}
+use Rattle.mcv_judge.specs.PairsInMemory.{pairs_of}
 use Rattle.mcv_judge.specs.declared.fault.PairFault.{PairFault}
 use Rattle.mcv_judge.specs.declared.fault.PairFault.TheVariants.{Missing, Stray}
 use Rattle.mcv_cert.specs.declared.pair.Pair.{Pair}

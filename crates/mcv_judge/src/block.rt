@@ -1,4 +1,4 @@
-//! What a route has for one class and era. What it means: `block_of` of specs/InMemory.antt.
+//! What a route has for one class and era. What it means: `block_of` of specs/PairsInMemory.antt.
 
 use mcv_base::{Position, ServerId};
 

@@ -2,7 +2,7 @@
 
 ghost use Rattle.std.specs.Prelude.{◌≡◌, ◌∷◌, List, [], map, IfOk, IfErr, MatchResult};
 ghost use Rattle.mcv_judge.specs.Faults.{AreInOrder, AreLegsRising, HaveSameFaults, IsFaultless, IsFirstFault, IsInOrder, place_required, require, required_by};
-ghost use Rattle.mcv_judge.specs.InMemory.{block_of, leg_of, legs_of, pairs_of};
+ghost use Rattle.mcv_judge.specs.PairsInMemory.{block_of, leg_of, legs_of, pairs_of};
 ghost use Rattle.mcv_cert.specs.Pair.{AreRising, index_of, index_cmp, pair_of};
 ghost use Rattle.mcv_judge.specs.Reason.{BlockValue};
 ghost use Rattle.mcv_judge.specs.Walk.{entries, entries_left, walk, walked};

@@ -6,7 +6,7 @@ use Rattle.mcv_pools.specs.Hash.{fnv_index}
 use Rattle.mcv_pools.specs.Choice.{chosen_each}
 use Rattle.mcv_config.specs.Config.{Names}
 use Rattle.mcv_config.specs.ConfigValue.{ConfigValue}
-use Rattle.mcv_route.specs.Built.{routes_named}
+use Rattle.mcv_route.specs.NamedRoutes.{routes_named}
 use Rattle.mcv_route.specs.Eras.{breaks_of, since_at}
 use Rattle.mcv_route.specs.Launched.{launched}
 use Rattle.mcv_route.specs.Outcomes.{Choice, outcomes}

@@ -9,7 +9,7 @@ use Rattle.mcv_base.specs.declared.operation.Op.TheVariants.{Delete}
 use Rattle.mcv_base.specs.declared.reply.Outcome.TheVariants.{Good}
 use Rattle.mcv_blocks.specs.Blocks.{IsBlockAt, IsSpotOf, pool_for}
 use Rattle.mcv_blocks.proofs.PoolSizes.{AreSized, entry_sized}
-use Rattle.mcv_blocks.proofs.Unique.{block_has, pool_of_leg}
+use Rattle.mcv_blocks.proofs.OneListOfBlocks.{block_has, pool_of_leg}
 use Rattle.mcv_cert.specs.Pair.{PlaceValue, place_of}
 use Rattle.mcv_classes.proofs.Members.{members_are_inside}
 use Rattle.mcv_config.specs.Aliases.{IsAlias, alias_limit}
@@ -24,21 +24,21 @@ use Rattle.mcv_route.specs.Places.{pool_at_position, route_of_prefix}
 use Rattle.mcv_route.specs.Routes.{RouteEntry, RoutesValue, IsSoundRoutes}
 use Rattle.mcv_route.specs.Situation.{asked}
 use Rattle.mcv_route.specs.Tree.{Pool, Tree}
-use Rattle.mcv_route.proofs.Selected.{is-alias, selects as selects-route}
+use Rattle.mcv_route.proofs.FirstAlias.{is-alias, selects as selects-route}
 use Rattle.mcv_rules.specs.Plans.{plan}
-use Rattle.mcv_symbolic.specs.Covered.{sizes_of}
-use Rattle.mcv_symbolic.specs.Justified.{IsReadableAt}
+use Rattle.mcv_symbolic.specs.CoveredRoutes.{sizes_of}
+use Rattle.mcv_symbolic.specs.JustifiedRoutes.{IsReadableAt}
 use Rattle.mcv_witness.specs.Breaks.{BreaksCoverage, IsLeafOf, IsMissed, IsRead, IsAtPlace}
 use Rattle.mcv_witness.specs.Finding.{FindingValue}
-use Rattle.mcv_make.specs.Free.{free_indexes}
-use Rattle.mcv_symbolic.specs.Shown.{answers}
+use Rattle.mcv_make.specs.FreeIndexes.{free_indexes}
+use Rattle.mcv_symbolic.specs.ShownAnswers.{answers}
 use Rattle.mcv_make.specs.Place.{IsAtGap}
-use Rattle.mcv_make.specs.Shown.{IsShownWith}
+use Rattle.mcv_make.specs.ShownFinding.{IsShownWith}
 use Rattle.mcv_make.proofs.Breaks as gaps
 use Rattle.mcv_make.proofs.Gaps.{at-finding}
 use Rattle.mcv_make.proofs.KeyWord.{key-word}
-use Rattle.mcv_make.proofs.Missed
-use Rattle.mcv_make.proofs.Reading
+use Rattle.mcv_make.proofs.DeleteOutcomes
+use Rattle.mcv_make.proofs.GetOutcomes
 
 nil-cons : (x : ℕ) (xs : List ℕ) → [] ≡ x ∷ xs → ⊥
 nil-cons x xs e = cc
@@ -118,9 +118,9 @@ module _ (r : RoutesValue) (sound : IsSoundRoutes r) (limits : AreWithinLimits r
   read : IsRead f tree built.rest built.since
   read = record {
     reading = built.reading;
-    rising = Reading.rises tree f.op built.rest built.since f.place.leaf f.gets built.gets;
-    reachable = Reading.reached tree f.op built.rest built.since f.place.leaf f.gets built.gets (slice_index f.choice);
-    hit = Reading.hits tree f.op built.rest built.since f.place.leaf f.gets built.gets;
+    rising = GetOutcomes.rises tree f.op built.rest built.since f.place.leaf f.gets built.gets;
+    reachable = GetOutcomes.reached tree f.op built.rest built.since f.place.leaf f.gets built.gets (slice_index f.choice);
+    hit = GetOutcomes.hits tree f.op built.rest built.since f.place.leaf f.gets built.gets;
   }
 
   missed : IsMissed f tree built.rest built.since
@@ -128,9 +128,9 @@ module _ (r : RoutesValue) (sound : IsSoundRoutes r) (limits : AreWithinLimits r
       subst (λ (es : History). IsMissed (record f { deletes = es }) tree built.rest built.since) (sym built.deletes)
       (subst (λ (ns : List ℕ). IsMissed (record f { deletes = answers Good (plan tree (asked Delete built.rest built.since)); choice = ns }) tree built.rest built.since) same-choice
       (record {
-        rising = Missed.rises tree built.rest built.since (slice_index (free_indexes built.legs f.server leaf.symbol f.at 0 r.symbols));
-        reachable = Missed.reached tree built.rest built.since (slice_index (free_indexes built.legs f.server leaf.symbol f.at 0 r.symbols));
-        done = Missed.done tree built.rest built.since (slice_index (free_indexes built.legs f.server leaf.symbol f.at 0 r.symbols)) (gaps.can (sizes_of r) tree built.rest built.since positive sized b block leaf f.at f.server gap.has gap.unanswered built.legs built.are);
+        rising = DeleteOutcomes.rises tree built.rest built.since (slice_index (free_indexes built.legs f.server leaf.symbol f.at 0 r.symbols));
+        reachable = DeleteOutcomes.reached tree built.rest built.since (slice_index (free_indexes built.legs f.server leaf.symbol f.at 0 r.symbols));
+        done = DeleteOutcomes.done tree built.rest built.since (slice_index (free_indexes built.legs f.server leaf.symbol f.at 0 r.symbols)) (gaps.can (sizes_of r) tree built.rest built.since positive sized b block leaf f.at f.server gap.has gap.unanswered built.legs built.are);
         unsent = gaps.unsent (sizes_of r) tree built.rest built.since positive sized b block leaf f.at f.server gap.has gap.unanswered built.legs built.are r.symbols refl size.0 low;
       }))
 

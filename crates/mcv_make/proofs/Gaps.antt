@@ -9,11 +9,11 @@ use Rattle.mcv_classes.specs.Words.{class_words}
 use Rattle.mcv_judge.specs.Reason.{BlockValue, LegValue}
 use Rattle.mcv_blocks.specs.Blocks.{IsBlockAt}
 use Rattle.mcv_route.specs.Eras.{HasEra, IsEraOf}
-use Rattle.mcv_blocks.proofs.Unique.{block_has, has_property}
+use Rattle.mcv_blocks.proofs.OneListOfBlocks.{block_has, has_property}
 use Rattle.mcv_certify.specs.Gap.{IsGap}
 use Rattle.mcv_certify.specs.declared.gap.Gap.{Gap}
 use Rattle.mcv_route.specs.Routes.{RouteEntry, RoutesValue}
-use Rattle.mcv_symbolic.specs.Justified.{IsReadableAt}
+use Rattle.mcv_symbolic.specs.JustifiedRoutes.{IsReadableAt}
 use Rattle.mcv_witness.specs.Finding.{FindingValue}
 use Rattle.mcv_make.specs.Place.{IsAtGap}
 

@@ -9,7 +9,7 @@ ghost use Rattle.mcv_route.specs.View.{view};
 ghost use Rattle.mcv_witness.specs.Breaks.{BreaksCoverage};
 ghost use Rattle.mcv_witness.specs.Finding.{finding_of};
 ghost use Rattle.mcv_make.specs.Place.{HasMember, IsAtGap};
-ghost use Rattle.mcv_make.specs.Shown.{IsShown, IsShownWith};
+ghost use Rattle.mcv_make.specs.ShownFinding.{IsShown, IsShownWith};
 
 use crate::scene::{Reading, Scene};
 use mcv_base::{Prefix, Rest};

@@ -4,9 +4,9 @@ ghost use Rattle.std.specs.Prelude.{◌≡◌, All, None, IfNone, IfOk, IfSome};
 ghost use Rattle.mcv_cert.specs.Pair.{pair_of, reason_of};
 ghost use Rattle.mcv_judge.specs.Answers.{AnswersLeaf};
 ghost use Rattle.mcv_judge.specs.Faults.{AreLegsRising};
-ghost use Rattle.mcv_judge.specs.InMemory.{block_of, leg_of, legs_of, pairs_of};
+ghost use Rattle.mcv_judge.specs.PairsInMemory.{block_of, leg_of, legs_of, pairs_of};
 ghost use Rattle.mcv_picks.specs.Reasons.{whole_reason};
-ghost use Rattle.mcv_pairs.specs.Adds.{Adds, pair_with};
+ghost use Rattle.mcv_pairs.specs.AddedPairs.{Adds, pair_with};
 ghost use Rattle.mcv_pairs.specs.Gaps.{IsFirstGapOf, IsSized};
 ghost use Rattle.mcv_pairs.specs.Reasons.{IsPickedFor};
 

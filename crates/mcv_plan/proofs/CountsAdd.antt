@@ -16,17 +16,17 @@ use Rattle.mcv_route.specs.declared.tree.PrefixPolicy.{PrefixPolicy, out-PrefixP
 use Rattle.mcv_route.specs.declared.tree.Route.{OperationSelector, PrefixSelector, Route}
 use Rattle.mcv_route.specs.declared.tree.Shadow.{Shadow}
 use Rattle.mcv_route.proofs.Views.{operation_view-out, prefix_view-out, view-OperationSelector, view-PrefixSelector}
-use Rattle.mcv_rules.specs.Laid.{Serves, children_of, operations_of, prefixes_of, ranges_of, targets_of}
+use Rattle.mcv_rules.specs.PlanInMemory.{Serves, children_of, operations_of, prefixes_of, ranges_of, targets_of}
 use Rattle.mcv_rules.specs.Places.{places_of}
 use Rattle.mcv_rules.specs.Plan as planned
 use Rattle.mcv_rules.specs.Plans.{leg_of, plan, plan_each, with_shadows}
-use Rattle.mcv_rules.specs.Sound.{positions}
+use Rattle.mcv_rules.specs.Soundness.{positions}
 use Rattle.mcv_rules.specs.declared.plan.Plan.{Plan}
-use Rattle.mcv_rules.proofs.Besides.{first_of}
-use Rattle.mcv_rules.proofs.Choosing.{Chooses, does_child, does_error, last_at, length-prefixes, length-routes, miss_chooses, operation_chooses, policy_at, policy_of-le, prefix_chooses, prefix_policy-le, routes_before}
+use Rattle.mcv_rules.proofs.BesidePlans.{first_of}
+use Rattle.mcv_rules.proofs.ChoosingHandles.{Chooses, does_child, does_error, last_at, length-prefixes, length-routes, miss_chooses, operation_chooses, policy_at, policy_of-le, prefix_chooses, prefix_policy-le, routes_before}
 use Rattle.mcv_rules.proofs.Serving.{Does, positions-fold, positions-together}
-use Rattle.mcv_plan.specs.Built as sublists
-use Rattle.mcv_plan.specs.Built.{IsSublist}
+use Rattle.mcv_plan.specs.CourseOfPlan as sublists
+use Rattle.mcv_plan.specs.CourseOfPlan.{IsSublist}
 use Rattle.mcv_plan.specs.Counts.{capped, legs_each, legs_in}
 use Rattle.mcv_plan.specs.Entries.{legs_of}
 

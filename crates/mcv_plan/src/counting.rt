@@ -4,7 +4,7 @@ ghost use Rattle.std.specs.Prelude.{◌≡◌, List, option_map, ℕ};
 ghost use Rattle.mcv_route.specs.Situation.{asked as asked_of};
 ghost use Rattle.mcv_route.specs.Tree.{Pool, many, AllInitial, MissFailover, pool};
 ghost use Rattle.mcv_route.specs.View.{view};
-ghost use Rattle.mcv_rules.specs.Laid.{children_of, ranges_of, situation_at, targets_of};
+ghost use Rattle.mcv_rules.specs.PlanInMemory.{children_of, ranges_of, situation_at, targets_of};
 ghost use Rattle.mcv_plan.specs.Counts.{capped, legs_each, legs_in};
 
 use mcv_base::{Mark, Moment, Op, Rest};

@@ -7,7 +7,7 @@ ghost use Rattle.mcv_core.specs.CoreView.{refusing_at, spooling_at};
 ghost use Rattle.mcv_core.specs.Readers.{IsFirstHeld};
 ghost use Rattle.mcv_core.specs.View.{core_view};
 ghost use Rattle.mcv_hub.specs.State.{IsLegEvent};
-ghost use Rattle.mcv_spool.specs.Found.{IsFound};
+ghost use Rattle.mcv_spool.specs.FoundFile.{IsFound};
 ghost use Rattle.mcv_proxy.specs.Flights.{IsRecordOf};
 ghost use Rattle.mcv_proxy.specs.Steps.{breaks_spool};
 

@@ -12,7 +12,7 @@ use Rattle.mcv_reply.specs.declared.candidate.Candidate.{Candidate}
 use Rattle.mcv_reply.specs.Word.{tail_of, word_text}
 use Rattle.mcv_reply.specs.Line.{tail_forms}
 use Rattle.mcv_reply.specs.Candidate.{AllRead, Ends, Follows, SameCas, fewest, is_clean, name_text, needed, zero_head}
-use Rattle.mcv_reply.proofs.Least.{needed_least}
+use Rattle.mcv_reply.proofs.LeastLengths.{needed_least}
 use Rattle.mcv_reply.proofs.Words.{clean_starts, name_clean}
 
 same_cas : (has : Bool) (read : Head) → SameCas has read read

@@ -14,7 +14,7 @@ use Rattle.mcv_reply.specs.declared.candidate.Number.TheVariants.{Flags, Size, C
 use Rattle.mcv_reply.specs.declared.candidate.LinePart.{LinePart}
 use Rattle.mcv_reply.specs.declared.candidate.LinePart.TheVariants.{BeforeName, InName, BeforeNumber, InNumber, Blank, Return, Text}
 use Rattle.mcv_reply.specs.declared.candidate.Candidate.{Candidate}
-use Rattle.mcv_reply.specs.declared.candidate.Move.{Move}
+use Rattle.mcv_reply.specs.declared.candidate.Advance.{Advance}
 use Rattle.mcv_reply.specs.declared.line.Meaning.{Meaning}
 use Rattle.mcv_reply.specs.declared.fault.ReplyFault.{ReplyFault}
 use Rattle.mcv_reply.specs.declared.fault.ReplyFault.TheVariants as faults
@@ -136,7 +136,7 @@ IsDigitOf b None = (48 ≤ b) → (b ≤ 57) → ⊥
 IsDigitOf b (Some d) = (48 ≤ b) × (b ≤ 57) × (d ≡ b - 48)
 
 -- one byte on, where so many bytes must come: what may follow behind it there is what may follow here
-pub record MovesOn (has : Bool) (key : List ℕ) (c : Candidate) (From : Head → List ℕ → Type 0) (need b : ℕ) (m : Move) : Type 0 where
+pub record AdvancesOn (has : Bool) (key : List ℕ) (c : Candidate) (From : Head → List ℕ → Type 0) (need b : ℕ) (m : Advance) : Type 0 where
   pub on : (head : Head) (more : List ℕ) → From head (b ∷ more) → Follows m.next.first has key m.next.head m.next.part head more
   pub back : (head : Head) (more : List ℕ) → Follows m.next.first has key m.next.head m.next.part head more → From head (b ∷ more)
   pub first : m.next.first ≡ c.first
@@ -144,18 +144,18 @@ pub record MovesOn (has : Bool) (key : List ℕ) (c : Candidate) (From : Head �
   pub valid : IsValid has m.next
   pub needs : need + (if m.free then 1 else 0) ≡ needed m.next.first has key m.next.part + 1
 
-abbrev pub Moves : Bool → List ℕ → Candidate → (Head → List ℕ → Type 0) → ℕ → ℕ → Option Move → Type 0
-Moves has key c From need b None = (head : Head) (more : List ℕ) → From head (b ∷ more) → ⊥
-Moves has key c From need b (Some m) = MovesOn has key c From need b m
+abbrev pub Advances : Bool → List ℕ → Candidate → (Head → List ℕ → Type 0) → ℕ → ℕ → Option Advance → Type 0
+Advances has key c From need b None = (head : Head) (more : List ℕ) → From head (b ∷ more) → ⊥
+Advances has key c From need b (Some m) = AdvancesOn has key c From need b m
 
-abbrev pub MovesAt : Bool → List ℕ → Candidate → LinePart → ℕ → Option Move → Type 0
-MovesAt has key c part b m = Moves has key c (λ head more. Follows c.first has key c.head part head more) (needed c.first has key part) b m
+abbrev pub AdvancesAt : Bool → List ℕ → Candidate → LinePart → ℕ → Option Advance → Type 0
+AdvancesAt has key c part b m = Advances has key c (λ head more. Follows c.first has key c.head part head more) (needed c.first has key part) b m
 
-abbrev pub MovesBehindName : Bool → List ℕ → Candidate → Name → ℕ → Option Move → Type 0
-MovesBehindName has key c name b m = Moves has key c (λ head more. Writes (behind_name name c.first has key head) 1 more) (fewest (behind_name name c.first has key zero_head) 1) b m
+abbrev pub AdvancesBehindName : Bool → List ℕ → Candidate → Name → ℕ → Option Advance → Type 0
+AdvancesBehindName has key c name b m = Advances has key c (λ head more. Writes (behind_name name c.first has key head) 1 more) (fewest (behind_name name c.first has key zero_head) 1) b m
 
-abbrev pub MovesBehindNumber : Bool → List ℕ → Candidate → Number → ℕ → ℕ → Option Move → Type 0
-MovesBehindNumber has key c n value b m = Moves has key c (λ head more. SoFar n c.head head × (value ≡ number_in n head) × Writes (behind_number n has head) 1 more) (fewest (behind_number n has zero_head) 1) b m
+abbrev pub AdvancesBehindNumber : Bool → List ℕ → Candidate → Number → ℕ → ℕ → Option Advance → Type 0
+AdvancesBehindNumber has key c n value b m = Advances has key c (λ head more. SoFar n c.head head × (value ≡ number_in n head) × Writes (behind_number n has head) 1 more) (fewest (behind_number n has zero_head) 1) b m
 
 -- what may follow a line that has come in part, for it to be one of the candidate's first word with these numbers
 pub record Open (has : Bool) (key : List ℕ) (c : Candidate) (head : Head) (more : List ℕ) : Type 0 where

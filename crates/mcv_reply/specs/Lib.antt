@@ -3,6 +3,6 @@ pub mod Line
 pub mod Reply
 pub mod Candidate
 pub mod Reader
-pub mod Plain
+pub mod PlainLine
 pub mod Progress
 pub mod Probe

@@ -4,7 +4,7 @@
 //! many bytes the line may have beside those that it must have.
 
 ghost use Rattle.std.specs.Prelude.{◌≡◌, ◌≢◌, ◌∷◌, [], ◌≤◌, ◌<◌, ◌+◌, ◌*◌, ◌-◌, ◌==◌, List, ℕ, length, Bool, All, MatchOption, Some, None, true, false, if◌then◌else◌};
-ghost use Rattle.mcv_reply.specs.Candidate.{Ends, HasName, HasNumber, IsDigitOf, IsValid, MovesAt, MovesBehindName, MovesBehindNumber, Reads, is_clean, limit_of, name_text, needed, new_candidate};
+ghost use Rattle.mcv_reply.specs.Candidate.{Ends, HasName, HasNumber, IsDigitOf, IsValid, AdvancesAt, AdvancesBehindName, AdvancesBehindNumber, Reads, is_clean, limit_of, name_text, needed, new_candidate};
 
 use crate::word::{Tail, Word};
 
@@ -66,7 +66,7 @@ pub struct Candidate {
 
 /// A candidate one byte on, and whether the line could have done without that byte.
 #[derive(Clone, Copy, Debug, PartialEq, Eq)]
-struct Move {
+struct Advance {
     next: Candidate,
     free: bool,
 }
@@ -105,11 +105,11 @@ pub fn digit(byte: u8) -> Option<u64>
 }
 
 /// A byte where a space must be.
-fn separated(candidate: Candidate, part: LinePart, byte: u8) -> Option<Move>
+fn separated(candidate: Candidate, part: LinePart, byte: u8) -> Option<Advance>
     ensures { result ≡ (if byte == 32 then Some (record { next = record candidate { part = part }; free = false }) else None) }
 {
     if byte == b' ' {
-        Some(Move {
+        Some(Advance {
             next: Candidate { part, ..candidate },
             free: false,
         })
@@ -119,16 +119,16 @@ fn separated(candidate: Candidate, part: LinePart, byte: u8) -> Option<Move>
 }
 
 /// A byte where the line may end: behind a space it goes on in this part.
-fn closing(candidate: Candidate, part: LinePart, byte: u8) -> Option<Move>
+fn closing(candidate: Candidate, part: LinePart, byte: u8) -> Option<Advance>
     ensures { result ≡ (if byte == 32 then Some (record { next = record candidate { part = part }; free = true }) else (if byte == 13 then Some (record { next = record candidate { part = LinePart.Return }; free = true }) else None)) }
 {
     if byte == b' ' {
-        Some(Move {
+        Some(Advance {
             next: Candidate { part, ..candidate },
             free: true,
         })
     } else if byte == b'\r' {
-        Some(Move {
+        Some(Advance {
             next: Candidate {
                 part: LinePart::Return,
                 ..candidate
@@ -141,9 +141,9 @@ fn closing(candidate: Candidate, part: LinePart, byte: u8) -> Option<Move>
 }
 
 /// A byte behind a word that is known.
-fn behind_name(cas: bool, key: &[u8], candidate: Candidate, name: Name, byte: u8) -> Option<Move>
+fn behind_name(cas: bool, key: &[u8], candidate: Candidate, name: Name, byte: u8) -> Option<Advance>
     requires { HasName candidate.first name }
-    ensures { MovesBehindName cas key.now candidate name byte result }
+    ensures { AdvancesBehindName cas key.now candidate name byte result }
 {
     match name {
         Name::First => match candidate.first.tail() {
@@ -163,9 +163,9 @@ fn in_name(
     name: Name,
     at: usize,
     byte: u8,
-) -> Option<Move>
+) -> Option<Advance>
     requires { HasName candidate.first name }
-    ensures { MovesAt cas key.now candidate (LinePart.InName name at) byte result }
+    ensures { AdvancesAt cas key.now candidate (LinePart.InName name at) byte result }
 {
     let text = name_bytes(name, candidate.first, key);
     if at >= text.len() {
@@ -174,7 +174,7 @@ fn in_name(
     if text[at] != byte {
         return None;
     }
-    Some(Move {
+    Some(Advance {
         next: Candidate {
             part: LinePart::InName(name, at + 1),
             ..candidate
@@ -191,10 +191,10 @@ fn behind_number(
     number: Number,
     value: u64,
     byte: u8,
-) -> Option<Move>
+) -> Option<Advance>
     requires has { HasNumber candidate.first cas number }
     requires within { value ≤ limit_of number }
-    ensures { MovesBehindNumber cas key.now candidate number value byte result }
+    ensures { AdvancesBehindNumber cas key.now candidate number value byte result }
 {
     match number {
         Number::Flags => {
@@ -247,15 +247,15 @@ fn in_number(
     number: Number,
     value: u64,
     byte: u8,
-) -> Option<Move>
+) -> Option<Advance>
     requires has { HasNumber candidate.first cas number }
     requires within { value ≤ limit_of number }
-    ensures { MovesAt cas key.now candidate (LinePart.InNumber number value) byte result }
+    ensures { AdvancesAt cas key.now candidate (LinePart.InNumber number value) byte result }
 {
     match digit(byte) {
         Some(digit) => {
             let value = with_digit(value, digit, number.limit())?;
-            Some(Move {
+            Some(Advance {
                 next: Candidate {
                     part: LinePart::InNumber(number, value),
                     ..candidate
@@ -274,12 +274,12 @@ fn before_number(
     candidate: Candidate,
     number: Number,
     byte: u8,
-) -> Option<Move>
+) -> Option<Advance>
     requires { HasNumber candidate.first cas number }
-    ensures { MovesAt cas key.now candidate (LinePart.BeforeNumber number) byte result }
+    ensures { AdvancesAt cas key.now candidate (LinePart.BeforeNumber number) byte result }
 {
     if byte == b' ' {
-        return Some(Move {
+        return Some(Advance {
             next: Candidate {
                 part: LinePart::BeforeNumber(number),
                 ..candidate
@@ -288,7 +288,7 @@ fn before_number(
         });
     }
     let value = digit(byte)?;
-    Some(Move {
+    Some(Advance {
         next: Candidate {
             part: LinePart::InNumber(number, value),
             ..candidate
@@ -298,13 +298,13 @@ fn before_number(
 }
 
 /// A byte in the spaces before a word that is known, or its first byte.
-fn before_name(cas: bool, key: &[u8], candidate: Candidate, name: Name, byte: u8) -> Option<Move>
+fn before_name(cas: bool, key: &[u8], candidate: Candidate, name: Name, byte: u8) -> Option<Advance>
     requires clean { is_clean key.now ≡ true }
     requires has { HasName candidate.first name }
-    ensures { MovesAt cas key.now candidate (LinePart.BeforeName name) byte result }
+    ensures { AdvancesAt cas key.now candidate (LinePart.BeforeName name) byte result }
 {
     if byte == b' ' {
-        return Some(Move {
+        return Some(Advance {
             next: Candidate {
                 part: LinePart::BeforeName(name),
                 ..candidate
@@ -316,10 +316,10 @@ fn before_name(cas: bool, key: &[u8], candidate: Candidate, name: Name, byte: u8
 }
 
 /// A byte in the candidate's part of the line.
-fn moved(cas: bool, key: &[u8], candidate: Candidate, byte: u8) -> Option<Move>
+fn moved(cas: bool, key: &[u8], candidate: Candidate, byte: u8) -> Option<Advance>
     requires clean { is_clean key.now ≡ true }
     requires valid { IsValid cas candidate }
-    ensures { MovesAt cas key.now candidate candidate.part byte result }
+    ensures { AdvancesAt cas key.now candidate candidate.part byte result }
 {
     match candidate.part {
         LinePart::BeforeName(name) => before_name(cas, key, candidate, name, byte),
@@ -328,7 +328,7 @@ fn moved(cas: bool, key: &[u8], candidate: Candidate, byte: u8) -> Option<Move>
         LinePart::InNumber(number, value) => in_number(cas, key, candidate, number, value, byte),
         LinePart::Blank => closing(candidate, LinePart::Blank, byte),
         LinePart::Return => None,
-        LinePart::Text => Some(Move {
+        LinePart::Text => Some(Advance {
             next: Candidate {
                 part: LinePart::Text,
                 ..candidate
@@ -345,7 +345,7 @@ fn step(cas: bool, key: &[u8], candidate: Candidate, byte: u8) -> Option<Candida
     requires no_end { byte ≢ 10 }
     ensures { Reads cas key.now candidate (byte ∷ []) result }
 {
-    let Move { next, free } = moved(cas, key, candidate, byte)?;
+    let Advance { next, free } = moved(cas, key, candidate, byte)?;
     if !free {
         return Some(next);
     }

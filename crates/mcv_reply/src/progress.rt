@@ -7,7 +7,7 @@ ghost use Rattle.std.specs.Prelude.{◌≡◌, ◌<◌, ◌≤◌, ◌+◌, ℕ,
 ghost use Rattle.mcv_base.specs.Reply.{reply_value};
 ghost use Rattle.mcv_reply.specs.Line.{IsLine};
 ghost use Rattle.mcv_reply.specs.Candidate.{IsKept, is_clean};
-ghost use Rattle.mcv_reply.specs.Plain.{EndsValue, StartsLine};
+ghost use Rattle.mcv_reply.specs.PlainLine.{EndsValue, StartsLine};
 ghost use Rattle.mcv_reply.specs.Reply.{said_alone};
 ghost use Rattle.mcv_reply.specs.Reader.{Fed};
 ghost use Rattle.mcv_reply.specs.Progress.{FirstEnds, HitMade, IsAt, IsAtStage, LastEnds, Steps, bytes_at, reader_state_at};

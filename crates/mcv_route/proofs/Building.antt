@@ -18,7 +18,7 @@ use Rattle.mcv_pools.specs.declared.symbol.HashFunc.{HashFunc}
 use Rattle.mcv_pools.specs.Symbol.{SymbolValue, same_symbol}
 use Rattle.mcv_pools.specs.Table.{with_entry}
 use Rattle.mcv_pools.specs.declared.symbol.HashFunc.TheVariants.{Ch3}
-use Rattle.mcv_route.specs.Built.{pool_at, server_at, symbol_of, pool_named}
+use Rattle.mcv_route.specs.NamedRoutes.{pool_at, server_at, symbol_of, pool_named}
 use Rattle.mcv_route.specs.View.{view, operation_view, prefix_view, shadow_view, pool_view}
 use Rattle.mcv_route.specs.Walk.{IsBuilt, last_named, list_view}
 use Rattle.mcv_route.specs.Tree.{Tree, pool, warm_up, migrate}
@@ -27,8 +27,8 @@ use Rattle.mcv_route.specs.declared.tree.Route.{Route, Pool, Null, Error, Many, 
 use Rattle.mcv_route.specs.declared.tree.OperationPolicy.{OperationPolicy}
 use Rattle.mcv_route.specs.declared.tree.PrefixPolicy.{PrefixPolicy}
 use Rattle.mcv_route.specs.declared.tree.Shadow.{Shadow}
-use Rattle.mcv_route.proofs.Nameds.{children_of, names_of, policies_of, policy_of-out, prefix_of-out, shadow_of-out, prefix_routes_of, named_of-Pool, named_of-Server, named_of-Null, named_of-Error, named_of-Many, named_of-WarmUp, named_of-Migrate, named_of-PrefixSelector, named_of-OperationSelector}
-use Rattle.mcv_route.proofs.Nameds.{ranges_of as asked_ranges, targets_of as asked_targets, prefixes_of as asked_prefixes}
+use Rattle.mcv_route.proofs.NamedHandles.{children_of, names_of, policies_of, policy_of-out, prefix_of-out, shadow_of-out, prefix_routes_of, named_of-Pool, named_of-Server, named_of-Null, named_of-Error, named_of-Many, named_of-WarmUp, named_of-Migrate, named_of-PrefixSelector, named_of-OperationSelector}
+use Rattle.mcv_route.proofs.NamedHandles.{ranges_of as asked_ranges, targets_of as asked_targets, prefixes_of as asked_prefixes}
 use Rattle.mcv_route.proofs.Views.{operations_of, prefixes_of, ranges_of, targets_of, last_view, view-Pool, view-Null, view-Error, view-Many, view-WarmUp, view-Migrate, view-PrefixSelector, view-OperationSelector}
 use Rattle.mcv_route.proofs.Numbers.{built-append, built-none, built-pool, built-server, built-many, built-warm_up, built-migrate, built-prefix_selector, built-operation_selector}
 

@@ -12,7 +12,7 @@ use Rattle.mcv_config.specs.ConfigValue as config
 use Rattle.mcv_pools.specs.declared.symbol.HashFunc.TheVariants.{Ch3, Crc32}
 use Rattle.mcv_pools.specs.Symbol.{same_symbol}
 use Rattle.mcv_pools.specs.Table.{numbered}
-use Rattle.mcv_route.specs.Built.{symbols_in, tree_named}
+use Rattle.mcv_route.specs.NamedRoutes.{symbols_in, tree_named}
 use Rattle.mcv_route.specs.Eras.{breaks, since_at, era_at}
 use Rattle.mcv_route.specs.Limits.{handles_in, IsWithin}
 use Rattle.mcv_route.specs.Places.{tree_at}

@@ -16,7 +16,7 @@ use Rattle.mcv_config.specs.ConfigValue as config
 use Rattle.mcv_config.specs.Pools.{pool_limit}
 use Rattle.mcv_pools.specs.Symbol.{SymbolValue}
 use Rattle.mcv_pools.specs.declared.symbol.HashFunc.TheVariants.{Ch3}
-use Rattle.mcv_route.specs.Built.{pool_at, server_at, symbol_of, symbols_in, symbols_below, tree_named, trees_named, routes_named, symbols_named}
+use Rattle.mcv_route.specs.NamedRoutes.{pool_at, server_at, symbol_of, symbols_in, symbols_below, tree_named, trees_named, routes_named, symbols_named}
 use Rattle.mcv_route.specs.Limits.{handles_in, handles_below, IsWithin, AreWithin, AreWithinLimits}
 use Rattle.mcv_route.specs.Routes.{RouteEntry}
 use Rattle.mcv_route.proofs.SymbolsHaveServers.{all_numbered}

@@ -16,7 +16,7 @@ use Rattle.mcv_pools.specs.declared.symbol.HashFunc.TheVariants.{Ch3}
 use Rattle.mcv_pools.specs.Symbol.{SymbolValue, same_symbol}
 use Rattle.mcv_pools.specs.Table.{is_in, with_entry}
 use Rattle.mcv_pools.proofs.Sameness.{same_symbol-Decides}
-use Rattle.mcv_route.specs.Built.{pool_at, server_at, symbol_of, symbols_in, symbols_below, number_of, pool_named, tree_named, trees_named}
+use Rattle.mcv_route.specs.NamedRoutes.{pool_at, server_at, symbol_of, symbols_in, symbols_below, number_of, pool_named, tree_named, trees_named}
 use Rattle.mcv_route.specs.Tree.{Pool, Tree, Trees, pool, null, error, many, warm_up, migrate, prefix_selector, operation_selector, none, child}
 use Rattle.mcv_route.specs.View.{trees_of}
 use Rattle.mcv_route.specs.Walk.{IsBuilt}

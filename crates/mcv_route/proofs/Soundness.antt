@@ -12,7 +12,7 @@ use Rattle.mcv_pools.specs.declared.symbol.HashFunc.{HashFunc}
 use Rattle.mcv_pools.specs.declared.symbol.HashFunc.TheVariants.{Ch3}
 use Rattle.mcv_pools.specs.Symbol.{SymbolValue, same_symbol}
 use Rattle.mcv_pools.proofs.Sameness.{same_symbol-Decides}
-use Rattle.mcv_route.specs.Built.{pool_at, server_at, symbol_of, symbols_in, symbols_below, symbols_named, number_of, pool_named, tree_named, trees_named, routes_named}
+use Rattle.mcv_route.specs.NamedRoutes.{pool_at, server_at, symbol_of, symbols_in, symbols_below, symbols_named, number_of, pool_named, tree_named, trees_named, routes_named}
 use Rattle.mcv_route.specs.Routes.{IsSoundPool, IsSoundTree, AreSoundTrees, IsSoundRoutes}
 use Rattle.mcv_route.specs.Tree.{none}
 use Rattle.mcv_route.proofs.Building.{All-unmap}

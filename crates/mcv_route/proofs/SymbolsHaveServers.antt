@@ -8,7 +8,7 @@ use Rattle.mcv_config.specs.ConfigValue as config
 use Rattle.mcv_pools.specs.Symbol.{SymbolValue, same_symbol}
 use Rattle.mcv_pools.specs.Table.{is_in, with_entry}
 use Rattle.mcv_pools.specs.declared.symbol.HashFunc.TheVariants.{Ch3}
-use Rattle.mcv_route.specs.Built.{pool_at, server_at, symbol_of, symbols_in, symbols_below, symbols_named}
+use Rattle.mcv_route.specs.NamedRoutes.{pool_at, server_at, symbol_of, symbols_in, symbols_below, symbols_named}
 
 -- what holds of each symbol holds of each of the table that they make
 pub all_numbered : (P : SymbolValue → Type 0) (t xs : List SymbolValue) → All P t → All P xs → All P (fold (with_entry same_symbol) t xs)

@@ -9,7 +9,7 @@ use Rattle.mcv_config.specs.ConfigValue.{Named, named_of}
 use Rattle.mcv_config.specs.declared.config.NamedRoute.{NamedRoute}
 use Rattle.mcv_pools.specs.Symbol.{SymbolValue, same_symbol}
 use Rattle.mcv_pools.specs.Table.{with_entry}
-use Rattle.mcv_route.specs.Built.{symbols_in, tree_named}
+use Rattle.mcv_route.specs.NamedRoutes.{symbols_in, tree_named}
 use Rattle.mcv_route.specs.Tree.{Tree}
 
 -- the servers of a shared list

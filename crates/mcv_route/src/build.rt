@@ -7,7 +7,7 @@ ghost use Rattle.mcv_config.specs.ConfigValue.{IsSoundRoute, named_of, policy_of
 ghost use Rattle.mcv_pools.specs.declared.symbol.HashFunc.TheVariants.{Ch3};
 ghost use Rattle.mcv_pools.specs.Symbol.{same_symbol};
 ghost use Rattle.mcv_pools.specs.Table.{with_entry};
-ghost use Rattle.mcv_route.specs.Built.{pool_at, pool_named, server_at, symbol_of};
+ghost use Rattle.mcv_route.specs.NamedRoutes.{pool_at, pool_named, server_at, symbol_of};
 ghost use Rattle.mcv_route.specs.View.{last_view, operation_view, pool_view, prefix_view, shadow_view, view};
 ghost use Rattle.mcv_route.specs.Walk.{IsBuilt, last_named, list_view};
 

@@ -13,9 +13,9 @@ use Rattle.mcv_route.specs.Tree.{Range, Tree, Trees, many, Many}
 use Rattle.mcv_route.specs.declared.launch.Launch.{Launch}
 use Rattle.mcv_rules.specs.Plan.{Leg, Plan, Send, Reply, Both, Beside, OnError, OnMiss, OnHit, Shadowed, launched, on_reply, reply}
 use Rattle.mcv_rules.specs.Plans.{launch_of, plan, plan_each, with_shadows}
-use Rattle.mcv_rules.proofs.Among.{Among}
-use Rattle.mcv_rules.proofs.ByKind.{AllAt, Grows, chosen, many_grown}
-use Rattle.mcv_rules.proofs.Sent
+use Rattle.mcv_rules.proofs.ListMembers.{Among}
+use Rattle.mcv_rules.proofs.KindCases.{AllAt, Grows, chosen, many_grown}
+use Rattle.mcv_rules.proofs.LegsOfPlan
 
 -- ---- all members of a list
 
@@ -121,4 +121,4 @@ all_map P Q c f (k ∷ ls) h = (f k h.0, all_map P Q c f ls h.1)
 
 -- what all legs of the route's plan have, all have that it sends
 pub launches_have : (P : Leg → Type 0) (Q : Launch → Type 0) (t : Tree) (s : Situation) (c : Choice) (o : Outcomes) → ((k : Leg) → P k → Q (launch_of c k)) → AllLegs P (plan t s) → AllOf Q (route.launched t s c o)
-launches_have P Q t s c o f h = subst (λ ls. AllOf Q ls) (sym (Sent.sent t s c o)) (all_map P Q c f (launched (plan t s) c o) (all_launched P (plan t s) c o h))
+launches_have P Q t s c o f h = subst (λ ls. AllOf Q ls) (sym (LegsOfPlan.sent t s c o)) (all_map P Q c f (launched (plan t s) c o) (all_launched P (plan t s) c o h))

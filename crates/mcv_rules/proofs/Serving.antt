@@ -27,21 +27,21 @@ use Rattle.mcv_route.specs.Reply.{reply, came, arrival, arrivals, last_worse, is
 use Rattle.mcv_rules.specs.Plan as planned
 use Rattle.mcv_rules.specs.Places.{are_plain, kind_of, places_of}
 use Rattle.mcv_rules.specs.Plans.{plan, plan_each}
-use Rattle.mcv_rules.specs.Sound.{positions}
-use Rattle.mcv_rules.specs.Whole.{all_of, alone, part, whole_of}
+use Rattle.mcv_rules.specs.Soundness.{positions}
+use Rattle.mcv_rules.specs.NormalForm.{all_of, alone, part, whole_of}
 use Rattle.mcv_rules.specs.Times.{came_each}
 use Rattle.mcv_rules.specs.Status.{default_reply}
 use Rattle.mcv_rules.specs.History.{history_of}
 use Rattle.mcv_rules.specs.Arrivals.{seen, seen_answer, weight, later, own_arrived, all_arrived}
-use Rattle.mcv_rules.specs.Laid as laid
-use Rattle.mcv_rules.specs.Laid.{sent, legs_each, arrived, Serves, ServeEach}
+use Rattle.mcv_rules.specs.PlanInMemory as laid
+use Rattle.mcv_rules.specs.PlanInMemory.{sent, legs_each, arrived, Serves, ServeEach}
 use Rattle.mcv_rules.specs.declared.plan.PlannedLeg.{PlannedLeg}
 use Rattle.mcv_rules.specs.declared.plan.Plan.{Plan, Send, Reply, All}
 use Rattle.mcv_rules.proofs.Times as times
 use Rattle.mcv_rules.proofs.Verdicts.{reply_is_planned}
 use Rattle.mcv_rules.proofs.KnownIsHistory.{own_seen}
 use Rattle.mcv_rules.proofs.Places.{kind-All, kind-Reply, kind-Send, places-All, places-Reply, places-Send}
-use Rattle.mcv_rules.proofs.Whole.{part-All, part-Reply, part-Send}
+use Rattle.mcv_rules.proofs.NormalForms.{part-All, part-Reply, part-Send}
 use Rattle.mcv_rules.proofs.Plans.{sent-Send, sent-Reply, sent-All, arrived-Send, arrived-Reply, arrived-All}
 
 -- what is laid out serves the whole, where it serves the part

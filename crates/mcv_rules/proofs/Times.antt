@@ -8,7 +8,7 @@ use Rattle.mcv_route.specs.Situation.{Situation, under}
 use Rattle.mcv_route.specs.Replies.{Answer, the_worse, or_after_error, or_after_miss, replies, replies_each}
 use Rattle.mcv_route.specs.Reply.{is_waiting, came}
 use Rattle.mcv_rules.specs.Times.{time, came_each, TimeOfAllSync, IsStable, TimeAfterError, TimeAfterMiss, RepliesAreStable}
-use Rattle.mcv_rules.proofs.Stays
+use Rattle.mcv_rules.proofs.AnswersStay
 use Rattle.mcv_rules.proofs.Orders
 
 bound : (b : Bool) (n a : ℕ) → a ≤ n → cond b (suc n) a ≤ suc n
@@ -136,4 +136,4 @@ time_after_miss f g a more es i e = by_test (is_good a.outcome) refl
 pub replies_are_stable : RepliesAreStable
 replies_are_stable t s c [] h u v = tt
 replies_are_stable t s c (e ∷ es) h u v =
-    (λ n. ⊎_elim (λ z. absurd (n z)) (λ z. z) (Stays.reply_stays u v (outcomes es) (outcomes (e ∷ es)) (Orders.one_more e.0 e.1 es h.1)), replies_are_stable t s c es h.2 u v)
+    (λ n. ⊎_elim (λ z. absurd (n z)) (λ z. z) (AnswersStay.reply_stays u v (outcomes es) (outcomes (e ∷ es)) (Orders.one_more e.0 e.1 es h.1)), replies_are_stable t s c es h.2 u v)

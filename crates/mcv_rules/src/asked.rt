@@ -6,7 +6,7 @@ ghost use Rattle.mcv_base.specs.declared.operation.Op.TheVariants.{Add as Adding
 ghost use Rattle.mcv_route.specs.Children.{way_of};
 ghost use Rattle.mcv_route.specs.Misses.{fails_over_on_miss, is_warmed_up};
 ghost use Rattle.mcv_route.specs.Situation.{has_passed, marked_add, marked_async};
-ghost use Rattle.mcv_rules.specs.Laid.{situation_at, way_seen};
+ghost use Rattle.mcv_rules.specs.PlanInMemory.{situation_at, way_seen};
 
 use mcv_base::{Mark, Moment, Op, Rest};
 

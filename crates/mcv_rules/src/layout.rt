@@ -6,7 +6,7 @@ ghost use Rattle.mcv_route.specs.Misses.{is_warmed_up};
 ghost use Rattle.mcv_route.specs.Situation.{Situation, adding, under};
 ghost use Rattle.mcv_route.specs.Tree.{Tree, many, AllSync, AllInitial, AllAsync, MissFailover, child, none, pool, warm_up};
 ghost use Rattle.mcv_route.specs.View.{operation_view, pool_view, view};
-ghost use Rattle.mcv_rules.specs.Laid.{ServeEach, Serves, children_of, longer_of, operations_of, prefixes_of, ranges_of, situation_at, targets_of};
+ghost use Rattle.mcv_rules.specs.PlanInMemory.{ServeEach, Serves, children_of, longer_of, operations_of, prefixes_of, ranges_of, situation_at, targets_of};
 
 use crate::arrival::After;
 use crate::asked::{Asked, Way};

@@ -6,7 +6,7 @@ use Rattle.mcv_route.specs.Situation.{asked}
 use Rattle.mcv_route.specs.Tree.{Tree, Trees, pool, null, error, many, AllSync, AllInitial, AllAsync, Failover, MissFailover, none, child}
 use Rattle.mcv_rules.specs.Plan.{Plan}
 use Rattle.mcv_rules.specs.Plans.{plan}
-use Rattle.mcv_symbolic.specs.Listed.{acknowledged, hits}
+use Rattle.mcv_symbolic.specs.SetLists.{acknowledged, hits}
 use Rattle.mcv_symbolic.specs.Structure.{if_all}
 
 abbrev one : ℕ → Tree

@@ -5,7 +5,7 @@ use Rattle.mcv_base.specs.declared.operation.Op.TheVariants.{Delete}
 use Rattle.mcv_base.specs.declared.reply.Outcome.TheVariants.{Good, Error}
 use Rattle.mcv_route.specs.Outcomes.{Outcomes, Choice}
 use Rattle.mcv_route.specs.Tree.{Tree}
-use Rattle.mcv_route.specs.WellFormed.{IsWellFormed}
+use Rattle.mcv_route.specs.WellFormedTrees.{IsWellFormed}
 use Rattle.mcv_route.specs.Situation.{asked}
 use Rattle.mcv_route.specs.Replies.{replies}
 use Rattle.mcv_route.specs.Verdict.{IsReachable, IsDone, IsCovered}
@@ -14,7 +14,7 @@ use Rattle.mcv_rules.specs.Plans.{plan}
 use Rattle.mcv_classes.specs.Laws.{AreAlike}
 use Rattle.mcv_symbolic.specs.Sets.{CanHitAt, CanBeAcknowledged, IsCountedAt, IsAcknowledged}
 use Rattle.mcv_symbolic.specs.Structure.{if_all, Acknowledged, Hits}
-use Rattle.mcv_symbolic.specs.Justified.{IsJustified}
+use Rattle.mcv_symbolic.specs.JustifiedRoutes.{IsJustified}
 
 -- ---- the sets don't depend on the choice
 

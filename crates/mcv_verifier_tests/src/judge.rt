@@ -3,7 +3,7 @@
 
 ghost use Rattle.std.specs.Prelude.{◌≡◌, ◌<◌, ◌∷◌, [], length, All};
 ghost use Rattle.mcv_judge.specs.Faults.{AreLegsRising};
-ghost use Rattle.mcv_judge.specs.InMemory.{legs_of};
+ghost use Rattle.mcv_judge.specs.PairsInMemory.{legs_of};
 
 use crate::built::check_number;
 use mcv_base::{Position, ServerId};

@@ -14,7 +14,7 @@ use Rattle.mcv_route.specs.Routes.{RoutesValue}
 use Rattle.mcv_route.specs.Situation.{asked}
 use Rattle.mcv_route.specs.Tree.{Tree, pool, warm_up, none}
 use Rattle.mcv_rules.proofs.Verdicts.{reachable_is_closed}
-use Rattle.mcv_symbolic.specs.Covered.{sizes_of}
+use Rattle.mcv_symbolic.specs.CoveredRoutes.{sizes_of}
 use Rattle.mcv_witness.specs.Breaks.{BreaksCoverage, chosen}
 use Rattle.mcv_witness.specs.Finding.{FindingValue}
 use Rattle.mcv_witness.specs.Text.{finding_text}

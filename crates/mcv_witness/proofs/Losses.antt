@@ -19,10 +19,10 @@ use Rattle.mcv_rules.proofs.Leaves.{legs_are_of_pools}
 use Rattle.mcv_rules.proofs.Orders.{same_is}
 use Rattle.mcv_rules.proofs.Sending.{Sends}
 use Rattle.mcv_rules.proofs.Verdicts.{hit_is_planned, sends_has}
-use Rattle.mcv_symbolic.specs.Covered.{sizes_of}
+use Rattle.mcv_symbolic.specs.CoveredRoutes.{sizes_of}
 use Rattle.mcv_witness.specs.Breaks.{FindingsAreLosses, IsLeafOf, IsRead, chosen}
 use Rattle.mcv_witness.specs.Finding.{FindingValue}
-use Rattle.mcv_witness.proofs.Each.{Each}
+use Rattle.mcv_witness.proofs.EachMember.{Each}
 
 -- ---- lists
 

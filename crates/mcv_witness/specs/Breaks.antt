@@ -13,7 +13,7 @@ use Rattle.mcv_route.specs.Routes.{RoutesValue}
 use Rattle.mcv_route.specs.Situation.{asked}
 use Rattle.mcv_route.specs.Tree.{Pool, Tree}
 use Rattle.mcv_route.specs.Verdict.{IsDone, IsHit, IsReachable, IsSent}
-use Rattle.mcv_symbolic.specs.Covered.{AreCovered, sizes_of}
+use Rattle.mcv_symbolic.specs.CoveredRoutes.{AreCovered, sizes_of}
 use Rattle.mcv_witness.specs.Finding.{FindingValue}
 
 -- the finding's route has this tree, its key has this rest, of the route and the class named, and this break opened its era

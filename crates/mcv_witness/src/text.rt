@@ -82,7 +82,7 @@ fn push_key(text: &mut Vec<u8>, key: &[u8]) -> Result<(), AllocError>
 // ---- indexes
 
 /// Adds a byte of a salt: as in a word, but `/` and `=` escaped too.
-#[tactic(auto, using(crate::proofs::Escaped::escaped_one))]
+#[tactic(auto, using(crate::proofs::EscapedByte::escaped_one))]
 fn push_salt_byte(text: &mut Vec<u8>, byte: u8) -> Result<(), AllocError>
     ensures { OnOk result (text.new.items ≡ text.old.items ++ salt_byte byte) }
 {

@@ -7,7 +7,7 @@ ghost use Rattle.mcv_route.specs.Children.{is_within, rest_of};
 ghost use Rattle.mcv_route.specs.Situation.{asynchronous, shadowed};
 ghost use Rattle.mcv_route.specs.Tree.{many, pool};
 ghost use Rattle.mcv_route.specs.View.{pool_view, view};
-ghost use Rattle.mcv_rules.specs.Laid.{children_of, ranges_of, situation_at, targets_of};
+ghost use Rattle.mcv_rules.specs.PlanInMemory.{children_of, ranges_of, situation_at, targets_of};
 ghost use Rattle.mcv_witness.specs.Walk.{at_once, gather, gather_all, known_of, one_more, only, only_nth, shade, walked, walked_each};
 ghost use Rattle.mcv_witness.specs.declared.seen.Join.TheVariants.{Beside as beside};
 

@@ -11,7 +11,7 @@ use Rattle.mcv_route.specs.Situation.{Situation, asked}
 use Rattle.mcv_route.specs.Launched.{launched}
 use Rattle.mcv_route.specs.Verdict.{Has}
 use Rattle.mcv_rules.specs.Laws.{Extends}
-use Rattle.mcv_rules.proofs.Among.{Among}
+use Rattle.mcv_rules.proofs.ListMembers.{Among}
 use Rattle.mcv_rules.proofs.Operations.{own_operation}
 use Rattle.mcv_rules.proofs.SentOnce.{legs_are_sent_once}
 use Rattle.mcv_rules.proofs.Verdicts.{sent_stays}

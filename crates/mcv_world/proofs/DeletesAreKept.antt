@@ -16,11 +16,11 @@ use Rattle.mcv_route.specs.Tree.{Tree, error}
 use Rattle.mcv_route.specs.Launched.{launched}
 use Rattle.mcv_route.specs.Replies.{replies}
 use Rattle.mcv_route.specs.Verdict.{IsCovered, IsLegal, IsReadable, IsSent}
-use Rattle.mcv_rules.proofs.Among.{Among}
-use Rattle.mcv_symbolic.specs.Covered.{AreCovered, sizes_of}
+use Rattle.mcv_rules.proofs.ListMembers.{Among}
+use Rattle.mcv_symbolic.specs.CoveredRoutes.{AreCovered, sizes_of}
 use Rattle.mcv_world.specs.World.{LegState, Queued, Performed, Spooled, Gone, Call, World, tree_of, choice_of, history_of, reply_of, is_counted_delete}
 use Rattle.mcv_world.specs.Moves.{after, run}
-use Rattle.mcv_world.specs.Kept.{KeepsLeg}
+use Rattle.mcv_world.specs.KeptLegs.{KeepsLeg}
 use Rattle.mcv_world.specs.Laws.{IsWorld, LosesNothing, NothingLaunchedIsLost, ReadableIsLaunched, CoveredIsKept, CoveredWorldsAreKept, MovesKeepDeletes}
 use Rattle.mcv_world.proofs.CallsLegs.{among_has, has_among, deletes_send_deletes}
 use Rattle.mcv_world.proofs.Replies.{reply_answer}

@@ -15,9 +15,9 @@ use Rattle.mcv_route.specs.Tree.{Tree, Trees, pool, many, AllInitial, Failover, 
 use Rattle.mcv_route.specs.Verdict.{IsReadable}
 use Rattle.mcv_world.specs.World.{LegState, Queued, Performed, Spooled, Gone, Call, Leg, World, choice_of, reply_of, is_counted_delete, put}
 use Rattle.mcv_world.specs.Moves.{Move, Began, Answered, WasSpooled, WasRefused, WasPerformed, EraBegan, Taken, is_move, run}
-use Rattle.mcv_world.specs.Possible.{IsPossible, IsOpening}
-use Rattle.mcv_world.specs.Live.{live_of}
-use Rattle.mcv_world.specs.Kept.{KeepsLeg, Kept}
+use Rattle.mcv_world.specs.PossibleMoves.{IsPossible, IsOpening}
+use Rattle.mcv_world.specs.LiveWorld.{live_of}
+use Rattle.mcv_world.specs.KeptLegs.{KeepsLeg, Kept}
 use Rattle.mcv_world.proofs.Numbers.{same_some, no_some, put_cases}
 
 -- ---- routes of one tree, over pools of one server

@@ -13,7 +13,7 @@ use Rattle.mcv_rules.proofs.Orders.{one_more}
 use Rattle.mcv_rules.proofs.Verdicts.{sent_stays}
 use Rattle.mcv_world.specs.World.{LegState, Queued, Performed, Spooled, Gone, Call, Leg, World, tree_of, situation_of, choice_of, history_of, launched_by, reply_of, is_counted_delete, put}
 use Rattle.mcv_world.specs.Moves.{Move, Began, Answered, WasSpooled, WasRefused, WasPerformed, EraBegan, Taken, counted_as, is_error_reply, is_one, has_no_outcome, can_be_answered, can_be_spooled, can_be_refused, can_be_taken, is_move, queued, new_call, began, with_reply, launched_since, recorded_by, recorded_if, recorded_for, with_leg_state, answered_state, with_taken, with_leg, with_call, changed, after, run}
-use Rattle.mcv_world.specs.Possible.{IsAllowed, ArePossible}
+use Rattle.mcv_world.specs.PossibleMoves.{IsAllowed, ArePossible}
 use Rattle.mcv_world.specs.Laws.{Launches, IsCall, HasLeg, IsWorld, OpeningIsWorld, MovesKeepWorlds}
 use Rattle.mcv_world.proofs.Numbers.{same_some, none_when, no_some, put_same, put_other, put_cases, queue_old, queue_new, queue_back, new_or_old, new_is}
 use Rattle.mcv_world.proofs.CallsLegs.{among_has, one_leg_later}

@@ -11,12 +11,12 @@ use Rattle.mcv_route.specs.Eras.{IsEra, breaks_of, since_at}
 use Rattle.mcv_route.specs.Outcomes.{IsChoice, outcomes}
 use Rattle.mcv_route.specs.Routes.{RoutesValue}
 use Rattle.mcv_route.specs.Verdict.{Has, IsLegal, IsReachable, IsReadable, IsSent}
-use Rattle.mcv_symbolic.specs.Covered.{AreCovered}
+use Rattle.mcv_symbolic.specs.CoveredRoutes.{AreCovered}
 use Rattle.mcv_world.specs.World.{Gone, Call, Leg, World, tree_of, situation_of, choice_of, history_of, launched_by, reply_of, is_counted_delete}
 use Rattle.mcv_world.specs.Moves.{Move, is_move, after, run}
-use Rattle.mcv_world.specs.Possible.{CanBegin, IsPossible, ArePossible, IsOpening}
-use Rattle.mcv_world.specs.Live.{live_of}
-use Rattle.mcv_world.specs.Kept.{Kept}
+use Rattle.mcv_world.specs.PossibleMoves.{CanBegin, IsPossible, ArePossible, IsOpening}
+use Rattle.mcv_world.specs.LiveWorld.{live_of}
+use Rattle.mcv_world.specs.KeptLegs.{Kept}
 
 -- ---- what moves keep
 

@@ -1,6 +1,6 @@
 use Rattle.std.proofs.Common.{refl}
 use Rattle.mcv_route.specs.View.{view}
-use Rattle.mcv_route.proofs.Ways.{child_at-Pool, child_at-Null, child_at-Error, child_at-Many, child-of-WarmUp, child-of-Migrate, child_at-PrefixSelector, child_at-OperationSelector, borrowed-at}
+use Rattle.mcv_route.proofs.HandleChildren.{child_at-Pool, child_at-Null, child_at-Error, child_at-Many, child-of-WarmUp, child-of-Migrate, child_at-PrefixSelector, child_at-OperationSelector, borrowed-at}
 use Rattle.mcv_asks.proofs.children.child_of.Goals as goal
 
 pub returns-in-Pool : goal.returns-in-Pool

@@ -1,12 +1,12 @@
 use Rattle.std.proofs.Common.{refl, ap}
 use Rattle.std.proofs.lemmas.Result.{IfErr-weaker, on_ok_weaker}
-use Rattle.mcv_judge.specs.InMemory.{legs_of}
+use Rattle.mcv_judge.specs.PairsInMemory.{legs_of}
 use Rattle.mcv_judge.specs.Reason.{BlockValue}
 use Rattle.mcv_blocks.specs.Spots.{IsBlockWith}
 use Rattle.mcv_blocks.proofs.BlockOfSets.{block_with}
 use Rattle.mcv_certify.specs.Gap.{IfLost}
-use Rattle.mcv_certify.specs.Made.{ReportsGapOf, ReportsGapWith}
-use Rattle.mcv_certify.proofs.Lost.{if_lost, on_ok_both}
+use Rattle.mcv_certify.specs.BlockSteps.{ReportsGapOf, ReportsGapWith}
+use Rattle.mcv_certify.proofs.GapReports.{if_lost, on_ok_both}
 use Rattle.mcv_certify.proofs.block.push_sets.Goals as goal
 
 pub push_or_report-requires : goal.push_or_report-requires

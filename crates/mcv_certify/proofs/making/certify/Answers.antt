@@ -7,16 +7,16 @@ use Rattle.std.proofs.lemmas.Option.{slice_get-get_or}
 use Rattle.std.proofs.lemmas.Result.{err_from_is_err_and}
 use Rattle.mcv_cert.specs.declared.pair.Pair.{Pair}
 use Rattle.mcv_pools.specs.Symbol.{SymbolValue}
-use Rattle.mcv_judge.specs.InMemory.{pairs_of}
+use Rattle.mcv_judge.specs.PairsInMemory.{pairs_of}
 use Rattle.mcv_blocks.specs.Blocks.{IsJustifiedBy}
 use Rattle.mcv_blocks.specs.Places.{AreRouteClasses, IsRouteClass}
 use Rattle.mcv_blocks.specs.Spots.{eras_from, classes_in_eras}
 use Rattle.mcv_blocks.specs.declared.classes.RouteClass.{RouteClass}
-use Rattle.mcv_certify.specs.Picked.{IsPickedOf}
-use Rattle.mcv_certify.specs.Made.{AddsFor, ReportsGapIn}
+use Rattle.mcv_certify.specs.PickedReasons.{IsPickedOf}
+use Rattle.mcv_certify.specs.BlockSteps.{AddsFor, ReportsGapIn}
 use Rattle.mcv_certify.proofs.GapsOfSpots.{adds_class, adds_none, reports_class}
-use Rattle.mcv_certify.proofs.Certified.{are_picked, is_certificate, is_justified}
-use Rattle.mcv_certify.proofs.Lost.{if_lost}
+use Rattle.mcv_certify.proofs.AnsweringPairsJustify.{are_picked, is_certificate, is_justified}
+use Rattle.mcv_certify.proofs.GapReports.{if_lost}
 use Rattle.mcv_certify.proofs.Verdicts.{known, only_memory, right}
 use Rattle.mcv_certify.proofs.making.certify.Goals as goal
 

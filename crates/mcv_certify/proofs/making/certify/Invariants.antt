@@ -1,7 +1,7 @@
 use Rattle.std.proofs.Common.{[], take}
-use Rattle.mcv_judge.specs.InMemory.{pairs_of}
+use Rattle.mcv_judge.specs.PairsInMemory.{pairs_of}
 use Rattle.mcv_blocks.specs.Spots.{classes_in_eras}
-use Rattle.mcv_certify.specs.Made.{AddsFor}
+use Rattle.mcv_certify.specs.BlockSteps.{AddsFor}
 use Rattle.mcv_certify.proofs.making.certify.Given as goal
 
 abbrev pub invariant-loop-class : goal.invariant-loop-class

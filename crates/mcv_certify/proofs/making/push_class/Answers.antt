@@ -1,10 +1,10 @@
 use Rattle.std.proofs.Common.{ℕ, subst}
 use Rattle.std.proofs.lemmas.Result.{err_from_is_err_and}
-use Rattle.mcv_judge.specs.InMemory.{pairs_of}
+use Rattle.mcv_judge.specs.PairsInMemory.{pairs_of}
 use Rattle.mcv_blocks.specs.Spots.{eras_from, in_era}
-use Rattle.mcv_certify.specs.Made.{AddsFor, ReportsGapAt, ReportsGapIn}
+use Rattle.mcv_certify.specs.BlockSteps.{AddsFor, ReportsGapAt, ReportsGapIn}
 use Rattle.mcv_certify.proofs.GapsOfSpots.{adds_era, adds_none, reports_era}
-use Rattle.mcv_certify.proofs.Lost.{if_lost}
+use Rattle.mcv_certify.proofs.GapReports.{if_lost}
 use Rattle.mcv_certify.proofs.Spots.{none-within, next-within, past-all}
 use Rattle.mcv_certify.proofs.making.push_class.Goals as goal
 

@@ -1,9 +1,9 @@
 use Rattle.std.proofs.lemmas.Result.{IfErr-weaker, on_ok_weaker}
-use Rattle.mcv_judge.specs.InMemory.{pairs_of}
+use Rattle.mcv_judge.specs.PairsInMemory.{pairs_of}
 use Rattle.mcv_blocks.specs.Spots.{in_era}
 use Rattle.mcv_certify.specs.Gap.{IfLost}
-use Rattle.mcv_certify.specs.Made.{ReportsGapAt, ReportsGapWith}
-use Rattle.mcv_certify.proofs.Lost.{if_lost}
+use Rattle.mcv_certify.specs.BlockSteps.{ReportsGapAt, ReportsGapWith}
+use Rattle.mcv_certify.proofs.GapReports.{if_lost}
 use Rattle.mcv_certify.proofs.MadeOfSets.{adds_with, sets_sized, reports_with}
 use Rattle.mcv_certify.proofs.making.push_era.Goals as goal
 

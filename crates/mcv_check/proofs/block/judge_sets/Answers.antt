@@ -1,6 +1,6 @@
 use Rattle.std.proofs.Common.{refl, ap}
 use Rattle.std.proofs.lemmas.Result.{err_from_is_err_and}
-use Rattle.mcv_judge.specs.InMemory.{legs_of}
+use Rattle.mcv_judge.specs.PairsInMemory.{legs_of}
 use Rattle.mcv_judge.specs.Reason.{BlockValue}
 use Rattle.mcv_blocks.specs.Spots.{IsBlockWith}
 use Rattle.mcv_blocks.proofs.BlockOfSets.{block_with}

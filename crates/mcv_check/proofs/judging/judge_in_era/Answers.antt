@@ -1,9 +1,9 @@
 use Rattle.std.proofs.lemmas.Result.{IfErr-weaker, IfOk-weaker}
 use Rattle.std.proofs.Common.{[], ◌∷◌}
 use Rattle.mcv_blocks.specs.Spots.{in_era}
-use Rattle.mcv_judge.specs.InMemory.{pairs_of}
-use Rattle.mcv_check.specs.Judged.{Leaves, LeavesWith, Stops, StopsWith}
-use Rattle.mcv_check.proofs.Found.{sets_in_order, sets_leave, sets_stop}
+use Rattle.mcv_judge.specs.PairsInMemory.{pairs_of}
+use Rattle.mcv_check.specs.Judgements.{Leaves, LeavesWith, Stops, StopsWith}
+use Rattle.mcv_check.proofs.JudgedSets.{sets_in_order, sets_leave, sets_stop}
 use Rattle.mcv_check.proofs.judging.judge_in_era.Goals as goal
 
 pub judge_sets-requires : goal.judge_sets-requires

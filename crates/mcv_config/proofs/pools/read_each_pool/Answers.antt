@@ -9,7 +9,7 @@ use Rattle.mcv_names.specs.Lists.{each_member}
 use Rattle.mcv_names.specs.Path.{path_of, key_step}
 use Rattle.mcv_config.specs.ConfigValue.{pool_servers}
 use Rattle.mcv_config.specs.Pools.{pool_read}
-use Rattle.mcv_names.proofs.ReadingEach.{after, each_member-more}
+use Rattle.mcv_names.proofs.ReadLists.{after, each_member-more}
 use Rattle.mcv_config.proofs.pools.read_each_pool.Goals as goal
 
 pub loop-name-preserved : goal.loop-name-preserved

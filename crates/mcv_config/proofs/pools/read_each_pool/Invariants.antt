@@ -4,7 +4,7 @@ use Rattle.mcv_names.specs.Lists.{each_member}
 use Rattle.mcv_names.specs.Path.{path_of}
 use Rattle.mcv_config.specs.ConfigValue.{pool_servers}
 use Rattle.mcv_config.specs.Pools.{pool_read}
-use Rattle.mcv_names.proofs.ReadingEach.{after}
+use Rattle.mcv_names.proofs.ReadLists.{after}
 use Rattle.mcv_config.proofs.pools.read_each_pool.Given as goal
 
 abbrev pub invariant-loop-name : goal.invariant-loop-name

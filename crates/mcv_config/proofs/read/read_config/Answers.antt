@@ -1,6 +1,6 @@
 use Rattle.std.proofs.Common.{ℕ, List, sym, subst, ◌∙◌, ◌≡◌}
 use Rattle.mcv_comments.specs.declared.fault.CommentFault.TheVariants as comment_faults
-use Rattle.mcv_comments.proofs.Unique.{strips_one}
+use Rattle.mcv_comments.proofs.OneReading.{strips_one}
 use Rattle.mcv_config.specs.Config.{NamesAsJson}
 use Rattle.mcv_config.proofs.read.read_config.Goals as goal
 

@@ -1,5 +1,5 @@
 use Rattle.mcv_config.proofs.Limits.{read_configs_keep_to_limits}
-use Rattle.mcv_config.proofs.Sound.{read_configs_are_sound}
+use Rattle.mcv_config.proofs.SoundConfigs.{read_configs_are_sound}
 use Rattle.mcv_config.proofs.read.read_json.Goals as goal
 
 pub invariant_of-result : goal.invariant_of-result

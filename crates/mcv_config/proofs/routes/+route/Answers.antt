@@ -12,7 +12,7 @@ use Rattle.mcv_config.specs.Routes.{route}
 use Rattle.mcv_config.specs.Selectors.{policy_read}
 use Rattle.mcv_config.specs.Shadows.{shadow_read}
 use Rattle.mcv_config.specs.View.{so_far_of}
-use Rattle.mcv_names.proofs.ReadingEach.{after, each-more, each_member-more}
+use Rattle.mcv_names.proofs.ReadLists.{after, each-more, each_member-more}
 use Rattle.mcv_config.proofs.routes.+route.Goals as goal
 
 pub read_each_policy-loop-name-preserved : goal.read_each_policy-loop-name-preserved

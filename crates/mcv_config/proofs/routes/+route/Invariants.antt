@@ -7,7 +7,7 @@ use Rattle.mcv_config.specs.Routes.{route}
 use Rattle.mcv_config.specs.Selectors.{policy_read}
 use Rattle.mcv_config.specs.Shadows.{shadow_read}
 use Rattle.mcv_config.specs.View.{so_far_of}
-use Rattle.mcv_names.proofs.ReadingEach.{after}
+use Rattle.mcv_names.proofs.ReadLists.{after}
 use Rattle.mcv_config.proofs.routes.+route.Given as goal
 
 abbrev pub decreases-read_route : goal.decreases-read_route

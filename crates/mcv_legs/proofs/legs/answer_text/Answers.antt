@@ -1,7 +1,7 @@
 use Rattle.std.proofs.Common.{◌≡◌, ◌∙◌, option_map, sym, ap, subst}
 use Rattle.std.proofs.lemmas.Result.{err_from_is_err_and}
 use Rattle.mcv_legs.specs.Fault.{IsRunFault}
-use Rattle.mcv_route.specs.Built.{routes_named}
+use Rattle.mcv_route.specs.NamedRoutes.{routes_named}
 use Rattle.mcv_route.specs.Routes.{RoutesValue}
 use Rattle.mcv_route.specs.View.{view}
 use Rattle.mcv_legs.specs.Answer.{entry_for, shipped_choice, situation_at, text_of}

@@ -6,12 +6,12 @@ use Rattle.std.specs.declared.alloc.AllocError.{AllocError}
 use Rattle.mcv_cert.specs.Pair.{PlaceValue}
 use Rattle.mcv_pools.specs.Symbol.{SymbolValue}
 use Rattle.mcv_route.specs.Aliases.{first_alias}
-use Rattle.mcv_route.proofs.Selected.{has-alias}
+use Rattle.mcv_route.proofs.FirstAlias.{has-alias}
 use Rattle.mcv_witness.specs.Breaks.{BreaksCoverage}
 use Rattle.mcv_witness.specs.Finding.{finding_of}
 use Rattle.mcv_witness.specs.declared.finding.Finding.{Finding}
 use Rattle.mcv_make.specs.Place.{IsAtGap}
-use Rattle.mcv_make.specs.Shown.{IsShown, IsShownWith}
+use Rattle.mcv_make.specs.ShownFinding.{IsShown, IsShownWith}
 use Rattle.mcv_make.proofs.Finding.{breaks-at}
 use Rattle.mcv_make.proofs.Gaps.{entry, numbered}
 use Rattle.mcv_make.proofs.finder.find.Goals as goal

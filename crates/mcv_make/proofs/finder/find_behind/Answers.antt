@@ -4,9 +4,9 @@ use Rattle.mcv_classes.specs.Class.{IsMember}
 use Rattle.mcv_classes.specs.Words.{class_words}
 use Rattle.mcv_route.specs.View.{pool_view, view}
 use Rattle.mcv_witness.specs.Finding.{outcomes_of}
-use Rattle.mcv_make.specs.Free.{free_indexes}
-use Rattle.mcv_make.specs.Shown.{IsShownWith}
-use Rattle.mcv_make.proofs.Built.{finding_at, reads, is_shown}
+use Rattle.mcv_make.specs.FreeIndexes.{free_indexes}
+use Rattle.mcv_make.specs.ShownFinding.{IsShownWith}
+use Rattle.mcv_make.proofs.BuiltFinding.{finding_at, reads, is_shown}
 use Rattle.mcv_make.proofs.finder.find_behind.Goals as goal
 
 pub reading-requires : goal.reading-requires

@@ -6,8 +6,8 @@ use Rattle.mcv_route.specs.Situation.{shadowed, under}
 use Rattle.mcv_route.specs.Tree.{migrate, warm_up}
 use Rattle.mcv_route.specs.View.{pool_view, view}
 use Rattle.mcv_route.proofs.Views.{shadow_view-out, view-Error, view-Many, view-Migrate, view-Null, view-Pool, view-WarmUp}
-use Rattle.mcv_rules.specs.Laid.{children_of, operations_of, prefixes_of, situation_at, way_seen}
-use Rattle.mcv_rules.proofs.Choosing.{migrates_from, migrates_to, warms_not}
+use Rattle.mcv_rules.specs.PlanInMemory.{children_of, operations_of, prefixes_of, situation_at, way_seen}
+use Rattle.mcv_rules.proofs.ChoosingHandles.{migrates_from, migrates_to, warms_not}
 use Rattle.mcv_plan.specs.Counts.{capped}
 use Rattle.mcv_plan.proofs.CountsAdd.{all_async_count, all_sync_count, capped_more, children_more, counts_as, default_count, failover_count, first_child_count, initial_all, initial_first, initial_more, migrate_both_count, miss_count, no_child_count, no_default_count, no_initial, no_wildcard_count, operation_count, pool_count, pool_more, prefix_count, warm_up_count, wildcard_count}
 use Rattle.mcv_plan.proofs.counting.+counting.Goals as goal

@@ -5,7 +5,7 @@ use Rattle.mcv_reply.specs.Line.{Writes, word}
 use Rattle.mcv_reply.specs.Candidate.{behind_name, name_text, Follows, needed}
 use Rattle.mcv_reply.proofs.Words.{name_clean, word_starts}
 use Rattle.mcv_reply.proofs.Writing.{skip_on, skip_back, word_on, word_back}
-use Rattle.mcv_reply.proofs.Moving.{moves_same}
+use Rattle.mcv_reply.proofs.CandidateSteps.{moves_same}
 use Rattle.mcv_reply.proofs.candidate.before_name.Goals as goal
 
 pub returns-then-byte-eq32 : goal.returns-then-byte-eq32

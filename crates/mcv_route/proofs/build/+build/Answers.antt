@@ -3,7 +3,7 @@ use Rattle.std.proofs.lemmas.List.{length-map}
 use Rattle.mcv_route.specs.View.{view, operation_view, prefix_view, shadow_view}
 use Rattle.mcv_route.specs.Walk.{list_view}
 use Rattle.mcv_route.proofs.Building.{All-at, child-more, item-more, sound-pool, sound-shadows, sound-server, sound-Many, sound-WarmUp, sound-Migrate, sound-prefixes, sound-wildcard, sound-policies, sound-default, sound-last, sound-shadow, sound-prefix, sound-policy, built-Pool, built-Server, built-Null, built-Error, built-Many, built-WarmUp, built-Migrate, built-PrefixSelector, built-OperationSelector, built-no_last}
-use Rattle.mcv_route.proofs.Nameds.{shadow_of-out, prefix_of-out, policy_of-out}
+use Rattle.mcv_route.proofs.NamedHandles.{shadow_of-out, prefix_of-out, policy_of-out}
 use Rattle.mcv_config.specs.ConfigValue.{named_of, shadow_of, prefix_of, policy_of, IsSoundRoute}
 use Rattle.mcv_config.specs.declared.config.NamedRoute as asked
 use Rattle.mcv_config.specs.declared.config.NamedPolicy.{out-NamedPolicy}

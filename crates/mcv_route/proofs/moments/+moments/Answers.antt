@@ -5,7 +5,7 @@ use Rattle.mcv_route.specs.declared.tree.Shadow.{out-Shadow}
 use Rattle.mcv_route.specs.declared.tree.PrefixPolicy.{out-PrefixPolicy}
 use Rattle.mcv_route.specs.declared.tree.OperationPolicy.{out-OperationPolicy}
 use Rattle.mcv_route.proofs.Views.{operation_view-out, prefix_view-out, shadow_view-out}
-use Rattle.mcv_route.proofs.Ways.{breaks-more, breaks-Pool, breaks-Null, breaks-Error, breaks-more-of, breaks-Many, breaks-of-PrefixSelector, breaks-of-OperationSelector}
+use Rattle.mcv_route.proofs.HandleChildren.{breaks-more, breaks-Pool, breaks-Null, breaks-Error, breaks-more-of, breaks-Many, breaks-of-PrefixSelector, breaks-of-OperationSelector}
 use Rattle.mcv_route.proofs.moments.+moments.Goals as goal
 
 pub push_breaks-returns-in-Pool : goal.push_breaks-returns-in-Pool

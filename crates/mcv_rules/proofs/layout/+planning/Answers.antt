@@ -9,11 +9,11 @@ use Rattle.mcv_route.specs.declared.tree.OperationPolicy.{out-OperationPolicy}
 use Rattle.mcv_route.specs.declared.tree.PrefixPolicy.{out-PrefixPolicy}
 use Rattle.mcv_route.specs.declared.tree.Route.{OperationSelector, PrefixSelector}
 use Rattle.mcv_route.proofs.Views.{shadow_view-out, view-Error, view-Migrate, view-Null, view-WarmUp}
-use Rattle.mcv_rules.specs.Laid.{Serves, children_of, operations_of, prefixes_of, situation_at, way_seen}
+use Rattle.mcv_rules.specs.PlanInMemory.{Serves, children_of, operations_of, prefixes_of, situation_at, way_seen}
 use Rattle.mcv_rules.specs.declared.arrival.After.TheVariants as after
 use Rattle.mcv_rules.specs.declared.plan.Plan.{Reply}
-use Rattle.mcv_rules.proofs.Besides.{async_beyond, child-grows, child_legs, first_beyond, first_of, first_served, led_first, no_shadows, serves-beside, shadow-grows, shadows_beyond}
-use Rattle.mcv_rules.proofs.Choosing.{migrates_both, migrates_from, migrates_to, serves-default, serves-first_child, serves-no_child, serves-no_default, serves-no_initial, serves-no_wildcard, serves-operation, serves-prefix, serves-wildcard, warms_not}
+use Rattle.mcv_rules.proofs.BesidePlans.{async_beyond, child-grows, child_legs, first_beyond, first_of, first_served, led_first, no_shadows, serves-beside, shadow-grows, shadows_beyond}
+use Rattle.mcv_rules.proofs.ChoosingHandles.{migrates_both, migrates_from, migrates_to, serves-default, serves-first_child, serves-no_child, serves-no_default, serves-no_initial, serves-no_wildcard, serves-operation, serves-prefix, serves-wildcard, warms_not}
 use Rattle.mcv_rules.proofs.Searching.{failover_searches, miss_searches, serves-search}
 use Rattle.mcv_rules.proofs.Serving.{serve-grows, served, serves-all, serves-does, serves-error, serves-null}
 use Rattle.mcv_rules.proofs.layout.+planning.Goals as goal

@@ -3,7 +3,7 @@ use Rattle.std.proofs.lemmas.Bool.{false≢true}
 use Rattle.mcv_route.specs.View.{view}
 use Rattle.mcv_witness.specs.Confirm.{has_indexes}
 use Rattle.mcv_witness.specs.Finding.{finding_of}
-use Rattle.mcv_witness.proofs.Decided.{all_but_missed, choice_indexes, indexes_choice, no_choice, no_leaf, not_read, nowhere}
+use Rattle.mcv_witness.proofs.BreakDecision.{all_but_missed, choice_indexes, indexes_choice, no_choice, no_leaf, not_read, nowhere}
 use Rattle.mcv_witness.proofs.replay.confirm.Goals as goal
 
 pub returns-in_default : goal.returns-in_default

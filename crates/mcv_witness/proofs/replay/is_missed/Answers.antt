@@ -6,7 +6,7 @@ use Rattle.mcv_witness.specs.Breaks.{chosen}
 use Rattle.mcv_witness.specs.Confirm.{are_rising, missed_seen}
 use Rattle.mcv_witness.specs.Finding.{finding_of, outcomes_of}
 use Rattle.mcv_witness.specs.Walk.{pass}
-use Rattle.mcv_witness.proofs.Decided.{misses, unsorted_deletes}
+use Rattle.mcv_witness.proofs.BreakDecision.{misses, unsorted_deletes}
 use Rattle.mcv_witness.proofs.replay.is_missed.Goals as goal
 
 pub returns-then-not-are_rising : goal.returns-then-not-are_rising

@@ -5,7 +5,7 @@ use Rattle.mcv_witness.specs.Breaks.{chosen}
 use Rattle.mcv_witness.specs.Confirm.{are_rising, hit_seen}
 use Rattle.mcv_witness.specs.Finding.{finding_of, outcomes_of}
 use Rattle.mcv_witness.specs.Walk.{pass}
-use Rattle.mcv_witness.proofs.Decided.{no_get, reads, unsorted_gets}
+use Rattle.mcv_witness.proofs.BreakDecision.{no_get, reads, unsorted_gets}
 use Rattle.mcv_witness.proofs.replay.is_read.Goals as goal
 
 pub returns-then-not-is_reading : goal.returns-then-not-is_reading

@@ -4,7 +4,7 @@ use Rattle.mcv_classes.specs.Class.{IsClassWord}
 use Rattle.mcv_classes.specs.Words.{class_words}
 use Rattle.mcv_route.specs.View.{view}
 use Rattle.mcv_witness.specs.Finding.{finding_of}
-use Rattle.mcv_witness.proofs.Decided.{found_at, no_era, no_route, no_tree, other_class, other_route}
+use Rattle.mcv_witness.proofs.BreakDecision.{found_at, no_era, no_route, no_tree, other_class, other_route}
 use Rattle.mcv_witness.proofs.replay.scene_by.Goals as goal
 
 pub returns-in_err-number : goal.returns-in_err-number

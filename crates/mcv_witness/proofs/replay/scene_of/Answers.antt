@@ -1,7 +1,7 @@
 use Rattle.std.proofs.Common.{List, ℕ, subst}
 use Rattle.mcv_base.specs.Key.{IsKeyFault}
 use Rattle.mcv_witness.specs.Finding.{finding_of}
-use Rattle.mcv_witness.proofs.Decided.{faulty_key}
+use Rattle.mcv_witness.proofs.BreakDecision.{faulty_key}
 use Rattle.mcv_witness.proofs.replay.scene_of.Goals as goal
 
 pub returns-in-Err : goal.returns-in-Err

@@ -9,7 +9,7 @@ use Rattle.mcv_core.specs.View.{core_view}
 use Rattle.mcv_core.specs.declared.step.Change.TheVariants as changes
 use Rattle.mcv_core.specs.declared.step.LegState.TheVariants as leg_states
 use Rattle.mcv_events.specs.QueuedLegs.{count_in}
-use Rattle.mcv_core.specs.Sound.{spooled_in}
+use Rattle.mcv_core.specs.Soundness.{spooled_in}
 use Rattle.mcv_core.proofs.Landings
 use Rattle.mcv_core.proofs.Landings.{stated}
 use Rattle.mcv_core.proofs.LegViews

@@ -3,17 +3,17 @@ use Rattle.std.specs.List.{All, flat_map}
 use Rattle.mcv_base.specs.Server.{is_server}
 use Rattle.mcv_config.specs.ConfigValue.{IsSound}
 use Rattle.mcv_route.specs.Aliases.{AreSelected}
-use Rattle.mcv_route.specs.Built.{routes_named}
+use Rattle.mcv_route.specs.NamedRoutes.{routes_named}
 use Rattle.mcv_route.specs.Eras.{breaks, IsBreakTable}
 use Rattle.mcv_route.specs.Limits.{AreWithinLimits}
 use Rattle.mcv_route.specs.Routes.{IsSoundRoutes}
 use Rattle.mcv_route.specs.RoutesView.{entry_view, numbers_of}
 use Rattle.mcv_route.specs.Walk.{list_view}
 use Rattle.mcv_route.proofs.Limits.{within-built}
-use Rattle.mcv_route.proofs.Selected.{selected-built}
+use Rattle.mcv_route.proofs.FirstAlias.{selected-built}
 use Rattle.mcv_route.proofs.Soundness.{sound-built}
 use Rattle.mcv_route.proofs.SymbolsHaveServers.{symbols_have_servers}
-use Rattle.mcv_route.proofs.Whole.{sound-entries, routes-are}
+use Rattle.mcv_route.proofs.BuiltRoutes.{sound-entries, routes-are}
 use Rattle.mcv_route.proofs.routes.Routes.build.Goals as goal
 
 pub build_entries-requires-clause-sound : goal.build_entries-requires-clause-sound
