@@ -30,7 +30,7 @@ abbrev pub AcknowledgedIgnoresTheChoice : Type 0
 AcknowledgedIgnoresTheChoice = (t : Tree) (rest : List ℕ) (since : Option ℕ) (c d : Choice) (p : List ℕ) →
     IsAcknowledged t rest since c p → IsAcknowledged t rest since d p
 
--- ---- they are those that the structure gives, one handle at a time
+-- ---- they are those that the structure of the plan gives, by a rule for each form of a plan
 
 abbrev pub HitsAreExact : Type 0
 HitsAreExact = (t : Tree) (op : Op) (rest : List ℕ) (since : Option ℕ) (c : Choice) (p : List ℕ) →

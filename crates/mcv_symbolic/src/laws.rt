@@ -11,7 +11,7 @@ pub fn sets_ignore_the_choice()
     ensures acknowledged { AcknowledgedIgnoresTheChoice }
 {}
 
-/// The sets are those that the structure of the route gives, one handle at a time.
+/// The sets are those that the structure of the route's plan gives, by a rule for each form of a plan.
 pub fn sets_are_exact()
     ensures hits { HitsAreExact }
     ensures done { DoneIsExact }
