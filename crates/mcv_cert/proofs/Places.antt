@@ -4,7 +4,10 @@ use Rattle.std.specs.Prelude.{codes, decimal}
 use Rattle.std.proofs.lemmas.List.{drop-map, get_or-map, length-map, take_all}
 use Rattle.mcv_base.specs.Position.{position_text}
 use Rattle.mcv_cert.specs.Escape.{escaped}
-use Rattle.mcv_cert.specs.Pair.{PairValue, ReasonValue}
+use Rattle.mcv_cert.specs.declared.pair.Pair.{Pair}
+use Rattle.mcv_cert.specs.declared.pair.Reason.{Reason}
+use Rattle.mcv_cert.specs.declared.place.Place.{Place}
+use Rattle.mcv_cert.specs.Pair.{PairValue, ReasonValue, pair_of, place_of, reason_of}
 use Rattle.mcv_cert.specs.Text.{pair_words, reason_words}
 
 abbrev pub texts : List (Bor (List ℕ)) → List (List ℕ)
@@ -59,3 +62,7 @@ pair_is p route class era leaf reason r c e l s =
     ∙ ap (λ (x : ℕ). made p.place.spot.route p.place.spot.class x leaf reason) e
     ∙ ap (λ (x : List ℕ). made p.place.spot.route p.place.spot.class p.place.spot.era x reason) l
     ∙ ap (λ (x : ReasonValue). made p.place.spot.route p.place.spot.class p.place.spot.era p.place.leaf x) s
+
+-- what a pair made of a place and a reason means
+pub pair_made : (x : Pair) (place : Place) (reason : Reason) → x.place ≡ place → x.reason ≡ reason → pair_of x ≡ record { place = place_of place; reason = reason_of reason }
+pair_made x place reason p r = λ i. record { place = place_of (p i); reason = reason_of (r i) }

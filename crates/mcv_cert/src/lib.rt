@@ -8,7 +8,6 @@
 mod certificate;
 mod escape;
 mod fault;
-mod fits;
 mod laws;
 mod pair;
 mod parse;

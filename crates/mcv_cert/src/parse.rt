@@ -6,11 +6,11 @@ ghost use Rattle.std.specs.List.{slice_split};
 ghost use Rattle.std.specs.Option.{option_map};
 ghost use Rattle.mcv_base.specs.Position.{position_text};
 ghost use Rattle.mcv_cert.specs.Escape.{escaped};
-ghost use Rattle.mcv_cert.specs.Pair.{FitsPosition, FitsReason, IsPair, PairValue, ReasonValue, all, names_legs, never, pair_of, reason_of, same, twin};
+ghost use Rattle.mcv_cert.specs.Fits.{FitsPosition, FitsReason};
+ghost use Rattle.mcv_cert.specs.Pair.{IsPair, PairValue, ReasonValue, all, names_legs, never, pair_of, reason_of, same, twin};
 ghost use Rattle.mcv_cert.specs.Text.{pair_text, pair_words, reason_words};
 
 use crate::escape::unescaped;
-use crate::fits::pair_fits;
 use crate::pair::{Pair, Reason};
 use crate::place::Place;
 use mcv_base::Position;
@@ -239,8 +239,7 @@ fn pair_of_words(
         era,
         leaf,
     };
-    let pair = Pair { place, reason };
-    pair_fits(&pair);
+    let pair = Pair::new(place, reason);
     Ok(Some(pair))
 }
 

@@ -1,7 +1,7 @@
-//! Where a leaf is. What it means: `place_of` of specs/Pair.antt.
+//! Where a leaf is. What it means: `place_of` of specs/Place.antt.
 
 ghost use Rattle.std.specs.Prelude.{◌≡◌, IfOk};
-ghost use Rattle.mcv_cert.specs.Pair.{place_cmp, place_of};
+ghost use Rattle.mcv_cert.specs.Place.{place_cmp, place_of};
 
 use mcv_base::Position;
 use std::alloc::{AllocError, Global};
@@ -22,7 +22,7 @@ pub struct Place {
 
 impl Place {
     /// How the two come in a certificate: by route, class, era and leaf.
-    #[tactic(auto, unfolding(crate::specs::Pair::place_cmp))]
+    #[tactic(auto, unfolding(crate::specs::Place::place_cmp))]
     pub fn compare(&self, other: &Place) -> Ordering
         ensures { result ≡ place_cmp (place_of self.now) (place_of other.now) }
     {

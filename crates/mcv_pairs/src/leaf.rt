@@ -19,15 +19,13 @@ use std::alloc::{AllocError, Global};
 fn pair_with(alloc: Global, block: &Block, leaf: &Leg, reason: Reason) -> Result<Pair, AllocError>
     ensures { IfOk result (λ p. pair_of p ≡ pair_with (block_of block.now) (leg_of leaf.now) (reason_of reason)) }
 {
-    Ok(Pair {
-        place: Place {
-            route: block.spot.route,
-            class: Vec::from_slice(alloc, block.spot.class)?,
-            era: block.spot.era,
-            leaf: leaf.position.copy(alloc)?,
-        },
-        reason,
-    })
+    let place = Place {
+        route: block.spot.route,
+        class: Vec::from_slice(alloc, block.spot.class)?,
+        era: block.spot.era,
+        leaf: leaf.position.copy(alloc)?,
+    };
+    Ok(Pair::new(place, reason))
 }
 
 /// Adds a pair for each index of a leaf that has no reason for all of them, or gives the first index without a reason.

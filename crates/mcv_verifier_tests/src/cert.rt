@@ -115,10 +115,7 @@ fn all(alloc: Global, index: usize) -> Result<Reason, AllocError> {
 
 /// The pair of the leaf 1 with this reason.
 fn pair(alloc: Global, reason: Reason) -> Result<Pair, AllocError> {
-    Ok(Pair {
-        place: place(alloc)?,
-        reason,
-    })
+    Ok(Pair::new(place(alloc)?, reason))
 }
 
 fn push_next(

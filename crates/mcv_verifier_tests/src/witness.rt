@@ -149,7 +149,10 @@ fn empty(alloc: Global) -> Finding {
 /// Takes in where the finding of a case is.
 fn set_place(alloc: Global, finding: &mut Finding, case: &str) -> Result<(), Fail> {
     finding.place.route = word(case, 1)?.parse::<usize>()?;
-    finding.place.class.extend_from_slice(class(word(case, 2)?))?;
+    finding
+        .place
+        .class
+        .extend_from_slice(class(word(case, 2)?))?;
     finding.place.era = word(case, 3)?.parse::<usize>()?;
     finding.key.extend_from_slice(word(case, 4)?.as_bytes())?;
     finding.place.leaf = position(alloc, word(case, 5)?)?;
