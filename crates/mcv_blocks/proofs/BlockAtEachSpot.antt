@@ -109,7 +109,7 @@ readable-leaves t rest since =
     let get = leaves (hits (plan t (asked Get rest since))) in
     let gets = leaves (hits (plan t (asked Gets rest since))) in (
       merge get gets,
-      merged_leaves t (CanHit t Get rest since) (CanHit t Gets rest since) (IsReadableAt t rest since) (λ p h. (Get, refl, h)) (λ p h. (Gets, refl, h)) (either_hit t rest since) get gets (hit-leaves t Get rest since) (hit-leaves t Gets rest since),
+      merged_leaves t (CanHit t Get rest since) (CanHit t Gets rest since) (IsReadableAt t rest since) (λ p h. (Get, refl, h.0, h.1)) (λ p h. (Gets, refl, h.0, h.1)) (either_hit t rest since) get gets (hit-leaves t Get rest since) (hit-leaves t Gets rest since),
     )
 
 can-or-never : (t : Tree) (rest : List ℕ) (since : Option ℕ) (x : Outcome) → if_all Good (plan t (asked Delete rest since)) ≡ x → (can : Bool) × ((can ≡ false) ↔ IsNeverAcknowledged t rest since)

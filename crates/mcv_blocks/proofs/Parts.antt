@@ -101,7 +101,7 @@ module _ (value : SetsValue) (delete get gets : CaseValue) (are : AreCases delet
       let one = hit-leaves (record delete { op = Get }) first (subst (λ k. AreHits k first) are.getting h) in
       let other = hit-leaves (record delete { op = Gets }) second (subst (λ k. AreHits k second) are.getting_all g) in
       let both =
-      merged_leaves t (λ p. (c : Choice) × CanHitAt t (asked Get rest since) c p) (λ p. (c : Choice) × CanHitAt t (asked Gets rest since) c p) (IsReadableAt t rest since) (λ p x. (Get, refl, x)) (λ p x. (Gets, refl, x)) (either_hit t rest since)
+      merged_leaves t (λ p. (c : Choice) × CanHitAt t (asked Get rest since) c p) (λ p. (c : Choice) × CanHitAt t (asked Gets rest since) c p) (IsReadableAt t rest since) (λ p x. (Get, refl, x.0, x.1)) (λ p x. (Gets, refl, x.0, x.1)) (either_hit t rest since)
       (leaves_of first) (leaves_of second) one other in
       subst (λ (v : SetsValue). AreLeavesAt v.tree (IsReadableAt v.tree v.rest v.since) all) seen (subst (AreLeavesAt t (IsReadableAt t rest since)) (sym is) both)
 

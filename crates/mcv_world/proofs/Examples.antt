@@ -261,7 +261,7 @@ abbrev delete_call : Call
 delete_call = record { op = Delete; route = 0; rest = 97 ∷ []; since = None; choice = 0 ∷ []; recorded = record { position = 0 ∷ []; reply = deleted } ∷ []; taken = false }
 
 get_is_answered_elsewhere : IsReadable (apart 5 7) (97 ∷ []) None (choice_of delete_call) 7
-get_is_answered_elsewhere = (Get, refl, outcomes ((1 ∷ [], Good) ∷ []), ((1 ∷ [], Good) ∷ [], (inl refl, refl, tt), λ p. refl), inl (refl, inl refl))
+get_is_answered_elsewhere = (Get, refl, (outcomes ((1 ∷ [], Good) ∷ []), ((1 ∷ [], Good) ∷ [], (inl refl, refl, tt), λ p. refl), inl (refl, inl refl)))
 
 no_error : outcome_of deleted ≢ Error
 no_error e = cc
