@@ -142,7 +142,7 @@ module _ (r : RoutesValue) (sound : IsSoundRoutes r) (f : FindingValue) (b : Bre
   -- the leaf can be read at the member too
   readable : IsReadableAt t rest since f.place.leaf
   readable =
-      (f.op, b.read.reading, chosen f, outcomes f.gets, alike_reachable t b.rest rest alike f.op since (chosen f) (outcomes f.gets) b.read.reachable, alike_hit t b.rest rest alike f.op since (outcomes f.gets) f.place.leaf b.read.hit)
+      (f.op, b.read.reading, chosen f, (outcomes f.gets, alike_reachable t b.rest rest alike f.op since (chosen f) (outcomes f.gets) b.read.reachable, alike_hit t b.rest rest alike f.op since (outcomes f.gets) f.place.leaf b.read.hit))
 
   leaf : (l : LegValue) × Contains block.0.readable l × (l.position ≡ f.place.leaf)
   leaf = leg_there t (IsReadableAt t rest since) block.0.readable has.readable f.place.leaf readable
