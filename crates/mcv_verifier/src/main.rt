@@ -26,8 +26,6 @@ fn main(rt: HostRuntime) -> ExitCode {
 struct NoProxy;
 
 impl Proxy for NoProxy {
-    ghost use Rattle.std.specs.Prelude.{⊥};
-
     ghost serves = { λ _ _ _ _ _ _ _. ⊥ };
 
     fn serve<W: Write>(
