@@ -1,13 +1,12 @@
 //! Events that are drawn.
 
-use crate::amiss::Amiss;
 use crate::model::{Model, Stage};
+use crate::setup::{bytes, shared};
 use mcv_base::{FixedReply, Op, Parts, Reply, ServerId};
-use std::alloc::Global;
-use std::sync::Arc;
+use std::process::Abort;
 
 /// What a server says to a leg.
-#[derive(Clone, Copy, Debug, PartialEq, Eq)]
+#[derive(Clone, Copy)]
 pub(crate) enum Say {
     /// A value, its unique number with it.
     Hit(Option<u64>),
@@ -17,7 +16,7 @@ pub(crate) enum Say {
 }
 
 /// An event, before its parts are made. Keys, legs and calls have their numbers.
-#[derive(Clone, Copy, Debug, PartialEq, Eq)]
+#[derive(Clone, Copy)]
 pub(crate) enum Deed {
     Begin(Op, usize),
     Next(ServerId),
@@ -35,7 +34,7 @@ pub(crate) enum Deed {
 }
 
 /// A linear congruential generator (Knuth, MMIX), of which the upper bits are used.
-#[derive(Clone, Copy, Debug, PartialEq, Eq)]
+#[derive(Clone, Copy)]
 pub(crate) struct Dice {
     state: u64,
 }
@@ -84,24 +83,26 @@ impl Dice {
 
 impl Say {
     /// The reply. A value or an error line names its leg.
-    pub(crate) fn parts(self, alloc: Global, leg: usize) -> Result<Parts, Amiss> {
-        let mut bytes = Vec::new(alloc);
-        bytes.extend_from_slice(&(leg as u64).to_be_bytes())?;
-        Ok(match self {
-            Say::Hit(cas) => {
-                let body = Arc::new(alloc, bytes)?;
-                Parts::new(
-                    alloc,
-                    Reply::Hit {
-                        flags: 1,
-                        cas,
-                        body,
-                    },
-                )?
-            }
-            Say::Fault => Parts::new(alloc, Reply::Fault(bytes))?,
-            Say::Short(reply) => Parts::fixed(reply),
-        })
+    fn reply(self, rt: &(impl AllocGlobal + Abort), leg: usize) -> Option<Reply> {
+        let text = (leg as u64).to_be_bytes();
+        match self {
+            Say::Hit(cas) => Some(Reply::Hit {
+                flags: 1,
+                cas,
+                body: shared(rt, &text),
+            }),
+            Say::Fault => Some(Reply::Fault(bytes(rt, &text))),
+            Say::Short(_) => None,
+        }
+    }
+
+    /// The same, as the core takes it.
+    pub(crate) fn parts(self, rt: &(impl AllocGlobal + Abort), leg: usize) -> Parts {
+        if let Say::Short(reply) = self {
+            return Parts::fixed(reply);
+        }
+        let reply = self.reply(rt, leg).expect(rt, "a reply");
+        Parts::new(rt.alloc(), reply).expect(rt, "memory")
     }
 
     /// That it was done, or found.

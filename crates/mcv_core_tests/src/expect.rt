@@ -1,6 +1,5 @@
 //! What the model expects the core to answer.
 
-use crate::amiss::Amiss;
 use crate::draw::{Deed, Say};
 use crate::model::{Call, Model, Stage};
 use crate::readable::has_outcome;
@@ -8,10 +7,10 @@ use mcv_base::{Moment, Outcome, Part, Reply, ServerId};
 use mcv_core::{Answer, CoreFault, LegState};
 use mcv_route::Answered;
 use mcv_rules::{Source, Status};
-use std::alloc::Global;
+use std::process::Abort;
 
 /// What the core is to answer.
-#[derive(Clone, Copy, Debug, PartialEq, Eq)]
+#[derive(Clone, Copy)]
 pub(crate) enum Expected {
     Call(usize),
     Leg(usize),
@@ -138,13 +137,12 @@ impl Model<'_> {
     }
 
     /// An error of a server, or what no server says to the leg's operation, is a failure.
-    fn is_failure(&self, alloc: Global, leg: usize, say: Say) -> Result<bool, Amiss> {
-        let parts = say.parts(alloc, leg)?;
-        let failed = match self.legs.get(leg) {
-            Some(leg) => !parts.may_answer(leg.launch.op),
+    fn is_failure(&self, rt: &(impl AllocGlobal + Abort), leg: usize, say: Say) -> bool {
+        let parts = say.parts(rt, leg);
+        match self.legs.get(leg) {
+            Some(leg) => !parts.may_answer(leg.launch.op) || parts.outcome() == Outcome::Error,
             None => true,
-        };
-        Ok(failed || parts.outcome() == Outcome::Error)
+        }
     }
 
     /// A held leg is in this state then.
@@ -155,38 +153,46 @@ impl Model<'_> {
         }
     }
 
-    fn of_take(&self, alloc: Global, number: usize) -> Result<Expected, Amiss> {
-        let Some(call) = self.calls.get(number) else {
-            return Ok(Expected::Refused(CoreFault::NoSuchCall));
-        };
-        if self.has_ended(number, call) {
-            return Ok(Expected::Refused(CoreFault::NoSuchCall));
+    fn of_take(&self, rt: &(impl AllocGlobal + Abort), number: usize) -> Expected {
+        match self.calls.get(number) {
+            Some(call) if !self.has_ended(number, call) => {
+                Expected::Reply(number, self.source(rt, call))
+            }
+            _ => Expected::Refused(CoreFault::NoSuchCall),
         }
-        let source = match self.status(alloc, call)? {
+    }
+
+    /// Where the call's reply is; None where there is none to be taken.
+    fn source(&self, rt: &(impl AllocGlobal + Abort), call: &Call) -> Option<Source> {
+        match self.status(rt, call) {
             Status::Replied(source) if !call.taken => Some(source),
             _ => None,
-        };
-        Ok(Expected::Reply(number, source))
+        }
     }
 
     /// What the core is to answer.
-    pub(crate) fn expected(&self, alloc: Global, deed: Deed) -> Result<Expected, Amiss> {
-        Ok(match deed {
+    pub(crate) fn expected(&self, rt: &(impl AllocGlobal + Abort), deed: Deed) -> Expected {
+        match deed {
             Deed::Begin(_, key) => self.of_begin(key),
             Deed::Next(server) => self.of_sending(server, Stage::Waiting),
             Deed::Replay(server) => self.of_sending(server, Stage::Spooled),
-            Deed::Answered(leg, say) => { self.of_landing(leg, self.is_failure(alloc, leg, say)?) }
+            Deed::Answered(leg, say) => self.of_landing(leg, self.is_failure(rt, leg, say)),
             Deed::Lost(leg) => self.of_landing(leg, true),
             Deed::Spooled(leg, own) => self.of_spool(leg, own, LegState::Spooled),
             Deed::SpoolRefused(leg) => self.of_spool(leg, true, LegState::Held),
             Deed::Mark(_) | Deed::Unmark(_) => Expected::Done,
-            Deed::Clock(moment) if Moment(moment) < self.moment => {
-                Expected::Refused(CoreFault::ClockBack)
-            }
-            Deed::Clock(_) => Expected::Done,
+            Deed::Clock(moment) => self.of_clock(moment),
             Deed::Turn if self.is_quiet() => Expected::Done,
             Deed::Turn => Expected::Refused(CoreFault::Busy),
-            Deed::Take(call) => self.of_take(alloc, call)?,
-        })
+            Deed::Take(call) => self.of_take(rt, call),
+        }
+    }
+
+    fn of_clock(&self, moment: u64) -> Expected {
+        if Moment(moment) < self.moment {
+            Expected::Refused(CoreFault::ClockBack)
+        } else {
+            Expected::Done
+        }
     }
 }

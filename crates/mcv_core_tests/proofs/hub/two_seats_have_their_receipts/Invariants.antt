@@ -1,4 +1,4 @@
-use Rattle.mcv_hub_tests.proofs.rows.two_seats_have_their_receipts.Given as goal
+use Rattle.mcv_core_tests.proofs.hub.two_seats_have_their_receipts.Given as goal
 
 -- the ledgers are those that the two blanks open
 abbrev pub ghosts-two_seats-B-Ledger : goal.ghosts-two_seats-B-Ledger
