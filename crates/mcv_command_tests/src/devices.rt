@@ -32,6 +32,9 @@ pub fn is_written(text: &str, wanted: &str, status: u8, wanted_status: u8) -> bo
 /// The lines that were written, with slashes between them.
 pub fn joined(rt: &(impl AllocGlobal + Abort), output: Vec<u8>) -> String {
     let output = String::from_utf8(output).expect(rt, "a text");
-    let lines = output.as_str().strip_suffix('\n').unwrap_or(output.as_str());
+    let lines = output
+        .as_str()
+        .strip_suffix('\n')
+        .unwrap_or(output.as_str());
     lines.replace(rt.alloc(), "\n", " / ").expect(rt, "memory")
 }
