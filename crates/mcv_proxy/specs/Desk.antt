@@ -1,10 +1,11 @@
 -- What a desk over a hub answers, by the replies that it took of the hub (own).
-use Rattle.std.specs.Prelude.{◌≡◌, ◌≢◌, ◌+◌, ◌≤◌, ◌++◌, ◌∷◌, ℕ, List, [], Option, None, Some, Result, IfOk, IfErr, true, ⊤, fold, length, map, nat_le, option_map, slice_get}
+use Rattle.std.specs.Prelude.{◌≡◌, ◌≢◌, ◌+◌, ◌≤◌, ◌++◌, ◌∷◌, ℕ, List, [], Option, None, Some, Result, IfOk, IfErr, IfSome, true, ⊤, fold, length, map, nat_le, option_map, slice_get, take}
 use Rattle.std.specs.List.{All, filter}
 use Rattle.mcv_base.specs.Key.{IsCut, IsKeyFault, is_key_word}
 use Rattle.mcv_base.specs.Reply.{ReplyValue, part_value}
 use Rattle.mcv_base.specs.declared.key.KeyFault.{KeyFault}
 use Rattle.mcv_base.specs.declared.operation.Op.{Op}
+use Rattle.mcv_base.specs.declared.request.CallId.{CallId}
 use Rattle.mcv_core.specs.View.{core_view}
 use Rattle.mcv_core.specs.declared.fault.CoreFault.{CoreFault}
 use Rattle.mcv_core.specs.declared.fault.CoreFault.TheVariants.{UnknownPrefix, BadKey, LegsFull, ChapterFull, NothingWaiting, NoSuchLeg, Busy, ClockBack, Memory, NoSuchCall}
@@ -70,6 +71,15 @@ pub record WasTaken (t : TakenReply) : Type 0 where
   pub reply : Replies state t.receipt.call.0 (part_value t.reply)
   pub chapter : t.receipt.chapter ≡ state.chapter
   pub entry : t.receipt.entry ≡ length state.history
+
+-- the replies to the first calls, this many of which are done with, were taken, in their order; where one of them won't come it is
+-- missed, and they are fewer
+pub record AreTaken (calls : List CallId) (done : ℕ) (missed : Option CoreFault) (taken : List TakenReply) : Type 0 where
+  pub within : done ≤ length calls
+  pub most : length taken ≤ done
+  pub each : All WasTaken taken
+  pub all : missed ≡ None → map (λ t. t.receipt.call) taken ≡ take done calls
+  pub stranger : IfSome missed (λ fault. fault ≡ NoSuchCall)
 
 -- the reply is for the key of this number: its call asked the operation of the request, of the key's route and rest
 pub record IsFor (r : RoutesValue) (request : RequestValue) (key : ℕ) (t : TakenReply) : Type 0 where

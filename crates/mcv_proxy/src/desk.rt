@@ -1,12 +1,13 @@
 //! The desk over a hub: a request's keys are calls of the hub.
 
-ghost use Rattle.std.specs.Prelude.{◌≡◌, ◌↔◌, ◌+◌, ◌<◌, ◌≤◌, [], None, fold, length, map, nat_le, option_map, take, vec_len, vec_capacity, true, IfErr, IfNone, IfOk, IfSome, OnErr, OnOk};
+ghost use Rattle.std.specs.Prelude.{◌≡◌, ◌↔◌, ◌+◌, ◌<◌, ◌≤◌, [], fold, length, map, nat_le, option_map, vec_len, vec_capacity, true, IfErr, IfNone, IfOk, IfSome, OnErr, OnOk};
 ghost use Rattle.std.specs.Arc.{arc_value};
 ghost use Rattle.std.specs.List.{All, filter};
 ghost use Rattle.mcv_text.specs.Request.{request_value};
 ghost use Rattle.mcv_session.specs.Desk.{keys_of};
-ghost use Rattle.mcv_proxy.specs.Desk.{AreFor, Asks, IsFor, IsRefusal, IsRouted, IsUnanswered, IsUnbegun, IsUnrouted, WasTaken, desk_fault, with_receipt, word_at};
+ghost use Rattle.mcv_proxy.specs.Desk.{AreFor, AreTaken, Asks, IsFor, IsRefusal, IsRouted, IsUnanswered, IsUnbegun, IsUnrouted, WasTaken, desk_fault, with_receipt, word_at};
 
+use crate::agenda::Agenda;
 use crate::errands::Errands;
 use crate::events;
 use crate::gates::{Link, Watch};
@@ -235,13 +236,13 @@ impl Patience {
 /// Begins a call. Where the chapter has no place for it, a new chapter begins first. The first key of a request waits for
 /// that a second at most, while calls run or legs are queued; for another one the request's own calls run, so it is
 /// refused.
-fn begin_in_chapter<'a, B: Ledger, T: Ledger, L: Link, R: Wait + Clock>(
+fn begin_in_chapter<'a, B: Ledger, T: Ledger, R: Wait + Clock>(
     rt: &R,
     alloc: Global,
     hub: &Hub<B, T>,
     guard: Guard<'a, B, T>,
     seat: &mut Seat<B, T>,
-    errands: &mut Errands<'_, B, T, L>,
+    agenda: &mut Agenda<'_, B, T>,
     request: &Arc<Request>,
     key: usize,
 ) -> (Guard<'a, B, T>, Result<CallId, CoreFault>)
@@ -256,7 +257,7 @@ fn begin_in_chapter<'a, B: Ledger, T: Ledger, L: Link, R: Wait + Clock>(
         let Ok(request) = Arc::try_clone(request) else {
             return (guard, Err(CoreFault::Memory));
         };
-        match events::begin(alloc, &mut errands.agenda, &mut guard, seat, request, key) {
+        match events::begin(alloc, agenda, &mut guard, seat, request, key) {
             Err(CoreFault::ChapterFull) => {}
             answer => return (guard, answer),
         }
@@ -272,13 +273,13 @@ fn begin_in_chapter<'a, B: Ledger, T: Ledger, L: Link, R: Wait + Clock>(
 }
 
 /// Begins the calls for the keys of a request, in their order, up to the first that is refused.
-fn begin_each<'a, B: Ledger, T: Ledger, L: Link, R: Wait + Clock>(
+fn begin_each<'a, B: Ledger, T: Ledger, R: Wait + Clock>(
     rt: &R,
     alloc: Global,
     hub: &Hub<B, T>,
     guard: Guard<'a, B, T>,
     seat: &mut Seat<B, T>,
-    errands: &mut Errands<'_, B, T, L>,
+    agenda: &mut Agenda<'_, B, T>,
     routes: &Routes,
     request: &Arc<Request>,
     count: usize,
@@ -294,7 +295,7 @@ fn begin_each<'a, B: Ledger, T: Ledger, L: Link, R: Wait + Clock>(
 {
     let mut guard = guard;
     for key in 0..count {
-        let (next, begun) = begin_in_chapter(rt, alloc, hub, guard, seat, errands, request, key);
+        let (next, begun) = begin_in_chapter(rt, alloc, hub, guard, seat, agenda, request, key);
         guard = next;
         match begun {
             Ok(call) => calls.push_reserved(call),
@@ -331,18 +332,11 @@ fn take_ready<B: Ledger, T: Ledger>(
     progress: Progress,
     taken: &mut Vec<TakenReply>,
 ) -> Progress
-    requires within { progress.done ≤ length calls.now }
+    requires so_far { AreTaken calls.now progress.done progress.missed taken.old.items }
     requires room { length calls.now ≤ vec_capacity taken.old }
-    requires few { vec_len taken.old ≤ progress.done }
-    requires each { All WasTaken taken.old.items }
-    requires calls { progress.missed ≡ None → map (λ t. t.receipt.call) taken.old.items ≡ take progress.done calls.now }
-    requires missed { IfSome progress.missed (λ fault. fault ≡ CoreFault.NoSuchCall) }
-    ensures on { (progress.done ≤ result.done) × (result.done ≤ length calls.now) }
-    ensures most { vec_len taken.new ≤ result.done }
+    ensures so_far { AreTaken calls.now result.done result.missed taken.new.items }
+    ensures on { progress.done ≤ result.done }
     ensures room { vec_capacity taken.new ≡ vec_capacity taken.old }
-    ensures each { All WasTaken taken.new.items }
-    ensures calls { result.missed ≡ None → map (λ t. t.receipt.call) taken.new.items ≡ take result.done calls.now }
-    ensures missed { IfSome result.missed (λ fault. fault ≡ CoreFault.NoSuchCall) }
     ensures counted { seat.new.taken.amount + vec_len taken.old ≡ seat.old.taken.amount + vec_len taken.new }
     ensures begun { seat.new.begun.amount ≡ seat.old.begun.amount }
 {
@@ -373,18 +367,11 @@ fn go_on<B: Ledger, T: Ledger, L: Link, R: Wait>(
     progress: Progress,
     taken: &mut Vec<TakenReply>,
 ) -> Progress
-    requires within { progress.done ≤ length calls.now }
+    requires so_far { AreTaken calls.now progress.done progress.missed taken.old.items }
     requires room { length calls.now ≤ vec_capacity taken.old }
-    requires few { vec_len taken.old ≤ progress.done }
-    requires each { All WasTaken taken.old.items }
-    requires calls { progress.missed ≡ None → map (λ t. t.receipt.call) taken.old.items ≡ take progress.done calls.now }
-    requires missed { IfSome progress.missed (λ fault. fault ≡ CoreFault.NoSuchCall) }
-    ensures on { (progress.done ≤ result.done) × (result.done ≤ length calls.now) }
-    ensures most { vec_len taken.new ≤ result.done }
+    ensures so_far { AreTaken calls.now result.done result.missed taken.new.items }
+    ensures on { progress.done ≤ result.done }
     ensures room { vec_capacity taken.new ≡ vec_capacity taken.old }
-    ensures each { All WasTaken taken.new.items }
-    ensures calls { result.missed ≡ None → map (λ t. t.receipt.call) taken.new.items ≡ take result.done calls.now }
-    ensures missed { IfSome result.missed (λ fault. fault ≡ CoreFault.NoSuchCall) }
     ensures counted { seat.new.taken.amount + vec_len taken.old ≡ seat.old.taken.amount + vec_len taken.new }
     ensures begun { seat.new.begun.amount ≡ seat.old.begun.amount }
 {
@@ -397,7 +384,7 @@ fn go_on<B: Ledger, T: Ledger, L: Link, R: Wait>(
             events::turn_where_full(&mut errands.agenda, &mut guard);
             return progress;
         };
-        let has_lost = errands.set_off(rt, alloc, lanes, &mut guard, calls, *call);
+        let has_lost = errands.set_off(rt, alloc, lanes, &mut guard, calls, Some(*call));
         if errands.have_flight() {
             return progress;
         }
@@ -489,6 +476,13 @@ fn into_parts(taken: Vec<TakenReply>, parts: Vec<Part>) -> Vec<Part>
 }
 
 impl<'a, B: Ledger, T: Ledger, L: Link, W: Watch, R: Wait + Clock> Caller<'a, B, T, L, W, R> {
+    /// Its seat.
+    fn into_seat(self) -> Seat<B, T>
+        ensures { result ≡ self.entry.seat }
+    {
+        self.seat
+    }
+
     /// Begins the calls for the keys of a request at this moment, in their order, up to the first that is refused, and puts a
     /// leg of theirs in flight where that can be done at once.
     fn begin_all(
@@ -512,11 +506,12 @@ impl<'a, B: Ledger, T: Ledger, L: Link, W: Watch, R: Wait + Clock> Caller<'a, B,
         // A moment before the hub's leaves its era as it is.
         let _ = guard.clock(moment);
         let seat = &mut self.seat;
-        let errands = &mut self.errands;
+        let agenda = &mut self.errands.agenda;
         let (mut guard, begun) = begin_each(
-            rt, alloc, hub, guard, seat, errands, routes, request, count, calls,
+            rt, alloc, hub, guard, seat, agenda, routes, request, count, calls,
         );
-        errands.set_off_at_once(rt, alloc, lanes, &mut guard, calls.as_slice());
+        self.errands
+            .set_off(rt, alloc, lanes, &mut guard, calls.as_slice(), None);
         begun
     }
 
@@ -527,18 +522,11 @@ impl<'a, B: Ledger, T: Ledger, L: Link, W: Watch, R: Wait + Clock> Caller<'a, B,
         progress: Progress,
         taken: &mut Vec<TakenReply>,
     ) -> Progress
-        requires within { progress.done ≤ length calls.now }
+        requires so_far { AreTaken calls.now progress.done progress.missed taken.old.items }
         requires room { length calls.now ≤ vec_capacity taken.old }
-        requires few { vec_len taken.old ≤ progress.done }
-        requires each { All WasTaken taken.old.items }
-        requires calls { progress.missed ≡ None → map (λ t. t.receipt.call) taken.old.items ≡ take progress.done calls.now }
-        requires missed { IfSome progress.missed (λ fault. fault ≡ CoreFault.NoSuchCall) }
-        ensures on { (progress.done ≤ result.done) × (result.done ≤ length calls.now) }
-        ensures most { vec_len taken.new ≤ result.done }
+        ensures so_far { AreTaken calls.now result.done result.missed taken.new.items }
+        ensures on { progress.done ≤ result.done }
         ensures room { vec_capacity taken.new ≡ vec_capacity taken.old }
-        ensures each { All WasTaken taken.new.items }
-        ensures calls { result.missed ≡ None → map (λ t. t.receipt.call) taken.new.items ≡ take result.done calls.now }
-        ensures missed { IfSome result.missed (λ fault. fault ≡ CoreFault.NoSuchCall) }
         ensures counted { self.new.seat.taken.amount + vec_len taken.old ≡ self.old.seat.taken.amount + vec_len taken.new }
         ensures begun { self.new.seat.begun.amount ≡ self.old.seat.begun.amount }
     {
@@ -628,7 +616,7 @@ impl<'a, B: Ledger, T: Ledger, L: Link, W: Watch, R: Wait + Clock> HubDesk<'a, B
             caller,
             kept,
         } = self;
-        (caller.seat, kept.receipts)
+        (caller.into_seat(), kept.receipts)
     }
 
     /// Takes a reply for each key of a request, in the order of the keys, and keeps their receipts. All calls are begun before
