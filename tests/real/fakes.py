@@ -2,10 +2,12 @@
 import socket
 import threading
 
+from listening import Listening
+
 PERFORM, REFUSE, DROP, PERFORM_AND_DROP, SILENCE = "perform", "refuse", "drop", "perform and drop", "silence"
 
 
-class Fake:
+class Fake(Listening):
     """A server with a thread for each connection. It keeps the keys of the deletes that it performed. The mood gives for
     each request what is to be done with it; `replies` may have another text for the first word of a request."""
 
@@ -15,22 +17,14 @@ class Fake:
         self.performed = set()
         self.requests = []
         self.connections = set()
-        self.listener = socket.create_server((host, 0), backlog=64)
-        self.text = "%s:%d" % self.listener.getsockname()[:2]
-        threading.Thread(target=self.accept, daemon=True).start()
+        super().__init__(host)
 
-    def accept(self):
-        while True:
-            try:
-                connection, _ = self.listener.accept()
-            except OSError:
-                return
-            self.connections.add(connection)
-            threading.Thread(target=self.serve, args=(connection,), daemon=True).start()
+    def begin(self, connection):
+        self.connections.add(connection)
+        threading.Thread(target=self.serve, args=(connection,), daemon=True).start()
 
     def serve(self, connection):
         try:
-            connection.setsockopt(socket.IPPROTO_TCP, socket.TCP_NODELAY, 1)
             with connection, connection.makefile("rb") as lines:
                 for line in lines:
                     if not self.answered(connection, lines, line.split()):
@@ -66,11 +60,7 @@ class Fake:
         return True
 
     def close(self):
-        try:
-            self.listener.shutdown(socket.SHUT_RDWR)
-        except OSError:
-            pass
-        self.listener.close()
+        super().close()
         for connection in list(self.connections):
             try:
                 connection.shutdown(socket.SHUT_RDWR)

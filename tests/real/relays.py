@@ -2,6 +2,8 @@
 import socket
 import threading
 
+from listening import Listening
+
 # memccapable ends most of its cases with lines that no client sends in earnest, to see that a server takes them. mcv answers
 # each with `CLIENT_ERROR bad command line` and closes, as docs/PROTOCOL.md has it. What the relay hands on in their place,
 # or answers itself as memcached does; every other byte passes through.
@@ -9,27 +11,19 @@ HANDED_ON = {b"version foo bar\r\n": b"version\r\n", b"version noreply\r\n": b"v
 ANSWERED = {b"get\r\n": b"ERROR\r\n", b"gets\r\n": b"ERROR\r\n", b"delete\r\n": b"ERROR\r\n", b"delete a b c d e\r\n": b"ERROR\r\n"}
 
 
-class Relay:
+class Relay(Listening):
     """Listens at `text`, and opens a connection to the proxy for each of its own. It keeps the lines that it changed."""
 
     def __init__(self, address):
         self.address = address
         self.changed = set()
-        self.listener = socket.create_server(("127.0.0.1", 0), backlog=64)
-        self.text = "%s:%d" % self.listener.getsockname()[:2]
-        threading.Thread(target=self.accept, daemon=True).start()
+        super().__init__()
 
-    def accept(self):
-        while True:
-            try:
-                client, _ = self.listener.accept()
-            except OSError:
-                return
-            proxy = socket.create_connection(self.address)
-            for end in (client, proxy):
-                end.setsockopt(socket.IPPROTO_TCP, socket.TCP_NODELAY, 1)
-            threading.Thread(target=self.requests, args=(client, proxy), daemon=True).start()
-            threading.Thread(target=self.replies, args=(proxy, client), daemon=True).start()
+    def begin(self, client):
+        proxy = socket.create_connection(self.address)
+        proxy.setsockopt(socket.IPPROTO_TCP, socket.TCP_NODELAY, 1)
+        threading.Thread(target=self.requests, args=(client, proxy), daemon=True).start()
+        threading.Thread(target=self.replies, args=(proxy, client), daemon=True).start()
 
     def requests(self, client, proxy):
         """Line by line: a client that waits for each answer sends none of these lines inside a value."""
@@ -54,10 +48,3 @@ class Relay:
             client.shutdown(socket.SHUT_RDWR)
         except OSError:
             pass
-
-    def close(self):
-        try:
-            self.listener.shutdown(socket.SHUT_RDWR)
-        except OSError:
-            pass
-        self.listener.close()

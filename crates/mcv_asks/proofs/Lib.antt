@@ -1,3 +1,3 @@
-pub mod Behind
-pub mod Heards
+pub mod PositionTails
+pub mod ReplyOfStatus
 mod Examples

@@ -2,7 +2,7 @@
 use Rattle.std.specs.Prelude.{◌==◌, ℕ, suc, List, [], ◌∷◌, Option, Some, None, option_and_then, option_map, if◌then◌else◌}
 use Rattle.std.specs.Option.{option_or}
 use Rattle.mcv_route.specs.Places.{child_at, children_of}
-use Rattle.mcv_route.specs.Tree.{Tree, pool, null, error, all_sync, all_initial, all_async, failover, miss_failover, warm_up, migrate, prefix_selector, operation_selector}
+use Rattle.mcv_route.specs.Tree.{Tree, pool, null, error, many, warm_up, migrate, prefix_selector, operation_selector}
 use Rattle.mcv_route.specs.View.{view}
 use Rattle.mcv_asks.specs.declared.warm_up.WarmUp.{WarmUp}
 
@@ -19,11 +19,7 @@ adding_at depth k (warm_up cold warm exptime) = if k == 2 then Some (record { de
 adding_at depth k (pool p ranges targets) = None
 adding_at depth k null = None
 adding_at depth k error = None
-adding_at depth k (all_sync ts) = None
-adding_at depth k (all_initial ts) = None
-adding_at depth k (all_async ts) = None
-adding_at depth k (failover ts) = None
-adding_at depth k (miss_failover ts) = None
+adding_at depth k (many kind ts) = None
 adding_at depth k (migrate from to start interval) = None
 adding_at depth k (prefix_selector prefixes ts) = None
 adding_at depth k (operation_selector ops ts) = None

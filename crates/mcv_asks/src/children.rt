@@ -15,11 +15,7 @@ pub fn child_of(route: &Route, number: usize) -> Option<&Route>
         Route::Pool { leaf: _, shadows } => shadow_target(shadows, number),
         Route::Null => None,
         Route::Error => None,
-        Route::AllSync(children) => children.get(number),
-        Route::AllInitial(children) => children.get(number),
-        Route::AllAsync(children) => children.get(number),
-        Route::Failover(children) => children.get(number),
-        Route::MissFailover(children) => children.get(number),
+        Route::Many(_, children) => children.get(number),
         Route::WarmUp {
             cold,
             warm,

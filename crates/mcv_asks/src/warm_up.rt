@@ -62,11 +62,7 @@ fn adding(handle: &Route, depth: usize, step: usize) -> Option<WarmUp<'_>>
         } => None,
         Route::Null => None,
         Route::Error => None,
-        Route::AllSync(_) => None,
-        Route::AllInitial(_) => None,
-        Route::AllAsync(_) => None,
-        Route::Failover(_) => None,
-        Route::MissFailover(_) => None,
+        Route::Many(_, _) => None,
         Route::Migrate {
             from: _,
             to: _,

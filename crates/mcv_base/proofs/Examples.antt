@@ -7,7 +7,7 @@ use Rattle.mcv_base.specs.Key.{IsCut, IsHashedCut, IsName, IsRest, IsRoutingPref
 use Rattle.mcv_base.specs.Position.{position_text}
 use Rattle.mcv_base.specs.Server.{is_host, is_port, is_server}
 use Rattle.mcv_base.specs.declared.key.KeyFault.TheVariants.{NoRest}
-use Rattle.mcv_base.proofs.Hashed.{hashed_is_cut, one_hashed_cut}
+use Rattle.mcv_base.proofs.HashedPart.{hashed_is_cut, one_hashed_cut}
 use Rattle.mcv_base.proofs.Prefixes.{unrouted_by_byte}
 
 a_name : IsName (codes "a")

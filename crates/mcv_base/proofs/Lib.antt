@@ -1,6 +1,6 @@
 pub mod Cuts
 pub mod Prefixes
-pub mod Hashed
+pub mod HashedPart
 pub mod Texts
 pub mod Colon
 mod Examples

@@ -11,29 +11,31 @@ use Rattle.mcv_base.specs.declared.operation.Op.TheVariants.{Get, Gets, Delete}
 use Rattle.mcv_base.specs.declared.reply.Outcome.{Outcome}
 use Rattle.mcv_base.specs.declared.reply.Outcome.TheVariants.{Good, Error}
 use Rattle.mcv_pools.specs.declared.symbol.HashFunc.TheVariants.{Ch3}
+use Rattle.mcv_symbolic.specs.Sets.{CanHitAt}
+use Rattle.mcv_route.proofs.Readings.{get_or_gets}
 use Rattle.mcv_route.specs.Outcomes.{Choice}
 use Rattle.mcv_route.specs.Places.{pool_at_position}
 use Rattle.mcv_route.specs.Routes.{IsSoundRoutes, IsSoundTree, RouteEntry, RoutesValue}
 use Rattle.mcv_route.specs.Situation.{asked, under}
-use Rattle.mcv_route.specs.Tree.{Pool, Tree, pool, all_sync, operation_selector, none, child}
+use Rattle.mcv_route.specs.Tree.{Pool, Tree, pool, many, AllSync, operation_selector, none, child}
 use Rattle.mcv_rules.specs.Plan.{Leg}
 use Rattle.mcv_rules.specs.Plans as plans
 use Rattle.mcv_classes.specs.Class.{IsFree}
 use Rattle.mcv_classes.specs.Words.{class_words}
-use Rattle.mcv_route.specs.Eras.{IsEra}
-use Rattle.mcv_symbolic.specs.Covered.{AreCovered}
-use Rattle.mcv_symbolic.specs.Justified.{IsNeverAcknowledged, IsReadableAt}
+use Rattle.mcv_route.specs.Eras.{IsEra, IsEraOf}
+use Rattle.mcv_symbolic.specs.CoveredRoutes.{AreCovered}
+use Rattle.mcv_symbolic.specs.JustifiedRoutes.{IsNeverAcknowledged, IsReadableAt}
 use Rattle.mcv_symbolic.proofs.Exactness.{acknowledged_is_exact, done_is_exact, hits_are_exact}
-use Rattle.mcv_symbolic.proofs.Whole.{covered_by_members}
-use Rattle.mcv_cert.specs.Pair.{AreRising, PairValue, all, list_cmp}
+use Rattle.mcv_symbolic.proofs.CoveredByMembers.{covered_by_members}
+use Rattle.mcv_cert.specs.Pair.{AreRising, PairValue, SpotValue, all, list_cmp}
 use Rattle.mcv_judge.specs.Answers.{AnswersAll, IsAnswer}
 use Rattle.mcv_judge.specs.Faults.{AreInOrder, AreLegsRising, IsFaultless, IsInOrder}
 use Rattle.mcv_judge.specs.Reason.{BlockValue, LegValue, is_whole}
-use Rattle.mcv_judge.proofs.Answered.{answered_faultless}
-use Rattle.mcv_blocks.specs.Blocks.{AreBlocksOf, AreLeavesAt, HasBlockFor, IsAcknowledgedAt, IsBlockOf, IsJustifiedBy, IsPlaceOf, pool_for}
+use Rattle.mcv_judge.proofs.AnsweringPairs.{answered_faultless}
+use Rattle.mcv_blocks.specs.Blocks.{AreBlocksOf, AreLeavesAt, HasBlockFor, IsAcknowledgedAt, IsBlockOf, IsJustifiedBy, IsSpotOf, pool_for}
 use Rattle.mcv_route.proofs.BreakTables.{era_there}
 use Rattle.mcv_route.proofs.RisingLists.{at_first, behind_first, first_or_behind, none_there}
-use Rattle.mcv_blocks.proofs.Sound.{justified_is_covered}
+use Rattle.mcv_blocks.proofs.JustifiedIsCovered.{justified_is_covered}
 
 -- ---- the configuration
 
@@ -47,7 +49,7 @@ abbrev second : Pool
 second = record { symbol = 1; servers = 1 ∷ [] }
 
 abbrev tree : Tree
-tree = operation_selector (Some Delete ∷ []) (child (all_sync (child (pool first [] none) (child (pool second [] none) none))) (child (pool hashed [] none) none))
+tree = operation_selector (Some Delete ∷ []) (child (many AllSync (child (pool first [] none) (child (pool second [] none) none))) (child (pool hashed [] none) none))
 
 abbrev entry : RouteEntry
 entry = record { aliases = []; tree = tree }
@@ -78,8 +80,11 @@ first_leg = record { position = 0 ∷ 0 ∷ []; symbol = 1; servers = 0 ∷ [] }
 abbrev second_leg : LegValue
 second_leg = record { position = 0 ∷ 1 ∷ []; symbol = 1; servers = 1 ∷ [] }
 
+abbrev spot : SpotValue
+spot = record { route = 0; class = []; era = 0 }
+
 abbrev block : BlockValue
-block = record { route = 0; class = []; era = 0; readable = leaf ∷ []; acknowledged = first_leg ∷ second_leg ∷ []; can_be_acknowledged = true }
+block = record { spot = spot; readable = leaf ∷ []; acknowledged = first_leg ∷ second_leg ∷ []; can_be_acknowledged = true }
 
 -- the member of the class of the empty word
 abbrev member : List ℕ
@@ -90,13 +95,13 @@ any s = 0
 
 readable_there : (p : List ℕ) → IsReadableAt tree member None p → (1 ∷ []) ≡ p
 readable_there p h =
-    elim h.1 [
-      | inl g ↦ let l = (hits_are_exact tree Get member None h.0 p).0 g in ap (λ (k : Leg). k.position) l.1 ∙ l.2
-      | inr g ↦ let l = (hits_are_exact tree Gets member None h.0 p).0 g in ap (λ (k : Leg). k.position) l.1 ∙ l.2
+    elim (get_or_gets (λ op. CanHitAt tree (asked op member None) h.2 p) h.0 h.1 h.3) [
+      | inl g ↦ let l = (hits_are_exact tree Get member None h.2 p).0 g in ap (λ (k : Leg). k.position) l.1 ∙ l.2
+      | inr g ↦ let l = (hits_are_exact tree Gets member None h.2 p).0 g in ap (λ (k : Leg). k.position) l.1 ∙ l.2
     ]
 
 readable_here : IsReadableAt tree member None (1 ∷ [])
-readable_here = (any, inl ((hits_are_exact tree Get member None any (1 ∷ [])).1 (plans.leg_of hashed (under 1 (asked Get member None)), refl, refl)))
+readable_here = (Get, refl, any, (hits_are_exact tree Get member None any (1 ∷ [])).1 (plans.leg_of hashed (under 1 (asked Get member None)), refl, refl))
 
 acknowledged_there : (p : List ℕ) → IsAcknowledgedAt tree member None p → ((0 ∷ 0 ∷ []) ≡ p) ⊎ ((0 ∷ 1 ∷ []) ≡ p)
 acknowledged_there p h =
@@ -160,8 +165,8 @@ byte_not_listed b at =
 from_33 : (c : ℕ) → IsFree (class_words tree) c → 33 ≤ c
 from_33 c free = leb-true 33 c (and_parts (nat_le 33 c) (not (c == 127)) free.key).0
 
-place_of_block : IsPlaceOf routes 0 [] 0 tree member None
-place_of_block = record {
+is_spot : IsSpotOf routes spot tree member None
+is_spot = record {
   entry = entry;
   numbered = refl;
   has_tree = refl;
@@ -175,7 +180,7 @@ is_block = record {
   tree = tree;
   member = member;
   since = None;
-  place = place_of_block;
+  spot = is_spot;
   has = record { readable = readable_leaves; acknowledged = acknowledged_leaves; never = can_be };
 }
 
@@ -192,20 +197,24 @@ only_class class at =
       | inr h ↦ absurd (none_there class h)
     ]
 
-only_era : (route : ℕ) (class : List ℕ) (era : ℕ) (t : Tree) (m : List ℕ) (since : Option ℕ) → IsPlaceOf routes route class era t m since → 0 ≡ era
-only_era route class zero t m since place = refl
-only_era route class (suc k) t m since place = by since (era_there routes (suc k) since place.opened) place.opened.3
+only_era : (s : SpotValue) (t : Tree) (m : List ℕ) (since : Option ℕ) → IsSpotOf routes s t m since → 0 ≡ s.era
+only_era s t m since is = by s.era since is.opened
   where
-    by : (z : Option ℕ) → IsEra routes z → (z ≢ None) → 0 ≡ suc k
-    by None h some = absurd (some refl)
-    by (Some b) h some = absurd (none_there b h)
+    no_break : (k : ℕ) (z : Option ℕ) → IsEra routes z → (z ≢ None) → 0 ≡ suc k
+    no_break k None h some = absurd (some refl)
+    no_break k (Some b) h some = absurd (none_there b h)
 
-has_block : (route : ℕ) (class : List ℕ) (era : ℕ) (t : Tree) (m : List ℕ) (since : Option ℕ) → IsPlaceOf routes route class era t m since → HasBlockFor (block ∷ []) route class era
-has_block route class era t m since place =
-    let route_is = only_route route place.entry place.numbered in
-    let t_is : tree ≡ t = ap (λ (e : RouteEntry). e.tree) route_is.1 ∙ place.has_tree in
-    let class_is = only_class class (subst (λ x. Contains (class_words x) class) (sym t_is) place.listed) in
-    (block, at_first block [] block refl, route_is.0, class_is, only_era route class era t m since place)
+    by : (era : ℕ) (z : Option ℕ) → IsEraOf routes era z → 0 ≡ era
+    by zero z opened = refl
+    by (suc k) z opened = no_break k z (era_there routes (suc k) z opened) opened.3
+
+has_block : (s : SpotValue) (t : Tree) (m : List ℕ) (since : Option ℕ) → IsSpotOf routes s t m since → HasBlockFor (block ∷ []) s
+has_block s t m since is =
+    let route_is = only_route s.route is.entry is.numbered in
+    let t_is : tree ≡ t = ap (λ (e : RouteEntry). e.tree) route_is.1 ∙ is.has_tree in
+    let class_is = only_class s.class (subst (λ x. Contains (class_words x) s.class) (sym t_is) is.listed) in
+    let era_is = only_era s t m since is in
+    (block, at_first block [] block refl, λ i. record { route = route_is.0 i; class = class_is i; era = era_is i })
 
 are_blocks : AreBlocksOf routes (block ∷ [])
 are_blocks = record {
@@ -217,7 +226,7 @@ are_blocks = record {
 -- ---- a certificate: at each index of the leaf the pool that has its server
 
 abbrev pair : ℕ → List ℕ → PairValue
-pair i leg = record { route = 0; class = []; era = 0; leaf = 1 ∷ []; reason = all i (leg ∷ []) }
+pair i leg = record { place = record { spot = spot; leaf = 1 ∷ [] }; reason = all i (leg ∷ []) }
 
 abbrev pairs : List PairValue
 pairs = pair 0 (0 ∷ 0 ∷ []) ∷ pair 1 (0 ∷ 1 ∷ []) ∷ []

@@ -1,13 +1,13 @@
 pub mod Searches
 pub mod PoolSizes
-pub mod Unique
-pub mod Answered
-pub mod Sound
-pub mod Complete
-pub mod Merging
-pub mod Listed
+pub mod OneListOfBlocks
+pub mod NoFaultHasReasons
+pub mod JustifiedIsCovered
+pub mod CoveredHasReasons
+pub mod MergesRise
+pub mod RouteClasses
 pub mod BlocksOfSpots
-pub mod Existing
+pub mod BlockAtEachSpot
 pub mod Parts
 pub mod BlockOfSets
 mod Examples

@@ -1,5 +1,5 @@
 -- What the cases of a route find are the parts of its block.
-use Rattle.std.proofs.Common.{◌≡◌, ◌↔◌, inl, inr, ℕ, suc, Bool, true, false, List, [], ◌∷◌, map, Bor, Some, refl, sym, ap, subst, arith}
+use Rattle.std.proofs.Common.{◌≡◌, ◌↔◌, ℕ, suc, Bool, true, false, List, [], ◌∷◌, map, Bor, Some, refl, sym, ap, subst, arith}
 use Rattle.std.specs.Prelude.{IsTrue}
 use Rattle.std.specs.List.{All, AllPairs, Contains}
 use Rattle.std.specs.declared.cmp.Ordering.TheVariants.{Less}
@@ -17,15 +17,15 @@ use Rattle.mcv_route.specs.Situation.{asked}
 use Rattle.mcv_route.specs.Tree.{Tree}
 use Rattle.mcv_rules.specs.declared.plan.PlannedLeg.{PlannedLeg}
 use Rattle.mcv_symbolic.specs.Case.{CaseValue, situation_of}
-use Rattle.mcv_symbolic.specs.InMemory.{pool_of}
-use Rattle.mcv_symbolic.specs.Justified.{IsNeverAcknowledged, IsReadableAt}
+use Rattle.mcv_symbolic.specs.LegInMemory.{pool_of}
+use Rattle.mcv_symbolic.specs.JustifiedRoutes.{IsNeverAcknowledged, IsReadableAt}
 use Rattle.mcv_symbolic.specs.Sets as sets
 use Rattle.mcv_symbolic.specs.Sets.{AreLegsAt, CanBeAcknowledged, CanHitAt, IsAcknowledged}
 use Rattle.mcv_blocks.specs.Blocks.{AreLeavesAt, IsAcknowledgedAt, pool_for, positions_of}
-use Rattle.mcv_blocks.specs.Merged.{leaf_of, leaves_of, merge}
+use Rattle.mcv_blocks.specs.MergedLegs.{leaf_of, leaves_of, merge}
 use Rattle.mcv_blocks.specs.Sets.{AreCases, SetsValue}
-use Rattle.mcv_blocks.proofs.Existing.{either_hit}
-use Rattle.mcv_blocks.proofs.Merging.{merged_leaves, positions-all}
+use Rattle.mcv_blocks.proofs.BlockAtEachSpot.{either_hit}
+use Rattle.mcv_blocks.proofs.MergesRise.{merged_leaves, positions-all}
 use Rattle.mcv_route.proofs.RisingLists.{rises_behind}
 
 -- ---- the legs of a plan, borrowed
@@ -101,7 +101,7 @@ module _ (value : SetsValue) (delete get gets : CaseValue) (are : AreCases delet
       let one = hit-leaves (record delete { op = Get }) first (subst (λ k. AreHits k first) are.getting h) in
       let other = hit-leaves (record delete { op = Gets }) second (subst (λ k. AreHits k second) are.getting_all g) in
       let both =
-      merged_leaves t (λ p. (c : Choice) × CanHitAt t (asked Get rest since) c p) (λ p. (c : Choice) × CanHitAt t (asked Gets rest since) c p) (IsReadableAt t rest since) (λ p x. (x.0, inl x.1)) (λ p x. (x.0, inr x.1)) (either_hit t rest since)
+      merged_leaves t (λ p. (c : Choice) × CanHitAt t (asked Get rest since) c p) (λ p. (c : Choice) × CanHitAt t (asked Gets rest since) c p) (IsReadableAt t rest since) (λ p x. (Get, refl, x.0, x.1)) (λ p x. (Gets, refl, x.0, x.1)) (either_hit t rest since)
       (leaves_of first) (leaves_of second) one other in
       subst (λ (v : SetsValue). AreLeavesAt v.tree (IsReadableAt v.tree v.rest v.since) all) seen (subst (AreLeavesAt t (IsReadableAt t rest since)) (sym is) both)
 

@@ -7,19 +7,15 @@ use Rattle.std.proofs.lemmas.Option.{get_or_from_slice_get, same_Some, slice_get
 use Rattle.mcv_pools.specs.Symbol.{SymbolValue}
 use Rattle.mcv_route.specs.Places.{children_of, child_at, pool_at_position, pool_of, tree_at}
 use Rattle.mcv_route.specs.Routes.{AreSoundTrees, IsSoundPool, IsSoundRoutes, IsSoundTree, RouteEntry, RoutesValue}
-use Rattle.mcv_route.specs.Tree.{Pool, Tree, Trees, pool, null, error, all_sync, all_initial, all_async, failover, miss_failover, warm_up, migrate, prefix_selector, operation_selector, none, child}
-use Rattle.mcv_symbolic.specs.Covered.{sizes_of}
+use Rattle.mcv_route.specs.Tree.{Pool, Tree, Trees, pool, null, error, many, warm_up, migrate, prefix_selector, operation_selector, none, child}
+use Rattle.mcv_symbolic.specs.CoveredRoutes.{sizes_of}
 
 module _ (servers : ℕ) (symbols : List SymbolValue) where
   children_sound : (t : Tree) → IsSoundTree servers symbols t → AreSoundTrees servers symbols (children_of t)
   children_sound (pool p ranges targets) h = h.1
   children_sound null h = tt
   children_sound error h = tt
-  children_sound (all_sync ts) h = h.1
-  children_sound (all_initial ts) h = h.1
-  children_sound (all_async ts) h = h.1
-  children_sound (failover ts) h = h.1
-  children_sound (miss_failover ts) h = h.1
+  children_sound (many kind ts) h = h.1
   children_sound (warm_up cold warm exptime) h = (h.0, (h.1, (h.0, tt)))
   children_sound (migrate from to start interval) h = (h.0, (h.1, tt))
   children_sound (prefix_selector prefixes ts) h = h
@@ -29,11 +25,7 @@ module _ (servers : ℕ) (symbols : List SymbolValue) where
   own_pool (pool p ranges targets) m h e = subst (IsSoundPool servers symbols) (same_Some p m e) h.0
   own_pool null m h e = absurd cc
   own_pool error m h e = absurd cc
-  own_pool (all_sync ts) m h e = absurd cc
-  own_pool (all_initial ts) m h e = absurd cc
-  own_pool (all_async ts) m h e = absurd cc
-  own_pool (failover ts) m h e = absurd cc
-  own_pool (miss_failover ts) m h e = absurd cc
+  own_pool (many kind ts) m h e = absurd cc
   own_pool (warm_up cold warm exptime) m h e = absurd cc
   own_pool (migrate from to start interval) m h e = absurd cc
   own_pool (prefix_selector prefixes ts) m h e = absurd cc

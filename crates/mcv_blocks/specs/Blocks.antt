@@ -9,12 +9,12 @@ use Rattle.mcv_route.specs.Routes.{RouteEntry, RoutesValue}
 use Rattle.mcv_route.specs.Tree.{Pool, Tree}
 use Rattle.mcv_classes.specs.Class.{IsMember}
 use Rattle.mcv_classes.specs.Words.{class_words}
-use Rattle.mcv_symbolic.specs.Justified.{IsNeverAcknowledged, IsReadableAt}
+use Rattle.mcv_symbolic.specs.JustifiedRoutes.{IsNeverAcknowledged, IsReadableAt}
 use Rattle.mcv_symbolic.specs.Sets.{IsAcknowledged}
-use Rattle.mcv_judge.specs.Faults.{AreLegsRising, IsFaultless, IsFirstFault, block_cmp}
+use Rattle.mcv_judge.specs.Faults.{AreLegsRising, IsFaultless, IsFirstFault}
 use Rattle.mcv_judge.specs.Reason.{BlockValue, LegValue}
 use Rattle.mcv_judge.specs.declared.fault.PairFault.{PairFault}
-use Rattle.mcv_cert.specs.Pair.{PairValue}
+use Rattle.mcv_cert.specs.Pair.{PairValue, SpotValue, spot_cmp}
 
 -- the pool of a leaf
 abbrev pub pool_for : LegValue → Pool
@@ -40,32 +40,32 @@ pub record IsBlockAt (t : Tree) (rest : List ℕ) (since : Option ℕ) (b : Bloc
   pub acknowledged : AreLeavesAt t (IsAcknowledgedAt t rest since) b.acknowledged
   pub never : (b.can_be_acknowledged ≡ false) ↔ IsNeverAcknowledged t rest since
 
--- the routes have a route of this number, it has a class of this word, and an era of this number; and then its tree, the class's member and the break that opened the era
-pub record IsPlaceOf (r : RoutesValue) (route : ℕ) (class : List ℕ) (era : ℕ) (t : Tree) (member : List ℕ) (since : Option ℕ) : Type 0 where
+-- the routes have the spot's route, that has the spot's class, and the spot's era; and then the tree, the class's member and the break that opened the era
+pub record IsSpotOf (r : RoutesValue) (s : SpotValue) (t : Tree) (member : List ℕ) (since : Option ℕ) : Type 0 where
   pub entry : RouteEntry
-  pub numbered : slice_get r.entries route ≡ Some entry
+  pub numbered : slice_get r.entries s.route ≡ Some entry
   pub has_tree : entry.tree ≡ t
-  pub listed : Contains (class_words t) class
-  pub has_member : IsMember (class_words t) class (Some member)
-  pub opened : IsEraOf r era since
+  pub listed : Contains (class_words t) s.class
+  pub has_member : IsMember (class_words t) s.class (Some member)
+  pub opened : IsEraOf r s.era since
 
--- the block is that of its route, class and era
+-- the block is that of its spot
 pub record IsBlockOf (r : RoutesValue) (b : BlockValue) : Type 0 where
   pub tree : Tree
   pub member : List ℕ
   pub since : Option ℕ
-  pub place : IsPlaceOf r b.route b.class b.era tree member since
+  pub spot : IsSpotOf r b.spot tree member since
   pub has : IsBlockAt tree member since b
 
--- one of the blocks is of this route, class and era
-abbrev pub HasBlockFor : List BlockValue → (route : ℕ) → (class : List ℕ) → (era : ℕ) → Type 0
-HasBlockFor blocks route class era = (b : BlockValue) × Contains blocks b × (b.route ≡ route) × (b.class ≡ class) × (b.era ≡ era)
+-- one of the blocks is at the spot
+abbrev pub HasBlockFor : List BlockValue → SpotValue → Type 0
+HasBlockFor blocks s = (b : BlockValue) × Contains blocks b × (b.spot ≡ s)
 
--- a block for each route, class with a member and era, by route, class and era, each once
+-- a block for each spot whose class has a member, in the order of the spots, each once
 pub record AreBlocksOf (r : RoutesValue) (blocks : List BlockValue) : Type 0 where
-  pub rising : AllPairs (λ b c. block_cmp b c ≡ Less) blocks
+  pub rising : AllPairs (λ b c. spot_cmp b.spot c.spot ≡ Less) blocks
   pub only : All (IsBlockOf r) blocks
-  pub all : (route : ℕ) (class : List ℕ) (era : ℕ) (t : Tree) (member : List ℕ) (since : Option ℕ) → IsPlaceOf r route class era t member since → HasBlockFor blocks route class era
+  pub all : (s : SpotValue) (t : Tree) (member : List ℕ) (since : Option ℕ) → IsSpotOf r s t member since → HasBlockFor blocks s
 
 -- a certificate with these pairs is justified: it has no fault
 abbrev pub IsJustifiedBy : RoutesValue → List PairValue → Type 0

@@ -1,6 +1,6 @@
 pub mod Blocks
 pub mod Coverage
 pub mod Sets
-pub mod Merged
+pub mod MergedLegs
 pub mod Places
 pub mod Spots

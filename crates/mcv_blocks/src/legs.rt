@@ -1,8 +1,8 @@
 //! Legs of plans as blocks have them.
 
 ghost use Rattle.std.specs.Prelude.{◌≡◌, ◌+◌, ◌<◌, ◌≤◌, ◌∷◌, [], drop, IfOk, IfSome, MatchOption, length};
-ghost use Rattle.mcv_judge.specs.InMemory.{leg_of, legs_of};
-ghost use Rattle.mcv_blocks.specs.Merged.{leaf_of, leaves_of, merge};
+ghost use Rattle.mcv_judge.specs.PairsInMemory.{leg_of, legs_of};
+ghost use Rattle.mcv_blocks.specs.MergedLegs.{leaf_of, leaves_of, merge};
 
 use mcv_judge::Leg;
 use mcv_rules::PlannedLeg;

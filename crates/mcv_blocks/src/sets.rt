@@ -1,9 +1,9 @@
 //! What a block of a route has.
 
 ghost use Rattle.std.specs.Prelude.{◌≡◌, ◌↔◌, false, IfOk, option_map};
-ghost use Rattle.mcv_judge.specs.InMemory.{legs_of};
+ghost use Rattle.mcv_judge.specs.PairsInMemory.{legs_of};
 ghost use Rattle.mcv_route.specs.View.{view};
-ghost use Rattle.mcv_symbolic.specs.Justified.{IsNeverAcknowledged, IsReadableAt};
+ghost use Rattle.mcv_symbolic.specs.JustifiedRoutes.{IsNeverAcknowledged, IsReadableAt};
 ghost use Rattle.mcv_blocks.specs.Blocks.{AreLeavesAt, IsAcknowledgedAt};
 
 use crate::legs::{all_borrowed, merged};

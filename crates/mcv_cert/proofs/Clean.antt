@@ -10,7 +10,8 @@ use Rattle.mcv_base.specs.Key.{lacks}
 use Rattle.mcv_base.specs.Position.{position_text}
 use Rattle.mcv_base.proofs.Cuts.{joined, lacks-append}
 use Rattle.mcv_cert.specs.Escape.{escaped, escaped_byte, hex_digit, is_plain}
-use Rattle.mcv_cert.specs.Pair.{FitsPosition, FitsReason, IsPair, PairValue, ReasonValue, never, twin, same, all}
+use Rattle.mcv_cert.specs.Fits.{FitsPosition, FitsReason}
+use Rattle.mcv_cert.specs.Pair.{IsPair, PairValue, ReasonValue, never, twin, same, all}
 use Rattle.mcv_cert.specs.Text.{pair_text, pair_words, reason_words}
 
 abbrev pub IsClean : List ℕ → Type 0
@@ -70,10 +71,10 @@ clean_reason (all index legs) fits =
 
 pub clean_words : (p : PairValue) → IsPair p → AreClean (pair_words p)
 clean_words p is = (
-  clean_decimal p.route is.route,
+  clean_decimal p.place.spot.route is.fits.spot.route,
   (
-    All-cons (λ b. 32 < b) 61 (escaped p.class) (omega arith) (clean_escaped p.class),
-    (clean_decimal p.era is.era, (clean_position p.leaf is.leaf, clean_reason p.reason is.reason)),
+    All-cons (λ b. 32 < b) 61 (escaped p.place.spot.class) (omega arith) (clean_escaped p.place.spot.class),
+    (clean_decimal p.place.spot.era is.fits.spot.era, (clean_position p.place.leaf is.fits.leaf, clean_reason p.reason is.fits.reason)),
   ),
 )
 

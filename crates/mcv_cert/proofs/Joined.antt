@@ -8,7 +8,7 @@ use Rattle.std.proofs.lemmas.List.Elements.{All-head, All-tail, All-from_get_or}
 use Rattle.std.proofs.lemmas.Fmt.{decimal_is_IsNumeral}
 use Rattle.std.proofs.lemmas.Str.Parse.{digit_at}
 use Rattle.mcv_base.specs.Position.{position_text}
-use Rattle.mcv_cert.specs.Pair.{FitsPosition}
+use Rattle.mcv_cert.specs.Fits.{FitsPosition}
 use Rattle.mcv_cert.proofs.Clean.{AreClean, bare}
 
 pub first_is : (x y : List ℕ) (xs ys : List (List ℕ)) → x ∷ xs ≡ y ∷ ys → x ≡ y

@@ -5,7 +5,8 @@ use Rattle.std.specs.List.{All, slice_split}
 use Rattle.std.proofs.lemmas.List.{get_or-map, length-map, take_all, take_more}
 use Rattle.std.proofs.lemmas.List.Elements.{All-get_or}
 use Rattle.mcv_base.specs.Position.{position_text}
-use Rattle.mcv_cert.specs.Pair.{FitsPosition, FitsReason, ReasonValue, never, twin, same, all, names_legs}
+use Rattle.mcv_cert.specs.Fits.{FitsPosition, FitsReason}
+use Rattle.mcv_cert.specs.Pair.{ReasonValue, never, twin, same, all, names_legs}
 use Rattle.mcv_cert.specs.Text.{reason_words}
 use Rattle.mcv_cert.proofs.Joined.{position_split}
 

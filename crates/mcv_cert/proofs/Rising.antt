@@ -11,16 +11,19 @@ use Rattle.std.proofs.lemmas.List.{get_or-map, length-map}
 use Rattle.std.proofs.lemmas.List.Elements.{All-push}
 use Rattle.std.proofs.lemmas.List.Folds.{list_all_at}
 use Rattle.std.proofs.lemmas.List.Quantifiers.{all_pairs_push}
-use Rattle.mcv_cert.specs.Pair.{AreRising, IsCertificate, NamesLegs, PairValue, names_legs, index_of, is_behind, pair_cmp, place_cmp}
+use Rattle.mcv_cert.specs.Pair.{AreRising, IsCertificate, NamesLegs, PairValue, PlaceValue, SpotValue, names_legs, index_of, is_behind, pair_cmp, place_cmp, spot_cmp}
+
+pub spots_total : IsTotalOrder spot_cmp
+spots_total =
+    then_total (then_total (on_total (λ (s : SpotValue). s.route) nat_cmp_total) (on_total (λ (s : SpotValue). s.class) nat_list_cmp_total))
+    (on_total (λ (s : SpotValue). s.era) nat_cmp_total)
+
+pub places_total : IsTotalOrder place_cmp
+unfolding place_cmp
+places_total = then_total (on_total (λ (p : PlaceValue). p.spot) spots_total) (on_total (λ (p : PlaceValue). p.leaf) nat_list_cmp_total)
 
 pub pairs_total : IsTotalOrder pair_cmp
-unfolding place_cmp
-pairs_total =
-    then_total
-    (then_total (on_total (λ (p : PairValue). p.route) nat_cmp_total)
-    (then_total (on_total (λ (p : PairValue). p.class) nat_list_cmp_total)
-    (then_total (on_total (λ (p : PairValue). p.era) nat_cmp_total) (on_total (λ (p : PairValue). p.leaf) nat_list_cmp_total))))
-    (on_total (λ (p : PairValue). index_of p.reason) nat_cmp_total)
+pairs_total = then_total (on_total (λ (p : PairValue). p.place) places_total) (on_total (λ (p : PairValue). index_of p.reason) nat_cmp_total)
 
 less_is : (o : Ordering) → is_lt o ≡ true → o ≡ Less
 less_is Less is = refl

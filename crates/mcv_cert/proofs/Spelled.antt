@@ -7,7 +7,8 @@ use Rattle.std.proofs.lemmas.Fmt.{decimal_injective, decimal_is_IsNumeral}
 use Rattle.std.proofs.lemmas.Str.Parse.{digit_at}
 use Rattle.mcv_base.specs.Position.{position_text}
 use Rattle.mcv_base.proofs.Prefixes.{one_cut}
-use Rattle.mcv_cert.specs.Pair.{FitsPosition, FitsReason, IsPair, PairValue, ReasonValue, never, twin, same, all}
+use Rattle.mcv_cert.specs.Fits.{FitsPosition, FitsReason}
+use Rattle.mcv_cert.specs.Pair.{IsPair, PairValue, ReasonValue, never, twin, same, all}
 use Rattle.mcv_cert.specs.Escape.{escaped}
 use Rattle.mcv_cert.specs.Text.{last_line, pair_line, pair_text, pair_words, reason_words}
 use Rattle.mcv_cert.proofs.Clean.{clean_words, text_lacks}
@@ -91,16 +92,16 @@ reason_one (all i ps) (all j qs) f g e =
 
 words_one : (p q : PairValue) → IsPair p → IsPair q → pair_words p ≡ pair_words q → p ≡ q
 words_one p q f g e =
-    let behind_route = others_are (decimal p.route) (decimal q.route) _ _ e in
-    let behind_class = others_are (codes "=" ++ escaped p.class) (codes "=" ++ escaped q.class) _ _ behind_route in
-    let behind_era = others_are (decimal p.era) (decimal q.era) _ _ behind_class in
-    let behind_leaf = others_are (position_text p.leaf) (position_text q.leaf) _ _ behind_era in
-    let route = decimal_injective p.route q.route f.route g.route (first_is (decimal p.route) (decimal q.route) _ _ e) in
-    let class = escaped_one p.class q.class (behind_sign (escaped p.class) (escaped q.class) (first_is (codes "=" ++ escaped p.class) (codes "=" ++ escaped q.class) _ _ behind_route)) in
-    let era = decimal_injective p.era q.era f.era g.era (first_is (decimal p.era) (decimal q.era) _ _ behind_class) in
-    let leaf = position_one p.leaf q.leaf f.leaf g.leaf (first_is (position_text p.leaf) (position_text q.leaf) _ _ behind_era) in
-    let reason = reason_one p.reason q.reason f.reason g.reason behind_leaf in
-    λ i. record { route = route i; class = class i; era = era i; leaf = leaf i; reason = reason i }
+    let behind_route = others_are (decimal p.place.spot.route) (decimal q.place.spot.route) _ _ e in
+    let behind_class = others_are (codes "=" ++ escaped p.place.spot.class) (codes "=" ++ escaped q.place.spot.class) _ _ behind_route in
+    let behind_era = others_are (decimal p.place.spot.era) (decimal q.place.spot.era) _ _ behind_class in
+    let behind_leaf = others_are (position_text p.place.leaf) (position_text q.place.leaf) _ _ behind_era in
+    let route = decimal_injective p.place.spot.route q.place.spot.route f.fits.spot.route g.fits.spot.route (first_is (decimal p.place.spot.route) (decimal q.place.spot.route) _ _ e) in
+    let class = escaped_one p.place.spot.class q.place.spot.class (behind_sign (escaped p.place.spot.class) (escaped q.place.spot.class) (first_is (codes "=" ++ escaped p.place.spot.class) (codes "=" ++ escaped q.place.spot.class) _ _ behind_route)) in
+    let era = decimal_injective p.place.spot.era q.place.spot.era f.fits.spot.era g.fits.spot.era (first_is (decimal p.place.spot.era) (decimal q.place.spot.era) _ _ behind_class) in
+    let leaf = position_one p.place.leaf q.place.leaf f.fits.leaf g.fits.leaf (first_is (position_text p.place.leaf) (position_text q.place.leaf) _ _ behind_era) in
+    let reason = reason_one p.reason q.reason f.fits.reason g.fits.reason behind_leaf in
+    λ i. record { place = record { spot = record { route = route i; class = class i; era = era i }; leaf = leaf i }; reason = reason i }
   where
     behind_sign : (xs ys : List ℕ) → codes "=" ++ xs ≡ codes "=" ++ ys → xs ≡ ys
     behind_sign xs ys is = ap (drop 1) is
@@ -111,7 +112,7 @@ line_cut p more = append_assoc (pair_text p) (10 ∷ []) more
 
 pub text_words : (p : PairValue) → IsPair p → slice_split (λ b. b == 32) (pair_text p) ≡ pair_words p
 unfolding pair_text
-text_words p is = split_joined (decimal p.route) _ (clean_words p is)
+text_words p is = split_joined (decimal p.place.spot.route) _ (clean_words p is)
 
 -- no two pairs have one text
 pub text_one : (p q : PairValue) → IsPair p → IsPair q → pair_text p ≡ pair_text q → p ≡ q
@@ -127,7 +128,7 @@ line_one p q xs ys f g e =
 pub not_last : (p : PairValue) (xs ys : List ℕ) → IsPair p → last_line ++ xs ≢ pair_line p ++ ys
 not_last p xs ys f e =
     let cut = one_cut 10 (codes "end") xs (pair_text p) ys refl (text_lacks p f) (e ∙ line_cut p ys) in
-    digit_not_e p.route f.route (first_is (codes "end") (decimal p.route) [] _ (ap (slice_split (λ b. b == 32)) cut.0 ∙ text_words p f))
+    digit_not_e p.place.spot.route f.fits.spot.route (first_is (codes "end") (decimal p.place.spot.route) [] _ (ap (slice_split (λ b. b == 32)) cut.0 ∙ text_words p f))
   where
     digit_not_e : (n : ℕ) → n < 2 ^ 64 → codes "end" ≢ decimal n
     digit_not_e n l is =

@@ -28,30 +28,30 @@ abbrev reason_text : PairValue → List ℕ
 reason_text p = join_with_byte 32 (reason_words p.reason)
 
 text_joined : (p : PairValue)
-    → decimal p.route ++ (codes " " ++ ((codes "=" ++ escaped p.class) ++ (codes " " ++ (decimal p.era ++ (codes " " ++ (position_text p.leaf ++ (codes " " ++ reason_text p)))))))
+    → decimal p.place.spot.route ++ (codes " " ++ ((codes "=" ++ escaped p.place.spot.class) ++ (codes " " ++ (decimal p.place.spot.era ++ (codes " " ++ (position_text p.place.leaf ++ (codes " " ++ reason_text p)))))))
     ≡ pair_text p
 unfolding pair_text
 text_joined p =
-    ap (λ x. decimal p.route ++ 32 ∷ ((61 ∷ escaped p.class) ++ 32 ∷ (decimal p.era ++ 32 ∷ x)))
-    (sym (join_reason (position_text p.leaf) p.reason))
+    ap (λ x. decimal p.place.spot.route ++ 32 ∷ ((61 ∷ escaped p.place.spot.class) ++ 32 ∷ (decimal p.place.spot.era ++ 32 ∷ x)))
+    (sym (join_reason (position_text p.place.leaf) p.reason))
 
 text_written : (old : List ℕ) (p : PairValue)
-    → ((((((((old ++ decimal p.route) ++ codes " =") ++ escaped p.class) ++ codes " ") ++ decimal p.era) ++ codes " ") ++ position_text p.leaf) ++ codes " ") ++ reason_text p
+    → ((((((((old ++ decimal p.place.spot.route) ++ codes " =") ++ escaped p.place.spot.class) ++ codes " ") ++ decimal p.place.spot.era) ++ codes " ") ++ position_text p.place.leaf) ++ codes " ") ++ reason_text p
     ≡ old ++ pair_text p
 text_written old p =
-    pieces old (decimal p.route) (codes " ") (codes "=") (escaped p.class) (codes " ") (decimal p.era) (codes " ") (position_text p.leaf) (codes " ") (reason_text p)
+    pieces old (decimal p.place.spot.route) (codes " ") (codes "=") (escaped p.place.spot.class) (codes " ") (decimal p.place.spot.era) (codes " ") (position_text p.place.leaf) (codes " ") (reason_text p)
     ∙ ap (λ x. old ++ x) (text_joined p)
 
 pub written : (t0 t1 t2 t3 t4 t5 t6 t7 t8 t9 : List ℕ) (p : PairValue)
-    → t1 ≡ t0 ++ decimal p.route → t2 ≡ t1 ++ codes " =" → t3 ≡ t2 ++ escaped p.class → t4 ≡ t3 ++ codes " " → t5 ≡ t4 ++ decimal p.era → t6 ≡ t5 ++ codes " "
-    → t7 ≡ t6 ++ position_text p.leaf → t8 ≡ t7 ++ codes " " → t9 ≡ t8 ++ join_with_byte 32 (reason_words p.reason) → t9 ≡ t0 ++ pair_text p
+    → t1 ≡ t0 ++ decimal p.place.spot.route → t2 ≡ t1 ++ codes " =" → t3 ≡ t2 ++ escaped p.place.spot.class → t4 ≡ t3 ++ codes " " → t5 ≡ t4 ++ decimal p.place.spot.era → t6 ≡ t5 ++ codes " "
+    → t7 ≡ t6 ++ position_text p.place.leaf → t8 ≡ t7 ++ codes " " → t9 ≡ t8 ++ join_with_byte 32 (reason_words p.reason) → t9 ≡ t0 ++ pair_text p
 written t0 t1 t2 t3 t4 t5 t6 t7 t8 t9 p e1 e2 e3 e4 e5 e6 e7 e8 e9 =
     e9 ∙ ap (λ t. t ++ reason_text p)
     (e8 ∙ ap (λ t. t ++ codes " ")
-    (e7 ∙ ap (λ t. t ++ position_text p.leaf)
+    (e7 ∙ ap (λ t. t ++ position_text p.place.leaf)
     (e6 ∙ ap (λ t. t ++ codes " ")
-    (e5 ∙ ap (λ t. t ++ decimal p.era)
-    (e4 ∙ ap (λ t. t ++ codes " ") (e3 ∙ ap (λ t. t ++ escaped p.class) (e2 ∙ ap (λ t. t ++ codes " =") e1)))))))
+    (e5 ∙ ap (λ t. t ++ decimal p.place.spot.era)
+    (e4 ∙ ap (λ t. t ++ codes " ") (e3 ∙ ap (λ t. t ++ escaped p.place.spot.class) (e2 ∙ ap (λ t. t ++ codes " =") e1)))))))
     ∙ text_written t0 p
 
 -- the words of an `all`

@@ -1,3 +1,6 @@
+pub mod Place
+pub mod Reason
+pub mod Fits
 pub mod Pair
 pub mod Escape
 pub mod Text

@@ -13,7 +13,7 @@ reason_words (all index legs) = codes "all" ∷ decimal index ∷ map position_t
 
 -- `<route> =<class> <era> <leaf> <reason>`
 abbrev pub pair_words : PairValue → List (List ℕ)
-pair_words p = decimal p.route ∷ (codes "=" ++ escaped p.class) ∷ decimal p.era ∷ position_text p.leaf ∷ reason_words p.reason
+pair_words p = decimal p.place.spot.route ∷ (codes "=" ++ escaped p.place.spot.class) ∷ decimal p.place.spot.era ∷ position_text p.place.leaf ∷ reason_words p.reason
 
 -- the words with single spaces between them
 unfoldable pub pair_text : PairValue → List ℕ

@@ -8,10 +8,10 @@
 mod certificate;
 mod escape;
 mod fault;
-mod fits;
 mod laws;
 mod pair;
 mod parse;
+mod place;
 mod read;
 mod write;
 
@@ -20,4 +20,5 @@ pub use escape::push_escaped;
 pub use fault::{CertFault, CertTextFault};
 pub use laws::{one_answer, text_is_read};
 pub use pair::{Pair, Reason};
+pub use place::Place;
 pub use read::read_certificate;

@@ -1,8 +1,11 @@
 //! A pair of a certificate: a leaf that can be read, and why a delete reaches its server.
 
-ghost use Rattle.std.specs.Prelude.{◌≡◌};
-ghost use Rattle.mcv_cert.specs.Pair.{index_of, names_legs, pair_cmp, pair_of, reason_of};
+ghost use Rattle.std.specs.Prelude.{◌≡◌, ◌<◌, ◌^◌, All};
+ghost use Rattle.mcv_cert.specs.Fits.{FitsPair, FitsPair-prop, FitsPosition, FitsReason, FitsSpot};
+ghost use Rattle.mcv_cert.specs.Place.{place_of};
+ghost use Rattle.mcv_cert.specs.Reason.{index_of, names_legs, reason_of};
 
+use crate::place::Place;
 use mcv_base::Position;
 use std::cmp::Ordering;
 
@@ -46,28 +49,86 @@ impl Reason {
 /// A line of a certificate.
 #[derive(Drop)]
 pub struct Pair {
-    /// The number of the route, from 0.
-    pub route: usize,
-    /// The bytes of the class word.
-    pub class: Vec<u8>,
-    /// The number of the era, from 0.
-    pub era: usize,
-    /// The position of the leaf.
-    pub leaf: Position,
+    pub place: Place,
     pub reason: Reason,
+    // Its numbers have 64 bits, and the class bytes: what is written of it can be read.
+    ghost fits: { FitsPair (place_of place) (reason_of reason) } by { FitsPair-prop (place_of place) (reason_of reason) },
 }
 
 impl Pair {
+    ghost use Rattle.mcv_cert.specs.Pair.{pair_cmp, pair_of};
+
+    /// The pair of a leaf's place and a reason for it.
+    pub fn new(place: Place, reason: Reason) -> Self
+        ensures place { result.place ≡ place }
+        ensures reason { result.reason ≡ reason }
+    {
+        place_fits(&place);
+        reason_fits(&reason);
+        Pair { place, reason }
+    }
+
     /// How the two come in a certificate: by route, class, era, leaf and index.
-    #[tactic(auto, unfolding(crate::specs::Pair::place_cmp))]
     pub fn compare(&self, other: &Pair) -> Ordering
         ensures { result ≡ pair_cmp (pair_of self.now) (pair_of other.now) }
     {
-        self.route
-            .cmp(&other.route)
-            .then(self.class.as_slice().cmp(other.class.as_slice()))
-            .then(self.era.cmp(&other.era))
-            .then(self.leaf.steps().cmp(other.leaf.steps()))
+        self.place
+            .compare(&other.place)
             .then(self.reason.index().cmp(&other.reason.index()))
+    }
+}
+
+// What the types of the numbers of a place and a reason say. A number in a position is seen where its steps are read.
+
+fn number_fits(number: usize)
+    ensures { number < 2 ^ 64 }
+{
+    let _ = number;
+}
+
+fn bytes_fit(bytes: &[u8])
+    ensures { All (λ b. b < 256) bytes.now }
+{
+    let _ = bytes;
+}
+
+fn steps_fit(steps: &[usize])
+    ensures { FitsPosition steps.now }
+{
+    let _ = steps;
+}
+
+fn place_fits(place: &Place)
+    ensures spot { FitsSpot (place_of place.now).spot }
+    ensures leaf { FitsPosition place.now.leaf }
+{
+    number_fits(place.route);
+    bytes_fit(&place.class);
+    number_fits(place.era);
+    steps_fit(place.leaf.steps());
+}
+
+fn positions_fit(positions: &[Position])
+    ensures { All FitsPosition positions.now }
+{
+    for position in positions {
+        steps_fit(position.steps());
+    }
+}
+
+fn reason_fits(reason: &Reason)
+    ensures { FitsReason (reason_of reason.now) }
+{
+    match reason {
+        Reason::Never => {}
+        Reason::Twin(leg) => steps_fit(leg.steps()),
+        Reason::Same(index, leg) => {
+            number_fits(*index);
+            steps_fit(leg.steps());
+        }
+        Reason::All(index, legs) => {
+            number_fits(*index);
+            positions_fit(legs);
+        }
     }
 }

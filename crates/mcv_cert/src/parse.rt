@@ -6,12 +6,13 @@ ghost use Rattle.std.specs.List.{slice_split};
 ghost use Rattle.std.specs.Option.{option_map};
 ghost use Rattle.mcv_base.specs.Position.{position_text};
 ghost use Rattle.mcv_cert.specs.Escape.{escaped};
-ghost use Rattle.mcv_cert.specs.Pair.{FitsPosition, FitsReason, IsPair, PairValue, ReasonValue, all, names_legs, never, pair_of, reason_of, same, twin};
+ghost use Rattle.mcv_cert.specs.Fits.{FitsPosition, FitsReason};
+ghost use Rattle.mcv_cert.specs.Pair.{IsPair, PairValue, ReasonValue, all, names_legs, never, pair_of, reason_of, same, twin};
 ghost use Rattle.mcv_cert.specs.Text.{pair_text, pair_words, reason_words};
 
 use crate::escape::unescaped;
-use crate::fits::pair_fits;
 use crate::pair::{Pair, Reason};
+use crate::place::Place;
 use mcv_base::Position;
 use std::alloc::{AllocError, Global};
 use std::str;
@@ -232,14 +233,13 @@ fn pair_of_words(
     let Some(reason) = read_reason(alloc, reason, steps)? else {
         return Ok(None);
     };
-    let pair = Pair {
+    let place = Place {
         route,
         class,
         era,
         leaf,
-        reason,
     };
-    pair_fits(&pair);
+    let pair = Pair::new(place, reason);
     Ok(Some(pair))
 }
 

@@ -54,13 +54,13 @@ fn push_reason(text: &mut Vec<u8>, reason: &Reason) -> Result<(), AllocError>
 pub fn push_pair(text: &mut Vec<u8>, pair: &Pair) -> Result<(), AllocError>
     ensures { OnOk result (text.new.items ≡ text.old.items ++ pair_text (pair_of pair.now)) }
 {
-    push_number(text, pair.route)?;
+    push_number(text, pair.place.route)?;
     text.extend_from_slice(b" =")?;
-    push_escaped(text, pair.class.as_slice())?;
+    push_escaped(text, pair.place.class.as_slice())?;
     text.extend_from_slice(b" ")?;
-    push_number(text, pair.era)?;
+    push_number(text, pair.place.era)?;
     text.extend_from_slice(b" ")?;
-    pair.leaf.push_text(text)?;
+    pair.place.leaf.push_text(text)?;
     text.extend_from_slice(b" ")?;
     push_reason(text, &pair.reason)?;
     Ok(())

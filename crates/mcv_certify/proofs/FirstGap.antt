@@ -4,46 +4,45 @@ use Rattle.std.specs.List.{All, Contains}
 use Rattle.std.specs.declared.cmp.Ordering.TheVariants.{Less}
 use Rattle.std.proofs.lemmas.List.Elements.{All-contains, All-from_recursion, Contains-append_cases}
 use Rattle.std.proofs.lemmas.Option.{get_or_from_slice_get, slice_get_within}
-use Rattle.mcv_cert.specs.Pair.{Place, index_cmp}
-use Rattle.mcv_judge.specs.Faults.{block_cmp}
+use Rattle.mcv_cert.specs.Pair.{PlaceValue, index_cmp, spot_cmp, place_of}
 use Rattle.mcv_judge.specs.Reason.{BlockValue, HasReason, HasReasons, LegValue}
 use Rattle.mcv_route.specs.Routes.{RoutesValue}
 use Rattle.mcv_route.specs.Eras.{HasEra}
 use Rattle.mcv_blocks.specs.Blocks.{IsBlockOf}
 use Rattle.mcv_blocks.specs.Places.{AreRouteClasses}
-use Rattle.mcv_blocks.specs.Spots.{AreSpotsOf, IsBlockFor, Spot, spot, spot_cmp, spots_of}
+use Rattle.mcv_blocks.specs.Spots.{AreClassesInEras, IsBlockFor, ClassInEra, classes_in_eras, in_era, spot_of}
 use Rattle.mcv_blocks.specs.declared.classes.RouteClass.{RouteClass}
 use Rattle.mcv_blocks.proofs.BlocksOfSpots.{class-there, in-spots, same-cmp, spots_are, spots_behind}
 use Rattle.mcv_route.proofs.RisingLists.{first_or_behind}
-use Rattle.mcv_blocks.proofs.Unique.{one_block}
-use Rattle.mcv_certify.specs.Gap.{IsFirstGap, IsGap, place_of_gap}
-use Rattle.mcv_certify.specs.Made.{ReportsGapIn}
+use Rattle.mcv_blocks.proofs.OneListOfBlocks.{one_block}
+use Rattle.mcv_certify.specs.Gap.{IsFirstGap, IsGap}
+use Rattle.mcv_certify.specs.BlockSteps.{ReportsGapIn}
 use Rattle.mcv_certify.specs.declared.gap.Gap.{Gap}
 use Rattle.mcv_certify.proofs.BlockGap.{before_gap}
 use Rattle.mcv_certify.proofs.Lists.{zip_there}
 use Rattle.mcv_certify.proofs.Places.{in_two_blocks, not_before, place_in}
 
 module _ (r : RoutesValue) (cs : List RouteClass) (n : ℕ) (classes : AreRouteClasses r cs) (count : (era : ℕ) → (era < n) ↔ HasEra r era) where
-  -- the spot of a block
-  spot_of : (b : BlockValue) → IsBlockOf r b → (s : Spot) × Contains (spots_of cs n) s × IsBlockFor r s b
-  spot_of b own =
-      let c : RouteClass = record { route = b.route; class = record { word = b.class; member = Some own.member } } in (
-        spot c b.era,
-        in-spots cs n b.era c ((count b.era).1 (own.since, own.place.opened)) (classes.all c (class-there r b.route b.class b.era own.tree own.member own.since own.place)),
-        record { route = refl; class = refl; era = refl; is = own },
+  -- the class and the era of a block
+  class_of : (b : BlockValue) → IsBlockOf r b → (s : ClassInEra) × Contains (classes_in_eras cs n) s × IsBlockFor r s b
+  class_of b own =
+      let c : RouteClass = record { route = b.spot.route; class = record { word = b.spot.class; member = Some own.member } } in (
+        in_era c b.spot.era,
+        in-spots cs n b.spot.era c ((count b.spot.era).1 (own.since, own.spot.opened)) (classes.all c (class-there r b.spot own.tree own.member own.since own.spot)),
+        record { spot = refl; is = own },
       )
 
-  same_block : (s : Spot) (b c : BlockValue) → IsBlockFor r s b → IsBlockFor r s c → b ≡ c
-  same_block s b c h g = one_block r b c h.is g.is (h.route ∙ sym g.route) (h.class ∙ sym g.class) (h.era ∙ sym g.era)
+  same_block : (s : ClassInEra) (b c : BlockValue) → IsBlockFor r s b → IsBlockFor r s c → b ≡ c
+  same_block s b c h g = one_block r b c h.is g.is (h.spot ∙ sym g.spot)
 
-  module _ (f : Gap) (t : ReportsGapIn r (spots_of cs n) f) where
+  module _ (f : Gap) (t : ReportsGapIn r (classes_in_eras cs n) f) where
     abbrev here : BlockValue
     here = t.reports.block
 
     abbrev leaf : LegValue
     leaf = t.reports.reports.gap.leaf
 
-    pub own : IsGap r (place_of_gap f) f.at f.server.0
+    pub own : IsGap r (place_of f.place) f.at f.server.0
     own =
         let reported = t.reports.reports in
         record {
@@ -63,7 +62,7 @@ module _ (r : RoutesValue) (cs : List RouteClass) (n : ℕ) (classes : AreRouteC
         (λ l j has low less. before_gap here t.reports.block_is.is.has.readable.rising t.reports.reports.number f.at t.reports.reports.gap l j has low less)
 
     -- in a block before it
-    in_before : (b : BlockValue) (s : Spot) → Contains t.before s → IsBlockFor r s b → (l : LegValue) (j : ℕ) → Contains b.readable l → j < length l.servers → HasReason b l j
+    in_before : (b : BlockValue) (s : ClassInEra) → Contains t.before s → IsBlockFor r s b → (l : LegValue) (j : ℕ) → Contains b.readable l → j < length l.servers → HasReason b l j
     in_before b s at block_is l j has low =
         let c = zip_there (IsBlockFor r) t.before t.blocks s t.blocks_are at in
         let reasons : All (HasReasons c.0) c.0.readable = All-contains (λ d. All (HasReasons d) d.readable) t.blocks c.0 t.reasons c.1 in
@@ -72,16 +71,16 @@ module _ (r : RoutesValue) (cs : List RouteClass) (n : ℕ) (classes : AreRouteC
         All-contains (HasReasons b) b.readable l own_reasons has j low
 
     -- a block behind it comes behind
-    in_behind : (b : BlockValue) (s : Spot) → Contains t.behind s → IsBlockFor r s b → block_cmp here b ≡ Less
+    in_behind : (b : BlockValue) (s : ClassInEra) → Contains t.behind s → IsBlockFor r s b → spot_cmp here.spot b.spot ≡ Less
     in_behind b s at block_is =
-        let rise = spots_behind r t.before (t.spot ∷ t.behind) (subst (AreSpotsOf r) t.parts (spots_are r cs n classes count)) in
-        let later : spot_cmp t.spot s ≡ Less = All-contains (λ u. spot_cmp t.spot u ≡ Less) t.behind s (All-from_recursion (λ u. spot_cmp t.spot u ≡ Less) t.behind rise.1) at in
+        let rise = spots_behind r t.before (t.spot ∷ t.behind) (subst (AreClassesInEras r) t.parts (spots_are r cs n classes count)) in
+        let later : spot_cmp (spot_of t.spot) (spot_of s) ≡ Less = All-contains (λ u. spot_cmp (spot_of t.spot) (spot_of u) ≡ Less) t.behind s (All-from_recursion (λ u. spot_cmp (spot_of t.spot) (spot_of u) ≡ Less) t.behind rise.1) at in
         same-cmp r t.spot s here b t.reports.block_is block_is ∙ later
 
-    none_before : (s : Place) (j x : ℕ) → index_cmp s j (place_of_gap f) f.at ≡ Less → IsGap r s j x → ⊥
+    none_before : (s : PlaceValue) (j x : ℕ) → index_cmp s j (place_of f.place) f.at ≡ Less → IsGap r s j x → ⊥
     none_before s j x less g =
         let b = g.block in
-        let at = spot_of b g.block_is in
+        let at = class_of b g.block_is in
         let low = slice_get_within g.leaf.servers j x g.has in
         let before : index_cmp (place_in b g.leaf) j (place_in here leaf) f.at ≡ Less =
         subst (λ p. index_cmp p j (place_in here leaf) f.at ≡ Less) (sym g.placed) (subst (λ p. index_cmp s j p f.at ≡ Less) (sym t.reports.reports.placed) less) in
@@ -95,5 +94,5 @@ module _ (r : RoutesValue) (cs : List RouteClass) (n : ℕ) (classes : AreRouteC
           ]
         ]
 
-    pub first_gap : IsFirstGap r (place_of_gap f) f.at f.server.0
+    pub first_gap : IsFirstGap r (place_of f.place) f.at f.server.0
     first_gap = record { gap = own; first = λ s j x less g. none_before s j x less g }

@@ -8,14 +8,14 @@ use Rattle.mcv_cert.specs.Pair.{PairValue}
 use Rattle.mcv_judge.specs.Answers.{AnswersBlock}
 use Rattle.mcv_judge.specs.Reason.{BlockValue, HasReasons}
 use Rattle.mcv_route.specs.Routes.{RoutesValue}
-use Rattle.mcv_pairs.specs.Adds.{Adds}
+use Rattle.mcv_pairs.specs.AddedPairs.{Adds}
 use Rattle.mcv_pairs.specs.Reasons.{IsPickedIn}
-use Rattle.mcv_pairs.proofs.Added.{all_more, all_none}
-use Rattle.mcv_pairs.proofs.Reasoned.{answered_have}
-use Rattle.mcv_blocks.specs.Spots.{IsBlockFor, Spot, eras_from, spot, spots_of}
+use Rattle.mcv_pairs.proofs.AddedPairs.{all_more, all_none}
+use Rattle.mcv_pairs.proofs.AnsweredHasReasons.{answered_have}
+use Rattle.mcv_blocks.specs.Spots.{IsBlockFor, ClassInEra, eras_from, in_era, classes_in_eras}
 use Rattle.mcv_blocks.specs.declared.classes.RouteClass.{RouteClass}
-use Rattle.mcv_certify.specs.Made.{AddsFor, ReportsGapAt, ReportsGapIn}
-use Rattle.mcv_certify.specs.Picked.{IsPickedOf}
+use Rattle.mcv_certify.specs.BlockSteps.{AddsFor, ReportsGapAt, ReportsGapIn}
+use Rattle.mcv_certify.specs.PickedReasons.{IsPickedOf}
 use Rattle.mcv_certify.specs.declared.gap.Gap.{Gap}
 use Rattle.mcv_certify.proofs.Lists.{in_turn_both, zip_both}
 use Rattle.mcv_certify.proofs.Spots.{eras_more, eras_parted, spots_more, spots_parted}
@@ -27,7 +27,7 @@ module _ (r : RoutesValue) where
   adds_none old = record { blocks = []; blocks_are = tt; adds = record { pairs = []; added = sym (append-nil old); have = refl }; picked = all_none (IsPickedOf r) old }
 
   -- the pairs of one block
-  pub adds_one : (s : Spot) (b : BlockValue) (old new : List PairValue) → IsBlockFor r s b → Adds (AnswersBlock b) old new → Adds (All (IsPickedIn b)) old new → AddsFor r (s ∷ []) old new
+  pub adds_one : (s : ClassInEra) (b : BlockValue) (old new : List PairValue) → IsBlockFor r s b → Adds (AnswersBlock b) old new → Adds (All (IsPickedIn b)) old new → AddsFor r (s ∷ []) old new
   adds_one s b old new block_is h picked = record {
     blocks = b ∷ [];
     blocks_are = (block_is, tt);
@@ -35,7 +35,7 @@ module _ (r : RoutesValue) where
     picked = all_more (IsPickedOf r) (IsPickedIn b) (λ p own. (b, block_is.is, own)) old old new (all_none (IsPickedOf r) old) picked;
   }
 
-  adds_both : (ss ts : List Spot) (old now new : List PairValue) → AddsFor r ss old now → AddsFor r ts now new → AddsFor r (ss ++ ts) old new
+  adds_both : (ss ts : List ClassInEra) (old now new : List PairValue) → AddsFor r ss old now → AddsFor r ts now new → AddsFor r (ss ++ ts) old new
   adds_both ss ts old now new h g = record {
     blocks = h.blocks ++ g.blocks;
     blocks_are = zip_both (IsBlockFor r) ss ts h.blocks g.blocks h.blocks_are g.blocks_are;
@@ -48,22 +48,22 @@ module _ (r : RoutesValue) where
   }
 
   -- and those of the next era
-  pub adds_era : (c : RouteClass) (k : ℕ) (old now new : List PairValue) → AddsFor r (eras_from c 0 k) old now → AddsFor r (spot c k ∷ []) now new → AddsFor r (eras_from c 0 (k + 1)) old new
-  adds_era c k old now new h g = subst (λ ss. AddsFor r ss old new) (sym (eras_more c k)) (adds_both (eras_from c 0 k) (spot c k ∷ []) old now new h g)
+  pub adds_era : (c : RouteClass) (k : ℕ) (old now new : List PairValue) → AddsFor r (eras_from c 0 k) old now → AddsFor r (in_era c k ∷ []) now new → AddsFor r (eras_from c 0 (k + 1)) old new
+  adds_era c k old now new h g = subst (λ ss. AddsFor r ss old new) (sym (eras_more c k)) (adds_both (eras_from c 0 k) (in_era c k ∷ []) old now new h g)
 
   -- and those of the next class
-  pub adds_class : (cs : List RouteClass) (k n : ℕ) (c : RouteClass) (old now new : List PairValue) → k < length cs → c ≡ get_or cs k c → AddsFor r (spots_of (take k cs) n) old now → AddsFor r (eras_from c 0 n) now new → AddsFor r (spots_of (take (k + 1) cs) n) old new
-  adds_class cs k n c old now new low is h g = subst (λ ss. AddsFor r ss old new) (sym (spots_more cs k n c low is)) (adds_both (spots_of (take k cs) n) (eras_from c 0 n) old now new h g)
+  pub adds_class : (cs : List RouteClass) (k n : ℕ) (c : RouteClass) (old now new : List PairValue) → k < length cs → c ≡ get_or cs k c → AddsFor r (classes_in_eras (take k cs) n) old now → AddsFor r (eras_from c 0 n) now new → AddsFor r (classes_in_eras (take (k + 1) cs) n) old new
+  adds_class cs k n c old now new low is h g = subst (λ ss. AddsFor r ss old new) (sym (spots_more cs k n c low is)) (adds_both (classes_in_eras (take k cs) n) (eras_from c 0 n) old now new h g)
 
   -- ---- what is reported
 
   -- a gap in an era, behind blocks of the class that have reasons
-  pub reports_era : (c : RouteClass) (k n : ℕ) (old now : List PairValue) (f : Gap) → k < n → AddsFor r (eras_from c 0 k) old now → ReportsGapAt r (spot c k) f → ReportsGapIn r (eras_from c 0 n) f
+  pub reports_era : (c : RouteClass) (k n : ℕ) (old now : List PairValue) (f : Gap) → k < n → AddsFor r (eras_from c 0 k) old now → ReportsGapAt r (in_era c k) f → ReportsGapIn r (eras_from c 0 n) f
   reports_era c k n old now f low h reported =
       let later = eras_parted c k n low in
       record {
         before = eras_from c 0 k;
-        spot = spot c k;
+        spot = in_era c k;
         behind = later.0;
         parts = later.1;
         blocks = h.blocks;
@@ -73,10 +73,10 @@ module _ (r : RoutesValue) where
       }
 
   -- a gap in a class, behind classes whose blocks have reasons
-  pub reports_class : (cs : List RouteClass) (k n : ℕ) (c : RouteClass) (old now : List PairValue) (f : Gap) → slice_get cs k ≡ Some c → AddsFor r (spots_of (take k cs) n) old now → ReportsGapIn r (eras_from c 0 n) f → ReportsGapIn r (spots_of cs n) f
+  pub reports_class : (cs : List RouteClass) (k n : ℕ) (c : RouteClass) (old now : List PairValue) (f : Gap) → slice_get cs k ≡ Some c → AddsFor r (classes_in_eras (take k cs) n) old now → ReportsGapIn r (eras_from c 0 n) f → ReportsGapIn r (classes_in_eras cs n) f
   reports_class cs k n c old now f is h reported =
-      let front = spots_of (take k cs) n in
-      let back = spots_of (drop (suc k) cs) n in
+      let front = classes_in_eras (take k cs) n in
+      let back = classes_in_eras (drop (suc k) cs) n in
       let own : eras_from c 0 n ++ back ≡ reported.before ++ (reported.spot ∷ (reported.behind ++ back)) = ap (λ ss. ss ++ back) reported.parts ∙ append_assoc reported.before (reported.spot ∷ reported.behind) back in
       record {
         before = front ++ reported.before;

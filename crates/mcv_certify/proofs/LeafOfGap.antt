@@ -3,9 +3,9 @@ use Rattle.std.proofs.Common.{◌≡◌, ◌<◌, ℕ, List, length, get_or, Som
 use Rattle.std.specs.Prelude.{option_map, slice_get}
 use Rattle.std.proofs.lemmas.List.{length-map}
 use Rattle.std.proofs.lemmas.Option.{same_Some, slice_get-get_or, slice_get-map, slice_get_within}
-use Rattle.mcv_cert.specs.Pair.{Place}
+use Rattle.mcv_cert.specs.Pair.{PlaceValue}
 use Rattle.mcv_judge.specs.Faults.{require, place_required}
-use Rattle.mcv_judge.specs.InMemory.{leg_of, legs_of}
+use Rattle.mcv_judge.specs.PairsInMemory.{leg_of, legs_of}
 use Rattle.mcv_judge.specs.Reason.{BlockValue, LegValue}
 use Rattle.mcv_judge.specs.declared.block.Leg.{Leg}
 
@@ -20,5 +20,5 @@ leg_there legs n d l is =
     let own = slice_get-get_or legs n d (leg_within legs n l is) in
     same_Some (leg_of (get_or legs n d)) l (sym (slice_get-map leg_of legs n ∙ ap (option_map leg_of) own) ∙ is)
 
-pub placed_at : (b : BlockValue) (l : LegValue) (class leaf : List ℕ) → class ≡ b.class → leaf ≡ l.position → ◌≡◌ {A = Place} (place_required (require b l)) (record { route = b.route; class = class; era = b.era; leaf = leaf })
+pub placed_at : (b : BlockValue) (l : LegValue) (class leaf : List ℕ) → class ≡ b.spot.class → leaf ≡ l.position → ◌≡◌ {A = PlaceValue} (place_required (require b l)) (record { spot = record { route = b.spot.route; class = class; era = b.spot.era }; leaf = leaf })
 placed_at b l class leaf h g = rw (h, g) refl

@@ -5,9 +5,9 @@ pub mod Places
 pub mod BlockGap
 pub mod FirstGap
 pub mod MadeOfSets
-pub mod Known
+pub mod ReportedServerIsKnown
 pub mod LeafOfGap
-pub mod Loss
-pub mod Lost
-pub mod Certified
+pub mod GapIsLoss
+pub mod GapReports
+pub mod AnsweringPairsJustify
 pub mod Verdicts

@@ -8,16 +8,16 @@ use Rattle.mcv_judge.specs.Reason.{LegValue}
 use Rattle.mcv_route.specs.Places.{pool_at_position}
 use Rattle.mcv_route.specs.Routes.{IsSoundRoutes, RouteEntry, RoutesValue}
 use Rattle.mcv_route.specs.Tree.{Tree}
-use Rattle.mcv_symbolic.specs.Covered.{sizes_of}
+use Rattle.mcv_symbolic.specs.CoveredRoutes.{sizes_of}
 use Rattle.mcv_pairs.specs.Gaps.{IsSized}
 use Rattle.mcv_blocks.specs.Blocks.{AreLeavesAt, IsAcknowledgedAt, pool_for}
 use Rattle.mcv_route.specs.Eras.{HasEra, IsEraOf}
 use Rattle.mcv_blocks.specs.Sets.{SetsValue}
-use Rattle.mcv_blocks.specs.Spots.{IsSpotOf, spot}
+use Rattle.mcv_blocks.specs.Spots.{IsClassInEra, in_era}
 use Rattle.mcv_blocks.specs.declared.classes.RouteClass.{RouteClass}
 use Rattle.mcv_blocks.proofs.PoolSizes.{entry_sized}
 use Rattle.mcv_blocks.proofs.BlockOfSets.{block_is_there, tree_of}
-use Rattle.mcv_certify.specs.Made.{AddsFor, AddsWith, AreLegsSized, ReportsGapAt, ReportsGapWith}
+use Rattle.mcv_certify.specs.BlockSteps.{AddsFor, AddsWith, AreLegsSized, ReportsGapAt, ReportsGapWith}
 use Rattle.mcv_certify.specs.declared.gap.Gap.{Gap}
 use Rattle.mcv_certify.proofs.GapsOfSpots.{adds_one}
 
@@ -31,13 +31,13 @@ legs_sized r sound e there t root P legs are = (
       sym (entry_sized r e sound there l.position (pool_for l) pool).1,
 )
 
-module _ (r : RoutesValue) (c : RouteClass) (era : ℕ) (at : IsSpotOf r (spot c era)) (s want : SetsValue) (same : s ≡ want) (tree : Some want.tree ≡ option_map (λ (e : RouteEntry). e.tree) (slice_get r.entries c.route)) where
+module _ (r : RoutesValue) (c : RouteClass) (era : ℕ) (at : IsClassInEra r (in_era c era)) (s want : SetsValue) (same : s ≡ want) (tree : Some want.tree ≡ option_map (λ (e : RouteEntry). e.tree) (slice_get r.entries c.route)) where
   -- its pairs are those for the spot
-  pub adds_with : Some want.rest ≡ c.class.member → (HasEra r era → IsEraOf r era want.since) → (old new : List PairValue) → AddsWith s c era old new → AddsFor r (spot c era ∷ []) old new
-  adds_with member opened old new h = adds_one r (spot c era) h.block old new (block_is_there r c era at s want same tree member opened h.block h.is) h.adds h.picked
+  pub adds_with : Some want.rest ≡ c.class.member → (HasEra r era → IsEraOf r era want.since) → (old new : List PairValue) → AddsWith s c era old new → AddsFor r (in_era c era ∷ []) old new
+  adds_with member opened old new h = adds_one r (in_era c era) h.block old new (block_is_there r c era at s want same tree member opened h.block h.is) h.adds h.picked
 
   -- and its gap is that at the spot
-  pub reports_with : Some want.rest ≡ c.class.member → (HasEra r era → IsEraOf r era want.since) → (f : Gap) → ReportsGapWith s c era f → ReportsGapAt r (spot c era) f
+  pub reports_with : Some want.rest ≡ c.class.member → (HasEra r era → IsEraOf r era want.since) → (f : Gap) → ReportsGapWith s c era f → ReportsGapAt r (in_era c era) f
   reports_with member opened f h = record { block = h.block; block_is = block_is_there r c era at s want same tree member opened h.block h.is; reports = h.reports }
 
   -- the legs of sets of sound routes

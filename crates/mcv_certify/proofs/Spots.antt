@@ -2,7 +2,7 @@
 use Rattle.std.proofs.Common.{◌≡◌, ◌+◌, ◌-◌, ◌<◌, ◌≤◌, ℕ, zero, suc, List, [], ◌∷◌, ◌++◌, length, get_or, take, drop, refl, sym, ap, ◌∙◌, arith}
 use Rattle.std.specs.Prelude.{slice_get, Some}
 use Rattle.std.proofs.lemmas.List.{append-nil, append_assoc, take_more}
-use Rattle.mcv_blocks.specs.Spots.{Spot, eras_from, spot, spots_of}
+use Rattle.mcv_blocks.specs.Spots.{ClassInEra, eras_from, in_era, classes_in_eras}
 use Rattle.mcv_blocks.specs.declared.classes.RouteClass.{RouteClass}
 use Rattle.mcv_certify.proofs.Lists.{parted}
 
@@ -43,29 +43,29 @@ past-all k n within past = omega arith
 eras_both : (c : RouteClass) (e k m n : ℕ) → n ≡ k + m → eras_from c e n ≡ eras_from c e k ++ eras_from c (e + k) m
 eras_both c e zero m n is = ap (eras_from c e) (none-more n m is) ∙ ap (λ x. eras_from c x m) (behind-none e)
 eras_both c e (suc k) m zero is = absurd (never-more k m is)
-eras_both c e (suc k) m (suc n) is = ap (λ ss. spot c e ∷ ss) (eras_both c (suc e) k m n (one-less n k m is) ∙ ap (λ x. eras_from c (suc e) k ++ eras_from c x m) (next-on e k))
+eras_both c e (suc k) m (suc n) is = ap (λ ss. in_era c e ∷ ss) (eras_both c (suc e) k m n (one-less n k m is) ∙ ap (λ x. eras_from c (suc e) k ++ eras_from c x m) (next-on e k))
 
 -- one era more
-pub eras_more : (c : RouteClass) (k : ℕ) → eras_from c 0 (k + 1) ≡ eras_from c 0 k ++ spot c k ∷ []
-eras_more c k = eras_both c 0 k 1 (k + 1) refl ∙ ap (λ x. eras_from c 0 k ++ spot c x ∷ []) (from-none k)
+pub eras_more : (c : RouteClass) (k : ℕ) → eras_from c 0 (k + 1) ≡ eras_from c 0 k ++ in_era c k ∷ []
+eras_more c k = eras_both c 0 k 1 (k + 1) refl ∙ ap (λ x. eras_from c 0 k ++ in_era c x ∷ []) (from-none k)
 
-pub eras_parted : (c : RouteClass) (k n : ℕ) → k < n → (later : List Spot) × (eras_from c 0 n ≡ eras_from c 0 k ++ spot c k ∷ later)
+pub eras_parted : (c : RouteClass) (k n : ℕ) → k < n → (later : List ClassInEra) × (eras_from c 0 n ≡ eras_from c 0 k ++ in_era c k ∷ later)
 eras_parted c k n low = (
   eras_from c (suc k) (n - suc k),
-  eras_both c 0 k (suc (n - suc k)) n (parts-of k n low) ∙ ap (λ x. eras_from c 0 k ++ spot c x ∷ eras_from c (suc x) (n - suc k)) (from-none k),
+  eras_both c 0 k (suc (n - suc k)) n (parts-of k n low) ∙ ap (λ x. eras_from c 0 k ++ in_era c x ∷ eras_from c (suc x) (n - suc k)) (from-none k),
 )
 
 -- ---- classes
 
-spots_both : (cs ds : List RouteClass) (n : ℕ) → spots_of (cs ++ ds) n ≡ spots_of cs n ++ spots_of ds n
+spots_both : (cs ds : List RouteClass) (n : ℕ) → classes_in_eras (cs ++ ds) n ≡ classes_in_eras cs n ++ classes_in_eras ds n
 spots_both [] ds n = refl
-spots_both (c ∷ cs) ds n = ap (λ ss. eras_from c 0 n ++ ss) (spots_both cs ds n) ∙ sym (append_assoc (eras_from c 0 n) (spots_of cs n) (spots_of ds n))
+spots_both (c ∷ cs) ds n = ap (λ ss. eras_from c 0 n ++ ss) (spots_both cs ds n) ∙ sym (append_assoc (eras_from c 0 n) (classes_in_eras cs n) (classes_in_eras ds n))
 
 -- one class more
-pub spots_more : (cs : List RouteClass) (k n : ℕ) (c : RouteClass) → k < length cs → c ≡ get_or cs k c → spots_of (take (k + 1) cs) n ≡ spots_of (take k cs) n ++ eras_from c 0 n
+pub spots_more : (cs : List RouteClass) (k n : ℕ) (c : RouteClass) → k < length cs → c ≡ get_or cs k c → classes_in_eras (take (k + 1) cs) n ≡ classes_in_eras (take k cs) n ++ eras_from c 0 n
 spots_more cs k n c low is =
     let next : take (k + 1) cs ≡ take k cs ++ c ∷ [] = take_more cs k c low ∙ ap (λ d. take k cs ++ d ∷ []) (sym is) in
-    ap (λ ds. spots_of ds n) next ∙ spots_both (take k cs) (c ∷ []) n ∙ ap (λ ss. spots_of (take k cs) n ++ ss) (append-nil (eras_from c 0 n))
+    ap (λ ds. classes_in_eras ds n) next ∙ spots_both (take k cs) (c ∷ []) n ∙ ap (λ ss. classes_in_eras (take k cs) n ++ ss) (append-nil (eras_from c 0 n))
 
-pub spots_parted : (cs : List RouteClass) (k n : ℕ) (c : RouteClass) → slice_get cs k ≡ Some c → spots_of cs n ≡ spots_of (take k cs) n ++ (eras_from c 0 n ++ spots_of (drop (suc k) cs) n)
-spots_parted cs k n c is = ap (λ ds. spots_of ds n) (parted cs k c is) ∙ spots_both (take k cs) (c ∷ drop (suc k) cs) n
+pub spots_parted : (cs : List RouteClass) (k n : ℕ) (c : RouteClass) → slice_get cs k ≡ Some c → classes_in_eras cs n ≡ classes_in_eras (take k cs) n ++ (eras_from c 0 n ++ classes_in_eras (drop (suc k) cs) n)
+spots_parted cs k n c is = ap (λ ds. classes_in_eras ds n) (parted cs k c is) ∙ spots_both (take k cs) (c ∷ drop (suc k) cs) n

@@ -1,29 +1,30 @@
 -- What a fault says, by what was reported on the way.
 use Rattle.std.proofs.Common.{◌≡◌, ◌↔◌, ◌<◌, ℕ, List, length, refl}
 use Rattle.std.specs.List.{All}
+use Rattle.mcv_cert.specs.Pair.{place_of}
 use Rattle.mcv_route.specs.Routes.{IsSoundRoutes, RoutesValue}
 use Rattle.mcv_route.specs.Eras.{HasEra}
-use Rattle.mcv_symbolic.specs.Covered.{AreCovered, sizes_of}
+use Rattle.mcv_symbolic.specs.CoveredRoutes.{AreCovered, sizes_of}
 use Rattle.mcv_blocks.specs.Places.{AreRouteClasses}
-use Rattle.mcv_blocks.specs.Spots.{spots_of}
+use Rattle.mcv_blocks.specs.Spots.{classes_in_eras}
 use Rattle.mcv_blocks.specs.declared.classes.RouteClass.{RouteClass}
-use Rattle.mcv_certify.specs.Gap.{IfLost, IsRightFault, place_of_gap}
-use Rattle.mcv_certify.specs.Made.{ReportsGapIn}
+use Rattle.mcv_certify.specs.Gap.{IfLost, IsRightFault}
+use Rattle.mcv_certify.specs.BlockSteps.{ReportsGapIn}
 use Rattle.mcv_certify.specs.declared.gap.CertifyFault.{CertifyFault}
 use Rattle.mcv_certify.specs.declared.gap.CertifyFault.TheVariants.{Lost, Memory}
 use Rattle.mcv_certify.proofs.FirstGap.{first_gap, own}
-use Rattle.mcv_certify.proofs.Loss.{gap_lost}
-use Rattle.mcv_certify.proofs.Known.{server_known}
+use Rattle.mcv_certify.proofs.GapIsLoss.{gap_lost}
+use Rattle.mcv_certify.proofs.ReportedServerIsKnown.{server_known}
 
 module _ (r : RoutesValue) (cs : List RouteClass) (n : ℕ) (sound : IsSoundRoutes r) (classes : AreRouteClasses r cs) (count : (era : ℕ) → (era < n) ↔ HasEra r era) where
-  pub right : (e : CertifyFault) → IfLost e (ReportsGapIn r (spots_of cs n)) → IsRightFault r e
+  pub right : (e : CertifyFault) → IfLost e (ReportsGapIn r (classes_in_eras cs n)) → IsRightFault r e
   right (Lost f) t = first_gap r cs n classes count f t
   right Memory t = tt
 
-  pub known : (e : CertifyFault) → IfLost e (ReportsGapIn r (spots_of cs n)) → IfLost e (λ f. f.server.0 < length r.servers)
+  pub known : (e : CertifyFault) → IfLost e (ReportsGapIn r (classes_in_eras cs n)) → IfLost e (λ f. f.server.0 < length r.servers)
   known (Lost f) t = let g = own r cs n classes count f t in server_known r sound g.block g.block_is g.leaf f.at f.server.0 g.readable g.has
   known Memory t = tt
 
-  pub only_memory : All (λ n. 0 < n) (sizes_of r) → AreCovered r → (e : CertifyFault) → IfLost e (ReportsGapIn r (spots_of cs n)) → e ≡ Memory
-  only_memory positive covered (Lost f) t = absurd (gap_lost r (place_of_gap f) f.at f.server.0 sound positive t.reports.reports.bytes (own r cs n classes count f t) covered)
+  pub only_memory : All (λ n. 0 < n) (sizes_of r) → AreCovered r → (e : CertifyFault) → IfLost e (ReportsGapIn r (classes_in_eras cs n)) → e ≡ Memory
+  only_memory positive covered (Lost f) t = absurd (gap_lost r (place_of f.place) f.at f.server.0 sound positive t.reports.reports.bytes (own r cs n classes count f t) covered)
   only_memory positive covered Memory t = refl

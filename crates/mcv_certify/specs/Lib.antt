@@ -1,3 +1,3 @@
 pub mod Gap
-pub mod Made
-pub mod Picked
+pub mod BlockSteps
+pub mod PickedReasons

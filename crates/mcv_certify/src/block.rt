@@ -3,17 +3,17 @@
 ghost use Rattle.std.specs.Prelude.{All, IfErr, OnOk};
 ghost use Rattle.mcv_judge.specs.Answers.{AnswersBlock};
 ghost use Rattle.mcv_judge.specs.Faults.{AreLegsRising};
-ghost use Rattle.mcv_judge.specs.InMemory.{block_of, legs_of, pairs_of};
-ghost use Rattle.mcv_pairs.specs.Adds.{Adds};
+ghost use Rattle.mcv_judge.specs.PairsInMemory.{block_of, legs_of, pairs_of};
+ghost use Rattle.mcv_pairs.specs.AddedPairs.{Adds};
 ghost use Rattle.mcv_pairs.specs.Gaps.{IsSized};
 ghost use Rattle.mcv_pairs.specs.Reasons.{IsPickedIn};
 ghost use Rattle.mcv_certify.specs.Gap.{IfLost};
-ghost use Rattle.mcv_certify.specs.Made.{AddsWith, AreLegsSized, ReportsGapOf, ReportsGapWith};
+ghost use Rattle.mcv_certify.specs.BlockSteps.{AddsWith, AreLegsSized, ReportsGapOf, ReportsGapWith};
 
 use crate::gap::{CertifyFault, gap_of};
 use mcv_blocks::{RouteClass, Sets};
 use mcv_cert::Pair;
-use mcv_judge::Block;
+use mcv_judge::{Block, Spot};
 use mcv_pairs::push_block;
 use std::alloc::Global;
 
@@ -46,9 +46,11 @@ pub fn push_sets(
     let readable = sets.readable(alloc)?;
     let acknowledged = sets.acknowledged(alloc)?;
     let block = Block {
-        route: class.route,
-        class: class.class.word(),
-        era,
+        spot: Spot {
+            route: class.route,
+            class: class.class.word(),
+            era,
+        },
         readable: readable.as_slice(),
         acknowledged: acknowledged.as_slice(),
         can_be_acknowledged: sets.can_be_acknowledged(),

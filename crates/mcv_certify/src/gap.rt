@@ -1,12 +1,13 @@
 //! Where a delete can be lost.
 
 ghost use Rattle.std.specs.Prelude.{◌≡◌, ◌<◌, All, IfOk};
-ghost use Rattle.mcv_judge.specs.InMemory.{block_of};
+ghost use Rattle.mcv_judge.specs.PairsInMemory.{block_of};
 ghost use Rattle.mcv_pairs.specs.Gaps.{IsFirstGapIn};
-ghost use Rattle.mcv_certify.specs.Made.{ReportsGapOf};
+ghost use Rattle.mcv_certify.specs.BlockSteps.{ReportsGapOf};
 ghost use Rattle.mcv_certify.specs.declared.gap.CertifyFault.TheVariants.{Memory as out_of_memory};
 
-use mcv_base::{Position, ServerId};
+use mcv_base::ServerId;
+use mcv_cert::Place;
 use mcv_judge::Block;
 use mcv_pairs::BlockGap;
 use std::alloc::{AllocError, Global};
@@ -15,14 +16,7 @@ use std::alloc::{AllocError, Global};
 /// the server that the leaf has there.
 #[derive(Drop)]
 pub struct Gap {
-    /// The number of the route, from 0.
-    pub route: usize,
-    /// The bytes of the class word.
-    pub class: Vec<u8>,
-    /// The number of the era, from 0.
-    pub era: usize,
-    /// The position of the leaf in the tree of the route.
-    pub leaf: Position,
+    pub place: Place,
     /// The index of the leaf's symbol, from 0.
     pub at: usize,
     /// The server that the leaf has at the index.
@@ -63,10 +57,12 @@ pub fn gap_of(alloc: Global, block: &Block, gap: BlockGap) -> Result<Gap, AllocE
     let servers = leaf.servers;
     let server = servers[gap.at];
     Ok(Gap {
-        route: block.route,
-        class: copied(alloc, block.class)?,
-        era: block.era,
-        leaf: leaf.position.copy(alloc)?,
+        place: Place {
+            route: block.spot.route,
+            class: copied(alloc, block.spot.class)?,
+            era: block.spot.era,
+            leaf: leaf.position.copy(alloc)?,
+        },
         at: gap.at,
         server,
     })

@@ -4,13 +4,13 @@ ghost use Rattle.std.specs.Prelude.{◌≡◌, ◌<◌, ℕ, [], ◌∷◌, All,
 ghost use Rattle.mcv_route.specs.Eras.{HasEra};
 ghost use Rattle.mcv_blocks.specs.Blocks.{IsJustifiedBy};
 ghost use Rattle.mcv_blocks.specs.Places.{IsRouteClass};
-ghost use Rattle.mcv_blocks.specs.Spots.{IsSpotOf, eras_from, spot};
-ghost use Rattle.mcv_judge.specs.InMemory.{pairs_of};
+ghost use Rattle.mcv_blocks.specs.Spots.{IsClassInEra, eras_from, in_era};
+ghost use Rattle.mcv_judge.specs.PairsInMemory.{pairs_of};
 ghost use Rattle.mcv_route.specs.Routes.{IsSoundRoutes};
-ghost use Rattle.mcv_symbolic.specs.Covered.{AreCovered};
+ghost use Rattle.mcv_symbolic.specs.CoveredRoutes.{AreCovered};
 ghost use Rattle.mcv_certify.specs.Gap.{IfLost, IsRightFault};
-ghost use Rattle.mcv_certify.specs.Made.{AddsFor, ReportsGapAt, ReportsGapIn};
-ghost use Rattle.mcv_certify.specs.Picked.{IsPickedOf};
+ghost use Rattle.mcv_certify.specs.BlockSteps.{AddsFor, ReportsGapAt, ReportsGapIn};
+ghost use Rattle.mcv_certify.specs.PickedReasons.{IsPickedOf};
 ghost use Rattle.mcv_certify.specs.declared.gap.CertifyFault.TheVariants.{Memory as out_of_memory};
 
 use crate::block::push_sets;
@@ -29,9 +29,9 @@ fn push_era(
     pairs: &mut Vec<Pair>,
 ) -> Result<(), CertifyFault>
     requires sound { IsSoundRoutes routes.now }
-    requires spot { IsSpotOf routes.now (spot class.now era) }
-    ensures added { OnOk result (AddsFor routes.now (spot class.now era ∷ []) (pairs_of pairs.old.items) (pairs_of pairs.new.items)) }
-    ensures lost { IfErr result (λ f. IfLost f (ReportsGapAt routes.now (spot class.now era))) }
+    requires spot { IsClassInEra routes.now (in_era class.now era) }
+    ensures added { OnOk result (AddsFor routes.now (in_era class.now era ∷ []) (pairs_of pairs.old.items) (pairs_of pairs.new.items)) }
+    ensures lost { IfErr result (λ f. IfLost f (ReportsGapAt routes.now (in_era class.now era))) }
 {
     let Some(route) = routes.route(class.route) else {
         unreachable!()

@@ -8,11 +8,11 @@ use Rattle.mcv_route.specs.Routes.{RoutesValue}
 use Rattle.mcv_route.specs.Eras.{HasEra}
 use Rattle.mcv_blocks.specs.Blocks.{IsFirstFaultOf, IsJustifiedBy}
 use Rattle.mcv_blocks.specs.Places.{AreRouteClasses, IsRouteClass}
-use Rattle.mcv_blocks.specs.Spots.{AreSpotsOf, eras_from, spots_of}
+use Rattle.mcv_blocks.specs.Spots.{AreClassesInEras, eras_from, classes_in_eras}
 use Rattle.mcv_blocks.specs.declared.classes.RouteClass.{RouteClass}
 use Rattle.mcv_blocks.proofs.BlocksOfSpots.{blocks_of_spots, spots_are, spots_behind}
 use Rattle.mcv_check.specs.Fault.{IsFaultOfPairs}
-use Rattle.mcv_check.specs.Judged.{IsJudged, Leaves, Stops}
+use Rattle.mcv_check.specs.Judgements.{IsJudged, Leaves, Stops}
 use Rattle.mcv_check.specs.declared.fault.CheckFault.{CheckFault}
 use Rattle.mcv_check.specs.declared.fault.CheckFault.TheVariants.{Memory, Pair}
 use Rattle.mcv_check.proofs.Steps.{IsFirstAt, brought-back, further, nothing_judged}
@@ -23,34 +23,34 @@ next cs k c low is = rw (add-one, drop-cons cs k c, ← is) refl
 
 -- judged up to the classes left
 pub record IsJudgedBefore (r : RoutesValue) (cs : List RouteClass) (n : ℕ) (pairs : List PairValue) (left : List RouteClass) (rest : List PairValue) : Type 0 where
-  pub order : AreSpotsOf r (spots_of left n)
-  pub judged : IsJudged r pairs (spots_of cs n) rest (spots_of left n)
+  pub order : AreClassesInEras r (classes_in_eras left n)
+  pub judged : IsJudged r pairs (classes_in_eras cs n) rest (classes_in_eras left n)
 
 module _ (r : RoutesValue) (cs : List RouteClass) (n : ℕ) (pairs : List PairValue) where
   pub first_class : AreRouteClasses r cs → ((era : ℕ) → (era < n) ↔ HasEra r era) → IsJudgedBefore r cs n pairs cs pairs
-  first_class are count = record { order = spots_are r cs n are count; judged = nothing_judged r pairs (spots_of cs n) }
+  first_class are count = record { order = spots_are r cs n are count; judged = nothing_judged r pairs (classes_in_eras cs n) }
 
   there : (k : ℕ) (c : RouteClass) → k < length cs → c ≡ get_or cs k c → (rest : List PairValue) → IsJudgedBefore r cs n pairs (drop k cs) rest → IsJudgedBefore r cs n pairs (c ∷ drop (k + 1) cs) rest
   there k c low is rest so_far = subst (λ left. IsJudgedBefore r cs n pairs left rest) (next cs k c low is) so_far
 
   pub next_class : (k : ℕ) (c : RouteClass) → k < length cs → c ≡ get_or cs k c → (rest last : List PairValue) → IsJudgedBefore r cs n pairs (drop k cs) rest → Leaves r rest (eras_from c 0 n) last → IsJudgedBefore r cs n pairs (drop (k + 1) cs) last
   next_class k c low is rest last so_far leaves =
-      let later = spots_of (drop (k + 1) cs) n in
+      let later = classes_in_eras (drop (k + 1) cs) n in
       let at = there k c low is rest so_far in
       record {
         order = spots_behind r (eras_from c 0 n) later at.order;
-        judged = further r pairs rest last (spots_of cs n) (eras_from c 0 n ++ later) later at.judged (leaves later at.order);
+        judged = further r pairs rest last (classes_in_eras cs n) (eras_from c 0 n ++ later) later at.judged (leaves later at.order);
       }
 
   module _ (are : AreRouteClasses r cs) (count : (era : ℕ) → (era < n) ↔ HasEra r era) where
-    reported : (fault : PairFault) → IsFirstAt r pairs (spots_of cs n) fault → IsFirstFaultOf r pairs fault
+    reported : (fault : PairFault) → IsFirstAt r pairs (classes_in_eras cs n) fault → IsFirstFaultOf r pairs fault
     reported fault h = (h.0, blocks_of_spots r cs n h.0 are count h.1, h.2)
 
     pub class_stops : (k : ℕ) (c : RouteClass) → k < length cs → c ≡ get_or cs k c → (rest : List PairValue) → IsJudgedBefore r cs n pairs (drop k cs) rest → (fault : CheckFault) → Stops r rest (eras_from c 0 n) fault → IsFaultOfPairs r pairs fault
     class_stops k c low is rest so_far (Pair fault) stops =
-        let later = spots_of (drop (k + 1) cs) n in
+        let later = classes_in_eras (drop (k + 1) cs) n in
         let at = there k c low is rest so_far in
-        reported fault (brought-back r pairs rest (spots_of cs n) (eras_from c 0 n ++ later) fault at.judged (stops later at.order))
+        reported fault (brought-back r pairs rest (classes_in_eras cs n) (eras_from c 0 n ++ later) fault at.judged (stops later at.order))
     class_stops k c low is rest so_far Memory stops = tt
 
     -- no class is left
@@ -60,7 +60,7 @@ module _ (r : RoutesValue) (cs : List RouteClass) (n : ℕ) (pairs : List PairVa
         (w.0, blocks_of_spots r cs n w.0 are count w.1, λ s i. w.2 s i ∙ none s i)
 
     pub end_stops : (rest : List PairValue) → IsJudgedBefore r cs n pairs [] rest → (fault : PairFault) → IsFirstFault rest [] fault → IsFirstFaultOf r pairs fault
-    end_stops rest so_far fault first = reported fault (brought-back r pairs rest (spots_of cs n) [] fault so_far.judged ([], tt, first))
+    end_stops rest so_far fault first = reported fault (brought-back r pairs rest (classes_in_eras cs n) [] fault so_far.judged ([], tt, first))
 
 -- the class at a place of the list
 pub class_at : (r : RoutesValue) (cs : List RouteClass) → AreRouteClasses r cs → (k : ℕ) (c : RouteClass) → k < length cs → c ≡ get_or cs k c → IsRouteClass r c

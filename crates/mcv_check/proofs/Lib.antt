@@ -2,4 +2,4 @@ pub mod Steps
 pub mod Eras
 pub mod Classes
 pub mod NoFaultOfJustified
-pub mod Found
+pub mod JudgedSets

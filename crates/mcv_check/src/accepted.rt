@@ -22,7 +22,7 @@ pub struct Accepted {
 impl Model for Accepted {
     ghost use Rattle.mcv_route.specs.Codes.{routes_code};
     ghost use Rattle.mcv_route.specs.Routes.{RoutesValue};
-    ghost use Rattle.mcv_symbolic.specs.Covered.{AreCovered};
+    ghost use Rattle.mcv_symbolic.specs.CoveredRoutes.{AreCovered};
 
     ghost Value = { RoutesValue };
 
@@ -34,7 +34,7 @@ impl Model for Accepted {
 }
 
 impl Accepted {
-    ghost use Rattle.mcv_symbolic.specs.Covered.{AreCovered};
+    ghost use Rattle.mcv_symbolic.specs.CoveredRoutes.{AreCovered};
 
     /// The routes. They are covered at every rest, in every era.
     pub fn routes(&self) -> &Routes

@@ -2,13 +2,13 @@
 
 ghost use Rattle.std.specs.Prelude.{IfErr, IfOk};
 ghost use Rattle.mcv_cert.specs.Pair.{AreRising};
-ghost use Rattle.mcv_check.specs.Judged.{IsInOrderWith, LeavesWith, StopsWith};
-ghost use Rattle.mcv_judge.specs.InMemory.{pairs_of};
+ghost use Rattle.mcv_check.specs.Judgements.{IsInOrderWith, LeavesWith, StopsWith};
+ghost use Rattle.mcv_judge.specs.PairsInMemory.{pairs_of};
 
 use crate::fault::CheckFault;
 use mcv_blocks::{RouteClass, Sets};
 use mcv_cert::Pair;
-use mcv_judge::{Block, judge_block};
+use mcv_judge::{Block, Spot, judge_block};
 use std::alloc::Global;
 
 /// Judges the pairs against the block that the sets of a class make in an era; gives those that are left behind it.
@@ -28,9 +28,11 @@ pub fn judge_sets<'p>(
     let readable = sets.readable(alloc)?;
     let acknowledged = sets.acknowledged(alloc)?;
     let block = Block {
-        route: class.route,
-        class: class.class.word(),
-        era,
+        spot: Spot {
+            route: class.route,
+            class: class.class.word(),
+            era,
+        },
         readable: readable.as_slice(),
         acknowledged: acknowledged.as_slice(),
         can_be_acknowledged: sets.can_be_acknowledged(),

@@ -4,11 +4,11 @@ ghost use Rattle.std.specs.Prelude.{◌≡◌, ◌<◌, ◌∷◌, ℕ, [], Some
 ghost use Rattle.mcv_route.specs.Eras.{HasEra};
 ghost use Rattle.mcv_blocks.specs.Blocks.{IsJustifiedBy};
 ghost use Rattle.mcv_blocks.specs.Places.{IsRouteClass};
-ghost use Rattle.mcv_blocks.specs.Spots.{IsSpotOf, eras_from, spot};
+ghost use Rattle.mcv_blocks.specs.Spots.{IsClassInEra, eras_from, in_era};
 ghost use Rattle.mcv_cert.specs.Pair.{AreRising};
 ghost use Rattle.mcv_check.specs.Fault.{IsFaultOfPairs};
-ghost use Rattle.mcv_check.specs.Judged.{AreSetsOf, Leaves, Stops};
-ghost use Rattle.mcv_judge.specs.InMemory.{pairs_of};
+ghost use Rattle.mcv_check.specs.Judgements.{AreSetsOf, Leaves, Stops};
+ghost use Rattle.mcv_judge.specs.PairsInMemory.{pairs_of};
 ghost use Rattle.mcv_route.specs.Routes.{IsSoundRoutes};
 
 use crate::block::judge_sets;
@@ -68,11 +68,11 @@ fn judge_in_era<'p>(
     pairs: &'p [Pair],
 ) -> Result<&'p [Pair], CheckFault>
     requires sound { IsSoundRoutes routes.now }
-    requires spot { IsSpotOf routes.now (spot class.now era) }
+    requires spot { IsClassInEra routes.now (in_era class.now era) }
     requires pairs { AreRising (pairs_of pairs.now) }
     ensures rising { IfOk result (λ rest. AreRising (pairs_of rest.now)) }
-    ensures left { IfOk result (λ rest. Leaves routes.now (pairs_of pairs.now) (spot class.now era ∷ []) (pairs_of rest.now)) }
-    ensures fault { IfErr result (Stops routes.now (pairs_of pairs.now) (spot class.now era ∷ [])) }
+    ensures left { IfOk result (λ rest. Leaves routes.now (pairs_of pairs.now) (in_era class.now era ∷ []) (pairs_of rest.now)) }
+    ensures fault { IfErr result (Stops routes.now (pairs_of pairs.now) (in_era class.now era ∷ [])) }
 {
     let Some(member) = class.class.member() else {
         unreachable!()
@@ -89,7 +89,7 @@ fn sets_of<'a>(
     member: &'a Rest,
     era: usize,
 ) -> Result<Sets<'a>, AllocError>
-    requires spot { IsSpotOf routes.now (spot class.now era) }
+    requires spot { IsClassInEra routes.now (in_era class.now era) }
     requires member { Some member.now ≡ class.now.class.member }
     ensures { IfOk result (AreSetsOf routes.now class.now era) }
 {

@@ -1,12 +1,12 @@
 pub mod Order
-pub mod Choosing
-pub mod Alike
+pub mod AlikePolicies
+pub mod AlikeRests
 pub mod Members
 pub mod Existence
-pub mod Walked
-pub mod Linked
-pub mod Found
-pub mod Listed
-pub mod Built
-pub mod Shared
+pub mod PolicyPrefixes
+pub mod Links
+pub mod LastWord
+pub mod ClassLists
+pub mod TableOfWords
+pub mod TableHasClasses
 mod Examples

@@ -1,6 +1,6 @@
 -- The class words of a route: all that its selectors ask of a rest is with which of these it begins (own).
 use Rattle.std.specs.Prelude.{ℕ, List, [], ◌∷◌, ◌++◌}
-use Rattle.mcv_route.specs.Tree.{Tree, Trees, pool, null, error, all_sync, all_initial, all_async, failover, miss_failover, warm_up, migrate, prefix_selector, operation_selector, none, child}
+use Rattle.mcv_route.specs.Tree.{Tree, Trees, pool, null, error, many, warm_up, migrate, prefix_selector, operation_selector, none, child}
 
 abbrev mutual
   -- the policy prefixes of a route's PrefixSelectorRoutes, those under shadows too
@@ -8,11 +8,7 @@ abbrev mutual
   prefixes_in (pool p ranges targets) = prefixes_below targets
   prefixes_in null = []
   prefixes_in error = []
-  prefixes_in (all_sync ts) = prefixes_below ts
-  prefixes_in (all_initial ts) = prefixes_below ts
-  prefixes_in (all_async ts) = prefixes_below ts
-  prefixes_in (failover ts) = prefixes_below ts
-  prefixes_in (miss_failover ts) = prefixes_below ts
+  prefixes_in (many kind ts) = prefixes_below ts
   prefixes_in (warm_up cold warm exptime) = prefixes_in cold ++ prefixes_in warm
   prefixes_in (migrate from to start interval) = prefixes_in from ++ prefixes_in to
   prefixes_in (prefix_selector prefixes ts) = prefixes ++ prefixes_below ts

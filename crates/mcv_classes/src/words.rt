@@ -17,11 +17,7 @@ pub fn push_words(alloc: Global, route: &Route, words: &mut Vec<Vec<u8>>) -> Res
         Route::Pool { leaf: _, shadows } => push_shadows(alloc, shadows, words),
         Route::Null => Ok(()),
         Route::Error => Ok(()),
-        Route::AllSync(children) => push_children(alloc, children, words),
-        Route::AllInitial(children) => push_children(alloc, children, words),
-        Route::AllAsync(children) => push_children(alloc, children, words),
-        Route::Failover(children) => push_children(alloc, children, words),
-        Route::MissFailover(children) => push_children(alloc, children, words),
+        Route::Many(_, children) => push_children(alloc, children, words),
         Route::WarmUp {
             cold,
             warm,

@@ -2,24 +2,20 @@
 //! standard output is written.
 #![tactic(auto)]
 
-ghost use Rattle.std.specs.Prelude.{◌≡◌, ◌⊎◌, IfErr};
-ghost use Rattle.mcv_command.specs.declared.stop.Stop.TheVariants.{BadLine, Run};
-ghost use Rattle.mcv_input.specs.declared.fault.RunFault.TheVariants.{Memory as out_of_memory};
-
 use mcv_check::Accepted;
-use mcv_command::{Ending, Proxy, Stop, SystemFiles, exit_status, run_words};
+use mcv_command::{Ending, Proxy, Stop, SystemFiles, exit_status, given_words, run_words};
 use mcv_input::RunFault;
 use mcv_net::{NetFault, SpoolFiles, serve};
 use std::alloc::{AllocError, Global};
 use std::cell::Cell;
 use std::fs::Files;
+use std::io;
 use std::io::{Eprint, Write};
 use std::net::{Net, TcpListener, TcpStream};
 use std::process::ExitCode;
 use std::rt::{Clock, Env};
 use std::sync::{Arc, Wait};
 use std::thread::Threads;
-use std::{env, io};
 
 fn main(rt: HostRuntime) -> ExitCode {
     let ended = run(rt);
@@ -83,19 +79,6 @@ impl Proxy for Orders {
             }
             Err(_) => Err(RunFault::Memory),
         }
-    }
-}
-
-/// The words of the command line, of which the first is the program's name; a bad line where one isn't UTF-8.
-fn given_words<R: Env + AllocGlobal>(rt: &R) -> Result<Vec<String>, Stop>
-    ensures { IfErr result (λ stop. (stop ≡ BadLine) ⊎ (stop ≡ Run out_of_memory)) }
-{
-    match env::args(rt) {
-        Ok(words) => Ok(words.collect(rt.alloc())?),
-        Err(error) if error.kind() == io::ErrorKind::OutOfMemory => Err(Stop::Run(
-            RunFault::Memory,
-        )),
-        Err(_) => Err(Stop::BadLine),
     }
 }
 

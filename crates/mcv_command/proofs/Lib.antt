@@ -1,5 +1,5 @@
 mod Examples
-pub mod Taken
-pub mod Given
+pub mod CommandIsNamed
+pub mod OptionValues
 pub mod Matches
-pub mod Finished
+pub mod ProgramEnds

@@ -14,7 +14,7 @@ use Rattle.clap.specs.Simple.{subcommand_rows}
 use Rattle.mcv_command.specs.Words.{faults, named, session_limit, IsFaultOfKind, IsJobOf, IsLineFault, IsNumberOf, IsRunOf}
 use Rattle.mcv_command.specs.declared.words.Job.{Job}
 use Rattle.mcv_command.specs.declared.words.Job.TheVariants.{Legs, Check, Run}
-use Rattle.mcv_command.proofs.Given.{Passes, sessions_parser}
+use Rattle.mcv_command.proofs.OptionValues.{Passes, sessions_parser}
 use Rattle.mcv_command.specs.declared.words.LineFault.{LineFault}
 use Rattle.mcv_command.specs.declared.words.LineFault.TheVariants.{BadLine, Memory, Help, Version}
 

@@ -9,10 +9,12 @@ mod help;
 mod program;
 mod proxy;
 mod stop;
+mod system;
 mod words;
 
 pub use files::{NamedFiles, SystemFiles};
 pub use program::run_words;
 pub use proxy::Proxy;
 pub use stop::{Ending, Stop, exit_status};
+pub use system::given_words;
 pub use words::{Job, LineFault, read_words};

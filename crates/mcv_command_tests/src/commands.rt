@@ -2,13 +2,14 @@
 
 ghost use Rattle.std.specs.Prelude.{None, ⊤};
 
+use crate::devices::is_written;
 use mcv_check::Accepted;
-use mcv_command::{Job, LineFault, NamedFiles, Proxy, read_words, run_words};
+use mcv_command::{Ending, Job, LineFault, NamedFiles, Proxy, Stop, read_words, run_words};
 use mcv_input::{RunFault, read_at_most};
-use std::alloc::{AllocError, Global};
+use std::alloc::Global;
 use std::io::Write;
+use std::process::Abort;
 use std::sync::Arc;
-use std::test::Fail;
 
 const LINES: &str = "mcv legs: legs at 0
 mcv legs --at 999: legs at 999
@@ -69,36 +70,48 @@ mcv -V: version
 mcv legs --version: bad line
 mcv version: bad line";
 
-fn asked(alloc: Global, line: &str) -> Result<String, AllocError> {
-    let words: Vec<&str> = line.split(' ').collect(alloc)?;
-    match read_words(alloc, words.as_slice()) {
-        Ok(Job::Legs { at }) => {
-            let seconds = at.0;
-            format!(in alloc; "legs at {seconds}")
-        }
-        Ok(Job::Check { cert: None }) => String::from_str(alloc, "check"),
-        Ok(Job::Check { cert: Some(name) }) => format!(in alloc; "check by {name}"),
-        Ok(
-            Job::Run {
-                listen,
-                spool,
-                sessions,
-            },
-        ) => format!(in alloc; "run {listen} {spool} {sessions}"),
-        Err(LineFault::BadLine) => String::from_str(alloc, "bad line"),
-        Err(LineFault::Memory) => String::from_str(alloc, "memory"),
-        Err(LineFault::Help(_)) => String::from_str(alloc, "help"),
-        Err(LineFault::Version) => String::from_str(alloc, "version"),
+fn job_text(rt: &(impl AllocGlobal + Abort), job: Job<'_>) -> String {
+    let text = match job {
+        Job::Legs { at } => format!(in rt.alloc(); "legs at {}", at.0),
+        Job::Check { cert: None } => format!(in rt.alloc(); "check"),
+        Job::Check { cert: Some(name) } => format!(in rt.alloc(); "check by {name}"),
+        Job::Run {
+            listen,
+            spool,
+            sessions,
+        } => format!(in rt.alloc(); "run {listen} {spool} {sessions}"),
+    };
+    text.expect(rt, "memory")
+}
+
+fn fault_text(fault: &LineFault) -> &'static str {
+    match fault {
+        LineFault::BadLine => "bad line",
+        LineFault::Memory => "memory",
+        LineFault::Help(_) => "help",
+        LineFault::Version => "version",
     }
 }
 
-#[test]
-fn command_lines_ask_for_their_job(rt: HostRuntime) -> Result<(), Fail> {
-    for case in LINES.lines() {
-        let (line, expected) = case.split_once(": ").ok_or("no case")?;
-        assert!(rt; asked(rt.alloc(), line)?.as_str() == expected, "{line}");
+/// Whether the words ask for this.
+fn is_asked(rt: &(impl AllocGlobal + Abort), words: &[&str], expected: &str) -> bool {
+    match read_words(rt.alloc(), words) {
+        Ok(job) => job_text(rt, job).as_str() == expected,
+        Err(fault) => fault_text(&fault) == expected,
     }
-    Ok(())
+}
+
+fn check_line(rt: &(impl AllocGlobal + Abort), case: &str) {
+    let (line, expected) = case.split_once(": ").expect(rt, "a case");
+    let words: Vec<&str> = line.split(' ').collect(rt.alloc()).expect(rt, "memory");
+    assert!(rt; is_asked(rt, words.as_slice(), expected), "{case}");
+}
+
+#[test]
+fn command_lines_ask_for_their_job(rt: HostRuntime) {
+    for case in LINES.lines() {
+        check_line(&rt, case);
+    }
 }
 
 /// Files of which one is there, `a.cert`.
@@ -149,170 +162,188 @@ impl Proxy for Listed {
     }
 }
 
-fn help(alloc: Global, words: &[&str]) -> Result<String, AllocError> {
-    let mut shown = Vec::new(alloc);
-    let files = OneFile { held: b"" };
-    match run_words(
-        alloc,
-        words,
-        &files,
-        &Listed,
-        &mut b"".as_slice(),
-        &mut shown,
-    ) {
-        Ok(_) => Ok(String::from_utf8(shown).unwrap_or(String::new(alloc))),
-        Err(_) => Ok(String::new(alloc)),
-    }
+/// How the program ends on the words, the file and the input.
+fn ran<W: Write>(
+    alloc: Global,
+    words: &[&str],
+    file: &[u8],
+    input: &str,
+    writer: &mut W,
+) -> Result<Ending, Stop> {
+    let files = OneFile { held: file };
+    run_words(alloc, words, &files, &Listed, &mut input.as_bytes(), writer)
+}
+
+/// What the program writes on words that ask for help.
+fn help(rt: &(impl AllocGlobal + Abort), words: &[&str]) -> String {
+    let mut written = Vec::new(rt.alloc());
+    let ended = ran(rt.alloc(), words, b"", "", &mut written);
+    assert!(rt; ended.is_ok(), "no help");
+    String::from_utf8(written).expect(rt, "a text")
 }
 
 #[test]
-fn the_version_is_one_line(rt: HostRuntime) -> Result<(), Fail> {
-    for words in [["mcv", "--version"], ["mcv", "-V"]] {
-        let text = help(rt.alloc(), &words)?;
+fn the_version_is_one_line(rt: HostRuntime) {
+    for word in ["--version", "-V"] {
+        let text = help(&rt, &["mcv", word]);
         assert!(rt; text.as_str() == "mcv 1\n", "{text}");
     }
-    Ok(())
 }
 
-#[test]
-fn help_names_input_and_exit_statuses(rt: HostRuntime) -> Result<(), Fail> {
-    let text = help(rt.alloc(), &["mcv", "--help"])?;
-    for part in [
-        "Usage: mcv <COMMAND>",
-        "mcrouter",
-        "  check  ",
-        "  legs  ",
-        "  run  ",
-        "\n  mcv check < mcrouter.json\n",
-        "\n  (echo 'delete a'; cat mcrouter.json) | mcv legs\n",
-        "\n  mcv run --listen 127.0.0.1:5000 --spool mcv.spool < mcrouter.json\n",
-        "Exit status:",
-    ] {
-        assert!(rt; text.as_str().contains(part), "{text}");
+/// The help that the words ask for has each of these parts.
+fn check_parts(rt: &(impl AllocGlobal + Abort), words: &[&str], parts: &[&str]) {
+    let text = help(rt, words);
+    for part in parts {
+        assert!(rt; text.as_str().contains(*part), "no {part} in {text}");
     }
-    let text = help(rt.alloc(), &["mcv", "check", "--help"])?;
-    for part in [
-        "Usage: mcv check [--cert FILE] < FILE",
-        "--cert <FILE>",
-        "\n  covered 1\n",
-        "\n  lost b:11211\n",
-        "\n  key /././!\n",
-        "\n  get 0=miss 1=hit\n",
-        "mcv check --cert mcrouter.cert < mcrouter.json",
-        "mcv: certificate text NUMBER line LINE",
-        "mcv: certificate fault NUMBER",
-        "mcv: configuration NUMBER at PATH",
-        "\n  all I D0 D1 .. ",
-    ] {
-        assert!(rt; text.as_str().contains(part), "{text}");
-    }
-    let text = help(rt.alloc(), &["mcv", "legs", "--help"])?;
-    for part in [
-        "Usage: mcv legs [--at SECONDS] < FILE",
-        "--at <SECONDS>",
-        "[default: 0]",
-        "\n  delete a\n",
-        "\n  reply none\n",
-        "mcv: no route",
-        "mcv: configuration NUMBER at PATH",
-    ] {
-        assert!(rt; text.as_str().contains(part), "{text}");
-    }
-    Ok(())
 }
 
-#[test]
-fn help_of_run_names_its_options_lines_and_statuses(rt: HostRuntime) -> Result<(), Fail> {
-    let text = help(rt.alloc(), &["mcv", "run", "--help"])?;
-    for part in [
-        "Usage: mcv run --listen ADDRESS --spool FILE [--sessions N] < FILE",
-        "--listen <ADDRESS>",
-        "--spool <FILE>",
-        "--sessions <N>",
-        "[default: 1000000000]",
-        "\n  mcv run --listen 127.0.0.1:5000 --spool mcv.spool < mcrouter.json\n",
-        "\n  mcv listening 127.0.0.1:5000 pending 0\n",
-        "\n  mcv closed calls 12\n",
-        "\nExit status:\n  0  ended, or help was asked for\n  1  bad command line\n",
-        "\n  2  the configuration is refused\n  3  the configuration can lose a delete\n  4  ",
-        "mcv: configuration NUMBER at PATH",
-    ] {
-        assert!(rt; text.as_str().contains(part), "{text}");
-    }
+/// The help that the words ask for has 80 columns.
+fn check_columns(rt: &(impl AllocGlobal + Abort), words: &[&str]) {
+    let text = help(rt, words);
     for line in text.as_str().lines() {
         assert!(rt; line.len() <= 80, "{line}");
     }
-    let main = help(rt.alloc(), &["mcv", "--help"])?;
-    for line in main.as_str().lines() {
-        assert!(rt; line.len() <= 80, "{line}");
-    }
-    Ok(())
+}
+
+const MAIN_PARTS: &[&str] = &[
+    "Usage: mcv <COMMAND>",
+    "mcrouter",
+    "  check  ",
+    "  legs  ",
+    "  run  ",
+    "\n  mcv check < mcrouter.json\n",
+    "\n  (echo 'delete a'; cat mcrouter.json) | mcv legs\n",
+    "\n  mcv run --listen 127.0.0.1:5000 --spool mcv.spool < mcrouter.json\n",
+    "Exit status:",
+];
+
+const CHECK_PARTS: &[&str] = &[
+    "Usage: mcv check [--cert FILE] < FILE",
+    "--cert <FILE>",
+    "\n  covered 1\n",
+    "\n  lost b:11211\n",
+    "\n  key /././!\n",
+    "\n  get 0=miss 1=hit\n",
+    "mcv check --cert mcrouter.cert < mcrouter.json",
+    "mcv: certificate text NUMBER line LINE",
+    "mcv: certificate fault NUMBER",
+    "mcv: configuration NUMBER at PATH",
+    "\n  all I D0 D1 .. ",
+];
+
+const LEGS_PARTS: &[&str] = &[
+    "Usage: mcv legs [--at SECONDS] < FILE",
+    "--at <SECONDS>",
+    "[default: 0]",
+    "\n  delete a\n",
+    "\n  reply none\n",
+    "mcv: no route",
+    "mcv: configuration NUMBER at PATH",
+];
+
+#[test]
+fn help_names_input_and_exit_statuses(rt: HostRuntime) {
+    check_parts(&rt, &["mcv", "--help"], MAIN_PARTS);
+    check_parts(&rt, &["mcv", "check", "--help"], CHECK_PARTS);
+    check_parts(&rt, &["mcv", "legs", "--help"], LEGS_PARTS);
+}
+
+const RUN_PARTS: &[&str] = &[
+    "Usage: mcv run --listen ADDRESS --spool FILE [--sessions N] < FILE",
+    "--listen <ADDRESS>",
+    "--spool <FILE>",
+    "--sessions <N>",
+    "[default: 1000000000]",
+    "\n  mcv run --listen 127.0.0.1:5000 --spool mcv.spool < mcrouter.json\n",
+    "\n  mcv listening 127.0.0.1:5000 pending 0\n",
+    "\n  mcv closed calls 12\n",
+    "\nExit status:\n  0  ended, or help was asked for\n  1  bad command line\n",
+    "\n  2  the configuration is refused\n  3  the configuration can lose a delete\n  4  ",
+    "mcv: configuration NUMBER at PATH",
+];
+
+#[test]
+fn help_of_run_names_its_options_lines_and_statuses(rt: HostRuntime) {
+    check_parts(&rt, &["mcv", "run", "--help"], RUN_PARTS);
+    check_columns(&rt, &["mcv", "run", "--help"]);
+    check_columns(&rt, &["mcv", "--help"]);
 }
 
 const HANDLES: &str =
     "PoolRoute NullRoute ErrorRoute AllSyncRoute AllInitialRoute AllAsyncRoute FailoverRoute MissFailoverRoute WarmUpRoute MigrateRoute PrefixSelectorRoute OperationSelectorRoute";
 
 #[test]
-fn help_names_each_handle_within_eighty_columns(rt: HostRuntime) -> Result<(), Fail> {
-    let text = help(rt.alloc(), &["mcv", "legs", "--help"])?;
+fn help_names_each_handle_within_eighty_columns(rt: HostRuntime) {
+    let text = help(&rt, &["mcv", "legs", "--help"]);
     for handle in HANDLES.split(' ') {
         assert!(rt; text.as_str().contains(handle), "{handle}");
     }
-    let more = help(rt.alloc(), &["mcv", "check", "--help"])?;
-    for line in text.as_str().lines().chain(more.as_str().lines()) {
-        assert!(rt; line.len() <= 80, "{line}");
-    }
-    Ok(())
+    check_columns(&rt, &["mcv", "legs", "--help"]);
+    check_columns(&rt, &["mcv", "check", "--help"]);
 }
 
 const POOL: &str = "{\"pools\":{\"A\":{\"servers\":[\"a:11211\"]}},\"route\":\"PoolRoute|A\"}";
 
 /// What the program says on the words, the file and the input, and its exit status.
 fn said_by(
-    alloc: Global,
+    rt: &(impl AllocGlobal + Abort),
     words: &[&str],
     file: &[u8],
     input: &str,
-) -> Result<(String, u8), AllocError> {
-    let mut written = Vec::new(alloc);
-    let files = OneFile { held: file };
-    match run_words(
-        alloc,
-        words,
-        &files,
-        &Listed,
-        &mut input.as_bytes(),
-        &mut written,
-    ) {
-        Ok(ending) => {
-            let text = String::from_utf8(written).unwrap_or(String::new(alloc));
-            Ok((text, ending.status()))
-        }
-        Err(stop) => Ok((format!(in alloc; "{stop}")?, stop.status())),
+) -> (String, u8) {
+    let mut written = Vec::new(rt.alloc());
+    match ran(rt.alloc(), words, file, input, &mut written) {
+        Ok(ending) => (
+            String::from_utf8(written).expect(rt, "a text"),
+            ending.status(),
+        ),
+        Err(stop) => (stop_text(rt, &stop), stop.status()),
     }
 }
 
-/// What the program says on the words and the input, and its exit status.
-fn said(alloc: Global, words: &[&str], input: &str) -> Result<(String, u8), AllocError> {
-    said_by(alloc, words, b"", input)
+fn stop_text(rt: &(impl AllocGlobal + Abort), stop: &Stop) -> String {
+    format!(in rt.alloc(); "{stop}").expect(rt, "memory")
+}
+
+/// The program says this on the words and the input, and ends with this status.
+fn check_said(
+    rt: &(impl AllocGlobal + Abort),
+    words: &[&str],
+    input: &str,
+    expected: &str,
+    status: u8,
+) {
+    let (text, found) = said_by(rt, words, b"", input);
+    assert!(rt;
+        is_written(text.as_str(), expected, found, status),
+        "{found} {text}"
+    );
+}
+
+fn check_legs(
+    rt: &(impl AllocGlobal + Abort),
+    line: &str,
+    config: &str,
+    expected: &str,
+    status: u8,
+) {
+    let input = format!(in rt.alloc(); "{line}{config}").expect(rt, "memory");
+    check_said(rt, &["mcv", "legs"], input.as_str(), expected, status);
 }
 
 #[test]
-fn each_input_is_answered(rt: HostRuntime) -> Result<(), Fail> {
-    let alloc = rt.alloc();
-    let cases = [
-        ("delete a\n", POOL, "leg - a:11211 plain\nreply none\n", 0),
-        ("delete\n", POOL, "mcv: bad request line", 1),
-        ("delete a\n", "{", "mcv: configuration 1 at .", 2),
-        ("delete /x/y/a\n", POOL, "mcv: no route", 2),
-    ];
-    for (line, configuration, expected, status) in cases {
-        let input = format!(in alloc; "{line}{configuration}")?;
-        let (text, found) = said(alloc, &["mcv", "legs"], input.as_str())?;
-        assert!(rt; text.as_str() == expected, "{text}");
-        assert!(rt; found == status, "{found}");
-    }
-    Ok(())
+fn each_input_is_answered(rt: HostRuntime) {
+    check_legs(
+        &rt,
+        "delete a\n",
+        POOL,
+        "leg - a:11211 plain\nreply none\n",
+        0,
+    );
+    check_legs(&rt, "delete\n", POOL, "mcv: bad request line", 1);
+    check_legs(&rt, "delete a\n", "{", "mcv: configuration 1 at .", 2);
+    check_legs(&rt, "delete /x/y/a\n", POOL, "mcv: no route", 2);
 }
 
 const MIGRATION: &str = "delete a
@@ -328,105 +359,103 @@ const MOMENTS: &str = "0 1 0
 8200 0 1
 18446744073709551615 0 1";
 
-#[test]
-fn a_migration_goes_by_the_moment(rt: HostRuntime) -> Result<(), Fail> {
-    let alloc = rt.alloc();
-    for case in MOMENTS.lines() {
-        let (at, counts) = case.split_once(' ').ok_or("no case")?;
-        let from = if counts.starts_with("1") {
-            "leg 0 a:11211 plain\n"
-        } else {
-            ""
-        };
-        let to = if counts.ends_with("1") {
-            "leg 1 b:11211 plain\n"
-        } else {
-            ""
-        };
-        let expected = format!(in alloc; "{from}{to}reply none\n")?;
-        let (text, status) = said(alloc, &["mcv", "legs", "--at", at], MIGRATION)?;
-        assert!(rt; text.as_str() == expected.as_str(), "{text}");
-        assert!(rt; status == 0, "{at}");
-    }
-    Ok(())
+/// What is written where so many legs go to the two sides.
+fn migrated(rt: &(impl AllocGlobal + Abort), counts: &str) -> String {
+    let from = if counts.starts_with("1") {
+        "leg 0 a:11211 plain\n"
+    } else {
+        ""
+    };
+    let to = if counts.ends_with("1") {
+        "leg 1 b:11211 plain\n"
+    } else {
+        ""
+    };
+    format!(in rt.alloc(); "{from}{to}reply none\n").expect(rt, "memory")
+}
+
+fn check_moment(rt: &(impl AllocGlobal + Abort), case: &str) {
+    let (at, counts) = case.split_once(' ').expect(rt, "a case");
+    let expected = migrated(rt, counts);
+    check_said(
+        rt,
+        &["mcv", "legs", "--at", at],
+        MIGRATION,
+        expected.as_str(),
+        0,
+    );
 }
 
 #[test]
-fn bad_words_and_full_devices_stop_the_program(rt: HostRuntime) -> Result<(), Fail> {
-    let alloc = rt.alloc();
-    let mut room = [0; 4];
-    for (words, expected, status) in [
-        (["mcv", "x"], "mcv: bad command line", 1),
-        (["mcv", "help"], "mcv: device failed", 4),
-    ] {
-        let mut writer = room.as_mut_slice();
-        let files = OneFile { held: b"" };
-        let Err(stop) = run_words(
-            alloc,
-            &words,
-            &files,
-            &Listed,
-            &mut b"".as_slice(),
-            &mut writer,
-        ) else {
-            return Err(Fail::from("a stop"));
-        };
-        let text = format!(in alloc; "{stop}")?;
-        assert!(rt; text.as_str() == expected, "{text}");
-        assert!(rt; stop.status() == status, "{text}");
+fn a_migration_goes_by_the_moment(rt: HostRuntime) {
+    for case in MOMENTS.lines() {
+        check_moment(&rt, case);
     }
-    Ok(())
+}
+
+/// The program stops on the word where it can write four bytes.
+fn check_stop(rt: &(impl AllocGlobal + Abort), word: &str, expected: &str, status: u8) {
+    let mut room = [0; 4];
+    let mut writer = room.as_mut_slice();
+    let stop = ran(rt.alloc(), &["mcv", word], b"", "", &mut writer);
+    let stop = stop.expect_err(rt, "a stop");
+    let text = stop_text(rt, &stop);
+    assert!(rt;
+        is_written(text.as_str(), expected, stop.status(), status),
+        "{text}"
+    );
+}
+
+#[test]
+fn bad_words_and_full_devices_stop_the_program(rt: HostRuntime) {
+    check_stop(&rt, "x", "mcv: bad command line", 1);
+    check_stop(&rt, "help", "mcv: device failed", 4);
 }
 
 const WARM_UP: &str =
     "{\"pools\":{\"A\":{\"servers\":[\"a:11211\"]},\"B\":{\"servers\":[\"b:11211\"]}},\"route\":{\"type\":\"WarmUpRoute\",\"cold\":\"PoolRoute|A\",\"warm\":\"PoolRoute|B\"}}";
 
+const COVERED: &str = "covered 1\nmcv-cert 1\n0 = 0 - twin -\nend\n";
+
+const LOST: &str =
+    "lost b:11211\nroute 0\nclass =\nera 0\nkey /././!\nget 0=miss 1=hit\ndelete 0=deleted\n";
+
 #[test]
-fn configurations_are_judged(rt: HostRuntime) -> Result<(), Fail> {
-    let alloc = rt.alloc();
-    let covered = "covered 1\nmcv-cert 1\n0 = 0 - twin -\nend\n";
-    let lost =
-        "lost b:11211\nroute 0\nclass =\nera 0\nkey /././!\nget 0=miss 1=hit\ndelete 0=deleted\n";
-    for (configuration, expected, status) in [
-        (POOL, covered, 0),
-        (WARM_UP, lost, 3),
-        ("{", "mcv: configuration 1 at .", 2),
-    ] {
-        let (text, found) = said(alloc, &["mcv", "check"], configuration)?;
-        assert!(rt; text.as_str() == expected, "{text}");
-        assert!(rt; found == status, "{found}");
-    }
-    Ok(())
+fn configurations_are_judged(rt: HostRuntime) {
+    check_said(&rt, &["mcv", "check"], POOL, COVERED, 0);
+    check_said(&rt, &["mcv", "check"], WARM_UP, LOST, 3);
+    check_said(&rt, &["mcv", "check"], "{", "mcv: configuration 1 at .", 2);
+}
+
+/// What the program says and does where it is to serve three sessions at an address.
+fn check_run(
+    rt: &(impl AllocGlobal + Abort),
+    address: &str,
+    config: &str,
+    expected: &str,
+    status: u8,
+) {
+    let words = [
+        "mcv",
+        "run",
+        "--listen",
+        address,
+        "--spool",
+        "f",
+        "--sessions",
+        "3",
+    ];
+    check_said(rt, &words, config, expected, status);
 }
 
 #[test]
-fn a_run_serves_what_is_covered(rt: HostRuntime) -> Result<(), Fail> {
-    let alloc = rt.alloc();
-    let lost =
-        "lost b:11211\nroute 0\nclass =\nera 0\nkey /././!\nget 0=miss 1=hit\ndelete 0=deleted\n";
-    for (address, configuration, expected, status) in [
-        ("h:1", POOL, "h:1 f 3 of 1\n", 0),
-        ("h:1", WARM_UP, lost, 3),
-        ("busy:1", WARM_UP, lost, 3),
-        ("busy:1", "{", "mcv: configuration 1 at .", 2),
-        ("busy:1", POOL, "mcv: device failed", 4),
-        ("full:1", POOL, "mcv: out of memory", 4),
-    ] {
-        let words = [
-            "mcv",
-            "run",
-            "--listen",
-            address,
-            "--spool",
-            "f",
-            "--sessions",
-            "3",
-        ];
-        let (text, found) = said(alloc, &words, configuration)?;
-        assert!(rt; text.as_str() == expected, "{text}");
-        assert!(rt; found == status, "{found}");
-    }
-    Ok(())
+fn a_run_serves_what_is_covered(rt: HostRuntime) {
+    check_run(&rt, "h:1", POOL, "h:1 f 3 of 1\n", 0);
+    check_run(&rt, "h:1", WARM_UP, LOST, 3);
+    check_run(&rt, "busy:1", WARM_UP, LOST, 3);
+    check_run(&rt, "busy:1", "{", "mcv: configuration 1 at .", 2);
+    check_run(&rt, "busy:1", POOL, "mcv: device failed", 4);
+    check_run(&rt, "full:1", POOL, "mcv: out of memory", 4);
 }
 
 /// A certificate, with semicolons between its lines, and what the program says of it for a pool of one server.
@@ -436,24 +465,27 @@ mcv-cert 1;0 = 0 - twin -;: mcv: certificate text 1 line 3: 5
 mcv-cert 1;end;: mcv: certificate fault 1: 5
 mcv-cert 1;0 = 0 - never;end;: mcv: certificate fault 5: 5";
 
+fn check_certificate(rt: &(impl AllocGlobal + Abort), case: &str) {
+    let (certificate, more) = case.split_once(": ").expect(rt, "a case");
+    let (expected, status) = more.rsplit_once(": ").expect(rt, "a case");
+    let file = certificate
+        .replace(rt.alloc(), ";", "\n")
+        .expect(rt, "memory");
+    let expected = expected.replace(rt.alloc(), ";", "\n").expect(rt, "memory");
+    let status = status.parse::<u8>().expect(rt, "a status");
+    let words = ["mcv", "check", "--cert", "a.cert"];
+    let (text, found) = said_by(rt, &words, file.as_bytes(), POOL);
+    assert!(rt;
+        is_written(text.as_str(), expected.as_str(), found, status),
+        "{found} {text}"
+    );
+}
+
 #[test]
-fn certificates_of_files_are_judged(rt: HostRuntime) -> Result<(), Fail> {
-    let alloc = rt.alloc();
+fn certificates_of_files_are_judged(rt: HostRuntime) {
     for case in CERTIFICATES.lines() {
-        let (certificate, more) = case.split_once(": ").ok_or("no case")?;
-        let (expected, status) = more.rsplit_once(": ").ok_or("no case")?;
-        let file = certificate.replace(alloc, ";", "\n")?;
-        let words = ["mcv", "check", "--cert", "a.cert"];
-        let (text, found) = said_by(alloc, &words, file.as_bytes(), POOL)?;
-        assert!(rt;
-            text.replace(alloc, "\n", ";")?.as_str() == expected,
-            "{text}"
-        );
-        assert!(rt; format!(in alloc; "{found}")?.as_str() == status, "{text}");
+        check_certificate(&rt, case);
     }
     let words = ["mcv", "check", "--cert", "b.cert"];
-    let (text, found) = said_by(alloc, &words, b"", "{")?;
-    assert!(rt; text.as_str() == "mcv: device failed", "{text}");
-    assert!(rt; found == 4, "{found}");
-    Ok(())
+    check_said(&rt, &words, "{", "mcv: device failed", 4);
 }

@@ -1,9 +1,8 @@
 //! What the tests read from and write to.
 
-use std::alloc::Global;
 use std::io;
 use std::io::{Read, Write};
-use std::test::Fail;
+use std::process::Abort;
 
 /// A device that takes and gives nothing.
 #[derive(Drop)]
@@ -25,14 +24,17 @@ impl Write for Broken {
     }
 }
 
+/// Whether a text and an exit status are as wanted.
+pub fn is_written(text: &str, wanted: &str, status: u8, wanted_status: u8) -> bool {
+    text == wanted && status == wanted_status
+}
+
 /// The lines that were written, with slashes between them.
-pub fn joined(alloc: Global, output: Vec<u8>) -> Result<String, Fail> {
-    let mut text = String::new(alloc);
-    for line in String::from_utf8(output)?.lines() {
-        if !text.is_empty() {
-            text.push_str(" / ")?;
-        }
-        text.push_str(line)?;
-    }
-    Ok(text)
+pub fn joined(rt: &(impl AllocGlobal + Abort), output: Vec<u8>) -> String {
+    let output = String::from_utf8(output).expect(rt, "a text");
+    let lines = output
+        .as_str()
+        .strip_suffix('\n')
+        .unwrap_or(output.as_str());
+    lines.replace(rt.alloc(), "\n", " / ").expect(rt, "memory")
 }

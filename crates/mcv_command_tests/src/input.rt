@@ -3,10 +3,10 @@
 use crate::devices::Broken;
 use mcv_base::ServerId;
 use mcv_input::{read_at_most, read_configuration, read_routes, write_text};
-use std::alloc::{AllocError, Global};
+use mcv_route::Routes;
 use std::io;
 use std::io::Read;
-use std::test::Fail;
+use std::process::Abort;
 
 const LONE: &str = "{\"pools\":{\"A\":{\"servers\":[\"a:11211\"]}},\"route\":\"PoolRoute|A\"}";
 
@@ -17,60 +17,68 @@ const REFUSED: &str = "\
 {\"route\":\"PoolRoute|Z\"} = configuration 5 at /route
 {\"pools\":{\"A\":{\"servers\":[]}},\"route\":\"PoolRoute|A\"} = configuration 6 at /pools/A/servers";
 
+/// The first server's text, or none.
+fn first_server(rt: &(impl AllocGlobal + Abort), routes: &Routes) -> String {
+    let text = routes.servers().text(ServerId(0)).unwrap_or("none");
+    String::from_str(rt.alloc(), text).expect(rt, "memory")
+}
+
 /// What is read of a reader: the first server's text, or the fault.
-fn read<R: Read>(alloc: Global, reader: &mut R) -> Result<String, AllocError> {
-    match read_configuration(alloc, reader) {
-        Ok(routes) => {
-            String::from_str(alloc, routes.servers().text(ServerId(0)).unwrap_or("none"))
-        }
-        Err(fault) => format!(in alloc; "{fault}"),
+fn read<R: Read>(rt: &(impl AllocGlobal + Abort), reader: &mut R) -> String {
+    match read_configuration(rt.alloc(), reader) {
+        Ok(routes) => first_server(rt, &routes),
+        Err(fault) => format!(in rt.alloc(); "{fault}").expect(rt, "memory"),
     }
 }
 
+/// What is read of a reader is this.
+fn check_read<R: Read>(rt: &(impl AllocGlobal + Abort), reader: &mut R, wanted: &str) {
+    let text = read(rt, reader);
+    assert!(rt; text.as_str() == wanted, "{text}, not {wanted}");
+}
+
+fn check_refused(rt: &(impl AllocGlobal + Abort), case: &str) {
+    let (text, wanted) = case.split_once(" = ").expect(rt, "a case");
+    check_read(rt, &mut text.as_bytes(), wanted);
+}
+
 #[test]
-fn routes_and_faults_are_read(rt: HostRuntime) -> Result<(), Fail> {
-    let alloc = rt.alloc();
-    assert!(rt; read_routes(alloc, LONE.as_bytes()).is_ok());
-    assert_eq!(rt; read(alloc, &mut LONE.as_bytes())?.as_str(), "a:11211");
+fn routes_and_faults_are_read(rt: HostRuntime) {
+    assert!(rt; read_routes(rt.alloc(), LONE.as_bytes()).is_ok());
+    check_read(&rt, &mut LONE.as_bytes(), "a:11211");
     for case in REFUSED.lines() {
-        let (text, want) = case.split_once(" = ").ok_or("no case")?;
-        assert_eq!(rt; read(alloc, &mut text.as_bytes())?.as_str(), want, "{text}");
+        check_refused(&rt, case);
     }
-    Ok(())
 }
 
 #[test]
-fn a_configuration_without_end_is_too_long(rt: HostRuntime) -> Result<(), Fail> {
+fn a_configuration_without_end_is_too_long(rt: HostRuntime) {
     let mut input = LONE.as_bytes().chain(io::repeat(b' '));
-    assert_eq!(rt;
-        read(rt.alloc(), &mut input)?.as_str(),
-        "configuration 7 at ."
+    check_read(&rt, &mut input, "configuration 7 at .");
+}
+
+/// What is read of `abc` up to a limit.
+fn check_limit(rt: &(impl AllocGlobal + Abort), limit: u64, wanted: &[u8]) {
+    let read = read_at_most(rt.alloc(), &mut b"abc".as_slice(), limit);
+    assert!(rt;
+        read.expect(rt, "bytes").as_slice() == wanted,
+        "up to {limit}"
     );
-    Ok(())
 }
 
 #[test]
-fn texts_are_written_whole_and_read_up_to_a_limit(rt: HostRuntime) -> Result<(), Fail> {
-    let alloc = rt.alloc();
-    let mut written = Vec::new(alloc);
+fn texts_are_written_whole_and_read_up_to_a_limit(rt: HostRuntime) {
+    let mut written = Vec::new(rt.alloc());
     assert!(rt; write_text(&mut written, b"abc").is_ok());
     assert_eq!(rt; written.as_slice(), b"abc".as_slice());
-    for (limit, want) in [(2, b"ab".as_slice()), (4, b"abc".as_slice())] {
-        let Ok(first) = read_at_most(alloc, &mut written.as_slice(), limit) else {
-            return Err(Fail::from("bytes"));
-        };
-        assert_eq!(rt; first.as_slice(), want);
-    }
-    Ok(())
+    check_limit(&rt, 2, b"ab");
+    check_limit(&rt, 4, b"abc");
 }
 
 #[test]
-fn broken_devices_are_reported(rt: HostRuntime) -> Result<(), Fail> {
-    let alloc = rt.alloc();
-    assert_eq!(rt; read(alloc, &mut Broken)?.as_str(), "device failed");
-    let Err(fault) = write_text(&mut Broken, b"abc") else {
-        return Err(Fail::from("a fault"));
-    };
-    assert_eq!(rt; format!(in alloc; "{fault}")?.as_str(), "device failed");
-    Ok(())
+fn broken_devices_are_reported(rt: HostRuntime) {
+    check_read(&rt, &mut Broken, "device failed");
+    let fault = write_text(&mut Broken, b"abc").expect_err(&rt, "a fault");
+    let text = format!(in rt.alloc(); "{fault}").expect(&rt, "memory");
+    assert_eq!(rt; text.as_str(), "device failed");
 }

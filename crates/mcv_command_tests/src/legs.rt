@@ -4,11 +4,9 @@ use crate::devices::{Broken, joined};
 use mcv_base::Moment;
 use mcv_input::RunFault;
 use mcv_legs::{requests_have_one_reading, run_legs};
-use std::alloc::Global;
 use std::io;
 use std::io::Read;
 use std::process::Abort;
-use std::test::Fail;
 
 /// A request line, a configuration, and what is written, a case a line.
 const ANSWERED: &str = "\
@@ -52,88 +50,95 @@ get a = {\"pools\":{\"A\":{\"servers\":[\"a:11211\"]}},\"route\":\"PoolRoute|Z\"
 get a = {\"route\":{\"type\":\"RandomRoute\",\"children\":[\"NullRoute\"]}} = 3 2 configuration 10 at /route/type
 get a = [[[[[[[[[[[[[[[[[[[[[[[[[[[[[[[[[[[[[[[[[[[[[[[[[[[[[[[[[[[[[[[[[[[[[[[[[[[[[[[[[[[[[[[[[[[[[[[[[[[[[[[[[[[[[[[[[[[[[[[[[[[[[[[[[[[[[[[[[[[[[[[[[[[[[[[[[[[[[[[[[[[[[[[[[[[[[[[[[[[[[[[[[[[[[[[[[[[[[[[[ = 3 2 configuration 1 at .";
 
-/// The lines written, with slashes between them, or the fault.
-fn shown<R: Read>(alloc: Global, reader: &mut R) -> Result<String, Fail> {
-    let mut output = Vec::new(alloc);
-    if let Err(fault) = run_legs(alloc, reader, &mut output, Moment(0)) {
-        let written = output.len();
-        let (number, status) = (fault.number(), fault.status());
-        if written > 0 {
-            return Err(Fail::from("written beside a fault"));
-        }
-        return Ok(format!(in alloc; "{number} {status} {fault}")?);
-    }
-    joined(alloc, output)
+/// The number, the status and the text of a fault.
+fn fault_text(rt: &(impl AllocGlobal + Abort), fault: &RunFault) -> String {
+    let (number, status) = (fault.number(), fault.status());
+    format!(in rt.alloc(); "{number} {status} {fault}").expect(rt, "memory")
 }
 
-fn table_holds(rt: &(impl AllocGlobal + Abort), table: &str) -> Result<(), Fail> {
-    let alloc = rt.alloc();
-    for case in table.lines() {
-        let (line, more) = case.split_once(" = ").ok_or("no case")?;
-        let (configuration, want) = more.split_once(" = ").ok_or("no case")?;
-        let input = format!(in alloc; "{line}\n{configuration}")?;
-        assert_eq!(rt;
-            shown(alloc, &mut input.as_bytes())?.as_str(),
-            want,
-            "{line}"
-        );
+/// The lines written, with slashes between them, or the fault, beside which nothing is written.
+fn shown<R: Read>(rt: &(impl AllocGlobal + Abort), reader: &mut R) -> String {
+    let mut output = Vec::new(rt.alloc());
+    match run_legs(rt.alloc(), reader, &mut output, Moment(0)) {
+        Ok(()) => joined(rt, output),
+        Err(fault) => {
+            assert!(rt; output.is_empty(), "written beside a fault");
+            fault_text(rt, &fault)
+        }
     }
-    Ok(())
+}
+
+/// What is written of a request line and a configuration.
+fn check(rt: &(impl AllocGlobal + Abort), line: &str, configuration: &str, wanted: &str) {
+    let input = format!(in rt.alloc(); "{line}\n{configuration}").expect(rt, "memory");
+    let text = shown(rt, &mut input.as_bytes());
+    assert!(rt; text.as_str() == wanted, "{line}: {text}, not {wanted}");
+}
+
+fn check_case(rt: &(impl AllocGlobal + Abort), case: &str) {
+    let (line, more) = case.split_once(" = ").expect(rt, "a case");
+    let (configuration, wanted) = more.split_once(" = ").expect(rt, "a case");
+    check(rt, line, configuration, wanted);
 }
 
 #[test]
-fn legs_are_written(rt: HostRuntime) -> Result<(), Fail> {
-    table_holds(&rt, ANSWERED)
+fn legs_are_written(rt: HostRuntime) {
+    for case in ANSWERED.lines() {
+        check_case(&rt, case);
+    }
 }
 
 const POOLS: &str =
     "{\"pools\":{\"A\":{\"servers\":[\"a:11211\"]},\"B\":{\"servers\":[\"b:11211\"]}},";
 
-#[test]
-fn each_handle_sends_by_its_rule(rt: HostRuntime) -> Result<(), Fail> {
-    let alloc = rt.alloc();
-    for case in HANDLED.lines() {
-        let (line, more) = case.split_once(" = ").ok_or("no case")?;
-        let (route, want) = more.split_once(" = ").ok_or("no case")?;
-        let quote = if route.starts_with("{") { "" } else { "\"" };
-        let input = format!(in alloc; "{line}\n{POOLS}\"route\":{quote}{route}{quote}}}")?;
-        assert_eq!(rt;
-            shown(alloc, &mut input.as_bytes())?.as_str(),
-            want,
-            "{line}"
-        );
-    }
-    Ok(())
-}
-
-#[test]
-fn faults_are_reported_in_their_order(rt: HostRuntime) -> Result<(), Fail> {
-    table_holds(&rt, REFUSED)?;
-    let no_end = shown(rt.alloc(), &mut b"delete a {}".as_slice())?;
-    assert_eq!(rt; no_end.as_str(), "1 1 bad request line");
-    requests_have_one_reading();
-    Ok(())
-}
-
-#[test]
-fn an_input_without_end_is_too_long(rt: HostRuntime) -> Result<(), Fail> {
-    let mut input = b"delete a\n".as_slice().chain(io::repeat(b' '));
-    assert_eq!(rt;
-        shown(rt.alloc(), &mut input)?.as_str(),
-        "3 2 configuration 7 at ."
+fn check_handle(rt: &(impl AllocGlobal + Abort), case: &str) {
+    let (line, more) = case.split_once(" = ").expect(rt, "a case");
+    let (route, wanted) = more.split_once(" = ").expect(rt, "a case");
+    let quote = if route.starts_with("{") { "" } else { "\"" };
+    let configuration = format!(in rt.alloc(); "{POOLS}\"route\":{quote}{route}{quote}}}");
+    check(
+        rt,
+        line,
+        configuration.expect(rt, "memory").as_str(),
+        wanted,
     );
-    Ok(())
 }
 
 #[test]
-fn broken_devices_are_reported(rt: HostRuntime) -> Result<(), Fail> {
-    let alloc = rt.alloc();
+fn each_handle_sends_by_its_rule(rt: HostRuntime) {
+    for case in HANDLED.lines() {
+        check_handle(&rt, case);
+    }
+}
+
+/// What is written of a whole input.
+fn check_input<R: Read>(rt: &(impl AllocGlobal + Abort), input: &mut R, wanted: &str) {
+    let text = shown(rt, input);
+    assert!(rt; text.as_str() == wanted, "{text}, not {wanted}");
+}
+
+#[test]
+fn faults_are_reported_in_their_order(rt: HostRuntime) {
+    for case in REFUSED.lines() {
+        check_case(&rt, case);
+    }
+    check_input(&rt, &mut b"delete a {}".as_slice(), "1 1 bad request line");
+    requests_have_one_reading();
+}
+
+#[test]
+fn an_input_without_end_is_too_long(rt: HostRuntime) {
+    let mut input = b"delete a\n".as_slice().chain(io::repeat(b' '));
+    check_input(&rt, &mut input, "3 2 configuration 7 at .");
+}
+
+#[test]
+fn broken_devices_are_reported(rt: HostRuntime) {
     let input = b"get a\n{\"route\":\"NullRoute\"}";
     let mut broken = input.as_slice().chain(Broken);
-    assert_eq!(rt; shown(alloc, &mut broken)?.as_str(), "7 4 device failed");
-    let full = run_legs(alloc, &mut input.as_slice(), &mut Broken, Moment(0));
+    check_input(&rt, &mut broken, "7 4 device failed");
+    let full = run_legs(rt.alloc(), &mut input.as_slice(), &mut Broken, Moment(0));
     assert!(rt; matches!(full, Err(RunFault::Device)));
-    Ok(())
 }
 
 /// A request line, and what is written where routing prefixes select between the pools.
@@ -146,17 +151,15 @@ get /x/z/a = 2 2 no route";
 const ENTRIES: &str =
     "\"routes\":[{\"aliases\":[\"/x/y/\"],\"route\":\"PoolRoute|A\"},{\"aliases\":[\"/././\",\"/u/v/\"],\"route\":\"PoolRoute|B\"}]}";
 
+fn check_prefix(rt: &(impl AllocGlobal + Abort), case: &str) {
+    let (line, wanted) = case.split_once(" = ").expect(rt, "a case");
+    let configuration = format!(in rt.alloc(); "{POOLS}{ENTRIES}").expect(rt, "memory");
+    check(rt, line, configuration.as_str(), wanted);
+}
+
 #[test]
-fn prefixes_select_routes(rt: HostRuntime) -> Result<(), Fail> {
-    let alloc = rt.alloc();
+fn prefixes_select_routes(rt: HostRuntime) {
     for case in PREFIXED.lines() {
-        let (line, want) = case.split_once(" = ").ok_or("no case")?;
-        let input = format!(in alloc; "{line}\n{POOLS}{ENTRIES}")?;
-        assert_eq!(rt;
-            shown(alloc, &mut input.as_bytes())?.as_str(),
-            want,
-            "{line}"
-        );
+        check_prefix(&rt, case);
     }
-    Ok(())
 }

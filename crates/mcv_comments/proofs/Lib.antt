@@ -1,6 +1,6 @@
 pub mod Insides
 pub mod Pieces
-pub mod Found
-pub mod Unique
-pub mod Every
+pub mod CommentEnds
+pub mod OneReading
+pub mod StrippedOrOpen
 mod Examples

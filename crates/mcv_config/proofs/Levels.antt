@@ -4,7 +4,7 @@ use Rattle.serde_json.specs.Data.{Data}
 use Rattle.serde_json.specs.Find.{as_str, as_object}
 use Rattle.mcv_names.specs.declared.fault.FaultKind.TheVariants.{Limit}
 use Rattle.mcv_names.specs.Fault.{Read, refused}
-use Rattle.mcv_config.specs.Plan.{Named}
+use Rattle.mcv_config.specs.ConfigValue.{Named}
 use Rattle.mcv_config.specs.Routes.{route, handle_of, in_room}
 use Rattle.mcv_config.specs.Walk.{SoFar, taken}
 

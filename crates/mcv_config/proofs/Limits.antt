@@ -1,4 +1,4 @@
--- Every plan that a value names keeps to the limits.
+-- Every configuration that a value names keeps to the limits.
 use Rattle.std.proofs.Common.{◌≡◌, ℕ, ◌+◌, ◌≤◌, List, [], ◌∷◌, Option, Some, None, codes, refl, ap, sym, subst, ◌∙◌, arith}
 use Rattle.std.specs.List.{sum_by}
 use Rattle.std.proofs.lemmas.List.Sums.{sum_by-cons}
@@ -9,30 +9,30 @@ use Rattle.mcv_names.specs.Fault.{good}
 use Rattle.mcv_names.specs.Handles.{key_fault, keys_read}
 use Rattle.mcv_names.specs.Lists.{each, items_list, some_items}
 use Rattle.mcv_names.specs.Path.{key_step, item_step}
-use Rattle.mcv_names.proofs.Holds.{Holds, holds_bind, holds_then, holds_also}
+use Rattle.mcv_names.proofs.ReadFacts.{Holds, holds_bind, holds_then, holds_also}
 use Rattle.mcv_config.specs.Aliases.{aliases_field}
-use Rattle.mcv_config.specs.Config.{at_first, node_limit, plan_of_members, plan_read, plan_with, root}
+use Rattle.mcv_config.specs.Config.{at_first, node_limit, config_of_members, config_read, config_with, root}
 use Rattle.mcv_config.specs.Entries.{Turn, depth_limit, entries_of_list, entries_read, entry_fields, entry_of_members, entry_read, routing, routing_read}
 use Rattle.mcv_config.specs.Limits.{handles_in, IsWithin, IsWithinLimits}
-use Rattle.mcv_config.specs.Plan.{EntryPlan, Plan}
+use Rattle.mcv_config.specs.ConfigValue.{EntryValue, ConfigValue}
 use Rattle.mcv_config.specs.Pools.{pools_read}
 use Rattle.mcv_config.specs.Routes.{route}
 use Rattle.mcv_config.specs.Walk.{SoFar, route_under}
-use Rattle.mcv_config.proofs.Fits.{Each, Fits, IsSmall, IsSmallPool, counts, more_fit, none_fit}
+use Rattle.mcv_config.proofs.HandleRoom.{Each, Fits, IsSmall, IsSmallPool, counts, more_fit, none_fit}
 use Rattle.mcv_config.proofs.LimitsOfPools.{HasSmall, pools_small}
 use Rattle.mcv_config.proofs.LimitsOfRoutes.{route_fits, under_fits}
 use Rattle.mcv_config.proofs.SoundPools.{all_of}
 
 -- ---- a route with its aliases
 
-abbrev IsEntry : EntryPlan → Type 0
+abbrev IsEntry : EntryValue → Type 0
 IsEntry e = IsWithin depth_limit e.route
 
-abbrev entry_count : EntryPlan → ℕ
+abbrev entry_count : EntryValue → ℕ
 entry_count e = handles_in e.route
 
 -- nothing is said of the aliases that go along
-abbrev IsNext : ℕ → EntryPlan × Turn → Type 0
+abbrev IsNext : ℕ → EntryValue × Turn → Type 0
 IsNext room x = Fits IsEntry entry_count room (x.0, x.1.1)
 
 fields_fit : (turn : Turn) (path : List ℕ) (d : Data) → IsSmall turn.1 → Holds (IsNext turn.1.room) (entry_fields turn path d)
@@ -53,10 +53,10 @@ entry_fits turn path d s = of_members_fit turn path d (as_object d) s
 
 -- ---- routes in turn
 
-abbrev AreEntries : ℕ → List EntryPlan × SoFar → Type 0
+abbrev AreEntries : ℕ → List EntryValue × SoFar → Type 0
 AreEntries room = Fits (Each IsEntry entry_count) (counts entry_count) room
 
-abbrev AreNext : ℕ → List EntryPlan × Turn → Type 0
+abbrev AreNext : ℕ → List EntryValue × Turn → Type 0
 AreNext room x = AreEntries room (x.0, x.1.1)
 
 each_fits_in_turn : (turn : Turn) (path : List ℕ) (i : ℕ) (ds : List Data) → IsSmall turn.1 → Holds (AreNext turn.1.room) (each entry_read turn path i ds)
@@ -90,31 +90,31 @@ routing_fits w path d s = by_keys_fit w path (get (codes "route") d) (get (codes
 
 -- ---- the whole
 
-count_all : (es : List EntryPlan) → sum_by entry_count es ≡ counts entry_count es
+count_all : (es : List EntryValue) → sum_by entry_count es ≡ counts entry_count es
 count_all [] = refl
 count_all (e ∷ es) = sum_by-cons entry_count e es ∙ ap (λ n. entry_count e + n) (count_all es)
 
-plan_with_within : (t : List EntryPlan × SoFar) → AreEntries node_limit t → IsWithinLimits (plan_with t)
-plan_with_within t h = record {
+config_with_within : (t : List EntryValue × SoFar) → AreEntries node_limit t → IsWithinLimits (config_with t)
+config_with_within t h = record {
   servers = h.small.1;
   pools = all_of IsSmallPool t.1.pools.servers h.small.0;
   levels = all_of IsEntry t.0 h.holds;
   handles = subst (λ (n : ℕ). n ≤ node_limit) (sym (count_all t.0)) (omega (arith, h.room_left));
 }
 
-plan_within : (path : List ℕ) (d : Data) → Holds IsWithinLimits (plan_read path d)
-unfolding plan_read
-plan_within path d =
+config_within : (path : List ℕ) (d : Data) → Holds IsWithinLimits (config_read path d)
+unfolding config_read
+config_within path d =
     holds_bind HasSmall IsWithinLimits (pools_read (key_step path (codes "pools")) (get (codes "pools") d)) _ (pools_small (key_step path (codes "pools")) (get (codes "pools") d))
-    (λ ps h. holds_bind (AreEntries node_limit) IsWithinLimits (routing_read (at_first ps) path d) _ (routing_fits (at_first ps) path d h) (λ t k. plan_with_within t k))
+    (λ ps h. holds_bind (AreEntries node_limit) IsWithinLimits (routing_read (at_first ps) path d) _ (routing_fits (at_first ps) path d h) (λ t k. config_with_within t k))
 
-members_within : (path : List ℕ) (d : Data) (o : Option Members) → Holds IsWithinLimits (plan_of_members path d o)
+members_within : (path : List ℕ) (d : Data) (o : Option Members) → Holds IsWithinLimits (config_of_members path d o)
 members_within path d None = tt
-members_within path d (Some ms) = holds_also IsWithinLimits (keys_read (key_fault objects.Root) path ms) (plan_read path d) (plan_within path d)
+members_within path d (Some ms) = holds_also IsWithinLimits (keys_read (key_fault objects.Root) path ms) (config_read path d) (config_within path d)
 
 root_within : (path : List ℕ) (d : Data) → Holds IsWithinLimits (root path d)
 unfolding root
 root_within path d = members_within path d (as_object d)
 
-pub read_plans_keep_to_limits : (path : List ℕ) (d : Data) (plan : Plan) → root path d ≡ good plan → IsWithinLimits plan
-read_plans_keep_to_limits path d plan h = subst (Holds IsWithinLimits) h (root_within path d)
+pub read_configs_keep_to_limits : (path : List ℕ) (d : Data) (config : ConfigValue) → root path d ≡ good config → IsWithinLimits config
+read_configs_keep_to_limits path d config h = subst (Holds IsWithinLimits) h (root_within path d)

@@ -13,11 +13,11 @@ use Rattle.mcv_names.specs.declared.handle.Selector.TheVariants as selectors
 use Rattle.mcv_names.specs.Handles.{key_fault, key_read, keys_read, name_fault, prefix_limit}
 use Rattle.mcv_names.specs.Lists.{member_names, required, text_read}
 use Rattle.mcv_names.specs.Path.{key_step}
-use Rattle.mcv_names.proofs.Holds.{Holds, holds_bind, holds_then, holds_also, holds_if}
-use Rattle.mcv_config.specs.Hash.{HashPlan, func_field, func_read, hash_fields, hash_read, hash_value, salt_field, salt_limit, salt_within}
+use Rattle.mcv_names.proofs.ReadFacts.{Holds, holds_bind, holds_then, holds_also, holds_if}
+use Rattle.mcv_config.specs.Hash.{HashValue, func_field, func_read, hash_fields, hash_read, hash_value, salt_field, salt_limit, salt_within}
 use Rattle.mcv_config.specs.Numbers.{number_in_value, seconds_found, seconds_limit, seconds_or, seconds_read}
 use Rattle.mcv_config.specs.Routes.{exptime_read, start_read, interval_read}
-use Rattle.mcv_config.proofs.Fits.{holds_both, holds_more}
+use Rattle.mcv_config.proofs.HandleRoom.{holds_both, holds_more}
 
 -- ---- numbers and texts
 
@@ -51,7 +51,7 @@ interval_within path d = seconds_or_within 3600 (key_step path (codes "interval"
 abbrev pub IsSalt : List ℕ → Type 0
 IsSalt salt = length salt ≤ salt_limit
 
-abbrev pub IsHash : HashPlan → Type 0
+abbrev pub IsHash : HashValue → Type 0
 IsHash hash = IsSalt hash.1
 
 salt_of_text : (path salt : List ℕ) → Holds IsSalt (salt_within path salt)

@@ -8,9 +8,9 @@ use Rattle.mcv_names.specs.declared.handle.Object.TheVariants as objects
 use Rattle.mcv_names.specs.Handles.{key_fault, keys_read}
 use Rattle.mcv_names.specs.Lists.{each, each_member, items_list, required, text_read}
 use Rattle.mcv_names.specs.Path.{key_step, item_step}
-use Rattle.mcv_names.proofs.Holds.{Holds, holds_bind, holds_then, holds_also, holds_if}
+use Rattle.mcv_names.proofs.ReadFacts.{Holds, holds_bind, holds_then, holds_also, holds_if}
 use Rattle.mcv_config.specs.Pools.{Pools, Table, entered, is_full, listed_servers, name_read, pool_limit, pool_of_members, pool_read, pools_of_members, pools_read, server_read, server_text, servers_of_list, servers_read}
-use Rattle.mcv_config.proofs.Fits.{holds_more, AreSmall, IsFew, IsSmallPool}
+use Rattle.mcv_config.proofs.HandleRoom.{holds_more, AreSmall, IsFew, IsSmallPool}
 
 -- ---- servers
 

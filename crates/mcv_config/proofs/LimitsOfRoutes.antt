@@ -8,7 +8,6 @@ use Rattle.mcv_names.specs.declared.fault.FaultKind.{FaultKind}
 use Rattle.mcv_names.specs.declared.handle.Handle.{Handle}
 use Rattle.mcv_names.specs.declared.handle.Handle.TheVariants as handles
 use Rattle.mcv_names.specs.declared.handle.Many.{Many}
-use Rattle.mcv_names.specs.declared.handle.Many.TheVariants as many_handles
 use Rattle.mcv_names.specs.declared.handle.Object.TheVariants as objects
 use Rattle.mcv_names.specs.declared.handle.Selector.{Selector}
 use Rattle.mcv_names.specs.declared.handle.Selector.TheVariants as selectors
@@ -16,16 +15,16 @@ use Rattle.mcv_names.specs.Fault.{Read, good, bad, ◌>>=◌}
 use Rattle.mcv_names.specs.Handles.{default_key, is_elsewhere, key_fault, keys_read, handle_named, name_fault, policies_key, prefix_limit, stray_fault, type_read}
 use Rattle.mcv_names.specs.Lists.{each, items_list, items_or_none, member_names, required, some_items}
 use Rattle.mcv_names.specs.Path.{key_step}
-use Rattle.mcv_names.proofs.Holds.{Holds, holds_bind, holds_then, holds_also, holds_if}
+use Rattle.mcv_names.proofs.ReadFacts.{Holds, holds_bind, holds_then, holds_also, holds_if}
 use Rattle.mcv_config.specs.Hash.{hash_read}
 use Rattle.mcv_config.specs.Limits.{handles_in, handles_below, IsWithin, AreWithin}
-use Rattle.mcv_config.specs.Plan.{Named, PrefixPlan, ShadowPlan, server, null, error, nameds_of, last_of}
+use Rattle.mcv_config.specs.ConfigValue.{Named, PrefixValue, ShadowValue, server, null, error, nameds_of, last_of}
 use Rattle.mcv_config.specs.Pools.{pool_named, pool_read}
 use Rattle.mcv_config.specs.Routes.{listed, servers, only_child, plain_pool, cut, pool_prefix, text_children, with_children, of_name, of_name_and_text, of_cut, text_route, pool_object, pool_value, pool_field, pool_fields, children_value, children_field, exptime_read, start_read, interval_read, warm_up_fields, migrate_fields, fields, of_type, object_route, handle_of, in_room, route}
 use Rattle.mcv_config.specs.Selectors.{policy_read, policies_of_members, policies_read, default_read, of_operation, selecting, selector_fields}
 use Rattle.mcv_config.specs.Shadows.{range_read, shadow_fields, shadow_of_members, shadow_read, shadows_read}
 use Rattle.mcv_config.specs.Walk.{SoFar, Reader, route_under, taken, two_under}
-use Rattle.mcv_config.proofs.Fits.{holds_both, holds_more, IsSmall, pool_more, Fits, no_handle, still, counts, Each, none_fit, each_fits, each_member_fits}
+use Rattle.mcv_config.proofs.HandleRoom.{holds_both, holds_more, IsSmall, pool_more, Fits, no_handle, still, counts, Each, none_fit, each_fits, each_member_fits}
 use Rattle.mcv_config.proofs.LimitsOfFields.{IsHash, IsName, IsSeconds, exptime_within, start_within, interval_within, hash_within, names_within}
 use Rattle.mcv_config.proofs.LimitsOfPools.{IsSmallRead, pool_small}
 use Rattle.mcv_config.proofs.SoundPools.{all_of}
@@ -46,43 +45,43 @@ count_routes : (ts : List Named) → counts handles_in ts ≡ count_below ts
 count_routes [] = refl
 count_routes (t ∷ ts) = ap (λ k. handles_in t + k) (count_routes ts)
 
-abbrev IsShadow : ℕ → ShadowPlan → Type 0
+abbrev IsShadow : ℕ → ShadowValue → Type 0
 IsShadow n s = IsWithin n s.1
 
-abbrev shadow_count : ShadowPlan → ℕ
+abbrev shadow_count : ShadowValue → ℕ
 shadow_count s = handles_in s.1
 
-of_shadows : (n : ℕ) (ss : List ShadowPlan) → AllByRecursion (IsShadow n) ss → AreBelow n (map (λ s. s.1) ss)
+of_shadows : (n : ℕ) (ss : List ShadowValue) → AllByRecursion (IsShadow n) ss → AreBelow n (map (λ s. s.1) ss)
 of_shadows n [] h = tt
 of_shadows n (s ∷ ss) h = (h.0, of_shadows n ss h.1)
 
-count_shadows : (ss : List ShadowPlan) → counts shadow_count ss ≡ count_below (map (λ s. s.1) ss)
+count_shadows : (ss : List ShadowValue) → counts shadow_count ss ≡ count_below (map (λ s. s.1) ss)
 count_shadows [] = refl
 count_shadows (s ∷ ss) = ap (λ k. handles_in s.1 + k) (count_shadows ss)
 
-abbrev IsPolicy : Selector → ℕ → PrefixPlan → Type 0
+abbrev IsPolicy : Selector → ℕ → PrefixValue → Type 0
 IsPolicy k n p = IsName k p.0 × IsWithin n p.1
 
-abbrev policy_count : PrefixPlan → ℕ
+abbrev policy_count : PrefixValue → ℕ
 policy_count p = handles_in p.1
 
-of_policies : (k : Selector) (n : ℕ) (ps : List PrefixPlan) (ts : List Named) → AllByRecursion (IsPolicy k n) ps → AreBelow n ts → AreBelow n (map (λ p. p.1) ps ++ ts)
+of_policies : (k : Selector) (n : ℕ) (ps : List PrefixValue) (ts : List Named) → AllByRecursion (IsPolicy k n) ps → AreBelow n ts → AreBelow n (map (λ p. p.1) ps ++ ts)
 of_policies k n [] ts h l = l
 of_policies k n (p ∷ ps) ts h l = (h.0.1, of_policies k n ps ts h.1 l)
 
-of_operations : (k : Selector) (n : ℕ) (ps : List PrefixPlan) (ts : List Named) → AllByRecursion (IsPolicy k n) ps → AreBelow n ts → AreBelow n (map (λ p. p.1) (map of_operation ps) ++ ts)
+of_operations : (k : Selector) (n : ℕ) (ps : List PrefixValue) (ts : List Named) → AllByRecursion (IsPolicy k n) ps → AreBelow n ts → AreBelow n (map (λ p. p.1) (map of_operation ps) ++ ts)
 of_operations k n [] ts h l = l
 of_operations k n (p ∷ ps) ts h l = (h.0.1, of_operations k n ps ts h.1 l)
 
-count_policies : (ps : List PrefixPlan) (ts : List Named) → count_below (map (λ p. p.1) ps ++ ts) ≡ counts policy_count ps + count_below ts
+count_policies : (ps : List PrefixValue) (ts : List Named) → count_below (map (λ p. p.1) ps ++ ts) ≡ counts policy_count ps + count_below ts
 count_policies [] ts = omega arith
 count_policies (p ∷ ps) ts = let more : count_below (map (λ p. p.1) ps ++ ts) ≡ counts policy_count ps + count_below ts = count_policies ps ts in omega (arith, more)
 
-count_operations : (ps : List PrefixPlan) (ts : List Named) → count_below (map (λ p. p.1) (map of_operation ps) ++ ts) ≡ counts policy_count ps + count_below ts
+count_operations : (ps : List PrefixValue) (ts : List Named) → count_below (map (λ p. p.1) (map of_operation ps) ++ ts) ≡ counts policy_count ps + count_below ts
 count_operations [] ts = omega arith
 count_operations (p ∷ ps) ts = let more : count_below (map (λ p. p.1) (map of_operation ps) ++ ts) ≡ counts policy_count ps + count_below ts = count_operations ps ts in omega (arith, more)
 
-prefixes_short : (n : ℕ) (ps : List PrefixPlan) → AllByRecursion (IsPolicy selectors.Prefix n) ps → AllByRecursion (λ p. length p ≤ prefix_limit) (map (λ p. p.0) ps)
+prefixes_short : (n : ℕ) (ps : List PrefixValue) → AllByRecursion (IsPolicy selectors.Prefix n) ps → AllByRecursion (λ p. length p ≤ prefix_limit) (map (λ p. p.0) ps)
 prefixes_short n [] h = tt
 prefixes_short n (p ∷ ps) h = (h.0.0, prefixes_short n ps h.1)
 
@@ -171,19 +170,15 @@ module _ (depth : ℕ) (reader : Reader) (one : (w : SoFar) (path : List ℕ) (d
       (λ _. holds_then (AreRead w.room) (pool_named w.pools path (drop 5 text)) _ (λ i. servers_fit depth w path i s))
       (λ _. only_fits w path (string text) s)
 
-  branch_fits : (room : ℕ) (m : Many) (xs : List Named × SoFar) → AreRead room xs → Holds (IsHandle room) (with_children m xs)
-  branch_fits room many_handles.AllSync xs h = record { holds = h.holds; room_left = omega (arith, h.room_left); small = h.small }
-  branch_fits room many_handles.AllInitial xs h = record { holds = h.holds; room_left = omega (arith, h.room_left); small = h.small }
-  branch_fits room many_handles.AllAsync xs h = record { holds = h.holds; room_left = omega (arith, h.room_left); small = h.small }
-  branch_fits room many_handles.Failover xs h = record { holds = h.holds; room_left = omega (arith, h.room_left); small = h.small }
-  branch_fits room many_handles.MissFailover xs h = record { holds = h.holds; room_left = omega (arith, h.room_left); small = h.small }
+  branch_fits : (room : ℕ) (kind : Many) (xs : List Named × SoFar) → AreRead room xs → Holds (IsHandle room) (with_children kind xs)
+  branch_fits room kind xs h = record { holds = h.holds; room_left = omega (arith, h.room_left); small = h.small }
 
   of_name_fits : (h : Result Handle FaultKind) (path : List ℕ) (w : SoFar) → IsSmall w → Holds (IsHandle w.room) (of_name h path w)
   of_name_fits (Err kind) path w s = tt
   of_name_fits (Ok handles.Pool) path w s = tt
   of_name_fits (Ok handles.Null) path w s = alone w null s tt refl
   of_name_fits (Ok handles.Error) path w s = alone w error s tt refl
-  of_name_fits (Ok (handles.Many m)) path w s = tt
+  of_name_fits (Ok (handles.Many kind)) path w s = tt
   of_name_fits (Ok handles.WarmUp) path w s = tt
   of_name_fits (Ok handles.Migrate) path w s = tt
   of_name_fits (Ok (handles.Selector k)) path w s = tt
@@ -194,8 +189,8 @@ module _ (depth : ℕ) (reader : Reader) (one : (w : SoFar) (path : List ℕ) (d
       holds_then (IsHandle w.room) (pool_named w.pools path text) _ (λ i. alone w (plain_pool i) s (omega arith, tt) refl)
   of_name_and_text_fits w path (Ok handles.Null) text s = tt
   of_name_and_text_fits w path (Ok handles.Error) text s = alone w error s tt refl
-  of_name_and_text_fits w path (Ok (handles.Many m)) text s =
-      holds_bind (AreRead w.room) (IsHandle w.room) (text_children depth reader w path text) _ (text_children_fit w path text s) (branch_fits w.room m)
+  of_name_and_text_fits w path (Ok (handles.Many kind)) text s =
+      holds_bind (AreRead w.room) (IsHandle w.room) (text_children depth reader w path text) _ (text_children_fit w path text s) (branch_fits w.room kind)
   of_name_and_text_fits w path (Ok handles.WarmUp) text s = tt
   of_name_and_text_fits w path (Ok handles.Migrate) text s = tt
   of_name_and_text_fits w path (Ok (handles.Selector k)) text s = tt
@@ -246,7 +241,7 @@ module _ (depth : ℕ) (reader : Reader) (one : (w : SoFar) (path : List ℕ) (d
   unfolding shadow_read
   shadow_fits w path d s = of_members_fit w path d (as_object d) s
 
-  abbrev AreShadows : ℕ → List ShadowPlan × SoFar → Type 0
+  abbrev AreShadows : ℕ → List ShadowValue × SoFar → Type 0
   AreShadows room = Fits (Each (IsShadow depth) shadow_count) (counts shadow_count) room
 
   shadows_fit : (w : SoFar) (path : List ℕ) (o : Option Data) → IsSmall w → Holds (AreShadows w.room) (shadows_read reader w path o)
@@ -295,7 +290,7 @@ module _ (depth : ℕ) (reader : Reader) (one : (w : SoFar) (path : List ℕ) (d
   policy_fits k w path name d l s =
       holds_bind (IsRead w.room) (Fits (IsPolicy k depth) policy_count w.room) (reader w path d) _ (one w path d s) (λ x h. record { holds = (l, h.holds); room_left = h.room_left; small = h.small })
 
-  abbrev ArePolicies : Selector → ℕ → List PrefixPlan × SoFar → Type 0
+  abbrev ArePolicies : Selector → ℕ → List PrefixValue × SoFar → Type 0
   ArePolicies k room = Fits (Each (IsPolicy k depth) policy_count) (counts policy_count) room
 
   policies_of_members_fit : (k : Selector) (w : SoFar) (path : List ℕ) (o : Option Members) → IsSmall w → Holds (ArePolicies k w.room) (policies_of_members k reader w path o)
@@ -314,11 +309,11 @@ module _ (depth : ℕ) (reader : Reader) (one : (w : SoFar) (path : List ℕ) (d
       holds_bind (IsRead w.room) (Fits (IsLast depth) last_count w.room) (reader w path d) _ (one w path d s)
       (λ x h. record { holds = (h.holds, tt); room_left = omega (arith, h.room_left); small = h.small })
 
-  selecting_within : (k : Selector) (ps : List PrefixPlan) (t : Option Named) → AllByRecursion (IsPolicy k depth) ps → IsLast depth t → IsWithin (suc depth) (selecting k ps t)
+  selecting_within : (k : Selector) (ps : List PrefixValue) (t : Option Named) → AllByRecursion (IsPolicy k depth) ps → IsLast depth t → IsWithin (suc depth) (selecting k ps t)
   selecting_within selectors.Prefix ps t h l = (all_of (λ p. length p ≤ prefix_limit) (map (λ p. p.0) ps) (prefixes_short depth ps h), of_policies selectors.Prefix depth ps (last_of t) h l)
   selecting_within selectors.Operation ps t h l = of_operations selectors.Operation depth ps (last_of t) h l
 
-  selecting_count : (k : Selector) (ps : List PrefixPlan) (t : Option Named) → handles_in (selecting k ps t) ≡ suc (counts policy_count ps + last_count t)
+  selecting_count : (k : Selector) (ps : List PrefixValue) (t : Option Named) → handles_in (selecting k ps t) ≡ suc (counts policy_count ps + last_count t)
   selecting_count selectors.Prefix ps t = ap suc (count_policies ps (last_of t))
   selecting_count selectors.Operation ps t = ap suc (count_operations ps (last_of t))
 
@@ -338,7 +333,7 @@ module _ (depth : ℕ) (reader : Reader) (one : (w : SoFar) (path : List ℕ) (d
   fields_fit w path d handles.Pool s = pool_fields_fit w path d s
   fields_fit w path d handles.Null s = alone w null s tt refl
   fields_fit w path d handles.Error s = alone w error s tt refl
-  fields_fit w path d (handles.Many m) s = holds_bind (AreRead w.room) (IsHandle w.room) (children_field depth reader w path d) _ (children_field_fits w path d s) (branch_fits w.room m)
+  fields_fit w path d (handles.Many kind) s = holds_bind (AreRead w.room) (IsHandle w.room) (children_field depth reader w path d) _ (children_field_fits w path d s) (branch_fits w.room kind)
   fields_fit w path d handles.WarmUp s = warm_up_fits w path d s
   fields_fit w path d handles.Migrate s = migrate_fits w path d s
   fields_fit w path d (handles.Selector k) s = selector_fits k w path d s

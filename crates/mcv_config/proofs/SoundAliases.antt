@@ -14,7 +14,7 @@ use Rattle.mcv_names.specs.declared.fault.FaultKind.TheVariants.{WrongKind, Limi
 use Rattle.mcv_names.specs.Fault.{Read, good, bad, ◌>>=◌}
 use Rattle.mcv_names.specs.Lists.{each, items_list, required, some_items, text_read}
 use Rattle.mcv_names.specs.Path.{key_step, item_step}
-use Rattle.mcv_names.proofs.Holds.{Holds, holds_bind, holds_then}
+use Rattle.mcv_names.proofs.ReadFacts.{Holds, holds_bind, holds_then}
 use Rattle.mcv_config.specs.Aliases.{IsAlias, alias_fault, alias_limit, alias_read, aliases_field, aliases_of_list, is_alias, star, twice, unless_fault}
 use Rattle.mcv_config.proofs.RoutingPrefixes.{alias_is}
 use Rattle.mcv_config.proofs.SoundPools.{distinct_more}

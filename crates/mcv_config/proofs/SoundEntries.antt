@@ -10,30 +10,30 @@ use Rattle.mcv_names.specs.Fault.{Read, good, bad, ◌>>=◌}
 use Rattle.mcv_names.specs.Handles.{key_fault, keys_read}
 use Rattle.mcv_names.specs.Lists.{each, items_list, some_items}
 use Rattle.mcv_names.specs.Path.{key_step, item_step}
-use Rattle.mcv_names.proofs.Holds.{Holds, holds_bind, holds_also}
+use Rattle.mcv_names.proofs.ReadFacts.{Holds, holds_bind, holds_also}
 use Rattle.mcv_config.specs.Aliases.{aliases_field}
 use Rattle.mcv_config.specs.Entries.{Turn, depth_limit, entries_of_list, entries_read, entry_fields, entry_of_members, entry_read, only_entry, routing, routing_read}
-use Rattle.mcv_config.specs.Plan.{AreAliases, EntryPlan, Named, IsSoundRoute, all_aliases}
+use Rattle.mcv_config.specs.ConfigValue.{AreAliases, EntryValue, Named, IsSoundRoute, all_aliases}
 use Rattle.mcv_config.specs.Routes.{route}
 use Rattle.mcv_config.specs.Walk.{SoFar, route_under}
-use Rattle.mcv_config.proofs.Later.{Later, route_keeps, IsSoFar, Grows, Each, none_grow, more_grow}
+use Rattle.mcv_config.proofs.LaterPools.{Later, route_keeps, IsSoFar, Grows, Each, none_grow, more_grow}
 use Rattle.mcv_config.proofs.SoundAliases.{AreSome, IsShortAlias, aliases_some, default_is}
 use Rattle.mcv_config.proofs.SoundPools.{all_of, nothing_twice}
 use Rattle.mcv_config.proofs.SoundRoutes.{route_sound, under_sound}
 
-abbrev IsEntry : List (List ℕ) → EntryPlan → Type 0
+abbrev IsEntry : List (List ℕ) → EntryValue → Type 0
 IsEntry ps e = IsSoundRoute ps e.route
 
-pub entry_keeps : (ps qs : List (List ℕ)) → Later ps qs → (e : EntryPlan) → IsEntry ps e → IsEntry qs e
+pub entry_keeps : (ps qs : List (List ℕ)) → Later ps qs → (e : EntryValue) → IsEntry ps e → IsEntry qs e
 entry_keeps ps qs l e h = route_keeps ps qs l e.route h
 
-abbrev HasAliases : EntryPlan → Type 0
+abbrev HasAliases : EntryValue → Type 0
 HasAliases e = AreAliases e.aliases
 
 -- ---- a route with its aliases
 
 -- what was read behind the aliases seen, under the pools that were there
-record IsNext (seen ps : List (List ℕ)) (x : EntryPlan × Turn) : Type 0 where
+record IsNext (seen ps : List (List ℕ)) (x : EntryValue × Turn) : Type 0 where
   behind : x.1.0 ≡ seen ++ x.0.aliases
   once : IsDistinct bytes_eq x.1.0
   aliases : HasAliases x.0
@@ -63,7 +63,7 @@ entry_sound turn path d once s = of_members_sound turn path d (as_object d) once
 
 -- ---- routes in turn
 
-record AreNext (seen ps : List (List ℕ)) (ds : List Data) (x : List EntryPlan × Turn) : Type 0 where
+record AreNext (seen ps : List (List ℕ)) (ds : List Data) (x : List EntryValue × Turn) : Type 0 where
   behind : x.1.0 ≡ seen ++ all_aliases x.0
   once : IsDistinct bytes_eq x.1.0
   aliases : AllByRecursion HasAliases x.0
@@ -87,13 +87,13 @@ each_sound turn path i (d ∷ ds) once s =
 
 -- ---- the routes of a configuration
 
-pub record AreEntries (ps : List (List ℕ)) (x : List EntryPlan × SoFar) : Type 0 where
+pub record AreEntries (ps : List (List ℕ)) (x : List EntryValue × SoFar) : Type 0 where
   pub apart : IsDistinct bytes_eq (all_aliases x.0)
   pub aliases : AllByRecursion HasAliases x.0
   pub some : 0 < length x.0
   pub grows : Grows (Each IsEntry entry_keeps) ps x
 
-abbrev WithTurn : List (List ℕ) → List EntryPlan × Turn → Type 0
+abbrev WithTurn : List (List ℕ) → List EntryValue × Turn → Type 0
 WithTurn ps x = AreEntries ps (x.0, x.1.1)
 
 listed_sound : (w : SoFar) (path : List ℕ) (ds : List Data) → IsSoFar w → Holds (WithTurn w.pools.servers) (some_items path ds >>= each entry_read ([], w) path 0)
@@ -101,7 +101,7 @@ unfolding some_items
 listed_sound w path [] s = tt
 listed_sound w path (d ∷ ds) s = then_all (each entry_read ([], w) path 0 (d ∷ ds)) (each_sound ([], w) path 0 (d ∷ ds) nothing_twice s)
   where
-    then_all : (r : Read (List EntryPlan × Turn)) → Holds (AreNext [] w.pools.servers (d ∷ ds)) r → Holds (WithTurn w.pools.servers) r
+    then_all : (r : Read (List EntryValue × Turn)) → Holds (AreNext [] w.pools.servers (d ∷ ds)) r → Holds (WithTurn w.pools.servers) r
     then_all (good x) h = record { apart = subst (IsDistinct bytes_eq) h.behind h.once; aliases = h.aliases; some = omega (arith, h.count); grows = h.grows }
     then_all (bad faults) h = tt
 
@@ -138,8 +138,8 @@ pub routing_sound : (w : SoFar) (path : List ℕ) (d : Data) → IsSoFar w → H
 unfolding routing_read
 routing_sound w path d s = by_keys_sound w path (get (codes "route") d) (get (codes "routes") d) s
 
-pub sound_routes : (ps : List (List ℕ)) (x : List EntryPlan × SoFar) → AreEntries ps x → All (λ e. IsSoundRoute x.1.pools.servers e.route) x.0
+pub sound_routes : (ps : List (List ℕ)) (x : List EntryValue × SoFar) → AreEntries ps x → All (λ e. IsSoundRoute x.1.pools.servers e.route) x.0
 sound_routes ps x h = all_of (IsEntry x.1.pools.servers) x.0 h.grows.holds
 
-pub sound_aliases : (ps : List (List ℕ)) (x : List EntryPlan × SoFar) → AreEntries ps x → All (λ e. AreAliases e.aliases) x.0
+pub sound_aliases : (ps : List (List ℕ)) (x : List EntryValue × SoFar) → AreEntries ps x → All (λ e. AreAliases e.aliases) x.0
 sound_aliases ps x h = all_of HasAliases x.0 h.aliases

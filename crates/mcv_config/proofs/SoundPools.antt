@@ -14,9 +14,9 @@ use Rattle.mcv_config.specs.Pools.{name_read}
 use Rattle.mcv_names.specs.Handles.{key_fault, keys_read}
 use Rattle.mcv_names.specs.Lists.{each, each_member, items_list, member_names, required, text_read}
 use Rattle.mcv_names.specs.Path.{key_step, item_step}
-use Rattle.mcv_config.specs.Plan.{IsSoundPool}
+use Rattle.mcv_config.specs.ConfigValue.{IsSoundPool}
 use Rattle.mcv_config.specs.Pools.{Pools, Table, entered, is_full, listed_servers, pool_limit, pool_of_members, pool_read, pools_of_members, pools_read, server_read, server_text, servers_of_list, servers_read}
-use Rattle.mcv_names.proofs.Holds.{Holds, holds_bind, holds_then, holds_also, holds_if}
+use Rattle.mcv_names.proofs.ReadFacts.{Holds, holds_bind, holds_then, holds_also, holds_if}
 
 -- ---- a text more in a table
 
@@ -214,7 +214,7 @@ pub pools_sound : (path : List ℕ) (o : Option Data) → Holds ArePools (pools_
 pools_sound path None = record { named = omega arith; pools = tt; is_table = no_servers }
 pools_sound path (Some d) = of_object_sound path (as_object d)
 
--- ---- in the words of the plan
+-- ---- in the words of the configuration
 
 pub all_of : {X : Type 0} (P : X → Type 0) (xs : List X) → AllByRecursion P xs → All P xs
 all_of P [] h k d l = absurd (omega arith)

@@ -9,7 +9,6 @@ use Rattle.mcv_names.specs.declared.fault.FaultKind.{FaultKind}
 use Rattle.mcv_names.specs.declared.handle.Handle.{Handle}
 use Rattle.mcv_names.specs.declared.handle.Handle.TheVariants as handles
 use Rattle.mcv_names.specs.declared.handle.Many.{Many}
-use Rattle.mcv_names.specs.declared.handle.Many.TheVariants as many_handles
 use Rattle.mcv_names.specs.declared.handle.Selector.{Selector}
 use Rattle.mcv_names.specs.declared.handle.Selector.TheVariants as selectors
 use Rattle.mcv_names.specs.declared.handle.Object.TheVariants as objects
@@ -18,14 +17,14 @@ use Rattle.mcv_names.specs.Handles.{default_key, is_elsewhere, key_fault, keys_r
 use Rattle.mcv_config.specs.Hash.{hash_read}
 use Rattle.mcv_names.specs.Lists.{each, items_list, items_or_none, required, some_items}
 use Rattle.mcv_names.specs.Path.{key_step, item_step}
-use Rattle.mcv_config.specs.Plan.{Named, no_named, PrefixPlan, ShadowPlan, server, null, error, nameds_of, last_of, IsSoundRoute, AreSoundRoutes}
+use Rattle.mcv_config.specs.ConfigValue.{Named, no_named, PrefixValue, ShadowValue, server, null, error, nameds_of, last_of, IsSoundRoute, AreSoundRoutes}
 use Rattle.mcv_config.specs.Pools.{Table, number_read, pool_named, pool_read}
 use Rattle.mcv_config.specs.Routes.{listed, servers, only_child, plain_pool, cut, pool_prefix, text_children, with_children, of_name, of_name_and_text, of_cut, text_route, pool_object, pool_value, pool_field, pool_fields, children_value, children_field, exptime_read, start_read, interval_read, warm_up_fields, migrate_fields, fields, of_type, object_route, handle_of, in_room, route}
 use Rattle.mcv_config.specs.Selectors.{policy_read, policies_of_members, policies_read, default_read, of_operation, selecting, selector_fields}
 use Rattle.mcv_config.specs.Shadows.{range_read, shadow_fields, shadow_of_members, shadow_read, shadows_read}
 use Rattle.mcv_config.specs.Walk.{SoFar, Reader, route_under, taken, two_under, with_pool}
-use Rattle.mcv_names.proofs.Holds.{Holds, holds_bind, holds_then, holds_also, holds_if}
-use Rattle.mcv_config.proofs.Later.{Later, later_than, later_more, route_keeps, IsSoFar, Grows, still, pool_behind, Each, none_grow, each_grows, each_member_grows}
+use Rattle.mcv_names.proofs.ReadFacts.{Holds, holds_bind, holds_then, holds_also, holds_if}
+use Rattle.mcv_config.proofs.LaterPools.{Later, later_than, later_more, route_keeps, IsSoFar, Grows, still, pool_behind, Each, none_grow, each_grows, each_member_grows}
 use Rattle.mcv_config.proofs.SoundPools.{Grown, IsPool, pool_grown, some_servers}
 
 -- ---- what is read, under so many pools
@@ -39,39 +38,39 @@ IsNumber ps i = i < length ps
 abbrev AreBoth : List (List ℕ) → Named × Named → Type 0
 AreBoth ps t = IsSoundRoute ps t.0 × IsSoundRoute ps t.1
 
-abbrev IsShadow : List (List ℕ) → ShadowPlan → Type 0
+abbrev IsShadow : List (List ℕ) → ShadowValue → Type 0
 IsShadow ps s = IsSoundRoute ps s.1
 
-abbrev IsPolicy : List (List ℕ) → PrefixPlan → Type 0
+abbrev IsPolicy : List (List ℕ) → PrefixValue → Type 0
 IsPolicy ps p = IsSoundRoute ps p.1
 
 abbrev IsLast : List (List ℕ) → Option Named → Type 0
 IsLast ps t = AreSoundRoutes ps (nameds_of (last_of t))
 
-shadow_keeps : (ps qs : List (List ℕ)) → Later ps qs → (s : ShadowPlan) → IsShadow ps s → IsShadow qs s
+shadow_keeps : (ps qs : List (List ℕ)) → Later ps qs → (s : ShadowValue) → IsShadow ps s → IsShadow qs s
 shadow_keeps ps qs l s h = route_keeps ps qs l s.1 h
 
-policy_keeps : (ps qs : List (List ℕ)) → Later ps qs → (p : PrefixPlan) → IsPolicy ps p → IsPolicy qs p
+policy_keeps : (ps qs : List (List ℕ)) → Later ps qs → (p : PrefixValue) → IsPolicy ps p → IsPolicy qs p
 policy_keeps ps qs l p h = route_keeps ps qs l p.1 h
 
 of_routes : (ps : List (List ℕ)) (ts : List Named) → AllByRecursion (IsSoundRoute ps) ts → AreSoundRoutes ps (nameds_of ts)
 of_routes ps [] h = tt
 of_routes ps (t ∷ ts) h = (h.0, of_routes ps ts h.1)
 
-of_shadows : (ps : List (List ℕ)) (ss : List ShadowPlan) → AllByRecursion (IsShadow ps) ss → AreSoundRoutes ps (nameds_of (map (λ s. s.1) ss))
+of_shadows : (ps : List (List ℕ)) (ss : List ShadowValue) → AllByRecursion (IsShadow ps) ss → AreSoundRoutes ps (nameds_of (map (λ s. s.1) ss))
 of_shadows ps [] h = tt
 of_shadows ps (s ∷ ss) h = (h.0, of_shadows ps ss h.1)
 
 -- the policies, and what comes behind them
-of_policies : (ps : List (List ℕ)) (qs : List PrefixPlan) (ts : List Named) → AllByRecursion (IsPolicy ps) qs → AreSoundRoutes ps (nameds_of ts) → AreSoundRoutes ps (nameds_of (map (λ p. p.1) qs ++ ts))
+of_policies : (ps : List (List ℕ)) (qs : List PrefixValue) (ts : List Named) → AllByRecursion (IsPolicy ps) qs → AreSoundRoutes ps (nameds_of ts) → AreSoundRoutes ps (nameds_of (map (λ p. p.1) qs ++ ts))
 of_policies ps [] ts h k = k
 of_policies ps (q ∷ qs) ts h k = (h.0, of_policies ps qs ts h.1 k)
 
-of_operations : (ps : List (List ℕ)) (qs : List PrefixPlan) (ts : List Named) → AllByRecursion (IsPolicy ps) qs → AreSoundRoutes ps (nameds_of ts) → AreSoundRoutes ps (nameds_of (map (λ p. p.1) (map of_operation qs) ++ ts))
+of_operations : (ps : List (List ℕ)) (qs : List PrefixValue) (ts : List Named) → AllByRecursion (IsPolicy ps) qs → AreSoundRoutes ps (nameds_of ts) → AreSoundRoutes ps (nameds_of (map (λ p. p.1) (map of_operation qs) ++ ts))
 of_operations ps [] ts h k = k
 of_operations ps (q ∷ qs) ts h k = (h.0, of_operations ps qs ts h.1 k)
 
-policies_keep : (ps qs : List (List ℕ)) → Later ps qs → (xs : List PrefixPlan) → AllByRecursion (IsPolicy ps) xs → AllByRecursion (IsPolicy qs) xs
+policies_keep : (ps qs : List (List ℕ)) → Later ps qs → (xs : List PrefixValue) → AllByRecursion (IsPolicy ps) xs → AllByRecursion (IsPolicy qs) xs
 policies_keep ps qs l [] h = tt
 policies_keep ps qs l (x ∷ xs) h = (policy_keeps ps qs l x h.0, policies_keep ps qs l xs h.1)
 
@@ -152,19 +151,15 @@ module _ (depth : ℕ) (reader : Reader) (one : (w : SoFar) (path : List ℕ) (d
       (λ _. holds_bind (IsNumber w.pools.servers) (Grows AreSome w.pools.servers) (pool_named w.pools path (drop 5 text)) _ (named_sound w path (drop 5 text) s) (λ i h. servers_sound depth w path i s h))
       (λ _. only_sound w path (string text) s)
 
-  branch_sound : (ps : List (List ℕ)) (m : Many) (xs : List Named × SoFar) → Grows AreSome ps xs → Holds (Grows IsSoundRoute ps) (with_children m xs)
-  branch_sound ps many_handles.AllSync xs h = record { holds = h.holds; later = h.later; sound = h.sound }
-  branch_sound ps many_handles.AllInitial xs h = record { holds = h.holds; later = h.later; sound = h.sound }
-  branch_sound ps many_handles.AllAsync xs h = record { holds = h.holds; later = h.later; sound = h.sound }
-  branch_sound ps many_handles.Failover xs h = record { holds = h.holds; later = h.later; sound = h.sound }
-  branch_sound ps many_handles.MissFailover xs h = record { holds = h.holds; later = h.later; sound = h.sound }
+  branch_sound : (ps : List (List ℕ)) (kind : Many) (xs : List Named × SoFar) → Grows AreSome ps xs → Holds (Grows IsSoundRoute ps) (with_children kind xs)
+  branch_sound ps kind xs h = record { holds = h.holds; later = h.later; sound = h.sound }
 
   of_name_sound : (h : Result Handle FaultKind) (path : List ℕ) (w : SoFar) → IsSoFar w → Holds (Grows IsSoundRoute w.pools.servers) (of_name h path w)
   of_name_sound (Err kind) path w s = tt
   of_name_sound (Ok handles.Pool) path w s = tt
   of_name_sound (Ok handles.Null) path w s = still IsSoundRoute w null s tt
   of_name_sound (Ok handles.Error) path w s = still IsSoundRoute w error s tt
-  of_name_sound (Ok (handles.Many m)) path w s = tt
+  of_name_sound (Ok (handles.Many kind)) path w s = tt
   of_name_sound (Ok handles.WarmUp) path w s = tt
   of_name_sound (Ok handles.Migrate) path w s = tt
   of_name_sound (Ok (handles.Selector k)) path w s = tt
@@ -175,8 +170,8 @@ module _ (depth : ℕ) (reader : Reader) (one : (w : SoFar) (path : List ℕ) (d
       holds_bind (IsNumber w.pools.servers) (Grows IsSoundRoute w.pools.servers) (pool_named w.pools path text) _ (named_sound w path text s) (λ i h. still IsSoundRoute w (plain_pool i) s (h, tt))
   of_name_and_text_sound w path (Ok handles.Null) text s = tt
   of_name_and_text_sound w path (Ok handles.Error) text s = still IsSoundRoute w error s tt
-  of_name_and_text_sound w path (Ok (handles.Many m)) text s =
-      holds_bind (Grows AreSome w.pools.servers) (Grows IsSoundRoute w.pools.servers) (text_children depth reader w path text) _ (text_children_sound w path text s) (branch_sound w.pools.servers m)
+  of_name_and_text_sound w path (Ok (handles.Many kind)) text s =
+      holds_bind (Grows AreSome w.pools.servers) (Grows IsSoundRoute w.pools.servers) (text_children depth reader w path text) _ (text_children_sound w path text s) (branch_sound w.pools.servers kind)
   of_name_and_text_sound w path (Ok handles.WarmUp) text s = tt
   of_name_and_text_sound w path (Ok handles.Migrate) text s = tt
   of_name_and_text_sound w path (Ok (handles.Selector k)) text s = tt
@@ -298,7 +293,7 @@ module _ (depth : ℕ) (reader : Reader) (one : (w : SoFar) (path : List ℕ) (d
   default_sound w path (Some d) s =
       holds_bind (Grows IsSoundRoute w.pools.servers) (Grows IsLast w.pools.servers) (reader w path d) _ (one w path d s) (λ x h. record { holds = (h.holds, tt); later = h.later; sound = h.sound })
 
-  selecting_sound : (ps : List (List ℕ)) (k : Selector) (qs : List PrefixPlan) (t : Option Named) → AllByRecursion (IsPolicy ps) qs → IsLast ps t → IsSoundRoute ps (selecting k qs t)
+  selecting_sound : (ps : List (List ℕ)) (k : Selector) (qs : List PrefixValue) (t : Option Named) → AllByRecursion (IsPolicy ps) qs → IsLast ps t → IsSoundRoute ps (selecting k qs t)
   selecting_sound ps selectors.Prefix qs t h l = of_policies ps qs (last_of t) h l
   selecting_sound ps selectors.Operation qs t h l = of_operations ps qs (last_of t) h l
 
@@ -322,8 +317,8 @@ module _ (depth : ℕ) (reader : Reader) (one : (w : SoFar) (path : List ℕ) (d
   fields_sound w path d handles.Pool s = pool_fields_sound w path d s
   fields_sound w path d handles.Null s = still IsSoundRoute w null s tt
   fields_sound w path d handles.Error s = still IsSoundRoute w error s tt
-  fields_sound w path d (handles.Many m) s =
-      holds_bind (Grows AreSome w.pools.servers) (Grows IsSoundRoute w.pools.servers) (children_field depth reader w path d) _ (children_field_sound w path d s) (branch_sound w.pools.servers m)
+  fields_sound w path d (handles.Many kind) s =
+      holds_bind (Grows AreSome w.pools.servers) (Grows IsSoundRoute w.pools.servers) (children_field depth reader w path d) _ (children_field_sound w path d s) (branch_sound w.pools.servers kind)
   fields_sound w path d handles.WarmUp s = warm_up_sound w path d s
   fields_sound w path d handles.Migrate s = migrate_sound w path d s
   fields_sound w path d (handles.Selector k) s = selector_sound k w path d s

@@ -10,7 +10,7 @@ use Rattle.mcv_names.specs.Fault.{Fault, Read, good, refused, ◌>>=◌, also, H
 use Rattle.mcv_names.specs.Handles.{key_fault, keys_read}
 use Rattle.mcv_names.specs.Path.{key_step}
 use Rattle.mcv_config.specs.Entries.{routing_read}
-use Rattle.mcv_config.specs.Plan.{Plan, EntryPlan}
+use Rattle.mcv_config.specs.ConfigValue.{ConfigValue, EntryValue}
 use Rattle.mcv_config.specs.Pools.{Pools, Table, pools_read}
 use Rattle.mcv_config.specs.Walk.{SoFar}
 
@@ -26,28 +26,28 @@ size_limit = 16777216
 abbrev pub at_first : Pools × Table → SoFar
 at_first ps = record { room = node_limit; pools = ps.0; table = ps.1 }
 
-abbrev pub plan_with : List EntryPlan × SoFar → Plan
-plan_with t = record { servers = t.1.table; pools = t.1.pools.servers; entries = t.0 }
+abbrev pub config_with : List EntryValue × SoFar → ConfigValue
+config_with t = record { servers = t.1.table; pools = t.1.pools.servers; entries = t.0 }
 
 -- the pools, and then the routes
-unfoldable pub plan_read : List ℕ → Data → Read Plan
-plan_read path d =
+unfoldable pub config_read : List ℕ → Data → Read ConfigValue
+config_read path d =
     pools_read (key_step path (codes "pools")) (get (codes "pools") d) >>= λ (ps : Pools × Table).
-    routing_read (at_first ps) path d >>= λ (t : List EntryPlan × SoFar).
-    good (plan_with t)
+    routing_read (at_first ps) path d >>= λ (t : List EntryValue × SoFar).
+    good (config_with t)
 
-abbrev pub plan_of_members : List ℕ → Data → Option Members → Read Plan
-plan_of_members path d None = refused WrongKind path
-plan_of_members path d (Some ms) = also (keys_read (key_fault objects.Root) path ms) (plan_read path d)
+abbrev pub config_of_members : List ℕ → Data → Option Members → Read ConfigValue
+config_of_members path d None = refused WrongKind path
+config_of_members path d (Some ms) = also (keys_read (key_fault objects.Root) path ms) (config_read path d)
 
-unfoldable pub root : List ℕ → Data → Read Plan
-root path d = plan_of_members path d (as_object d)
+unfoldable pub root : List ℕ → Data → Read ConfigValue
+root path d = config_of_members path d (as_object d)
 
 -- ---- texts without comments
 
--- The text is the JSON value, and the value names the plan.
-abbrev pub NamesAsJson : List ℕ → Plan → Type 0
-NamesAsJson json plan = (d : Data) × IsUtf8 json × (read json ≡ Some d) × (root [] d ≡ good plan)
+-- The text is the JSON value, and the value names the configuration.
+abbrev pub NamesAsJson : List ℕ → ConfigValue → Type 0
+NamesAsJson json config = (d : Data) × IsUtf8 json × (read json ≡ Some d) × (root [] d ≡ good config)
 
 abbrev pub IsJson : List ℕ → Type 0
 IsJson json = IsUtf8 json × (d : Data) × (read json ≡ Some d)
@@ -60,9 +60,9 @@ FaultyAsJson json fault =
 
 -- ---- texts with comments
 
--- The text is not too long, and what it is without its comments names the plan.
-abbrev pub Names : List ℕ → Plan → Type 0
-Names text plan = (length text ≤ size_limit) × (json : List ℕ) × Strips text json × NamesAsJson json plan
+-- The text is not too long, and what it is without its comments names the configuration.
+abbrev pub Names : List ℕ → ConfigValue → Type 0
+Names text config = (length text ≤ size_limit) × (json : List ℕ) × Strips text json × NamesAsJson json config
 
 -- The fault is in the text: the text is too long, and has no other fault; or it isn't, and a comment doesn't end, or the fault is in what the text is without its comments.
 abbrev pub Faulty : List ℕ → Fault → Type 0

@@ -12,8 +12,8 @@ use Rattle.mcv_names.specs.Lists.{text_read}
 use Rattle.mcv_names.specs.Path.{key_step}
 
 -- a function and a salt
-abbrev pub HashPlan : Type 0
-HashPlan = HashFunc × List ℕ
+abbrev pub HashValue : Type 0
+HashValue = HashFunc × List ℕ
 
 -- bytes of a salt (own)
 abbrev pub salt_limit : ℕ
@@ -43,19 +43,19 @@ abbrev pub salt_field : List ℕ → Option Data → Read (List ℕ)
 salt_field path None = good []
 salt_field path (Some d) = text_read (as_str d) path >>= salt_within path
 
-unfoldable pub hash_fields : List ℕ → Data → Read HashPlan
+unfoldable pub hash_fields : List ℕ → Data → Read HashValue
 hash_fields path d =
     func_field (key_step path (codes "hash_func")) (get (codes "hash_func") d) >>= λ (func : HashFunc).
     salt_field (key_step path (codes "salt")) (get (codes "salt") d) >>= λ (salt : List ℕ).
     good (func, salt)
 
 -- a function's name, or an object
-abbrev pub hash_value : List ℕ → Data → Option (List ℕ) → Option Members → Read HashPlan
+abbrev pub hash_value : List ℕ → Data → Option (List ℕ) → Option Members → Read HashValue
 hash_value path d (Some name) o = func_read path name >>= λ (func : HashFunc). good (func, [])
 hash_value path d None (Some ms) = also (keys_read (key_fault objects.Hash) path ms) (hash_fields path d)
 hash_value path d None None = refused WrongKind path
 
 -- Ch3 without a salt where there is no such key
-abbrev pub hash_read : List ℕ → Option Data → Read HashPlan
+abbrev pub hash_read : List ℕ → Option Data → Read HashValue
 hash_read path None = good (Ch3, [])
 hash_read path (Some d) = hash_value path d (as_str d) (as_object d)

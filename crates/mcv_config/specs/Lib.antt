@@ -4,7 +4,7 @@ pub use Rattle.mcv_names.specs.Path
 pub use Rattle.mcv_names.specs.Lists
 pub use Rattle.mcv_names.specs.Handles
 pub mod Aliases
-pub mod Plan
+pub mod ConfigValue
 pub mod Labels
 pub mod Codes
 pub mod Pools

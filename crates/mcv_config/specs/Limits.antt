@@ -1,4 +1,4 @@
--- How large what a configuration names may be: limits that every plan that a text names keeps (own).
+-- How large what a configuration names may be: limits that every configuration that a text names keeps (own).
 use Rattle.std.specs.Prelude.{ℕ, zero, suc, ◌+◌, ◌≤◌, length}
 use Rattle.std.specs.List.{All, sum_by}
 use Rattle.mcv_pools.specs.Table.{server_limit}
@@ -7,7 +7,7 @@ use Rattle.mcv_config.specs.Config.{node_limit}
 use Rattle.mcv_config.specs.Entries.{depth_limit}
 use Rattle.mcv_config.specs.Hash.{salt_limit}
 use Rattle.mcv_config.specs.Numbers.{seconds_limit}
-use Rattle.mcv_config.specs.Plan.{Named, Nameds, Plan, pool, server, null, error, all_sync, all_initial, all_async, failover, miss_failover, warm_up, migrate, prefix_selector, operation_selector, no_named, named}
+use Rattle.mcv_config.specs.ConfigValue.{Named, Nameds, ConfigValue, pool, server, null, error, many, warm_up, migrate, prefix_selector, operation_selector, no_named, named}
 use Rattle.mcv_config.specs.Pools.{pool_limit}
 
 abbrev mutual
@@ -17,11 +17,7 @@ abbrev mutual
   handles_in (server i k) = 1
   handles_in null = 1
   handles_in error = 1
-  handles_in (all_sync ts) = suc (handles_below ts)
-  handles_in (all_initial ts) = suc (handles_below ts)
-  handles_in (all_async ts) = suc (handles_below ts)
-  handles_in (failover ts) = suc (handles_below ts)
-  handles_in (miss_failover ts) = suc (handles_below ts)
+  handles_in (many kind ts) = suc (handles_below ts)
   handles_in (warm_up cold warm exptime) = suc (handles_in cold + handles_in warm)
   handles_in (migrate from to start interval) = suc (handles_in from + handles_in to)
   handles_in (prefix_selector prefixes ts) = suc (handles_below ts)
@@ -39,11 +35,7 @@ abbrev mutual
   IsWithin (suc n) (server i k) = Unit {0}
   IsWithin (suc n) null = Unit {0}
   IsWithin (suc n) error = Unit {0}
-  IsWithin (suc n) (all_sync ts) = AreWithin n ts
-  IsWithin (suc n) (all_initial ts) = AreWithin n ts
-  IsWithin (suc n) (all_async ts) = AreWithin n ts
-  IsWithin (suc n) (failover ts) = AreWithin n ts
-  IsWithin (suc n) (miss_failover ts) = AreWithin n ts
+  IsWithin (suc n) (many kind ts) = AreWithin n ts
   IsWithin (suc n) (warm_up cold warm exptime) = (exptime ≤ seconds_limit) × IsWithin n cold × IsWithin n warm
   IsWithin (suc n) (migrate from to start interval) = (start ≤ seconds_limit) × (interval ≤ seconds_limit) × IsWithin n from × IsWithin n to
   IsWithin (suc n) (prefix_selector prefixes ts) = All (λ p. length p ≤ prefix_limit) prefixes × AreWithin n ts
@@ -54,10 +46,10 @@ abbrev mutual
   AreWithin n (named t ts) = IsWithin n t × AreWithin n ts
 
 -- The limits of aliases are in `AreAliases`.
-pub record IsWithinLimits (plan : Plan) : Type 0 where
+pub record IsWithinLimits (config : ConfigValue) : Type 0 where
   -- distinct servers, and the servers of each pool
-  pub servers : length plan.servers ≤ server_limit
-  pub pools : All (λ p. length p ≤ pool_limit) plan.pools
+  pub servers : length config.servers ≤ server_limit
+  pub pools : All (λ p. length p ≤ pool_limit) config.pools
   -- levels of handles in each route, and the handles of all routes together
-  pub levels : All (λ e. IsWithin depth_limit e.route) plan.entries
-  pub handles : sum_by (λ e. handles_in e.route) plan.entries ≤ node_limit
+  pub levels : All (λ e. IsWithin depth_limit e.route) config.entries
+  pub handles : sum_by (λ e. handles_in e.route) config.entries ≤ node_limit

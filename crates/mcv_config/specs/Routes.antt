@@ -11,17 +11,16 @@ use Rattle.mcv_names.specs.declared.fault.ReadFault.{ReadFault}
 use Rattle.mcv_names.specs.declared.fault.ReadFault.TheVariants.{Memory}
 use Rattle.mcv_config.specs.declared.config.NamedRoute.{NamedRoute}
 use Rattle.mcv_names.specs.declared.handle.Many.{Many}
-use Rattle.mcv_names.specs.declared.handle.Many.TheVariants as many_handles
 use Rattle.mcv_names.specs.declared.handle.Handle.{Handle}
 use Rattle.mcv_names.specs.declared.handle.Handle.TheVariants as handles
 use Rattle.mcv_names.specs.declared.handle.Object.TheVariants as objects
 use Rattle.mcv_names.specs.Fault.{Read, good, bad, refused, ◌>>=◌, also}
 use Rattle.mcv_names.specs.Handles.{handle_named, is_elsewhere, key_fault, keys_read, stray_fault, type_read}
-use Rattle.mcv_config.specs.Hash.{HashPlan, hash_read}
+use Rattle.mcv_config.specs.Hash.{HashValue, hash_read}
 use Rattle.mcv_names.specs.Lists.{each, items_list, required, some_items}
 use Rattle.mcv_config.specs.Numbers.{seconds_or, seconds_read}
 use Rattle.mcv_names.specs.Path.{key_step}
-use Rattle.mcv_config.specs.Plan.{Named, ShadowPlan, pool, server, null, error, all_sync, all_initial, all_async, failover, miss_failover, warm_up, migrate, no_named, nameds_of}
+use Rattle.mcv_config.specs.ConfigValue.{Named, ShadowValue, pool, server, null, error, many, warm_up, migrate, no_named, nameds_of}
 use Rattle.mcv_config.specs.Pools.{Table, pool_named, pool_read}
 use Rattle.mcv_config.specs.Selectors.{selector_fields}
 use Rattle.mcv_config.specs.Shadows.{shadows_read}
@@ -64,15 +63,8 @@ text_children depth reader w path text =
     else (reader w path (string text) >>= λ (x : Named × SoFar). good (only_child x))
 
 -- a handle with these children
-abbrev pub branch : Many → List Named → Named
-branch many_handles.AllSync ts = all_sync (nameds_of ts)
-branch many_handles.AllInitial ts = all_initial (nameds_of ts)
-branch many_handles.AllAsync ts = all_async (nameds_of ts)
-branch many_handles.Failover ts = failover (nameds_of ts)
-branch many_handles.MissFailover ts = miss_failover (nameds_of ts)
-
 abbrev pub with_children : Many → List Named × SoFar → Read (Named × SoFar)
-with_children m xs = good (branch m xs.0, xs.1)
+with_children kind xs = good (many kind (nameds_of xs.0), xs.1)
 
 -- a pool under no other hash, without shadows
 abbrev pub plain_pool : ℕ → Named
@@ -84,7 +76,7 @@ of_name (Err kind) path w = refused kind path
 of_name (Ok handles.Pool) path w = refused WrongKind path
 of_name (Ok handles.Null) path w = good (null, w)
 of_name (Ok handles.Error) path w = good (error, w)
-of_name (Ok (handles.Many m)) path w = refused WrongKind path
+of_name (Ok (handles.Many kind)) path w = refused WrongKind path
 of_name (Ok handles.WarmUp) path w = refused WrongKind path
 of_name (Ok handles.Migrate) path w = refused WrongKind path
 of_name (Ok (handles.Selector s)) path w = refused WrongKind path
@@ -95,7 +87,7 @@ of_name_and_text depth reader w path (Err kind) text = refused kind path
 of_name_and_text depth reader w path (Ok handles.Pool) text = pool_named w.pools path text >>= λ (i : ℕ). good (plain_pool i, w)
 of_name_and_text depth reader w path (Ok handles.Null) text = refused WrongKind path
 of_name_and_text depth reader w path (Ok handles.Error) text = good (error, w)
-of_name_and_text depth reader w path (Ok (handles.Many m)) text = text_children depth reader w path text >>= with_children m
+of_name_and_text depth reader w path (Ok (handles.Many kind)) text = text_children depth reader w path text >>= with_children kind
 of_name_and_text depth reader w path (Ok handles.WarmUp) text = refused WrongKind path
 of_name_and_text depth reader w path (Ok handles.Migrate) text = refused WrongKind path
 of_name_and_text depth reader w path (Ok (handles.Selector s)) text = refused WrongKind path
@@ -127,14 +119,14 @@ pool_field w path d =
     pool_value w (key_step path (codes "pool")) p (as_str p)
 
 -- a pool with its hash and its shadows
-abbrev pub shadowed : ℕ → HashPlan → List ShadowPlan → Named
+abbrev pub shadowed : ℕ → HashValue → List ShadowValue → Named
 shadowed i hash shadows = pool i hash.0 hash.1 (map (λ s. s.0) shadows) (nameds_of (map (λ s. s.1) shadows))
 
 unfoldable pub pool_fields : Reader → SoFar → List ℕ → Data → Read (Named × SoFar)
 pool_fields reader w path d =
     pool_field w path d >>= λ (x : ℕ × SoFar).
-    hash_read (key_step path (codes "hash")) (get (codes "hash") d) >>= λ (hash : HashPlan).
-    shadows_read reader x.1 (key_step path (codes "shadows")) (get (codes "shadows") d) >>= λ (shadows : List ShadowPlan × SoFar).
+    hash_read (key_step path (codes "hash")) (get (codes "hash") d) >>= λ (hash : HashValue).
+    shadows_read reader x.1 (key_step path (codes "shadows")) (get (codes "shadows") d) >>= λ (shadows : List ShadowValue × SoFar).
     good (shadowed x.0 hash shadows.0, shadows.1)
 
 -- a text, a list, or one route
@@ -178,7 +170,7 @@ unfoldable pub fields : ℕ → Reader → SoFar → List ℕ → Data → Handl
 fields depth reader w path d handles.Pool = pool_fields reader w path d
 fields depth reader w path d handles.Null = good (null, w)
 fields depth reader w path d handles.Error = good (error, w)
-fields depth reader w path d (handles.Many m) = children_field depth reader w path d >>= with_children m
+fields depth reader w path d (handles.Many kind) = children_field depth reader w path d >>= with_children kind
 fields depth reader w path d handles.WarmUp = warm_up_fields reader w path d
 fields depth reader w path d handles.Migrate = migrate_fields reader w path d
 fields depth reader w path d (handles.Selector s) = selector_fields s reader w path d

@@ -9,7 +9,7 @@ use Rattle.mcv_names.specs.Handles.{key_fault, keys_read}
 use Rattle.mcv_names.specs.Lists.{each, items_or_none, required}
 use Rattle.mcv_config.specs.Numbers.{index_read}
 use Rattle.mcv_names.specs.Path.{key_step, item_step}
-use Rattle.mcv_config.specs.Plan.{Named, Range, ShadowPlan}
+use Rattle.mcv_config.specs.ConfigValue.{Named, Range, ShadowValue}
 use Rattle.mcv_config.specs.Walk.{SoFar, Reader, route_under}
 
 -- ---- ranges
@@ -39,19 +39,19 @@ range_of ends = record { first = ends.0; last = ends.1 }
 
 -- ---- shadows
 
-unfoldable pub shadow_fields : Reader → SoFar → List ℕ → Data → Read (ShadowPlan × SoFar)
+unfoldable pub shadow_fields : Reader → SoFar → List ℕ → Data → Read (ShadowValue × SoFar)
 shadow_fields reader w path d =
     range_read path d >>= λ (range : Range).
     route_under reader w path (codes "target") d >>= λ (x : Named × SoFar).
     good ((range, x.0), x.1)
 
-abbrev pub shadow_of_members : Reader → SoFar → List ℕ → Data → Option Members → Read (ShadowPlan × SoFar)
+abbrev pub shadow_of_members : Reader → SoFar → List ℕ → Data → Option Members → Read (ShadowValue × SoFar)
 shadow_of_members reader w path d None = refused WrongKind path
 shadow_of_members reader w path d (Some ms) = also (keys_read (key_fault objects.Shadow) path ms) (shadow_fields reader w path d)
 
-unfoldable pub shadow_read : Reader → SoFar → List ℕ → Data → Read (ShadowPlan × SoFar)
+unfoldable pub shadow_read : Reader → SoFar → List ℕ → Data → Read (ShadowValue × SoFar)
 shadow_read reader w path d = shadow_of_members reader w path d (as_object d)
 
 -- no shadows where there is no such key
-abbrev pub shadows_read : Reader → SoFar → List ℕ → Option Data → Read (List ShadowPlan × SoFar)
+abbrev pub shadows_read : Reader → SoFar → List ℕ → Option Data → Read (List ShadowValue × SoFar)
 shadows_read reader w path o = items_or_none path o >>= each (shadow_read reader) w path 0

@@ -5,7 +5,7 @@ use Rattle.serde_json.specs.Find.{get}
 use Rattle.mcv_names.specs.Fault.{Read, good, ◌>>=◌}
 use Rattle.mcv_names.specs.Lists.{required}
 use Rattle.mcv_names.specs.Path.{key_step}
-use Rattle.mcv_config.specs.Plan.{Named}
+use Rattle.mcv_config.specs.ConfigValue.{Named}
 use Rattle.mcv_config.specs.Pools.{Pools, Table}
 
 pub record SoFar : Type 0 where

@@ -4,9 +4,10 @@
 
 ghost use Rattle.std.specs.Prelude.{◌≡◌};
 ghost use Rattle.mcv_config.specs.Limits.{IsWithinLimits};
-ghost use Rattle.mcv_config.specs.Plan.{IsSound, plan_of};
+ghost use Rattle.mcv_config.specs.ConfigValue.{IsSound, config_value};
 
 use mcv_base::{Op, Prefix, ServerId};
+use mcv_names::Many;
 use mcv_pools::{HashFunc, Servers};
 use std::marker::Model;
 
@@ -62,11 +63,8 @@ pub enum NamedRoute {
     },
     Null,
     Error,
-    AllSync(Vec<NamedRoute>),
-    AllInitial(Vec<NamedRoute>),
-    AllAsync(Vec<NamedRoute>),
-    Failover(Vec<NamedRoute>),
-    MissFailover(Vec<NamedRoute>),
+    /// One with children and nothing else.
+    Many(Many, Vec<NamedRoute>),
     WarmUp {
         cold: Box<NamedRoute>,
         warm: Box<NamedRoute>,
@@ -108,30 +106,30 @@ pub struct ConfigParts {
     pub entries: Vec<Entry>,
 }
 
-/// What a configuration text names, sound and within the limits. Clauses see a `Plan`.
+/// What a configuration text names, sound and within the limits. Clauses see a `ConfigValue`.
 #[derive(Drop)]
 pub struct Config {
     pub(crate) parts: ConfigParts,
 }
 
 impl Model for Config {
-    ghost use Rattle.mcv_config.specs.Codes.{plan_code};
-    ghost use Rattle.mcv_config.specs.Plan.{IsSound, Plan, plan_of};
+    ghost use Rattle.mcv_config.specs.Codes.{config_code};
+    ghost use Rattle.mcv_config.specs.ConfigValue.{IsSound, ConfigValue, config_value};
     ghost use Rattle.mcv_config.specs.Limits.{IsWithinLimits};
 
-    ghost Value = { Plan };
+    ghost Value = { ConfigValue };
 
-    ghost coded = { plan_code };
+    ghost coded = { config_code };
 
-    ghost view = { λ c. plan_of c.parts };
+    ghost view = { λ c. config_value c.parts };
 
-    ghost invariant = { λ c. IsSound (plan_of c.parts) × IsWithinLimits (plan_of c.parts) };
+    ghost invariant = { λ c. IsSound (config_value c.parts) × IsWithinLimits (config_value c.parts) };
 }
 
 impl Config {
     /// The servers, pools and routes.
     pub fn parts(&self) -> &ConfigParts
-        ensures plan { plan_of result.now ≡ self.now }
+        ensures config { config_value result.now ≡ self.now }
         ensures sound { IsSound self.now }
         ensures limits { IsWithinLimits self.now }
     {
@@ -140,7 +138,7 @@ impl Config {
 
     /// The servers, pools and routes, to be changed or given away.
     pub fn into_parts(self) -> ConfigParts
-        ensures plan { plan_of result ≡ self }
+        ensures config { config_value result ≡ self }
         ensures sound { IsSound self }
         ensures limits { IsWithinLimits self }
     {

@@ -6,7 +6,7 @@ ghost use Rattle.mcv_names.specs.Fault.{Gives};
 ghost use Rattle.mcv_names.specs.Lists.{each};
 ghost use Rattle.mcv_names.specs.Path.{path_of};
 ghost use Rattle.mcv_config.specs.Entries.{entries_read, entry_fields, entry_read, only_entry, routing_read};
-ghost use Rattle.mcv_config.specs.Plan.{entry_plan, named_of};
+ghost use Rattle.mcv_config.specs.ConfigValue.{entry_value, named_of};
 ghost use Rattle.mcv_config.specs.View.{so_far_of};
 
 use crate::aliases::read_aliases;
@@ -30,7 +30,7 @@ pub(crate) fn read_routing(
     trail: &Trail<'_>,
     value: &Value,
 ) -> Result<Vec<Entry>, ReadFault>
-    ensures { Gives (λ v. (map entry_plan v.items, so_far_of so_far.new)) result (routing_read (so_far_of so_far.old) (path_of trail.now) (view value.now)) }
+    ensures { Gives (λ v. (map entry_value v.items, so_far_of so_far.new)) result (routing_read (so_far_of so_far.old) (path_of trail.now) (view value.now)) }
 {
     if let Some(entries) = value.get("routes") {
         if let Some(_) = value.get("route") {
@@ -48,7 +48,7 @@ pub(crate) fn read_routing(
 
 /// One route, which key words without a routing prefix take.
 fn only_entry(alloc: Global, route: NamedRoute) -> Result<Vec<Entry>, AllocError>
-    ensures { IfOk result (λ v. map entry_plan v.items ≡ only_entry (named_of route)) }
+    ensures { IfOk result (λ v. map entry_value v.items ≡ only_entry (named_of route)) }
 {
     let mut aliases = Vec::new(alloc);
     aliases.push(Prefix::unnamed())?;
@@ -65,7 +65,7 @@ fn read_entries(
     trail: &Trail<'_>,
     value: &Value,
 ) -> Result<Vec<Entry>, ReadFault>
-    ensures { Gives (λ v. (map entry_plan v.items, so_far_of so_far.new)) result (entries_read (so_far_of so_far.old) (path_of trail.now) (view value.now)) }
+    ensures { Gives (λ v. (map entry_value v.items, so_far_of so_far.new)) result (entries_read (so_far_of so_far.old) (path_of trail.now) (view value.now)) }
 {
     let Some(list) = value.as_array() else {
         return Err(fault_at(alloc, FaultKind::WrongKind, trail));
@@ -83,7 +83,7 @@ fn read_each_entry(
     trail: &Trail<'_>,
     list: &[Value],
 ) -> Result<Vec<Entry>, ReadFault>
-    ensures { Gives (λ v. (map entry_plan v.items, (seen.new, so_far_of so_far.new))) result (each entry_read (seen.old, so_far_of so_far.old) (path_of trail.now) 0 (map view list.now)) }
+    ensures { Gives (λ v. (map entry_value v.items, (seen.new, so_far_of so_far.new))) result (each entry_read (seen.old, so_far_of so_far.old) (path_of trail.now) 0 (map view list.now)) }
 {
     let mut entries = Vec::new(alloc);
     for (index, item) in list.iter().enumerate() {
@@ -101,7 +101,7 @@ fn read_entry(
     trail: &Trail<'_>,
     value: &Value,
 ) -> Result<Entry, ReadFault>
-    ensures { Gives (λ e. (entry_plan e, (seen.new, so_far_of so_far.new))) result (entry_read (seen.old, so_far_of so_far.old) (path_of trail.now) (view value.now)) }
+    ensures { Gives (λ e. (entry_value e, (seen.new, so_far_of so_far.new))) result (entry_read (seen.old, so_far_of so_far.old) (path_of trail.now) (view value.now)) }
 {
     let Some(members) = value.as_object() else {
         return Err(fault_at(alloc, FaultKind::WrongKind, trail));
@@ -119,7 +119,7 @@ fn read_fields(
     trail: &Trail<'_>,
     value: &Value,
 ) -> Result<Entry, ReadFault>
-    ensures { Gives (λ e. (entry_plan e, (seen.new, so_far_of so_far.new))) result (entry_fields (seen.old, so_far_of so_far.old) (path_of trail.now) (view value.now)) }
+    ensures { Gives (λ e. (entry_value e, (seen.new, so_far_of so_far.new))) result (entry_fields (seen.old, so_far_of so_far.old) (path_of trail.now) (view value.now)) }
 {
     let aliases = read_aliases(alloc, seen, trail, value)?;
     let route = read_field(alloc, DEPTH_LIMIT, so_far, trail, "route", value)?;

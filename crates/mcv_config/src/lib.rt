@@ -22,5 +22,5 @@ pub use aliases::alias_law;
 pub use config::{
     Config, ConfigParts, Entry, NamedPolicy, NamedPrefix, NamedRoute, NamedShadow, Pool,
 };
-pub use mcv_names::{ConfigFault, FaultKind, ReadFault};
+pub use mcv_names::{ConfigFault, FaultKind, Many, ReadFault};
 pub use read::{SIZE_LIMIT, read_config};

@@ -7,7 +7,7 @@ ghost use Rattle.mcv_pools.specs.Table.{number_in, numbered, with_entry};
 ghost use Rattle.mcv_names.specs.Fault.{Gives};
 ghost use Rattle.mcv_names.specs.Lists.{each, each_member, items_list, member_names};
 ghost use Rattle.mcv_names.specs.Path.{path_of};
-ghost use Rattle.mcv_config.specs.Plan.{pool_plan};
+ghost use Rattle.mcv_config.specs.ConfigValue.{pool_servers};
 ghost use Rattle.mcv_config.specs.Pools.{listed_servers, name_read, no_pool, pool_named, pool_read, pools_read, server_read, servers_read};
 ghost use Rattle.mcv_config.specs.View.{pools_of};
 
@@ -73,7 +73,7 @@ fn read_each_pool(
     trail: &Trail<'_>,
     members: &Map<String, Value>,
 ) -> Result<Vec<Pool>, ReadFault>
-    ensures { Gives (λ v. (map pool_plan v.items, servers.new)) result (each_member pool_read servers.old (path_of trail.now) (members_view members.now.entries)) }
+    ensures { Gives (λ v. (map pool_servers v.items, servers.new)) result (each_member pool_read servers.old (path_of trail.now) (members_view members.now.entries)) }
 {
     let mut pools = Vec::new(alloc);
     for (name, value) in members.iter() {
@@ -102,7 +102,7 @@ pub(crate) fn read_pool(
     name: &str,
     value: &Value,
 ) -> Result<Pool, ReadFault>
-    ensures { Gives (λ p. (pool_plan p, servers.new)) result (pool_read servers.old (path_of trail.now) name.now (view value.now)) }
+    ensures { Gives (λ p. (pool_servers p, servers.new)) result (pool_read servers.old (path_of trail.now) name.now (view value.now)) }
 {
     let Some(members) = value.as_object() else {
         return Err(fault_at(alloc, no_pool(value), trail));

@@ -5,9 +5,9 @@ ghost use Rattle.serde_json.specs.View.{view};
 ghost use Rattle.mcv_names.specs.declared.fault.ReadFault.TheVariants.{Memory};
 ghost use Rattle.mcv_names.specs.Fault.{Gives, Refuses};
 ghost use Rattle.mcv_names.specs.Path.{path_of};
-ghost use Rattle.mcv_config.specs.Config.{Faulty, FaultyAsJson, Names, NamesAsJson, plan_read, root};
+ghost use Rattle.mcv_config.specs.Config.{Faulty, FaultyAsJson, Names, NamesAsJson, config_read, root};
 ghost use Rattle.mcv_config.specs.Limits.{IsWithinLimits};
-ghost use Rattle.mcv_config.specs.Plan.{IsSound, Plan, plan_of};
+ghost use Rattle.mcv_config.specs.ConfigValue.{IsSound, ConfigValue, config_value};
 
 use crate::config::{Config, ConfigParts};
 use crate::entries::read_routing;
@@ -30,7 +30,7 @@ pub fn read_config(alloc: Global, text: &[u8]) -> Result<Config, ReadFault>
     // What is read is what the text names.
     ensures named { IfOk result (λ config. Names text.now config) }
     // Where the text names a configuration, it is read, unless memory runs out.
-    ensures only { (plan : Plan) → Names text.now plan → IfErr result (λ e. e ≡ Memory) }
+    ensures only { (config : ConfigValue) → Names text.now config → IfErr result (λ e. e ≡ Memory) }
     // A fault is one of the text.
     ensures faulty { IfErr result (λ e. Refuses e (Faulty text.now)) }
     // Every number in it names something, and nothing is empty.
@@ -51,7 +51,7 @@ pub fn read_config(alloc: Global, text: &[u8]) -> Result<Config, ReadFault>
 /// The configuration that a text without comments names.
 fn read_json(alloc: Global, json: &[u8]) -> Result<Config, ReadFault>
     ensures named { IfOk result (λ config. NamesAsJson json.now config) }
-    ensures only { (plan : Plan) → NamesAsJson json.now plan → IfErr result (λ e. e ≡ Memory) }
+    ensures only { (config : ConfigValue) → NamesAsJson json.now config → IfErr result (λ e. e ≡ Memory) }
     ensures faulty { IfErr result (λ e. Refuses e (FaultyAsJson json.now)) }
     ensures sound { IfOk result IsSound }
     ensures limits { IfOk result IsWithinLimits }
@@ -72,19 +72,23 @@ fn read_json(alloc: Global, json: &[u8]) -> Result<Config, ReadFault>
 
 #[tactic(auto, using(mcv_names::proofs::Faults::faults), unfolding(crate::specs::Config::root))]
 fn read_root(alloc: Global, trail: &Trail<'_>, value: &Value) -> Result<ConfigParts, ReadFault>
-    ensures { Gives plan_of result (root (path_of trail.now) (view value.now)) }
+    ensures { Gives config_value result (root (path_of trail.now) (view value.now)) }
 {
     let Some(members) = value.as_object() else {
         return Err(fault_at(alloc, FaultKind::WrongKind, trail));
     };
     check_keys(alloc, trail, Object::Root, members)?;
-    read_plan(alloc, trail, value)
+    read_config_parts(alloc, trail, value)
 }
 
 /// The pools, and then the routes.
-#[tactic(auto, using(mcv_names::proofs::Faults::faults), unfolding(crate::specs::Config::plan_read))]
-fn read_plan(alloc: Global, trail: &Trail<'_>, value: &Value) -> Result<ConfigParts, ReadFault>
-    ensures { Gives plan_of result (plan_read (path_of trail.now) (view value.now)) }
+#[tactic(auto, using(mcv_names::proofs::Faults::faults), unfolding(crate::specs::Config::config_read))]
+fn read_config_parts(
+    alloc: Global,
+    trail: &Trail<'_>,
+    value: &Value,
+) -> Result<ConfigParts, ReadFault>
+    ensures { Gives config_value result (config_read (path_of trail.now) (view value.now)) }
 {
     let in_pools = Trail::Key(trail, "pools");
     let mut servers = Servers::new(alloc);

@@ -5,7 +5,7 @@ ghost use Rattle.serde_json.specs.View.{view, members_view};
 ghost use Rattle.mcv_names.specs.Fault.{Gives};
 ghost use Rattle.mcv_names.specs.Lists.{each, each_member};
 ghost use Rattle.mcv_names.specs.Path.{path_of};
-ghost use Rattle.mcv_config.specs.Plan.{named_of, prefix_of, shadow_of};
+ghost use Rattle.mcv_config.specs.ConfigValue.{named_of, prefix_of, shadow_of};
 ghost use Rattle.mcv_config.specs.Routes.{children_field, fields, migrate_fields, object_route, pool_fields, route, warm_up_fields};
 ghost use Rattle.mcv_config.specs.Selectors.{default_read, policies_read, policy_read, selector_fields};
 ghost use Rattle.mcv_config.specs.Shadows.{shadow_read};
@@ -17,7 +17,7 @@ use crate::hash::read_hash;
 use crate::numbers::{read_range, read_start};
 use crate::progress::{Progress, read_pool_field};
 use crate::selecting::selecting;
-use crate::texts::{only, read_text, text_children, with_children};
+use crate::texts::{only, read_text, text_children};
 use crate::timed::{read_exptime, read_interval};
 use mcv_names::{
     FaultKind, Handle, Object, ReadFault, Selector, Trail, check_keys, check_names, default_key,
@@ -86,9 +86,9 @@ fn read_handle(
         Handle::Pool => read_pool_route(alloc, depth, so_far, trail, value),
         Handle::Null => Ok(NamedRoute::Null),
         Handle::Error => Ok(NamedRoute::Error),
-        Handle::Many(many) => {
+        Handle::Many(kind) => {
             let children = read_children(alloc, depth, so_far, trail, value)?;
-            Ok(with_children(many, children))
+            Ok(NamedRoute::Many(kind, children))
         }
         Handle::WarmUp => read_warm_up(alloc, depth, so_far, trail, value),
         Handle::Migrate => read_migration(alloc, depth, so_far, trail, value),

@@ -1,7 +1,7 @@
 //! What a selector's policies make of their names.
 
 ghost use Rattle.std.specs.Prelude.{◌≡◌, IfOk, map, option_map};
-ghost use Rattle.mcv_config.specs.Plan.{named_of, policy_of, prefix_of};
+ghost use Rattle.mcv_config.specs.ConfigValue.{named_of, policy_of, prefix_of};
 ghost use Rattle.mcv_config.specs.Selectors.{of_operation, selecting};
 
 use crate::config::{NamedPolicy, NamedPrefix, NamedRoute};

@@ -3,14 +3,14 @@
 ghost use Rattle.std.specs.Prelude.{◌≡◌, ◌<◌, length, map, option_map};
 ghost use Rattle.mcv_names.specs.Fault.{Gives};
 ghost use Rattle.mcv_names.specs.Path.{path_of};
-ghost use Rattle.mcv_config.specs.Plan.{named_of};
-ghost use Rattle.mcv_config.specs.Routes.{IsOnly, branch, cut, plain_pool, route, servers, text_children, text_route};
+ghost use Rattle.mcv_config.specs.ConfigValue.{named_of};
+ghost use Rattle.mcv_config.specs.Routes.{IsOnly, cut, plain_pool, route, servers, text_children, text_route};
 ghost use Rattle.mcv_config.specs.View.{so_far_of};
 
 use crate::config::NamedRoute;
 use crate::pools::pool_named;
 use crate::progress::Progress;
-use mcv_names::{FaultKind, Handle, Many, ReadFault, Trail, fault_at, handle_named, is_elsewhere};
+use mcv_names::{FaultKind, Handle, ReadFault, Trail, fault_at, handle_named, is_elsewhere};
 use mcv_pools::HashFunc;
 use std::alloc::Global;
 
@@ -43,9 +43,9 @@ pub(crate) fn read_text(
             Ok(plain_pool(alloc, pool))
         }
         Ok(Handle::Error) => Ok(NamedRoute::Error),
-        Ok(Handle::Many(many)) => {
+        Ok(Handle::Many(kind)) => {
             let children = text_children(alloc, depth, so_far, trail, rest)?;
-            Ok(with_children(many, children))
+            Ok(NamedRoute::Many(kind, children))
         }
         Ok(_) => Err(fault_at(alloc, FaultKind::WrongKind, trail)),
         Err(kind) => Err(fault_at(alloc, kind, trail)),
@@ -86,19 +86,6 @@ pub(crate) fn text_children(
     so_far.room -= 1;
     let child = read_text(alloc, depth - 1, so_far, trail, text)?;
     only(alloc, child)
-}
-
-/// A handle with these children.
-pub(crate) fn with_children(many: Many, children: Vec<NamedRoute>) -> NamedRoute
-    ensures { named_of result ≡ branch many (map named_of children.items) }
-{
-    match many {
-        Many::AllSync => NamedRoute::AllSync(children),
-        Many::AllInitial => NamedRoute::AllInitial(children),
-        Many::AllAsync => NamedRoute::AllAsync(children),
-        Many::Failover => NamedRoute::Failover(children),
-        Many::MissFailover => NamedRoute::MissFailover(children),
-    }
 }
 
 /// What comes before the first bar, and what follows it.

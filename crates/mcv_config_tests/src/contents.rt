@@ -1,59 +1,52 @@
 //! What a configuration holds once it is read, and its limits.
 
+use crate::built::{check, check_text, push};
 use mcv_base::{Op, ServerId};
-use mcv_config::{ConfigParts, NamedPolicy, NamedRoute, NamedShadow, Pool, read_config};
+use mcv_config::{ConfigParts, Many, NamedPolicy, NamedRoute, NamedShadow, Pool, read_config};
 use mcv_pools::HashFunc;
-use std::alloc::Global;
 use std::process::Abort;
-use std::test::Fail;
 
-fn answer(alloc: Global, text: &str) -> Result<String, Fail> {
-    match read_config(alloc, text.as_bytes()) {
-        Ok(_) => Ok(String::from_str(alloc, "read")?),
-        Err(fault) => Ok(format!(in alloc; "{fault}")?),
+/// What becomes of a text.
+fn answer(rt: &(impl AllocGlobal + Abort), text: &str) -> String {
+    match read_config(rt.alloc(), text.as_bytes()) {
+        Ok(_) => String::from_str(rt.alloc(), "read").expect(rt, "memory"),
+        Err(fault) => format!(in rt.alloc(); "{fault}").expect(rt, "memory"),
     }
 }
 
-/// A text with a part a number of times between two others.
-fn repeated(alloc: Global, around: (&str, &str), part: &str, times: usize) -> Result<String, Fail> {
-    let mut text = String::from_str(alloc, around.0)?;
+/// A part a number of times behind another.
+fn repeated(rt: &(impl AllocGlobal + Abort), before: &str, part: &str, times: usize) -> String {
+    let mut text = String::new(rt.alloc());
+    push(rt, &mut text, before);
     for _ in 0..times {
-        text.push_str(part)?;
+        push(rt, &mut text, part);
     }
-    text.push_str(around.1)?;
-    Ok(text)
+    text
 }
 
-fn is_same(rt: &impl Abort, found: &str, want: &str) {
-    assert_eq!(rt; found, want);
-}
-
-/// What becomes of a text with the part so many times.
-fn check(
-    rt: &impl Abort,
-    alloc: Global,
+/// What becomes of a text with the part so many times between two others.
+fn check_times(
+    rt: &(impl AllocGlobal + Abort),
     around: (&str, &str),
     part: &str,
     times: usize,
     want: &str,
-) -> Result<(), Fail> {
-    let text = repeated(alloc, around, part, times)?;
-    let found = answer(alloc, text.as_str())?;
-    is_same(rt, found.as_str(), want);
-    Ok(())
+) {
+    let mut text = repeated(rt, around.0, part, times);
+    push(rt, &mut text, around.1);
+    check_text(rt, part, answer(rt, &text).as_str(), want);
 }
 
 /// The part may come so many times, and once more has the fault.
 fn check_limit(
-    rt: &impl Abort,
-    alloc: Global,
+    rt: &(impl AllocGlobal + Abort),
     around: (&str, &str),
     part: &str,
     most: usize,
     fault: &str,
-) -> Result<(), Fail> {
-    check(rt, alloc, around, part, most, "read")?;
-    check(rt, alloc, around, part, most.saturating_add(1), fault)
+) {
+    check_times(rt, around, part, most, "read");
+    check_times(rt, around, part, most.saturating_add(1), fault);
 }
 
 const PREFIX: (&str, &str) = (
@@ -95,38 +88,33 @@ const SERVERS: (&str, &str) = (
 );
 
 #[test]
-fn prefixes_and_salts_have_at_most_200_bytes(rt: HostRuntime) -> Result<(), Fail> {
-    let alloc = rt.alloc();
-    let place = ("configuration 7 at /route/policies/", "");
-    let fault = repeated(alloc, place, "a", 201)?;
-    check_limit(&rt, alloc, PREFIX, "a", 200, fault.as_str())?;
-    let fault = "configuration 7 at /route/hash/salt";
-    check_limit(&rt, alloc, SALT, "a", 200, fault)
+fn prefixes_and_salts_have_at_most_200_bytes(rt: HostRuntime) {
+    let fault = repeated(&rt, "configuration 7 at /route/policies/", "a", 201);
+    check_limit(&rt, PREFIX, "a", 200, fault.as_str());
+    check_limit(&rt, SALT, "a", 200, "configuration 7 at /route/hash/salt");
 }
 
 #[test]
-fn handles_are_on_at_most_32_levels(rt: HostRuntime) -> Result<(), Fail> {
-    let alloc = rt.alloc();
+fn handles_are_on_at_most_32_levels(rt: HostRuntime) {
     let (part, fault) = ("AllSyncRoute|", "configuration 7 at /route");
-    check_limit(&rt, alloc, POOL_BELOW, part, 31, fault)?;
-    check_limit(&rt, alloc, SERVERS_BELOW, part, 31, fault)?;
-    check(&rt, alloc, ("", ""), "[", 200, "configuration 1 at .")
+    check_limit(&rt, POOL_BELOW, part, 31, fault);
+    check_limit(&rt, SERVERS_BELOW, part, 31, fault);
+    check_times(&rt, ("", ""), "[", 200, "configuration 1 at .");
 }
 
 #[test]
-fn there_are_at_most_4096_handles(rt: HostRuntime) -> Result<(), Fail> {
-    let alloc = rt.alloc();
+fn there_are_at_most_4096_handles(rt: HostRuntime) {
     let part = ",\"NullRoute\"";
     let fault = "configuration 7 at /route/children/4095";
-    check_limit(&rt, alloc, CHILDREN, part, 4_094, fault)?;
+    check_limit(&rt, CHILDREN, part, 4_094, fault);
     let fault = "configuration 7 at /routes/1/route";
-    check_limit(&rt, alloc, CHILDREN_AND_ROUTE, part, 4_093, fault)
+    check_limit(&rt, CHILDREN_AND_ROUTE, part, 4_093, fault);
 }
 
 #[test]
-fn a_pool_has_at_most_4096_servers(rt: HostRuntime) -> Result<(), Fail> {
+fn a_pool_has_at_most_4096_servers(rt: HostRuntime) {
     let fault = "configuration 7 at /pools/A/servers";
-    check_limit(&rt, rt.alloc(), SERVERS, ",\"a:1\"", 4_095, fault)
+    check_limit(&rt, SERVERS, ",\"a:1\"", 4_095, fault);
 }
 
 const ROUTED: &str = "{
@@ -137,27 +125,52 @@ const ROUTED: &str = "{
   ]
 }";
 
-#[test]
-fn routes_have_their_aliases(rt: HostRuntime) -> Result<(), Fail> {
-    let config = read_config(rt.alloc(), ROUTED.as_bytes())?;
-    check_aliases(&rt, config.parts())
+/// What is asked of what a text holds.
+#[derive(Clone, Copy)]
+enum Asked {
+    Aliases,
+    Servers,
+    Policies,
+    Hash,
+    Phases,
+    Prefixes,
 }
 
-fn check_aliases(rt: &impl Abort, parts: &ConfigParts) -> Result<(), Fail> {
-    assert_eq!(rt; parts.pools.len(), 3);
-    assert_eq!(rt; parts.servers.len(), 2);
+fn check_parts(rt: &impl Abort, parts: &ConfigParts, asked: Asked) {
+    match asked {
+        Asked::Aliases => check_aliases(rt, parts),
+        Asked::Servers => check_servers(rt, parts),
+        Asked::Policies => check_selector(rt, parts),
+        Asked::Hash => check_pool(rt, parts),
+        Asked::Phases => check_phases(rt, parts),
+        Asked::Prefixes => check_prefixes(rt, parts),
+    }
+}
+
+fn check_of(rt: &(impl AllocGlobal + Abort), text: &str, asked: Asked) {
+    let config = read_config(rt.alloc(), text.as_bytes()).expect(rt, "a configuration");
+    check_parts(rt, config.parts(), asked);
+}
+
+#[test]
+fn routes_have_their_aliases(rt: HostRuntime) {
+    check_of(&rt, ROUTED, Asked::Aliases);
+}
+
+fn check_aliases(rt: &impl Abort, parts: &ConfigParts) {
+    check(rt, parts.pools.len() == 3, "three pools");
+    check(rt, parts.servers.len() == 2, "two servers");
     let [first, second] = parts.entries.as_slice() else {
-        return Err(Fail::from("two routes"));
+        panic!(rt; "two routes");
     };
     let [one, other] = first.aliases.as_slice() else {
-        return Err(Fail::from("two aliases"));
+        panic!(rt; "two aliases");
     };
-    assert_eq!(rt; one.as_bytes(), b"/a/b/".as_slice());
-    assert_eq!(rt; other.as_bytes(), b"/a/c/".as_slice());
-    assert!(rt; is_pool(&first.route, 1));
-    assert_eq!(rt; second.aliases.len(), 1);
-    assert!(rt; is_pool(&second.route, 2));
-    Ok(())
+    check(rt, one.as_bytes() == b"/a/b/".as_slice(), "/a/b/");
+    check(rt, other.as_bytes() == b"/a/c/".as_slice(), "/a/c/");
+    check(rt, is_pool(&first.route, 1), "pool 1");
+    check(rt, second.aliases.len() == 1, "one alias");
+    check(rt, is_pool(&second.route, 2), "pool 2");
 }
 
 const WHOLE: &str = "{
@@ -177,36 +190,39 @@ const WHOLE: &str = "{
 }";
 
 #[test]
-fn servers_are_numbered_by_first_appearance(rt: HostRuntime) -> Result<(), Fail> {
-    let config = read_config(rt.alloc(), WHOLE.as_bytes())?;
-    check_servers(&rt, config.parts())
+fn servers_are_numbered_by_first_appearance(rt: HostRuntime) {
+    check_of(&rt, WHOLE, Asked::Servers);
 }
 
-fn check_servers(rt: &impl Abort, parts: &ConfigParts) -> Result<(), Fail> {
-    assert_eq!(rt; parts.servers.len(), 3);
-    assert_eq!(rt; parts.servers.find("c:1"), Some(ServerId(0)));
-    assert_eq!(rt; parts.servers.find("b:1"), Some(ServerId(1)));
-    assert_eq!(rt; parts.servers.find("a:1"), Some(ServerId(2)));
-    let [first, second] = parts.pools.as_slice() else {
-        return Err(Fail::from("two pools"));
-    };
+fn check_servers(rt: &impl Abort, parts: &ConfigParts) {
+    check(rt, parts.servers.len() == 3, "three servers");
     let (a, b, c) = (ServerId(2), ServerId(1), ServerId(0));
-    assert_eq!(rt; first.servers.as_slice(), [c, b].as_slice());
-    assert_eq!(rt; second.servers.as_slice(), [b, a].as_slice());
+    check(rt, parts.servers.find("c:1") == Some(c), "c:1");
+    check(rt, parts.servers.find("b:1") == Some(b), "b:1");
+    check(rt, parts.servers.find("a:1") == Some(a), "a:1");
+    let [first, second] = parts.pools.as_slice() else {
+        panic!(rt; "two pools");
+    };
+    check(rt, first.servers.as_slice() == [c, b].as_slice(), "A");
+    check(rt, second.servers.as_slice() == [b, a].as_slice(), "B");
+    check_alias(rt, parts);
+}
+
+/// The only route has the alias of the keys without a prefix.
+fn check_alias(rt: &impl Abort, parts: &ConfigParts) {
     let [entry] = parts.entries.as_slice() else {
-        return Err(Fail::from("one route"));
+        panic!(rt; "one route");
     };
     let [alias] = entry.aliases.as_slice() else {
-        return Err(Fail::from("one alias"));
+        panic!(rt; "one alias");
     };
-    assert_eq!(rt; alias.as_bytes(), b"/././".as_slice());
-    Ok(())
+    check(rt, alias.as_bytes() == b"/././".as_slice(), "/././");
 }
 
 /// The first route.
-fn route_of(parts: &ConfigParts) -> Result<&NamedRoute, Fail> {
-    let entry = parts.entries.as_slice().first().ok_or("an entry")?;
-    Ok(&entry.route)
+fn route_of<'a>(rt: &impl Abort, parts: &'a ConfigParts) -> &'a NamedRoute {
+    let entry = parts.entries.as_slice().first().expect(rt, "a route");
+    &entry.route
 }
 
 fn is_pool(route: &NamedRoute, number: usize) -> bool {
@@ -217,48 +233,49 @@ fn is_server_of(route: &NamedRoute, number: usize, place: usize) -> bool {
     matches!(route, NamedRoute::Server { pool, index } if *pool == number && *index == place)
 }
 
-fn children(route: &NamedRoute) -> Option<&[NamedRoute]> {
+/// The children of an AllSyncRoute that has two.
+fn two_children(route: &NamedRoute) -> Option<(&NamedRoute, &NamedRoute)> {
     match route {
-        NamedRoute::AllSync(children) => Some(children.as_slice()),
+        NamedRoute::Many(Many::AllSync, children) => match children.as_slice() {
+            [first, second] => Some((first, second)),
+            _ => None,
+        },
         _ => None,
     }
 }
 
-fn check_policies(
-    rt: &impl Abort,
-    policies: &[NamedPolicy],
-    default_policy: Option<&NamedRoute>,
-) -> Result<(), Fail> {
+fn check_policies(rt: &impl Abort, policies: &[NamedPolicy], default_policy: Option<&NamedRoute>) {
     let [first, second, third] = policies else {
-        return Err(Fail::from("three policies"));
+        panic!(rt; "three policies");
     };
-    assert_eq!(rt; first.op, Some(Op::Delete));
-    let both = children(&first.route).ok_or("children")?;
-    assert_eq!(rt; both.len(), 2);
-    assert!(rt; is_pool(&both[0], 0) && is_pool(&both[1], 1));
-    assert_eq!(rt; second.op, None);
-    assert!(rt; matches!(second.route, NamedRoute::Null));
-    assert_eq!(rt; third.op, Some(Op::Set));
-    let servers = children(&third.route).ok_or("children")?;
-    assert_eq!(rt; servers.len(), 2);
-    assert!(rt; is_server_of(&servers[0], 1, 0) && is_server_of(&servers[1], 1, 1));
-    assert!(rt; is_pool(default_policy.ok_or("a default")?, 1));
-    Ok(())
+    check(rt, first.op == Some(Op::Delete), "delete");
+    let (one, other) = two_children(&first.route).expect(rt, "two children");
+    check(rt, is_pool(one, 0) && is_pool(other, 1), "pools 0 and 1");
+    check(rt, second.op.is_none(), "no operation of a command");
+    check(rt, matches!(second.route, NamedRoute::Null), "a NullRoute");
+    check(rt, third.op == Some(Op::Set), "set");
+    let (one, other) = two_children(&third.route).expect(rt, "two children");
+    let are_servers = is_server_of(one, 1, 0) && is_server_of(other, 1, 1);
+    check(rt, are_servers, "servers 0 and 1 of pool 1");
+    check(rt, default_policy.is_some_and(is_pool_1), "the default");
+}
+
+fn is_pool_1(route: &NamedRoute) -> bool {
+    is_pool(route, 1)
 }
 
 #[test]
-fn policies_are_in_byte_order(rt: HostRuntime) -> Result<(), Fail> {
-    let config = read_config(rt.alloc(), WHOLE.as_bytes())?;
-    check_selector(&rt, config.parts())
+fn policies_are_in_byte_order(rt: HostRuntime) {
+    check_of(&rt, WHOLE, Asked::Policies);
 }
 
-fn check_selector(rt: &impl Abort, parts: &ConfigParts) -> Result<(), Fail> {
-    match route_of(parts)? {
+fn check_selector(rt: &impl Abort, parts: &ConfigParts) {
+    match route_of(rt, parts) {
         NamedRoute::OperationSelector {
             policies,
             default_policy,
         } => check_policies(rt, policies.as_slice(), default_policy.as_deref()),
-        _ => Err(Fail::from("a selector")),
+        _ => panic!(rt; "a selector"),
     }
 }
 
@@ -272,38 +289,40 @@ const SHADOWED: &str = "{
   }
 }";
 
-fn check_shadow(rt: &impl Abort, shadows: &[NamedShadow]) -> Result<(), Fail> {
+fn check_shadow(rt: &impl Abort, shadows: &[NamedShadow]) {
     let [shadow] = shadows else {
-        return Err(Fail::from("one shadow"));
+        panic!(rt; "one shadow");
     };
-    assert_eq!(rt; shadow.first, 1);
-    assert_eq!(rt; shadow.last, 18_446_744_073_709_551_615);
-    assert!(rt; is_pool(&shadow.target, 0));
-    Ok(())
+    check(rt, shadow.first == 1, "the first index");
+    check(
+        rt,
+        shadow.last == 18_446_744_073_709_551_615,
+        "the last index",
+    );
+    check(rt, is_pool(&shadow.target, 0), "the target");
 }
 
 #[test]
-fn a_pool_has_a_hash_and_shadows(rt: HostRuntime) -> Result<(), Fail> {
-    let config = read_config(rt.alloc(), SHADOWED.as_bytes())?;
-    check_pool(&rt, config.parts())
+fn a_pool_has_a_hash_and_shadows(rt: HostRuntime) {
+    check_of(&rt, SHADOWED, Asked::Hash);
 }
 
-fn check_pool(rt: &impl Abort, parts: &ConfigParts) -> Result<(), Fail> {
-    assert_eq!(rt; parts.pools.len(), 2);
-    assert_eq!(rt; parts.servers.find("c:1"), Some(ServerId(2)));
-    match route_of(parts)? {
+fn check_pool(rt: &impl Abort, parts: &ConfigParts) {
+    check(rt, parts.pools.len() == 2, "two pools");
+    check(rt, parts.servers.find("c:1") == Some(ServerId(2)), "c:1");
+    match route_of(rt, parts) {
         NamedRoute::Pool {
             pool,
             func,
             salt,
             shadows,
         } => {
-            assert_eq!(rt; *pool, 1);
-            assert_eq!(rt; *func, HashFunc::Crc32);
-            assert_eq!(rt; salt.as_slice(), b"x".as_slice());
+            check(rt, *pool == 1, "pool 1");
+            check(rt, *func == HashFunc::Crc32, "Crc32");
+            check(rt, salt.as_slice() == b"x".as_slice(), "the salt");
             check_shadow(rt, shadows.as_slice())
         }
-        _ => Err(Fail::from("a pool")),
+        _ => panic!(rt; "a pool"),
     }
 }
 
@@ -318,26 +337,25 @@ const IN_PHASES: &str = "{
 }";
 
 #[test]
-fn a_migration_takes_an_hour(rt: HostRuntime) -> Result<(), Fail> {
-    let config = read_config(rt.alloc(), IN_PHASES.as_bytes())?;
-    check_phases(&rt, config.parts())
+fn a_migration_takes_an_hour(rt: HostRuntime) {
+    check_of(&rt, IN_PHASES, Asked::Phases);
 }
 
-fn check_phases(rt: &impl Abort, parts: &ConfigParts) -> Result<(), Fail> {
-    match route_of(parts)? {
+fn check_phases(rt: &impl Abort, parts: &ConfigParts) {
+    match route_of(rt, parts) {
         NamedRoute::Migrate {
             from,
             to,
             start,
             interval,
         } => {
-            assert_eq!(rt; *start, 1_000);
-            assert_eq!(rt; *interval, 3_600);
-            assert!(rt; is_pool(&**to, 0));
-            assert!(rt; matches!(&**from, NamedRoute::WarmUp { exptime: 60, .. }));
-            Ok(())
+            check(rt, *start == 1_000, "the start");
+            check(rt, *interval == 3_600, "an hour");
+            check(rt, is_pool(&**to, 0), "pool 0");
+            let is_warm_up = matches!(&**from, NamedRoute::WarmUp { exptime: 60, .. });
+            check(rt, is_warm_up, "a WarmUpRoute");
         }
-        _ => Err(Fail::from("a migration")),
+        _ => panic!(rt; "a migration"),
     }
 }
 
@@ -351,23 +369,25 @@ const BY_PREFIX: &str = "{
 }";
 
 #[test]
-fn prefixes_are_in_byte_order(rt: HostRuntime) -> Result<(), Fail> {
-    let config = read_config(rt.alloc(), BY_PREFIX.as_bytes())?;
-    check_prefixes(&rt, config.parts())
+fn prefixes_are_in_byte_order(rt: HostRuntime) {
+    check_of(&rt, BY_PREFIX, Asked::Prefixes);
 }
 
-fn check_prefixes(rt: &impl Abort, parts: &ConfigParts) -> Result<(), Fail> {
-    match route_of(parts)? {
+fn check_prefixes(rt: &impl Abort, parts: &ConfigParts) {
+    match route_of(rt, parts) {
         NamedRoute::PrefixSelector { policies, wildcard } => {
             let [first, second] = policies.as_slice() else {
-                return Err(Fail::from("two policies"));
+                panic!(rt; "two policies");
             };
-            assert_eq!(rt; first.prefix.as_slice(), b"ab".as_slice());
-            assert!(rt; is_pool(&first.route, 0));
-            assert_eq!(rt; second.prefix.as_slice(), b"b".as_slice());
-            assert!(rt; matches!(wildcard.as_deref(), Some(NamedRoute::MissFailover(_))));
-            Ok(())
+            check(rt, first.prefix.as_slice() == b"ab".as_slice(), "ab");
+            check(rt, is_pool(&first.route, 0), "pool 0");
+            check(rt, second.prefix.as_slice() == b"b".as_slice(), "b");
+            let is_miss_failover = matches!(
+                wildcard.as_deref(),
+                Some(NamedRoute::Many(Many::MissFailover, _))
+            );
+            check(rt, is_miss_failover, "a MissFailoverRoute");
         }
-        _ => Err(Fail::from("a selector")),
+        _ => panic!(rt; "a selector"),
     }
 }

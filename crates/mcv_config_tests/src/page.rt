@@ -3,22 +3,31 @@
 //! A row is what becomes of a text and the text: the first route's handle with the number of its children, policies or
 //! shadows, or the number and path of a fault. In the tables `'` means a double quote and `^` a LF.
 
-use mcv_config::{NamedRoute, Pool, ReadFault, read_config};
-use std::alloc::{AllocError, Global};
+use crate::built::{check_text, push};
+use mcv_config::{ConfigFault, ConfigParts, Many, NamedRoute, Pool, ReadFault, read_config};
 use std::process::Abort;
-use std::test::Fail;
 
-/// The text of a row.
-fn meant(alloc: Global, row: &str) -> Result<String, AllocError> {
-    let mut text = String::new(alloc);
-    for sign in row.chars() {
-        match sign {
-            '\'' => text.push('"')?,
-            '^' => text.push('\n')?,
-            other => text.push(other)?,
-        }
+/// Adds what a piece of a row means.
+fn push_meant(rt: &impl Abort, text: &mut String, piece: &str) {
+    for sign in piece.chars() {
+        let meant = match sign {
+            '\'' => '"',
+            '^' => '\n',
+            other => other,
+        };
+        text.push(meant).expect(rt, "memory");
     }
-    Ok(text)
+}
+
+/// The text of a row between others.
+fn whole(rt: &(impl AllocGlobal + Abort), before: &[&str], row: &str, after: &str) -> String {
+    let mut text = String::new(rt.alloc());
+    for piece in before {
+        push_meant(rt, &mut text, piece);
+    }
+    push_meant(rt, &mut text, row);
+    push_meant(rt, &mut text, after);
+    text
 }
 
 /// A handle's name, and how many children, policies or shadows it has.
@@ -28,11 +37,11 @@ fn head(route: &NamedRoute) -> (&'static str, usize) {
         NamedRoute::Server { .. } => ("server", 0),
         NamedRoute::Null => ("null", 0),
         NamedRoute::Error => ("error", 0),
-        NamedRoute::AllSync(children) => ("all_sync", children.len()),
-        NamedRoute::AllInitial(children) => ("all_initial", children.len()),
-        NamedRoute::AllAsync(children) => ("all_async", children.len()),
-        NamedRoute::Failover(children) => ("failover", children.len()),
-        NamedRoute::MissFailover(children) => ("miss_failover", children.len()),
+        NamedRoute::Many(Many::AllSync, children) => ("all_sync", children.len()),
+        NamedRoute::Many(Many::AllInitial, children) => ("all_initial", children.len()),
+        NamedRoute::Many(Many::AllAsync, children) => ("all_async", children.len()),
+        NamedRoute::Many(Many::Failover, children) => ("failover", children.len()),
+        NamedRoute::Many(Many::MissFailover, children) => ("miss_failover", children.len()),
         NamedRoute::WarmUp { .. } => ("warm_up", 2),
         NamedRoute::Migrate { .. } => ("migrate", 2),
         NamedRoute::PrefixSelector { policies, .. } => ("prefix_selector", policies.len()),
@@ -40,38 +49,46 @@ fn head(route: &NamedRoute) -> (&'static str, usize) {
     }
 }
 
+/// The first route.
+fn read_as(rt: &(impl AllocGlobal + Abort), parts: &ConfigParts) -> String {
+    let entry = parts.entries.as_slice().first().expect(rt, "a route");
+    let (name, count) = head(&entry.route);
+    format!(in rt.alloc(); "{name} {count}").expect(rt, "memory")
+}
+
+fn refused_as(rt: &(impl AllocGlobal + Abort), fault: &ConfigFault) -> String {
+    let number = fault.number();
+    let path = fault.path();
+    format!(in rt.alloc(); "{number} at {path}").expect(rt, "memory")
+}
+
 /// What becomes of a text.
-fn outcome(alloc: Global, text: &str) -> Result<String, Fail> {
-    match read_config(alloc, text.as_bytes()) {
-        Ok(config) => {
-            let entry = config.parts().entries.as_slice().first().ok_or("a route")?;
-            let (name, count) = head(&entry.route);
-            Ok(format!(in alloc; "{name} {count}")?)
-        }
-        Err(ReadFault::Config(fault)) => {
-            let number = fault.number();
-            let path = fault.path();
-            Ok(format!(in alloc; "{number} at {path}")?)
-        }
-        Err(ReadFault::Memory) => Ok(String::from_str(alloc, "out of memory")?),
+fn outcome(rt: &(impl AllocGlobal + Abort), text: &str) -> String {
+    match read_config(rt.alloc(), text.as_bytes()) {
+        Ok(config) => read_as(rt, config.parts()),
+        Err(ReadFault::Config(fault)) => refused_as(rt, &fault),
+        Err(ReadFault::Memory) => panic!(rt; "out of memory"),
     }
 }
 
-/// Each row's text, between two others, becomes what the row says.
-fn check_rows(
-    rt: &impl Abort,
-    alloc: Global,
-    rows: &str,
-    before: &str,
+/// A row's text between others becomes what is wanted.
+fn check_between(
+    rt: &(impl AllocGlobal + Abort),
+    before: &[&str],
+    row: &str,
     after: &str,
-) -> Result<(), Fail> {
+    wanted: &str,
+) {
+    let text = whole(rt, before, row, after);
+    check_text(rt, row, outcome(rt, &text).as_str(), wanted);
+}
+
+/// The texts of rows, between others, become what the rows say.
+fn check_rows(rt: &(impl AllocGlobal + Abort), rows: &str, before: &[&str], after: &str) {
     for row in rows.lines() {
-        let (expected, text) = row.split_once(" = ").ok_or("no row")?;
-        let whole = format!(in alloc; "{before}{text}{after}")?;
-        let text = meant(alloc, whole.as_str())?;
-        assert_eq!(rt; outcome(alloc, text.as_str())?.as_str(), expected, "{row}");
+        let (wanted, text) = row.split_once(" = ").expect(rt, "a row");
+        check_between(rt, before, text, after, wanted);
     }
-    Ok(())
 }
 
 const TEXTS: &str = "\
@@ -116,9 +133,9 @@ pool 0 = {'pools':{'A':{'servers':['a:1'],'name':'@B'}},'route':'PoolRoute|A'}
 2 at /Route = {'Route':'NullRoute','route':'NullRoute'}";
 
 #[test]
-fn the_text(rt: HostRuntime) -> Result<(), Fail> {
-    check_rows(&rt, rt.alloc(), TEXTS, "", "")?;
-    check_rows(&rt, rt.alloc(), OBJECTS, "", "")
+fn the_text(rt: HostRuntime) {
+    check_rows(&rt, TEXTS, &[], "");
+    check_rows(&rt, OBJECTS, &[], "");
 }
 
 /// Server texts of pool A.
@@ -143,15 +160,9 @@ null 0 = 10.0.0.1:11211
 8 at /pools/A/servers/0 = ::1]:1";
 
 #[test]
-fn server_texts(rt: HostRuntime) -> Result<(), Fail> {
-    let before = "{'pools':{'A':{'servers':['";
-    check_rows(
-        &rt,
-        rt.alloc(),
-        SERVERS,
-        before,
-        "']}},'route':'NullRoute'}",
-    )
+fn server_texts(rt: HostRuntime) {
+    let before = ["{'pools':{'A':{'servers':['"];
+    check_rows(&rt, SERVERS, &before, "']}},'route':'NullRoute'}");
 }
 
 const ENTRIES: &str = "\
@@ -193,16 +204,10 @@ null 0 = /aaaaaaaaaaaaaaaaaa/bbbbbbbbbbbbbbbbbbb/
 3 at /routes/0/aliases/0 = /a b/*/";
 
 #[test]
-fn routes_and_aliases(rt: HostRuntime) -> Result<(), Fail> {
-    check_rows(&rt, rt.alloc(), ENTRIES, "{'routes':", "}")?;
-    let before = "{'routes':[{'aliases':['";
-    check_rows(
-        &rt,
-        rt.alloc(),
-        ALIASES,
-        before,
-        "'],'route':'NullRoute'}]}",
-    )
+fn routes_and_aliases(rt: HostRuntime) {
+    check_rows(&rt, ENTRIES, &["{'routes':"], "}");
+    let before = ["{'routes':[{'aliases':['"];
+    check_rows(&rt, ALIASES, &before, "'],'route':'NullRoute'}]}");
 }
 
 /// Routes over pool A, of two servers, and pool B, of one.
@@ -295,21 +300,20 @@ pool 2 = [{'target':'PoolRoute|A','index_range':[0,18446744073709551615]},{'targ
 const POOLS: &str = "{'pools':{'A':{'servers':['a:1','b:1']},'B':{'servers':['c:1']}},'route':";
 
 #[test]
-fn handles(rt: HostRuntime) -> Result<(), Fail> {
-    check_rows(&rt, rt.alloc(), HANDLES, POOLS, "}")
+fn handles(rt: HostRuntime) {
+    check_rows(&rt, HANDLES, &[POOLS], "}");
 }
 
 /// Rows of a key of a PoolRoute over pool A.
-fn check_pool_rows(rt: &impl Abort, alloc: Global, rows: &str, key: &str) -> Result<(), Fail> {
-    let pool = "{'type':'PoolRoute','pool':'A','";
-    let before = format!(in alloc; "{POOLS}{pool}{key}':")?;
-    check_rows(rt, alloc, rows, before.as_str(), "}}")
+fn check_pool_rows(rt: &(impl AllocGlobal + Abort), rows: &str, key: &str) {
+    let before = [POOLS, "{'type':'PoolRoute','pool':'A','", key, "':"];
+    check_rows(rt, rows, &before, "}}");
 }
 
 #[test]
-fn hashes_and_shadows(rt: HostRuntime) -> Result<(), Fail> {
-    check_pool_rows(&rt, rt.alloc(), HASHES, "hash")?;
-    check_pool_rows(&rt, rt.alloc(), SHADOWS, "shadows")
+fn hashes_and_shadows(rt: HostRuntime) {
+    check_pool_rows(&rt, HASHES, "hash");
+    check_pool_rows(&rt, SHADOWS, "shadows");
 }
 
 /// Routes that are texts.
@@ -358,12 +362,10 @@ operation_selector 1 = metaget
 2 at /route/operation_policies/Get = Get";
 
 #[test]
-fn short_forms_and_operations(rt: HostRuntime) -> Result<(), Fail> {
-    let alloc = rt.alloc();
-    let before = format!(in alloc; "{POOLS}'")?;
-    check_rows(&rt, alloc, SHORT_FORMS, before.as_str(), "'}")?;
-    let before = "{'route':{'type':'OperationSelectorRoute','operation_policies':{'";
-    check_rows(&rt, alloc, OPERATIONS, before, "':'NullRoute'}}}")
+fn short_forms_and_operations(rt: HostRuntime) {
+    check_rows(&rt, SHORT_FORMS, &[POOLS, "'"], "'}");
+    let before = ["{'route':{'type':'OperationSelectorRoute','operation_policies':{'"];
+    check_rows(&rt, OPERATIONS, &before, "':'NullRoute'}}}");
 }
 
 /// Each name that is left out, where it is: the path of its fault, and the text with `~` in place of the name.
@@ -387,29 +389,31 @@ const LEFT_OUT: &str = "\
 /route/children/0 = {'route':{'type':'AllSyncRoute','children':['~']}} = @import %macro%
 /routes/0/aliases/0 = {'routes':[{'aliases':['~'],'route':'NullRoute'}]} = /*/*/ /*/a/ /a/*/";
 
-#[test]
-fn what_is_left_out(rt: HostRuntime) -> Result<(), Fail> {
-    let alloc = rt.alloc();
-    for row in LEFT_OUT.lines() {
-        let (path, rest) = row.split_once(" = ").ok_or("no row")?;
-        let (text, names) = rest.split_once(" = ").ok_or("no names")?;
-        let (before, after) = text.split_once('~').ok_or("no place")?;
-        for name in names.split(' ') {
-            let whole = format!(in alloc; "{before}{name}{after}")?;
-            let given = outcome(alloc, meant(alloc, whole.as_str())?.as_str())?;
-            match path.split_once('~') {
-                Some((above, _)) => {
-                    let expected = format!(in alloc; "10 at {above}{name}")?;
-                    assert_eq!(rt; given.as_str(), expected.as_str(), "{whole}");
-                }
-                None => {
-                    let expected = format!(in alloc; "10 at {path}")?;
-                    assert_eq!(rt; given.as_str(), expected.as_str(), "{whole}");
-                }
-            }
-        }
+/// The fault of a name that is left out, where its path has `~` in place of the name.
+fn left_out_at(rt: &(impl AllocGlobal + Abort), path: &str, name: &str) -> String {
+    let (before, name, after) = match path.split_once('~') {
+        Some((before, after)) => (before, name, after),
+        None => (path, "", ""),
+    };
+    format!(in rt.alloc(); "10 at {before}{name}{after}").expect(rt, "memory")
+}
+
+/// Each name of a row has that fault.
+fn check_names(rt: &(impl AllocGlobal + Abort), row: &str) {
+    let (path, rest) = row.split_once(" = ").expect(rt, "a path");
+    let (text, names) = rest.split_once(" = ").expect(rt, "names");
+    let (before, after) = text.split_once('~').expect(rt, "a place");
+    for name in names.split(' ') {
+        let wanted = left_out_at(rt, path, name);
+        check_between(rt, &[before], name, after, wanted.as_str());
     }
-    Ok(())
+}
+
+#[test]
+fn what_is_left_out(rt: HostRuntime) {
+    for row in LEFT_OUT.lines() {
+        check_names(&rt, row);
+    }
 }
 
 /// Faults and their paths.
@@ -423,6 +427,6 @@ const PATHS: &str = "\
 4 at /route = {'route':'AllSyncRoute|FailoverRoute|x'}";
 
 #[test]
-fn paths_of_faults(rt: HostRuntime) -> Result<(), Fail> {
-    check_rows(&rt, rt.alloc(), PATHS, "", "")
+fn paths_of_faults(rt: HostRuntime) {
+    check_rows(&rt, PATHS, &[], "");
 }

@@ -1,11 +1,9 @@
 //! Routes that are built of a text.
 
-use crate::built::routes;
+use crate::built::{check, check_text, routes};
 use mcv_base::{Moment, Position, Prefix};
-use mcv_route::Routes;
-use std::alloc::{AllocError, Global};
+use mcv_route::{Leaf, Routes};
 use std::process::Abort;
-use std::test::Fail;
 
 /// Two pools that share the server `b:1`, and two routes; the second's children are the servers of B.
 const TEXT: &str = "{
@@ -54,49 +52,60 @@ const PREFIXES: &str = "{
 }";
 
 /// The position with these steps; `-` is the root.
-fn position(alloc: Global, text: &str) -> Result<Position, AllocError> {
-    let mut steps = Vec::new(alloc);
+fn position(rt: &(impl AllocGlobal + Abort), text: &str) -> Position {
+    let mut position = Position::root(rt.alloc());
     for step in text.split('.') {
         if let Ok(step) = step.parse::<usize>() {
-            steps.push(step)?;
+            position = position.child(rt.alloc(), step).expect(rt, "memory");
         }
     }
-    Position::at(alloc, steps.as_slice())
+    position
 }
 
-/// The symbol of the leaf at a position of a route, and its servers' texts.
-fn shown(alloc: Global, routes: &Routes, number: usize, place: &str) -> Result<String, Fail> {
-    let position = position(alloc, place)?;
-    let Some(leaf) = routes.leaf_at(number, &position) else {
-        return Ok(String::from_str(alloc, "none")?);
-    };
-    let mut text = String::new(alloc);
+/// The symbol of a leaf, and its servers' texts.
+fn shown(rt: &(impl AllocGlobal + Abort), routes: &Routes, leaf: &Leaf) -> String {
     let symbol = leaf.symbol;
-    write!(text, "{symbol}:")?;
+    let mut text = format!(in rt.alloc(); "{symbol}:").expect(rt, "memory");
     for server in leaf.servers.iter() {
         let server = routes.servers().text(*server).unwrap_or("none");
-        write!(text, " {server}")?;
+        write!(text, " {server}").expect(rt, "memory");
     }
-    Ok(text)
+    text
 }
 
-/// Each row is a position of a route and what leaf is there.
-fn check_leaves(
-    rt: &impl Abort,
-    alloc: Global,
-    routes: &Routes,
-    number: usize,
-    rows: &str,
-) -> Result<(), Fail> {
-    for row in rows.lines() {
-        let (place, leaf) = row.split_once(" = ").ok_or("no row")?;
-        assert_eq!(rt;
-            shown(alloc, routes, number, place)?.as_str(),
-            leaf,
-            "{row}"
-        );
+/// A row is a position of a route and what leaf is there.
+fn check_leaf(rt: &(impl AllocGlobal + Abort), routes: &Routes, number: usize, row: &str) {
+    let (place, wanted) = row.split_once(" = ").expect(rt, "a row");
+    match routes.leaf_at(number, &position(rt, place)) {
+        Some(leaf) => check_text(rt, row, shown(rt, routes, leaf).as_str(), wanted),
+        None => check(rt, wanted == "none", row),
     }
-    Ok(())
+}
+
+fn check_leaves(rt: &(impl AllocGlobal + Abort), routes: &Routes, number: usize, rows: &str) {
+    for row in rows.lines() {
+        check_leaf(rt, routes, number, row);
+    }
+}
+
+/// What is asked of routes: the leaves of the route of a number, the numbers of prefixes, or the breaks.
+#[derive(Clone, Copy)]
+enum Asked {
+    Leaves(usize, &'static str),
+    Numbers,
+    Breaks,
+}
+
+fn check_routes(rt: &(impl AllocGlobal + Abort), routes: &Routes, asked: Asked) {
+    match asked {
+        Asked::Leaves(number, rows) => check_leaves(rt, routes, number, rows),
+        Asked::Numbers => check_numbers(rt, routes),
+        Asked::Breaks => check_breaks(rt, routes),
+    }
+}
+
+fn check_of(rt: &(impl AllocGlobal + Abort), text: &str, asked: Asked) {
+    check_routes(rt, &routes(rt, text), asked);
 }
 
 const LEAVES: &str = "\
@@ -107,10 +116,8 @@ const LEAVES: &str = "\
 2 = 1: b:1 d:1";
 
 #[test]
-fn leaves_have_their_pools(rt: HostRuntime) -> Result<(), Fail> {
-    let alloc = rt.alloc();
-    let routes = routes(&rt, alloc, TEXT)?;
-    check_leaves(&rt, alloc, &routes, 0, LEAVES)
+fn leaves_have_their_pools(rt: HostRuntime) {
+    check_of(&rt, TEXT, Asked::Leaves(0, LEAVES));
 }
 
 const ELSEWHERE: &str = "\
@@ -122,32 +129,34 @@ const ELSEWHERE: &str = "\
 3 = none";
 
 #[test]
-fn no_leaf_is_elsewhere(rt: HostRuntime) -> Result<(), Fail> {
-    let alloc = rt.alloc();
-    let routes = routes(&rt, alloc, TEXT)?;
-    check_leaves(&rt, alloc, &routes, 0, ELSEWHERE)?;
-    check_leaves(&rt, alloc, &routes, 1, "2 = none")
+fn no_leaf_is_elsewhere(rt: HostRuntime) {
+    check_of(&rt, TEXT, Asked::Leaves(0, ELSEWHERE));
+    check_of(&rt, TEXT, Asked::Leaves(1, "2 = none"));
+}
+
+fn check_numbers(rt: &impl Abort, routes: &Routes) {
+    let (only, other) = (Prefix::of(b"/././"), Prefix::of(b"/a/b/"));
+    check(rt, routes.route_of(&only) == Some(0), "the only route");
+    check(rt, routes.route_of(&other).is_none(), "no other route");
+    check(rt, routes.symbols().len() == 3, "three symbols");
+    check(rt, routes.since(Moment(u64::MAX)).is_none(), "no break");
+    check(rt, routes.route(0).is_some(), "route 0");
+    check(rt, routes.route(1).is_none(), "no route 1");
 }
 
 #[test]
-fn prefixes_select_routes(rt: HostRuntime) -> Result<(), Fail> {
-    let alloc = rt.alloc();
-    let routes = routes(&rt, alloc, TEXT)?;
-    assert_eq!(rt; routes.route_of(&Prefix::of(b"/././")), Some(0));
-    assert_eq!(rt; routes.route_of(&Prefix::of(b"/a/b/")), None);
-    assert_eq!(rt; routes.symbols().len(), 3);
-    assert_eq!(rt; routes.since(Moment(u64::MAX)), None);
-    assert!(rt; routes.route(0).is_some());
-    assert!(rt; routes.route(1).is_none());
-    Ok(())
+fn prefixes_select_routes(rt: HostRuntime) {
+    check_of(&rt, TEXT, Asked::Numbers);
 }
 
-#[test]
-fn a_migration_has_three_breaks(rt: HostRuntime) -> Result<(), Fail> {
-    let alloc = rt.alloc();
-    let routes = routes(&rt, alloc, MIGRATION)?;
+/// Whether a moment is in this era, which this break opened.
+fn is_in(routes: &Routes, moment: u64, since: Option<u64>, era: usize) -> bool {
+    routes.since(Moment(moment)) == since.map(Moment) && routes.era_of(Moment(moment)) == era
+}
+
+fn check_breaks(rt: &impl Abort, routes: &Routes) {
     let breaks = [Moment(1000), Moment(4600), Moment(8200)];
-    assert_eq!(rt; routes.breaks(), breaks.as_slice());
+    check(rt, routes.breaks() == breaks.as_slice(), "the breaks");
     let cases: [(u64, Option<u64>, usize); 5] = [
         (999, None, 0),
         (1000, Some(1000), 1),
@@ -156,10 +165,13 @@ fn a_migration_has_three_breaks(rt: HostRuntime) -> Result<(), Fail> {
         (u64::MAX, Some(8200), 3),
     ];
     for (moment, since, era) in cases {
-        assert_eq!(rt; routes.since(Moment(moment)), since.map(Moment));
-        assert_eq!(rt; routes.era_of(Moment(moment)), era);
+        assert!(rt; is_in(routes, moment, since, era), "{moment}");
     }
-    Ok(())
+}
+
+#[test]
+fn a_migration_has_three_breaks(rt: HostRuntime) {
+    check_of(&rt, MIGRATION, Asked::Breaks);
 }
 
 const SIDES: &str = "\
@@ -171,10 +183,8 @@ const SIDES: &str = "\
 1.3 = none";
 
 #[test]
-fn sides_and_shadows_have_places(rt: HostRuntime) -> Result<(), Fail> {
-    let alloc = rt.alloc();
-    let routes = routes(&rt, alloc, MIGRATION)?;
-    check_leaves(&rt, alloc, &routes, 0, SIDES)
+fn sides_and_shadows_have_places(rt: HostRuntime) {
+    check_of(&rt, MIGRATION, Asked::Leaves(0, SIDES));
 }
 
 const SELECTED: &str = "\
@@ -185,8 +195,6 @@ const SELECTED: &str = "\
 3 = none";
 
 #[test]
-fn the_wildcard_comes_after_all_prefixes(rt: HostRuntime) -> Result<(), Fail> {
-    let alloc = rt.alloc();
-    let routes = routes(&rt, alloc, PREFIXES)?;
-    check_leaves(&rt, alloc, &routes, 0, SELECTED)
+fn the_wildcard_comes_after_all_prefixes(rt: HostRuntime) {
+    check_of(&rt, PREFIXES, Asked::Leaves(0, SELECTED));
 }

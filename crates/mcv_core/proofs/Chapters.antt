@@ -3,7 +3,7 @@ use Rattle.std.proofs.Common.{◌≡◌, ◌&&◌, cond, ℕ, Bool, true, false,
 use Rattle.std.specs.Prelude.{⊤}
 use Rattle.mcv_base.specs.declared.reply.FixedReply.TheVariants.{Lost}
 use Rattle.mcv_base.specs.Reply.{ReplyValue, fixed_value}
-use Rattle.mcv_queues.specs.declared.marks.Mark.{Mark}
+use Rattle.mcv_queues.specs.declared.marks.ServerFailures.{ServerFailures}
 use Rattle.mcv_queues.specs.Marks.{answered_mark, lost_mark}
 use Rattle.mcv_world.specs.World.{is_counted_delete}
 use Rattle.mcv_world.specs.Moves.{counted_as, is_error_reply}
@@ -27,10 +27,10 @@ by_test v true e f one other = one
 by_test v false e f one other = other
 
 module _ (v : CoreView) (n : ℕ) (s : LegRow) where
-  sent : (g : Mark → Mark) (y : ReplyValue) → StaysIn v (sent_in (with_mark v s.launch.server.0 g) n y s)
+  sent : (g : ServerFailures → ServerFailures) (y : ReplyValue) → StaysIn v (sent_in (with_mark v s.launch.server.0 g) n y s)
   sent g y = by_test v (is_counted_delete (leg_of s) && is_error_reply y) (held (with_mark v s.launch.server.0 g) n s) (finished (with_mark v s.launch.server.0 g) n y s) refl refl
 
-  replayed : (g : Mark → Mark) (failed : Bool) → StaysIn v (replayed_in (with_mark v s.launch.server.0 g) n failed s)
+  replayed : (g : ServerFailures → ServerFailures) (failed : Bool) → StaysIn v (replayed_in (with_mark v s.launch.server.0 g) n failed s)
   replayed g failed = by_test v failed _ _ refl refl
 
   answer_stays : (x : ReplyValue) (t : rows.State) → StaysIn v (answer_in v n x s t)

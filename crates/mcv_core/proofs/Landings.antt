@@ -7,7 +7,7 @@ use Rattle.mcv_base.specs.Reply.{ReplyValue, fixed_value, not_found}
 use Rattle.mcv_queues.specs.declared.leg.Leg.{Leg}
 use Rattle.mcv_queues.specs.declared.leg.State.{State}
 use Rattle.mcv_queues.specs.declared.leg.State.TheVariants as states
-use Rattle.mcv_queues.specs.declared.marks.Mark.{Mark}
+use Rattle.mcv_queues.specs.declared.marks.ServerFailures.{ServerFailures}
 use Rattle.mcv_queues.specs.declared.marks.Marks.{Marks}
 use Rattle.mcv_queues.specs.Legs.{IsSentTo, is_flight, is_in_flight, with_stored}
 use Rattle.mcv_queues.specs.Marks.{answered_mark, lost_mark, marks, put_mark, servers as marked_servers}
@@ -29,7 +29,7 @@ use Rattle.mcv_core.specs.declared.fault.CoreFault.TheVariants.{NoSuchLeg}
 use Rattle.mcv_core.specs.declared.settle.Settling.{Settling}
 use Rattle.mcv_core.specs.declared.settle.Settling.TheVariants as kinds
 use Rattle.mcv_core.specs.declared.step.Change.TheVariants as changes
-use Rattle.mcv_core.specs.declared.step.Place.TheVariants as places
+use Rattle.mcv_core.specs.declared.step.LegState.TheVariants as leg_states
 use Rattle.mcv_core.specs.declared.step.Step.{Step}
 use Rattle.mcv_core.specs.Calls.{calls_at}
 use Rattle.mcv_core.specs.CoreView.{CoreView, Effect, HasDone, HasEffect, answer_at, answer_in, at_row, does, flies, is_record, landing_at, landing_in, loss_at, loss_in, refused, refuses, refusing_at, refusing_in, replayed_in, sent_in, spooling_at, spooling_in, step_to, stores, with_mark}
@@ -86,7 +86,7 @@ refusal : (e : Effect) (v : CoreView) (fault : CoreFault) → e ≡ refuses NoSu
 refusal e v fault is f = subst (λ x. HasEffect x v v (Err fault)) (sym is) (ap (λ x. Err x) f, refl)
 
 -- the view of a dispatcher whose marks have changed
-pub marked_view : (d : Dispatcher) (m : Marks) (server : ℕ) (server2 : ℕ) (g : Mark → Mark) → marks m ≡ put_mark (marked_servers d.marks) (marks d.marks) server g → server ≡ server2
+pub marked_view : (d : Dispatcher) (m : Marks) (server : ℕ) (server2 : ℕ) (g : ServerFailures → ServerFailures) → marks m ≡ put_mark (marked_servers d.marks) (marks d.marks) server g → server ≡ server2
     → record (core_view d) { marks = marks m } ≡ with_mark (core_view d) server2 g
 marked_view d m server server2 g is same = λ j. record (core_view d) { marks = (is ∙ ap (λ n. put_mark n (marks d.marks) server g) d.table ∙ ap (λ s. put_mark (length (arc_value d.accepted).servers) (marks d.marks) s g) same) j }
 
@@ -223,16 +223,16 @@ module _ (d : Dispatcher) (n : ℕ) (l : Leg Errand) (at : legs d.queues n ≡ S
       none_recorded w1 (Some k) e = by_call w1 k (w1.calls k) e
 
   -- a held leg that the spool refuses stays, and its call records an error
-  pub refused_done : l.state ≡ states.Held → (x : ReplyValue) → x ≡ fixed_value Lost → (new : CoreView) → new ≡ has_settled d n kinds.Refused x → HasDone (at_row (refused (core_view d)) ((core_view d).rows.legs n)) new (step_to places.Held changes.Refused)
+  pub refused_done : l.state ≡ states.Held → (x : ReplyValue) → x ≡ fixed_value Lost → (new : CoreView) → new ≡ has_settled d n kinds.Refused x → HasDone (at_row (refused (core_view d)) ((core_view d).rows.legs n)) new (step_to leg_states.Held changes.Refused)
   refused_done held x x_is new is =
       let stays : with_leg_row (core_view d).rows n (Some (in_state (row_by state_of l) rows.Held)) ≡ (core_view d).rows =
       ap (λ t. with_leg_row (core_view d).rows n (Some (in_state (row_by state_of l) t))) (sym (ap state_of held)) ∙ row_stays d n l at (row_by state_of l) (there d n l at) in
       let settled : new ≡ record (core_view d) { rows = refused_rows (arc_value d.accepted) (core_view d).rows (row_by state_of l) } =
       is ∙ ap (settled_row (core_view d) n kinds.Refused x) (there d n l at) ∙ ap (λ y. settled_row (core_view d) n kinds.Refused y (Some (row_by state_of l))) x_is
       ∙ ap (λ w. record (core_view d) { rows = recorded_rows_for (arc_value d.accepted) w (row_by state_of l) (fixed_value Lost) l.content.call }) stays in
-      subst (λ o. HasDone (at_row (refused (core_view d)) o) new (step_to places.Held changes.Refused)) (sym (there d n l at))
-      (subst (λ b. HasDone (cond b (does (step_to places.Held changes.Refused) (record (core_view d) { rows = refused_rows (arc_value d.accepted) (core_view d).rows (row_by state_of l) })) (does (step_to places.Held changes.Nothing) (core_view d)))
-      new (step_to places.Held changes.Refused)) (sym (awaits_held held)) (refl, settled))
+      subst (λ o. HasDone (at_row (refused (core_view d)) o) new (step_to leg_states.Held changes.Refused)) (sym (there d n l at))
+      (subst (λ b. HasDone (cond b (does (step_to leg_states.Held changes.Refused) (record (core_view d) { rows = refused_rows (arc_value d.accepted) (core_view d).rows (row_by state_of l) })) (does (step_to leg_states.Held changes.Nothing) (core_view d)))
+      new (step_to leg_states.Held changes.Refused)) (sym (awaits_held held)) (refl, settled))
 
 -- ---- refusals
 
@@ -295,13 +295,13 @@ module _ (d : Dispatcher) (n : ℕ) (l : Leg Errand) (at : legs d.queues n ≡ S
       subst (λ e. HasEffect e (core_view d) new (Ok step)) (sym same) (effect_of (refused (core_view d) (row_by state_of l)) (core_view d) new step (subst (λ o. HasDone (at_row (refused (core_view d)) o) new step) (there d n l at) h))
 
   -- one that the spool had refused stays as it is
-  pub refusing_again : l.state ≡ states.Refused → HasEffect (refusing_at (core_view d) n) (core_view d) (core_view d) (Ok (step_to places.Held changes.Nothing))
+  pub refusing_again : l.state ≡ states.Refused → HasEffect (refusing_at (core_view d) n) (core_view d) (core_view d) (Ok (step_to leg_states.Held changes.Nothing))
   refusing_again is =
-      let same : refusing_at (core_view d) n ≡ does (step_to places.Held changes.Nothing) (core_view d) =
+      let same : refusing_at (core_view d) n ≡ does (step_to leg_states.Held changes.Nothing) (core_view d) =
       refusing_row ∙ ap (λ t. refusing_in (core_view d) n (row_by state_of l) (state_of t)) is
-      ∙ ap (λ b. cond b (does (step_to places.Held changes.Refused) (record (core_view d) { rows = refused_rows (arc_value d.accepted) (core_view d).rows (row_by state_of l) })) (does (step_to places.Held changes.Nothing) (core_view d)))
+      ∙ ap (λ b. cond b (does (step_to leg_states.Held changes.Refused) (record (core_view d) { rows = refused_rows (arc_value d.accepted) (core_view d).rows (row_by state_of l) })) (does (step_to leg_states.Held changes.Nothing) (core_view d)))
       (awaits_refused d n l at is) in
-      subst (λ e. HasEffect e (core_view d) (core_view d) (Ok (step_to places.Held changes.Nothing))) (sym same) (refl, refl)
+      subst (λ e. HasEffect e (core_view d) (core_view d) (Ok (step_to leg_states.Held changes.Nothing))) (sym same) (refl, refl)
 
   not_refused : (t : rows.State) → (t ≡ rows.Held → ⊥) → refusing_in (core_view d) n (row_by state_of l) t ≡ refuses NoSuchLeg
   not_refused rows.Waiting no_hold = refl

@@ -12,7 +12,7 @@ use Rattle.mcv_world.proofs.Numbers.{same_some, no_some, put_same, put_other}
 use Rattle.mcv_core.specs.declared.errand.Errand.{Errand}
 use Rattle.mcv_core.specs.declared.launch.Entry.{Entry}
 use Rattle.mcv_core.specs.Errands.{launch_of}
-use Rattle.mcv_core.specs.Noting.{AreAddressed}
+use Rattle.mcv_core.specs.Recordings.{AreAddressed}
 use Rattle.mcv_core.specs.Launching.{errand_at, numbers_of, places_of, waiting_leg, with_legs, with_numbers, is_ready, CanLaunch, IsLaunched, HasCome}
 
 -- ---- lists

@@ -23,7 +23,7 @@ use Rattle.mcv_core.specs.Calls.{calls_at}
 use Rattle.mcv_core.specs.CoreView.{CoreView, landed}
 use Rattle.mcv_core.specs.Errands.{launch_of}
 use Rattle.mcv_core.specs.Rows.{awaiting_state, row_by, rows_of, state_of}
-use Rattle.mcv_core.specs.Sound.{spooled_in, IsSound}
+use Rattle.mcv_core.specs.Soundness.{spooled_in, IsSound}
 use Rattle.mcv_core.specs.View.{core_view, since_of}
 use Rattle.mcv_core.proofs.States
 

@@ -8,7 +8,7 @@ use Rattle.mcv_queues.specs.declared.leg.Leg.{Leg}
 use Rattle.mcv_queues.specs.declared.leg.State.{State}
 use Rattle.mcv_queues.specs.declared.leg.State.TheVariants.{Waiting}
 use Rattle.mcv_route.specs.declared.launch.Launch.{Launch}
-use Rattle.mcv_core.specs.Tracked.{launch_at, places_from}
+use Rattle.mcv_core.specs.CallProgress.{launch_at, places_from}
 use Rattle.mcv_world.specs.World.{put}
 use Rattle.mcv_world.proofs.Numbers.{same_some, no_some}
 use Rattle.mcv_events.specs.Rows as rows

@@ -6,7 +6,7 @@ use Rattle.std.proofs.Math.Path.{fun_ext}
 use Rattle.std.proofs.lemmas.Bool.{cases_Bool, cases_eq, lt-ltb}
 use Rattle.mcv_base.specs.declared.reply.Part.{Part}
 use Rattle.mcv_base.specs.Reply.{ReplyValue, outcome_of, part_value}
-use Rattle.mcv_core.specs.Tracked.{CanAdvance, IsTracked, Past, count as entry_count, fresh, history_by, is_sent, launch_at, places_from}
+use Rattle.mcv_core.specs.CallProgress.{CanAdvance, IsTracked, Past, count as entry_count, fresh, history_by, is_sent, launch_at, places_from}
 use Rattle.mcv_queues.specs.declared.leg.Leg.{Leg}
 use Rattle.mcv_queues.specs.declared.leg.State.{State}
 use Rattle.mcv_queues.specs.declared.leg.State.TheVariants.{Waiting}
@@ -17,7 +17,7 @@ use Rattle.mcv_route.specs.Verdict.{Has}
 use Rattle.mcv_rules.proofs.Orders.{same_is, same_self}
 use Rattle.mcv_world.specs.World as world
 use Rattle.mcv_world.specs.World.{tree_of, situation_of, choice_of, history_of, is_settled, launched_by, reply_at, put}
-use Rattle.mcv_world.specs.Live.{has_ended}
+use Rattle.mcv_world.specs.LiveWorld.{has_ended}
 use Rattle.mcv_world.specs.Moves.{with_reply}
 use Rattle.mcv_world.proofs.Numbers.{same_some, no_some, put_same, put_other}
 use Rattle.mcv_events.specs.Entries.{IsLaidOut, is_launched, is_due, has_leg_at, launches_under}
@@ -32,11 +32,11 @@ use Rattle.mcv_core.specs.declared.errand.Errand.{Errand}
 use Rattle.mcv_core.specs.declared.launch.Entry.{Entry}
 use Rattle.mcv_core.specs.Errands.{ErrandView, errand_view, launch_in}
 use Rattle.mcv_core.specs.Launching.{errand_at, numbers_of, places_of, is_ready, with_legs, with_numbers, CanLaunch, IsLaunched}
-use Rattle.mcv_core.specs.Noting.{has_ended_by, AreAddressed, HasRecorded, IsNoted}
+use Rattle.mcv_core.specs.Recordings.{has_ended_by, AreAddressed, HasRecorded, IsNoted}
 use Rattle.mcv_core.specs.Rows.{call_of, call_row, entries_of, errand_for, has_outcome, rows_by, past_next, past_of, recorded_all, recorded_next, taken_at, IsRunning}
-use Rattle.mcv_core.proofs.Passing.{all_by_count, count, count_below, count_both, count_more, count_one_more, count_up}
+use Rattle.mcv_core.proofs.EntryCounts.{all_by_count, count, count_below, count_both, count_more, count_one_more, count_up}
 use Rattle.mcv_core.proofs.Launches.{get_below, launched_addressed}
-use Rattle.mcv_core.proofs.Tracking.{at_launch, there_at}
+use Rattle.mcv_core.proofs.StateFollowsOutcomes.{at_launch, there_at}
 use Rattle.mcv_core.proofs.Places.{AreReady, due_at, due_numbers, due_rows, places_apart, places_count}
 
 -- ---- lists

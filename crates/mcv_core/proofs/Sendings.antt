@@ -20,7 +20,7 @@ use Rattle.mcv_queues.specs.Numbers.{IsLeast, names}
 use Rattle.mcv_queues.specs.Queues.{in_flight, legs, room, servers}
 use Rattle.mcv_world.specs.World.{put}
 use Rattle.mcv_events.specs.Rows as rows
-use Rattle.mcv_events.specs.Rows.{IsCore, LegRow, Rows, place_of, with_leg_row, world_of}
+use Rattle.mcv_events.specs.Rows.{IsCore, LegRow, Rows, leg_state, with_leg_row, world_of}
 use Rattle.mcv_events.specs.Events.{in_state}
 use Rattle.mcv_events.proofs.EventsAreMoves.{states_are_no_moves}
 use Rattle.mcv_core.specs.declared.dispatcher.Dispatcher.{Dispatcher}
@@ -136,7 +136,7 @@ module _ (d : Dispatcher) (s : ℕ) where
     pub sent_does : (h : IsIn n states.Waiting) → legs q ≡ with_state (legs d.queues) n states.Sent → IsCore (arc_value d.accepted) (LegViews.view_with d q).rows → Unmoved (core_view d) (LegViews.view_with d q)
     sent_does h is core = record {
       world = ap world_of (LegViews.state_rows d n h.leg h.at states.Sent q is)
-          ∙ states_are_no_moves (core_view d).rows n (row_by state_of h.leg) rows.Sent (LegViews.there d n h.leg h.at) (sym (ap (λ t. place_of (state_of t)) h.is));
+          ∙ states_are_no_moves (core_view d).rows n (row_by state_of h.leg) rows.Sent (LegViews.there d n h.leg h.at) (sym (ap (λ t. leg_state (state_of t)) h.is));
       core = core;
       routes = refl;
     }

@@ -4,7 +4,7 @@ use Rattle.std.specs.Prelude.{filter, is_some, slice_get}
 use Rattle.std.proofs.Math.Path.{fun_ext}
 use Rattle.std.proofs.lemmas.Bool.{cases_eq, cases_lt}
 use Rattle.mcv_base.specs.Reply.{ReplyValue, outcome_of}
-use Rattle.mcv_core.specs.Tracked.{launch_at}
+use Rattle.mcv_core.specs.CallProgress.{launch_at}
 use Rattle.mcv_queues.specs.declared.leg.Leg.{Leg}
 use Rattle.mcv_queues.specs.declared.leg.State.{State}
 use Rattle.mcv_queues.specs.declared.leg.State.TheVariants as states
@@ -13,7 +13,7 @@ use Rattle.mcv_route.specs.Outcomes.{is_same, outcomes}
 use Rattle.mcv_route.specs.Routes.{RoutesValue}
 use Rattle.mcv_rules.proofs.Orders.{same_self}
 use Rattle.mcv_world.specs.World.{history_of, is_counted_delete, put}
-use Rattle.mcv_world.specs.Live.{has_ended}
+use Rattle.mcv_world.specs.LiveWorld.{has_ended}
 use Rattle.mcv_world.specs.Moves.{has_no_outcome, is_one, with_reply}
 use Rattle.mcv_world.proofs.Numbers.{same_some, no_some, put_same, put_other, put_cases}
 use Rattle.mcv_events.specs.Entries.{is_due}
@@ -31,12 +31,12 @@ use Rattle.mcv_core.specs.declared.call.Call.{Call}
 use Rattle.mcv_core.specs.declared.call.Recording.{Recording}
 use Rattle.mcv_core.specs.declared.errand.Errand.{Errand}
 use Rattle.mcv_core.specs.Errands.{launch_of}
-use Rattle.mcv_core.specs.Noting.{AreAddressed, HasRecorded}
+use Rattle.mcv_core.specs.Recordings.{AreAddressed, HasRecorded}
 use Rattle.mcv_core.specs.Rows.{all_rows, awaiting_state, call_of, call_row, call_rows, entries_of, row_by, rows_by, rows_of, state_of, IsRunning}
-use Rattle.mcv_core.specs.Sound.{one, spooled_in, spooled_one, IsSound}
+use Rattle.mcv_core.specs.Soundness.{one, spooled_in, spooled_one, IsSound}
 use Rattle.mcv_core.proofs.Launches.{get_below}
 use Rattle.mcv_core.proofs.Places.{put_rows}
-use Rattle.mcv_core.proofs.Tracking.{at_launch, there_at}
+use Rattle.mcv_core.proofs.StateFollowsOutcomes.{at_launch, there_at}
 use Rattle.mcv_core.proofs.SpooledLegs.{spooled_stays}
 use Rattle.mcv_core.proofs.States.{rows_put, stays_as}
 

@@ -7,7 +7,7 @@ use Rattle.mcv_world.proofs.Numbers.{put_same}
 use Rattle.mcv_events.specs.Rows.{LegRow, waiting, queued_rows}
 use Rattle.mcv_events.specs.Sums.{sum_below}
 use Rattle.mcv_events.proofs.Sums.{sum_above}
-use Rattle.mcv_core.specs.Sound.{spooled_one}
+use Rattle.mcv_core.specs.Soundness.{spooled_one}
 
 -- what is launched isn't in the spool
 pub spooled_stays : (due : Launch → Bool) (k : ℕ) (rest : List ℕ) (n e : ℕ) (es : List Launch) (rows : ℕ → Option LegRow)

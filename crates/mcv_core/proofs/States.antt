@@ -19,7 +19,7 @@ use Rattle.mcv_core.specs.declared.call.Call.{Call}
 use Rattle.mcv_core.specs.declared.errand.Errand.{Errand}
 use Rattle.mcv_core.specs.Errands.{launch_of}
 use Rattle.mcv_core.specs.Rows.{all_rows, awaiting_state, call_rows, row_by, rows_by, rows_of, state_of}
-use Rattle.mcv_core.specs.Sound.{spooled_in, spooled_one, IsSound}
+use Rattle.mcv_core.specs.Soundness.{spooled_in, spooled_one, IsSound}
 use Rattle.mcv_core.proofs.Places.{put_rows}
 
 -- ---- rows

@@ -5,7 +5,7 @@ use Rattle.mcv_base.specs.declared.request.CallId.{CallId}
 use Rattle.mcv_base.specs.declared.request.LegId.{LegId}
 use Rattle.mcv_core.specs.declared.fault.CoreFault.{CoreFault}
 use Rattle.mcv_core.specs.declared.run.Answer.{Answer}
-use Rattle.mcv_core.specs.declared.run.Answer.TheVariants.{Call, Leg, Place, Reply, Done, Refused}
+use Rattle.mcv_core.specs.declared.run.Answer.TheVariants.{Call, Leg, State, Reply, Done, Refused}
 use Rattle.mcv_core.specs.declared.step.Step.{Step}
 
 abbrev pub call_answer : Result CallId CoreFault → Answer
@@ -16,9 +16,9 @@ abbrev pub leg_answer : Result LegId CoreFault → Answer
 leg_answer (Ok leg) = Leg leg
 leg_answer (Err fault) = Refused fault
 
-abbrev pub place_answer : Result Step CoreFault → Answer
-place_answer (Ok step) = Place step.place
-place_answer (Err fault) = Refused fault
+abbrev pub state_answer : Result Step CoreFault → Answer
+state_answer (Ok step) = State step.state
+state_answer (Err fault) = Refused fault
 
 abbrev pub reply_answer : Result (Option Part) CoreFault → Answer
 reply_answer (Ok part) = Reply part

@@ -9,9 +9,9 @@ use Rattle.mcv_route.specs.declared.launch.Launch.{Launch}
 use Rattle.mcv_route.specs.Outcomes.{IsChoice}
 use Rattle.mcv_route.specs.Routes.{RouteEntry}
 use Rattle.mcv_route.specs.Situation.{asked}
-use Rattle.mcv_symbolic.specs.Covered.{sizes_of}
+use Rattle.mcv_symbolic.specs.CoveredRoutes.{sizes_of}
 use Rattle.mcv_world.specs.Moves.{Began, Move, new_call}
-use Rattle.mcv_world.specs.Possible.{CanBegin}
+use Rattle.mcv_world.specs.PossibleMoves.{CanBegin}
 use Rattle.mcv_world.specs.World.{choice_of, situation_of, tree_of}
 use Rattle.mcv_events.specs.Entries.{IsLaidOut}
 use Rattle.mcv_events.specs.Events.{began_rows}
@@ -21,7 +21,7 @@ use Rattle.mcv_events.specs.Rows.{world_of}
 use Rattle.mcv_core.specs.Calls.{room as call_room}
 use Rattle.mcv_core.specs.CoreView.{CoreView}
 use Rattle.mcv_core.specs.Rows.{call_of, entries_of}
-use Rattle.mcv_core.specs.Tracked.{GoesToServers, HasOpened}
+use Rattle.mcv_core.specs.CallProgress.{GoesToServers, HasOpened}
 use Rattle.mcv_core.specs.declared.begin.Asked.{Asked}
 use Rattle.mcv_core.specs.declared.call.Call.{Call}
 use Rattle.mcv_core.specs.declared.dispatcher.Dispatcher.{Dispatcher}

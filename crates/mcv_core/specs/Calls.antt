@@ -3,7 +3,7 @@ use Rattle.std.specs.Prelude.{◌≡◌, ℕ, Option, Some, nat_eq}
 use Rattle.std.specs.HashMap as hash
 use Rattle.mcv_base.specs.declared.reply.Part.{Part}
 use Rattle.mcv_base.specs.Reply.{part_value}
-use Rattle.mcv_core.specs.Tracked.{launch_at}
+use Rattle.mcv_core.specs.CallProgress.{launch_at}
 use Rattle.mcv_queues.specs.declared.leg.Leg.{Leg}
 use Rattle.mcv_route.specs.Routes.{RoutesValue}
 use Rattle.mcv_world.specs.World.{put}
@@ -12,7 +12,7 @@ use Rattle.mcv_core.specs.declared.call.Call.{Call}
 use Rattle.mcv_core.specs.declared.call.Recording.{Recording}
 use Rattle.mcv_core.specs.declared.calls.Calls.{Calls}
 use Rattle.mcv_core.specs.declared.errand.Errand.{Errand}
-use Rattle.mcv_core.specs.Noting.{CanNote, HasRecorded}
+use Rattle.mcv_core.specs.Recordings.{CanNote, HasRecorded}
 use Rattle.mcv_core.specs.Rows.{call_row, entries_of, IsRunning}
 
 abbrev pub calls_at : Calls → ℕ → Option Call

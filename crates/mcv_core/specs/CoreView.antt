@@ -4,14 +4,14 @@ use Rattle.std.specs.Str.{bytes_eq}
 use Rattle.mcv_base.specs.declared.reply.FixedReply.TheVariants.{Lost}
 use Rattle.mcv_base.specs.Operation.{is_delete}
 use Rattle.mcv_base.specs.Reply.{ReplyValue, fixed_value}
-use Rattle.mcv_queues.specs.declared.marks.Mark.{Mark}
+use Rattle.mcv_queues.specs.declared.marks.ServerFailures.{ServerFailures}
 use Rattle.mcv_queues.specs.Marks.{answered_mark, lost_mark, put_mark}
 use Rattle.mcv_queues.specs.Numbers.{names}
 use Rattle.mcv_route.specs.Routes.{RoutesValue}
 use Rattle.mcv_world.specs.World.{is_counted_delete, put}
-use Rattle.mcv_world.specs.Live.{live_of}
+use Rattle.mcv_world.specs.LiveWorld.{live_of}
 use Rattle.mcv_world.specs.Moves.{Move, Answered, WasSpooled, WasRefused, WasPerformed, counted_as, is_error_reply}
-use Rattle.mcv_world.specs.Possible.{IsAllowed, IsOpening}
+use Rattle.mcv_world.specs.PossibleMoves.{IsAllowed, IsOpening}
 use Rattle.mcv_events.specs.Rows as rows
 use Rattle.mcv_events.specs.Rows.{CallRow, IsCore, LegRow, Rows, awaits, leg_of, with_leg_row, world_of}
 use Rattle.mcv_events.specs.Events.{Moves, in_state, recorded_rows_for, refused_rows, spooled_rows, taken_rows}
@@ -19,8 +19,8 @@ use Rattle.mcv_core.specs.declared.fault.CoreFault.{CoreFault}
 use Rattle.mcv_core.specs.declared.fault.CoreFault.TheVariants.{NoSuchLeg}
 use Rattle.mcv_core.specs.declared.step.Change.{Change}
 use Rattle.mcv_core.specs.declared.step.Change.TheVariants as changes
-use Rattle.mcv_core.specs.declared.step.Place.{Place}
-use Rattle.mcv_core.specs.declared.step.Place.TheVariants as places
+use Rattle.mcv_core.specs.declared.step.LegState.{LegState}
+use Rattle.mcv_core.specs.declared.step.LegState.TheVariants as leg_states
 use Rattle.mcv_core.specs.declared.step.Step.{Step}
 
 pub record CoreView : Type 0 where
@@ -29,7 +29,7 @@ pub record CoreView : Type 0 where
   pub rows : Rows
   -- what is in flight to each server, sent or in replay
   pub flights : ℕ → Option ℕ
-  pub marks : ℕ → Mark
+  pub marks : ℕ → ServerFailures
   pub moment : ℕ
   pub chapter : ℕ
   -- how many entries of its history the chapter's calls and spooled legs may write
@@ -82,27 +82,27 @@ HasDone (refuses fault) new step = ⊥
 HasDone (does done v) new step = (step ≡ done) × (new ≡ v)
 
 -- the mark of a server changes
-abbrev pub with_mark : CoreView → ℕ → (Mark → Mark) → CoreView
+abbrev pub with_mark : CoreView → ℕ → (ServerFailures → ServerFailures) → CoreView
 with_mark v server g = record v { marks = put_mark (length v.routes.servers) v.marks server g }
 
 -- the leg isn't in flight any more
 abbrev pub landed : CoreView → LegRow → CoreView
 landed v s = record v { flights = put v.flights s.launch.server.0 None }
 
-abbrev pub step_to : Place → Change → Step
-step_to place change = record { place = place; change = change }
+abbrev pub step_to : LegState → Change → Step
+step_to state change = record { state = state; change = change }
 
 -- a delete is performed by any answer but an error
-abbrev pub place_after : LegRow → ReplyValue → Place
-place_after s y = cond (is_delete s.launch.op && not (is_error_reply y)) places.Performed places.Gone
+abbrev pub state_after : LegRow → ReplyValue → LegState
+state_after s y = cond (is_delete s.launch.op && not (is_error_reply y)) leg_states.Performed leg_states.Gone
 
 -- a counted delete leg that its server didn't perform is held, and its call has no outcome of it yet
 abbrev pub held : CoreView → ℕ → LegRow → Effect
-held v n s = does (step_to places.Held changes.Nothing) (record (landed v s) { rows = with_leg_row v.rows n (Some (in_state s rows.Held)) })
+held v n s = does (step_to leg_states.Held changes.Nothing) (record (landed v s) { rows = with_leg_row v.rows n (Some (in_state s rows.Held)) })
 
 -- any other leg is done with, and its call records the reply
 abbrev pub finished : CoreView → ℕ → ReplyValue → LegRow → Effect
-finished v n y s = does (step_to (place_after s y) changes.Answered) (record (landed v s) { rows = recorded_rows_for v.routes (with_leg_row v.rows n None) s y s.call })
+finished v n y s = does (step_to (state_after s y) changes.Answered) (record (landed v s) { rows = recorded_rows_for v.routes (with_leg_row v.rows n None) s y s.call })
 
 -- a leg that was sent has this reply
 abbrev pub sent_in : CoreView → ℕ → ReplyValue → LegRow → Effect
@@ -111,15 +111,15 @@ sent_in v n y s = cond (is_counted_delete (leg_of s) && is_error_reply y) (held 
 -- a leg in replay is performed, or waits in the spool again
 abbrev pub replayed_in : CoreView → ℕ → Bool → LegRow → Effect
 replayed_in v n failed s =
-    cond failed (does (step_to places.Spooled changes.Nothing) (landed v s)) (does (step_to places.Performed changes.Performed) (record (landed v s) { rows = with_leg_row v.rows n None }))
+    cond failed (does (step_to leg_states.Spooled changes.Nothing) (landed v s)) (does (step_to leg_states.Performed changes.Performed) (record (landed v s) { rows = with_leg_row v.rows n None }))
 
 -- a held leg is in the spool, and its call records NOT_FOUND, if it has no outcome
 abbrev pub stores : CoreView → ℕ → LegRow → Effect
-stores v n s = does (step_to places.Spooled changes.Spooled) (record v { rows = spooled_rows v.routes v.rows n s })
+stores v n s = does (step_to leg_states.Spooled changes.Spooled) (record v { rows = spooled_rows v.routes v.rows n s })
 
 -- the spool refused a held leg: its call records an error, once
 abbrev pub refused : CoreView → LegRow → Effect
-refused v s = cond (awaits v.rows.calls s s.call) (does (step_to places.Held changes.Refused) (record v { rows = refused_rows v.routes v.rows s })) (does (step_to places.Held changes.Nothing) v)
+refused v s = cond (awaits v.rows.calls s s.call) (does (step_to leg_states.Held changes.Refused) (record v { rows = refused_rows v.routes v.rows s })) (does (step_to leg_states.Held changes.Nothing) v)
 
 abbrev pub is_text : List ℕ → Option (List ℕ) → Bool
 is_text text None = false

@@ -2,13 +2,13 @@
 use Rattle.std.specs.Prelude.{◌≡◌, ℕ, List, Option, None, Some}
 use Rattle.mcv_route.specs.Routes.{RoutesValue}
 use Rattle.mcv_spool.specs.declared.record.SpoolRecord.{SpoolRecord}
-use Rattle.mcv_world.specs.Kept.{Kept}
+use Rattle.mcv_world.specs.KeptLegs.{Kept}
 use Rattle.mcv_world.specs.Laws.{IsWorld}
-use Rattle.mcv_world.specs.Live.{live_of}
+use Rattle.mcv_world.specs.LiveWorld.{live_of}
 use Rattle.mcv_world.specs.Moves.{Move, after}
 use Rattle.mcv_world.specs.World.{World}
 use Rattle.mcv_events.specs.Rows.{world_of}
-use Rattle.mcv_symbolic.specs.Covered.{AreCovered}
+use Rattle.mcv_symbolic.specs.CoveredRoutes.{AreCovered}
 use Rattle.mcv_core.specs.CoreView.{CoreView, Does}
 use Rattle.mcv_core.specs.Opening.{opened_view}
 

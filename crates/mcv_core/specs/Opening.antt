@@ -18,7 +18,7 @@ use Rattle.mcv_core.specs.CoreView.{CoreView}
 use Rattle.mcv_core.specs.declared.errand.Errand.{Errand}
 use Rattle.mcv_core.specs.Errands.{launch_of, rest_of}
 use Rattle.mcv_core.specs.Facts.{records_in}
-use Rattle.mcv_core.specs.Noting.{AreAddressed}
+use Rattle.mcv_core.specs.Recordings.{AreAddressed}
 use Rattle.mcv_core.specs.Rows.{rows_by}
 
 abbrev pub with_server : Option ℕ → List ℕ → List OpenedRecord → List OpenedRecord

@@ -14,15 +14,15 @@ use Rattle.mcv_core.specs.declared.dispatcher.Dispatcher.{Dispatcher}
 use Rattle.mcv_core.specs.declared.errand.Errand.{Errand}
 use Rattle.mcv_core.specs.declared.readers.CallView.{CallView}
 use Rattle.mcv_core.specs.declared.readers.LegView.{LegView}
-use Rattle.mcv_core.specs.declared.step.Place.{Place}
-use Rattle.mcv_core.specs.declared.step.Place.TheVariants as places
+use Rattle.mcv_core.specs.declared.step.LegState.{LegState}
+use Rattle.mcv_core.specs.declared.step.LegState.TheVariants as leg_states
 
 -- where a leg is that is queued or spooled
-abbrev pub place_of : rows.State → Place
-place_of rows.Waiting = places.Waiting
-place_of rows.Sent = places.Sent
-place_of rows.Held = places.Held
-place_of rows.InSpool = places.Spooled
+abbrev pub leg_state : rows.State → LegState
+leg_state rows.Waiting = leg_states.Waiting
+leg_state rows.Sent = leg_states.Sent
+leg_state rows.Held = leg_states.Held
+leg_state rows.InSpool = leg_states.Spooled
 
 -- ---- which leg the spool is to take
 

@@ -2,7 +2,7 @@
 use Rattle.std.specs.Prelude.{◌≡◌, ◌<◌, ◌≤◌, ℕ, Bool, false, not, List, [], ◌∷◌, Option, Some, None, fold, length, filter, is_some, option_map, option_and_then, slice_get, vec_capacity}
 use Rattle.std.specs.Arc.{arc_value}
 use Rattle.mcv_base.specs.Reply.{ReplyValue, outcome_of, part_value}
-use Rattle.mcv_core.specs.Tracked.{GoesToServers, IsTracked, Past, count, launch_at}
+use Rattle.mcv_core.specs.CallProgress.{GoesToServers, IsTracked, Past, count, launch_at}
 use Rattle.mcv_queues.specs.declared.leg.Leg.{Leg}
 use Rattle.mcv_queues.specs.declared.leg.State as queued
 use Rattle.mcv_queues.specs.declared.leg.State.TheVariants as states

@@ -14,16 +14,16 @@ use Rattle.mcv_base.specs.Reply.{ReplyValue, fixed_value, not_found, part_value}
 use Rattle.mcv_pools.specs.Symbol.{SymbolValue}
 use Rattle.mcv_queues.specs.Marks.{checked_mark, no_mark}
 use Rattle.mcv_spool.specs.declared.record.Stored.{Stored}
-use Rattle.mcv_world.specs.Kept.{Kept}
-use Rattle.mcv_world.specs.Live.{live_of}
+use Rattle.mcv_world.specs.KeptLegs.{Kept}
+use Rattle.mcv_world.specs.LiveWorld.{live_of}
 use Rattle.mcv_world.specs.Moves.{Move, Began, Taken, is_move, run}
 use Rattle.mcv_world.specs.World.{reply_of}
 use Rattle.mcv_events.specs.Rows.{world_of}
-use Rattle.mcv_core.specs.Acknowledged.{AnsweredCallsAreKept}
+use Rattle.mcv_core.specs.AcknowledgedCalls.{AnsweredCallsAreKept}
 use Rattle.mcv_core.specs.Asking.{HasBegunFor}
 use Rattle.mcv_core.specs.CoreView.{CoreView, Does, Moved, Unmoved, change_move, with_mark}
 use Rattle.mcv_core.specs.KeptDeletes.{DeletesStayKept}
-use Rattle.mcv_core.specs.Turning.{era_move}
+use Rattle.mcv_core.specs.Chapters.{era_move}
 use Rattle.mcv_core.specs.declared.fault.CoreFault.{CoreFault}
 use Rattle.mcv_core.specs.declared.run.Answer.{Answer}
 use Rattle.mcv_core.specs.declared.run.Answer.TheVariants as answer
@@ -39,11 +39,11 @@ pub data Step (chosen : SymbolValue → List ℕ → ℕ) (v : CoreView) : Event
       → Step chosen v (event.Begin request key) (answer.Call call) (Some (Began b.op b.route b.rest b.choice)) w
   sent : (server : ServerId) (leg : LegId) (w : CoreView) → Unmoved v w → Step chosen v (event.Next server) (answer.Leg leg) None w
   replayed : (server : ServerId) (leg : LegId) (w : CoreView) → Unmoved v w → Step chosen v (event.Replay server) (answer.Leg leg) None w
-  answered : (leg : LegId) (reply : ReplyValue) (done : Done) (w : CoreView) → Does v w (change_move leg.0 reply done.change) → Step chosen v (event.Answered leg reply) (answer.Place done.place) (change_move leg.0 reply done.change) w
-  lost : (leg : LegId) (done : Done) (w : CoreView) → Does v w (change_move leg.0 (fixed_value Lost) done.change) → Step chosen v (event.Lost leg) (answer.Place done.place) (change_move leg.0 (fixed_value Lost) done.change) w
-  spooled : (leg : LegId) (stored : Stored) (done : Done) (w : CoreView) → Does v w (change_move leg.0 not_found done.change) → Step chosen v (event.Spooled leg stored) (answer.Place done.place) (change_move leg.0 not_found done.change) w
+  answered : (leg : LegId) (reply : ReplyValue) (done : Done) (w : CoreView) → Does v w (change_move leg.0 reply done.change) → Step chosen v (event.Answered leg reply) (answer.State done.state) (change_move leg.0 reply done.change) w
+  lost : (leg : LegId) (done : Done) (w : CoreView) → Does v w (change_move leg.0 (fixed_value Lost) done.change) → Step chosen v (event.Lost leg) (answer.State done.state) (change_move leg.0 (fixed_value Lost) done.change) w
+  spooled : (leg : LegId) (stored : Stored) (done : Done) (w : CoreView) → Does v w (change_move leg.0 not_found done.change) → Step chosen v (event.Spooled leg stored) (answer.State done.state) (change_move leg.0 not_found done.change) w
   spool_refused : (leg : LegId) (done : Done) (w : CoreView) → Does v w (change_move leg.0 (fixed_value Lost) done.change)
-      → Step chosen v (event.SpoolRefused leg) (answer.Place done.place) (change_move leg.0 (fixed_value Lost) done.change) w
+      → Step chosen v (event.SpoolRefused leg) (answer.State done.state) (change_move leg.0 (fixed_value Lost) done.change) w
   marked : (server : ServerId) (w : CoreView) → w ≡ with_mark v server.0 checked_mark → Step chosen v (event.Mark server) answer.Done None w
   unmarked : (server : ServerId) (w : CoreView) → w ≡ with_mark v server.0 (λ m. no_mark) → Step chosen v (event.Unmark server) answer.Done None w
   clocked : (moment : Moment) (era : Option Era) (w : CoreView) → Does v w (era_move era) → Step chosen v (event.Clock moment) answer.Done (era_move era) w

@@ -10,7 +10,7 @@ use Rattle.mcv_core.specs.declared.call.Call.{Call}
 use Rattle.mcv_core.specs.declared.call.Recorded.{Recorded}
 use Rattle.mcv_core.specs.declared.take.Taking.{Taking}
 use Rattle.mcv_core.specs.Launching.{places_of}
-use Rattle.mcv_core.specs.Noting.{has_ended_by}
+use Rattle.mcv_core.specs.Recordings.{has_ended_by}
 use Rattle.mcv_core.specs.Rows.{taken_at}
 
 -- what a call keeps of what it has recorded, whether its reply was taken or not

@@ -19,8 +19,8 @@ use Rattle.mcv_core.specs.declared.call.Call.{Call}
 use Rattle.mcv_core.specs.declared.errand.Errand.{Errand}
 use Rattle.mcv_core.specs.declared.dispatcher.Dispatcher.{Dispatcher}
 use Rattle.mcv_core.specs.declared.settle.Settling.{Settling}
-use Rattle.mcv_core.specs.declared.step.Place.{Place}
-use Rattle.mcv_core.specs.declared.step.Place.TheVariants as places
+use Rattle.mcv_core.specs.declared.step.LegState.{LegState}
+use Rattle.mcv_core.specs.declared.step.LegState.TheVariants as leg_states
 
 abbrev pub since_of : Dispatcher → Option ℕ
 since_of d = option_map (λ m. m.0) d.since
@@ -40,14 +40,14 @@ core_view d = record {
 abbrev pub records_of : Dispatcher → ℕ → Option ℕ
 records_of d = records_in (legs d.queues)
 
--- the same after an event that leads its leg to this place: a leg that is there keeps its record, and no other one changes
-abbrev pub records_after : Place → ℕ → (ℕ → Option ℕ) → ℕ → Option ℕ
-records_after places.Waiting n records = records
-records_after places.Sent n records = records
-records_after places.Held n records = records
-records_after places.Spooled n records = records
-records_after places.Performed n records = put records n None
-records_after places.Gone n records = put records n None
+-- the same after an event that leads its leg to this state: a leg that is there keeps its record, and no other one changes
+abbrev pub records_after : LegState → ℕ → (ℕ → Option ℕ) → ℕ → Option ℕ
+records_after leg_states.Waiting n records = records
+records_after leg_states.Sent n records = records
+records_after leg_states.Held n records = records
+records_after leg_states.Spooled n records = records
+records_after leg_states.Performed n records = put records n None
+records_after leg_states.Gone n records = put records n None
 
 -- the leg is there, and its call runs and has no outcome for it; it is in flight exactly where it is to be done with
 pub record CanSettle (d : Dispatcher) (n : ℕ) (to : Settling) : Type 0 where

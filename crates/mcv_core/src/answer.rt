@@ -10,14 +10,14 @@ ghost use Rattle.mcv_core.specs.Facts.{counts_in, facts_of as facts_seen, state_
 ghost use Rattle.mcv_core.specs.KeptDeletes.{DeletesStayKept};
 ghost use Rattle.mcv_core.specs.View.{core_view, records_after, records_of};
 ghost use Rattle.mcv_base.specs.declared.reply.FixedReply.TheVariants.{Lost as LostReply};
-ghost use Rattle.mcv_core.specs.declared.step.Place.TheVariants as places;
+ghost use Rattle.mcv_core.specs.declared.step.LegState.TheVariants as leg_states;
 
 use crate::counted::Counted;
 use crate::dispatcher::Dispatcher;
 use crate::facts::LegFacts;
 use crate::fault::CoreFault;
 use crate::settle::Settling;
-use crate::step::{Change, Place, Step};
+use crate::step::{Change, LegState, Step};
 use mcv_base::{LegId, Op, Parts};
 use mcv_queues::State;
 
@@ -27,7 +27,7 @@ impl Dispatcher {
         ensures effect { HasEffect (answer_at (core_view self.old) leg.0 parts) (core_view self.old) (core_view self.new) result }
         ensures does { IfOk result (λ step. Does (core_view self.old) (core_view self.new) (change_move leg.0 parts step.change)) }
         ensures keeps { IfOk result (λ step. DeletesStayKept (core_view self.old) (core_view self.new) (change_move leg.0 parts step.change)) }
-        ensures records { IfOk result (λ step. records_of self.new ≡ records_after step.place leg.0 (records_of self.old)) }
+        ensures records { IfOk result (λ step. records_of self.new ≡ records_after step.state leg.0 (records_of self.old)) }
         ensures kept { OnErr result (records_of self.new ≡ records_of self.old) }
         ensures chapter { (core_view self.new).chapter ≡ (core_view self.old).chapter }
         ensures err { OnErr result (core_view self.new ≡ core_view self.old) }
@@ -47,7 +47,7 @@ impl Dispatcher {
         ensures effect { HasEffect (loss_at (core_view self.old) leg.0) (core_view self.old) (core_view self.new) result }
         ensures does { IfOk result (λ step. Does (core_view self.old) (core_view self.new) (change_move leg.0 (fixed_value LostReply) step.change)) }
         ensures keeps { IfOk result (λ step. DeletesStayKept (core_view self.old) (core_view self.new) (change_move leg.0 (fixed_value LostReply) step.change)) }
-        ensures records { IfOk result (λ step. records_of self.new ≡ records_after step.place leg.0 (records_of self.old)) }
+        ensures records { IfOk result (λ step. records_of self.new ≡ records_after step.state leg.0 (records_of self.old)) }
         ensures kept { OnErr result (records_of self.new ≡ records_of self.old) }
         ensures chapter { (core_view self.new).chapter ≡ (core_view self.old).chapter }
         ensures err { OnErr result (core_view self.new ≡ core_view self.old) }
@@ -80,7 +80,7 @@ impl Dispatcher {
         requires flies { is_flight facts.state ≡ true }
         requires one { part_value counted.taken ≡ part_value counted.outcome }
         ensures done { HasDone (landing_at (core_view self.old) leg.0 (part_value counted.outcome)) (core_view self.new) result }
-        ensures records { records_of self.new ≡ records_after result.place leg.0 (records_of self.old) }
+        ensures records { records_of self.new ≡ records_after result.state leg.0 (records_of self.old) }
     {
         let replayed = matches!(facts.state, State::InReplay);
         if !replayed {
@@ -99,7 +99,7 @@ impl Dispatcher {
         requires sent { facts.state ≡ State.Sent }
         requires one { part_value counted.taken ≡ part_value counted.outcome }
         ensures done { HasDone (at_row (sent_in (core_view self.old) leg.0 (part_value counted.outcome)) ((core_view self.old).rows.legs leg.0)) (core_view self.new) result }
-        ensures records { records_of self.new ≡ records_after result.place leg.0 (records_of self.old) }
+        ensures records { records_of self.new ≡ records_after result.state leg.0 (records_of self.old) }
     {
         if facts.counted_delete && counted.is_error() {
             self.hold(leg)
@@ -114,9 +114,9 @@ impl Dispatcher {
         requires sent { facts.state ≡ State.Sent }
         requires one { part_value counted.taken ≡ part_value counted.outcome }
         ensures done { HasDone (at_row (finished (core_view self.old) leg.0 (part_value counted.outcome)) ((core_view self.old).rows.legs leg.0)) (core_view self.new) result }
-        ensures records { records_of self.new ≡ records_after result.place leg.0 (records_of self.old) }
+        ensures records { records_of self.new ≡ records_after result.state leg.0 (records_of self.old) }
     {
-        let place = Place::after(facts.op, counted.is_error());
+        let state = LegState::after(facts.op, counted.is_error());
         self.settle(
             leg,
             facts.owner(),
@@ -125,7 +125,7 @@ impl Dispatcher {
             counted.taken,
         );
         Step {
-            place,
+            state,
             change: Change::Answered,
         }
     }
@@ -135,11 +135,11 @@ impl Dispatcher {
         requires sent { state_in (legs self.old.queues leg.0) ≡ Some State.Sent }
         requires counted { counts_in (legs self.old.queues leg.0) ≡ true }
         ensures done { HasDone (at_row (held (core_view self.old) leg.0) ((core_view self.old).rows.legs leg.0)) (core_view self.new) result }
-        ensures records { records_of self.new ≡ records_after result.place leg.0 (records_of self.old) }
+        ensures records { records_of self.new ≡ records_after result.state leg.0 (records_of self.old) }
     {
         self.queues.held(leg);
         Step {
-            place: Place::Held,
+            state: LegState::Held,
             change: Change::Nothing,
         }
     }
@@ -148,11 +148,11 @@ impl Dispatcher {
     fn wait_again(&mut self, leg: LegId) -> Step
         requires { state_in (legs self.old.queues leg.0) ≡ Some State.InReplay }
         ensures done { HasDone (at_row (replayed_in (core_view self.old) leg.0 true) ((core_view self.old).rows.legs leg.0)) (core_view self.new) result }
-        ensures records { records_of self.new ≡ records_after result.place leg.0 (records_of self.old) }
+        ensures records { records_of self.new ≡ records_after result.state leg.0 (records_of self.old) }
     {
         self.queues.replay_failed(leg);
         Step {
-            place: Place::Spooled,
+            state: LegState::Spooled,
             change: Change::Nothing,
         }
     }
@@ -161,26 +161,26 @@ impl Dispatcher {
     fn perform(&mut self, leg: LegId) -> Step
         requires { state_in (legs self.old.queues leg.0) ≡ Some State.InReplay }
         ensures done { HasDone (at_row (replayed_in (core_view self.old) leg.0 false) ((core_view self.old).rows.legs leg.0)) (core_view self.new) result }
-        ensures records { records_of self.new ≡ records_after result.place leg.0 (records_of self.old) }
+        ensures records { records_of self.new ≡ records_after result.state leg.0 (records_of self.old) }
     {
         let _ = self.queues.gone(leg);
         self.counts = self.counts.performed();
         Step {
-            place: Place::Performed,
+            state: LegState::Performed,
             change: Change::Performed,
         }
     }
 }
 
-impl Place {
+impl LegState {
     /// Where a leg is that had a reply and isn't held: a delete is performed by any answer but an error.
-    fn after(op: Op, failed: bool) -> Place
-        ensures { result ≡ cond (is_delete op && not failed) places.Performed places.Gone }
+    fn after(op: Op, failed: bool) -> LegState
+        ensures { result ≡ cond (is_delete op && not failed) leg_states.Performed leg_states.Gone }
     {
         if op.is_delete() && !failed {
-            Place::Performed
+            LegState::Performed
         } else {
-            Place::Gone
+            LegState::Gone
         }
     }
 }

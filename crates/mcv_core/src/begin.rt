@@ -6,7 +6,7 @@ ghost use Rattle.mcv_queues.specs.Queues.{room as leg_room};
 ghost use Rattle.mcv_base.specs.Key.{IsRest};
 ghost use Rattle.mcv_route.specs.Outcomes.{IsChoice};
 ghost use Rattle.mcv_route.specs.Routes.{IsSoundRoutes};
-ghost use Rattle.mcv_symbolic.specs.Covered.{sizes_of};
+ghost use Rattle.mcv_symbolic.specs.CoveredRoutes.{sizes_of};
 ghost use Rattle.mcv_world.specs.Moves.{Began};
 ghost use Rattle.mcv_core.specs.Beginning.{AreReadied, CanAdd, CanStart, HasBegun, HasLegRoom, HasRoom, IsFull, IsNewCall, began_by, has_begun};
 ghost use Rattle.mcv_core.specs.Calls.{room as call_room};

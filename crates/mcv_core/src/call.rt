@@ -2,7 +2,7 @@
 
 ghost use Rattle.std.specs.Prelude.{◌≡◌, ◌<◌, ◌≤◌, ◌+◌, ◌-◌, ◌∷◌, [], ℕ, List, Some, ◌&&◌, not, length, vec_capacity};
 ghost use Rattle.mcv_base.specs.Reply.{outcome_of, part_value};
-ghost use Rattle.mcv_core.specs.Tracked.{CanAdvance, IsTracked, Past, count, fresh, history_by, is_sent, places_from};
+ghost use Rattle.mcv_core.specs.CallProgress.{CanAdvance, IsTracked, Past, count, fresh, history_by, is_sent, places_from};
 ghost use Rattle.mcv_queues.specs.Queues.{legs, room, in_flight, servers as known};
 ghost use Rattle.mcv_route.specs.declared.launch.Launch.{Launch as Leg};
 ghost use Rattle.mcv_route.specs.Outcomes.{Choice as Chosen};
@@ -10,10 +10,10 @@ ghost use Rattle.mcv_route.specs.Situation.{Situation};
 ghost use Rattle.mcv_route.specs.Tree.{Tree};
 ghost use Rattle.mcv_core.specs.Facts.{records_in};
 ghost use Rattle.mcv_core.specs.Launching.{CanLaunch, IsLaunched};
-ghost use Rattle.mcv_core.specs.Noting.{CanNote, HasRecorded, IsNoted, has_ended_by};
+ghost use Rattle.mcv_core.specs.Recordings.{CanNote, HasRecorded, IsNoted, has_ended_by};
 ghost use Rattle.mcv_core.specs.Rows.{call_row, entries_of, IsRunning};
 ghost use Rattle.mcv_events.specs.Rows.{CanRecord, IsCore, Rows};
-ghost use Rattle.mcv_core.specs.Tracked.{launch_at};
+ghost use Rattle.mcv_core.specs.CallProgress.{launch_at};
 ghost use Rattle.mcv_route.specs.Routes.{RoutesValue};
 
 use crate::errand::{Errand, Laid};

@@ -5,7 +5,7 @@ ghost use Rattle.std.specs.Arc.{arc_value};
 ghost use Rattle.mcv_queues.specs.Marks.{servers as marked_servers};
 ghost use Rattle.mcv_queues.specs.Queues.{legs, room as leg_room, servers as known};
 ghost use Rattle.mcv_core.specs.Calls.{calls_at};
-ghost use Rattle.mcv_core.specs.Sound.{IsSound};
+ghost use Rattle.mcv_core.specs.Soundness.{IsSound};
 
 use crate::calls::Calls;
 use crate::counts::Counts;

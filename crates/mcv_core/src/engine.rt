@@ -5,10 +5,10 @@ ghost use Rattle.std.specs.Prelude.{◌≡◌, ◌≤◌, ℕ, Some, None, IfOk,
 ghost use Rattle.std.specs.Borrow.{sem};
 ghost use Rattle.mcv_base.specs.Key.{is_key_word};
 ghost use Rattle.mcv_pools.specs.Choice.{HasIndexEach};
-ghost use Rattle.mcv_symbolic.specs.Covered.{AreCovered};
+ghost use Rattle.mcv_symbolic.specs.CoveredRoutes.{AreCovered};
 ghost use Rattle.mcv_events.specs.Rows.{world_of};
 ghost use Rattle.mcv_core.specs.Asking.{HasBegunFor, HasNoKey, IsAsked, IsKeyOf, IsRefusedFor};
-ghost use Rattle.mcv_core.specs.Borrowed.{BorrowsEvents};
+ghost use Rattle.mcv_core.specs.BorrowedCore.{BorrowsEvents};
 ghost use Rattle.mcv_core.specs.KeptDeletes.{KeepsDeletes};
 ghost use Rattle.mcv_core.specs.Opening.{known_numbers, opened_view};
 ghost use Rattle.mcv_core.specs.View.{core_view, records_of};

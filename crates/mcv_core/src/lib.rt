@@ -36,5 +36,5 @@ pub use fault::CoreFault;
 pub use laws::events_keep_deletes;
 pub use readers::{CallView, LegView};
 pub use run::{Answer, Event, Run, run_all};
-pub use step::{Change, Place, Step};
+pub use step::{Change, LegState, Step};
 pub use turn::Era;

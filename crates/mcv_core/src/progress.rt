@@ -6,7 +6,7 @@ ghost use Rattle.mcv_route.specs.Outcomes.{Choice as Chosen};
 ghost use Rattle.mcv_route.specs.Situation.{Situation, asked};
 ghost use Rattle.mcv_route.specs.Tree.{Tree};
 ghost use Rattle.mcv_route.specs.View.{view};
-ghost use Rattle.mcv_core.specs.Tracked.{CanAdvance, HasOpened, IsTracked, Past, count, fresh, history_by, is_sent, places_from};
+ghost use Rattle.mcv_core.specs.CallProgress.{CanAdvance, HasOpened, IsTracked, Past, count, fresh, history_by, is_sent, places_from};
 
 use mcv_base::{Mark, Moment, Op, Outcome, Position, Rest};
 use mcv_plan::EvalState;

@@ -3,14 +3,14 @@
 ghost use Rattle.std.specs.Prelude.{◌≡◌, option_and_then, option_copied, option_map};
 ghost use Rattle.mcv_queues.specs.Numbers.{leg_number};
 ghost use Rattle.mcv_core.specs.Errands.{launch_of, rest_of};
-ghost use Rattle.mcv_core.specs.Readers.{IsFirstHeld, call_asked, place_of, request_in, request_of, row_asked, seen, seen_row};
+ghost use Rattle.mcv_core.specs.Readers.{IsFirstHeld, call_asked, leg_state, request_in, request_of, row_asked, seen, seen_row};
 ghost use Rattle.mcv_core.specs.Rows.{call_row, state_of};
 ghost use Rattle.mcv_core.specs.View.{core_view, records_of};
 
 use crate::call::Call;
 use crate::dispatcher::Dispatcher;
 use crate::errand::Errand;
-use crate::step::Place;
+use crate::step::LegState;
 use mcv_base::{CallId, LegId, Mark, Op, Request, Rest, ServerId};
 use mcv_check::Accepted;
 use mcv_queues::State;
@@ -42,16 +42,16 @@ pub struct CallView<'a> {
     pub rest: &'a Rest,
 }
 
-impl Place {
+impl LegState {
     /// Where a leg in this state is.
-    fn of(state: State) -> Place
-        ensures { result ≡ place_of (state_of state) }
+    fn of(state: State) -> LegState
+        ensures { result ≡ leg_state (state_of state) }
     {
         match state {
-            State::Waiting => Place::Waiting,
-            State::Sent => Place::Sent,
-            State::Held | State::Refused => Place::Held,
-            State::InSpool | State::InReplay => Place::Spooled,
+            State::Waiting => LegState::Waiting,
+            State::Sent => LegState::Sent,
+            State::Held | State::Refused => LegState::Held,
+            State::InSpool | State::InReplay => LegState::Spooled,
         }
     }
 }
@@ -113,11 +113,11 @@ impl Dispatcher {
     }
 
     /// Where a leg is; None where it is neither queued nor spooled.
-    pub fn place(&self, leg: LegId) -> Option<Place>
-        ensures { result ≡ option_map (λ s. place_of s.state) ((core_view self.now).rows.legs leg.0) }
+    pub fn leg_state(&self, leg: LegId) -> Option<LegState>
+        ensures { result ≡ option_map (λ s. leg_state s.state) ((core_view self.now).rows.legs leg.0) }
     {
         let row = self.queues.get(leg)?;
-        Some(Place::of(row.state))
+        Some(LegState::of(row.state))
     }
 
     /// The number of the next leg that a call launches: those that an event launched have the numbers from what it was

@@ -9,7 +9,7 @@ ghost use Rattle.mcv_core.specs.Errands.{launch_of, rest_of};
 ghost use Rattle.mcv_core.specs.Readers.{request_in};
 ghost use Rattle.mcv_core.specs.Requests.{asked_at, asked_by, asked_of, call_in, fields_by};
 ghost use Rattle.mcv_core.specs.Rows.{recorded_one};
-ghost use Rattle.mcv_core.specs.Tracked.{launch_at};
+ghost use Rattle.mcv_core.specs.CallProgress.{launch_at};
 
 use crate::call::{Call, Recorded};
 use crate::dispatcher::Dispatcher;

@@ -2,7 +2,7 @@
 
 ghost use Rattle.std.specs.Arc.{arc_value};
 ghost use Rattle.std.specs.Prelude.{◌≡◌, [], IfOk, IfErr, OnErr};
-ghost use Rattle.mcv_core.specs.Answers.{call_answer, done_answer, leg_answer, place_answer, reply_answer};
+ghost use Rattle.mcv_core.specs.Answers.{call_answer, done_answer, leg_answer, reply_answer, state_answer};
 ghost use Rattle.mcv_core.specs.Opening.{opened_view};
 ghost use Rattle.mcv_core.specs.Steps.{AreAnswered, DeletesAreKept, IsAnswered};
 ghost use Rattle.mcv_core.specs.View.{core_view};
@@ -10,7 +10,7 @@ ghost use Rattle.mcv_core.specs.declared.fault.CoreFault.TheVariants.{Memory as 
 
 use crate::engine::Core;
 use crate::fault::CoreFault;
-use crate::step::{Place, Step};
+use crate::step::{LegState, Step};
 use mcv_base::{CallId, LegId, Moment, Part, Parts, Request, ServerId};
 use mcv_check::Accepted;
 use mcv_pools::KeyHash;
@@ -43,8 +43,8 @@ pub enum Answer {
     Call(CallId),
     /// To `Next` and `Replay`.
     Leg(LegId),
-    /// The leg's place after `Answered`, `Lost`, `Spooled` and `SpoolRefused`.
-    Place(Place),
+    /// The leg's state after `Answered`, `Lost`, `Spooled` and `SpoolRefused`.
+    State(LegState),
     /// To `Take`; None while the call has no reply, or where it was taken.
     Reply(Option<Part>),
     Done,
@@ -70,11 +70,11 @@ impl Answer {
         }
     }
 
-    fn place(stepped: Result<Step, CoreFault>) -> Answer
-        ensures { result ≡ place_answer stepped }
+    fn state(stepped: Result<Step, CoreFault>) -> Answer
+        ensures { result ≡ state_answer stepped }
     {
         match stepped {
-            Ok(step) => Answer::Place(step.place),
+            Ok(step) => Answer::State(step.state),
             Err(fault) => Answer::Refused(fault),
         }
     }
@@ -114,10 +114,10 @@ impl<H: KeyHash + Drop> Core<H> {
         match event {
             Event::Begin(request, key) => Answer::call(self.begin(alloc, request, key)),
             Event::Next(server) => Answer::leg(self.dispatcher.next(server)),
-            Event::Answered(leg, parts) => Answer::place(self.dispatcher.answered(leg, parts)),
-            Event::Lost(leg) => Answer::place(self.dispatcher.lost(leg)),
-            Event::Spooled(leg, stored) => Answer::place(self.dispatcher.spooled(leg, stored)),
-            Event::SpoolRefused(leg) => Answer::place(self.dispatcher.spool_refused(leg)),
+            Event::Answered(leg, parts) => Answer::state(self.dispatcher.answered(leg, parts)),
+            Event::Lost(leg) => Answer::state(self.dispatcher.lost(leg)),
+            Event::Spooled(leg, stored) => Answer::state(self.dispatcher.spooled(leg, stored)),
+            Event::SpoolRefused(leg) => Answer::state(self.dispatcher.spool_refused(leg)),
             Event::Replay(server) => Answer::leg(self.dispatcher.replay(server)),
             Event::Mark(server) => {
                 self.dispatcher.mark(server);
@@ -152,7 +152,7 @@ impl<H: KeyHash + Drop> Core<H> {
 /// A core over accepted routes, after these events: **no acknowledged delete is dropped**. Whatever the events are, each
 /// delete that has a reply other than an error keeps, for every server that could answer a get or gets of its rest, a
 /// counted leg of its own that the server performed, that is queued, or that is spooled (`Kept` of
-/// mcv_world/specs/Kept.antt, in the world to which the events' moves lead). The one error is `Memory`.
+/// mcv_world/specs/KeptLegs.antt, in the world to which the events' moves lead). The one error is `Memory`.
 ///
 /// Its premises: a server that says DELETED or NOT_FOUND to a delete leg has performed it; the process goes on; the hash is
 /// a function of symbol and hashed part; a call that was refused with `Memory` isn't answered as done.

@@ -15,7 +15,7 @@ use crate::counted::Counted;
 use crate::dispatcher::Dispatcher;
 use crate::fault::CoreFault;
 use crate::settle::Settling;
-use crate::step::{Change, Place, Step};
+use crate::step::{Change, LegState, Step};
 use mcv_base::LegId;
 use mcv_queues::State;
 use mcv_spool::{SpoolRecord, Stored};
@@ -61,7 +61,7 @@ impl Dispatcher {
         match facts.state {
             State::Held => Ok(self.refuse(leg)),
             State::Refused => Ok(Step {
-                place: Place::Held,
+                state: LegState::Held,
                 change: Change::Nothing,
             }),
             State::Waiting | State::Sent | State::InSpool | State::InReplay => {
@@ -100,7 +100,7 @@ impl Dispatcher {
             reply.taken,
         );
         Step {
-            place: Place::Spooled,
+            state: LegState::Spooled,
             change: Change::Spooled,
         }
     }
@@ -114,7 +114,7 @@ impl Dispatcher {
         self.queues.spooled(leg, seq);
         self.counts = self.counts.stored();
         Step {
-            place: Place::Spooled,
+            state: LegState::Spooled,
             change: Change::Spooled,
         }
     }
@@ -129,7 +129,7 @@ impl Dispatcher {
         let owner = self.owner_of(leg);
         self.settle(leg, owner, Settling::Refused, reply.outcome, reply.taken);
         Step {
-            place: Place::Held,
+            state: LegState::Held,
             change: Change::Refused,
         }
     }

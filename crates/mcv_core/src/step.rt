@@ -2,7 +2,7 @@
 
 /// Where a leg is.
 #[derive(Clone, Copy, Debug, PartialEq, Eq)]
-pub enum Place {
+pub enum LegState {
     /// It waits for its turn at its server.
     Waiting,
     /// It is in flight to its server.
@@ -30,9 +30,9 @@ pub enum Change {
     Performed,
 }
 
-/// What an event did to its leg: the place that the leg has then, and the move.
+/// What an event did to its leg: the state that the leg has then, and the move.
 #[derive(Clone, Copy, Debug, PartialEq, Eq)]
 pub struct Step {
-    pub place: Place,
+    pub state: LegState,
     pub change: Change,
 }

@@ -5,7 +5,7 @@ ghost use Rattle.mcv_queues.specs.Marks.{checked_mark, no_mark};
 ghost use Rattle.mcv_route.specs.Eras.{breaks_of, era_at, since_at};
 ghost use Rattle.mcv_core.specs.CoreView.{Does, IsQuiet, Unmoved, with_mark};
 ghost use Rattle.mcv_core.specs.KeptDeletes.{DeletesStayKept};
-ghost use Rattle.mcv_core.specs.Turning.{CanTurn, IsAtRest, era_move, in_era, spooled_legs};
+ghost use Rattle.mcv_core.specs.Chapters.{CanTurn, IsAtRest, era_move, in_era, spooled_legs};
 ghost use Rattle.mcv_core.specs.View.{core_view, records_of};
 
 use crate::dispatcher::Dispatcher;

@@ -1,13 +1,12 @@
 //! Events that are drawn.
 
-use crate::amiss::Amiss;
-use crate::model::{Model, Spot};
+use crate::model::{Model, Stage};
+use crate::setup::{bytes, shared};
 use mcv_base::{FixedReply, Op, Parts, Reply, ServerId};
-use std::alloc::Global;
-use std::sync::Arc;
+use std::process::Abort;
 
 /// What a server says to a leg.
-#[derive(Clone, Copy, Debug, PartialEq, Eq)]
+#[derive(Clone, Copy)]
 pub(crate) enum Say {
     /// A value, its unique number with it.
     Hit(Option<u64>),
@@ -17,7 +16,7 @@ pub(crate) enum Say {
 }
 
 /// An event, before its parts are made. Keys, legs and calls have their numbers.
-#[derive(Clone, Copy, Debug, PartialEq, Eq)]
+#[derive(Clone, Copy)]
 pub(crate) enum Deed {
     Begin(Op, usize),
     Next(ServerId),
@@ -35,7 +34,7 @@ pub(crate) enum Deed {
 }
 
 /// A linear congruential generator (Knuth, MMIX), of which the upper bits are used.
-#[derive(Clone, Copy, Debug, PartialEq, Eq)]
+#[derive(Clone, Copy)]
 pub(crate) struct Dice {
     state: u64,
 }
@@ -84,24 +83,26 @@ impl Dice {
 
 impl Say {
     /// The reply. A value or an error line names its leg.
-    pub(crate) fn parts(self, alloc: Global, leg: usize) -> Result<Parts, Amiss> {
-        let mut bytes = Vec::new(alloc);
-        bytes.extend_from_slice(&(leg as u64).to_be_bytes())?;
-        Ok(match self {
-            Say::Hit(cas) => {
-                let body = Arc::new(alloc, bytes)?;
-                Parts::new(
-                    alloc,
-                    Reply::Hit {
-                        flags: 1,
-                        cas,
-                        body,
-                    },
-                )?
-            }
-            Say::Fault => Parts::new(alloc, Reply::Fault(bytes))?,
-            Say::Short(reply) => Parts::fixed(reply),
-        })
+    fn reply(self, rt: &(impl AllocGlobal + Abort), leg: usize) -> Option<Reply> {
+        let text = (leg as u64).to_be_bytes();
+        match self {
+            Say::Hit(cas) => Some(Reply::Hit {
+                flags: 1,
+                cas,
+                body: shared(rt, &text),
+            }),
+            Say::Fault => Some(Reply::Fault(bytes(rt, &text))),
+            Say::Short(_) => None,
+        }
+    }
+
+    /// The same, as the core takes it.
+    pub(crate) fn parts(self, rt: &(impl AllocGlobal + Abort), leg: usize) -> Parts {
+        if let Say::Short(reply) = self {
+            return Parts::fixed(reply);
+        }
+        let reply = self.reply(rt, leg).expect(rt, "a reply");
+        Parts::new(rt.alloc(), reply).expect(rt, "memory")
     }
 
     /// That it was done, or found.
@@ -152,8 +153,8 @@ fn drawn_op(dice: &mut Dice) -> Op {
     }
 }
 
-/// The number of a leg at one of these spots, or of any leg, or of none.
-fn drawn_leg(dice: &mut Dice, model: &Model<'_>, spots: &[Spot]) -> usize {
+/// The number of a leg at one of these stages, or of any leg, or of none.
+fn drawn_leg(dice: &mut Dice, model: &Model<'_>, stages: &[Stage]) -> usize {
     let count = model.legs.len();
     let start = dice.below(count.saturating_add(1));
     if dice.once_in(10) {
@@ -163,20 +164,20 @@ fn drawn_leg(dice: &mut Dice, model: &Model<'_>, spots: &[Spot]) -> usize {
         .legs
         .iter()
         .enumerate()
-        .position(|(at, leg)| at >= start && spots.contains(&leg.spot));
+        .position(|(at, leg)| at >= start && stages.contains(&leg.stage));
     match after {
         Some(leg) => leg,
         None => model
             .legs
             .iter()
-            .position(|leg| spots.contains(&leg.spot))
+            .position(|leg| stages.contains(&leg.stage))
             .unwrap_or(start),
     }
 }
 
-/// The server of a leg at one of these spots, or of any leg, or any server, or none.
-fn drawn_server(dice: &mut Dice, model: &Model<'_>, spots: &[Spot]) -> ServerId {
-    let leg = drawn_leg(dice, model, spots);
+/// The server of a leg at one of these stages, or of any leg, or any server, or none.
+fn drawn_server(dice: &mut Dice, model: &Model<'_>, stages: &[Stage]) -> ServerId {
+    let leg = drawn_leg(dice, model, stages);
     match model.legs.get(leg) {
         Some(leg) => leg.launch.server,
         None => ServerId(u32::try_from(dice.below(7)).unwrap_or(0)),
@@ -184,7 +185,7 @@ fn drawn_server(dice: &mut Dice, model: &Model<'_>, spots: &[Spot]) -> ServerId 
 }
 
 fn drawn_reply(dice: &mut Dice, model: &Model<'_>) -> Deed {
-    let leg = drawn_leg(dice, model, &[Spot::Sent, Spot::Replayed]);
+    let leg = drawn_leg(dice, model, &[Stage::Sent, Stage::Replayed]);
     let op = match model.legs.get(leg) {
         Some(leg) => leg.launch.op,
         None => Op::Get,
@@ -220,17 +221,17 @@ pub(crate) fn drawn(dice: &mut Dice, model: &Model<'_>, calm: bool) -> Deed {
     let letters = if calm { CALM } else { BUSY };
     match dice.letter(letters) {
         b'b' => Deed::Begin(drawn_op(dice), dice.below(model.ground.keys.len())),
-        b'n' => Deed::Next(drawn_server(dice, model, &[Spot::Waiting])),
+        b'n' => Deed::Next(drawn_server(dice, model, &[Stage::Waiting])),
         b'a' => drawn_reply(dice, model),
-        b'l' => Deed::Lost(drawn_leg(dice, model, &[Spot::Sent, Spot::Replayed])),
+        b'l' => Deed::Lost(drawn_leg(dice, model, &[Stage::Sent, Stage::Replayed])),
         b's' => Deed::Spooled(
-            drawn_leg(dice, model, &[Spot::Held, Spot::Refused]),
+            drawn_leg(dice, model, &[Stage::Held, Stage::Refused]),
             !dice.once_in(8),
         ),
-        b'f' => Deed::SpoolRefused(drawn_leg(dice, model, &[Spot::Held, Spot::Refused])),
-        b'r' => Deed::Replay(drawn_server(dice, model, &[Spot::Spooled])),
-        b'm' => Deed::Mark(drawn_server(dice, model, &[Spot::Waiting])),
-        b'u' => Deed::Unmark(drawn_server(dice, model, &[Spot::Waiting])),
+        b'f' => Deed::SpoolRefused(drawn_leg(dice, model, &[Stage::Held, Stage::Refused])),
+        b'r' => Deed::Replay(drawn_server(dice, model, &[Stage::Spooled])),
+        b'm' => Deed::Mark(drawn_server(dice, model, &[Stage::Waiting])),
+        b'u' => Deed::Unmark(drawn_server(dice, model, &[Stage::Waiting])),
         b'c' => Deed::Clock(drawn_moment(dice, model)),
         b'T' => Deed::Turn,
         _ => Deed::Take(drawn_call(dice, model)),

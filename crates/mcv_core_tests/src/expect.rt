@@ -1,21 +1,20 @@
 //! What the model expects the core to answer.
 
-use crate::amiss::Amiss;
 use crate::draw::{Deed, Say};
-use crate::model::{Call, Model, Spot};
+use crate::model::{Call, Model, Stage};
 use crate::readable::has_outcome;
 use mcv_base::{Moment, Outcome, Part, Reply, ServerId};
-use mcv_core::{Answer, CoreFault, Place};
+use mcv_core::{Answer, CoreFault, LegState};
 use mcv_route::Answered;
 use mcv_rules::{Source, Status};
-use std::alloc::Global;
+use std::process::Abort;
 
 /// What the core is to answer.
-#[derive(Clone, Copy, Debug, PartialEq, Eq)]
+#[derive(Clone, Copy)]
 pub(crate) enum Expected {
     Call(usize),
     Leg(usize),
-    Place(Place),
+    State(LegState),
     /// Where the call's reply is, and None where there is none to be taken.
     Reply(usize, Option<Source>),
     Done,
@@ -61,7 +60,7 @@ impl Model<'_> {
         match (expected, answer) {
             (Expected::Call(call), Answer::Call(number)) => call as u64 == number.0,
             (Expected::Leg(leg), Answer::Leg(number)) => leg as u64 == number.0,
-            (Expected::Place(place), Answer::Place(there)) => place == *there,
+            (Expected::State(state), Answer::State(there)) => state == *there,
             (Expected::Reply(call, source), Answer::Reply(part)) => match self.calls.get(call) {
                 Some(call) => is_reply(&call.answered, source, part),
                 None => false,
@@ -91,8 +90,8 @@ impl Model<'_> {
             .all(|(number, call)| self.has_ended(number, call));
         ended
             && self.legs.iter().all(|leg| matches!(
-                leg.spot,
-                Spot::Spooled | Spot::Performed | Spot::Gone
+                leg.stage,
+                Stage::Spooled | Stage::Performed | Stage::Gone
             ))
     }
 
@@ -106,12 +105,12 @@ impl Model<'_> {
         }
     }
 
-    /// The server's first leg at this spot is sent, unless one is in flight.
-    fn of_sending(&self, server: ServerId, spot: Spot) -> Expected {
+    /// The server's first leg at this stage is sent, unless one is in flight.
+    fn of_sending(&self, server: ServerId, stage: Stage) -> Expected {
         if self.flight(server).is_some() {
             return Expected::Refused(CoreFault::Busy);
         }
-        match self.first_at(server, spot) {
+        match self.first_at(server, stage) {
             Some(leg) => Expected::Leg(leg),
             None => Expected::Refused(CoreFault::NothingWaiting),
         }
@@ -122,71 +121,78 @@ impl Model<'_> {
         let Some(leg) = self.legs.get(number) else {
             return Expected::Refused(CoreFault::NoSuchLeg);
         };
-        if !leg.spot.is_in_flight() {
+        if !leg.stage.is_in_flight() {
             return Expected::Refused(CoreFault::NoSuchLeg);
         }
-        let place = if leg.spot == Spot::Replayed && failed {
-            Place::Spooled
+        let state = if leg.stage == Stage::Replayed && failed {
+            LegState::Spooled
         } else if leg.is_counted_delete() && failed {
-            Place::Held
+            LegState::Held
         } else if leg.launch.op.is_delete() && !failed {
-            Place::Performed
+            LegState::Performed
         } else {
-            Place::Gone
+            LegState::Gone
         };
-        Expected::Place(place)
+        Expected::State(state)
     }
 
     /// An error of a server, or what no server says to the leg's operation, is a failure.
-    fn is_failure(&self, alloc: Global, leg: usize, say: Say) -> Result<bool, Amiss> {
-        let parts = say.parts(alloc, leg)?;
-        let failed = match self.legs.get(leg) {
-            Some(leg) => !parts.may_answer(leg.launch.op),
+    fn is_failure(&self, rt: &(impl AllocGlobal + Abort), leg: usize, say: Say) -> bool {
+        let parts = say.parts(rt, leg);
+        match self.legs.get(leg) {
+            Some(leg) => !parts.may_answer(leg.launch.op) || parts.outcome() == Outcome::Error,
             None => true,
-        };
-        Ok(failed || parts.outcome() == Outcome::Error)
+        }
     }
 
-    /// A held leg is in this place then.
-    fn of_spool(&self, leg: usize, taken: bool, place: Place) -> Expected {
-        match self.spot(leg) {
-            Some(spot) if taken && spot.is_held() => Expected::Place(place),
+    /// A held leg is in this state then.
+    fn of_spool(&self, leg: usize, taken: bool, state: LegState) -> Expected {
+        match self.stage(leg) {
+            Some(stage) if taken && stage.is_held() => Expected::State(state),
             _ => Expected::Refused(CoreFault::NoSuchLeg),
         }
     }
 
-    fn of_take(&self, alloc: Global, number: usize) -> Result<Expected, Amiss> {
-        let Some(call) = self.calls.get(number) else {
-            return Ok(Expected::Refused(CoreFault::NoSuchCall));
-        };
-        if self.has_ended(number, call) {
-            return Ok(Expected::Refused(CoreFault::NoSuchCall));
+    fn of_take(&self, rt: &(impl AllocGlobal + Abort), number: usize) -> Expected {
+        match self.calls.get(number) {
+            Some(call) if !self.has_ended(number, call) => {
+                Expected::Reply(number, self.source(rt, call))
+            }
+            _ => Expected::Refused(CoreFault::NoSuchCall),
         }
-        let source = match self.status(alloc, call)? {
+    }
+
+    /// Where the call's reply is; None where there is none to be taken.
+    fn source(&self, rt: &(impl AllocGlobal + Abort), call: &Call) -> Option<Source> {
+        match self.status(rt, call) {
             Status::Replied(source) if !call.taken => Some(source),
             _ => None,
-        };
-        Ok(Expected::Reply(number, source))
+        }
     }
 
     /// What the core is to answer.
-    pub(crate) fn expected(&self, alloc: Global, deed: Deed) -> Result<Expected, Amiss> {
-        Ok(match deed {
+    pub(crate) fn expected(&self, rt: &(impl AllocGlobal + Abort), deed: Deed) -> Expected {
+        match deed {
             Deed::Begin(_, key) => self.of_begin(key),
-            Deed::Next(server) => self.of_sending(server, Spot::Waiting),
-            Deed::Replay(server) => self.of_sending(server, Spot::Spooled),
-            Deed::Answered(leg, say) => { self.of_landing(leg, self.is_failure(alloc, leg, say)?) }
+            Deed::Next(server) => self.of_sending(server, Stage::Waiting),
+            Deed::Replay(server) => self.of_sending(server, Stage::Spooled),
+            Deed::Answered(leg, say) => self.of_landing(leg, self.is_failure(rt, leg, say)),
             Deed::Lost(leg) => self.of_landing(leg, true),
-            Deed::Spooled(leg, own) => self.of_spool(leg, own, Place::Spooled),
-            Deed::SpoolRefused(leg) => self.of_spool(leg, true, Place::Held),
+            Deed::Spooled(leg, own) => self.of_spool(leg, own, LegState::Spooled),
+            Deed::SpoolRefused(leg) => self.of_spool(leg, true, LegState::Held),
             Deed::Mark(_) | Deed::Unmark(_) => Expected::Done,
-            Deed::Clock(moment) if Moment(moment) < self.moment => {
-                Expected::Refused(CoreFault::ClockBack)
-            }
-            Deed::Clock(_) => Expected::Done,
+            Deed::Clock(moment) => self.of_clock(moment),
             Deed::Turn if self.is_quiet() => Expected::Done,
             Deed::Turn => Expected::Refused(CoreFault::Busy),
-            Deed::Take(call) => self.of_take(alloc, call)?,
-        })
+            Deed::Take(call) => self.of_take(rt, call),
+        }
+    }
+
+    fn of_clock(&self, moment: u64) -> Expected {
+        if Moment(moment) < self.moment {
+            Expected::Refused(CoreFault::ClockBack)
+        } else {
+            Expected::Done
+        }
     }
 }

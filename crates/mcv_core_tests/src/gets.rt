@@ -1,133 +1,123 @@
 //! Gets, and how much a core holds.
 
-use crate::setup::{A, ONE, begin, core_of, leads_to, request};
-use mcv_base::{FixedReply, LegId, Op, Part, Parts, Reply, Request};
-use mcv_core::{Core, CoreFault, Place};
+use crate::script::play;
+use crate::setup::{A, ONE, core_of, request};
+use mcv_base::{CallId, FixedReply, Op, Part, Parts, Request};
+use mcv_core::{Core, CoreFault, Dispatcher, LegState};
 use mcv_pools::Fnv;
-use std::alloc::Global;
+use std::process::Abort;
 use std::sync::Arc;
-use std::test::Fail;
 
-/// Whether it is a hit with this body.
-fn is_hit(part: Part, wanted: &[u8]) -> bool {
-    let Part::Owned(reply) = part else {
-        return false;
-    };
-    match &*reply {
-        Reply::Hit { body, .. } => body.as_slice() == wanted,
-        _ => false,
-    }
-}
+const HIT: &str = "\
+begin Get = Ok(CallId(0))
+state 0 = Some(Waiting)
+next 0 = Ok(LegId(0))
+state 0 = Some(Sent)
+answered 0 v = Ok(Gone)
+take 0 = Ok(Some(Owned(Hit { flags: 7, cas: None, body: [118] })))";
 
 #[test]
-fn a_get_has_its_hit(rt: HostRuntime) -> Result<(), Fail> {
-    let alloc = rt.alloc();
-    let mut core = core_of(alloc, ONE)?;
-    let call = begin(alloc, &mut core, Op::Get)?;
-    let events = core.events();
-    assert!(rt; matches!(events.place(LegId(0)), Some(Place::Waiting)));
-    assert!(rt; matches!(events.next(A), Ok(LegId(0))));
-    assert!(rt; matches!(events.place(LegId(0)), Some(Place::Sent)));
-    let body = Arc::new(alloc, Vec::from_slice(alloc, b"v")?)?;
-    let hit = Reply::Hit {
-        flags: 7,
-        cas: None,
-        body,
-    };
-    assert!(rt;
-        leads_to(
-            events.answered(LegId(0), Parts::new(alloc, hit)?),
-            Place::Gone
-        )
-    );
-    let Ok(Some(part)) = events.take(call) else {
-        return Err(Fail::from("no reply"));
-    };
-    assert!(rt; is_hit(part, b"v"));
-    Ok(())
+fn a_get_has_its_hit(rt: HostRuntime) {
+    play(&rt, ONE, "", HIT);
 }
+
+const ASKED: &str = "\
+begin Get = Ok(CallId(0))
+leg 0 = Get a Plain ServerId(0) Some(CallId(0)) None true
+leg 1 = \"none\"";
 
 #[test]
-fn a_leg_has_what_its_call_asks(rt: HostRuntime) -> Result<(), Fail> {
-    let alloc = rt.alloc();
-    let mut core = core_of(alloc, ONE)?;
-    let call = begin(alloc, &mut core, Op::Get)?;
-    let Some(leg) = core.state().leg(LegId(0)) else {
-        return Err(Fail::from("no leg"));
-    };
-    assert!(rt; leg.server.is(A) && leg.op.is(Op::Get));
-    assert!(rt; leg.rest.as_bytes() == b"a".as_slice());
-    assert!(rt; leg.call == Some(call));
-    assert!(rt; matches!(leg.request, Some(Request::Ask(_))));
-    assert!(rt; core.state().leg(LegId(1)).is_none());
-    Ok(())
+fn a_leg_has_what_its_call_asks(rt: HostRuntime) {
+    play(&rt, ONE, "", ASKED);
 }
 
-/// Begins so many calls.
+/// What a core says to one more call.
+fn begun(
+    rt: &(impl AllocGlobal + Abort),
+    core: &mut Core<Fnv>,
+    request: &Arc<Request>,
+) -> Result<CallId, CoreFault> {
+    let request = Arc::try_clone(request).expect(rt, "memory");
+    core.begin(rt.alloc(), request, 0)
+}
+
+/// Begins so many calls. Whether each begins.
 fn begin_many(
-    alloc: Global,
+    rt: &(impl AllocGlobal + Abort),
     core: &mut Core<Fnv>,
     request: &Arc<Request>,
     count: u64,
-) -> Result<(), Fail> {
+) -> bool {
     for _ in 0..count {
-        if core.begin(alloc, Arc::try_clone(request)?, 0).is_err() {
-            return Err(Fail::from("the call is refused"));
+        if begun(rt, core, request).is_err() {
+            return false;
         }
     }
-    Ok(())
+    true
 }
 
 #[test]
-fn a_core_holds_65536_legs(rt: HostRuntime) -> Result<(), Fail> {
-    let alloc = rt.alloc();
-    let mut core = core_of(alloc, ONE)?;
-    let delete = request(alloc, Op::Delete)?;
-    begin_many(alloc, &mut core, &delete, 65_536)?;
-    let one_more = core.begin(alloc, delete, 0);
-    assert!(rt; matches!(one_more, Err(CoreFault::LegsFull)));
-    Ok(())
+fn a_core_holds_65536_legs(rt: HostRuntime) {
+    let mut core = core_of(&rt, ONE);
+    let delete = request(&rt, Op::Delete, b"a");
+    assert!(rt; begin_many(&rt, &mut core, &delete, 65_536), "refused");
+    let one_more = begun(&rt, &mut core, &delete);
+    assert!(rt; one_more == Err(CoreFault::LegsFull), "{one_more:?}");
+}
+
+/// Whether the server's next leg is answered by a miss and is gone then.
+fn is_answered(core: &mut Dispatcher) -> bool {
+    let Ok(leg) = core.next(A) else {
+        return false;
+    };
+    let step = core.answered(leg, Parts::fixed(FixedReply::Miss));
+    matches!(step, Ok(step) if step.state == LegState::Gone)
 }
 
 /// Whether a get begins, has a miss and is taken.
-fn is_missed(alloc: Global, core: &mut Core<Fnv>, request: Arc<Request>) -> bool {
-    let Ok(call) = core.begin(alloc, request, 0) else {
+fn is_missed(
+    rt: &(impl AllocGlobal + Abort),
+    core: &mut Core<Fnv>,
+    request: &Arc<Request>,
+) -> bool {
+    let Ok(call) = begun(rt, core, request) else {
         return false;
     };
     let events = core.events();
-    let Ok(leg) = events.next(A) else {
-        return false;
-    };
-    leads_to(
-        events.answered(leg, Parts::fixed(FixedReply::Miss)),
-        Place::Gone,
-    ) && matches!(events.take(call), Ok(Some(Part::Fixed(FixedReply::Miss))))
+    is_answered(events) && matches!(events.take(call), Ok(Some(Part::Fixed(FixedReply::Miss))))
 }
 
-fn miss_many(
-    alloc: Global,
+fn are_missed(
+    rt: &(impl AllocGlobal + Abort),
     core: &mut Core<Fnv>,
     request: &Arc<Request>,
     count: u64,
-) -> Result<(), Fail> {
+) -> bool {
     for _ in 0..count {
-        if !is_missed(alloc, core, Arc::try_clone(request)?) {
-            return Err(Fail::from("a get has no miss"));
+        if !is_missed(rt, core, request) {
+            return false;
         }
     }
-    Ok(())
+    true
+}
+
+/// A core whose chapter is full says so, until the next chapter begins.
+fn check_full(rt: &(impl AllocGlobal + Abort), core: &mut Core<Fnv>, request: &Arc<Request>) {
+    let entries = core.state().entries();
+    assert!(rt; entries == 1_000_000, "{entries} entries");
+    let one_more = begun(rt, core, request);
+    assert!(rt; one_more == Err(CoreFault::ChapterFull), "{one_more:?}");
+    assert!(rt; core.events().turn().is_ok(), "no next chapter");
+    assert!(rt; is_missed(rt, core, request), "the next chapter is full");
 }
 
 #[test]
-fn a_chapter_holds_200000_gets(rt: HostRuntime) -> Result<(), Fail> {
-    let alloc = rt.alloc();
-    let mut core = core_of(alloc, ONE)?;
-    let get = request(alloc, Op::Get)?;
-    miss_many(alloc, &mut core, &get, 200_000)?;
-    assert!(rt; core.state().entries() == 1_000_000);
-    let one_more = core.begin(alloc, Arc::try_clone(&get)?, 0);
-    assert!(rt; matches!(one_more, Err(CoreFault::ChapterFull)));
-    assert!(rt; core.events().turn().is_ok());
-    assert!(rt; is_missed(alloc, &mut core, get));
-    Ok(())
+fn a_chapter_holds_200000_gets(rt: HostRuntime) {
+    let mut core = core_of(&rt, ONE);
+    let get = request(&rt, Op::Get, b"a");
+    assert!(rt;
+        are_missed(&rt, &mut core, &get, 200_000),
+        "a get without its miss"
+    );
+    check_full(&rt, &mut core, &get);
 }

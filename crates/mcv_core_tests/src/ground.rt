@@ -1,14 +1,12 @@
 //! What all lists of events over one configuration share: its routes, the keys, and the servers that can be read.
 
-use crate::amiss::Amiss;
 use crate::readable::push_readable;
+use crate::setup::accepted_of;
 use mcv_base::{Moment, Op, Rest, ServerId, hashed_part, split_key};
-use mcv_check::{Accepted, check};
-use mcv_config::read_config;
-use mcv_make::make;
+use mcv_check::Accepted;
 use mcv_pools::{Choice, Fnv, choose};
 use mcv_route::{Route, Routes};
-use std::alloc::Global;
+use std::process::Abort;
 use std::sync::Arc;
 
 /// A key word, with what its call asks by.
@@ -39,50 +37,81 @@ pub(crate) struct Ground {
 /// The words of the keys.
 const WORDS: [&[u8]; 3] = [b"a", b"ab|#|c", b"/x/y/bb"];
 
-fn key_of(alloc: Global, routes: &Routes, word: &'static [u8]) -> Result<Key, Amiss> {
-    let Ok((prefix, rest)) = split_key(word) else {
-        return Err(Amiss::Setup);
-    };
-    let choice = choose(alloc, &Fnv, routes.symbols(), hashed_part(&rest))?;
-    Ok(Key {
+fn key_of(rt: &(impl AllocGlobal + Abort), routes: &Routes, word: &'static [u8]) -> Key {
+    let (prefix, rest) = split_key(word).expect(rt, "a key");
+    let choice = choose(rt.alloc(), &Fnv, routes.symbols(), hashed_part(&rest));
+    Key {
         word,
         route: routes.route_of(&prefix),
         rest,
-        choice,
-    })
+        choice: choice.expect(rt, "memory"),
+    }
 }
 
-fn keys_of(alloc: Global, routes: &Routes) -> Result<Vec<Key>, Amiss> {
-    let mut keys = Vec::new(alloc);
+fn keys_of(rt: &(impl AllocGlobal + Abort), routes: &Routes) -> Vec<Key> {
+    let mut keys = Vec::new(rt.alloc());
     for word in WORDS {
-        keys.push(key_of(alloc, routes, word)?)?;
+        keys.push(key_of(rt, routes, word)).expect(rt, "memory");
     }
-    Ok(keys)
+    keys
+}
+
+/// The route of a key.
+fn route_of<'a>(routes: &'a Routes, key: &Key) -> Option<&'a Route> {
+    routes.route(key.route?)
+}
+
+/// The servers that can be read of a key in an era.
+fn servers_of(
+    rt: &(impl AllocGlobal + Abort),
+    routes: &Routes,
+    key: &Key,
+    since: Option<Moment>,
+) -> Vec<ServerId> {
+    let mut servers = Vec::new(rt.alloc());
+    if let Some(route) = route_of(routes, key) {
+        push_readable(rt, route, Op::Get, key, since, &mut servers);
+        push_readable(rt, route, Op::Gets, key, since, &mut servers);
+    }
+    servers
 }
 
 impl Ground {
     /// None where the routes aren't covered.
-    pub(crate) fn of(alloc: Global, text: &str) -> Result<Option<Ground>, Amiss> {
-        let Ok(config) = read_config(alloc, text.as_bytes()) else {
-            return Err(Amiss::Setup);
-        };
-        let routes = Routes::build(alloc, config)?;
-        let Ok(certificate) = make(alloc, &routes) else {
-            return Ok(None);
-        };
-        let Ok(accepted) = check(alloc, routes, &certificate) else {
-            return Err(Amiss::Setup);
-        };
-        let keys = keys_of(alloc, accepted.routes())?;
-        let mut ground = Ground {
-            accepted: Arc::new(alloc, accepted)?,
+    pub(crate) fn of(rt: &(impl AllocGlobal + Abort), text: &str) -> Option<Ground> {
+        let accepted = accepted_of(rt, text)?;
+        let keys = keys_of(rt, accepted.routes());
+        Some(Ground {
+            accepted,
             keys,
-            readable: Vec::new(alloc),
-        };
-        for key in 0..WORDS.len() {
-            ground.read_key(alloc, key)?;
+            readable: Vec::new(rt.alloc()),
+        })
+    }
+
+    /// Takes in what can be read of each key.
+    pub(crate) fn read(&mut self, rt: &(impl AllocGlobal + Abort)) {
+        for key in 0..self.keys.len() {
+            self.read_key(rt, key);
         }
-        Ok(Some(ground))
+    }
+
+    /// Takes in what can be read of a key, era by era.
+    fn read_key(&mut self, rt: &(impl AllocGlobal + Abort), key: usize) {
+        self.read_in(rt, key, None);
+        for place in 0..self.routes().breaks().len() {
+            let since = self.routes().breaks().get(place).copied();
+            self.read_in(rt, key, since);
+        }
+    }
+
+    fn read_in(&mut self, rt: &(impl AllocGlobal + Abort), number: usize, since: Option<Moment>) {
+        let key = self.keys.get(number).expect(rt, "a key");
+        let row = Readable {
+            key: number,
+            since,
+            servers: servers_of(rt, self.routes(), key, since),
+        };
+        self.readable.push(row).expect(rt, "memory");
     }
 
     pub(crate) fn routes(&self) -> &Routes {
@@ -91,44 +120,7 @@ impl Ground {
 
     /// The route of a key.
     pub(crate) fn route(&self, key: &Key) -> Option<&Route> {
-        self.routes().route(key.route?)
-    }
-
-    /// Adds what can be read of a key, era by era.
-    fn read_key(&mut self, alloc: Global, key: usize) -> Result<(), Amiss> {
-        let mut eras = Vec::new(alloc);
-        eras.push(None)?;
-        for moment in self.routes().breaks() {
-            eras.push(Some(*moment))?;
-        }
-        for since in eras {
-            let servers = self.read_in(alloc, key, since)?;
-            self.readable.push(Readable {
-                key,
-                since,
-                servers,
-            })?;
-        }
-        Ok(())
-    }
-
-    fn read_in(
-        &self,
-        alloc: Global,
-        number: usize,
-        since: Option<Moment>,
-    ) -> Result<Vec<ServerId>, Amiss> {
-        let mut servers = Vec::new(alloc);
-        let Some(key) = self.keys.get(number) else {
-            return Ok(servers);
-        };
-        let Some(route) = self.route(key) else {
-            return Ok(servers);
-        };
-        for op in [Op::Get, Op::Gets] {
-            push_readable(alloc, route, op, key, since, &mut servers)?;
-        }
-        Ok(servers)
+        route_of(self.routes(), key)
     }
 
     /// The servers that can be read of a key in an era.

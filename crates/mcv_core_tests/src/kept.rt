@@ -1,33 +1,32 @@
 //! Where the core has its legs, and that deletes are kept.
 
-use crate::amiss::Amiss;
-use crate::model::{Call, Leg, Model, Spot};
+use crate::model::{Call, Leg, Model, Stage};
 use mcv_base::{LegId, Outcome, ServerId};
-use mcv_core::{Core, Place};
+use mcv_core::{Core, LegState};
 use mcv_pools::Fnv;
-use std::alloc::Global;
+use std::process::Abort;
 
-/// Where the core is to have a leg at this spot.
-fn place_of(spot: Spot) -> Option<Place> {
-    match spot {
-        Spot::Waiting => Some(Place::Waiting),
-        Spot::Sent => Some(Place::Sent),
-        Spot::Held | Spot::Refused => Some(Place::Held),
-        Spot::Spooled | Spot::Replayed => Some(Place::Spooled),
-        Spot::Performed | Spot::Gone => None,
+/// Where the core is to have a leg at this stage.
+fn leg_state(stage: Stage) -> Option<LegState> {
+    match stage {
+        Stage::Waiting => Some(LegState::Waiting),
+        Stage::Sent => Some(LegState::Sent),
+        Stage::Held | Stage::Refused => Some(LegState::Held),
+        Stage::Spooled | Stage::Replayed => Some(LegState::Spooled),
+        Stage::Performed | Stage::Gone => None,
     }
 }
 
 impl Model<'_> {
     /// Whether the core has the leg where the model has it, and sends of it what the model has.
     fn is_leg(&self, core: &Core<Fnv>, number: usize, leg: &Leg) -> bool {
-        let place = core.state().place(LegId(number as u64));
-        if place != place_of(leg.spot) {
+        let state = core.state().leg_state(LegId(number as u64));
+        if state != leg_state(leg.stage) {
             return false;
         }
         let (Some(view), Some(key)) = (core.state().leg(LegId(number as u64)), self.key(leg.key))
         else {
-            return place.is_none();
+            return state.is_none();
         };
         view.call.map(|call| call.0 as usize) == leg.call
             && view.server.is(leg.launch.server)
@@ -37,39 +36,39 @@ impl Model<'_> {
     }
 
     /// The core has the model's legs, and none behind them.
-    pub(crate) fn check_legs(&self, core: &Core<Fnv>) -> Result<(), Amiss> {
+    pub(crate) fn check_legs(&self, core: &Core<Fnv>) -> Result<(), &'static str> {
         for (number, leg) in self.legs.iter().enumerate() {
             if !self.is_leg(core, number, leg) {
-                return Err(Amiss::Leg(number));
+                return Err("a leg isn't where the model has it, or asks something else");
             }
         }
-        match core.state().place(LegId(self.legs.len() as u64)) {
+        match core.state().leg_state(LegId(self.legs.len() as u64)) {
             None => Ok(()),
-            Some(_) => Err(Amiss::Unknown),
+            Some(_) => Err("a leg has a number that no leg has"),
         }
     }
 
     /// A chapter that began has an entry for each spooled leg.
-    pub(crate) fn check_entries(&self, core: &Core<Fnv>) -> Result<(), Amiss> {
+    pub(crate) fn check_entries(&self, core: &Core<Fnv>) -> Result<(), &'static str> {
         let spooled = self
             .legs
             .iter()
-            .filter(|leg| leg.spot == Spot::Spooled)
+            .filter(|leg| leg.stage == Stage::Spooled)
             .count();
         if core.state().entries() == spooled {
             Ok(())
         } else {
-            Err(Amiss::Entries)
+            Err("a chapter that began hasn't an entry for each spooled leg")
         }
     }
 
     /// Whether the call is a delete that has a reply other than an error, taken or not.
-    fn is_acknowledged(&self, alloc: Global, call: &Call) -> Result<bool, Amiss> {
+    fn is_acknowledged(&self, rt: &(impl AllocGlobal + Abort), call: &Call) -> bool {
         if !call.op.is_delete() {
-            return Ok(false);
+            return false;
         }
-        let outcome = self.status(alloc, call)?.outcome(&call.answered);
-        Ok(matches!(outcome, Some(Outcome::Good | Outcome::Soft)))
+        let outcome = self.status(rt, call).outcome(&call.answered);
+        matches!(outcome, Some(Outcome::Good | Outcome::Soft))
     }
 
     /// Whether the call has a counted delete leg to the server that was performed, or that the core has, queued or
@@ -79,16 +78,20 @@ impl Model<'_> {
             leg.call == Some(call)
                 && leg.launch.server.is(server)
                 && leg.is_counted_delete()
-                && (leg.spot == Spot::Performed
-                    || core.state().place(LegId(number as u64)).is_some())
+                && (leg.stage == Stage::Performed
+                    || core.state().leg_state(LegId(number as u64)).is_some())
         })
     }
 
     /// Checks that deletes are kept. Gives how many legs they keep.
-    pub(crate) fn check_kept(&self, alloc: Global, core: &Core<Fnv>) -> Result<usize, Amiss> {
+    pub(crate) fn check_kept(
+        &self,
+        rt: &(impl AllocGlobal + Abort),
+        core: &Core<Fnv>,
+    ) -> Result<usize, &'static str> {
         let mut count: usize = 0;
         for (number, call) in self.calls.iter().enumerate() {
-            if self.is_acknowledged(alloc, call)? {
+            if self.is_acknowledged(rt, call) {
                 count = count.saturating_add(self.check_call(core, number, call)?);
             }
         }
@@ -96,11 +99,16 @@ impl Model<'_> {
     }
 
     /// The call keeps a leg to each server that can be read. Gives how many these are.
-    fn check_call(&self, core: &Core<Fnv>, number: usize, call: &Call) -> Result<usize, Amiss> {
+    fn check_call(
+        &self,
+        core: &Core<Fnv>,
+        number: usize,
+        call: &Call,
+    ) -> Result<usize, &'static str> {
         let servers = self.ground.readable(call.key, call.since);
         for server in servers {
             if !self.keeps(core, number, *server) {
-                return Err(Amiss::Unkept(number, *server));
+                return Err("a delete with a reply keeps no leg to a server that can be read");
             }
         }
         Ok(servers.len())

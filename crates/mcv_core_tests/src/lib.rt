@@ -1,8 +1,6 @@
-//! Tests of `mcv_core`, apart from it, so that it isn't proved a second time for them.
+//! Tests of `mcv_core` and `mcv_hub`, apart from them, so that those aren't proved a second time for them.
 #![tactic(auto)]
 
-#[cfg(test)]
-mod amiss;
 #[cfg(test)]
 mod asks;
 #[cfg(test)]
@@ -16,6 +14,8 @@ mod gets;
 #[cfg(test)]
 mod ground;
 #[cfg(test)]
+mod hub;
+#[cfg(test)]
 mod kept;
 #[cfg(test)]
 mod model;
@@ -25,6 +25,8 @@ mod random;
 mod readable;
 #[cfg(test)]
 mod rows;
+#[cfg(test)]
+mod script;
 #[cfg(test)]
 mod setup;
 #[cfg(test)]

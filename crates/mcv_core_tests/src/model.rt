@@ -1,18 +1,17 @@
 //! A second account of calls and legs, from the rules of routes and a core's answers. Nothing here is the core's code.
 
-use crate::amiss::Amiss;
 use crate::draw::{Deed, Say};
 use crate::ground::{Ground, Key};
 use crate::readable::has_outcome;
 use mcv_base::{FixedReply, Mark, Moment, Op, Part, Position, ServerId};
-use mcv_core::{Answer, Place};
+use mcv_core::{Answer, LegState};
 use mcv_route::{Answered, Launch};
 use mcv_rules::{Eval, Outcomes, Status};
-use std::alloc::Global;
+use std::process::Abort;
 
 /// Where a leg is.
-#[derive(Clone, Copy, Debug, PartialEq, Eq)]
-pub(crate) enum Spot {
+#[derive(Clone, Copy, PartialEq, Eq)]
+pub(crate) enum Stage {
     Waiting,
     Sent,
     /// It waits for the spool, which hasn't refused it.
@@ -33,7 +32,7 @@ pub(crate) struct Leg {
     pub(crate) launch: Launch,
     /// The number of its key.
     pub(crate) key: usize,
-    pub(crate) spot: Spot,
+    pub(crate) stage: Stage,
 }
 
 #[derive(Drop)]
@@ -56,13 +55,13 @@ pub(crate) struct Model<'a> {
     pub(crate) moment: Moment,
 }
 
-impl Spot {
+impl Stage {
     pub(crate) fn is_in_flight(self) -> bool {
-        matches!(self, Spot::Sent | Spot::Replayed)
+        matches!(self, Stage::Sent | Stage::Replayed)
     }
 
     pub(crate) fn is_held(self) -> bool {
-        matches!(self, Spot::Held | Spot::Refused)
+        matches!(self, Stage::Held | Stage::Refused)
     }
 }
 
@@ -73,12 +72,16 @@ impl Leg {
     }
 }
 
+fn outcomes_of<'a>(rt: &(impl AllocGlobal + Abort), answered: &'a [Answered]) -> Outcomes<'a> {
+    Outcomes::of(rt.alloc(), answered).expect(rt, "memory")
+}
+
 impl<'a> Model<'a> {
-    pub(crate) fn new(alloc: Global, ground: &'a Ground) -> Model<'a> {
+    pub(crate) fn new(rt: &(impl AllocGlobal + Abort), ground: &'a Ground) -> Model<'a> {
         Model {
             ground,
-            calls: Vec::new(alloc),
-            legs: Vec::new(alloc),
+            calls: Vec::new(rt.alloc()),
+            legs: Vec::new(rt.alloc()),
             moment: Moment(0),
         }
     }
@@ -88,21 +91,31 @@ impl<'a> Model<'a> {
     }
 
     /// The rules of a call.
-    fn eval(&self, alloc: Global, call: &Call) -> Result<Eval<'a>, Amiss> {
-        let Some(key) = self.key(call.key) else {
-            return Err(Amiss::Setup);
-        };
-        let Some(route) = self.ground.route(key) else {
-            return Err(Amiss::Setup);
-        };
-        Ok(Eval::new(alloc, route, call.op, &key.rest, call.since, &key.choice)?)
+    fn eval(&self, rt: &(impl AllocGlobal + Abort), call: &Call) -> Eval<'a> {
+        let key = self.key(call.key).expect(rt, "a key");
+        let route = self.ground.route(key).expect(rt, "a route");
+        let eval = Eval::new(
+            rt.alloc(),
+            route,
+            call.op,
+            &key.rest,
+            call.since,
+            &key.choice,
+        );
+        eval.expect(rt, "memory")
     }
 
     /// Whether a call has its reply, and which.
-    pub(crate) fn status(&self, alloc: Global, call: &Call) -> Result<Status, Amiss> {
-        let eval = self.eval(alloc, call)?;
-        let outcomes = Outcomes::of(alloc, &call.answered)?;
-        Ok(eval.status(&outcomes))
+    pub(crate) fn status(&self, rt: &(impl AllocGlobal + Abort), call: &Call) -> Status {
+        let eval = self.eval(rt, call);
+        eval.status(&outcomes_of(rt, &call.answered))
+    }
+
+    /// The legs that the call has launched by now.
+    fn launched(&self, rt: &(impl AllocGlobal + Abort), call: &Call) -> Vec<Launch> {
+        let eval = self.eval(rt, call);
+        let launched = eval.launched(rt.alloc(), &outcomes_of(rt, &call.answered));
+        launched.expect(rt, "memory")
     }
 
     /// The leg of a call at the launch's position is there.
@@ -111,166 +124,176 @@ impl<'a> Model<'a> {
             && leg.launch.position.is(&launch.position))
     }
 
+    /// Numbers a leg of a call, unless it has a number.
+    fn add(&mut self, rt: &(impl AllocGlobal + Abort), call: usize, key: usize, launch: Launch) {
+        if !self.has_leg(call, &launch) {
+            let leg = Leg {
+                call: Some(call),
+                launch,
+                key,
+                stage: Stage::Waiting,
+            };
+            self.legs.push(leg).expect(rt, "memory");
+        }
+    }
+
     /// Numbers the legs that the call has launched by now and that have no number, in the order of their positions.
-    fn launch(&mut self, alloc: Global, number: usize) -> Result<(), Amiss> {
+    fn launch(&mut self, rt: &(impl AllocGlobal + Abort), number: usize) {
         let Some(call) = self.calls.get(number) else {
-            return Ok(());
+            return;
         };
         let key = call.key;
-        let launched = self
-            .eval(alloc, call)?
-            .launched(alloc, &Outcomes::of(alloc, &call.answered)?)?;
+        let launched = self.launched(rt, call);
         for launch in launched {
-            if !self.has_leg(number, &launch) {
-                self.legs.push(Leg {
-                    call: Some(number),
-                    launch,
-                    key,
-                    spot: Spot::Waiting,
-                })?;
-            }
+            self.add(rt, number, key, launch);
         }
-        Ok(())
+    }
+
+    /// The call records this, unless it has an outcome there. Whether it had none.
+    fn hear(&mut self, rt: &(impl AllocGlobal + Abort), call: usize, heard: Answered) -> bool {
+        match self.calls.get_mut(call) {
+            Some(call) if !has_outcome(&call.answered, &heard.position) => {
+                call.answered.push(heard).expect(rt, "memory");
+                true
+            }
+            _ => false,
+        }
     }
 
     /// The leg's call records this reply of it, unless it has an outcome.
-    fn record(&mut self, alloc: Global, number: usize, reply: Part) -> Result<(), Amiss> {
+    fn record(&mut self, rt: &(impl AllocGlobal + Abort), number: usize, reply: Part) {
         let Some(leg) = self.legs.get(number) else {
-            return Ok(());
+            return;
         };
-        let Some(owner) = leg.call else {
-            return Ok(());
+        let Some(call) = leg.call else {
+            return;
         };
-        let position = leg.launch.position.copy(alloc)?;
-        let Some(call) = self.calls.get_mut(owner) else {
-            return Ok(());
-        };
-        if has_outcome(&call.answered, &position) {
-            return Ok(());
+        let position = leg.launch.position.copy(rt.alloc()).expect(rt, "memory");
+        if self.hear(rt, call, Answered { position, reply }) {
+            self.launch(rt, call);
         }
-        call.answered.push(Answered { position, reply })?;
-        self.launch(alloc, owner)
     }
 
-    fn begin(&mut self, alloc: Global, op: Op, key: usize) -> Result<(), Amiss> {
+    fn begin(&mut self, rt: &(impl AllocGlobal + Abort), op: Op, key: usize) {
         let number = self.calls.len();
         let call = Call {
             op,
             key,
             since: self.ground.routes().since(self.moment),
-            answered: Vec::new(alloc),
+            answered: Vec::new(rt.alloc()),
             taken: false,
         };
-        self.calls.push(call)?;
-        self.launch(alloc, number)
+        self.calls.push(call).expect(rt, "memory");
+        self.launch(rt, number);
     }
 
     /// A leg that the spool held at the start, if its server is in the table.
-    pub(crate) fn open(
-        &mut self,
-        alloc: Global,
-        server: ServerId,
-        key: usize,
-    ) -> Result<(), Amiss> {
+    pub(crate) fn open(&mut self, rt: &(impl AllocGlobal + Abort), server: ServerId, key: usize) {
         if self.ground.routes().servers().text(server).is_none() {
-            return Ok(());
+            return;
         }
         let launch = Launch {
-            position: Position::root(alloc),
+            position: Position::root(rt.alloc()),
             server,
             op: Op::Delete,
             mark: Mark::Plain,
         };
-        self.legs.push(Leg {
+        let leg = Leg {
             call: None,
             launch,
             key,
-            spot: Spot::Spooled,
-        })?;
-        Ok(())
+            stage: Stage::Spooled,
+        };
+        self.legs.push(leg).expect(rt, "memory");
     }
 
-    pub(crate) fn spot(&self, leg: usize) -> Option<Spot> {
-        Some(self.legs.get(leg)?.spot)
+    pub(crate) fn stage(&self, leg: usize) -> Option<Stage> {
+        Some(self.legs.get(leg)?.stage)
     }
 
-    fn put(&mut self, leg: usize, spot: Spot) {
+    fn put(&mut self, leg: usize, stage: Stage) {
         if let Some(leg) = self.legs.get_mut(leg) {
-            leg.spot = spot;
+            leg.stage = stage;
+        }
+    }
+
+    /// The core has the leg in this state now.
+    fn move_to(&mut self, leg: usize, state: LegState) {
+        match state {
+            LegState::Performed => self.put(leg, Stage::Performed),
+            LegState::Gone => self.put(leg, Stage::Gone),
+            LegState::Spooled => self.put(leg, Stage::Spooled),
+            LegState::Held => self.put(leg, Stage::Held),
+            LegState::Waiting | LegState::Sent => {}
         }
     }
 
     /// A leg in flight was answered, or lost, and the core says where it is then.
-    fn land(&mut self, alloc: Global, leg: usize, reply: Part, place: Place) -> Result<(), Amiss> {
-        let replayed = self.spot(leg) == Some(Spot::Replayed);
-        match place {
-            Place::Performed => self.put(leg, Spot::Performed),
-            Place::Gone => self.put(leg, Spot::Gone),
-            Place::Spooled => self.put(leg, Spot::Spooled),
-            Place::Held => self.put(leg, Spot::Held),
-            Place::Waiting | Place::Sent => {}
+    fn land(&mut self, rt: &(impl AllocGlobal + Abort), leg: usize, reply: Part, state: LegState) {
+        let replayed = self.stage(leg) == Some(Stage::Replayed);
+        self.move_to(leg, state);
+        if !replayed && state != LegState::Held {
+            self.record(rt, leg, reply);
         }
-        if replayed || place == Place::Held {
-            return Ok(());
-        }
-        self.record(alloc, leg, reply)
     }
 
     /// What a server's reply to the leg counts as.
-    fn counted(&self, alloc: Global, leg: usize, say: Say) -> Result<Part, Amiss> {
-        let (reply, _, _) = say.parts(alloc, leg)?.into_parts();
+    fn counted(&self, rt: &(impl AllocGlobal + Abort), leg: usize, say: Say) -> Part {
+        let (reply, _, _) = say.parts(rt, leg).into_parts();
         match self.legs.get(leg) {
-            Some(there) if reply.may_answer(there.launch.op) => Ok(reply),
-            _ => Ok(Part::Fixed(FixedReply::Lost)),
+            Some(there) if reply.may_answer(there.launch.op) => reply,
+            _ => Part::Fixed(FixedReply::Lost),
+        }
+    }
+
+    fn take(&mut self, call: usize) {
+        if let Some(call) = self.calls.get_mut(call) {
+            call.taken = true;
+        }
+    }
+
+    /// Takes in what the core answered to an event on a leg.
+    fn take_in_state(&mut self, rt: &(impl AllocGlobal + Abort), deed: Deed, state: LegState) {
+        match deed {
+            Deed::Answered(leg, say) => {
+                let reply = self.counted(rt, leg, say);
+                self.land(rt, leg, reply, state);
+            }
+            Deed::Lost(leg) => self.land(rt, leg, Part::Fixed(FixedReply::Lost), state),
+            Deed::Spooled(leg, _) => {
+                self.put(leg, Stage::Spooled);
+                self.record(rt, leg, Part::Fixed(FixedReply::NotFound));
+            }
+            Deed::SpoolRefused(leg) => {
+                self.put(leg, Stage::Refused);
+                self.record(rt, leg, Part::Fixed(FixedReply::Lost));
+            }
+            _ => {}
         }
     }
 
     /// Takes in what the core answered.
-    pub(crate) fn take_in(
-        &mut self,
-        alloc: Global,
-        deed: Deed,
-        answer: &Answer,
-    ) -> Result<(), Amiss> {
+    pub(crate) fn take_in(&mut self, rt: &(impl AllocGlobal + Abort), deed: Deed, answer: &Answer) {
         match (deed, answer) {
-            (Deed::Begin(op, key), Answer::Call(_)) => self.begin(alloc, op, key)?,
-            (Deed::Next(_), Answer::Leg(leg)) => self.put(leg.0 as usize, Spot::Sent),
-            (Deed::Replay(_), Answer::Leg(leg)) => self.put(leg.0 as usize, Spot::Replayed),
-            (Deed::Answered(leg, say), Answer::Place(place)) => {
-                let reply = self.counted(alloc, leg, say)?;
-                self.land(alloc, leg, reply, *place)?;
-            }
-            (Deed::Lost(leg), Answer::Place(place)) => {
-                self.land(alloc, leg, Part::Fixed(FixedReply::Lost), *place)?;
-            }
-            (Deed::Spooled(leg, _), Answer::Place(_)) => {
-                self.put(leg, Spot::Spooled);
-                self.record(alloc, leg, Part::Fixed(FixedReply::NotFound))?;
-            }
-            (Deed::SpoolRefused(leg), Answer::Place(_)) => {
-                self.put(leg, Spot::Refused);
-                self.record(alloc, leg, Part::Fixed(FixedReply::Lost))?;
-            }
+            (deed, Answer::State(state)) => self.take_in_state(rt, deed, *state),
+            (Deed::Begin(op, key), Answer::Call(_)) => self.begin(rt, op, key),
+            (Deed::Next(_), Answer::Leg(leg)) => self.put(leg.0 as usize, Stage::Sent),
+            (Deed::Replay(_), Answer::Leg(leg)) => self.put(leg.0 as usize, Stage::Replayed),
             (Deed::Clock(moment), Answer::Done) => self.moment = Moment(moment),
-            (Deed::Take(call), Answer::Reply(Some(_))) => {
-                if let Some(call) = self.calls.get_mut(call) {
-                    call.taken = true;
-                }
-            }
+            (Deed::Take(call), Answer::Reply(Some(_))) => self.take(call),
             _ => {}
         }
-        Ok(())
     }
 
     /// The number of the leg that is in flight to a server.
     pub(crate) fn flight(&self, server: ServerId) -> Option<usize> {
-        self.legs.iter().position(|leg| leg.launch.server.is(server) && leg.spot.is_in_flight())
+        self.legs.iter().position(|leg| leg.launch.server.is(server) && leg.stage.is_in_flight())
     }
 
-    /// The least number of a leg to the server at this spot.
-    pub(crate) fn first_at(&self, server: ServerId, spot: Spot) -> Option<usize> {
+    /// The least number of a leg to the server at this stage.
+    pub(crate) fn first_at(&self, server: ServerId, stage: Stage) -> Option<usize> {
         self.legs
             .iter()
-            .position(|leg| leg.launch.server.is(server) && leg.spot == spot)
+            .position(|leg| leg.launch.server.is(server) && leg.stage == stage)
     }
 }

@@ -1,17 +1,16 @@
 //! Random lists of events: the core answers as a second account of calls and legs does, and deletes are kept.
 
-use crate::amiss::Amiss;
 use crate::draw::{Deed, Dice, drawn};
-use crate::ground::{Ground, Key};
+use crate::expect::Expected;
+use crate::ground::Ground;
 use crate::model::Model;
-use crate::setup::stored_record;
-use mcv_base::{Ask, CallId, LegId, Moment, Op, Request, Rest, ServerId, ServerText};
-use mcv_core::{Answer, Core, Event, Place};
+use crate::setup::{opened, record, request, stored_after};
+use mcv_base::{CallId, LegId, Moment, ServerId};
+use mcv_core::{Answer, Core, Event, LegState};
 use mcv_pools::Fnv;
 use mcv_spool::SpoolRecord;
-use std::alloc::Global;
+use std::process::Abort;
 use std::sync::Arc;
-use std::test::Fail;
 
 /// The pools of all configurations.
 const POOLS: &str =
@@ -85,7 +84,7 @@ const LISTS: u64 = 200;
 const EVENTS: usize = 60;
 
 /// How much the lists have seen: some of each, so that no check is empty.
-#[derive(Clone, Copy, Debug, PartialEq, Eq)]
+#[derive(Clone, Copy, Debug)]
 struct Seen {
     lists: u64,
     performed: u64,
@@ -110,74 +109,57 @@ impl Seen {
 
     fn count(&mut self, deed: Deed, answer: &Answer) {
         let counter = match (deed, answer) {
-            (_, Answer::Place(Place::Performed)) => &mut self.performed,
-            (Deed::Spooled(_, _), Answer::Place(_)) => &mut self.spooled,
+            (_, Answer::State(LegState::Performed)) => &mut self.performed,
+            (Deed::Spooled(_, _), Answer::State(_)) => &mut self.spooled,
             (_, Answer::Reply(Some(_))) => &mut self.taken,
             (Deed::Turn, Answer::Done) => &mut self.turned,
             _ => return,
         };
         *counter = counter.saturating_add(1);
     }
+
+    fn is_enough(&self) -> bool {
+        self.lists == 10_000
+            && self.performed >= 2_000
+            && self.spooled >= 1_000
+            && self.taken >= 2_000
+            && self.turned >= 2_000
+            && self.kept >= 2_000
+    }
 }
 
 /// A configuration of a line.
-fn text_of(alloc: Global, line: &str) -> Result<String, Amiss> {
+fn text_of(rt: &(impl AllocGlobal + Abort), line: &str) -> String {
     let key = if line.starts_with('[') {
         "\"routes\":"
     } else {
         "\"route\":"
     };
-    let mut text = String::new(alloc);
-    for part in [POOLS, key, line, "}"] {
-        text.push_str(part)?;
-    }
-    Ok(text)
-}
-
-fn request_of(alloc: Global, op: Op, key: &Key) -> Result<Arc<Request>, Amiss> {
-    let mut keys = Vec::new(alloc);
-    keys.push(Vec::from_slice(alloc, key.word)?)?;
-    let ask = Ask {
-        op,
-        keys,
-        flags: 0,
-        exptime: 0,
-        body: Arc::new(alloc, Vec::new(alloc))?,
-        cas: None,
-        noreply: false,
-    };
-    Ok(Arc::new(alloc, Request::Ask(ask))?)
+    format!(in rt.alloc(); "{POOLS}{key}{line}}}").expect(rt, "memory")
 }
 
 /// A stored record of the leg, or one of another key.
-fn spooled(alloc: Global, model: &Model<'_>, number: usize, own: bool) -> Result<Event, Amiss> {
+fn spooled(rt: &(impl AllocGlobal + Abort), model: &Model<'_>, number: usize, own: bool) -> Event {
     let Some(leg) = model.legs.get(number) else {
-        return Ok(Event::Lost(LegId(number as u64)));
+        return Event::Lost(LegId(number as u64));
     };
-    let servers = model.ground.routes().servers();
-    let (Some(server), Some(key)) = (servers.text(leg.launch.server), model.key(leg.key)) else {
-        return Err(Amiss::Setup);
-    };
+    let server = model.ground.routes().servers().text(leg.launch.server);
+    let server = server.expect(rt, "a server").as_bytes();
+    let key = model.key(leg.key).expect(rt, "a key");
     let rest = if own { key.rest.as_bytes() } else { b"zz" };
-    let (Some(server), Some(rest)) = (ServerText::of(server.as_bytes()), Rest::of(rest)) else {
-        return Err(Amiss::Setup);
-    };
-    match stored_record(alloc, SpoolRecord { server, rest }) {
-        Some(stored) => Ok(Event::Spooled(LegId(number as u64), stored)),
-        None => Err(Amiss::Setup),
-    }
+    Event::Spooled(LegId(number as u64), stored_after(rt, 0, server, rest))
 }
 
-fn event_of(alloc: Global, model: &Model<'_>, deed: Deed) -> Result<Event, Amiss> {
-    Ok(match deed {
-        Deed::Begin(op, key) => match model.key(key) {
-            Some(key) => Event::Begin(request_of(alloc, op, key)?, 0),
-            None => return Err(Amiss::Setup),
-        },
+fn event_of(rt: &(impl AllocGlobal + Abort), model: &Model<'_>, deed: Deed) -> Event {
+    match deed {
+        Deed::Begin(op, key) => {
+            let key = model.key(key).expect(rt, "a key");
+            Event::Begin(request(rt, op, key.word), 0)
+        }
         Deed::Next(server) => Event::Next(server),
-        Deed::Answered(leg, say) => Event::Answered(LegId(leg as u64), say.parts(alloc, leg)?),
+        Deed::Answered(leg, say) => Event::Answered(LegId(leg as u64), say.parts(rt, leg)),
         Deed::Lost(leg) => Event::Lost(LegId(leg as u64)),
-        Deed::Spooled(leg, own) => spooled(alloc, model, leg, own)?,
+        Deed::Spooled(leg, own) => spooled(rt, model, leg, own),
         Deed::SpoolRefused(leg) => Event::SpoolRefused(LegId(leg as u64)),
         Deed::Replay(server) => Event::Replay(server),
         Deed::Mark(server) => Event::Mark(server),
@@ -185,137 +167,177 @@ fn event_of(alloc: Global, model: &Model<'_>, deed: Deed) -> Result<Event, Amiss
         Deed::Clock(moment) => Event::Clock(Moment(moment)),
         Deed::Turn => Event::Turn,
         Deed::Take(call) => Event::Take(CallId(call as u64)),
-    })
-}
-
-/// A record of a server and a key, which the spool holds when the core is opened.
-fn record_of(ground: &Ground, server: ServerId, key: usize) -> Result<SpoolRecord, Amiss> {
-    let text = ground.routes().servers().text(server).unwrap_or("x:1");
-    match (ServerText::of(text.as_bytes()), ground.keys.get(key)) {
-        (Some(server), Some(key)) => Ok(SpoolRecord {
-            server,
-            rest: key.rest.copied(),
-        }),
-        _ => Err(Amiss::Setup),
     }
 }
 
-/// A core with its model, and the first event at which the two weren't one.
+/// A record of a server and a key, which the spool holds when the core is opened.
+fn record_of(
+    rt: &(impl AllocGlobal + Abort),
+    ground: &Ground,
+    server: ServerId,
+    key: usize,
+) -> SpoolRecord {
+    let text = ground.routes().servers().text(server).unwrap_or("x:1");
+    let key = ground.keys.get(key).expect(rt, "a key");
+    record(rt, text.as_bytes(), key.rest.as_bytes())
+}
+
+/// What is amiss, and after how many events of a list.
+#[derive(Clone, Copy)]
+struct Amiss {
+    what: &'static str,
+    events: usize,
+}
+
+/// A core with its model, and where the two weren't one for the first time.
 #[derive(Drop)]
 struct Run<'a> {
     core: Core<Fnv>,
     model: Model<'a>,
+    events: usize,
     amiss: Option<Amiss>,
 }
 
 impl<'a> Run<'a> {
     /// Opens a core with up to two records.
-    fn open(alloc: Global, ground: &'a Ground, dice: &mut Dice) -> Result<Run<'a>, Amiss> {
-        let mut model = Model::new(alloc, ground);
-        let mut records = Vec::new(alloc);
+    fn open(rt: &(impl AllocGlobal + Abort), ground: &'a Ground, dice: &mut Dice) -> Run<'a> {
+        let mut model = Model::new(rt, ground);
+        let mut records = Vec::new(rt.alloc());
         for seq in 0..dice.below(3) {
             let server = dice.below(ground.routes().servers().len().saturating_add(1));
             let server = ServerId(u32::try_from(server).unwrap_or(0));
             let key = dice.below(ground.keys.len());
-            records.push((seq as u64, record_of(ground, server, key)?))?;
-            model.open(alloc, server, key)?;
+            let record = record_of(rt, ground, server, key);
+            records.push((seq as u64, record)).expect(rt, "memory");
+            model.open(rt, server, key);
         }
-        let accepted = Arc::try_clone(&ground.accepted)?;
-        match Core::new(alloc, accepted, Fnv, &records) {
-            Ok(core) => Ok(Run {
-                core,
-                model,
-                amiss: None,
-            }),
-            Err(_) => Err(Amiss::Memory),
+        let accepted = Arc::try_clone(&ground.accepted).expect(rt, "memory");
+        Run {
+            core: opened(rt, accepted, records.as_slice()),
+            model,
+            events: 0,
+            amiss: None,
         }
     }
 
-    /// The core takes in an event, and the model what the core answers.
-    fn step(&mut self, alloc: Global, deed: Deed, seen: &mut Seen) -> Result<(), Amiss> {
-        let expected = self.model.expected(alloc, deed)?;
-        let event = event_of(alloc, &self.model, deed)?;
-        let answer = self.core.answer(alloc, event);
+    /// The core takes in an event, and the model what the core answers. Whether it is the expected answer.
+    fn agrees(
+        &mut self,
+        rt: &(impl AllocGlobal + Abort),
+        deed: Deed,
+        expected: Expected,
+        seen: &mut Seen,
+    ) -> bool {
+        let event = event_of(rt, &self.model, deed);
+        let answer = self.core.answer(rt.alloc(), event);
         let agrees = self.model.is_expected(expected, &answer);
         seen.count(deed, &answer);
-        self.model.take_in(alloc, deed, &answer)?;
-        if !agrees {
-            return Err(Amiss::Answer(deed));
+        self.model.take_in(rt, deed, &answer);
+        agrees
+    }
+
+    /// An event, and whether the core and the model are one after it.
+    fn step(
+        &mut self,
+        rt: &(impl AllocGlobal + Abort),
+        deed: Deed,
+        seen: &mut Seen,
+    ) -> Result<(), &'static str> {
+        let expected = self.model.expected(rt, deed);
+        if !self.agrees(rt, deed, expected, seen) {
+            return Err("the core's answer isn't the model's");
         }
         self.model.check_legs(&self.core)?;
-        if matches!((deed, &answer), (Deed::Turn, Answer::Done)) {
-            self.model.check_entries(&self.core)?;
+        match (deed, expected) {
+            (Deed::Turn, Expected::Done) => self.model.check_entries(&self.core),
+            _ => Ok(()),
         }
-        Ok(())
+    }
+
+    fn found(&self, what: &'static str) -> Amiss {
+        let events = self.events;
+        Amiss { what, events }
     }
 
     /// The same, where the list goes on with what is amiss.
-    fn go_on(&mut self, alloc: Global, deed: Deed, seen: &mut Seen) {
-        if let Err(amiss) = self.step(alloc, deed, seen) {
+    fn go_on(&mut self, rt: &(impl AllocGlobal + Abort), deed: Deed, seen: &mut Seen) {
+        self.events = self.events.saturating_add(1);
+        if let Err(what) = self.step(rt, deed, seen) {
             if self.amiss.is_none() {
-                self.amiss = Some(amiss);
+                self.amiss = Some(self.found(what));
             }
+        }
+    }
+
+    /// What is amiss. Deletes are looked for first: a core that is wrong is shown by a delete that it lost, if it lost one.
+    fn end(&self, rt: &(impl AllocGlobal + Abort), seen: &mut Seen) -> Option<Amiss> {
+        seen.lists = seen.lists.saturating_add(1);
+        match self.model.check_kept(rt, &self.core) {
+            Ok(kept) => {
+                seen.kept = seen.kept.saturating_add(kept as u64);
+                self.amiss
+            }
+            Err(what) => Some(self.found(what)),
         }
     }
 }
 
-/// A list of events. Deletes are looked for first: a core that is wrong is shown by a delete that it lost, if it lost one.
-fn run_list(alloc: Global, ground: &Ground, seed: u64, seen: &mut Seen) -> Result<(), Amiss> {
+/// A list of events. What is amiss.
+fn run_list(
+    rt: &(impl AllocGlobal + Abort),
+    ground: &Ground,
+    seed: u64,
+    seen: &mut Seen,
+) -> Option<Amiss> {
     let mut dice = Dice::new(seed);
     let calm = dice.below(2) == 0;
-    let mut run = Run::open(alloc, ground, &mut dice)?;
+    let mut run = Run::open(rt, ground, &mut dice);
     for _ in 0..dice.below(EVENTS.saturating_add(1)) {
         let deed = drawn(&mut dice, &run.model, calm);
-        run.go_on(alloc, deed, seen);
+        run.go_on(rt, deed, seen);
     }
-    let kept = run.model.check_kept(alloc, &run.core)?;
-    seen.kept = seen.kept.saturating_add(kept as u64);
-    seen.lists = seen.lists.saturating_add(1);
-    match run.amiss {
-        None => Ok(()),
-        Some(amiss) => Err(amiss),
-    }
+    run.end(rt, seen)
 }
 
 /// The lists of one configuration.
 fn run_lists(
-    alloc: Global,
+    rt: &(impl AllocGlobal + Abort),
     line: &str,
     ground: &Ground,
     first: u64,
     seen: &mut Seen,
-) -> Result<(), Fail> {
+) {
     for number in 0..LISTS {
         let seed = first.wrapping_add(number);
-        if let Err(amiss) = run_list(alloc, ground, seed, seen) {
-            return Err(Fail::new(format!(in alloc; "{amiss:?} in list {seed} of {line}")?));
+        if let Some(Amiss { what, events }) = run_list(rt, ground, seed, seen) {
+            panic!(rt; "{what}, {events} events into list {seed} of {line}");
         }
     }
-    Ok(())
+}
+
+/// The lists of the configuration of a line. Whether it is covered.
+fn run_line(rt: &(impl AllocGlobal + Abort), number: usize, line: &str, seen: &mut Seen) -> bool {
+    let text = text_of(rt, line);
+    match Ground::of(rt, text.as_str()) {
+        Some(mut ground) => {
+            ground.read(rt);
+            let first = (number as u64).wrapping_mul(1_000_000);
+            run_lists(rt, line, &ground, first, seen);
+            true
+        }
+        None => false,
+    }
 }
 
 #[test]
-fn random_events_keep_deletes(rt: HostRuntime) -> Result<(), Fail> {
-    let alloc = rt.alloc();
+fn random_events_keep_deletes(rt: HostRuntime) {
     let mut seen = Seen::nothing();
     let mut uncovered: usize = 0;
     for (number, line) in ROUTES.lines().enumerate() {
-        let text = text_of(alloc, line)?;
-        match Ground::of(alloc, text.as_str())? {
-            Some(ground) => {
-                let first = (number as u64).wrapping_mul(1_000_000);
-                run_lists(alloc, line, &ground, first, &mut seen)?;
-            }
-            None => uncovered = uncovered.saturating_add(1),
+        if !run_line(&rt, number, line, &mut seen) {
+            uncovered = uncovered.saturating_add(1);
         }
     }
     assert_eq!(rt; uncovered, UNCOVERED);
-    assert!(rt; seen.lists == 10_000, "{seen:?}");
-    assert!(rt;
-        seen.performed >= 2_000 && seen.spooled >= 1_000,
-        "{seen:?}"
-    );
-    assert!(rt; seen.taken >= 2_000 && seen.turned >= 2_000, "{seen:?}");
-    assert!(rt; seen.kept >= 2_000, "{seen:?}");
-    Ok(())
+    assert!(rt; seen.is_enough(), "{seen:?}");
 }

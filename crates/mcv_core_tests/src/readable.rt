@@ -1,11 +1,10 @@
 //! The servers whose hit can be a call's reply, by all lists of outcomes.
 
-use crate::amiss::Amiss;
 use crate::ground::Key;
 use mcv_base::{FixedReply, Moment, Op, Part, Position, ServerId};
 use mcv_route::{Answered, Launch, Route};
 use mcv_rules::{Eval, Outcomes, Source, Status};
-use std::alloc::Global;
+use std::process::Abort;
 use std::sync::Arc;
 
 /// The most lists of outcomes of one search.
@@ -19,45 +18,53 @@ pub(crate) fn has_outcome(answered: &[Answered], position: &Position) -> bool {
     answered.iter().any(|there| there.position.is(position))
 }
 
+fn copy_of(rt: &(impl AllocGlobal + Abort), part: &Part) -> Part {
+    match part {
+        Part::Fixed(reply) => Part::Fixed(*reply),
+        Part::Owned(reply) => Part::Owned(Arc::try_clone(reply).expect(rt, "memory")),
+    }
+}
+
+/// Adds an outcome at a position.
+fn push_reply(
+    rt: &(impl AllocGlobal + Abort),
+    all: &mut Vec<Answered>,
+    position: &Position,
+    reply: Part,
+) {
+    let position = position.copy(rt.alloc()).expect(rt, "memory");
+    all.push(Answered { position, reply }).expect(rt, "memory");
+}
+
 /// The list with one outcome more.
 fn with_reply(
-    alloc: Global,
+    rt: &(impl AllocGlobal + Abort),
     answered: &[Answered],
     position: &Position,
     reply: FixedReply,
-) -> Result<Vec<Answered>, Amiss> {
-    let mut all = Vec::new(alloc);
+) -> Vec<Answered> {
+    let mut all = Vec::new(rt.alloc());
     for there in answered {
-        let reply = match &there.reply {
-            Part::Fixed(reply) => Part::Fixed(*reply),
-            Part::Owned(reply) => Part::Owned(Arc::try_clone(reply)?),
-        };
-        all.push(Answered {
-            position: there.position.copy(alloc)?,
-            reply,
-        })?;
+        push_reply(rt, &mut all, &there.position, copy_of(rt, &there.reply));
     }
-    all.push(Answered {
-        position: position.copy(alloc)?,
-        reply: Part::Fixed(reply),
-    })?;
-    Ok(all)
+    push_reply(rt, &mut all, position, Part::Fixed(reply));
+    all
 }
 
 /// Adds the lists with one reply more of the leg, if it has none.
 fn push_longer(
-    alloc: Global,
+    rt: &(impl AllocGlobal + Abort),
     answered: &[Answered],
     launch: &Launch,
     open: &mut Vec<Vec<Answered>>,
-) -> Result<(), Amiss> {
+) {
     if has_outcome(answered, &launch.position) {
-        return Ok(());
+        return;
     }
     for reply in REPLIES {
-        open.push(with_reply(alloc, answered, &launch.position, reply)?)?;
+        let longer = with_reply(rt, answered, &launch.position, reply);
+        open.push(longer).expect(rt, "memory");
     }
-    Ok(())
 }
 
 /// The server whose hit is the reply.
@@ -75,45 +82,57 @@ fn hit_server(launched: &[Launch], answered: &[Answered], status: Status) -> Opt
     Some(leg.server)
 }
 
+fn push_server(
+    rt: &(impl AllocGlobal + Abort),
+    server: Option<ServerId>,
+    servers: &mut Vec<ServerId>,
+) {
+    if let Some(server) = server {
+        if !servers.contains(&server) {
+            servers.push(server).expect(rt, "memory");
+        }
+    }
+}
+
 /// Adds the server whose hit is the reply at this list, and the lists that are longer by one outcome.
 fn visit(
-    alloc: Global,
+    rt: &(impl AllocGlobal + Abort),
     eval: &Eval<'_>,
     answered: &[Answered],
     open: &mut Vec<Vec<Answered>>,
     servers: &mut Vec<ServerId>,
-) -> Result<(), Amiss> {
-    let outcomes = Outcomes::of(alloc, answered)?;
-    let launched = eval.launched(alloc, &outcomes)?;
-    if let Some(server) = hit_server(&launched, answered, eval.status(&outcomes)) {
-        if !servers.contains(&server) {
-            servers.push(server)?;
-        }
-    }
+) {
+    let outcomes = Outcomes::of(rt.alloc(), answered).expect(rt, "memory");
+    let launched = eval.launched(rt.alloc(), &outcomes).expect(rt, "memory");
+    let status = eval.status(&outcomes);
+    push_server(rt, hit_server(&launched, answered, status), servers);
     for launch in &launched {
-        push_longer(alloc, answered, launch, open)?;
+        push_longer(rt, answered, launch, open);
     }
-    Ok(())
 }
 
 /// Adds the servers whose hit can be the reply: each leg that is sent hits, misses or fails, and the outcomes come in any
 /// order.
 pub(crate) fn push_readable(
-    alloc: Global,
+    rt: &(impl AllocGlobal + Abort),
     route: &Route,
     op: Op,
     key: &Key,
     since: Option<Moment>,
     servers: &mut Vec<ServerId>,
-) -> Result<(), Amiss> {
-    let eval = Eval::new(alloc, route, op, &key.rest, since, &key.choice)?;
-    let mut open = Vec::new(alloc);
-    open.push(Vec::new(alloc))?;
+) {
+    let eval = Eval::new(rt.alloc(), route, op, &key.rest, since, &key.choice);
+    search(rt, &eval.expect(rt, "memory"), servers);
+}
+
+fn search(rt: &(impl AllocGlobal + Abort), eval: &Eval<'_>, servers: &mut Vec<ServerId>) {
+    let mut open = Vec::new(rt.alloc());
+    open.push(Vec::new(rt.alloc())).expect(rt, "memory");
     for _ in 0..LISTS {
         let Some(answered) = open.pop() else {
-            return Ok(());
+            return;
         };
-        visit(alloc, &eval, &answered, &mut open, servers)?;
+        visit(rt, eval, &answered, &mut open, servers);
     }
-    Err(Amiss::TooManyOutcomes)
+    panic!(rt; "more than {LISTS} lists of outcomes");
 }

@@ -1,80 +1,73 @@
 //! What a core answers, event by event.
 
-use crate::setup::{A, B, BOTH, MOVING, ONE, begin, core_of};
-use mcv_base::{CallId, LegId, Moment, Op, Parts, Reply};
-use mcv_core::{CoreFault, Place};
-use std::test::Fail;
+use crate::script::play;
+use crate::setup::{BOTH, MOVING, ONE};
+
+const PERFORMED: &str = "\
+begin Delete = Ok(CallId(0))
+begin Delete = Ok(CallId(1))
+next 0 = Ok(LegId(0))
+next 0 = Err(Busy)
+answered 0 NotFound = Ok(Performed)
+next 0 = Ok(LegId(1))
+answered 0 NotFound = Err(NoSuchLeg)";
 
 #[test]
-fn an_answered_delete_is_performed(rt: HostRuntime) -> Result<(), Fail> {
-    let alloc = rt.alloc();
-    let mut core = core_of(alloc, ONE)?;
-    let first = begin(alloc, &mut core, Op::Delete)?;
-    let second = begin(alloc, &mut core, Op::Delete)?;
-    assert!(rt; first.is(CallId(0)) && second.is(CallId(1)));
-    let events = core.events();
-    assert!(rt; matches!(events.next(A), Ok(LegId(0))));
-    assert!(rt; matches!(events.next(A), Err(CoreFault::Busy)));
-    let step = events.answered(LegId(0), Parts::new(alloc, Reply::NotFound)?);
-    assert!(rt; matches!(step, Ok(step) if step.place == Place::Performed));
-    assert!(rt; matches!(events.next(A), Ok(LegId(1))));
-    assert!(rt;
-        matches!(
-            events.answered(LegId(0), Parts::new(alloc, Reply::NotFound)?),
-            Err(CoreFault::NoSuchLeg)
-        )
-    );
-    Ok(())
+fn an_answered_delete_is_performed(rt: HostRuntime) {
+    play(&rt, ONE, "", PERFORMED);
 }
 
-#[test]
-fn the_first_reply_is_taken_once(rt: HostRuntime) -> Result<(), Fail> {
-    let alloc = rt.alloc();
-    let mut core = core_of(alloc, BOTH)?;
-    let call = begin(alloc, &mut core, Op::Delete)?;
-    let events = core.events();
-    assert!(rt; matches!(events.next(A), Ok(LegId(0))));
-    assert!(rt; matches!(events.take(call), Ok(None)));
-    let step = events.answered(LegId(0), Parts::new(alloc, Reply::Deleted)?);
-    assert!(rt; matches!(step, Ok(step) if step.place == Place::Performed));
-    assert!(rt; matches!(events.take(call), Ok(Some(_))));
-    assert!(rt; matches!(events.take(call), Ok(None)));
-    assert!(rt; matches!(events.next(B), Ok(LegId(1))));
-    let step = events.lost(LegId(1));
-    assert!(rt; matches!(step, Ok(step) if step.place == Place::Held));
-    assert!(rt; matches!(events.turn(), Err(CoreFault::Busy)));
-    let step = events.spool_refused(LegId(1));
-    assert!(rt; matches!(step, Ok(step) if step.place == Place::Held));
-    assert!(rt; matches!(events.take(call), Err(CoreFault::NoSuchCall)));
-    assert!(rt; matches!(events.turn(), Err(CoreFault::Busy)));
-    Ok(())
-}
+const TAKEN: &str = "\
+begin Delete = Ok(CallId(0))
+next 0 = Ok(LegId(0))
+take 0 = Ok(None)
+answered 0 Deleted = Ok(Performed)
+take 0 = Ok(Some(Fixed(Deleted)))
+take 0 = Ok(None)
+next 1 = Ok(LegId(1))
+lost 1 = Ok(Held)
+turn = Err(Busy)
+refused 1 = Ok(Held)
+take 0 = Err(NoSuchCall)
+turn = Err(Busy)";
 
 #[test]
-fn the_clock_opens_eras(rt: HostRuntime) -> Result<(), Fail> {
-    let alloc = rt.alloc();
-    let mut core = core_of(alloc, MOVING)?;
-    assert!(rt; core.state().era() == 0);
-    assert!(rt; matches!(core.events().clock(Moment(1000)), Ok(Some(_))));
-    assert!(rt; core.state().era() == 1);
-    assert!(rt; matches!(core.events().clock(Moment(999)), Err(CoreFault::ClockBack)));
-    assert!(rt; matches!(core.events().clock(Moment(1001)), Ok(None)));
-    Ok(())
+fn the_first_reply_is_taken_once(rt: HostRuntime) {
+    play(&rt, BOTH, "", TAKEN);
 }
 
+const ERAS: &str = "\
+era = 0
+clock 1000 = Ok(Some(Era { since: Some(Moment(1000)) }))
+era = 1
+clock 999 = Err(ClockBack)
+clock 1001 = Ok(None)";
+
 #[test]
-fn three_failures_mark(rt: HostRuntime) -> Result<(), Fail> {
-    let alloc = rt.alloc();
-    let mut core = core_of(alloc, ONE)?;
-    for number in 0..3 {
-        let _call = begin(alloc, &mut core, Op::Get)?;
-        let events = core.events();
-        assert!(rt; matches!(events.next(A), Ok(_)));
-        assert!(rt; matches!(events.lost(LegId(number)), Ok(step) if step.place == Place::Gone));
-        events.mark(A);
-        assert!(rt; events.marked(A) == (number == 2));
-    }
-    core.events().unmark(A);
-    assert!(rt; !core.state().marked(A));
-    Ok(())
+fn the_clock_opens_eras(rt: HostRuntime) {
+    play(&rt, MOVING, "", ERAS);
+}
+
+const MARKED: &str = "\
+begin Get = Ok(CallId(0))
+next 0 = Ok(LegId(0))
+lost 0 = Ok(Gone)
+mark 0 = ()
+marked 0 = false
+begin Get = Ok(CallId(1))
+next 0 = Ok(LegId(1))
+lost 1 = Ok(Gone)
+mark 0 = ()
+marked 0 = false
+begin Get = Ok(CallId(2))
+next 0 = Ok(LegId(2))
+lost 2 = Ok(Gone)
+mark 0 = ()
+marked 0 = true
+unmark 0 = ()
+marked 0 = false";
+
+#[test]
+fn three_failures_mark(rt: HostRuntime) {
+    play(&rt, ONE, "", MARKED);
 }

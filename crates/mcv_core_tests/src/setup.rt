@@ -2,17 +2,15 @@
 
 ghost use Rattle.std.specs.Prelude.{[]};
 
-use mcv_base::{Ask, CallId, Op, Request, Rest, ServerId, ServerText};
-use mcv_check::check;
-use mcv_config::read_config;
-use mcv_core::{Core, CoreFault, Place, Step};
-use mcv_make::make;
+use mcv_base::{Ask, Op, Request, Rest, ServerId, ServerText};
+use mcv_check::Accepted;
+use mcv_core::Core;
 use mcv_pools::Fnv;
-use mcv_route::Routes;
 use mcv_spool::{Disk, DiskFailed, Spool, SpoolRecord, Stored};
+use mcv_verdict::{Judgement, judge_input};
 use std::alloc::Global;
+use std::process::Abort;
 use std::sync::Arc;
-use std::test::Fail;
 
 /// One pool of one server.
 pub(crate) const ONE: &str =
@@ -34,107 +32,87 @@ pub(crate) const A: ServerId = ServerId(0);
 
 pub(crate) const B: ServerId = ServerId(1);
 
-pub(crate) fn core_of(alloc: Global, text: &str) -> Result<Core<Fnv>, Fail> {
-    core_with(alloc, text, &[])
+/// What the checker accepts of a configuration; None where it can lose a delete.
+pub(crate) fn accepted_of(rt: &(impl AllocGlobal + Abort), text: &str) -> Option<Arc<Accepted>> {
+    let judgement = judge_input(rt.alloc(), &mut text.as_bytes());
+    match judgement.expect(rt, "a configuration") {
+        Judgement::Covered { accepted, .. } => {
+            Some(Arc::new(rt.alloc(), accepted).expect(rt, "memory"))
+        }
+        Judgement::Lost { .. } => None,
+    }
 }
 
-/// A core that is opened with these records.
-pub(crate) fn core_with(
-    alloc: Global,
-    text: &str,
+/// A core over accepted routes, opened with these records.
+pub(crate) fn opened(
+    rt: &(impl AllocGlobal + Abort),
+    accepted: Arc<Accepted>,
     records: &[(u64, SpoolRecord)],
-) -> Result<Core<Fnv>, Fail> {
-    let Ok(config) = read_config(alloc, text.as_bytes()) else {
-        return Err(Fail::from("the text is refused"));
-    };
-    let routes = Routes::build(alloc, config)?;
-    let Ok(certificate) = make(alloc, &routes) else {
-        return Err(Fail::from("the routes aren't covered"));
-    };
-    let Ok(accepted) = check(alloc, routes, &certificate) else {
-        return Err(Fail::from("the certificate is refused"));
-    };
-    match Core::new(alloc, Arc::new(alloc, accepted)?, Fnv, records) {
-        Ok(core) => Ok(core),
-        Err(_) => Err(Fail::from("out of memory")),
+) -> Core<Fnv> {
+    Core::new(rt.alloc(), accepted, Fnv, records).expect(rt, "a core")
+}
+
+pub(crate) fn core_of(rt: &(impl AllocGlobal + Abort), text: &str) -> Core<Fnv> {
+    opened(rt, accepted_of(rt, text).expect(rt, "covered routes"), &[])
+}
+
+/// The bytes, owned.
+pub(crate) fn bytes(rt: &(impl AllocGlobal + Abort), bytes: &[u8]) -> Vec<u8> {
+    Vec::from_slice(rt.alloc(), bytes).expect(rt, "memory")
+}
+
+/// The bytes, shared.
+pub(crate) fn shared(rt: &(impl AllocGlobal + Abort), text: &[u8]) -> Arc<Vec<u8>> {
+    Arc::new(rt.alloc(), bytes(rt, text)).expect(rt, "memory")
+}
+
+/// What a client asks of one key.
+fn ask(rt: &(impl AllocGlobal + Abort), op: Op, key: &[u8]) -> Ask {
+    let mut keys = Vec::new(rt.alloc());
+    keys.push(bytes(rt, key)).expect(rt, "memory");
+    Ask {
+        op,
+        keys,
+        flags: 0,
+        exptime: 0,
+        body: shared(rt, b""),
+        cas: None,
+        noreply: false,
     }
 }
 
-/// A request for the key `a`.
-pub(crate) fn request(alloc: Global, op: Op) -> Result<Arc<Request>, Fail> {
-    let mut keys = Vec::new(alloc);
-    keys.push(Vec::from_slice(alloc, b"a")?)?;
-    Ok(Arc::new(
-        alloc,
-        Request::Ask(Ask {
-            op,
-            keys,
-            flags: 0,
-            exptime: 0,
-            body: Arc::new(alloc, Vec::new(alloc))?,
-            cas: None,
-            noreply: false,
-        }),
-    )?)
+/// A request for a key.
+pub(crate) fn request(rt: &(impl AllocGlobal + Abort), op: Op, key: &[u8]) -> Arc<Request> {
+    Arc::new(rt.alloc(), Request::Ask(ask(rt, op, key))).expect(rt, "memory")
 }
 
-pub(crate) fn begin(alloc: Global, core: &mut Core<Fnv>, op: Op) -> Result<CallId, Fail> {
-    match core.begin(alloc, request(alloc, op)?, 0) {
-        Ok(call) => Ok(call),
-        Err(_) => Err(Fail::from("the call is refused")),
+pub(crate) fn record(rt: &(impl AllocGlobal + Abort), server: &[u8], rest: &[u8]) -> SpoolRecord {
+    SpoolRecord {
+        server: ServerText::of(server).expect(rt, "a server"),
+        rest: Rest::of(rest).expect(rt, "a rest"),
     }
 }
 
-/// Whether the event led its leg there.
-pub(crate) fn leads_to(step: Result<Step, CoreFault>, place: Place) -> bool {
-    matches!(step, Ok(step) if step.place == place)
+/// A spool without records, in memory.
+fn empty_spool(rt: &(impl AllocGlobal + Abort)) -> Spool<MemoryDisk> {
+    let disk = MemoryDisk {
+        bytes: Vec::new(rt.alloc()),
+    };
+    Spool::open(rt.alloc(), disk).expect(rt, "a spool")
 }
 
-pub(crate) fn record(server: &[u8], rest: &[u8]) -> Result<SpoolRecord, Fail> {
-    match (ServerText::of(server), Rest::of(rest)) {
-        (Some(server), Some(rest)) => Ok(SpoolRecord { server, rest }),
-        _ => Err(Fail::from("no record")),
-    }
-}
-
-/// A record that a spool has stored, its first one.
-pub(crate) fn stored(alloc: Global, server: &[u8], rest: &[u8]) -> Result<Stored, Fail> {
-    stored_after(alloc, 0, server, rest)
-}
-
-/// A record that a spool has stored after so many others.
+/// The record, stored by a spool of its own after so many others.
 pub(crate) fn stored_after(
-    alloc: Global,
-    others: usize,
+    rt: &(impl AllocGlobal + Abort),
+    others: u64,
     server: &[u8],
     rest: &[u8],
-) -> Result<Stored, Fail> {
-    let disk = MemoryDisk {
-        bytes: Vec::new(alloc),
-    };
-    let Ok(mut spool) = Spool::open(alloc, disk) else {
-        return Err(Fail::from("the spool is refused"));
-    };
+) -> Stored {
+    let mut spool = empty_spool(rt);
     for _ in 0..others {
-        if spool.append(record(server, rest)?).is_err() {
-            return Err(Fail::from("the record is refused"));
-        }
+        let _ = spool.append(record(rt, server, rest)).expect(rt, "room");
     }
-    match spool.append(record(server, rest)?) {
-        Ok(stored) => Ok(stored),
-        Err(_) => Err(Fail::from("the record is refused")),
-    }
-}
-
-/// The record, stored by a spool of its own, its first one.
-pub(crate) fn stored_record(alloc: Global, delete: SpoolRecord) -> Option<Stored> {
-    let disk = MemoryDisk {
-        bytes: Vec::new(alloc),
-    };
-    let Ok(mut spool) = Spool::open(alloc, disk) else {
-        return None;
-    };
-    spool.append(delete).ok()
+    spool.append(record(rt, server, rest)).expect(rt, "room")
 }
 
 /// A file in memory. It says nothing of the model, so it isn't proved to keep it.

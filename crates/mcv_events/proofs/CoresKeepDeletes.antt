@@ -6,9 +6,9 @@ use Rattle.std.proofs.lemmas.Option.{slice_get_past}
 use Rattle.mcv_route.specs.Routes.{RoutesValue}
 use Rattle.mcv_world.specs.World.{Leg, is_counted_delete}
 use Rattle.mcv_world.specs.Moves.{is_move, after, run}
-use Rattle.mcv_world.specs.Live.{live_of}
-use Rattle.mcv_world.specs.Possible.{IsPossible}
-use Rattle.mcv_events.specs.Rows.{LegRow, Rows, place_of, leg_of, world_of, is_unanswered, IsCore}
+use Rattle.mcv_world.specs.LiveWorld.{live_of}
+use Rattle.mcv_world.specs.PossibleMoves.{IsPossible}
+use Rattle.mcv_events.specs.Rows.{LegRow, Rows, leg_state, leg_of, world_of, is_unanswered, IsCore}
 use Rattle.mcv_events.specs.Runs.{OpenedRecord, spooled_row, opened, done, moved, no_move, RunsAreMoves, OpenedIsCore, SpooledRowsOpen, CoresKeepDeletes}
 use Rattle.mcv_world.proofs.Numbers.{same_some, no_some}
 use Rattle.mcv_world.proofs.MovesKeepWorlds.{opening_is_world, moves_keep_worlds, run_world}
@@ -52,7 +52,7 @@ pub spooled_rows_open : SpooledRowsOpen
 spooled_rows_open r w i none spooled era = (
   record {
     calls = λ k. ap (option_map (λ c. c.call)) (none k);
-    spooled = λ n s e. let q = leg_of_is (w.legs n) s e in ap (λ v. v.place) (sym q.2) ∙ ap place_of (spooled n q.0 q.1);
+    spooled = λ n s e. let q = leg_of_is (w.legs n) s e in ap (λ v. v.state) (sym q.2) ∙ ap leg_state (spooled n q.0 q.1);
     number = λ n s e. let q = leg_of_is (w.legs n) s e in leg_below r w i n q.0 q.1;
     owner = λ n s k e f. let q = leg_of_is (w.legs n) s e in i.owner n q.0 k q.1 (ap (λ v. v.call) q.2 ∙ f);
     era = era;

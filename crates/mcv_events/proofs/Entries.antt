@@ -9,10 +9,10 @@ use Rattle.mcv_route.specs.Outcomes.{Outcomes, Choice, is_same, outcomes}
 use Rattle.mcv_rules.specs.Plan.{Leg, Plan, Send, Reply, Both, Beside, OnError, OnMiss, OnHit, Shadowed}
 use Rattle.mcv_rules.specs.Plans.{plan, launch_of}
 use Rattle.mcv_rules.specs.Rows.{ComesBefore}
-use Rattle.mcv_rules.specs.Sound.{positions}
-use Rattle.mcv_rules.proofs.Among.{Among, among_left, among_right}
+use Rattle.mcv_rules.specs.Soundness.{positions}
+use Rattle.mcv_rules.proofs.ListMembers.{Among, among_left, among_right}
 use Rattle.mcv_rules.proofs.Orders.{same_is, same_self}
-use Rattle.mcv_rules.proofs.Rising.{legs_come_in_order, pairs, places, plan_rises, launched_places}
+use Rattle.mcv_rules.proofs.LegsRise.{legs_come_in_order, pairs, places, plan_rises, launched_places}
 use Rattle.mcv_rules.proofs.Sending.{Sends}
 use Rattle.mcv_rules.proofs.Verdicts.{has_sends}
 use Rattle.mcv_world.specs.World as world

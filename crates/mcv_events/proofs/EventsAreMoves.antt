@@ -8,11 +8,11 @@ use Rattle.mcv_base.specs.Reply.{ReplyValue, not_found, fixed_value}
 use Rattle.mcv_route.specs.declared.launch.Launch.{Launch}
 use Rattle.mcv_route.specs.Outcomes.{outcomes}
 use Rattle.mcv_route.specs.Routes.{RoutesValue}
-use Rattle.mcv_world.specs.World.{Place, Performed, Spooled, Gone, Call, Leg, World, history_of, launched_by, is_settled, is_counted_delete, is_queued, is_spooled, put}
-use Rattle.mcv_world.specs.Moves.{Move, Answered, WasSpooled, WasRefused, WasPerformed, Taken, counted_as, is_error_reply, is_one, has_no_outcome, is_awaited, can_be_answered, can_be_spooled, can_be_refused, can_be_taken, is_move, queue, new_call, began, recorded_by, recorded_if, recorded_for, placed, answered_place, with_taken, with_leg, with_call, changed, after}
-use Rattle.mcv_world.specs.Live.{has_ended, running, live_at, live_leg, live_of}
+use Rattle.mcv_world.specs.World.{LegState, Performed, Spooled, Gone, Call, Leg, World, history_of, launched_by, is_settled, is_counted_delete, is_queued, is_spooled, put}
+use Rattle.mcv_world.specs.Moves.{Move, Answered, WasSpooled, WasRefused, WasPerformed, Taken, counted_as, is_error_reply, is_one, has_no_outcome, is_awaited, can_be_answered, can_be_spooled, can_be_refused, can_be_taken, is_move, queue, new_call, began, recorded_by, recorded_if, recorded_for, with_leg_state, answered_state, with_taken, with_leg, with_call, changed, after}
+use Rattle.mcv_world.specs.LiveWorld.{has_ended, running, live_in, live_leg, live_of}
 use Rattle.mcv_events.specs.Entries.{IsLaidOut, is_launched}
-use Rattle.mcv_events.specs.Rows.{State, Sent, Held, InSpool, LegRow, CallRow, Rows, place_of, leg_of, world_of, is_unanswered, IsCallRow, IsCore, queued_rows, recorded_rows, with_leg_row, CanRecord}
+use Rattle.mcv_events.specs.Rows.{State, Sent, Held, InSpool, LegRow, CallRow, Rows, leg_state, leg_of, world_of, is_unanswered, IsCallRow, IsCore, queued_rows, recorded_rows, with_leg_row, CanRecord}
 use Rattle.mcv_events.specs.Events.{recorded_rows_if, recorded_rows_for, in_state, new_row, began_rows, taken_rows, StatesAreNoMoves, AnsweredMoves, SpooledMoves, RefusedMoves, PerformedMoves, BeganMoves, TakenMoves, EraMoves, StatesKeepCores}
 use Rattle.mcv_world.proofs.Numbers.{same_some, none_when, no_some, put_same, put_other, put_cases, at_some}
 use Rattle.mcv_world.proofs.ForgetsSafely.{Alike, alike_live, alike_recorded_by}
@@ -34,7 +34,7 @@ states_are_no_moves w n s t at same = λ j. record { calls = (world_of w).calls;
         elim (cases_eq n m) [
           | inl q ↦
               ap (option_map leg_of) (subst (λ v. put w.legs n (Some (in_state s t)) v ≡ Some (in_state s t)) q (put_same w.legs n (Some (in_state s t))))
-              ∙ ap (λ p. Some (record { call = s.call; launch = s.launch; rest = s.rest; place = p })) same ∙ sym (ap (option_map leg_of) (ap w.legs (sym q) ∙ at))
+              ∙ ap (λ p. Some (record { call = s.call; launch = s.launch; rest = s.rest; state = p })) same ∙ sym (ap (option_map leg_of) (ap w.legs (sym q) ∙ at))
           | inr ne ↦ ap (option_map leg_of) (put_other w.legs n m (Some (in_state s t)) ne)
         ]
 
@@ -153,43 +153,43 @@ one_at w n s test at e = ap (λ o. is_one o test) (leg_of_at w n s at) ∙ e
 awaited_at : (w : Rows) (s : LegRow) (k : ℕ) (c : CallRow) → s.call ≡ Some k → w.calls k ≡ Some c → has_no_outcome (leg_of s) c.call ≡ true → is_awaited (world_of w) (leg_of s) s.call ≡ true
 awaited_at w s k c own there e = ap (is_awaited (world_of w) (leg_of s)) own ∙ ap (λ o. is_one o (has_no_outcome (leg_of s))) (ap (option_map (λ d. d.call)) there) ∙ e
 
--- Performed and Gone are no places of a live leg
-ended_place : (s : Leg) (b : Bool) → live_at s (cond b Performed Gone) ≡ None
-ended_place s true = refl
-ended_place s false = refl
+-- Performed and Gone are no states of a live leg
+ended_state : (s : Leg) (b : Bool) → live_in s (cond b Performed Gone) ≡ None
+ended_state s true = refl
+ended_state s false = refl
 
 module _ (r : RoutesValue) (w : Rows) (n : ℕ) (s : LegRow) (i : IsCore r w) (at : w.legs n ≡ Some s) where
-  -- a row that is dropped is a leg that comes to such a place
-  dropped_alike : (place : Place) → live_at (record (leg_of s) { place = place }) place ≡ None → Alike r (world_of (with_leg_row w n None)) (placed (world_of w) n (leg_of s) place)
-  dropped_alike place gone = record { calls = λ k. refl; legs = λ m. by_cases (nat_eq n m) m; since = refl; next_call = refl; next_leg = refl }
+  -- a row that is dropped is a leg that comes to such a state
+  dropped_alike : (state : LegState) → live_in (record (leg_of s) { state = state }) state ≡ None → Alike r (world_of (with_leg_row w n None)) (with_leg_state (world_of w) n (leg_of s) state)
+  dropped_alike state gone = record { calls = λ k. refl; legs = λ m. by_cases (nat_eq n m) m; since = refl; next_call = refl; next_leg = refl }
     where
-      by_cases : (b : Bool) (m : ℕ) → live_leg (option_map leg_of (cond b None (w.legs m))) ≡ live_leg (cond b (Some (record (leg_of s) { place = place })) (option_map leg_of (w.legs m)))
+      by_cases : (b : Bool) (m : ℕ) → live_leg (option_map leg_of (cond b None (w.legs m))) ≡ live_leg (cond b (Some (record (leg_of s) { state = state })) (option_map leg_of (w.legs m)))
       by_cases true m = sym gone
       by_cases false m = refl
 
-  drops : (x : ReplyValue) (place : Place) → live_at (record (leg_of s) { place = place }) place ≡ None
-      → (world_of (recorded_rows_for r (with_leg_row w n None) s x s.call) ≡ live_of r (recorded_for r (placed (world_of w) n (leg_of s) place) (leg_of s) x s.call)) × IsCore r (recorded_rows_for r (with_leg_row w n None) s x s.call)
-  drops x place gone =
+  drops : (x : ReplyValue) (state : LegState) → live_in (record (leg_of s) { state = state }) state ≡ None
+      → (world_of (recorded_rows_for r (with_leg_row w n None) s x s.call) ≡ live_of r (recorded_for r (with_leg_state (world_of w) n (leg_of s) state) (leg_of s) x s.call)) × IsCore r (recorded_rows_for r (with_leg_row w n None) s x s.call)
+  drops x state gone =
       through r w (with_leg_row w n None) n s i at (core_dropped r w n i) refl
       (λ m ne. put_other w.legs n m None ne) (λ z f o. no_some (sym (put_same w.legs n None) ∙ f))
-      (placed (world_of w) n (leg_of s) place) (dropped_alike place gone) refl x s.call refl
+      (with_leg_state (world_of w) n (leg_of s) state) (dropped_alike state gone) refl x s.call refl
 
-  -- a row in another state is a leg that comes to that state's place
+  -- a row in another state is a leg that comes to what this state is of a leg
   stays : (x : ReplyValue) (t : State) → is_unanswered t ≡ false → is_counted_delete (leg_of s) ≡ true
-      → (world_of (recorded_rows_for r (with_leg_row w n (Some (in_state s t))) s x s.call) ≡ live_of r (recorded_for r (placed (world_of w) n (leg_of s) (place_of t)) (leg_of s) x s.call)) × IsCore r (recorded_rows_for r (with_leg_row w n (Some (in_state s t))) s x s.call)
+      → (world_of (recorded_rows_for r (with_leg_row w n (Some (in_state s t))) s x s.call) ≡ live_of r (recorded_for r (with_leg_state (world_of w) n (leg_of s) (leg_state t)) (leg_of s) x s.call)) × IsCore r (recorded_rows_for r (with_leg_row w n (Some (in_state s t))) s x s.call)
   stays x t shut counted =
       through r w (with_leg_row w n (Some (in_state s t))) n s i at
       (states_keep_cores r w n s t i at (λ o. absurd (true≢false (sym o ∙ shut))) (λ o. counted)) refl
       (λ m ne. put_other w.legs n m (Some (in_state s t)) ne)
       (λ z f o. true≢false (sym o ∙ sym (ap (λ (v : LegRow). is_unanswered v.state) (same_some (sym (put_same w.legs n (Some (in_state s t))) ∙ f))) ∙ shut))
-      (placed (world_of w) n (leg_of s) (place_of t)) (record { calls = λ k. refl; legs = λ m. by_cases (nat_eq n m) m; since = refl; next_call = refl; next_leg = refl }) refl x s.call refl
+      (with_leg_state (world_of w) n (leg_of s) (leg_state t)) (record { calls = λ k. refl; legs = λ m. by_cases (nat_eq n m) m; since = refl; next_call = refl; next_leg = refl }) refl x s.call refl
     where
-      by_cases : (b : Bool) (m : ℕ) → live_leg (option_map leg_of (cond b (Some (in_state s t)) (w.legs m))) ≡ live_leg (cond b (Some (record (leg_of s) { place = place_of t })) (option_map leg_of (w.legs m)))
+      by_cases : (b : Bool) (m : ℕ) → live_leg (option_map leg_of (cond b (Some (in_state s t)) (w.legs m))) ≡ live_leg (cond b (Some (record (leg_of s) { state = leg_state t })) (option_map leg_of (w.legs m)))
       by_cases true m = refl
       by_cases false m = refl
 
-  place_is : (t : State) → s.state ≡ t → (leg_of s).place ≡ place_of t
-  place_is t e = ap place_of e
+  state_is : (t : State) → s.state ≡ t → (leg_of s).state ≡ leg_state t
+  state_is t e = ap leg_state e
 
 pub answered_moves : AnsweredMoves
 answered_moves r w n s x i at sent fine =
@@ -197,25 +197,25 @@ answered_moves r w n s x i at sent fine =
     let a = awaits_call w.calls s (i.awaited n s at (ap is_unanswered sent)) in
     let awaited = awaited_at w s a.0 a.1 a.2 a.3 (is_none_of (outcomes (history_of a.1.call.recorded) s.launch.position) a.4) in
     let can : can_be_answered (world_of w) x (leg_of s) ≡ true =
-    ap (λ p. is_queued p && (is_awaited (world_of w) (leg_of s) s.call && not (is_counted_delete (leg_of s) && is_error_reply y))) (place_is r w n s i at Sent sent)
+    ap (λ p. is_queued p && (is_awaited (world_of w) (leg_of s) s.call && not (is_counted_delete (leg_of s) && is_error_reply y))) (state_is r w n s i at Sent sent)
     ∙ ap₂ (λ b c. b && not c) awaited fine in
     let is = one_at w n s (can_be_answered (world_of w) x) at can in
-    let d = drops r w n s i at y (answered_place s.launch.op y) (ended_place (record (leg_of s) { place = answered_place s.launch.op y }) (is_delete s.launch.op && not (is_error_reply y))) in
+    let d = drops r w n s i at y (answered_state s.launch.op y) (ended_state (record (leg_of s) { state = answered_state s.launch.op y }) (is_delete s.launch.op && not (is_error_reply y))) in
     record {
       is = is;
-      moves = d.0 ∙ ap (λ o. live_of r (with_leg (world_of w) o (λ z. recorded_for r (placed (world_of w) n z (answered_place z.launch.op (counted_as z.launch.op x))) z (counted_as z.launch.op x) z.call))) (sym (leg_of_at w n s at)) ∙ moved r (world_of w) (Answered n x) is;
+      moves = d.0 ∙ ap (λ o. live_of r (with_leg (world_of w) o (λ z. recorded_for r (with_leg_state (world_of w) n z (answered_state z.launch.op (counted_as z.launch.op x))) z (counted_as z.launch.op x) z.call))) (sym (leg_of_at w n s at)) ∙ moved r (world_of w) (Answered n x) is;
       core = d.1;
     }
 
 pub spooled_moves : SpooledMoves
 spooled_moves r w n s i at held =
     let counted = i.counted n s at (ap is_unanswered held) in
-    let can : can_be_spooled (leg_of s) ≡ true = ap (λ p. is_queued p && is_counted_delete (leg_of s)) (place_is r w n s i at Held held) ∙ counted in
+    let can : can_be_spooled (leg_of s) ≡ true = ap (λ p. is_queued p && is_counted_delete (leg_of s)) (state_is r w n s i at Held held) ∙ counted in
     let is = one_at w n s can_be_spooled at can in
     let d = stays r w n s i at not_found InSpool refl counted in
     record {
       is = is;
-      moves = d.0 ∙ ap (λ o. live_of r (with_leg (world_of w) o (λ z. recorded_for r (placed (world_of w) n z Spooled) z not_found z.call))) (sym (leg_of_at w n s at)) ∙ moved r (world_of w) (WasSpooled n) is;
+      moves = d.0 ∙ ap (λ o. live_of r (with_leg (world_of w) o (λ z. recorded_for r (with_leg_state (world_of w) n z Spooled) z not_found z.call))) (sym (leg_of_at w n s at)) ∙ moved r (world_of w) (WasSpooled n) is;
       core = d.1;
     }
 
@@ -223,7 +223,7 @@ pub refused_moves : RefusedMoves
 refused_moves r w n s k c i at held own there no_outcome =
     let counted = i.counted n s at (ap is_unanswered held) in
     let can : can_be_refused (world_of w) (leg_of s) ≡ true =
-    ap (λ p. is_queued p && (is_awaited (world_of w) (leg_of s) s.call && is_counted_delete (leg_of s))) (place_is r w n s i at Held held) ∙ ap₂ (λ b c. b && c) (awaited_at w s k c own there no_outcome) counted in
+    ap (λ p. is_queued p && (is_awaited (world_of w) (leg_of s) s.call && is_counted_delete (leg_of s))) (state_is r w n s i at Held held) ∙ ap₂ (λ b c. b && c) (awaited_at w s k c own there no_outcome) counted in
     let is = one_at w n s (can_be_refused (world_of w)) at can in
     let d = through r w w n s i at i refl (λ m ne. refl)
     (λ z f o. true≢false (sym o ∙ ap (λ (v : LegRow). is_unanswered v.state) (same_some (sym f ∙ at)) ∙ ap is_unanswered held))
@@ -236,12 +236,12 @@ refused_moves r w n s k c i at held own there no_outcome =
 
 pub performed_moves : PerformedMoves
 performed_moves r w n s i at spooled =
-    let is = one_at w n s (λ z. is_spooled z.place) at (ap is_spooled (place_is r w n s i at InSpool spooled)) in
+    let is = one_at w n s (λ z. is_spooled z.state) at (ap is_spooled (state_is r w n s i at InSpool spooled)) in
     record {
       is = is;
       moves =
           world_of_is_live r (with_leg_row w n None) (core_dropped r w n i) ∙ alike_live r _ _ (dropped_alike r w n s i at Performed refl)
-          ∙ ap (λ o. live_of r (with_leg (world_of w) o (λ z. placed (world_of w) n z Performed))) (sym (leg_of_at w n s at)) ∙ moved r (world_of w) (WasPerformed n) is;
+          ∙ ap (λ o. live_of r (with_leg (world_of w) o (λ z. with_leg_state (world_of w) n z Performed))) (sym (leg_of_at w n s at)) ∙ moved r (world_of w) (WasPerformed n) is;
       core = core_dropped r w n i;
     }
 

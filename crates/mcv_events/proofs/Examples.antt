@@ -8,8 +8,8 @@ use Rattle.mcv_pools.specs.declared.symbol.HashFunc.TheVariants.{Ch3}
 use Rattle.mcv_route.specs.declared.launch.Answered.{Answered}
 use Rattle.mcv_route.specs.declared.launch.Launch.{Launch}
 use Rattle.mcv_route.specs.Routes.{RoutesValue}
-use Rattle.mcv_route.specs.Tree.{Tree, pool, failover, none, child}
-use Rattle.mcv_world.specs.World.{Place, Queued, Call, reply_of}
+use Rattle.mcv_route.specs.Tree.{Tree, pool, many, Failover, none, child}
+use Rattle.mcv_world.specs.World.{LegState, Queued, Call, reply_of}
 use Rattle.mcv_world.specs.Moves.{WasPerformed, new_call, with_reply}
 use Rattle.mcv_events.specs.Entries.{is_launched, is_due}
 use Rattle.mcv_events.specs.Rows.{State, Waiting, Sent, Held, InSpool, LegRow, Rows, waiting, world_of, with_leg_row}
@@ -29,7 +29,7 @@ abbrev routes : RoutesValue
 routes = record {
   servers = [] ∷ [] ∷ [];
   symbols = record { func = Ch3; salt = []; n = 1 } ∷ [];
-  entries = record { aliases = []; tree = failover (child (server 5) (child (server 7) none)) } ∷ [];
+  entries = record { aliases = []; tree = many Failover (child (server 5) (child (server 7) none)) } ∷ [];
 }
 
 -- ---- a delete: its entries are both legs, and it launches the first one when it begins
@@ -49,8 +49,8 @@ first = waiting 0 0 (97 ∷ []) (to_server 0 5)
 abbrev state_at : Rows → ℕ → Option State
 state_at w n = option_map (λ s. s.state) (w.legs n)
 
-abbrev place_at : Rows → ℕ → Option Place
-place_at w n = option_map (λ s. s.place) ((world_of w).legs n)
+abbrev world_state_at : Rows → ℕ → Option LegState
+world_state_at w n = option_map (λ s. s.state) ((world_of w).legs n)
 
 abbrev reply_at : Rows → ℕ → Option ReplyValue
 reply_at w k = option_and_then (λ c. reply_of routes c.call) (w.calls k)
@@ -81,7 +81,7 @@ one_leg_is_queued = refl
 abbrev in_first : State → Rows
 in_first t = with_leg_row begun 0 (Some (in_state first t))
 
-held_leg_is_queued : place_at (in_first Held) 0 ≡ Some Queued
+held_leg_is_queued : world_state_at (in_first Held) 0 ≡ Some Queued
 held_leg_is_queued = refl
 
 abbrev refused : Rows

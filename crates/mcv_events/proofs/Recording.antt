@@ -11,14 +11,14 @@ use Rattle.mcv_route.specs.Outcomes.{Outcomes, is_same, outcomes}
 use Rattle.mcv_route.specs.Routes.{RoutesValue}
 use Rattle.mcv_rules.specs.Laws.{Extends}
 use Rattle.mcv_rules.specs.Rows.{ComesBefore}
-use Rattle.mcv_rules.proofs.Among.{Among}
+use Rattle.mcv_rules.proofs.ListMembers.{Among}
 use Rattle.mcv_rules.proofs.Orders.{one_more, same_is, same_self}
 use Rattle.mcv_rules.proofs.Verdicts.{sent_stays}
 use Rattle.mcv_world.specs.World.{Call, tree_of, situation_of, choice_of, history_of, launched_by, put}
 use Rattle.mcv_world.specs.Moves.{is_one, has_no_outcome, queue, with_reply, launched_since, recorded_by}
-use Rattle.mcv_world.specs.Live.{has_ended, running, live_at, live_leg, live_of}
+use Rattle.mcv_world.specs.LiveWorld.{has_ended, running, live_in, live_leg, live_of}
 use Rattle.mcv_events.specs.Entries.{is_launched, is_due, has_leg_at}
-use Rattle.mcv_events.specs.Rows.{awaits, State, Waiting, Sent, Held, InSpool, LegRow, CallRow, Rows, place_of, leg_of, world_of, is_unanswered, IsCallRow, IsCore, queued_rows, recorded_row, recorded_rows, CanRecord}
+use Rattle.mcv_events.specs.Rows.{awaits, State, Waiting, Sent, Held, InSpool, LegRow, CallRow, Rows, leg_state, leg_of, world_of, is_unanswered, IsCallRow, IsCore, queued_rows, recorded_row, recorded_rows, CanRecord}
 use Rattle.mcv_world.proofs.Numbers.{same_some, none_when, no_some, put_same, put_other, put_cases, at_some}
 use Rattle.mcv_world.proofs.CallsLegs.{all_at}
 use Rattle.mcv_events.proofs.Entries.{fresh_are_entries, not_true, cond_false}
@@ -26,7 +26,7 @@ use Rattle.mcv_events.proofs.Numbering
 
 -- ---- rows are live
 
-leg_of_lives : (s : LegRow) (t : State) → live_at (leg_of s) (place_of t) ≡ Some (leg_of s)
+leg_of_lives : (s : LegRow) (t : State) → live_in (leg_of s) (leg_state t) ≡ Some (leg_of s)
 leg_of_lives s Waiting = refl
 leg_of_lives s Sent = refl
 leg_of_lives s Held = refl

@@ -5,7 +5,7 @@ use Rattle.std.proofs.lemmas.Bool.{cases_lt}
 use Rattle.mcv_route.specs.declared.launch.Launch.{Launch}
 use Rattle.mcv_route.specs.Routes.{RoutesValue}
 use Rattle.mcv_world.specs.World.{put}
-use Rattle.mcv_world.specs.Live.{has_ended}
+use Rattle.mcv_world.specs.LiveWorld.{has_ended}
 use Rattle.mcv_events.specs.Entries.{is_launched}
 use Rattle.mcv_world.specs.Moves.{with_reply, with_taken}
 use Rattle.mcv_events.specs.Rows.{CallRow, Rows, IsCore, recorded_row}

@@ -7,9 +7,9 @@ use Rattle.mcv_route.specs.declared.launch.Launch.{Launch}
 use Rattle.mcv_route.specs.Routes.{RoutesValue}
 use Rattle.mcv_world.specs.World.{Call, reply_of, is_counted_delete, put}
 use Rattle.mcv_world.specs.Moves.{Move, Began, Answered, WasSpooled, WasRefused, WasPerformed, EraBegan, Taken, counted_as, is_error_reply, has_no_outcome, is_move, new_call, with_taken, after}
-use Rattle.mcv_world.specs.Live.{has_ended, live_of}
+use Rattle.mcv_world.specs.LiveWorld.{has_ended, live_of}
 use Rattle.mcv_events.specs.Entries.{IsLaidOut, is_launched}
-use Rattle.mcv_events.specs.Rows.{State, Sent, Held, InSpool, LegRow, CallRow, Rows, place_of, leg_of, world_of, is_unanswered, IsCore, numbered, queued_rows, recorded_rows, with_leg_row}
+use Rattle.mcv_events.specs.Rows.{State, Sent, Held, InSpool, LegRow, CallRow, Rows, leg_state, leg_of, world_of, is_unanswered, IsCore, numbered, queued_rows, recorded_rows, with_leg_row}
 
 -- the leg's call records this reply of it, where it runs and has no outcome for the leg
 abbrev pub recorded_rows_if : RoutesValue → Rows → LegRow → ReplyValue → ℕ → Option CallRow → Rows
@@ -96,10 +96,10 @@ TakenMoves =
 
 -- ---- or leaves the world as it is
 
--- where a leg's state changes and its place doesn't: Waiting, Sent and Held are one place
+-- where a row's state changes and its leg's doesn't: in each of Waiting, Sent and Held the leg is Queued
 abbrev pub StatesAreNoMoves : Type 0
 StatesAreNoMoves =
-    (w : Rows) (n : ℕ) (s : LegRow) (t : State) → w.legs n ≡ Some s → place_of t ≡ place_of s.state → world_of (with_leg_row w n (Some (in_state s t))) ≡ world_of w
+    (w : Rows) (n : ℕ) (s : LegRow) (t : State) → w.legs n ≡ Some s → leg_state t ≡ leg_state s.state → world_of (with_leg_row w n (Some (in_state s t))) ≡ world_of w
 
 -- such a change keeps what holds of a core's rows: Waiting to Sent, and Sent to Held for a counted delete leg
 abbrev pub StatesKeepCores : Type 0

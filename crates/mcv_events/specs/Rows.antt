@@ -5,9 +5,9 @@ use Rattle.mcv_base.specs.Reply.{ReplyValue}
 use Rattle.mcv_route.specs.declared.launch.Launch.{Launch}
 use Rattle.mcv_route.specs.Outcomes.{outcomes}
 use Rattle.mcv_route.specs.Routes.{RoutesValue}
-use Rattle.mcv_world.specs.World.{Place, Queued, Spooled, Call, Leg, World, history_of, launched_by, is_counted_delete, put}
+use Rattle.mcv_world.specs.World.{LegState, Queued, Spooled, Call, Leg, World, history_of, launched_by, is_counted_delete, put}
 use Rattle.mcv_world.specs.Moves.{is_one, has_no_outcome, with_reply, recorded_by}
-use Rattle.mcv_world.specs.Live.{has_ended, live_of}
+use Rattle.mcv_world.specs.LiveWorld.{has_ended, live_of}
 use Rattle.mcv_events.specs.Entries.{IsLaidOut, is_launched, is_due, has_leg_at}
 
 -- the state of a leg that is queued or spooled
@@ -43,14 +43,14 @@ pub record Rows : Type 0 where
 
 -- ---- the world that the rows keep
 
-abbrev pub place_of : State → Place
-place_of Waiting = Queued
-place_of Sent = Queued
-place_of Held = Queued
-place_of InSpool = Spooled
+abbrev pub leg_state : State → LegState
+leg_state Waiting = Queued
+leg_state Sent = Queued
+leg_state Held = Queued
+leg_state InSpool = Spooled
 
 abbrev pub leg_of : LegRow → Leg
-leg_of s = record { call = s.call; launch = s.launch; rest = s.rest; place = place_of s.state }
+leg_of s = record { call = s.call; launch = s.launch; rest = s.rest; state = leg_state s.state }
 
 abbrev pub world_of : Rows → World
 world_of w = record { calls = λ k. option_map (λ c. c.call) (w.calls k); legs = λ n. option_map leg_of (w.legs n); since = w.since; next_call = w.next_call; next_leg = w.next_leg }

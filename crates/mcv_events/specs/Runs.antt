@@ -4,12 +4,12 @@ use Rattle.mcv_base.specs.declared.operation.Op.TheVariants.{Delete}
 use Rattle.mcv_base.specs.declared.operation.Mark.TheVariants.{Plain}
 use Rattle.mcv_route.specs.Routes.{RoutesValue}
 use Rattle.mcv_route.specs.Eras.{IsEra}
-use Rattle.mcv_symbolic.specs.Covered.{AreCovered}
+use Rattle.mcv_symbolic.specs.CoveredRoutes.{AreCovered}
 use Rattle.mcv_world.specs.World.{World}
 use Rattle.mcv_world.specs.Moves.{Move, run}
-use Rattle.mcv_world.specs.Possible.{IsAllowed, ArePossible, IsOpening}
-use Rattle.mcv_world.specs.Live.{live_of}
-use Rattle.mcv_world.specs.Kept.{Kept}
+use Rattle.mcv_world.specs.PossibleMoves.{IsAllowed, ArePossible, IsOpening}
+use Rattle.mcv_world.specs.LiveWorld.{live_of}
+use Rattle.mcv_world.specs.KeptLegs.{Kept}
 use Rattle.mcv_world.specs.Laws.{IsWorld}
 use Rattle.mcv_events.specs.Rows.{InSpool, LegRow, Rows, world_of, IsCore}
 use Rattle.mcv_events.specs.Events.{Moves}

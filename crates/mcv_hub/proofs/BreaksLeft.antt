@@ -11,9 +11,9 @@ use Rattle.mcv_pools.specs.Table.{is_in, numbered, with_entry}
 use Rattle.mcv_route.specs.Eras.{IsBreakTable, IsSince, breaks_of, passed, since_at}
 use Rattle.mcv_route.specs.Routes.{RoutesValue}
 use Rattle.mcv_route.proofs.Breaks.{era-is}
-use Rattle.mcv_route.proofs.Passed.{since_is_last}
-use Rattle.mcv_rules.proofs.Among.{Among, among_left, among_right}
-use Rattle.mcv_hub.specs.MayWrite.{break_count, breaks_left, breaks_once}
+use Rattle.mcv_route.proofs.OpeningBreak.{since_is_last}
+use Rattle.mcv_rules.proofs.ListMembers.{Among, among_left, among_right}
+use Rattle.mcv_hub.specs.RemainingEntries.{break_count, breaks_left, breaks_once}
 use Rattle.mcv_hub.proofs.Counts.{at_most_all, fewer_pass, one_fewer}
 
 -- ---- each break is among those that are there once

@@ -1,7 +1,7 @@
 -- How many members of a list pass a test.
 use Rattle.std.proofs.Common.{◌≡◌, ◌∙◌, ◌&&◌, not, cond, inl, inr, suc, ◌+◌, ◌≤◌, Bool, true, false, List, [], ◌∷◌, length, refl, sym, ap, arith, true≢false}
 use Rattle.std.specs.Prelude.{filter}
-use Rattle.mcv_rules.proofs.Among.{Among}
+use Rattle.mcv_rules.proofs.ListMembers.{Among}
 
 pub at_most_all : {A : Type 0} (f : A → Bool) (xs : List A) → length (filter f xs) ≤ length xs
 at_most_all f [] = omega arith

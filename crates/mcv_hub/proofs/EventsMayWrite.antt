@@ -10,7 +10,7 @@ use Rattle.mcv_base.specs.declared.request.LegId.{LegId}
 use Rattle.mcv_base.specs.declared.request.Request.{Request}
 use Rattle.mcv_pools.specs.declared.hash.Fnv.{Fnv}
 use Rattle.mcv_pools.specs.Symbol.{SymbolValue}
-use Rattle.mcv_queues.specs.declared.marks.Mark.{Mark}
+use Rattle.mcv_queues.specs.declared.marks.ServerFailures.{ServerFailures}
 use Rattle.mcv_queues.specs.Marks.{answered_mark, lost_mark}
 use Rattle.mcv_queues.specs.Numbers.{IsLeast}
 use Rattle.mcv_route.specs.Eras.{breaks_of, since_at}
@@ -21,26 +21,26 @@ use Rattle.mcv_world.specs.Moves.{Taken, can_be_taken, counted_as, is_error_repl
 use Rattle.mcv_world.proofs.Numbers.{no_some}
 use Rattle.mcv_events.specs.Events.{in_state, refused_rows}
 use Rattle.mcv_events.specs.Rows as rows
-use Rattle.mcv_events.specs.Rows.{CallRow, IsCore, LegRow, Rows, awaits, leg_of, place_of, with_leg_row, world_of}
+use Rattle.mcv_events.specs.Rows.{CallRow, IsCore, LegRow, Rows, awaits, leg_of, leg_state, with_leg_row, world_of}
 use Rattle.mcv_events.specs.Runs.{OpenedRecord, opened, spooled_row}
 use Rattle.mcv_events.specs.Sums.{sum_below}
 use Rattle.mcv_core.specs.Asking.{HasBegunFor}
 use Rattle.mcv_core.proofs.Dispatchers.{view_has_era, view_is_core}
 use Rattle.mcv_core.specs.CoreView.{CoreView, Moved, Effect, HasEffect, IsQuiet, answer_at, answer_in, at_row, does, finished, flies, held, in_row_state, is_record, is_waiting, loss_at, loss_in, refused, refuses, refusing_at, refusing_in, replayed_in, sent_in, spooling_at, spooling_in, step_to, stores, taken_view, taken_row, waits_in, with_mark}
 use Rattle.mcv_core.specs.Opening.{known_records, opened_view}
-use Rattle.mcv_core.specs.Sound.{spooled_in, spooled_one}
-use Rattle.mcv_core.specs.Turning.{in_era, spooled_legs}
+use Rattle.mcv_core.specs.Soundness.{spooled_in, spooled_one}
+use Rattle.mcv_core.specs.Chapters.{in_era, spooled_legs}
 use Rattle.mcv_core.specs.View.{core_view}
 use Rattle.mcv_core.specs.declared.dispatcher.Dispatcher.{Dispatcher}
 use Rattle.mcv_core.specs.declared.engine.Core.{Core}
 use Rattle.mcv_core.specs.declared.fault.CoreFault.{CoreFault}
 use Rattle.mcv_core.specs.declared.fault.CoreFault.TheVariants.{NoSuchCall}
 use Rattle.mcv_core.specs.declared.step.Change.TheVariants as changes
-use Rattle.mcv_core.specs.declared.step.Place.TheVariants as places
+use Rattle.mcv_core.specs.declared.step.LegState.TheVariants as leg_states
 use Rattle.mcv_core.specs.declared.step.Step.{Step}
 use Rattle.mcv_core.specs.declared.turn.Era.{Era}
 use Rattle.mcv_hub.specs.History.{entries_in, era_entry}
-use Rattle.mcv_hub.specs.MayWrite.{break_count, breaks_left, call_may_write, leg_may_write, leg_may_write_in, may_write, rows_may_write, written_by}
+use Rattle.mcv_hub.specs.RemainingEntries.{break_count, breaks_left, call_may_write, leg_may_write, leg_may_write_in, may_write, rows_may_write, written_by}
 use Rattle.mcv_hub.proofs.BreaksLeft.{all_breaks, no_more_breaks, one_break_less}
 use Rattle.mcv_hub.proofs.RowsMayWrite.{beginning_writes, call_below, leg_below, leg_changes, recording_for_writes, refusing_writes, taking_writes}
 
@@ -56,7 +56,7 @@ by_rows v w d routes moment less =
 pub may_write_same : (v w : CoreView) → w ≡ v → may_write w ≤ may_write v
 may_write_same v w e = omega (arith, ap may_write e)
 
-pub mark_writes : (v w : CoreView) (server : ℕ) (g : Mark → Mark) → w ≡ with_mark v server g → may_write w ≤ may_write v
+pub mark_writes : (v w : CoreView) (server : ℕ) (g : ServerFailures → ServerFailures) → w ≡ with_mark v server g → may_write w ≤ may_write v
 mark_writes v w server g e = let o = by_rows v (with_mark v server g) 0 refl refl (omega arith) in omega (arith, o, ap may_write e)
 
 pub flight_writes : (v w : CoreView) (flights : ℕ → Option ℕ) → w ≡ record v { flights = flights } → may_write w ≤ may_write v
@@ -109,21 +109,21 @@ module _ (v : CoreView) (i : IsCore v.routes v.rows) (n : ℕ) (s : LegRow) (at 
   weighs : (t : rows.State) → s.state ≡ t → leg_may_write (Some s) ≡ leg_may_write_in t
   weighs t is = ap leg_may_write_in is
 
-  held_writes : (g : Mark → Mark) → s.state ≡ rows.Sent → WritesAfter v (held (with_mark v s.launch.server.0 g) n s)
+  held_writes : (g : ServerFailures → ServerFailures) → s.state ≡ rows.Sent → WritesAfter v (held (with_mark v s.launch.server.0 g) n s)
   held_writes g is =
       let t = leg_changes v.routes v.rows n s (Some (in_state s rows.Held)) low at in
       by_rows v _ 0 refl refl (omega (arith, t, weighs rows.Sent is))
 
-  finished_writes : (g : Mark → Mark) (y : ReplyValue) → s.state ≡ rows.Sent → WritesAfter v (finished (with_mark v s.launch.server.0 g) n y s)
+  finished_writes : (g : ServerFailures → ServerFailures) (y : ReplyValue) → s.state ≡ rows.Sent → WritesAfter v (finished (with_mark v s.launch.server.0 g) n y s)
   finished_writes g y is =
       let t = leg_changes v.routes v.rows n s None low at in
       let o = recording_for_writes v.routes (with_leg_row v.rows n None) s y s.call i.calls_below in
       by_rows v _ 1 refl refl (omega (arith, t, o, weighs rows.Sent is))
 
-  sent_writes : (g : Mark → Mark) (y : ReplyValue) → s.state ≡ rows.Sent → WritesAfter v (sent_in (with_mark v s.launch.server.0 g) n y s)
+  sent_writes : (g : ServerFailures → ServerFailures) (y : ReplyValue) → s.state ≡ rows.Sent → WritesAfter v (sent_in (with_mark v s.launch.server.0 g) n y s)
   sent_writes g y is = by_test v (is_counted_delete (leg_of s) && is_error_reply y) _ _ (held_writes g is) (finished_writes g y is)
 
-  replayed_writes : (g : Mark → Mark) (failed : Bool) → s.state ≡ rows.InSpool → WritesAfter v (replayed_in (with_mark v s.launch.server.0 g) n failed s)
+  replayed_writes : (g : ServerFailures → ServerFailures) (failed : Bool) → s.state ≡ rows.InSpool → WritesAfter v (replayed_in (with_mark v s.launch.server.0 g) n failed s)
   replayed_writes g failed is =
       let t = leg_changes v.routes v.rows n s None low at in
       by_test v failed _ _ (by_rows v _ 0 refl refl (omega arith)) (by_rows v _ 1 refl refl (omega (arith, t, weighs rows.InSpool is)))
@@ -138,7 +138,7 @@ module _ (v : CoreView) (i : IsCore v.routes v.rows) (n : ℕ) (s : LegRow) (at 
   refused_writes = by (awaits v.rows.calls s s.call) refl
     where
       by : (b : Bool) → awaits v.rows.calls s s.call ≡ b
-          → WritesAfter v (cond b (does (step_to places.Held changes.Refused) (record v { rows = refused_rows v.routes v.rows s })) (does (step_to places.Held changes.Nothing) v))
+          → WritesAfter v (cond b (does (step_to leg_states.Held changes.Refused) (record v { rows = refused_rows v.routes v.rows s })) (does (step_to leg_states.Held changes.Nothing) v))
       by true e = by_rows v _ 1 refl refl (refusing_writes v.routes v.rows n s i at e)
       by false e = by_rows v v 0 refl refl (omega arith)
 
@@ -248,7 +248,7 @@ no_call : (o : Option CallRow) → option_map (λ c. c.call) o ≡ None → o �
 no_call None e = refl
 no_call (Some c) e = no_some (sym e)
 
-in_spool : (t : rows.State) → place_of t ≡ Spooled → t ≡ rows.InSpool
+in_spool : (t : rows.State) → leg_state t ≡ Spooled → t ≡ rows.InSpool
 in_spool rows.Waiting e = absurd cc
 in_spool rows.Sent e = absurd cc
 in_spool rows.Held e = absurd cc

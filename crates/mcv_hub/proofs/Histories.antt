@@ -12,15 +12,15 @@ use Rattle.mcv_base.specs.declared.request.LegId.{LegId}
 use Rattle.mcv_base.specs.declared.request.Request.{Request}
 use Rattle.mcv_pools.specs.Hash.{fnv_index}
 use Rattle.mcv_route.specs.Routes.{RoutesValue}
-use Rattle.mcv_symbolic.specs.Covered.{AreCovered}
+use Rattle.mcv_symbolic.specs.CoveredRoutes.{AreCovered}
 use Rattle.mcv_world.proofs.Choices.{moments_have_eras}
 use Rattle.mcv_world.proofs.Numbers.{no_some, same_some}
 use Rattle.mcv_route.specs.Eras.{breaks_of, since_at}
 use Rattle.mcv_spool.specs.declared.record.SpoolRecord.{SpoolRecord}
 use Rattle.mcv_world.specs.World.{Call, World, reply_of}
 use Rattle.mcv_world.specs.Moves.{Move, Began, Answered as answered_move, Taken as taken_move, is_move, after, run}
-use Rattle.mcv_world.specs.Live.{has_ended, running, live_of}
-use Rattle.mcv_world.specs.Possible.{IsPossible, ArePossible}
+use Rattle.mcv_world.specs.LiveWorld.{has_ended, running, live_of}
+use Rattle.mcv_world.specs.PossibleMoves.{IsPossible, ArePossible}
 use Rattle.mcv_world.specs.Laws.{HasReply, IsWorld}
 use Rattle.mcv_world.proofs.MovesKeepWorlds.{opening_is_world, run_world}
 use Rattle.mcv_world.proofs.ForgetsSafely.{forgets_safely, moves_are_live}
@@ -31,7 +31,7 @@ use Rattle.mcv_events.proofs.CoresKeepDeletes.{opened_is_core, spooled_rows_open
 use Rattle.mcv_core.specs.Opening.{known_records, opened_view}
 use Rattle.mcv_core.specs.Asking.{HasBegunFor}
 use Rattle.mcv_core.specs.CoreView.{CoreView, Effect, HasEffect, Moved, Unmoved, Does, IsQuiet, change_move}
-use Rattle.mcv_core.specs.Turning.{era_move}
+use Rattle.mcv_core.specs.Chapters.{era_move}
 use Rattle.mcv_core.specs.View.{core_view}
 use Rattle.mcv_core.specs.declared.fault.CoreFault.{CoreFault}
 use Rattle.mcv_core.specs.declared.step.Step.{Step}
@@ -41,7 +41,7 @@ use Rattle.mcv_core.specs.declared.step.Change.TheVariants.{Nothing, Answered, S
 use Rattle.mcv_hub.specs.declared.entry.Entry.{Entry}
 use Rattle.mcv_hub.specs.declared.entry.Entry.TheVariants as entries
 use Rattle.mcv_hub.specs.History.{Begins, IsMoveOf, IsHistory, none, more, is_began, is_taken, with_entry, entries_in, leg_entry, era_entry}
-use Rattle.mcv_hub.specs.MayWrite.{break_count, may_write, written_by}
+use Rattle.mcv_hub.specs.RemainingEntries.{break_count, may_write, written_by}
 use Rattle.mcv_hub.specs.State.{HasRoom, HistoryKeepsDeletes, HubView, IsHub, IsLegEvent, IsSame, IsSameBooks, IsWritten}
 
 run-push : (r : RoutesValue) (w : World) (ms : List Move) (m : Move) → run r w (ms ++ m ∷ []) ≡ after r (run r w ms) m

@@ -8,12 +8,12 @@ use Rattle.mcv_route.specs.declared.launch.Launch.{Launch}
 use Rattle.mcv_route.specs.Outcomes.{Outcomes, is_same, outcomes}
 use Rattle.mcv_route.specs.Routes.{RoutesValue}
 use Rattle.mcv_rules.specs.Laws.{Extends}
-use Rattle.mcv_rules.proofs.Among.{Among}
+use Rattle.mcv_rules.proofs.ListMembers.{Among}
 use Rattle.mcv_rules.proofs.Orders.{one_more, same_self}
 use Rattle.mcv_rules.proofs.Verdicts.{sent_stays}
 use Rattle.mcv_world.specs.World.{Call, choice_of, history_of, launched_by, put, situation_of, tree_of}
 use Rattle.mcv_world.specs.Moves.{has_no_outcome, with_reply, with_taken}
-use Rattle.mcv_world.specs.Live.{has_ended}
+use Rattle.mcv_world.specs.LiveWorld.{has_ended}
 use Rattle.mcv_world.proofs.Numbers.{at_some, no_some, none_when, put_same, same_some}
 use Rattle.mcv_events.specs.Entries.{is_due, is_launched}
 use Rattle.mcv_events.specs.Events.{began_rows, new_row, recorded_rows_for, recorded_rows_if, refused_rows, taken_rows}
@@ -22,7 +22,7 @@ use Rattle.mcv_events.specs.Rows.{CallRow, IsCore, LegRow, Rows, awaits, leg_of,
 use Rattle.mcv_events.specs.Sums.{sum_below}
 use Rattle.mcv_events.proofs.Recording.{awaits_call, launched_at}
 use Rattle.mcv_events.proofs.Sums.{sum_above, sum_put}
-use Rattle.mcv_hub.specs.MayWrite.{call_may_write, is_open, leg_may_write, rows_may_write}
+use Rattle.mcv_hub.specs.RemainingEntries.{call_may_write, is_open, leg_may_write, rows_may_write}
 use Rattle.mcv_hub.proofs.Counts.{at_most_all, both_counted, divided, fewer_pass, one_fewer}
 
 -- ---- legs

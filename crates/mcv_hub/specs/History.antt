@@ -10,8 +10,8 @@ use Rattle.mcv_pools.specs.Hash.{fnv_index}
 use Rattle.mcv_route.specs.Routes.{RoutesValue}
 use Rattle.mcv_world.specs.World.{World}
 use Rattle.mcv_world.specs.Moves.{Move, Began, Answered, WasSpooled, WasRefused, WasPerformed, EraBegan, Taken, run}
-use Rattle.mcv_world.specs.Live.{live_of}
-use Rattle.mcv_world.specs.Possible.{IsOpening, ArePossible}
+use Rattle.mcv_world.specs.LiveWorld.{live_of}
+use Rattle.mcv_world.specs.PossibleMoves.{IsOpening, ArePossible}
 use Rattle.mcv_core.specs.Asking.{IsAsked}
 use Rattle.mcv_core.specs.declared.step.Change.{Change}
 use Rattle.mcv_core.specs.declared.step.Change.TheVariants as changes

@@ -1,4 +1,4 @@
-pub mod MayWrite
+pub mod RemainingEntries
 pub mod History
 pub mod State
 pub mod Receipts

@@ -10,10 +10,10 @@ use Rattle.mcv_base.specs.declared.reply.Part.{Part}
 use Rattle.mcv_base.specs.declared.request.LegId.{LegId}
 use Rattle.mcv_base.specs.declared.request.Request.{Request}
 use Rattle.mcv_pools.specs.Hash.{fnv_index}
-use Rattle.mcv_symbolic.specs.Covered.{AreCovered}
+use Rattle.mcv_symbolic.specs.CoveredRoutes.{AreCovered}
 use Rattle.mcv_world.specs.World.{World}
 use Rattle.mcv_world.specs.Laws.{HasReply, IsWorld}
-use Rattle.mcv_world.specs.Live.{live_of}
+use Rattle.mcv_world.specs.LiveWorld.{live_of}
 use Rattle.mcv_world.specs.Moves.{run}
 use Rattle.mcv_events.specs.Rows.{CallRow, world_of}
 use Rattle.mcv_core.specs.Asking.{HasBegunFor}

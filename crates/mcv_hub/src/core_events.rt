@@ -6,7 +6,7 @@ ghost use Rattle.std.specs.Prelude.{◌≡◌, ◌≤◌, ◌+◌, ◌⊎◌, No
 ghost use Rattle.mcv_base.specs.Reply.{fixed_value, not_found, part_value};
 ghost use Rattle.mcv_base.specs.declared.reply.FixedReply.TheVariants.{Lost as LostReply};
 ghost use Rattle.mcv_pools.specs.Hash.{fnv_index};
-ghost use Rattle.mcv_symbolic.specs.Covered.{AreCovered};
+ghost use Rattle.mcv_symbolic.specs.CoveredRoutes.{AreCovered};
 ghost use Rattle.mcv_queues.specs.Marks.{checked_mark, no_mark};
 ghost use Rattle.mcv_queues.specs.Numbers.{IsLeast};
 ghost use Rattle.mcv_route.specs.Eras.{breaks_of, since_at};
@@ -17,11 +17,11 @@ ghost use Rattle.mcv_events.specs.Rows.{world_of};
 ghost use Rattle.mcv_core.specs.Asking.{HasBegunFor, IsRefusedFor};
 ghost use Rattle.mcv_core.specs.CoreView.{Does, HasEffect, IsQuiet, Moved, Unmoved, answer_at, change_move, in_row_state, is_spooled, is_waiting, loss_at, refusing_at, spooling_at, with_mark};
 ghost use Rattle.mcv_core.specs.Opening.{opened_view};
-ghost use Rattle.mcv_core.specs.Turning.{CanTurn, era_move, in_era, spooled_legs};
+ghost use Rattle.mcv_core.specs.Chapters.{CanTurn, era_move, in_era, spooled_legs};
 ghost use Rattle.mcv_core.specs.View.{core_view, records_after, records_of};
 ghost use Rattle.mcv_core.specs.declared.fault.CoreFault.TheVariants.{Memory as OutOfMemory};
 ghost use Rattle.mcv_hub.specs.History.{entries_in, era_entry};
-ghost use Rattle.mcv_hub.specs.MayWrite.{break_count, may_write, written_by};
+ghost use Rattle.mcv_hub.specs.RemainingEntries.{break_count, may_write, written_by};
 
 use mcv_base::{CallId, LegId, Moment, Part, Parts, Request, ServerId};
 use mcv_check::Accepted;
@@ -106,7 +106,7 @@ pub(crate) fn replay(core: &mut Core<Fnv>, server: ServerId) -> Result<LegId, Co
 pub(crate) fn answered(core: &mut Core<Fnv>, leg: LegId, parts: Parts) -> Result<Step, CoreFault>
     ensures effect { HasEffect (answer_at (core_view core.old.dispatcher) leg.0 parts) (core_view core.old.dispatcher) (core_view core.new.dispatcher) result }
     ensures does { IfOk result (λ step. Does (core_view core.old.dispatcher) (core_view core.new.dispatcher) (change_move leg.0 parts step.change)) }
-    ensures records { IfOk result (λ step. records_of core.new.dispatcher ≡ records_after step.place leg.0 (records_of core.old.dispatcher)) }
+    ensures records { IfOk result (λ step. records_of core.new.dispatcher ≡ records_after step.state leg.0 (records_of core.old.dispatcher)) }
     ensures kept { OnErr result (records_of core.new.dispatcher ≡ records_of core.old.dispatcher) }
     ensures chapter { (core_view core.new.dispatcher).chapter ≡ (core_view core.old.dispatcher).chapter }
     ensures err { OnErr result (core_view core.new.dispatcher ≡ core_view core.old.dispatcher) }
@@ -119,7 +119,7 @@ pub(crate) fn answered(core: &mut Core<Fnv>, leg: LegId, parts: Parts) -> Result
 pub(crate) fn lost(core: &mut Core<Fnv>, leg: LegId) -> Result<Step, CoreFault>
     ensures effect { HasEffect (loss_at (core_view core.old.dispatcher) leg.0) (core_view core.old.dispatcher) (core_view core.new.dispatcher) result }
     ensures does { IfOk result (λ step. Does (core_view core.old.dispatcher) (core_view core.new.dispatcher) (change_move leg.0 (fixed_value LostReply) step.change)) }
-    ensures records { IfOk result (λ step. records_of core.new.dispatcher ≡ records_after step.place leg.0 (records_of core.old.dispatcher)) }
+    ensures records { IfOk result (λ step. records_of core.new.dispatcher ≡ records_after step.state leg.0 (records_of core.old.dispatcher)) }
     ensures kept { OnErr result (records_of core.new.dispatcher ≡ records_of core.old.dispatcher) }
     ensures chapter { (core_view core.new.dispatcher).chapter ≡ (core_view core.old.dispatcher).chapter }
     ensures err { OnErr result (core_view core.new.dispatcher ≡ core_view core.old.dispatcher) }

@@ -15,11 +15,11 @@ ghost use Rattle.mcv_events.specs.Rows.{world_of};
 ghost use Rattle.mcv_core.specs.Asking.{IsRefusedFor};
 ghost use Rattle.mcv_core.specs.CoreView.{Does, IsQuiet, Moved, Unmoved, answer_at, in_row_state, is_spooled, is_waiting, loss_at, refusing_at, spooling_at, with_mark};
 ghost use Rattle.mcv_core.specs.Opening.{opened_view};
-ghost use Rattle.mcv_core.specs.Turning.{CanTurn, era_move, in_era, spooled_legs};
+ghost use Rattle.mcv_core.specs.Chapters.{CanTurn, era_move, in_era, spooled_legs};
 ghost use Rattle.mcv_core.specs.View.{core_view, records_after, records_of};
 ghost use Rattle.mcv_core.specs.declared.fault.CoreFault.TheVariants.{Memory as OutOfMemory};
 ghost use Rattle.mcv_hub.specs.History.{era_entry, with_entry};
-ghost use Rattle.mcv_hub.specs.MayWrite.{break_count};
+ghost use Rattle.mcv_hub.specs.RemainingEntries.{break_count};
 ghost use Rattle.mcv_hub.specs.Receipts.{ArePassed, AreRefused};
 ghost use Rattle.mcv_hub.specs.State.{BeginsOne, HistoryKeepsDeletes, IsCallOf, IsLegEvent, IsSame, IsSameBooks, IsSameChapter, Replies};
 ghost use Rattle.mcv_hub.specs.declared.entry.Entry.TheVariants.{Taken as taken_entry};
@@ -187,7 +187,7 @@ impl<'a, B: Ledger, T: Ledger> Guard<'a, B, T> {
     /// A leg in flight was answered. It takes no memory. An error is NoSuchLeg, where the leg isn't in flight.
     pub fn answered(&mut self, leg: LegId, reply: LegReply) -> Result<Step, CoreFault>
         ensures event { IsLegEvent (answer_at (core_view self.old.core) leg.0 reply) reply leg self.old self.new result }
-        ensures records { IfOk result (λ step. records_of self.new.core ≡ records_after step.place leg.0 (records_of self.old.core)) }
+        ensures records { IfOk result (λ step. records_of self.new.core ≡ records_after step.state leg.0 (records_of self.old.core)) }
         ensures kept { OnErr result (records_of self.new.core ≡ records_of self.old.core) }
     {
         self.state.answered(leg, reply)
@@ -196,7 +196,7 @@ impl<'a, B: Ledger, T: Ledger> Guard<'a, B, T> {
     /// A leg in flight was lost. It takes no memory. An error is NoSuchLeg, where the leg isn't in flight.
     pub fn lost(&mut self, leg: LegId) -> Result<Step, CoreFault>
         ensures event { IsLegEvent (loss_at (core_view self.old.core) leg.0) (fixed_value lost_reply) leg self.old self.new result }
-        ensures records { IfOk result (λ step. records_of self.new.core ≡ records_after step.place leg.0 (records_of self.old.core)) }
+        ensures records { IfOk result (λ step. records_of self.new.core ≡ records_after step.state leg.0 (records_of self.old.core)) }
         ensures kept { OnErr result (records_of self.new.core ≡ records_of self.old.core) }
     {
         self.state.lost(leg)

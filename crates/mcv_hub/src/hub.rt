@@ -17,7 +17,7 @@ use std::sync::ledger::{Blank, Ledger};
 use std::sync::{Arc, Condvar, Mutex, Wait};
 use std::time::Duration;
 
-/// How often the lock is tried before a thread sleeps until it is free: some ten microseconds.
+/// How often the lock is tried before a thread sleeps until it is free: for four microseconds or more.
 const TRIES: u32 = 400;
 
 /// What a thread waits for: a leg for a server's worker, the reply to a call for a session, a record for the spool's

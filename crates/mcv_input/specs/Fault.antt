@@ -9,8 +9,8 @@ use Rattle.mcv_names.specs.declared.fault.ConfigFault.{ConfigFault}
 use Rattle.mcv_names.specs.declared.fault.ReadFault.{ReadFault}
 use Rattle.mcv_names.specs.declared.fault.ReadFault.TheVariants as read_faults
 use Rattle.mcv_config.specs.Config.{Faulty, Names}
-use Rattle.mcv_config.specs.Plan.{Plan}
-use Rattle.mcv_route.specs.Built.{routes_named}
+use Rattle.mcv_config.specs.ConfigValue.{ConfigValue}
+use Rattle.mcv_route.specs.NamedRoutes.{routes_named}
 use Rattle.mcv_route.specs.Routes.{RoutesValue}
 use Rattle.mcv_input.specs.declared.fault.RunFault.{RunFault}
 use Rattle.mcv_input.specs.declared.fault.RunFault.TheVariants.{Line, NoRoute, Config, CertificateText, Certificate, Memory, Device}
@@ -59,9 +59,9 @@ IsOutside fault = (fault ≡ Memory) ⊎ (fault ≡ Device)
 
 -- ---- configurations
 
--- the text of a configuration names a plan, and the routes are those of the plan
+-- the text names a configuration, and the routes are its own
 abbrev pub AreNamedBy : List ℕ → RoutesValue → Type 0
-AreNamedBy text routes = (plan : Plan) × Names text plan × (routes ≡ routes_named plan)
+AreNamedBy text routes = (config : ConfigValue) × Names text config × (routes ≡ routes_named config)
 
 -- the fault is in the text of a configuration
 abbrev pub IsConfigFault : List ℕ → ConfigFault → Type 0

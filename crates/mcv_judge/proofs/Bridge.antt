@@ -6,21 +6,22 @@ use Rattle.std.specs.Option.{option_map}
 use Rattle.std.specs.Ordering.{is_eq}
 use Rattle.std.proofs.lemmas.Bool.{cases_Bool, le-leb, eqb-true}
 use Rattle.std.proofs.lemmas.List.{drop-map}
-use Rattle.mcv_cert.specs.Pair.{Place, PairValue, AreRising, pair_of, place_cmp}
+use Rattle.mcv_cert.specs.Pair.{PlaceValue, PairValue, AreRising, pair_of, place_cmp}
+use Rattle.mcv_cert.proofs.Rising.{places_total}
 use Rattle.mcv_judge.specs.Reason.{BlockValue}
 use Rattle.mcv_judge.specs.Faults.{Required, AreInOrder, HaveSameFaults, IsFaultless, IsFirstFault, IsInOrder, fault_at, fault_there, required_at, required_by, is_answered_whole, pair_at, place_required}
-use Rattle.mcv_judge.specs.InMemory.{block_of, pairs_of}
+use Rattle.mcv_judge.specs.PairsInMemory.{block_of, pairs_of}
 use Rattle.mcv_judge.specs.Walk.{entries, entry_from, fault_in, walk, walked}
 use Rattle.mcv_judge.specs.Reason.{unless}
 use Rattle.mcv_judge.specs.declared.fault.PairFault.{PairFault}
 use Rattle.mcv_judge.specs.declared.fault.PairFault.TheVariants.{Stray}
 use Rattle.mcv_cert.specs.declared.pair.Pair.{Pair}
 use Rattle.mcv_judge.specs.declared.block.Block.{Block}
-use Rattle.mcv_judge.proofs.Open.{Judges, IsFirst, AreEntriesRising, entry_at, fault_beside, fault_from}
-use Rattle.mcv_judge.proofs.Order.{places_total, all_rise, one_rises, ascending, rising, entries_both, in_order_from}
-use Rattle.mcv_judge.proofs.First.{judges, end_stray}
+use Rattle.mcv_judge.proofs.FaultAtPlace.{Judges, IsFirst, AreEntriesRising, entry_at, fault_beside, fault_from}
+use Rattle.mcv_judge.proofs.Order.{all_rise, one_rises, ascending, rising, entries_both, in_order_from}
+use Rattle.mcv_judge.proofs.FirstFault.{judges, end_stray}
 
-entry_of_required : (os : List Required) (s : Place) → entry_at (entries os) s ≡ option_map (entry_from 0) (required_at os s)
+entry_of_required : (os : List Required) (s : PlaceValue) → entry_at (entries os) s ≡ option_map (entry_from 0) (required_at os s)
 entry_of_required [] s = refl
 entry_of_required (o ∷ os) s = elim (cases_Bool (is_eq (place_cmp (place_required o) s))) [
   | inl h ↦ rw h refl
@@ -34,7 +35,7 @@ all_open None (Some r) whole i = refl
 all_open (Some o) None whole i = rw (le-leb 0 i (omega arith)) refl
 all_open (Some o) (Some r) whole i = rw (le-leb 0 i (omega arith)) refl
 
-pub of_blocks : (pairs : List PairValue) (blocks : List BlockValue) (s : Place) (i : ℕ) → fault_from pairs (entries (flat_map required_by blocks)) s i ≡ fault_at pairs blocks s i
+pub of_blocks : (pairs : List PairValue) (blocks : List BlockValue) (s : PlaceValue) (i : ℕ) → fault_from pairs (entries (flat_map required_by blocks)) s i ≡ fault_at pairs blocks s i
 of_blocks pairs blocks s i =
     ap (λ e. fault_beside e (pair_at pairs s i) (is_answered_whole pairs s) i) (entry_of_required (flat_map required_by blocks) s)
     ∙ all_open (required_at (flat_map required_by blocks) s) (pair_at pairs s i) (is_answered_whole pairs s) i

@@ -1,6 +1,6 @@
 -- The definitions at a small certificate. Gets go to a leaf with two servers by its hash, deletes to each server by a leg of its own.
 use Rattle.std.proofs.Common.{◌≡◌, true, [], ◌∷◌, Some, None, refl}
-use Rattle.mcv_cert.specs.Pair.{ReasonValue, never, twin, same, all, Place, PairValue, place_cmp}
+use Rattle.mcv_cert.specs.Pair.{ReasonValue, never, twin, same, all, PlaceValue, SpotValue, PairValue, place_cmp}
 use Rattle.mcv_judge.specs.Reason.{LegValue, BlockValue, fault_of}
 use Rattle.mcv_judge.specs.Faults.{fault_at}
 use Rattle.mcv_judge.specs.declared.fault.PairFault.TheVariants.{Missing, Stray, NotAcknowledged, OtherServer, CanBeAcknowledged}
@@ -14,14 +14,17 @@ first_leg = record { position = 0 ∷ 0 ∷ []; symbol = 1; servers = 7 ∷ [] }
 abbrev second_leg : LegValue
 second_leg = record { position = 0 ∷ 1 ∷ []; symbol = 1; servers = 8 ∷ [] }
 
-abbrev block : BlockValue
-block = record { route = 0; class = []; era = 0; readable = hashed ∷ []; acknowledged = first_leg ∷ second_leg ∷ []; can_be_acknowledged = true }
+abbrev spot : SpotValue
+spot = record { route = 0; class = []; era = 0 }
 
-abbrev place : Place
-place = record { route = 0; class = []; era = 0; leaf = 1 ∷ [] }
+abbrev block : BlockValue
+block = record { spot = spot; readable = hashed ∷ []; acknowledged = first_leg ∷ second_leg ∷ []; can_be_acknowledged = true }
+
+abbrev place : PlaceValue
+place = record { spot = spot; leaf = 1 ∷ [] }
 
 abbrev pair : ReasonValue → PairValue
-pair r = record { route = 0; class = []; era = 0; leaf = 1 ∷ []; reason = r }
+pair r = record { place = place; reason = r }
 
 abbrev zeroth : PairValue
 zeroth = pair (all 0 ((0 ∷ 0 ∷ []) ∷ []))

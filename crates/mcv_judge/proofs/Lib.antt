@@ -1,8 +1,8 @@
-pub mod Open
-pub mod First
+pub mod FaultAtPlace
+pub mod FirstFault
 pub mod Order
 pub mod Bridge
-pub mod Answered
+pub mod AnsweringPairs
 pub mod Lookup
 pub mod Steps
 pub mod Servers

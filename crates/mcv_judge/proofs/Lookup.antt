@@ -14,7 +14,7 @@ use Rattle.mcv_judge.specs.declared.block.Leg.{Leg}
 use Rattle.mcv_cert.specs.Pair.{list_cmp}
 use Rattle.mcv_judge.specs.Reason.{is_same_list, leg_at}
 use Rattle.mcv_judge.specs.Faults.{AreLegsRising}
-use Rattle.mcv_judge.specs.InMemory.{leg_of, legs_of}
+use Rattle.mcv_judge.specs.PairsInMemory.{leg_of, legs_of}
 
 module _ (leaves : List Leg) (rising : AreLegsRising (legs_of leaves)) (p : List ℕ) where
   rises_at : (i j : ℕ) (d : Leg) → i < j → j < length leaves → list_cmp (get_or leaves i d).position.now (get_or leaves j d).position.now ≡ Less

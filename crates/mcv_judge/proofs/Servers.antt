@@ -7,7 +7,7 @@ use Rattle.std.specs.Ordering.{nat_cmp, ordering_then}
 use Rattle.std.proofs.lemmas.List.{length-map}
 use Rattle.std.proofs.lemmas.Option.{slice_get-map}
 use Rattle.mcv_base.specs.declared.request.ServerId.{ServerId}
-use Rattle.mcv_judge.specs.InMemory.{numbers}
+use Rattle.mcv_judge.specs.PairsInMemory.{numbers}
 
 pub servers_counted : (servers : List ServerId) → length (numbers servers) ≡ length servers
 servers_counted servers = length-map servers (λ (s : ServerId). s.0)

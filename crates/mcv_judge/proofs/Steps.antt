@@ -7,10 +7,10 @@ use Rattle.std.proofs.lemmas.List.{length-map}
 use Rattle.std.proofs.lemmas.Bool.{cases_Bool, lt-ltb}
 use Rattle.std.specs.declared.cmp.Ordering.{Ordering}
 use Rattle.std.specs.declared.cmp.Ordering.TheVariants.{Less, Equal, Greater}
-use Rattle.mcv_cert.specs.Pair.{PairValue, ReasonValue, index_of, place_of, index_cmp}
+use Rattle.mcv_cert.specs.Pair.{PairValue, ReasonValue, index_of, index_cmp}
 use Rattle.mcv_judge.specs.Reason.{BlockValue, is_whole}
 use Rattle.mcv_judge.specs.Faults.{require}
-use Rattle.mcv_judge.specs.InMemory.{leg_of, legs_of, pairs_of}
+use Rattle.mcv_judge.specs.PairsInMemory.{leg_of, legs_of, pairs_of}
 use Rattle.mcv_judge.specs.Walk.{Entry, after, entries, entries_left, or_else, walk, walked}
 use Rattle.mcv_judge.specs.declared.block.Leg.{Leg}
 use Rattle.mcv_cert.specs.declared.pair.Pair.{Pair}
@@ -42,7 +42,7 @@ walk_both : (pairs : List PairValue) (es fs : List Entry) → walk pairs (es ++ 
 walk_both [] [] fs = refl
 walk_both (r ∷ pairs) [] fs = refl
 walk_both [] (e ∷ es) fs = refl
-walk_both (r ∷ pairs) (e ∷ es) fs = turn (index_cmp (place_of r) (index_of r.reason) e.place e.from) (walk_both pairs (after r.reason e es) fs)
+walk_both (r ∷ pairs) (e ∷ es) fs = turn (index_cmp r.place (index_of r.reason) e.place e.from) (walk_both pairs (after r.reason e es) fs)
   where
     turn : (c : Ordering) → walk pairs (after r.reason e es ++ fs) ≡ onward (walk pairs (after r.reason e es)) (λ rest. walk rest fs) → by r pairs e (es ++ fs) c ≡ onward (by r pairs e es c) (λ rest. walk rest fs)
     turn Less h = refl

@@ -1,12 +1,12 @@
 -- Pairs that answer what blocks require, leaf after leaf and block after block: how certificates are made (own).
 use Rattle.std.specs.Prelude.{◌≡◌, ◌⊎◌, ◌++◌, ◌∷◌, [], ℕ, true, false, List, Some, None, length, slice_get}
-use Rattle.mcv_cert.specs.Pair.{AreRising, PairValue, index_of, place_of}
+use Rattle.mcv_cert.specs.Pair.{AreRising, PairValue, index_of}
 use Rattle.mcv_judge.specs.Reason.{LegValue, BlockValue, fault_of, is_whole}
 use Rattle.mcv_judge.specs.Faults.{AreInOrder, IsFaultless, place_required, require}
 
 -- the pair is at the leaf, speaks of the index, and its reason has no fault
 pub record IsAnswer (b : BlockValue) (leaf : LegValue) (i : ℕ) (p : PairValue) : Type 0 where
-  pub place : place_of p ≡ place_required (require b leaf)
+  pub place : p.place ≡ place_required (require b leaf)
   pub index : index_of p.reason ≡ i
   pub faultless : fault_of b leaf p.reason ≡ None
 

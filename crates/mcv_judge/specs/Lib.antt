@@ -1,6 +1,6 @@
 pub mod Reason
 pub mod Faults
 pub mod Answers
-pub mod InMemory
+pub mod PairsInMemory
 pub mod Numbers
 pub mod Walk

@@ -2,7 +2,7 @@
 use Rattle.std.specs.Prelude.{◌≡◌, ◌⊎◌, ◌<◌, ℕ, suc, Bool, true, false, ◌&&◌, List, [], ◌∷◌, Option, Some, None, if◌then◌else◌, length, nat_eq, find, is_none, slice_get}
 use Rattle.std.specs.List.{list_any}
 use Rattle.std.specs.Ordering.{is_eq}
-use Rattle.mcv_cert.specs.Pair.{ReasonValue, never, twin, same, all, index_of, list_cmp}
+use Rattle.mcv_cert.specs.Pair.{SpotValue, ReasonValue, never, twin, same, all, index_of, list_cmp}
 use Rattle.mcv_judge.specs.declared.fault.PairFault.{PairFault}
 use Rattle.mcv_judge.specs.declared.fault.PairFault.TheVariants.{NotAcknowledged, OtherServer, CanBeAcknowledged}
 
@@ -21,9 +21,7 @@ pub record LegValue : Type 0 where
 
 -- what a route gives for the rests of a class in an era: the legs from which a get or gets can be answered, those that every delete that has a reply has sent, and whether a delete can be acknowledged
 pub record BlockValue : Type 0 where
-  pub route : ℕ
-  pub class : List ℕ
-  pub era : ℕ
+  pub spot : SpotValue
   pub readable : List LegValue
   pub acknowledged : List LegValue
   pub can_be_acknowledged : Bool

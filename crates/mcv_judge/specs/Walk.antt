@@ -2,17 +2,17 @@
 use Rattle.std.specs.Prelude.{ℕ, suc, List, [], ◌∷◌, Option, Some, None, Result, Ok, Err, if◌then◌else◌, length, map, nat_lt}
 use Rattle.std.specs.declared.cmp.Ordering.TheVariants.{Less, Equal, Greater}
 use Rattle.std.specs.Borrow.{Bor}
-use Rattle.mcv_cert.specs.Pair.{ReasonValue, Place, PairValue, index_of, place_of, index_cmp}
+use Rattle.mcv_cert.specs.Pair.{ReasonValue, PlaceValue, PairValue, index_of, index_cmp}
 use Rattle.mcv_judge.specs.Reason.{fault_of, is_whole}
 use Rattle.mcv_judge.specs.Faults.{Required, place_required}
-use Rattle.mcv_judge.specs.InMemory.{pairs_of}
+use Rattle.mcv_judge.specs.PairsInMemory.{pairs_of}
 use Rattle.mcv_judge.specs.declared.fault.PairFault.{PairFault}
 use Rattle.mcv_judge.specs.declared.fault.PairFault.TheVariants.{Missing, Stray}
 use Rattle.mcv_cert.specs.declared.pair.Pair.{Pair}
 
 -- a readable leaf, with the first index that still has no pair
 pub record Entry : Type 0 where
-  pub place : Place
+  pub place : PlaceValue
   pub from : ℕ
   pub size : ℕ
   pub judge : ReasonValue → Option PairFault
@@ -40,7 +40,7 @@ or_else (Some f) next = Err f
 abbrev pub walk : List PairValue → List Entry → Result (List PairValue) PairFault
 walk pairs [] = Ok pairs
 walk [] (e ∷ es) = Err Missing
-walk (r ∷ pairs) (e ∷ es) = elim (index_cmp (place_of r) (index_of r.reason) e.place e.from) [
+walk (r ∷ pairs) (e ∷ es) = elim (index_cmp r.place (index_of r.reason) e.place e.from) [
   | Less ↦ Err Stray
   | Equal ↦ or_else (e.judge r.reason) (walk pairs (after r.reason e es))
   | Greater ↦ Err Missing

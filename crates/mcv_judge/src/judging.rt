@@ -2,8 +2,8 @@
 
 ghost use Rattle.std.specs.Prelude.{◌≡◌, ◌∷◌, List, [], map, IfOk, IfErr, MatchResult};
 ghost use Rattle.mcv_judge.specs.Faults.{AreInOrder, AreLegsRising, HaveSameFaults, IsFaultless, IsFirstFault, IsInOrder, place_required, require, required_by};
-ghost use Rattle.mcv_judge.specs.InMemory.{block_of, leg_of, legs_of, pairs_of};
-ghost use Rattle.mcv_cert.specs.Pair.{AreRising, index_of, index_cmp, pair_of, place_of};
+ghost use Rattle.mcv_judge.specs.PairsInMemory.{block_of, leg_of, legs_of, pairs_of};
+ghost use Rattle.mcv_cert.specs.Pair.{AreRising, index_of, index_cmp, pair_of};
 ghost use Rattle.mcv_judge.specs.Reason.{BlockValue};
 ghost use Rattle.mcv_judge.specs.Walk.{entries, entries_left, walk, walked};
 
@@ -16,13 +16,14 @@ use std::cmp::Ordering;
 /// How a pair compares with an index of a leaf.
 #[tactic(auto, unfolding(mcv_cert::specs::Pair::place_cmp))]
 fn compare(pair: &Pair, block: &Block, leaf: &Leg, index: usize) -> Ordering
-    ensures { let r = pair_of pair.now in result ≡ index_cmp (place_of r) (index_of r.reason) (place_required (require (block_of block.now) (leg_of leaf.now))) index }
+    ensures { let r = pair_of pair.now in result ≡ index_cmp r.place (index_of r.reason) (place_required (require (block_of block.now) (leg_of leaf.now))) index }
 {
-    pair.route
-        .cmp(&block.route)
-        .then(pair.class.as_slice().cmp(block.class))
-        .then(pair.era.cmp(&block.era))
-        .then(pair.leaf.steps().cmp(leaf.position.steps()))
+    pair.place
+        .route
+        .cmp(&block.spot.route)
+        .then(pair.place.class.as_slice().cmp(block.spot.class))
+        .then(pair.place.era.cmp(&block.spot.era))
+        .then(pair.place.leaf.steps().cmp(leaf.position.steps()))
         .then(pair.reason.index().cmp(&index))
 }
 

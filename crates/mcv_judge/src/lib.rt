@@ -13,7 +13,7 @@ mod laws;
 mod looking;
 mod reasons;
 
-pub use block::{Block, Leg};
+pub use block::{Block, Leg, Spot};
 pub use fault::PairFault;
 pub use judging::{judge, judge_block, judge_end};
 pub use laws::answered_is_faultless;

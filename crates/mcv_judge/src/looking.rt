@@ -3,7 +3,7 @@
 ghost use Rattle.std.specs.Option.{option_map};
 ghost use Rattle.std.specs.Prelude.{◌≡◌, ◌<◌, length, slice_index_or, Some, None, MatchOption, MatchResult};
 ghost use Rattle.mcv_judge.specs.Faults.{AreLegsRising};
-ghost use Rattle.mcv_judge.specs.InMemory.{leg_of, legs_of};
+ghost use Rattle.mcv_judge.specs.PairsInMemory.{leg_of, legs_of};
 ghost use Rattle.mcv_cert.specs.Pair.{list_cmp};
 ghost use Rattle.mcv_judge.specs.Reason.{leg_at, server_at, is_same_server, is_same_list};
 

@@ -3,7 +3,7 @@
 ghost use Rattle.std.specs.Option.{option_map};
 ghost use Rattle.std.specs.Prelude.{◌≡◌};
 ghost use Rattle.mcv_judge.specs.Faults.{AreLegsRising};
-ghost use Rattle.mcv_judge.specs.InMemory.{block_of, leg_of, legs_of};
+ghost use Rattle.mcv_judge.specs.PairsInMemory.{block_of, leg_of, legs_of};
 ghost use Rattle.mcv_cert.specs.Pair.{reason_of};
 ghost use Rattle.mcv_judge.specs.Reason.{fault_of, fill_a_symbol, has_server, have_server, is_one_missing, is_whole, unless};
 ghost use Rattle.mcv_judge.specs.Walk.{fault_in};

@@ -8,7 +8,7 @@ use Rattle.mcv_pools.specs.Symbol.{SymbolValue}
 use Rattle.mcv_route.specs.Eras.{breaks_of, since_at}
 use Rattle.mcv_route.specs.Routes.{RouteEntry, RoutesValue}
 use Rattle.mcv_route.specs.Tree.{Tree}
-use Rattle.mcv_rules.specs.Called.{Called, situation_of}
+use Rattle.mcv_rules.specs.RouteCall.{Called, situation_of}
 use Rattle.mcv_names.specs.declared.fault.ReadFault.{ReadFault}
 use Rattle.mcv_names.specs.declared.fault.ReadFault.TheVariants.{Config, Memory}
 use Rattle.mcv_names.specs.Fault.{Refuses}

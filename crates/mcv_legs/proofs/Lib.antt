@@ -1,4 +1,4 @@
 pub mod Lines
 pub mod Limits
-pub mod Found
+pub mod FirstEntry
 pub mod AnswersOfTexts

@@ -5,8 +5,8 @@ use Rattle.mcv_base.specs.Key.{hashed_part}
 use Rattle.mcv_pools.specs.Hash.{fnv_index}
 use Rattle.mcv_pools.specs.Choice.{chosen_each}
 use Rattle.mcv_config.specs.Config.{Names}
-use Rattle.mcv_config.specs.Plan.{Plan}
-use Rattle.mcv_route.specs.Built.{routes_named}
+use Rattle.mcv_config.specs.ConfigValue.{ConfigValue}
+use Rattle.mcv_route.specs.NamedRoutes.{routes_named}
 use Rattle.mcv_route.specs.Eras.{breaks_of, since_at}
 use Rattle.mcv_route.specs.Launched.{launched}
 use Rattle.mcv_route.specs.Outcomes.{Choice, outcomes}
@@ -42,19 +42,19 @@ pub record IsAnswer (moment : ℕ) (input text : List ℕ) : Type 0 where
   pub rest : List ℕ
   pub configuration : List ℕ
   pub asks : Asks input op prefix rest configuration
-  pub plan : Plan
-  pub names : Names configuration plan
+  pub config : ConfigValue
+  pub names : Names configuration config
   pub entry : RouteEntry
-  pub selected : entry_for prefix (routes_named plan) ≡ Some entry
-  pub is : text ≡ text_of (routes_named plan).servers entry.tree (situation_at moment (routes_named plan) op rest) (shipped_choice (routes_named plan) rest)
+  pub selected : entry_for prefix (routes_named config) ≡ Some entry
+  pub is : text ≡ text_of (routes_named config).servers entry.tree (situation_at moment (routes_named config) op rest) (shipped_choice (routes_named config) rest)
 
--- the input asks, its configuration names a plan, and none of its routes has the prefix
+-- the input asks, and none of the routes that its configuration names has the prefix
 pub record IsWithoutRoute (input : List ℕ) : Type 0 where
   pub op : Op
   pub prefix : List ℕ
   pub rest : List ℕ
   pub configuration : List ℕ
   pub asks : Asks input op prefix rest configuration
-  pub plan : Plan
-  pub names : Names configuration plan
-  pub unselected : entry_for prefix (routes_named plan) ≡ None
+  pub config : ConfigValue
+  pub names : Names configuration config
+  pub unselected : entry_for prefix (routes_named config) ≡ None

@@ -3,7 +3,7 @@
 ghost use Rattle.std.specs.Prelude.{◌≡◌, ◌≢◌, ℕ, List, option_map, IfSome, IfOk, IfErr, OnOk, slice_index};
 ghost use Rattle.std.specs.Io.KnownBytes.{Appends};
 ghost use Rattle.mcv_route.specs.View.{view};
-ghost use Rattle.mcv_rules.specs.Called.{situation_of};
+ghost use Rattle.mcv_rules.specs.RouteCall.{situation_of};
 ghost use Rattle.mcv_legs.specs.Answer.{IsAnswer, entry_for, text_of};
 ghost use Rattle.mcv_legs.specs.Fault.{IsRunFault};
 

@@ -18,22 +18,22 @@ use Rattle.mcv_route.specs.Verdict.{IsSent}
 use Rattle.mcv_rules.specs.Plan.{Leg}
 use Rattle.mcv_rules.specs.Plans.{plan}
 use Rattle.mcv_rules.specs.declared.plan.PlannedLeg.{PlannedLeg}
-use Rattle.mcv_symbolic.specs.InMemory.{pool_of}
-use Rattle.mcv_symbolic.specs.Justified.{IsNeverAcknowledged}
+use Rattle.mcv_symbolic.specs.LegInMemory.{pool_of}
+use Rattle.mcv_symbolic.specs.JustifiedRoutes.{IsNeverAcknowledged}
 use Rattle.mcv_symbolic.specs.Sets.{AreLegsAt, IsAcknowledged, positions_of}
 use Rattle.mcv_symbolic.specs.Structure.{if_all, Acknowledged}
 use Rattle.mcv_symbolic.proofs.Exactness.{acknowledged_is_exact, done_is_exact}
-use Rattle.mcv_symbolic.proofs.Placed.{acknowledged_are_there, leaf_of}
+use Rattle.mcv_symbolic.proofs.PoolOfLeg.{acknowledged_are_there, leaf_of}
 use Rattle.mcv_judge.specs.Reason.{BlockValue, HasReason, LegValue, has_server, is_same_server, server_at}
 use Rattle.mcv_blocks.specs.Blocks.{IsAcknowledgedAt, IsBlockAt, pool_for}
-use Rattle.mcv_blocks.proofs.Complete.{reason_by_leg, reason_by_none, reason_by_symbol}
+use Rattle.mcv_blocks.proofs.CoveredHasReasons.{reason_by_leg, reason_by_none, reason_by_symbol}
 use Rattle.mcv_blocks.proofs.PoolSizes.{AreSized}
 use Rattle.mcv_blocks.proofs.Searches.{from_map, into_map}
-use Rattle.mcv_blocks.proofs.Unique.{leg_there, pool_of_leg}
-use Rattle.mcv_make.specs.Free.{free_index, free_indexes, is_taken, least_free, takes}
-use Rattle.mcv_symbolic.specs.Shown.{answers}
-use Rattle.mcv_make.proofs.Chosen.{found-free, free-or-full, index-at, other-index, own-index}
-use Rattle.mcv_make.proofs.Missed
+use Rattle.mcv_blocks.proofs.OneListOfBlocks.{leg_there, pool_of_leg}
+use Rattle.mcv_make.specs.FreeIndexes.{free_index, free_indexes, is_taken, least_free, takes}
+use Rattle.mcv_symbolic.specs.ShownAnswers.{answers}
+use Rattle.mcv_make.proofs.LeastIndexes.{found-free, free-or-full, index-at, other-index, own-index}
+use Rattle.mcv_make.proofs.DeleteOutcomes
 
 -- ---- what is taken
 
@@ -145,7 +145,7 @@ module _ (sizes : List ℕ) (t : Tree) (rest : List ℕ) (since : Option ℕ) (p
     -- no leg of the delete has been sent to the server
     pub unsent : IsSent t rest since chosen (outcomes (answers Good (plan t (asked Delete rest since)))) x → ⊥
     unsent h =
-        let l = Missed.sent t rest since chosen x h in
+        let l = DeleteOutcomes.sent t rest since chosen x h in
         let pool_there = acknowledged_are_there t (asked Delete rest since) l.0 refl l.1 in
         let size = sized l.0.position (leaf_of l.0) pool_there in
         let r = right l.0.symbol size.0 in

@@ -7,15 +7,15 @@ use Rattle.std.proofs.lemmas.Option.{get_or_from_slice_get, same_Some, slice_get
 use Rattle.mcv_base.specs.Key.{IsRoutingPrefix, is_key_word, routed, slash}
 use Rattle.mcv_base.specs.declared.operation.Op.TheVariants.{Delete}
 use Rattle.mcv_base.specs.declared.reply.Outcome.TheVariants.{Good}
-use Rattle.mcv_blocks.specs.Blocks.{IsBlockAt, IsPlaceOf, pool_for}
+use Rattle.mcv_blocks.specs.Blocks.{IsBlockAt, IsSpotOf, pool_for}
 use Rattle.mcv_blocks.proofs.PoolSizes.{AreSized, entry_sized}
-use Rattle.mcv_blocks.proofs.Unique.{block_has, pool_of_leg}
-use Rattle.mcv_cert.specs.Pair.{Place}
+use Rattle.mcv_blocks.proofs.OneListOfBlocks.{block_has, pool_of_leg}
+use Rattle.mcv_cert.specs.Pair.{PlaceValue, place_of}
 use Rattle.mcv_classes.proofs.Members.{members_are_inside}
 use Rattle.mcv_config.specs.Aliases.{IsAlias, alias_limit}
 use Rattle.mcv_config.specs.Entries.{depth_limit}
 use Rattle.mcv_judge.specs.Reason.{BlockValue, LegValue}
-use Rattle.mcv_certify.specs.Gap.{IsGap, place_of_gap}
+use Rattle.mcv_certify.specs.Gap.{IsGap}
 use Rattle.mcv_certify.specs.declared.gap.Gap.{Gap}
 use Rattle.mcv_route.specs.Aliases.{AreSelected, first_alias}
 use Rattle.mcv_route.specs.Limits.{AreWithinLimits, IsWithin}
@@ -24,21 +24,21 @@ use Rattle.mcv_route.specs.Places.{pool_at_position, route_of_prefix}
 use Rattle.mcv_route.specs.Routes.{RouteEntry, RoutesValue, IsSoundRoutes}
 use Rattle.mcv_route.specs.Situation.{asked}
 use Rattle.mcv_route.specs.Tree.{Pool, Tree}
-use Rattle.mcv_route.proofs.Selected.{is-alias, selects as selects-route}
+use Rattle.mcv_route.proofs.FirstAlias.{is-alias, selects as selects-route}
 use Rattle.mcv_rules.specs.Plans.{plan}
-use Rattle.mcv_symbolic.specs.Covered.{sizes_of}
-use Rattle.mcv_symbolic.specs.Justified.{IsReadableAt}
+use Rattle.mcv_symbolic.specs.CoveredRoutes.{sizes_of}
+use Rattle.mcv_symbolic.specs.JustifiedRoutes.{IsReadableAt}
 use Rattle.mcv_witness.specs.Breaks.{BreaksCoverage, IsLeafOf, IsMissed, IsRead, IsAtPlace}
 use Rattle.mcv_witness.specs.Finding.{FindingValue}
-use Rattle.mcv_make.specs.Free.{free_indexes}
-use Rattle.mcv_symbolic.specs.Shown.{answers}
-use Rattle.mcv_make.specs.Place.{IsAtGap, place_of}
-use Rattle.mcv_make.specs.Shown.{IsShownWith}
+use Rattle.mcv_make.specs.FreeIndexes.{free_indexes}
+use Rattle.mcv_symbolic.specs.ShownAnswers.{answers}
+use Rattle.mcv_make.specs.Place.{IsAtGap}
+use Rattle.mcv_make.specs.ShownFinding.{IsShownWith}
 use Rattle.mcv_make.proofs.Breaks as gaps
 use Rattle.mcv_make.proofs.Gaps.{at-finding}
 use Rattle.mcv_make.proofs.KeyWord.{key-word}
-use Rattle.mcv_make.proofs.Missed
-use Rattle.mcv_make.proofs.Reading
+use Rattle.mcv_make.proofs.DeleteOutcomes
+use Rattle.mcv_make.proofs.GetOutcomes
 
 nil-cons : (x : ℕ) (xs : List ℕ) → [] ≡ x ∷ xs → ⊥
 nil-cons x xs e = cc
@@ -47,8 +47,8 @@ prefix-some : (p : List ℕ) → IsRoutingPrefix p → 0 < length p
 prefix-some [] h = absurd (nil-cons slash (h.first ++ slash ∷ h.second ++ slash ∷ []) h.is)
 prefix-some (x ∷ p) h = omega arith
 
-module _ (r : RoutesValue) (sound : IsSoundRoutes r) (limits : AreWithinLimits r) (positive : All (λ n. 0 < n) (sizes_of r)) (f : FindingValue) (prefix : List ℕ) (gap : IsGap r (place_of f) f.at f.server)
-    (alias : IsAlias prefix) (short : length prefix ≤ alias_limit) (selects : route_of_prefix prefix r.entries ≡ Some f.route) (built : IsShownWith r prefix f) where
+module _ (r : RoutesValue) (sound : IsSoundRoutes r) (limits : AreWithinLimits r) (positive : All (λ n. 0 < n) (sizes_of r)) (f : FindingValue) (prefix : List ℕ) (gap : IsGap r f.place f.at f.server)
+    (alias : IsAlias prefix) (short : length prefix ≤ alias_limit) (selects : route_of_prefix prefix r.entries ≡ Some f.place.spot.route) (built : IsShownWith r prefix f) where
   abbrev tree : Tree
   tree = built.entry.tree
 
@@ -58,17 +58,17 @@ module _ (r : RoutesValue) (sound : IsSoundRoutes r) (limits : AreWithinLimits r
   abbrev leaf : LegValue
   leaf = gap.leaf
 
-  at-leaf : leaf.position ≡ f.leaf
-  at-leaf = ap (λ (p : Place). p.leaf) gap.placed
+  at-leaf : leaf.position ≡ f.place.leaf
+  at-leaf = ap (λ (p : PlaceValue). p.leaf) gap.placed
 
   there : Contains r.entries built.entry
-  there = (f.route, slice_get_within r.entries f.route built.entry built.numbered, get_or_from_slice_get r.entries f.route built.entry built.entry built.numbered)
+  there = (f.place.spot.route, slice_get_within r.entries f.place.spot.route built.entry built.numbered, get_or_from_slice_get r.entries f.place.spot.route built.entry built.entry built.numbered)
 
-  place : IsPlaceOf r f.route f.class f.era tree built.rest built.since
-  place = record { entry = built.entry; numbered = built.numbered; has_tree = refl; listed = built.listed; has_member = built.member; opened = built.opened }
+  at_spot : IsSpotOf r f.place.spot tree built.rest built.since
+  at_spot = record { entry = built.entry; numbered = built.numbered; has_tree = refl; listed = built.listed; has_member = built.member; opened = built.opened }
 
   block : IsBlockAt tree built.rest built.since b
-  block = block_has r f.route f.class f.era tree built.rest built.since place b gap.block_is (ap (λ (p : Place). p.route) gap.placed) (ap (λ (p : Place). p.class) gap.placed) (ap (λ (p : Place). p.era) gap.placed)
+  block = block_has r f.place.spot tree built.rest built.since at_spot b gap.block_is (ap (λ (p : PlaceValue). p.spot) gap.placed)
 
   leaf-pool : pool_at_position tree leaf.position ≡ Some (pool_for leaf)
   leaf-pool = pool_of_leg tree (IsReadableAt tree built.rest built.since) b.readable block.readable leaf gap.readable
@@ -90,9 +90,9 @@ module _ (r : RoutesValue) (sound : IsSoundRoutes r) (limits : AreWithinLimits r
 
   placed : IsAtPlace r f tree built.rest built.since
   placed =
-      let inside = members_are_inside tree f.class built.rest built.member built.listed in
+      let inside = members_are_inside tree f.place.spot.class built.rest built.member built.listed in
       let within : IsWithin depth_limit tree = All-contains (λ (e : RouteEntry). IsWithin depth_limit e.tree) r.entries built.entry limits.levels there in
-      let word = key-word depth_limit tree f.class built.rest prefix within built.listed built.member inside.1 alias (prefix-some prefix alias.prefix) short in
+      let word = key-word depth_limit tree f.place.spot.class built.rest prefix within built.listed built.member inside.1 alias (prefix-some prefix alias.prefix) short in
       record {
         prefix = prefix;
         route = ap (option_map (λ (e : RouteEntry). e.tree)) built.numbered;
@@ -118,9 +118,9 @@ module _ (r : RoutesValue) (sound : IsSoundRoutes r) (limits : AreWithinLimits r
   read : IsRead f tree built.rest built.since
   read = record {
     reading = built.reading;
-    rising = Reading.rises tree f.op built.rest built.since f.leaf f.gets built.gets;
-    reachable = Reading.reached tree f.op built.rest built.since f.leaf f.gets built.gets (slice_index f.choice);
-    hit = Reading.hits tree f.op built.rest built.since f.leaf f.gets built.gets;
+    rising = GetOutcomes.rises tree f.op built.rest built.since f.place.leaf f.gets built.gets;
+    reachable = GetOutcomes.reached tree f.op built.rest built.since f.place.leaf f.gets built.gets (slice_index f.choice);
+    hit = GetOutcomes.hits tree f.op built.rest built.since f.place.leaf f.gets built.gets;
   }
 
   missed : IsMissed f tree built.rest built.since
@@ -128,9 +128,9 @@ module _ (r : RoutesValue) (sound : IsSoundRoutes r) (limits : AreWithinLimits r
       subst (λ (es : History). IsMissed (record f { deletes = es }) tree built.rest built.since) (sym built.deletes)
       (subst (λ (ns : List ℕ). IsMissed (record f { deletes = answers Good (plan tree (asked Delete built.rest built.since)); choice = ns }) tree built.rest built.since) same-choice
       (record {
-        rising = Missed.rises tree built.rest built.since (slice_index (free_indexes built.legs f.server leaf.symbol f.at 0 r.symbols));
-        reachable = Missed.reached tree built.rest built.since (slice_index (free_indexes built.legs f.server leaf.symbol f.at 0 r.symbols));
-        done = Missed.done tree built.rest built.since (slice_index (free_indexes built.legs f.server leaf.symbol f.at 0 r.symbols)) (gaps.can (sizes_of r) tree built.rest built.since positive sized b block leaf f.at f.server gap.has gap.unanswered built.legs built.are);
+        rising = DeleteOutcomes.rises tree built.rest built.since (slice_index (free_indexes built.legs f.server leaf.symbol f.at 0 r.symbols));
+        reachable = DeleteOutcomes.reached tree built.rest built.since (slice_index (free_indexes built.legs f.server leaf.symbol f.at 0 r.symbols));
+        done = DeleteOutcomes.done tree built.rest built.since (slice_index (free_indexes built.legs f.server leaf.symbol f.at 0 r.symbols)) (gaps.can (sizes_of r) tree built.rest built.since positive sized b block leaf f.at f.server gap.has gap.unanswered built.legs built.are);
         unsent = gaps.unsent (sizes_of r) tree built.rest built.since positive sized b block leaf f.at f.server gap.has gap.unanswered built.legs built.are r.symbols refl size.0 low;
       }))
 
@@ -148,9 +148,9 @@ module _ (r : RoutesValue) (sound : IsSoundRoutes r) (limits : AreWithinLimits r
   }
 
 -- the finding that is shown of a gap with the first routing prefix of its route breaks coverage
-pub breaks-at : (r : RoutesValue) → IsSoundRoutes r → AreWithinLimits r → All (λ n. 0 < n) (sizes_of r) → (g : Gap) (f : FindingValue) (prefix : List ℕ) → IsGap r (place_of_gap g) g.at g.server.0 → IsAtGap g f
-    → AreSelected r.entries → first_alias r g.route ≡ Some prefix → IsShownWith r prefix f → BreaksCoverage r f
+pub breaks-at : (r : RoutesValue) → IsSoundRoutes r → AreWithinLimits r → All (λ n. 0 < n) (sizes_of r) → (g : Gap) (f : FindingValue) (prefix : List ℕ) → IsGap r (place_of g.place) g.at g.server.0 → IsAtGap g f
+    → AreSelected r.entries → first_alias r g.place.route ≡ Some prefix → IsShownWith r prefix f → BreaksCoverage r f
 breaks-at r sound limits positive g f prefix gap at selected first shown =
-    let alias = is-alias r g.route prefix selected first in
-    let selects : route_of_prefix prefix r.entries ≡ Some f.route = subst (λ n. route_of_prefix prefix r.entries ≡ Some n) (sym at.route) (selects-route r g.route prefix selected first) in
+    let alias = is-alias r g.place.route prefix selected first in
+    let selects : route_of_prefix prefix r.entries ≡ Some f.place.spot.route = subst (λ n. route_of_prefix prefix r.entries ≡ Some n) (sym (ap (λ (p : PlaceValue). p.spot.route) at.place)) (selects-route r g.place.route prefix selected first) in
     breaks r sound limits positive f prefix (at-finding (IsGap r) g f at gap) alias.0 alias.1 selects shown

@@ -12,7 +12,7 @@ use Rattle.mcv_names.specs.Handles.{prefix_limit}
 use Rattle.mcv_classes.specs.Class.{IsMember}
 use Rattle.mcv_classes.specs.Words.{class_words, prefixes_below, prefixes_in}
 use Rattle.mcv_route.specs.Limits.{AreWithin, IsWithin}
-use Rattle.mcv_route.specs.Tree.{Tree, Trees, pool, null, error, all_sync, all_initial, all_async, failover, miss_failover, warm_up, migrate, prefix_selector, operation_selector, none, child}
+use Rattle.mcv_route.specs.Tree.{Tree, Trees, pool, null, error, many, warm_up, migrate, prefix_selector, operation_selector, none, child}
 
 abbrev AreShort : List (List ℕ) → Type 0
 AreShort words = All (λ w. length w ≤ prefix_limit) words
@@ -29,11 +29,7 @@ mutual
   prefixes-short (suc n) (pool p ranges targets) h = below-short n targets h.1
   prefixes-short (suc n) null h = none-short
   prefixes-short (suc n) error h = none-short
-  prefixes-short (suc n) (all_sync ts) h = below-short n ts h
-  prefixes-short (suc n) (all_initial ts) h = below-short n ts h
-  prefixes-short (suc n) (all_async ts) h = below-short n ts h
-  prefixes-short (suc n) (failover ts) h = below-short n ts h
-  prefixes-short (suc n) (miss_failover ts) h = below-short n ts h
+  prefixes-short (suc n) (many kind ts) h = below-short n ts h
   prefixes-short (suc n) (warm_up cold warm exptime) h = both-short (prefixes_in cold) (prefixes_in warm) (prefixes-short n cold h.1) (prefixes-short n warm h.2)
   prefixes-short (suc n) (migrate from to start interval) h = both-short (prefixes_in from) (prefixes_in to) (prefixes-short n from h.2) (prefixes-short n to h.3)
   prefixes-short (suc n) (prefix_selector prefixes ts) h = both-short prefixes (prefixes_below ts) h.0 (below-short n ts h.1)

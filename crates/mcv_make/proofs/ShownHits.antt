@@ -7,12 +7,12 @@ use Rattle.mcv_base.specs.declared.reply.Outcome.{Outcome}
 use Rattle.mcv_base.specs.declared.reply.Outcome.TheVariants.{Good, Soft, Error}
 use Rattle.mcv_route.specs.Outcomes.{History, is_same}
 use Rattle.mcv_rules.specs.Plan.{Leg, Plan, Send, Reply, Both, Beside, OnError, OnMiss, OnHit, Shadowed}
-use Rattle.mcv_rules.specs.Sound.{positions, IsApart, IsHonest}
+use Rattle.mcv_rules.specs.Soundness.{positions, IsApart, IsHonest}
 use Rattle.mcv_rules.proofs.Orders.{cond_at_true, same_is, same_self}
-use Rattle.mcv_symbolic.specs.Shown.{also, answers, first_hit, leaf_hit, one_after_other, or_else}
+use Rattle.mcv_symbolic.specs.ShownAnswers.{also, answers, first_hit, leaf_hit, one_after_other, or_else}
 use Rattle.mcv_symbolic.specs.Structure.{if_all, Hits}
-use Rattle.mcv_symbolic.proofs.Exact.{Shows, in_beside, in_on_error, in_on_hit, in_on_miss, in_shadowed, not_good, shows_both, shows_on_error, shows_on_miss, shows_send, soft≢good}
-use Rattle.mcv_make.proofs.Ordered.{IsOrdered, answers-ordered, one-outcome, ordered-both, ordered-first}
+use Rattle.mcv_symbolic.proofs.SetsAreLeast.{Shows, in_beside, in_on_error, in_on_hit, in_on_miss, in_shadowed, not_good, shows_both, shows_on_error, shows_on_miss, shows_send, soft≢good}
+use Rattle.mcv_make.proofs.OutcomeOrder.{IsOrdered, answers-ordered, one-outcome, ordered-both, ordered-first}
 
 -- ---- taken apart
 

@@ -1,4 +1,4 @@
-pub mod Free
+pub mod FreeIndexes
 pub mod Place
-pub mod First
-pub mod Shown
+pub mod FirstFinding
+pub mod ShownFinding

@@ -1,20 +1,13 @@
--- Where a finding is, and that of a gap (own).
+-- The finding of a gap (own).
 use Rattle.std.specs.Prelude.{◌≡◌, ℕ, List, Some}
-use Rattle.mcv_cert.specs.Pair.{Place}
+use Rattle.mcv_cert.specs.Pair.{place_of}
 use Rattle.mcv_classes.specs.Class.{IsMember}
 use Rattle.mcv_certify.specs.declared.gap.Gap.{Gap}
 use Rattle.mcv_witness.specs.Finding.{FindingValue}
 
--- where a finding loses its server
-abbrev pub place_of : FindingValue → Place
-place_of f = record { route = f.route; class = f.class; era = f.era; leaf = f.leaf }
-
--- at the gap's route, class, era, leaf and index, and it loses the same server
+-- at the gap's place and index, and it loses the same server
 pub record IsAtGap (g : Gap) (f : FindingValue) : Type 0 where
-  pub route : f.route ≡ g.route
-  pub class : f.class ≡ g.class.items
-  pub era : f.era ≡ g.era
-  pub leaf : f.leaf ≡ g.leaf
+  pub place : f.place ≡ place_of g.place
   pub at : f.at ≡ g.at
   pub server : f.server ≡ g.server.0
 

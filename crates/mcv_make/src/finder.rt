@@ -1,14 +1,15 @@
 //! The finding of a gap.
 
 ghost use Rattle.std.specs.Prelude.{◌≡◌, ◌++◌, ◌<◌, Some, IfOk};
+ghost use Rattle.mcv_cert.specs.Pair.{place_of};
 ghost use Rattle.mcv_classes.specs.Class.{IsMember};
 ghost use Rattle.mcv_classes.specs.Words.{class_words};
-ghost use Rattle.mcv_certify.specs.Gap.{IsGap, place_of_gap};
+ghost use Rattle.mcv_certify.specs.Gap.{IsGap};
 ghost use Rattle.mcv_route.specs.View.{view};
 ghost use Rattle.mcv_witness.specs.Breaks.{BreaksCoverage};
 ghost use Rattle.mcv_witness.specs.Finding.{finding_of};
 ghost use Rattle.mcv_make.specs.Place.{HasMember, IsAtGap};
-ghost use Rattle.mcv_make.specs.Shown.{IsShown, IsShownWith};
+ghost use Rattle.mcv_make.specs.ShownFinding.{IsShown, IsShownWith};
 
 use crate::scene::{Reading, Scene};
 use mcv_base::{Prefix, Rest};
@@ -40,13 +41,6 @@ fn key_of(alloc: Global, prefix: &Prefix, rest: &Rest) -> Result<Vec<u8>, AllocE
     Ok(key)
 }
 
-/// The bytes of a word, in memory of their own.
-fn copied(alloc: Global, word: &[u8]) -> Result<Vec<u8>, AllocError>
-    ensures { IfOk result (λ v. v.items ≡ word.now) }
-{
-    Vec::from_slice(alloc, word)
-}
-
 /// The finding that is shown of a gap with a key behind the prefix.
 fn find_behind(
     alloc: Global,
@@ -54,33 +48,30 @@ fn find_behind(
     prefix: &Prefix,
     gap: &Gap,
 ) -> Result<Finding, AllocError>
-    requires gap { IsGap routes.now (place_of_gap gap.now) gap.now.at gap.now.server.0 }
+    requires gap { IsGap routes.now (place_of gap.now.place) gap.now.at gap.now.server.0 }
     ensures at_gap { IfOk result (λ f. IsAtGap gap.now (finding_of f)) }
     ensures shown { IfOk result (λ f. IsShownWith routes.now prefix.now (finding_of f)) }
 {
-    let Some(route) = routes.route(gap.route) else {
+    let Some(route) = routes.route(gap.place.route) else {
         unreachable!()
     };
-    let Some(leaf) = routes.leaf_at(gap.route, &gap.leaf) else {
+    let Some(leaf) = routes.leaf_at(gap.place.route, &gap.place.leaf) else {
         unreachable!()
     };
     let symbols = routes.symbols().as_slice();
-    let rest = member_of(alloc, route, gap.class.as_slice())?;
+    let rest = member_of(alloc, route, gap.place.class.as_slice())?;
     let _ = rest.as_bytes();
     let scene = Scene {
         route,
         rest: &rest,
-        since: opened(routes, gap.era),
+        since: opened(routes, gap.place.era),
     };
-    let Reading { op, legs: gets } = scene.reading(alloc, &gap.leaf)?;
+    let Reading { op, legs: gets } = scene.reading(alloc, &gap.place.leaf)?;
     Ok(Finding {
-        route: gap.route,
-        class: copied(alloc, gap.class.as_slice())?,
-        era: gap.era,
-        key: key_of(alloc, prefix, &rest)?,
-        leaf: gap.leaf.copy(alloc)?,
+        place: gap.place.copy(alloc)?,
         at: gap.at,
         server: gap.server,
+        key: key_of(alloc, prefix, &rest)?,
         choice: scene.choice(alloc, symbols, gap.server, leaf.symbol, gap.at)?,
         op,
         gets,
@@ -94,7 +85,7 @@ fn find_behind(
 /// its classes, the symbols and the servers of its legs; of a handle's n children that come before the leaf, up to
 /// n times n steps.
 pub fn find(alloc: Global, routes: &Routes, gap: &Gap) -> Result<Finding, AllocError>
-    requires gap { IsGap routes.now (place_of_gap gap.now) gap.now.at gap.now.server.0 }
+    requires gap { IsGap routes.now (place_of gap.now.place) gap.now.at gap.now.server.0 }
     ensures breaks { IfOk result (λ f. BreaksCoverage routes.now (finding_of f)) }
     ensures at_gap { IfOk result (λ f. IsAtGap gap.now (finding_of f)) }
     ensures shown { IfOk result (λ f. IsShown routes.now (finding_of f)) }
@@ -102,7 +93,7 @@ pub fn find(alloc: Global, routes: &Routes, gap: &Gap) -> Result<Finding, AllocE
     // Both say of the routes what the proof wants: they are sound and within the limits, and each symbol has an index.
     let _servers = routes.servers();
     let _symbols = routes.symbols();
-    let Some(prefix) = routes.first_alias(gap.route) else {
+    let Some(prefix) = routes.first_alias(gap.place.route) else {
         unreachable!()
     };
     find_behind(alloc, routes, prefix, gap)

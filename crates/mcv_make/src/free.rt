@@ -2,9 +2,9 @@
 
 ghost use Rattle.std.specs.BTreeSet.{contains};
 ghost use Rattle.std.specs.Prelude.{◌≡◌, ◌||◌, [], Some, IfOk, OnOk, if◌then◌else◌, map, nat_eq};
-ghost use Rattle.mcv_judge.specs.InMemory.{numbers};
+ghost use Rattle.mcv_judge.specs.PairsInMemory.{numbers};
 ghost use Rattle.mcv_judge.specs.Reason.{has_server};
-ghost use Rattle.mcv_make.specs.Free.{Slot as SlotValue, free_indexes, is_taken, least_free, slot_cmp};
+ghost use Rattle.mcv_make.specs.FreeIndexes.{Slot as SlotValue, free_indexes, is_taken, least_free, slot_cmp};
 
 use mcv_base::ServerId;
 use mcv_pools::{Choice, Symbol};

@@ -2,11 +2,11 @@
 
 ghost use Rattle.std.specs.Prelude.{◌≡◌, ◌<◌, All, IfErr, IfOk, length};
 ghost use Rattle.mcv_blocks.specs.Blocks.{IsJustifiedBy};
-ghost use Rattle.mcv_certify.specs.Picked.{IsPickedOf};
-ghost use Rattle.mcv_make.specs.First.{IfLost, IsRightLoss};
-ghost use Rattle.mcv_make.specs.Shown.{IsShown};
+ghost use Rattle.mcv_certify.specs.PickedReasons.{IsPickedOf};
+ghost use Rattle.mcv_make.specs.FirstFinding.{IfLost, IsRightLoss};
+ghost use Rattle.mcv_make.specs.ShownFinding.{IsShown};
 ghost use Rattle.mcv_make.specs.declared.fault.MakeFault.TheVariants.{Memory as out_of_memory};
-ghost use Rattle.mcv_symbolic.specs.Covered.{AreCovered};
+ghost use Rattle.mcv_symbolic.specs.CoveredRoutes.{AreCovered};
 ghost use Rattle.mcv_witness.specs.Finding.{finding_of};
 
 use crate::fault::MakeFault;

@@ -9,11 +9,11 @@ ghost use Rattle.mcv_route.specs.Situation.{asked};
 ghost use Rattle.mcv_route.specs.View.{view};
 ghost use Rattle.mcv_rules.specs.Plans.{plan};
 ghost use Rattle.mcv_rules.specs.declared.plan.PlannedLeg.{PlannedLeg};
-ghost use Rattle.mcv_symbolic.specs.Justified.{IsReadableAt};
+ghost use Rattle.mcv_symbolic.specs.JustifiedRoutes.{IsReadableAt};
 ghost use Rattle.mcv_symbolic.specs.Sets.{AreLegsAt, CanHitAt, IsAcknowledged};
 ghost use Rattle.mcv_witness.specs.Finding.{outcomes_of};
-ghost use Rattle.mcv_make.specs.Free.{free_indexes};
-ghost use Rattle.mcv_symbolic.specs.Shown.{answers, history_of, leaf_hit};
+ghost use Rattle.mcv_make.specs.FreeIndexes.{free_indexes};
+ghost use Rattle.mcv_symbolic.specs.ShownAnswers.{answers, history_of, leaf_hit};
 
 use crate::free::free_choice;
 use mcv_base::{Moment, Op, Outcome, Position, Rest, ServerId};

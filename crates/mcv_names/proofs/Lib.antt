@@ -1,6 +1,6 @@
 pub mod Faults
-pub mod ReadingEach
+pub mod ReadLists
 pub mod Arrays
 pub mod Operations
-pub mod Holds
+pub mod ReadFacts
 mod Examples

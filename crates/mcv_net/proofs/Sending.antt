@@ -7,7 +7,7 @@ use Rattle.mcv_net.specs.declared.loss.Loss.TheVariants.{Unwritten, Unread, Brok
 use Rattle.mcv_net.specs.declared.link.Written.{Written}
 use Rattle.mcv_net.specs.Exchange.{Asks, Reads, Writes}
 use Rattle.mcv_net.specs.Repeat.{may_repeat}
-use Rattle.mcv_net.specs.Sends.{AsksAnew, AsksOver, AsksTwice, Begins, Finishes, GoesOn, OnceMore, Sends, kept_behind}
+use Rattle.mcv_net.specs.Connections.{AsksAnew, AsksOver, AsksTwice, Begins, Finishes, GoesOn, OnceMore, Sends, kept_behind}
 
 module _ {S X : Type 0} (contents remaining : S → Option (List ℕ)) (spells : List ℕ → X → Type 0) (text : List ℕ) where
   no_loss : (x : X) (loss : Loss) → ◌≡◌ {A = Result X Loss} (Ok x) (Err loss) → ⊥

@@ -10,7 +10,7 @@ use Rattle.mcv_net.specs.declared.link.Begun.{Begun}
 use Rattle.mcv_net.specs.declared.loss.Loss.{Loss}
 use Rattle.mcv_net.specs.declared.loss.Loss.TheVariants.{Unwritten, Unread, Broken, Memory}
 use Rattle.mcv_net.specs.Exchange.{SpellsReply}
-use Rattle.mcv_net.specs.Sends.{Begins, GoesOn, Sends}
+use Rattle.mcv_net.specs.Connections.{Begins, GoesOn, Sends}
 
 abbrev pub link_fault : Loss → LinkFault
 link_fault Unwritten = links.Broken

@@ -4,4 +4,4 @@ pub mod Fault
 pub mod Legs
 pub mod Lines
 pub mod Repeat
-pub mod Sends
+pub mod Connections

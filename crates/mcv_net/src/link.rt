@@ -6,7 +6,7 @@ ghost use Rattle.mcv_text.specs.Answer.{line_end};
 ghost use Rattle.mcv_text.specs.Leg.{leg_text, leg_value};
 ghost use Rattle.mcv_net.specs.Exchange.{AnswersProbe, SpellsReply};
 ghost use Rattle.mcv_net.specs.Legs.{AnswersLeg, BeginsLeg, link_fault};
-ghost use Rattle.mcv_net.specs.Sends.{AsksAnew, AsksOver, Begins, Finishes, GoesOn, Sends, kept_behind};
+ghost use Rattle.mcv_net.specs.Connections.{AsksAnew, AsksOver, Begins, Finishes, GoesOn, Sends, kept_behind};
 
 use crate::dial::Dial;
 use crate::exchange::{ask, ask_version, read_reply, write_text};

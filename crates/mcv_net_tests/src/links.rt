@@ -4,62 +4,52 @@ ghost use Rattle.std.specs.Prelude.{◌≡◌, ◌+◌};
 
 use crate::memory::{Course, MemoryDial, Nobody, Seen};
 use mcv_base::{LegRequest, Op, Reply, Rest};
-use mcv_check::{Accepted, check};
-use mcv_config::read_config;
+use mcv_check::Accepted;
 use mcv_hub::{Hub, Pass};
-use mcv_make::make;
 use mcv_net::{Notice, TcpLink};
 use mcv_proxy::{Link, LinkFault};
-use mcv_route::Routes;
+use mcv_verdict::{Judgement, judge_input};
 use std::alloc::Global;
 use std::marker::Brand;
+use std::process::Abort;
 use std::sync::ledger::{Blank, Ledger};
 use std::sync::{Arc, Mutex, Wait};
-use std::test::Fail;
 
 const CONFIG: &str = "{\"pools\":{\"A\":{\"servers\":[\"a:11211\"]}},\"route\":\"PoolRoute|A\"}";
 
-/// What the checker makes of a configuration.
-pub(crate) fn accepted_of(alloc: Global, text: &str) -> Result<Arc<Accepted>, Fail> {
-    let Ok(config) = read_config(alloc, text.as_bytes()) else {
-        return Err(Fail::from("the text is refused"));
-    };
-    let routes = Routes::build(alloc, config)?;
-    let Ok(certificate) = make(alloc, &routes) else {
-        return Err(Fail::from("the routes aren't covered"));
-    };
-    match check(alloc, routes, &certificate) {
-        Ok(accepted) => Ok(Arc::new(alloc, accepted)?),
-        Err(_) => Err(Fail::from("the certificate is refused")),
+/// What the checker accepts of a configuration.
+pub(crate) fn accepted_of(rt: &impl Abort, alloc: Global, text: &str) -> Arc<Accepted> {
+    let judgement = judge_input(alloc, &mut text.as_bytes());
+    match judgement.expect(rt, "a configuration") {
+        Judgement::Covered { accepted, .. } => Arc::new(alloc, accepted).expect(rt, "memory"),
+        Judgement::Lost { .. } => panic!(rt; "the routes aren't covered"),
     }
 }
 
 /// A pass of a hub.
-fn pass_of<B: Ledger, T: Ledger>(alloc: Global, begun: Blank, taken: Blank) -> Result<Pass, Fail>
+fn pass_of<B: Ledger, T: Ledger>(rt: &impl Abort, alloc: Global, begun: Blank, taken: Blank) -> Pass
     requires begun { (begun.name ≡ B.name) × (begun.parts ≡ B.parts) × (begun.parts ≡ 2) }
     requires taken { (taken.name ≡ T.name) × (taken.parts ≡ T.parts) × (taken.parts ≡ 2) }
 {
-    let accepted = accepted_of(alloc, CONFIG)?;
-    match Hub::<B, T>::new(alloc, accepted, &[], 1, 1, begun, taken) {
-        Ok((_hub, passes)) => Ok(passes.pass()),
-        Err(_) => Err(Fail::from("out of memory")),
-    }
+    let accepted = accepted_of(rt, alloc, CONFIG);
+    let made = Hub::<B, T>::new(alloc, accepted, &[], 1, 1, begun, taken);
+    let (_hub, passes) = made.expect(rt, "memory");
+    passes.pass()
 }
 
 /// The leg of an operation on `k` with the value `x`.
-fn leg_of(alloc: Global, op: Op) -> Result<LegRequest, Fail> {
-    let Some(rest) = Rest::of(b"k") else {
-        return Err(Fail::from("k is no rest"));
-    };
+fn leg_of(rt: &impl Abort, alloc: Global, op: Op) -> LegRequest {
     let body = if op.is_storing() { "x" } else { "" };
-    Ok(LegRequest {
+    let body = Vec::from_slice(alloc, body.as_bytes()).expect(rt, "memory");
+    let rest = Rest::of(b"k").expect(rt, "a rest");
+    LegRequest {
         op,
-        rest: Arc::new(alloc, rest)?,
+        rest: Arc::new(alloc, rest).expect(rt, "memory"),
         flags: 0,
         exptime: 0,
-        body: Arc::new(alloc, Vec::from_slice(alloc, body.as_bytes())?)?,
+        body: Arc::new(alloc, body).expect(rt, "memory"),
         cas: None,
-    })
+    }
 }
 
 /// A letter for what a leg came to.
@@ -180,63 +170,121 @@ fn is_text(bytes: &[u8], text: &str) -> bool {
     bytes == text.as_bytes()
 }
 
-/// A letter for each leg that is sent over a link, one after another.
-fn letters_of<L: Link>(
+/// A letter for a leg that is sent over a link. Where it isn't begun, there is no memory for its text when it begins.
+fn sent<R: Wait + Abort + Copy + Drop>(
+    rt: R,
     alloc: Global,
-    link: &mut L,
+    link: &mut TcpLink<MemoryDial<R>, Nobody>,
     pass: &Pass,
-    ops: &[Op],
-) -> Result<Vec<u8>, Fail> {
-    let mut letters = Vec::new(alloc);
-    for op in ops {
-        let leg = leg_of(alloc, *op)?;
-        let begun = link.start(pass, &leg);
-        letters.push(letter(&link.send(pass, begun, &leg)))?;
-    }
-    Ok(letters)
+    op: Op,
+    begins: bool,
+) -> u8 {
+    let leg = leg_of(&rt, alloc, op);
+    let begun = if begins { link.start(pass, &leg) } else { None };
+    letter(&link.send(pass, begun, &leg))
 }
 
-/// Whether the legs of a row came to what it says.
-fn holds<R: Wait + Copy + Drop>(rt: R, alloc: Global, pass: &Pass, row: Row) -> Result<bool, Fail> {
+/// A letter for each leg that is sent over a link, one after another.
+fn letters_of<R: Wait + Abort + Copy + Drop>(
+    rt: R,
+    alloc: Global,
+    link: &mut TcpLink<MemoryDial<R>, Nobody>,
+    pass: &Pass,
+    ops: &[Op],
+    begins: bool,
+) -> Vec<u8> {
+    let mut letters = Vec::new(alloc);
+    for op in ops {
+        let letter = sent(rt, alloc, link, pass, *op, begins);
+        letters.push(letter).expect(&rt, "memory");
+    }
+    letters
+}
+
+fn new_seen(rt: &impl Abort, alloc: Global) -> Arc<Mutex<Seen>> {
     let seen = Seen {
         dials: 0,
         text: Vec::new(alloc),
     };
-    let seen = Arc::new(alloc, Mutex::new(seen))?;
-    let dial = MemoryDial {
-        rt,
-        courses: row.courses,
-        seen: Arc::try_clone(&seen)?,
-    };
-    let mut link = TcpLink::new(alloc, "a:11211", dial, Nobody)?;
-    let letters = letters_of(alloc, &mut link, pass, row.ops)?;
+    Arc::new(alloc, Mutex::new(seen)).expect(rt, "memory")
+}
+
+/// A link over connections of these courses.
+fn link_of<R: Wait + Abort + Copy + Drop>(
+    rt: R,
+    alloc: Global,
+    courses: &'static [Course],
+    seen: &Arc<Mutex<Seen>>,
+) -> TcpLink<MemoryDial<R>, Nobody> {
+    let seen = Arc::try_clone(seen).expect(&rt, "memory");
+    let dial = MemoryDial { rt, courses, seen };
+    TcpLink::new(alloc, "a:11211", dial, Nobody).expect(&rt, "memory")
+}
+
+/// The legs of a row come to what it says.
+fn check_row<R: Wait + Abort + Copy + Drop>(
+    rt: R,
+    alloc: Global,
+    pass: &Pass,
+    row: &Row,
+    begins: bool,
+) {
+    let seen = new_seen(&rt, alloc);
+    let mut link = link_of(rt, alloc, row.courses, &seen);
+    let letters = letters_of(rt, alloc, &mut link, pass, row.ops, begins);
+    assert!(rt; is_text(letters.as_slice(), row.letters), "{}", row.name);
     let seen = seen.lock(&rt);
-    let is_sent = seen.dials == row.dials && is_text(seen.text.as_slice(), row.text);
-    Ok(is_sent && is_text(letters.as_slice(), row.letters))
+    assert!(rt;
+        seen.dials == row.dials && is_text(seen.text.as_slice(), row.text),
+        "{}",
+        row.name
+    );
 }
 
 #[test]
-fn legs_go_over_the_kept_connection_or_a_new_one(rt: HostRuntime) -> Result<(), Fail> {
-    let alloc = rt.alloc();
+fn legs_go_over_the_kept_connection_or_a_new_one(rt: HostRuntime) {
     let begun = Blank::new(2);
     let taken = Blank::new(2);
-    let pass = pass_of::<Brand, Brand>(alloc, begun, taken)?;
+    let pass = pass_of::<Brand, Brand>(&rt, rt.alloc(), begun, taken);
     for row in ROWS {
-        assert!(rt; holds(rt, alloc, &pass, *row)?, "{}", row.name);
+        check_row(rt, rt.alloc(), &pass, row, true);
     }
-    Ok(())
 }
 
 #[test]
-fn notices_are_lines(rt: HostRuntime) -> Result<(), Fail> {
-    let alloc = rt.alloc();
-    for (notice, line) in [
-        (Notice::Marked("a:1"), "mcv: server a:1 is marked"),
-        (Notice::Unmarked("a:1"), "mcv: server a:1 answers again"),
-        (Notice::Refusing, "mcv: the spool refuses records"),
-    ] {
-        let shown = format!(in alloc; "{notice}")?;
-        assert!(rt; shown.as_str() == line);
+fn legs_that_are_not_begun_are_sent_too(rt: HostRuntime) {
+    let begun = Blank::new(2);
+    let taken = Blank::new(2);
+    let pass = pass_of::<Brand, Brand>(&rt, rt.alloc(), begun, taken);
+    for row in ROWS {
+        check_row(rt, rt.alloc(), &pass, row, false);
     }
-    Ok(())
+}
+
+fn check_notice(rt: &impl Abort, alloc: Global, notice: Notice<'_>, line: &str) {
+    let shown = format!(in alloc; "{notice}").expect(rt, "memory");
+    assert!(rt; shown.as_str() == line, "{shown}");
+}
+
+#[test]
+fn notices_are_lines(rt: HostRuntime) {
+    let alloc = rt.alloc();
+    check_notice(
+        &rt,
+        alloc,
+        Notice::Marked("a:1"),
+        "mcv: server a:1 is marked",
+    );
+    check_notice(
+        &rt,
+        alloc,
+        Notice::Unmarked("a:1"),
+        "mcv: server a:1 answers again",
+    );
+    check_notice(
+        &rt,
+        alloc,
+        Notice::Refusing,
+        "mcv: the spool refuses records",
+    );
 }

@@ -1,13 +1,14 @@
 //! A proxy between sockets of this machine.
 
 use crate::links::accepted_of;
+use mcv_check::Accepted;
 use mcv_net::{SpoolFiles, listen, run_proxy};
 use std::alloc::Global;
 use std::io::{Eprint, Read, Write};
 use std::net::{Net, TcpListener, TcpStream};
+use std::process::Abort;
 use std::rt::Clock;
-use std::sync::Wait;
-use std::test::Fail;
+use std::sync::{Arc, Wait};
 use std::thread::Threads;
 use std::{env, fs, process, thread};
 
@@ -67,14 +68,31 @@ struct Visit {
     calls: usize,
 }
 
+/// The routes of a proxy to one server.
+fn routes_to(rt: &impl Abort, alloc: Global, server: &str) -> Arc<Accepted> {
+    let config = format!(in alloc;
+        "{{\"pools\":{{\"A\":{{\"servers\":[\"{server}\"]}}}},\"route\":\"PoolRoute|A\"}}"
+    );
+    accepted_of(rt, alloc, config.expect(rt, "memory").as_str())
+}
+
+/// The address that a listener has.
+fn address_of(rt: &impl Abort, alloc: Global, listener: &TcpListener) -> String {
+    let address = listener.local_addr().expect(rt, "an address");
+    format!(in alloc; "{address}").expect(rt, "memory")
+}
+
+/// The lines of a proxy that serves such a client.
+fn lines_of(rt: &impl Abort, alloc: Global, address: &str, visit: &Visit) -> String {
+    let lines = format!(in alloc;
+        "mcv listening {address} pending {}\nmcv closed calls {}\n",
+        visit.pending, visit.calls
+    );
+    lines.expect(rt, "memory")
+}
+
 /// Whether a proxy to one server, with the spool in this file, serves one client so.
-fn is_served<R>(
-    rt: R,
-    alloc: Global,
-    server: &str,
-    spool: &str,
-    visits: Visit,
-) -> Result<bool, Fail>
+fn is_served<R>(rt: R, alloc: Global, server: &str, spool: &str, visit: Visit) -> bool
 where
     R: Net<Stream = TcpStream, Listener = TcpListener>
         + SpoolFiles
@@ -82,35 +100,38 @@ where
         + Wait
         + Clock
         + Eprint
+        + Abort
         + Copy
         + Drop
         + Send
         + 'static,
 {
-    let config = format!(in alloc;
-        "{{\"pools\":{{\"A\":{{\"servers\":[\"{server}\"]}}}},\"route\":\"PoolRoute|A\"}}"
-    )?;
-    let accepted = accepted_of(alloc, config.as_str())?;
-    let listener = listen(&rt, "127.0.0.1:0")?;
-    let address = format!(in alloc; "{}", listener.local_addr()?)?;
-    let lines = format!(in alloc;
-        "mcv listening {address} pending {}\nmcv closed calls {}\n",
-        visits.pending, visits.calls
-    )?;
-    let Visit { request, reply, .. } = visits;
+    let accepted = routes_to(&rt, alloc, server);
+    let listener = listen(&rt, "127.0.0.1:0").expect(&rt, "a listener");
+    let address = address_of(&rt, alloc, &listener);
+    let lines = lines_of(&rt, alloc, address.as_str(), &visit);
+    let Visit { request, reply, .. } = visit;
     let client = thread::spawn(
         &rt,
         move || is_answered_at(&rt, alloc, address.as_str(), request, reply),
-    )?;
+    );
+    let client = client.expect(&rt, "a thread");
     let mut out = Vec::new(alloc);
-    let disk = rt.open_spool(spool)?;
+    let disk = rt.open_spool(spool).expect(&rt, "a spool");
     let ran = run_proxy(rt, alloc, accepted, listener, disk, 1, &mut out);
     let is_answered = client.join(&rt);
-    Ok(ran.is_ok() && is_answered && out.as_slice() == lines.as_bytes())
+    ran.is_ok() && is_answered && out.as_slice() == lines.as_bytes()
 }
+
+const GET: Visit = Visit {
+    request: "get a\r\n",
+    reply: "VALUE a 0 1\r\nx\r\nEND\r\n",
+    pending: 0,
+    calls: 1,
+};
 
 /// Whether a get is answered by a server's hit.
-fn hits<R>(rt: R, alloc: Global, spool: &str) -> Result<bool, Fail>
+fn hits<R>(rt: R, alloc: Global, spool: &str) -> bool
 where
     R: Net<Stream = TcpStream, Listener = TcpListener>
         + SpoolFiles
@@ -118,26 +139,36 @@ where
         + Wait
         + Clock
         + Eprint
+        + Abort
         + Copy
         + Drop
         + Send
         + 'static,
 {
-    let listener = listen(&rt, "127.0.0.1:0")?;
-    let server = format!(in alloc; "{}", listener.local_addr()?)?;
-    let worker = thread::spawn(&rt, move || serve_a_hit(alloc, &listener))?;
-    let get = Visit {
-        request: "get a\r\n",
-        reply: "VALUE a 0 1\r\nx\r\nEND\r\n",
-        pending: 0,
-        calls: 1,
-    };
-    let is_served = is_served(rt, alloc, server.as_str(), spool, get)?;
-    Ok(worker.join(&rt) && is_served)
+    let listener = listen(&rt, "127.0.0.1:0").expect(&rt, "a listener");
+    let server = address_of(&rt, alloc, &listener);
+    let worker = thread::spawn(&rt, move || serve_a_hit(alloc, &listener));
+    let worker = worker.expect(&rt, "a thread");
+    let is_served = is_served(rt, alloc, server.as_str(), spool, GET);
+    worker.join(&rt) && is_served
 }
 
+const DELETE: Visit = Visit {
+    request: "delete a\r\n",
+    reply: "NOT_FOUND\r\n",
+    pending: 0,
+    calls: 1,
+};
+
+const VERSION: Visit = Visit {
+    request: "version\r\n",
+    reply: "VERSION mcv 1\r\n",
+    pending: 1,
+    calls: 0,
+};
+
 /// Whether a delete to a server that isn't there is in the spool, also for the next proxy.
-fn spools<R>(rt: R, alloc: Global, spool: &str) -> Result<bool, Fail>
+fn spools<R>(rt: R, alloc: Global, spool: &str) -> bool
 where
     R: Net<Stream = TcpStream, Listener = TcpListener>
         + SpoolFiles
@@ -145,40 +176,29 @@ where
         + Wait
         + Clock
         + Eprint
+        + Abort
         + Copy
         + Drop
         + Send
         + 'static,
 {
-    let listener = listen(&rt, "127.0.0.1:0")?;
-    let server = format!(in alloc; "{}", listener.local_addr()?)?;
+    let listener = listen(&rt, "127.0.0.1:0").expect(&rt, "a listener");
+    let server = address_of(&rt, alloc, &listener);
     drop(listener);
-    let delete = Visit {
-        request: "delete a\r\n",
-        reply: "NOT_FOUND\r\n",
-        pending: 0,
-        calls: 1,
-    };
-    let version = Visit {
-        request: "version\r\n",
-        reply: "VERSION mcv 1\r\n",
-        pending: 1,
-        calls: 0,
-    };
-    let is_spooled = is_served(rt, alloc, server.as_str(), spool, delete)?;
-    Ok(is_spooled && is_served(rt, alloc, server.as_str(), spool, version)?)
+    is_served(rt, alloc, server.as_str(), spool, DELETE)
+        && is_served(rt, alloc, server.as_str(), spool, VERSION)
 }
 
 #[test]
-fn a_get_hits_and_a_delete_is_spooled(rt: HostRuntime) -> Result<(), Fail> {
+fn a_get_hits_and_a_delete_is_spooled(rt: HostRuntime) {
     let alloc = rt.alloc();
-    let temporary = env::temp_dir(&rt)?;
+    let temporary = env::temp_dir(&rt).expect(&rt, "a folder");
     let folder = temporary.as_str();
-    let spool = format!(in alloc; "{folder}/mcv_net_tests.{}", process::id(rt.process()))?;
-    let is_right = hits(rt, alloc, spool.as_str())? && spools(rt, alloc, spool.as_str())?;
-    let length = fs::read(&rt, spool.as_str())?.len();
-    fs::remove_file(&rt, spool.as_str())?;
+    let number = process::id(rt.process());
+    let spool = format!(in alloc; "{folder}/mcv_net_tests.{number}").expect(&rt, "memory");
+    let is_right = hits(rt, alloc, spool.as_str()) && spools(rt, alloc, spool.as_str());
+    let length = fs::read(&rt, spool.as_str()).expect(&rt, "the spool").len();
+    fs::remove_file(&rt, spool.as_str()).expect(&rt, "the spool");
     assert!(rt; is_right);
     assert!(rt; length == 641, "{length} bytes");
-    Ok(())
 }

@@ -1,4 +1,4 @@
-pub mod Added
-pub mod One
-pub mod Picked
-pub mod Reasoned
+pub mod AddedPairs
+pub mod OneListOfPairs
+pub mod PickedReasons
+pub mod AnsweredHasReasons

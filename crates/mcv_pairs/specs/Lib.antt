@@ -1,3 +1,3 @@
-pub mod Adds
+pub mod AddedPairs
 pub mod Gaps
 pub mod Reasons

@@ -1,7 +1,7 @@
 -- Which reason a pair gives: the first that holds in the order never, twin, same, all, with the first legs (own).
 use Rattle.std.specs.Prelude.{All, ◌≡◌, ℕ, List, Option, Some, None}
 use Rattle.std.specs.List.{Contains}
-use Rattle.mcv_cert.specs.Pair.{PairValue, ReasonValue, index_of, place_of}
+use Rattle.mcv_cert.specs.Pair.{PairValue, ReasonValue, index_of}
 use Rattle.mcv_judge.specs.Answers.{AnswersBlock}
 use Rattle.mcv_judge.specs.Faults.{IsInOrder, place_required, require}
 use Rattle.mcv_judge.specs.Reason.{BlockValue, LegValue, server_at}
@@ -17,7 +17,7 @@ IsPicked b leaf reason = IsPickedBeside (whole_reason b.can_be_acknowledged b.ac
 
 -- the pair is at the leaf, and gives the reason that is picked for it
 pub record IsPickedFor (b : BlockValue) (leaf : LegValue) (p : PairValue) : Type 0 where
-  pub place : place_of p ≡ place_required (require b leaf)
+  pub place : p.place ≡ place_required (require b leaf)
   pub reason : IsPicked b leaf p.reason
 
 -- it does so at a readable leaf of the block

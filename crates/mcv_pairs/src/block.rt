@@ -3,8 +3,8 @@
 ghost use Rattle.std.specs.Prelude.{All, IfNone, IfOk, IfSome};
 ghost use Rattle.mcv_judge.specs.Answers.{AnswersBlock};
 ghost use Rattle.mcv_judge.specs.Faults.{AreLegsRising};
-ghost use Rattle.mcv_judge.specs.InMemory.{block_of, legs_of, pairs_of};
-ghost use Rattle.mcv_pairs.specs.Adds.{Adds};
+ghost use Rattle.mcv_judge.specs.PairsInMemory.{block_of, legs_of, pairs_of};
+ghost use Rattle.mcv_pairs.specs.AddedPairs.{Adds};
 ghost use Rattle.mcv_pairs.specs.Gaps.{IsFirstGapIn, IsSized};
 ghost use Rattle.mcv_pairs.specs.Reasons.{IsPickedIn};
 

@@ -4,13 +4,13 @@ ghost use Rattle.std.specs.Prelude.{◌≡◌, All, None, IfNone, IfOk, IfSome};
 ghost use Rattle.mcv_cert.specs.Pair.{pair_of, reason_of};
 ghost use Rattle.mcv_judge.specs.Answers.{AnswersLeaf};
 ghost use Rattle.mcv_judge.specs.Faults.{AreLegsRising};
-ghost use Rattle.mcv_judge.specs.InMemory.{block_of, leg_of, legs_of, pairs_of};
+ghost use Rattle.mcv_judge.specs.PairsInMemory.{block_of, leg_of, legs_of, pairs_of};
 ghost use Rattle.mcv_picks.specs.Reasons.{whole_reason};
-ghost use Rattle.mcv_pairs.specs.Adds.{Adds, pair_with};
+ghost use Rattle.mcv_pairs.specs.AddedPairs.{Adds, pair_with};
 ghost use Rattle.mcv_pairs.specs.Gaps.{IsFirstGapOf, IsSized};
 ghost use Rattle.mcv_pairs.specs.Reasons.{IsPickedFor};
 
-use mcv_cert::{Pair, Reason};
+use mcv_cert::{Pair, Place, Reason};
 use mcv_judge::{Block, Leg};
 use mcv_picks::Picks;
 use std::alloc::{AllocError, Global};
@@ -19,13 +19,13 @@ use std::alloc::{AllocError, Global};
 fn pair_with(alloc: Global, block: &Block, leaf: &Leg, reason: Reason) -> Result<Pair, AllocError>
     ensures { IfOk result (λ p. pair_of p ≡ pair_with (block_of block.now) (leg_of leaf.now) (reason_of reason)) }
 {
-    Ok(Pair {
-        route: block.route,
-        class: Vec::from_slice(alloc, block.class)?,
-        era: block.era,
+    let place = Place {
+        route: block.spot.route,
+        class: Vec::from_slice(alloc, block.spot.class)?,
+        era: block.spot.era,
         leaf: leaf.position.copy(alloc)?,
-        reason,
-    })
+    };
+    Ok(Pair::new(place, reason))
 }
 
 /// Adds a pair for each index of a leaf that has no reason for all of them, or gives the first index without a reason.

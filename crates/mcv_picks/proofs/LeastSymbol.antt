@@ -7,8 +7,8 @@ use Rattle.std.proofs.lemmas.List.Elements.{All-append, All-cons, All-head, All-
 use Rattle.mcv_judge.specs.Reason.{LegValue, is_same_server, server_at}
 use Rattle.mcv_picks.specs.Picks.{each_with, filling, first_with}
 use Rattle.mcv_picks.specs.Tables.{IsLeast, FindTheSame, is_at, is_filled_by, is_lesser, least}
-use Rattle.mcv_picks.proofs.Equal.{is_at-twins}
-use Rattle.mcv_picks.proofs.Found.{none_there}
+use Rattle.mcv_picks.proofs.TwinsAreEqual.{is_at-twins}
+use Rattle.mcv_picks.proofs.SearchResults.{none_there}
 
 -- what is kept for a server once some legs were seen: a symbol that fills, and none of theirs that fills is less
 abbrev pub IsKept : List LegValue → (server : ℕ) → Option ℕ → Type 0

@@ -1,6 +1,6 @@
-pub mod Equal
-pub mod Found
-pub mod Filled
+pub mod TwinsAreEqual
+pub mod SearchResults
+pub mod FilledSlots
 pub mod LeastSymbol
-pub mod Hold
-pub mod Each
+pub mod PicksHold
+pub mod GatheredLegs

@@ -3,7 +3,7 @@ use Rattle.std.specs.Prelude.{◌≡◌, ◌<◌, ℕ, suc, List, [], ◌∷◌,
 use Rattle.std.specs.Option.{option_and_then}
 use Rattle.std.specs.Borrow.{Bor}
 use Rattle.mcv_judge.specs.declared.block.Leg.{Leg}
-use Rattle.mcv_judge.specs.InMemory.{leg_of}
+use Rattle.mcv_judge.specs.PairsInMemory.{leg_of}
 use Rattle.mcv_judge.specs.Reason.{LegValue, is_twin, has_server}
 
 -- a leg that is borrowed

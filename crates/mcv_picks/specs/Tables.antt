@@ -8,19 +8,19 @@ use Rattle.std.specs.Ordering.{nat_cmp, ordering_then}
 use Rattle.std.specs.declared.cmp.Ordering.{Ordering}
 use Rattle.mcv_base.specs.declared.request.ServerId.{ServerId}
 use Rattle.mcv_judge.specs.declared.block.Leg.{Leg}
-use Rattle.mcv_judge.specs.InMemory.{numbers}
+use Rattle.mcv_judge.specs.PairsInMemory.{numbers}
 use Rattle.mcv_judge.specs.Reason.{LegValue, is_same_list, is_same_server, is_twin, has_server, server_at}
 use Rattle.mcv_picks.specs.Picks.{borrowed, filling}
 
--- a symbol and a list of servers
-abbrev pub Class : Type 0
-Class = ℕ × Bor (List ServerId)
+-- what twins share: a symbol and a list of servers
+abbrev pub TwinKey : Type 0
+TwinKey = ℕ × Bor (List ServerId)
 
-abbrev pub class_cmp : Class → Class → Ordering
-class_cmp j k = ordering_then (nat_cmp j.0 k.0) (slice_cmp (λ (x y : ServerId). nat_cmp x.0 y.0) j.1.now k.1.now)
+abbrev pub twin_cmp : TwinKey → TwinKey → Ordering
+twin_cmp j k = ordering_then (nat_cmp j.0 k.0) (slice_cmp (λ (x y : ServerId). nat_cmp x.0 y.0) j.1.now k.1.now)
 
--- a leg of the class
-abbrev pub is_of : Class → LegValue → Bool
+-- a leg that has these
+abbrev pub is_of : TwinKey → LegValue → Bool
 is_of k d = nat_eq d.symbol k.0 && is_same_list d.servers (numbers k.1.now)
 
 -- a symbol, an index and a server
@@ -44,8 +44,8 @@ FindTheSame firsts legs = (test : LegValue → Bool) → IsSameOnTwins test → 
 
 -- ---- the tables
 
-abbrev pub IsByClass : BTreeMap Class (Bor Leg) → List LegValue → Type 0
-IsByClass table legs = (k : Class) → option_map borrowed (get class_cmp table k) ≡ find (is_of k) legs
+abbrev pub IsByTwinKey : BTreeMap TwinKey (Bor Leg) → List LegValue → Type 0
+IsByTwinKey table legs = (k : TwinKey) → option_map borrowed (get twin_cmp table k) ≡ find (is_of k) legs
 
 abbrev pub IsBySlot : BTreeMap Slot (Bor Leg) → List LegValue → Type 0
 IsBySlot table legs = (q : Slot) → option_map borrowed (get slot_cmp table q) ≡ find (is_at q) legs

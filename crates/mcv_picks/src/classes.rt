@@ -1,9 +1,9 @@
 //! Legs by class: those of one class have the same symbol and the same servers.
 
 ghost use Rattle.std.specs.Prelude.{IfOk, map};
-ghost use Rattle.mcv_judge.specs.InMemory.{legs_of};
+ghost use Rattle.mcv_judge.specs.PairsInMemory.{legs_of};
 ghost use Rattle.mcv_picks.specs.Picks.{borrowed};
-ghost use Rattle.mcv_picks.specs.Tables.{FindTheSame, IsByClass};
+ghost use Rattle.mcv_picks.specs.Tables.{FindTheSame, IsByTwinKey};
 
 use mcv_base::ServerId;
 use mcv_judge::Leg;
@@ -21,7 +21,7 @@ pub fn classes<'a>(
     ),
     AllocError,
 >
-    ensures table { IfOk result (λ r. IsByClass r.0 (legs_of legs.now)) }
+    ensures table { IfOk result (λ r. IsByTwinKey r.0 (legs_of legs.now)) }
     ensures firsts { IfOk result (λ r. FindTheSame (map borrowed r.1.items) (legs_of legs.now)) }
 {
     let mut table = BTreeMap::new(alloc);

@@ -3,7 +3,7 @@
 ghost use Rattle.std.specs.BTreeMap.{get};
 ghost use Rattle.std.specs.Ordering.{nat_cmp};
 ghost use Rattle.std.specs.Prelude.{◌≡◌, ℕ, IfOk, OnOk, Some, if◌then◌else◌, map};
-ghost use Rattle.mcv_judge.specs.InMemory.{leg_of};
+ghost use Rattle.mcv_judge.specs.PairsInMemory.{leg_of};
 ghost use Rattle.mcv_picks.specs.Picks.{borrowed};
 ghost use Rattle.mcv_picks.specs.Tables.{FindTheSame, IsByServer, is_filled_by, is_lesser, least};
 

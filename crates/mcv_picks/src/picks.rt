@@ -2,7 +2,7 @@
 
 ghost use Rattle.std.specs.Option.{option_map};
 ghost use Rattle.std.specs.Prelude.{◌≡◌, IfOk, map};
-ghost use Rattle.mcv_judge.specs.InMemory.{leg_of, legs_of};
+ghost use Rattle.mcv_judge.specs.PairsInMemory.{leg_of, legs_of};
 ghost use Rattle.mcv_cert.specs.Pair.{reason_of};
 ghost use Rattle.mcv_picks.specs.Reasons.{IsReasonAt, whole_reason};
 ghost use Rattle.mcv_picks.specs.Picks.{IsFirstFilling, borrowed, first_twin, first_with};

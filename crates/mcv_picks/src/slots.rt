@@ -3,7 +3,7 @@
 ghost use Rattle.std.specs.BTreeMap.{get};
 ghost use Rattle.std.specs.Option.{option_map, option_or};
 ghost use Rattle.std.specs.Prelude.{◌≡◌, IfOk, OnOk, Some, None, if◌then◌else◌, map};
-ghost use Rattle.mcv_judge.specs.InMemory.{leg_of};
+ghost use Rattle.mcv_judge.specs.PairsInMemory.{leg_of};
 ghost use Rattle.mcv_picks.specs.Picks.{borrowed};
 ghost use Rattle.mcv_picks.specs.Tables.{IsBySlot, Slot, is_at, slot_cmp};
 

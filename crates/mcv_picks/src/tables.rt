@@ -2,7 +2,7 @@
 
 ghost use Rattle.std.specs.Option.{option_map};
 ghost use Rattle.std.specs.Prelude.{◌≡◌, IfOk, is_some, map};
-ghost use Rattle.mcv_judge.specs.InMemory.{leg_of, legs_of, numbers};
+ghost use Rattle.mcv_judge.specs.PairsInMemory.{leg_of, legs_of, numbers};
 ghost use Rattle.mcv_picks.specs.Picks.{borrowed, each_with, filling, first_twin, first_with};
 ghost use Rattle.mcv_picks.specs.Tables.{FindTheSame};
 
@@ -26,15 +26,15 @@ pub struct Tables<'a> {
 
 impl<'a> Model for Tables<'a> {
     ghost use Rattle.std.specs.Prelude.{List};
-    ghost use Rattle.mcv_judge.specs.InMemory.{legs_of};
+    ghost use Rattle.mcv_judge.specs.PairsInMemory.{legs_of};
     ghost use Rattle.mcv_judge.specs.Reason.{LegValue};
-    ghost use Rattle.mcv_picks.specs.Tables.{IsByClass, IsBySlot};
+    ghost use Rattle.mcv_picks.specs.Tables.{IsByTwinKey, IsBySlot};
 
     ghost Value = { List LegValue };
 
     ghost view = { λ t. legs_of t.legs.now };
 
-    ghost invariant = { λ t. IsByClass t.by_class (legs_of t.legs.now) × IsBySlot t.by_slot (legs_of t.legs.now) };
+    ghost invariant = { λ t. IsByTwinKey t.by_class (legs_of t.legs.now) × IsBySlot t.by_slot (legs_of t.legs.now) };
 }
 
 impl<'a> Tables<'a> {

@@ -10,7 +10,7 @@ use Rattle.mcv_rules.specs.declared.arrival.Arrival.{Arrival}
 use Rattle.mcv_rules.specs.declared.status.Source as sources
 use Rattle.mcv_rules.specs.declared.arrival.After.{After}
 use Rattle.mcv_plan.specs.declared.answer.Source.{Source}
-use Rattle.mcv_plan.specs.Reached.{Reached, all_answered, at, came_of, goes_on, join, last_came, later, next_answered, prevails, search_from, waits, weight}
+use Rattle.mcv_plan.specs.ReachedAnswers.{Reached, all_answered, at, came_of, goes_on, join, last_came, later, next_answered, prevails, search_from, waits, weight}
 use Rattle.mcv_plan.specs.Parts.{said, reached_of}
 
 -- ---- one after another

@@ -9,24 +9,24 @@ use Rattle.mcv_base.specs.Operation.{is_reading}
 use Rattle.mcv_route.specs.Children.{joined, policy_of, prefix_policy, to_both, way_of}
 use Rattle.mcv_route.specs.Outcomes.{Choice}
 use Rattle.mcv_route.specs.Situation.{Situation, adding, asynchronous, shadowed, under}
-use Rattle.mcv_route.specs.Tree.{Pool, Range, Tree, Trees, all_async, all_initial, all_sync, child, error, failover, migrate, miss_failover, pool, warm_up}
+use Rattle.mcv_route.specs.Tree.{Pool, Range, Tree, Trees, many, AllSync, AllInitial, AllAsync, Failover, MissFailover, child, error, migrate, pool, warm_up}
 use Rattle.mcv_route.specs.View.{last_view, operation_view, prefix_view, shadow_view, trees_of, view}
 use Rattle.mcv_route.specs.declared.tree.OperationPolicy.{OperationPolicy, out-OperationPolicy}
 use Rattle.mcv_route.specs.declared.tree.PrefixPolicy.{PrefixPolicy, out-PrefixPolicy}
 use Rattle.mcv_route.specs.declared.tree.Route.{OperationSelector, PrefixSelector, Route}
 use Rattle.mcv_route.specs.declared.tree.Shadow.{Shadow}
 use Rattle.mcv_route.proofs.Views.{operation_view-out, prefix_view-out, view-OperationSelector, view-PrefixSelector}
-use Rattle.mcv_rules.specs.Laid.{Serves, children_of, operations_of, prefixes_of, ranges_of, targets_of}
+use Rattle.mcv_rules.specs.PlanInMemory.{Serves, children_of, operations_of, prefixes_of, ranges_of, targets_of}
 use Rattle.mcv_rules.specs.Places.{places_of}
 use Rattle.mcv_rules.specs.Plan as planned
 use Rattle.mcv_rules.specs.Plans.{leg_of, plan, plan_each, with_shadows}
-use Rattle.mcv_rules.specs.Sound.{positions}
+use Rattle.mcv_rules.specs.Soundness.{positions}
 use Rattle.mcv_rules.specs.declared.plan.Plan.{Plan}
-use Rattle.mcv_rules.proofs.Besides.{first_of}
-use Rattle.mcv_rules.proofs.Choosing.{Chooses, does_child, does_error, last_at, length-prefixes, length-routes, miss_chooses, operation_chooses, policy_at, policy_of-le, prefix_chooses, prefix_policy-le, routes_before}
+use Rattle.mcv_rules.proofs.BesidePlans.{first_of}
+use Rattle.mcv_rules.proofs.ChoosingHandles.{Chooses, does_child, does_error, last_at, length-prefixes, length-routes, miss_chooses, operation_chooses, policy_at, policy_of-le, prefix_chooses, prefix_policy-le, routes_before}
 use Rattle.mcv_rules.proofs.Serving.{Does, positions-fold, positions-together}
-use Rattle.mcv_plan.specs.Built as sublists
-use Rattle.mcv_plan.specs.Built.{IsSublist}
+use Rattle.mcv_plan.specs.CourseOfPlan as sublists
+use Rattle.mcv_plan.specs.CourseOfPlan.{IsSublist}
 use Rattle.mcv_plan.specs.Counts.{capped, legs_each, legs_in}
 use Rattle.mcv_plan.specs.Entries.{legs_of}
 
@@ -43,19 +43,19 @@ counts_as t u s v n d e = e ∙ ap (λ p. capped (length (positions p))) (sym d.
 
 -- ---- handles of several children
 
-pub all_sync_count : (ts : Trees) (s : Situation) → legs_in (all_sync ts) s ≡ legs_each 0 ts s
+pub all_sync_count : (ts : Trees) (s : Situation) → legs_in (many AllSync ts) s ≡ legs_each 0 ts s
 all_sync_count ts s = ap length (positions-together planned.Both (λ t u. refl) (plan_each 0 ts s))
 
-pub failover_count : (ts : Trees) (s : Situation) → legs_in (failover ts) s ≡ legs_each 0 ts s
+pub failover_count : (ts : Trees) (s : Situation) → legs_in (many Failover ts) s ≡ legs_each 0 ts s
 failover_count ts s = ap length (positions-together planned.OnError (λ t u. refl) (plan_each 0 ts s))
 
-pub miss_count : (ts : Trees) (s : Situation) → is_reading s.op ≡ true → legs_in (miss_failover ts) s ≡ legs_each 0 ts s
+pub miss_count : (ts : Trees) (s : Situation) → is_reading s.op ≡ true → legs_in (many MissFailover ts) s ≡ legs_each 0 ts s
 miss_count ts s h = rw h (ap length (positions-together planned.OnMiss (λ t u. refl) (plan_each 0 ts s)))
 
-pub all_async_count : (ts : Trees) (s : Situation) → legs_in (all_async ts) s ≡ legs_each 0 ts (asynchronous s)
+pub all_async_count : (ts : Trees) (s : Situation) → legs_in (many AllAsync ts) s ≡ legs_each 0 ts (asynchronous s)
 all_async_count ts s = ap length (positions-fold planned.Beside (λ t u. refl) (planned.Reply Soft) (plan_each 0 ts (asynchronous s)))
 
-pub all_initial_count : (t : Tree) (ts : Trees) (s : Situation) → legs_in (all_initial (child t ts)) s ≡ legs_in t (under 0 s) + legs_each 1 ts (asynchronous s)
+pub all_initial_count : (t : Tree) (ts : Trees) (s : Situation) → legs_in (many AllInitial (child t ts)) s ≡ legs_in t (under 0 s) + legs_each 1 ts (asynchronous s)
 all_initial_count t ts s =
     ap length (positions-fold planned.Beside (λ t u. refl) (plan t (under 0 s)) (plan_each 1 ts (asynchronous s)))
     ∙ length-append (positions (plan t (under 0 s))) (joined (map positions (plan_each 1 ts (asynchronous s))))
@@ -138,24 +138,24 @@ initial_more routes others i route s total more h is f e =
     moved a b c d f = omega (arith, f)
 
 pub initial_all : (routes : List Route) (first : Route) (others : List Route) (s : Situation) (total : ℕ) → routes ≡ first ∷ others
-    → total ≡ capped (initial_so_far routes others s) → total ≡ capped (legs_in (all_initial (children_of routes)) s)
+    → total ≡ capped (initial_so_far routes others s) → total ≡ capped (legs_in (many AllInitial (children_of routes)) s)
 initial_all routes first others s total is e = e ∙ rw is (ap capped (sym (all_initial_count (view first) (children_of others) s)))
 
-pub no_initial : (routes : List Route) (s : Situation) → length routes ≡ 0 → 0 ≡ capped (legs_in (all_initial (children_of routes)) s)
+pub no_initial : (routes : List Route) (s : Situation) → length routes ≡ 0 → 0 ≡ capped (legs_in (many AllInitial (children_of routes)) s)
 no_initial [] s n = refl
 no_initial (r ∷ routes) s n = absurd (omega (arith, n))
 
 -- ---- a search for what doesn't read
 
 pub first_child_count : (routes : List Route) (first : Route) (s : Situation) (n : ℕ) → is_reading s.op ≡ false → 0 < length routes → first ≡ get_or routes 0 first
-    → n ≡ capped (legs_in (view first) (under 0 s)) → n ≡ capped (legs_in (miss_failover (children_of routes)) s)
+    → n ≡ capped (legs_in (view first) (under 0 s)) → n ≡ capped (legs_in (many MissFailover (children_of routes)) s)
 first_child_count [] first s n h m is f = absurd (omega (arith, m))
 first_child_count (r ∷ routes) first s n h m is f =
-    counts_as (miss_failover (children_of (r ∷ routes))) (view r) s (under 0 s) n
-    (does_child 0 (miss_failover (children_of (r ∷ routes))) (map view (r ∷ routes)) s (view r) (miss_chooses (children_of (r ∷ routes)) s h) (omega arith) refl)
+    counts_as (many MissFailover (children_of (r ∷ routes))) (view r) s (under 0 s) n
+    (does_child 0 (many MissFailover (children_of (r ∷ routes))) (map view (r ∷ routes)) s (view r) (miss_chooses (children_of (r ∷ routes)) s h) (omega arith) refl)
     (subst (λ x. n ≡ capped (legs_in (view x) (under 0 s))) is f)
 
-pub no_child_count : (routes : List Route) (s : Situation) → is_reading s.op ≡ false → length routes ≡ 0 → 0 ≡ capped (legs_in (miss_failover (children_of routes)) s)
+pub no_child_count : (routes : List Route) (s : Situation) → is_reading s.op ≡ false → length routes ≡ 0 → 0 ≡ capped (legs_in (many MissFailover (children_of routes)) s)
 no_child_count [] s h n = rw h refl
 no_child_count (r ∷ routes) s h n = absurd (omega (arith, n))
 

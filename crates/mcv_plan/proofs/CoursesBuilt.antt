@@ -11,7 +11,7 @@ use Rattle.mcv_rules.specs.declared.plan.PlannedLeg.{PlannedLeg}
 use Rattle.mcv_rules.specs.declared.plan.Plan.{Plan, Send, Shadowed}
 use Rattle.mcv_plan.specs.declared.course.Course as courses
 use Rattle.mcv_plan.specs.declared.course.Course.{Course}
-use Rattle.mcv_plan.specs.Built.{BuiltEach, IsBuilt}
+use Rattle.mcv_plan.specs.CourseOfPlan.{BuiltEach, IsBuilt}
 use Rattle.mcv_plan.specs.Entries.{legs_of, numbers}
 use Rattle.mcv_plan.specs.State.{State, entries}
 use Rattle.mcv_plan.specs.View.{view}

@@ -24,26 +24,26 @@ use Rattle.mcv_rules.specs.declared.arrival.Arrival as theirs
 use Rattle.mcv_rules.specs.declared.status.Source.TheVariants as variants
 use Rattle.mcv_rules.specs.declared.plan.Plan.{Plan}
 use Rattle.mcv_rules.specs.History.{history_of, place_of}
-use Rattle.mcv_rules.specs.Laid.{Serves, sent}
+use Rattle.mcv_rules.specs.PlanInMemory.{Serves, sent}
 use Rattle.mcv_rules.specs.Laws.{IsOneOf, outcome_at}
 use Rattle.mcv_rules.specs.Rows.{ComesBefore}
 use Rattle.mcv_rules.specs.Status.{source_of}
-use Rattle.mcv_rules.proofs.One.{reply_is_one_of}
-use Rattle.mcv_rules.proofs.True.{answers_are_true}
+use Rattle.mcv_rules.proofs.OneReply.{reply_is_one_of}
+use Rattle.mcv_rules.proofs.AnswersAreTrue.{answers_are_true}
 use Rattle.mcv_rules.specs.Places.{is_plain, kind_of, places_of}
-use Rattle.mcv_rules.proofs.Rising.{IsPart, both-parts, no-part, pairs, plan_rises, whole-part}
-use Rattle.mcv_plan.specs.Built as sublists
-use Rattle.mcv_plan.specs.Built.{IsBuilt, IsSublist}
+use Rattle.mcv_rules.proofs.LegsRise.{IsPart, both-parts, no-part, pairs, plan_rises, whole-part}
+use Rattle.mcv_plan.specs.CourseOfPlan as sublists
+use Rattle.mcv_plan.specs.CourseOfPlan.{IsBuilt, IsSublist}
 use Rattle.mcv_plan.specs.Counts.{legs_in}
 use Rattle.mcv_plan.specs.Entries.{legs_of, numbers}
 use Rattle.mcv_plan.specs.Evaluation.{leg_at}
 use Rattle.mcv_plan.specs.Laws.{Evaluates, IsLaidOut, IsReply, history_at, position_at}
 use Rattle.mcv_plan.specs.Parts.{AnswersAs, IsFixed, SendsAs, reached_of}
-use Rattle.mcv_plan.specs.Past.{IsLegal, Past, own_of}
-use Rattle.mcv_plan.specs.Reached.{Own, answer_of}
+use Rattle.mcv_plan.specs.PastOutcomes.{IsLegal, Past, own_of}
+use Rattle.mcv_plan.specs.ReachedAnswers.{Own, answer_of}
 use Rattle.mcv_plan.specs.State.{State, answered, entries, plan, sends}
 use Rattle.mcv_plan.proofs.CountsAdd.{choice_bounded}
-use Rattle.mcv_plan.proofs.Local.{answered_plan, entries_plan, sends_plan}
+use Rattle.mcv_plan.proofs.PartsAreLocal.{answered_plan, entries_plan, sends_plan}
 use Rattle.mcv_plan.proofs.PartsBuilt.{plain_beside}
 use Rattle.mcv_plan.proofs.EntriesLaidOut.{all_legs, below_count, follow_all, part_is_filter, placed_apart}
 use Rattle.mcv_plan.proofs.LaunchedOnce.{first_within, launched_once, once_entries, sends_part}

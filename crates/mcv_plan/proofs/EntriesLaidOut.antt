@@ -9,14 +9,14 @@ use Rattle.mcv_route.specs.declared.launch.Launch.{Launch}
 use Rattle.mcv_route.specs.Outcomes.{is_same}
 use Rattle.mcv_rules.specs.Rows.{ComesBefore}
 use Rattle.mcv_rules.proofs.Orders.{same_is, same_self}
-use Rattle.mcv_plan.specs.Built.{Follow}
+use Rattle.mcv_plan.specs.CourseOfPlan.{Follow}
 use Rattle.mcv_plan.specs.Entries.{numbers}
 use Rattle.mcv_plan.specs.Evaluation.{leg_at}
 use Rattle.mcv_plan.specs.Laws.{has_position, position_at}
-use Rattle.mcv_plan.specs.Past.{IsOnce}
-use Rattle.mcv_plan.specs.Reached.{IsMerge, added, done, kept}
+use Rattle.mcv_plan.specs.PastOutcomes.{IsOnce}
+use Rattle.mcv_plan.specs.ReachedAnswers.{IsMerge, added, done, kept}
 use Rattle.mcv_plan.specs.State.{holds}
-use Rattle.mcv_plan.proofs.Local.{or_cases, or_left, or_right}
+use Rattle.mcv_plan.proofs.PartsAreLocal.{or_cases, or_left, or_right}
 use Rattle.mcv_plan.proofs.LaunchedOnce.{apart, first_within, second_within}
 use Rattle.mcv_plan.proofs.Records.{ArePlacedApart}
 

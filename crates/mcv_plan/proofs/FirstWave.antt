@@ -6,16 +6,16 @@ use Rattle.mcv_route.specs.Outcomes.{Choice}
 use Rattle.mcv_rules.specs.declared.plan.Plan.{Plan}
 use Rattle.mcv_plan.specs.declared.course.Course.{Course}
 use Rattle.mcv_plan.specs.declared.state.EvalState.{EvalState}
-use Rattle.mcv_plan.specs.Built.{IsBuilt}
+use Rattle.mcv_plan.specs.CourseOfPlan.{IsBuilt}
 use Rattle.mcv_plan.specs.Entries.{legs_of, numbers}
 use Rattle.mcv_plan.specs.Evaluation.{IsAfter}
-use Rattle.mcv_plan.specs.Past.{IsKept}
-use Rattle.mcv_plan.specs.Reached.{answer_of, nothing}
+use Rattle.mcv_plan.specs.PastOutcomes.{IsKept}
+use Rattle.mcv_plan.specs.ReachedAnswers.{answer_of, nothing}
 use Rattle.mcv_plan.specs.State.{Reflects, State, entries, holds, replies_at_once, wave, plan}
 use Rattle.mcv_plan.specs.View.{view}
 use Rattle.mcv_plan.proofs.CoursesBuilt.{count_entries}
 use Rattle.mcv_plan.proofs.EntriesLaidOut.{has_number}
-use Rattle.mcv_plan.proofs.Local.{answered_plan, entries_plan, sends_plan}
+use Rattle.mcv_plan.proofs.PartsAreLocal.{answered_plan, entries_plan, sends_plan}
 
 -- its legs are the first of the list
 pub legs_begun : (c : Choice) (p : Plan) (old ls : List Launch) → old ≡ [] → ls ≡ old ++ legs_of c p → ls ≡ legs_of c p

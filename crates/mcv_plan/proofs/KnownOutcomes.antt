@@ -7,8 +7,8 @@ use Rattle.mcv_route.specs.Children.{joined}
 use Rattle.mcv_rules.specs.declared.arrival.After.{After}
 use Rattle.mcv_plan.specs.declared.answer.Answer.{Answer}
 use Rattle.mcv_plan.specs.declared.course.Course.{Course}
-use Rattle.mcv_plan.specs.Known.{own_in}
-use Rattle.mcv_plan.specs.Reached.{IsBefore, Own, Reached, all_answered, answer_from, answer_of, at, came_of, goes_on_after, is_hit, last_came, over, prevails, reached, search_answered, searched, waits}
+use Rattle.mcv_plan.specs.KnownOutcomes.{own_in}
+use Rattle.mcv_plan.specs.ReachedAnswers.{IsBefore, Own, Reached, all_answered, answer_from, answer_of, at, came_of, goes_on_after, is_hit, last_came, over, prevails, reached, search_answered, searched, waits}
 use Rattle.mcv_plan.specs.State.{State, States, answered, answered_each, answers_each, holds, sends, sends_each}
 use Rattle.mcv_plan.specs.View.{seen, view}
 use Rattle.mcv_plan.proofs.Lists.{each_before}

@@ -3,11 +3,11 @@ use Rattle.std.proofs.Common.{◌≡◌, ◌<◌, inl, inr, cond, ℕ, zero, suc
 use Rattle.mcv_route.specs.Children.{joined}
 use Rattle.mcv_rules.specs.declared.arrival.After.{After}
 use Rattle.mcv_plan.specs.Entries.{numbers}
-use Rattle.mcv_plan.specs.Past.{IsOnce}
-use Rattle.mcv_plan.specs.Reached.{IsMerge, Own, added, answer_of, done, goes_on_after, is_hit, kept, searched}
+use Rattle.mcv_plan.specs.PastOutcomes.{IsOnce}
+use Rattle.mcv_plan.specs.ReachedAnswers.{IsMerge, Own, added, answer_of, done, goes_on_after, is_hit, kept, searched}
 use Rattle.mcv_plan.specs.State.{State, States, send, reply, all, in_turn, beside, on_hit, none, more, answered, answers_each, entries, entries_each, holds, sends, sends_each}
 use Rattle.mcv_plan.proofs.Merges.{merge_append, merge_new, merge_same}
-use Rattle.mcv_plan.proofs.Local.{or_left, or_right, or_cases}
+use Rattle.mcv_plan.proofs.PartsAreLocal.{or_left, or_right, or_cases}
 
 -- the first has elements of the second, in their order
 abbrev pub IsPart : List ℕ → List ℕ → Type 0

@@ -1,10 +1,10 @@
 pub mod Waves
-pub mod Local
-pub mod Finding
+pub mod PartsAreLocal
+pub mod ChildOfLeg
 pub mod Views
 pub mod Merges
 pub mod Lists
-pub mod Heard
+pub mod HeardOutcome
 pub mod OutcomeInSearch
 pub mod Children
 pub mod PastGrows

@@ -5,9 +5,9 @@ use Rattle.mcv_base.specs.declared.reply.Outcome.{Outcome}
 use Rattle.mcv_route.specs.Children.{joined}
 use Rattle.mcv_rules.specs.declared.arrival.After.{After}
 use Rattle.mcv_plan.specs.declared.answer.Answer.{Answer}
-use Rattle.mcv_plan.specs.Reached.{Own, Reached, IsBefore, IsMerge, Changes, ChangesAt, put, reached, answer_of, all_answered, at, came_of, goes_on, goes_on_after, is_hit, join, last_came, over, prevails, search_from, search_answered, searched, waits, weight, first_answered}
+use Rattle.mcv_plan.specs.ReachedAnswers.{Own, Reached, IsBefore, IsMerge, Changes, ChangesAt, put, reached, answer_of, all_answered, at, came_of, goes_on, goes_on_after, is_hit, join, last_came, over, prevails, search_from, search_answered, searched, waits, weight, first_answered}
 use Rattle.mcv_plan.specs.State.{State, States, send, reply, all, in_turn, beside, on_hit, none, more, states_of, IsOnlyIn, Reflects, ReflectEach, answers_each, entries, entries_each, holds, plan, plan_each, sends, sends_each, answered, answered_each}
-use Rattle.mcv_plan.proofs.Local.{agree_put, reflect_local_each, reflects_local, answered_local, answered_local_each, answered_plan_each, sends_local, sends_local_each, holds_left, holds_right, holds_cases}
+use Rattle.mcv_plan.proofs.PartsAreLocal.{agree_put, reflect_local_each, reflects_local, answered_local, answered_local_each, answered_plan_each, sends_local, sends_local_each, holds_left, holds_right, holds_cases}
 use Rattle.mcv_plan.proofs.Merges.{merge_before, merge_behind}
 
 -- ---- when

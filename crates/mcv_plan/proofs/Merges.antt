@@ -1,6 +1,6 @@
 -- Lists of legs with those of a part that has sent more.
 use Rattle.std.proofs.Common.{ℕ, List, [], ◌∷◌, ◌++◌, append-nil}
-use Rattle.mcv_plan.specs.Reached.{IsMerge, done, kept, added}
+use Rattle.mcv_plan.specs.ReachedAnswers.{IsMerge, done, kept, added}
 
 pub merge_same : (xs : List ℕ) → IsMerge xs [] xs
 merge_same [] = done

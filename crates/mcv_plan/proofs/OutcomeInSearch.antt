@@ -5,12 +5,12 @@ use Rattle.mcv_base.specs.declared.reply.Outcome.{Outcome}
 use Rattle.mcv_route.specs.Children.{joined}
 use Rattle.mcv_rules.specs.declared.arrival.After.{After}
 use Rattle.mcv_plan.specs.declared.answer.Answer.{Answer}
-use Rattle.mcv_plan.specs.Reached.{Own, Reached, IsBefore, IsMerge, Changes, nothing, put, reached, answer_from, answer_of, at, came_of, goes_on, goes_on_after, next_answered, search_from, search_answered, searched, stop, stop_from}
+use Rattle.mcv_plan.specs.ReachedAnswers.{Own, Reached, IsBefore, IsMerge, Changes, nothing, put, reached, answer_from, answer_of, at, came_of, goes_on, goes_on_after, next_answered, search_from, search_answered, searched, stop, stop_from}
 use Rattle.mcv_plan.specs.State.{State, States, in_turn, none, more, states_of, Either, Heard, HeardAt, IsOnlyIn, IsUnheard, Reflects, ReflectEach, ReflectTurn, answers_each, entries, entries_each, holds, plan_each, sends, sends_each, answered, answered_each}
-use Rattle.mcv_plan.proofs.Local.{Agree, agree_put, either_map, reflect_local_turn, reflects_local, answered_local, answered_local_each, answered_plan, sends_local, sends_local_each, unheard_local}
+use Rattle.mcv_plan.proofs.PartsAreLocal.{Agree, agree_put, either_map, reflect_local_turn, reflects_local, answered_local, answered_local_each, answered_plan, sends_local, sends_local_each, unheard_local}
 use Rattle.mcv_plan.proofs.Merges.{merge_append, merge_before, merge_new}
 use Rattle.mcv_plan.proofs.Lists.{AreBefore, each_before, only_one, plan_set, positive, search_before, some_same, changes_at, answered_before, answered_same, turn_within, within_if}
-use Rattle.mcv_plan.proofs.Heard.{behind_merge, off_within, opened_agree, second_sent}
+use Rattle.mcv_plan.proofs.HeardOutcome.{behind_merge, off_within, opened_agree, second_sent}
 use Rattle.mcv_plan.proofs.Waves.{search_answer}
 
 -- ---- where the leg is sent, its child has been asked, and all before it go on

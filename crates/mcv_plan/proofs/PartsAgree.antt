@@ -21,8 +21,8 @@ use Rattle.mcv_rules.proofs.KnownIsHistory.{own_outcome}
 use Rattle.mcv_base.specs.declared.reply.Outcome.{Outcome}
 use Rattle.mcv_base.specs.declared.reply.Outcome.TheVariants.{Good, Soft, Error}
 use Rattle.mcv_rules.specs.declared.arrival.Answer as answers
-use Rattle.mcv_rules.specs.Laid.{Serves, arrived, launch_of, legs_each, next_reply, replies_each, sent}
-use Rattle.mcv_rules.specs.Laid.{searched as theirs_searched, is_hit as theirs_hit}
+use Rattle.mcv_rules.specs.PlanInMemory.{Serves, arrived, launch_of, legs_each, next_reply, replies_each, sent}
+use Rattle.mcv_rules.specs.PlanInMemory.{searched as theirs_searched, is_hit as theirs_hit}
 use Rattle.mcv_rules.specs.declared.arrival.Arrival.{Arrival}
 use Rattle.mcv_rules.specs.declared.plan.PlannedLeg.{PlannedLeg}
 use Rattle.mcv_rules.specs.declared.plan.Plan.{Plan, Send, Reply, All, Beside, InTurn, OnHit, Shadowed}
@@ -31,11 +31,11 @@ use Rattle.mcv_rules.proofs.Plans.{sent-Send, sent-Reply, sent-Shadowed, sent-Al
 use Rattle.mcv_rules.specs.declared.arrival.After.{After}
 use Rattle.mcv_plan.specs.declared.answer.Answer.{Answer}
 use Rattle.mcv_plan.specs.declared.answer.Source.{Source}
-use Rattle.mcv_plan.specs.Reached.{IsMerge, done, kept, added, Own, all_answered, answer_of, goes_on_after, is_hit, search_answered, searched}
+use Rattle.mcv_plan.specs.ReachedAnswers.{IsMerge, done, kept, added, Own, all_answered, answer_of, goes_on_after, is_hit, search_answered, searched}
 use Rattle.mcv_plan.specs.State.{State, send, reply, all, in_turn, beside, on_hit, states_of, entries, entries_each, holds, answered_each, answers_each, sends, sends_each, answered}
 use Rattle.mcv_plan.specs.Parts.{AnswersAs, IsFixed, IsOwnOf, RepliesAs, SendsAs, reached_of}
-use Rattle.mcv_plan.specs.Past.{IsOnce, new_of}
-use Rattle.mcv_plan.proofs.Local.{holds_left, holds_right, or_cases, or_left, or_off, or_right}
+use Rattle.mcv_plan.specs.PastOutcomes.{IsOnce, new_of}
+use Rattle.mcv_plan.proofs.PartsAreLocal.{holds_left, holds_right, or_cases, or_left, or_off, or_right}
 use Rattle.mcv_plan.proofs.ArrivalsAgree.{all_is_answered, search_is_answered, silent_first, silent_second}
 use Rattle.mcv_plan.specs.declared.answer.Source.TheVariants.{Fixed}
 

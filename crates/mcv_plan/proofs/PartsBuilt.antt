@@ -6,19 +6,19 @@ use Rattle.mcv_route.specs.declared.launch.Launch.{Launch}
 use Rattle.mcv_route.specs.Children.{is_within, joined}
 use Rattle.mcv_route.specs.Outcomes.{Choice}
 use Rattle.mcv_rules.specs.Arrivals as arrivals
-use Rattle.mcv_rules.specs.Laid.{launch_of}
+use Rattle.mcv_rules.specs.PlanInMemory.{launch_of}
 use Rattle.mcv_rules.specs.declared.arrival.After.{After}
 use Rattle.mcv_rules.specs.declared.plan.PlannedLeg.{PlannedLeg}
 use Rattle.mcv_rules.specs.declared.plan.Plan.{Plan, Send, Reply, All, Beside, InTurn, OnHit, Shadowed, the_lemmas}
 use Rattle.mcv_rules.proofs.Places.{places-All, places-Beside, places-InTurn, places-OnHit, places-Reply, places-Send, places-Shadowed, kind-All, kind-Beside, kind-InTurn, kind-OnHit, kind-Shadowed}
 use Rattle.mcv_rules.proofs.Plans.{sent-All, sent-Beside, sent-InTurn, arrived-All, arrived-Beside, arrived-InTurn}
 use Rattle.mcv_plan.specs.declared.answer.Answer.{Answer}
-use Rattle.mcv_plan.specs.Reached.{answer_of, goes_on_after, is_hit, nothing, prevails, stop, waits}
+use Rattle.mcv_plan.specs.ReachedAnswers.{answer_of, goes_on_after, is_hit, nothing, prevails, stop, waits}
 use Rattle.mcv_plan.specs.State.{State, States, send, reply, all, in_turn, beside, on_hit, none, more, states_of, Either, IsUnheard, ReflectEach, ReflectTurn, Reflects, all_from, answered, answered_each, answers_each, are_placed, each_placed, entries, entries_each, within}
 use Rattle.mcv_rules.specs.Places.{Kind, plain, shadow, misplaced, are_beside, are_led, are_plain, is_beside, is_plain, kind_of, places_of, plain_if, shadow_if}
 use Rattle.mcv_plan.specs.Entries.{legs_of, numbers}
 use Rattle.mcv_plan.specs.Parts.{AnswersAs, RepliesAs}
-use Rattle.mcv_plan.specs.Built.{BuiltEach, Follow, IsBuilt, IsSublist, done, kept, left_out}
+use Rattle.mcv_plan.specs.CourseOfPlan.{BuiltEach, Follow, IsBuilt, IsSublist, done, kept, left_out}
 use Rattle.mcv_plan.proofs.PartsAgree.{AnswerEach, ReplyEach, SendEach, all_answers, all_replies, all_sends, beside_answers, beside_replies, beside_sends, hit_answers, hit_replies, hit_sends, reply_answers, reply_replies, reply_sends, send_answers, send_replies, send_sends, shadow_is_silent, shadow_sends, turn_answers, turn_replies, turn_sends}
 
 -- ---- a plan, one level at a time

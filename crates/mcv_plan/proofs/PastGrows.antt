@@ -2,20 +2,20 @@
 use Rattle.std.proofs.Common.{◌≡◌, cond, ℕ, zero, suc, Bool, true, false, ◌&&◌, nat_eq, nat_lt, List, [], ◌∷◌, ◌++◌, length, Vec, Global, Option, Some, None, refl, sym, ap, ap₂, ◌∙◌, arith}
 use Rattle.mcv_base.specs.declared.reply.Outcome.{Outcome}
 use Rattle.mcv_plan.specs.declared.answer.Answer.{Answer}
-use Rattle.mcv_plan.specs.Reached.{Own, Reached, IsBefore, Changes, answer_of, came_of, put, reached}
+use Rattle.mcv_plan.specs.ReachedAnswers.{Own, Reached, IsBefore, Changes, answer_of, came_of, put, reached}
 use Rattle.std.specs.Prelude.{vec_capacity}
 use Rattle.std.specs.Option.{option_or}
 use Rattle.mcv_plan.specs.declared.course.Course.{Course}
 use Rattle.mcv_plan.specs.View.{view}
 use Rattle.mcv_plan.specs.State.{Heard, holds, sends, answered}
 use Rattle.mcv_plan.specs.State.{State, States, send, reply, all, in_turn, beside, on_hit, none, more, all_from, are_placed, each_placed, entries, is_placed, plan, plan_each, within}
-use Rattle.mcv_plan.specs.Past.{IsKept, Past, new_of, own_of}
+use Rattle.mcv_plan.specs.PastOutcomes.{IsKept, Past, new_of, own_of}
 use Rattle.mcv_plan.specs.Entries.{numbers}
 use Rattle.mcv_plan.specs.Evaluation.{IsAfter, IsAwaited, shape}
 use Rattle.mcv_plan.specs.declared.state.EvalState.{EvalState}
 use Rattle.mcv_plan.proofs.PartsAgree.{fresh_are_new}
 use Rattle.mcv_plan.proofs.LaunchedOnce.{launched_once}
-use Rattle.mcv_plan.proofs.Local.{entries_plan, entries_plan_each, answered_plan, sends_plan}
+use Rattle.mcv_plan.proofs.PartsAreLocal.{entries_plan, entries_plan_each, answered_plan, sends_plan}
 
 before_put : (o : Own) (e : ℕ) (x : Outcome) (n k : ℕ) (b : Bool) → nat_lt (came_of (o k)) (suc n) ≡ true → nat_lt (came_of (cond b (Some (reached e x (suc n))) (o k))) (suc (suc n)) ≡ true
 before_put o e x n k true h = grind arith

@@ -14,9 +14,9 @@ use Rattle.mcv_rules.specs.declared.status.Source as sources
 use Rattle.mcv_rules.proofs.KnownIsHistory.{own_found-grows, count-grows, history_of-append, next_found, outcome_first, own_outcome, outcome_of_answered, outcome_at_place}
 use Rattle.mcv_rules.proofs.Orders.{same_is}
 use Rattle.mcv_plan.specs.declared.answer.Source.{Source}
-use Rattle.mcv_plan.specs.Reached.{Reached, reached}
+use Rattle.mcv_plan.specs.ReachedAnswers.{Reached, reached}
 use Rattle.mcv_plan.specs.State.{holds}
-use Rattle.mcv_plan.specs.Past.{Past, own_of}
+use Rattle.mcv_plan.specs.PastOutcomes.{Past, own_of}
 use Rattle.mcv_rules.specs.declared.status.Source.TheVariants as variants
 use Rattle.mcv_plan.specs.declared.answer.Source.TheVariants.{Entry, Fixed}
 use Rattle.mcv_plan.specs.Parts.{IsOwnOf, reached_of}

@@ -5,7 +5,7 @@ use Rattle.mcv_route.specs.Children.{joined}
 use Rattle.mcv_rules.specs.declared.arrival.After.{After}
 use Rattle.mcv_plan.specs.declared.answer.Answer.{Answer}
 use Rattle.mcv_plan.specs.declared.course.Course.{Course}
-use Rattle.mcv_plan.specs.Reached.{Own, Reached, nothing, answer_of, answer_from, goes_on, goes_on_after, search_from, search_answered, searched, stop_from, at}
+use Rattle.mcv_plan.specs.ReachedAnswers.{Own, Reached, nothing, answer_of, answer_from, goes_on, goes_on_after, search_from, search_answered, searched, stop_from, at}
 use Rattle.mcv_plan.specs.State.{Reflects, ReflectEach, answers_each, entries, entries_each, replies_at_once, sends_each, answered, answered_each, wave}
 use Rattle.mcv_plan.specs.View.{seen, view}
 

@@ -3,7 +3,7 @@ use Rattle.std.proofs.Common.{◌≡◌, ◌<◌, ◌+◌, cond, ℕ, Bool, true
 use Rattle.std.specs.Prelude.{◌==◌}
 use Rattle.mcv_plan.specs.declared.answer.Answer.{Answer}
 use Rattle.mcv_plan.specs.declared.course.Course.{Course}
-use Rattle.mcv_plan.specs.Reached.{IsBefore, Reached, answer_of, came_of, join, later, missing_in, nothing, over, prevails, waits, weight, worse_of}
+use Rattle.mcv_plan.specs.ReachedAnswers.{IsBefore, Reached, answer_of, came_of, join, later, missing_in, nothing, over, prevails, waits, weight, worse_of}
 use Rattle.mcv_plan.specs.State.{States, answered, answered_each, replies_at_once}
 use Rattle.mcv_plan.specs.View.{seen, view}
 use Rattle.mcv_plan.proofs.ArrivalsAgree.{join_assoc}

@@ -4,7 +4,7 @@ use Rattle.mcv_route.specs.Children.{joined}
 use Rattle.mcv_route.specs.Situation.{Situation}
 use Rattle.mcv_route.specs.Tree.{Tree, Trees}
 use Rattle.mcv_rules.specs.Plans.{plan, plan_each}
-use Rattle.mcv_rules.specs.Sound.{positions}
+use Rattle.mcv_rules.specs.Soundness.{positions}
 
 abbrev pub legs_in : Tree → Situation → ℕ
 legs_in t s = length (positions (plan t s))

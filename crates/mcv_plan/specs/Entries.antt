@@ -3,7 +3,7 @@ use Rattle.std.specs.Prelude.{ℕ, zero, suc, if◌then◌else◌, List, [], ◌
 use Rattle.mcv_route.specs.declared.launch.Launch.{Launch}
 use Rattle.mcv_route.specs.Children.{joined, is_within}
 use Rattle.mcv_route.specs.Outcomes.{Choice}
-use Rattle.mcv_rules.specs.Laid.{launch_of}
+use Rattle.mcv_rules.specs.PlanInMemory.{launch_of}
 use Rattle.mcv_rules.specs.declared.plan.Plan.{Plan}
 use Rattle.mcv_rules.specs.declared.plan.Plan.TheOpen.{Plan-F}
 use Rattle.mcv_rules.specs.declared.plan.Plan.TheFolds.{fold-Plan}

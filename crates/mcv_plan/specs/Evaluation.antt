@@ -4,8 +4,8 @@ use Rattle.mcv_base.specs.declared.operation.Op.TheVariants.{Get}
 use Rattle.mcv_base.specs.declared.operation.Mark.TheVariants.{Plain}
 use Rattle.mcv_route.specs.declared.launch.Launch.{Launch}
 use Rattle.mcv_plan.specs.declared.state.EvalState.{EvalState}
-use Rattle.mcv_plan.specs.Past.{Past, own_of}
-use Rattle.mcv_plan.specs.Reached.{answer_of}
+use Rattle.mcv_plan.specs.PastOutcomes.{Past, own_of}
+use Rattle.mcv_plan.specs.ReachedAnswers.{answer_of}
 use Rattle.mcv_plan.specs.State.{Reflects, State, answered, entries, holds, plan, sends}
 use Rattle.mcv_plan.specs.View.{view}
 

@@ -18,8 +18,8 @@ use Rattle.mcv_plan.specs.declared.answer.Source.TheVariants.{Entry, Fixed}
 use Rattle.mcv_plan.specs.Counts.{legs_in}
 use Rattle.mcv_plan.specs.Entries.{numbers}
 use Rattle.mcv_plan.specs.Evaluation.{leg_at}
-use Rattle.mcv_plan.specs.Past.{IsLegal, IsOnce, Past, own_of}
-use Rattle.mcv_plan.specs.Reached.{answer_of}
+use Rattle.mcv_plan.specs.PastOutcomes.{IsLegal, IsOnce, Past, own_of}
+use Rattle.mcv_plan.specs.ReachedAnswers.{answer_of}
 use Rattle.mcv_plan.specs.State.{State, answered, entries, sends}
 
 abbrev pub position_at : List Launch → ℕ → List ℕ

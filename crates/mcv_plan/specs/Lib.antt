@@ -1,11 +1,11 @@
-pub mod Reached
+pub mod ReachedAnswers
 pub mod State
 pub mod View
-pub mod Past
-pub mod Known
+pub mod PastOutcomes
+pub mod KnownOutcomes
 pub mod Parts
 pub mod Entries
-pub mod Built
+pub mod CourseOfPlan
 pub mod Evaluation
 pub mod Counts
 pub mod Laws

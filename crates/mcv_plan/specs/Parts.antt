@@ -4,7 +4,7 @@ use Rattle.mcv_base.specs.declared.reply.FixedReply.{FixedReply}
 use Rattle.mcv_rules.specs.Arrivals as arrivals
 use Rattle.mcv_route.specs.declared.launch.Launch.{Launch}
 use Rattle.mcv_route.specs.Outcomes.{Choice}
-use Rattle.mcv_rules.specs.Laid.{arrived, sent}
+use Rattle.mcv_rules.specs.PlanInMemory.{arrived, sent}
 use Rattle.mcv_rules.specs.declared.arrival.Answer as answers
 use Rattle.mcv_rules.specs.declared.arrival.Arrival.{Arrival}
 use Rattle.mcv_rules.specs.declared.plan.Plan.{Plan}
@@ -13,7 +13,7 @@ use Rattle.mcv_rules.specs.declared.status.Source.TheVariants as variants
 use Rattle.mcv_plan.specs.declared.answer.Answer.{Answer}
 use Rattle.mcv_plan.specs.declared.answer.Source.{Source}
 use Rattle.mcv_plan.specs.declared.answer.Source.TheVariants.{Fixed}
-use Rattle.mcv_plan.specs.Reached.{Own, Reached}
+use Rattle.mcv_plan.specs.ReachedAnswers.{Own, Reached}
 use Rattle.mcv_plan.specs.State.{State, entries, holds, sends, answered}
 
 -- an answer whose source has another name

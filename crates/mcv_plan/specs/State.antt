@@ -5,7 +5,7 @@ use Rattle.mcv_base.specs.declared.reply.Outcome.{Outcome}
 use Rattle.mcv_route.specs.Children.{joined}
 use Rattle.mcv_rules.specs.declared.arrival.After.{After}
 use Rattle.mcv_plan.specs.declared.answer.Answer.{Answer}
-use Rattle.mcv_plan.specs.Reached.{Reached, Own, Changes, IsBefore, IsMerge, put, reached, at_once, goes_on_after, answer_of, waits, nothing, prevails, all_answered, stop, search_answered, searched, first_answered, is_hit}
+use Rattle.mcv_plan.specs.ReachedAnswers.{Reached, Own, Changes, IsBefore, IsMerge, put, reached, at_once, goes_on_after, answer_of, waits, nothing, prevails, all_answered, stop, search_answered, searched, first_answered, is_hit}
 
 mutual
   pub data State : Type 0 where

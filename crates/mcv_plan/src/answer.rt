@@ -1,7 +1,7 @@
 //! What a part of a plan replies.
 
 ghost use Rattle.std.specs.Prelude.{◌≡◌};
-ghost use Rattle.mcv_plan.specs.Reached.{fixed_answer, goes_on_after, is_hit, over};
+ghost use Rattle.mcv_plan.specs.ReachedAnswers.{fixed_answer, goes_on_after, is_hit, over};
 
 use mcv_base::{FixedReply, Outcome};
 use mcv_rules::After;

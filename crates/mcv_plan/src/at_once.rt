@@ -1,7 +1,7 @@
 //! The reply of a course before any outcome.
 
 ghost use Rattle.std.specs.Prelude.{◌≡◌, ◌≤◌};
-ghost use Rattle.mcv_plan.specs.Reached.{answer_of, first_answered, missing_in, nothing, prevails, search_answered, stop, waits, worse_of};
+ghost use Rattle.mcv_plan.specs.ReachedAnswers.{answer_of, first_answered, missing_in, nothing, prevails, search_answered, stop, waits, worse_of};
 ghost use Rattle.mcv_plan.specs.State.{ReflectEach, Reflects, answered_each, answers_each, replies_at_once};
 ghost use Rattle.mcv_plan.specs.View.{seen, view};
 

@@ -4,7 +4,7 @@ ghost use Rattle.std.specs.Prelude.{◌≡◌, ◌++◌, Box, IfOk, List, OnOk, 
 ghost use Rattle.std.specs.declared.alloc.Global.{Global};
 ghost use Rattle.mcv_route.specs.Children.{is_within, joined};
 ghost use Rattle.mcv_rules.specs.declared.plan.Plan.{All, Beside, InTurn, OnHit, Plan};
-ghost use Rattle.mcv_plan.specs.Built.{BuiltEach, IsBuilt};
+ghost use Rattle.mcv_plan.specs.CourseOfPlan.{BuiltEach, IsBuilt};
 ghost use Rattle.mcv_plan.specs.Entries.{legs_of};
 ghost use Rattle.mcv_plan.specs.View.{view};
 

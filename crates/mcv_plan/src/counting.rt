@@ -2,13 +2,13 @@
 
 ghost use Rattle.std.specs.Prelude.{◌≡◌, List, option_map, ℕ};
 ghost use Rattle.mcv_route.specs.Situation.{asked as asked_of};
-ghost use Rattle.mcv_route.specs.Tree.{Pool, all_initial, miss_failover, pool};
+ghost use Rattle.mcv_route.specs.Tree.{Pool, many, AllInitial, MissFailover, pool};
 ghost use Rattle.mcv_route.specs.View.{view};
-ghost use Rattle.mcv_rules.specs.Laid.{children_of, ranges_of, situation_at, targets_of};
+ghost use Rattle.mcv_rules.specs.PlanInMemory.{children_of, ranges_of, situation_at, targets_of};
 ghost use Rattle.mcv_plan.specs.Counts.{capped, legs_each, legs_in};
 
 use mcv_base::{Mark, Moment, Op, Rest};
-use mcv_route::{Route, Shadow};
+use mcv_route::{Many, Route, Shadow};
 use mcv_rules::{Asked, Way, policy_number, prefix_number};
 
 /// How many legs a call can launch at most, whatever they answer and whatever the choice is: those of all shadows, of
@@ -36,17 +36,10 @@ fn count(route: &Route, asked: &Asked) -> usize
         Route::Pool { shadows, .. } => count_pool(shadows, asked),
         Route::Null => 0,
         Route::Error => 0,
-        Route::AllSync(children) => count_each(children, asked),
-        Route::AllInitial(children) => count_initial(children, asked),
-        Route::AllAsync(children) => {
-            let unheard = asked.asynchronous();
-            count_each(children, &unheard)
-        }
-        Route::Failover(children) => count_each(children, asked),
-        Route::MissFailover(children) => count_misses(children, asked),
+        Route::Many(kind, children) => count_many(*kind, children, asked),
         Route::WarmUp { cold, warm, .. } => {
             let first = count(cold, asked);
-            if asked.op.is_reading() {
+            if asked.is_warmed_up() {
                 let second = count(warm, asked);
                 let adding = asked.adding();
                 let filling = count(cold, &adding);
@@ -99,6 +92,23 @@ fn count(route: &Route, asked: &Asked) -> usize
     }
 }
 
+/// Those of a handle of this kind with these children.
+#[cycle(counting)]
+fn count_many(kind: Many, children: &[Route], asked: &Asked) -> usize
+    ensures { (position : List ℕ) → result ≡ capped (legs_in (many kind (children_of children.now)) (situation_at asked.now position)) }
+{
+    match kind {
+        Many::AllSync => count_each(children, asked),
+        Many::AllInitial => count_initial(children, asked),
+        Many::AllAsync => {
+            let unheard = asked.asynchronous();
+            count_each(children, &unheard)
+        }
+        Many::Failover => count_each(children, asked),
+        Many::MissFailover => count_misses(children, asked),
+    }
+}
+
 /// Those of all children.
 #[cycle(counting)]
 fn count_each(children: &[Route], asked: &Asked) -> usize
@@ -114,7 +124,7 @@ fn count_each(children: &[Route], asked: &Asked) -> usize
 /// Those of the first child, and of the others, whose replies no one waits for.
 #[cycle(counting)]
 fn count_initial(children: &[Route], asked: &Asked) -> usize
-    ensures { (position : List ℕ) → result ≡ capped (legs_in (all_initial (children_of children.now)) (situation_at asked.now position)) }
+    ensures { (position : List ℕ) → result ≡ capped (legs_in (many AllInitial (children_of children.now)) (situation_at asked.now position)) }
 {
     let Some((first, others)) = children.split_first() else {
         return 0;
@@ -127,12 +137,12 @@ fn count_initial(children: &[Route], asked: &Asked) -> usize
     total
 }
 
-/// Those of all children for what reads, and of the first child for the rest.
+/// Those of all children for what fails over, and of the first child for the rest.
 #[cycle(counting)]
 fn count_misses(children: &[Route], asked: &Asked) -> usize
-    ensures { (position : List ℕ) → result ≡ capped (legs_in (miss_failover (children_of children.now)) (situation_at asked.now position)) }
+    ensures { (position : List ℕ) → result ≡ capped (legs_in (many MissFailover (children_of children.now)) (situation_at asked.now position)) }
 {
-    if !asked.op.is_reading() {
+    if !asked.fails_over_on_miss() {
         return match children.first() {
             Some(first) => count(first, asked),
             None => 0,

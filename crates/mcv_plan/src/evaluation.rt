@@ -3,12 +3,12 @@
 ghost use Rattle.std.specs.Prelude.{◌≡◌, ◌∷◌, ◌<◌, IfOk, [], length, slice_index};
 ghost use Rattle.mcv_route.specs.Situation.{Situation};
 ghost use Rattle.mcv_route.specs.Tree.{Tree};
-ghost use Rattle.mcv_rules.specs.Laid.{Serves};
+ghost use Rattle.mcv_rules.specs.PlanInMemory.{Serves};
 ghost use Rattle.mcv_plan.specs.Entries.{legs_of};
 ghost use Rattle.mcv_plan.specs.Evaluation.{IsAfter, IsAwaited, legs_count, shape};
-ghost use Rattle.mcv_plan.specs.Known.{own_in};
+ghost use Rattle.mcv_plan.specs.KnownOutcomes.{own_in};
 ghost use Rattle.mcv_plan.specs.Laws.{Evaluates};
-ghost use Rattle.mcv_plan.specs.Past.{Past, new_of, own_of};
+ghost use Rattle.mcv_plan.specs.PastOutcomes.{Past, new_of, own_of};
 ghost use Rattle.mcv_plan.specs.State.{holds, sends, wave};
 
 use crate::answer::Answer;

@@ -2,7 +2,7 @@
 
 ghost use Rattle.std.specs.Prelude.{◌≡◌, ◌≤◌, ◌<◌, ◌+◌, ◌++◌, ℕ, List, drop, map, true, length, vec_capacity, None};
 ghost use Rattle.mcv_route.specs.Children.{joined};
-ghost use Rattle.mcv_plan.specs.Reached.{child_at};
+ghost use Rattle.mcv_plan.specs.ReachedAnswers.{child_at};
 ghost use Rattle.mcv_plan.specs.State.{Heard, HeardAt, IsOnlyIn, all, all_from, are_placed, beside, each_placed, entries, entries_each, holds, in_turn, is_placed, on_hit, within};
 ghost use Rattle.mcv_plan.specs.View.{seen, view};
 

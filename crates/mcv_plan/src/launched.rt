@@ -2,8 +2,8 @@
 
 ghost use Rattle.std.specs.Prelude.{◌≡◌, ◌++◌, [], if◌then◌else◌};
 ghost use Rattle.mcv_route.specs.Children.{joined};
-ghost use Rattle.mcv_plan.specs.Known.{own_in};
-ghost use Rattle.mcv_plan.specs.Reached.{all_answered, answer_of, first_answered, is_hit, search_answered, searched};
+ghost use Rattle.mcv_plan.specs.KnownOutcomes.{own_in};
+ghost use Rattle.mcv_plan.specs.ReachedAnswers.{all_answered, answer_of, first_answered, is_hit, search_answered, searched};
 ghost use Rattle.mcv_plan.specs.State.{answered, answered_each, answers_each, holds, sends, sends_each};
 ghost use Rattle.mcv_plan.specs.View.{seen, view};
 

@@ -2,7 +2,7 @@
 
 ghost use Rattle.std.specs.Prelude.{◌≡◌, ◌<◌, ◌≤◌, ◌+◌, ◌++◌, [], drop, length, vec_capacity, if◌then◌else◌};
 ghost use Rattle.mcv_route.specs.Children.{joined};
-ghost use Rattle.mcv_plan.specs.Reached.{answer_from, answer_of, first_answered, goes_on_after, is_hit, nothing, search_answered, searched, stop_from};
+ghost use Rattle.mcv_plan.specs.ReachedAnswers.{answer_from, answer_of, first_answered, goes_on_after, is_hit, nothing, search_answered, searched, stop_from};
 ghost use Rattle.mcv_plan.specs.State.{ReflectEach, Reflects, answers_each, entries, entries_each, replies_at_once, sends_each, answered_each, wave};
 ghost use Rattle.mcv_plan.specs.View.{seen, view};
 

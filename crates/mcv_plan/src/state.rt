@@ -1,7 +1,7 @@
 //! How far a call has come.
 
 ghost use Rattle.std.specs.Prelude.{◌≡◌, length};
-ghost use Rattle.mcv_plan.specs.Past.{IsKept};
+ghost use Rattle.mcv_plan.specs.PastOutcomes.{IsKept};
 ghost use Rattle.mcv_plan.specs.State.{entries};
 ghost use Rattle.mcv_plan.specs.View.{view};
 

@@ -2,7 +2,7 @@
 use denote.RattleType.{RattleType}
 use denote.Param.Send.{IsSend, IsSync, sendable}
 use Rattle.std.specs.declared.sync.ledger.Ledger.{Ghosts}
-use Rattle.std.proofs.Crossing.{Arc-send, crosses}
+use Rattle.std.proofs.Crossing.{Arc-send, Vec-send, crosses}
 use Rattle.std.proofs.MapsCrossing as maps
 use Rattle.std.proofs.sync.ledger.Book.TheSendSync as book
 use Rattle.std.proofs.sync.atomic.AtomicBool.TheSendSync as flag
@@ -35,18 +35,22 @@ use Rattle.mcv_core.proofs.errand.Laid.TheSendSync as laid
 use Rattle.mcv_core.proofs.errand.Errand.TheSendSync as errand
 use Rattle.mcv_core.proofs.launch.Entry.TheSendSync as launched
 use Rattle.mcv_core.proofs.call.Recorded.TheSendSync as recorded
+use Rattle.mcv_spool.specs.declared.disk.Disk as disk
+use Rattle.mcv_spool.proofs.spool.Spool.TheSendSync as spool
 use Rattle.mcv_hub.specs.contracts.state.HubState as HubState
 use Rattle.mcv_hub.specs.contracts.hub.Hub as Hub
 use Rattle.mcv_hub.proofs.entry.Entry.TheSendSync as entry
 use Rattle.mcv_proxy.specs.contracts.ends.Ends as Ends
 use Rattle.mcv_proxy.specs.contracts.lanes.Lanes as Lanes
 use Rattle.mcv_proxy.proofs.lanes.Links.TheSendSync as links
+use Rattle.mcv_proxy.specs.contracts.threads.Shared as Shared
 use Rattle.mcv_proxy.specs.contracts.threads.SessionContext as Context
 use Rattle.mcv_proxy.specs.contracts.threads.Visitor as Visitor
 use Rattle.mcv_proxy.proofs.threads.Visitor.TheSendSync as visitor
 use Rattle.mcv_proxy.proofs.lanes.Lane.TheSendSync as lane
 use Rattle.std.specs.contracts.option.Option as Option
 use Rattle.std.specs.contracts.sync.Arc as Arc
+use Rattle.std.specs.contracts.vec.Vec as Vec
 use Rattle.std.specs.contracts.alloc.Global as Heap
 use Rattle.std.specs.contracts.impls.GlobalAllocator.TheImpl.{ghosts}
 use Rattle.mcv_base.specs.contracts.server.ServerText as ServerText
@@ -72,10 +76,10 @@ routes_send = search (aliased_send, servers.the_send, symbols.the_send, moment.t
 routes_sync : IsSync Routes.the_row
 routes_sync = search (aliased_sync, servers.the_sync, symbols.the_sync, moment.the_sync, sendable, crosses, maps.crosses) depth 24
 
-pub accepted_send : IsSend Accepted.the_row
+accepted_send : IsSend Accepted.the_row
 accepted_send = search (routes_send, sendable, crosses, maps.crosses) depth 24
 
-pub accepted_sync : IsSync Accepted.the_row
+accepted_sync : IsSync Accepted.the_row
 accepted_sync = search (routes_sync, sendable, crosses, maps.crosses) depth 24
 
 eval_send : IsSend EvalState.the_field.row
@@ -94,42 +98,35 @@ core_send : IsSend (Core.the_field Fnv.the_row).row
 core_send = search (dispatcher_send, fnv.the_send, sendable, crosses, maps.crosses) depth 24
 
 module _ (B T : RattleType) (b : Ghosts B.Denot) (t : Ghosts T.Denot) where
-  pub state_send : IsSend (HubState.the_row B T b t)
+  state_send : IsSend (HubState.the_row B T b t)
   state_send = search (core_send, entry.the_send, book.the_send, sendable, crosses, maps.crosses) depth 24
 
-  pub hub_send : IsSend (Hub.the_row B T b t)
+  hub_send : IsSend (Hub.the_field B T b t).row
   hub_send = search (state_send, sendable, crosses, maps.crosses) depth 24
 
-  pub hub_sync : IsSync (Hub.the_row B T b t)
+  hub_sync : IsSync (Hub.the_field B T b t).row
   hub_sync = search (state_send, sendable, crosses, maps.crosses) depth 24
 
-module _ (B T : RattleType) (b : Ghosts B.Denot) (t : Ghosts T.Denot) where
-  pub hub_shared : IsSend (Arc.the_row (Hub.the_row B T b t) Heap.the_row ghosts)
-  hub_shared = Arc-send (Hub.the_row B T b t) (hub_send B T b t) (hub_sync B T b t)
+ends_send : IsSend Ends.the_field.row
+ends_send = search (flag.the_field_send, sendable, crosses) depth 24
 
-pub ends_send : IsSend Ends.the_row
-ends_send = search (flag.the_send, flag.the_field_send, sendable, crosses) depth 24
+ends_sync : IsSync Ends.the_field.row
+ends_sync = search (flag.the_field_sync, sendable, crosses) depth 24
 
-pub ends_sync : IsSync Ends.the_row
-ends_sync = search (flag.the_sync, flag.the_field_sync, sendable, crosses) depth 24
-
-pub lanes_send : IsSend Lanes.the_row
+lanes_send : IsSend Lanes.the_field.row
 lanes_send = search (lane.the_send, sendable, crosses, maps.crosses) depth 24
 
-pub lanes_sync : IsSync Lanes.the_row
+lanes_sync : IsSync Lanes.the_field.row
 lanes_sync = search (lane.the_send, sendable, crosses, maps.crosses) depth 24
 
-pub ends_shared : IsSend (Arc.the_row Ends.the_row Heap.the_row ghosts)
-ends_shared = Arc-send Ends.the_row ends_send ends_sync
-
-pub lanes_shared : IsSend (Arc.the_row Lanes.the_row Heap.the_row ghosts)
-lanes_shared = Arc-send Lanes.the_row lanes_send lanes_sync
-
-pub text_send : IsSend ServerText.the_row
+text_send : IsSend ServerText.the_row
 text_send = search (text.the_send, sendable, crosses) depth 24
 
-pub maybe_text_send : IsSend (Option.the_row ServerText.the_row)
+maybe_text_send : IsSend (Option.the_row ServerText.the_row)
 maybe_text_send = search (text_send, sendable, crosses) depth 24
+
+pub texts_send : IsSend (Vec.the_row (Option.the_row ServerText.the_row) Heap.the_row ghosts)
+texts_send = Vec-send (Option.the_row ServerText.the_row) maybe_text_send
 
 module _ (B T : RattleType) (b : Ghosts B.Denot) (t : Ghosts T.Denot) where
   pub seat_send : IsSend (Seat.the_row B T b t)
@@ -139,6 +136,16 @@ module _ (I O W : RattleType) where
   pub visitor_send : IsSend I → IsSend O → IsSend W → IsSend (Visitor.the_row I O W)
   visitor_send i o w = search (visitor.the_send, sendable, crosses) depth 24
 
-module _ (B T L Begun : RattleType) (b : Ghosts B.Denot) (t : Ghosts T.Denot) where
-  pub context_send : IsSend L → IsSend (Context.the_row B T L Begun b t)
-  context_send s = search (accepted_send, accepted_sync, hub_send, hub_sync, lanes_send, lanes_sync, links.the_send, links.the_sync, sendable, crosses) depth 24
+module _ (B T D : RattleType) (b : Ghosts B.Denot) (t : Ghosts T.Denot) (d : disk.Ghosts D.Denot) where
+  shared_send : IsSend D → IsSend (Shared.the_row B T D d b t)
+  shared_send s = search (accepted_send, accepted_sync, hub_send, lanes_send, spool.the_send, ends_send, sendable, crosses) depth 24
+
+  shared_sync : IsSend D → IsSync (Shared.the_row B T D d b t)
+  shared_sync s = search (accepted_send, accepted_sync, hub_sync, lanes_sync, spool.the_send, ends_sync, sendable, crosses) depth 24
+
+  pub shared_shared : IsSend D → IsSend (Arc.the_row (Shared.the_row B T D d b t) Heap.the_row ghosts)
+  shared_shared s = Arc-send (Shared.the_row B T D d b t) (shared_send s) (shared_sync s)
+
+module _ (B T D L Begun : RattleType) (b : Ghosts B.Denot) (t : Ghosts T.Denot) (d : disk.Ghosts D.Denot) where
+  pub context_send : IsSend D → IsSend L → IsSend (Context.the_row B T D L Begun d b t)
+  context_send s l = search (accepted_send, accepted_sync, shared_shared, links.the_send, links.the_sync, sendable, crosses) depth 24

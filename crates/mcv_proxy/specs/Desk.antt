@@ -1,10 +1,11 @@
 -- What a desk over a hub answers, by the replies that it took of the hub (own).
-use Rattle.std.specs.Prelude.{◌≡◌, ◌≢◌, ◌+◌, ◌≤◌, ◌++◌, ◌∷◌, ℕ, List, [], Option, None, Some, Result, IfOk, IfErr, true, ⊤, fold, length, map, nat_le, option_map, slice_get}
+use Rattle.std.specs.Prelude.{◌≡◌, ◌≢◌, ◌+◌, ◌≤◌, ◌++◌, ◌∷◌, ℕ, List, [], Option, None, Some, Result, IfOk, IfErr, IfSome, true, ⊤, fold, length, map, nat_le, option_map, slice_get, take}
 use Rattle.std.specs.List.{All, filter}
 use Rattle.mcv_base.specs.Key.{IsCut, IsKeyFault, is_key_word}
 use Rattle.mcv_base.specs.Reply.{ReplyValue, part_value}
 use Rattle.mcv_base.specs.declared.key.KeyFault.{KeyFault}
 use Rattle.mcv_base.specs.declared.operation.Op.{Op}
+use Rattle.mcv_base.specs.declared.request.CallId.{CallId}
 use Rattle.mcv_core.specs.View.{core_view}
 use Rattle.mcv_core.specs.declared.fault.CoreFault.{CoreFault}
 use Rattle.mcv_core.specs.declared.fault.CoreFault.TheVariants.{UnknownPrefix, BadKey, LegsFull, ChapterFull, NothingWaiting, NoSuchLeg, Busy, ClockBack, Memory, NoSuchCall}
@@ -27,7 +28,7 @@ word_at version key = None
 word_at quit key = None
 
 -- the key word has this rest, and this is the route of its prefix
-pub record IsPlace (r : RoutesValue) (word : List ℕ) (route : ℕ) (rest : List ℕ) : Type 0 where
+pub record IsRouted (r : RoutesValue) (word : List ℕ) (route : ℕ) (rest : List ℕ) : Type 0 where
   pub prefix : List ℕ
   pub is_key : is_key_word word ≡ true
   pub cut : IsCut word prefix rest
@@ -46,18 +47,18 @@ pub record HasNoRoute (r : RoutesValue) (word : List ℕ) : Type 0 where
   pub cut : IsCut word prefix rest
   pub unrouted : route_of_prefix prefix r.entries ≡ None
 
--- why a word has no place
-abbrev pub HasNoPlace : RoutesValue → List ℕ → CoreFault → Type 0
-HasNoPlace r word UnknownPrefix = HasNoRoute r word
-HasNoPlace r word BadKey = IsNoKey word
-HasNoPlace r word LegsFull = ⊥
-HasNoPlace r word ChapterFull = ⊥
-HasNoPlace r word NothingWaiting = ⊥
-HasNoPlace r word NoSuchLeg = ⊥
-HasNoPlace r word Busy = ⊥
-HasNoPlace r word ClockBack = ⊥
-HasNoPlace r word Memory = ⊥
-HasNoPlace r word NoSuchCall = ⊥
+-- why no route takes a word
+abbrev pub IsUnrouted : RoutesValue → List ℕ → CoreFault → Type 0
+IsUnrouted r word UnknownPrefix = HasNoRoute r word
+IsUnrouted r word BadKey = IsNoKey word
+IsUnrouted r word LegsFull = ⊥
+IsUnrouted r word ChapterFull = ⊥
+IsUnrouted r word NothingWaiting = ⊥
+IsUnrouted r word NoSuchLeg = ⊥
+IsUnrouted r word Busy = ⊥
+IsUnrouted r word ClockBack = ⊥
+IsUnrouted r word Memory = ⊥
+IsUnrouted r word NoSuchCall = ⊥
 
 -- ---- replies
 
@@ -71,11 +72,20 @@ pub record WasTaken (t : TakenReply) : Type 0 where
   pub chapter : t.receipt.chapter ≡ state.chapter
   pub entry : t.receipt.entry ≡ length state.history
 
+-- the replies to the first calls, this many of which are done with, were taken, in their order; where one of them won't come it is
+-- missed, and they are fewer
+pub record AreTaken (calls : List CallId) (done : ℕ) (missed : Option CoreFault) (taken : List TakenReply) : Type 0 where
+  pub within : done ≤ length calls
+  pub most : length taken ≤ done
+  pub each : All WasTaken taken
+  pub all : missed ≡ None → map (λ t. t.receipt.call) taken ≡ take done calls
+  pub stranger : IfSome missed (λ fault. fault ≡ NoSuchCall)
+
 -- the reply is for the key of this number: its call asked the operation of the request, of the key's route and rest
 pub record IsFor (r : RoutesValue) (request : RequestValue) (key : ℕ) (t : TakenReply) : Type 0 where
   pub word : List ℕ
   pub there : word_at request key ≡ Some (t.asked.op, word)
-  pub place : IsPlace r word t.asked.route t.asked.rest
+  pub routed : IsRouted r word t.asked.route t.asked.rest
 
 -- the replies are for the first keys of the request, in their order
 abbrev pub AreFor : RoutesValue → RequestValue → List TakenReply → Type 0
@@ -94,7 +104,7 @@ pub record IsRefusedAt (r : RoutesValue) (request : RequestValue) (key : ℕ) (f
   pub op : Op
   pub word : List ℕ
   pub there : word_at request key ≡ Some (op, word)
-  pub no_place : HasNoPlace r word fault
+  pub unrouted : IsUnrouted r word fault
 
 -- the hub refuses to begin a call for these reasons alone
 abbrev pub IsRefusal : CoreFault → Type 0

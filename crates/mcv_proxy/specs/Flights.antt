@@ -13,7 +13,7 @@ use Rattle.mcv_core.specs.CoreView.{answer_at, in_row_state, is_waiting}
 use Rattle.mcv_core.specs.Readers.{IsFirstHeld}
 use Rattle.mcv_core.specs.Requests.{asked_at, asked_by}
 use Rattle.mcv_core.specs.View.{core_view, records_of}
-use Rattle.mcv_core.specs.declared.step.Place.TheVariants.{Performed}
+use Rattle.mcv_core.specs.declared.step.LegState.TheVariants.{Performed}
 use Rattle.mcv_core.specs.declared.step.Step.{Step}
 use Rattle.mcv_hub.specs.State.{HistoryKeepsDeletes, HubView, IsLegEvent, IsSameBooks}
 use Rattle.mcv_spool.specs.declared.record.SpoolRecord.{SpoolRecord}
@@ -95,7 +95,7 @@ pub record WasPerformed (number : Option ℕ) : Type 0 where
   pub reply : ReplyValue
   pub step : Step
   pub event : IsLegEvent (answer_at (core_view before.core) leg.0 reply) reply leg before after (Ok step)
-  pub performed : step.place ≡ Performed
+  pub performed : step.state ≡ Performed
 
 -- ---- which leg is spooled
 

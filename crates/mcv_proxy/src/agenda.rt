@@ -1,13 +1,13 @@
 //! What events leave to be done by the thread that had the lock.
 
 use mcv_base::{CallId, LegId, Mark, ServerId};
-use mcv_core::{Dispatcher, LegView, Place};
+use mcv_core::{Dispatcher, LegState, LegView};
 use mcv_hub::{Bell, Hub};
 use std::alloc::Global;
 use std::sync::ledger::Ledger;
 
 /// A leg that waited for its server when it was launched, and that its session sends itself.
-#[derive(Clone, Copy, Debug, PartialEq, Eq)]
+#[derive(Clone, Copy)]
 pub(crate) struct Due {
     pub(crate) server: ServerId,
     pub(crate) leg: LegId,
@@ -28,6 +28,11 @@ fn is_awaited(view: &LegView<'_>, own: &[CallId]) -> bool {
         Some(call) => view.mark == Mark::Plain && own.contains(&call),
         None => false,
     }
+}
+
+/// Whether the leg is there and waits for its server.
+pub(crate) fn waits(core: &Dispatcher, leg: LegId) -> bool {
+    core.leg_state(leg) == Some(LegState::Waiting)
 }
 
 /// A bell is to be rung. Where there is no memory to keep it in mind it is rung at once.
@@ -86,7 +91,7 @@ impl<'a, B: Ledger, T: Ledger> Agenda<'a, B, T> {
     /// Leaves the legs that are due and still wait to the workers of their servers.
     pub(crate) fn leave(&mut self, core: &Dispatcher) {
         for due in self.due.iter() {
-            if core.place(due.leg) == Some(Place::Waiting) {
+            if waits(core, due.leg) {
                 keep_in_mind(self.hub, &mut self.bells, Bell::Server(due.server));
             }
         }

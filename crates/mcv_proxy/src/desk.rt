@@ -1,12 +1,13 @@
 //! The desk over a hub: a request's keys are calls of the hub.
 
-ghost use Rattle.std.specs.Prelude.{◌≡◌, ◌↔◌, ◌+◌, ◌<◌, ◌≤◌, [], None, fold, length, map, nat_le, option_map, take, vec_len, vec_capacity, true, IfErr, IfNone, IfOk, IfSome, OnErr, OnOk};
+ghost use Rattle.std.specs.Prelude.{◌≡◌, ◌↔◌, ◌+◌, ◌<◌, ◌≤◌, [], fold, length, map, nat_le, option_map, vec_len, vec_capacity, true, IfErr, IfNone, IfOk, IfSome, OnErr, OnOk};
 ghost use Rattle.std.specs.Arc.{arc_value};
 ghost use Rattle.std.specs.List.{All, filter};
 ghost use Rattle.mcv_text.specs.Request.{request_value};
 ghost use Rattle.mcv_session.specs.Desk.{keys_of};
-ghost use Rattle.mcv_proxy.specs.Desk.{AreFor, Asks, HasNoPlace, IsFor, IsPlace, IsRefusal, IsUnanswered, IsUnbegun, WasTaken, desk_fault, with_receipt, word_at};
+ghost use Rattle.mcv_proxy.specs.Desk.{AreFor, AreTaken, Asks, IsFor, IsRefusal, IsRouted, IsUnanswered, IsUnbegun, IsUnrouted, WasTaken, desk_fault, with_receipt, word_at};
 
+use crate::agenda::Agenda;
 use crate::errands::Errands;
 use crate::events;
 use crate::gates::{Link, Watch};
@@ -68,9 +69,9 @@ struct Kept {
     ghost current: { All (λ r. chapter ≤ r.chapter) receipts.items },
 }
 
-/// Where a key word leads.
+/// A key word that a route takes.
 #[derive(Drop)]
-struct Place {
+struct RoutedKey {
     /// The number of its route.
     route: usize,
     /// The word without its routing prefix.
@@ -142,25 +143,26 @@ fn key_of(request: &Request, key: usize) -> Option<(Op, &[u8])>
     Some((ask.op, word.as_slice()))
 }
 
-/// Where a key word leads. An error is BadKey, where it is no key, or UnknownPrefix, where no route has its prefix.
-fn place_of(routes: &Routes, word: &[u8]) -> Result<Place, CoreFault>
-    ensures place { IfOk result (λ place. IsPlace routes.now word.now place.route place.rest) }
-    ensures err { IfErr result (HasNoPlace routes.now word.now) }
+/// The route of a key word, and its rest. An error is BadKey, where it is no key, or UnknownPrefix, where no route has its
+/// prefix.
+fn routed_key(routes: &Routes, word: &[u8]) -> Result<RoutedKey, CoreFault>
+    ensures routed { IfOk result (λ key. IsRouted routes.now word.now key.route key.rest) }
+    ensures err { IfErr result (IsUnrouted routes.now word.now) }
 {
     let Ok((prefix, rest)) = split_key(word) else {
         return Err(CoreFault::BadKey);
     };
     match routes.route_of(&prefix) {
-        Some(route) => Ok(Place { route, rest }),
+        Some(route) => Ok(RoutedKey { route, rest }),
         None => Err(CoreFault::UnknownPrefix),
     }
 }
 
-/// Whether the call of a reply asked this operation at this place.
-fn has_asked(taken: &TakenReply, op: Op, place: &Place) -> bool
-    ensures { (result ≡ true) ↔ ((taken.now.asked.op ≡ op) × (taken.now.asked.route ≡ place.now.route) × (taken.now.asked.rest ≡ place.now.rest)) }
+/// Whether the call of a reply asked this operation of this route and rest.
+fn has_asked(taken: &TakenReply, op: Op, routed: &RoutedKey) -> bool
+    ensures { (result ≡ true) ↔ ((taken.now.asked.op ≡ op) × (taken.now.asked.route ≡ routed.now.route) × (taken.now.asked.rest ≡ routed.now.rest)) }
 {
-    taken.op() == op && taken.route() == place.route && *taken.rest() == place.rest
+    taken.op() == op && taken.route() == routed.route && *taken.rest() == routed.rest
 }
 
 /// Whether a reply is for this key: its call asked the operation of the request, of the key's route and rest.
@@ -171,8 +173,8 @@ fn is_for(routes: &Routes, request: &Request, key: usize, taken: &TakenReply) ->
     let Some((op, word)) = key_of(request, key) else {
         return false;
     };
-    match place_of(routes, word) {
-        Ok(place) => has_asked(taken, op, &place),
+    match routed_key(routes, word) {
+        Ok(routed) => has_asked(taken, op, &routed),
         Err(_) => false,
     }
 }
@@ -189,8 +191,7 @@ fn are_for(routes: &Routes, request: &Request, taken: &[TakenReply]) -> bool
     true
 }
 
-/// Why the hub began no call for a key, as far as the routes say so: where they have a place for a key that the hub has none
-/// for, it is NoSuchCall.
+/// Why the hub began no call for a key, as far as the routes say so: where one of them takes it, it is NoSuchCall.
 fn confirmed(routes: &Routes, request: &Request, key: usize, fault: CoreFault) -> CoreFault
     requires { IsRefusal fault }
     ensures { IsUnbegun routes.now (request_value request.now) key result }
@@ -200,7 +201,7 @@ fn confirmed(routes: &Routes, request: &Request, key: usize, fault: CoreFault) -
             let Some((_op, word)) = key_of(request, key) else {
                 return CoreFault::NoSuchCall;
             };
-            match place_of(routes, word) {
+            match routed_key(routes, word) {
                 Ok(_) => CoreFault::NoSuchCall,
                 Err(fault) => fault,
             }
@@ -235,13 +236,13 @@ impl Patience {
 /// Begins a call. Where the chapter has no place for it, a new chapter begins first. The first key of a request waits for
 /// that a second at most, while calls run or legs are queued; for another one the request's own calls run, so it is
 /// refused.
-fn begin_in_chapter<'a, B: Ledger, T: Ledger, L: Link, R: Wait + Clock>(
+fn begin_in_chapter<'a, B: Ledger, T: Ledger, R: Wait + Clock>(
     rt: &R,
     alloc: Global,
     hub: &Hub<B, T>,
     guard: Guard<'a, B, T>,
     seat: &mut Seat<B, T>,
-    errands: &mut Errands<'_, B, T, L>,
+    agenda: &mut Agenda<'_, B, T>,
     request: &Arc<Request>,
     key: usize,
 ) -> (Guard<'a, B, T>, Result<CallId, CoreFault>)
@@ -256,7 +257,7 @@ fn begin_in_chapter<'a, B: Ledger, T: Ledger, L: Link, R: Wait + Clock>(
         let Ok(request) = Arc::try_clone(request) else {
             return (guard, Err(CoreFault::Memory));
         };
-        match events::begin(alloc, &mut errands.agenda, &mut guard, seat, request, key) {
+        match events::begin(alloc, agenda, &mut guard, seat, request, key) {
             Err(CoreFault::ChapterFull) => {}
             answer => return (guard, answer),
         }
@@ -272,13 +273,13 @@ fn begin_in_chapter<'a, B: Ledger, T: Ledger, L: Link, R: Wait + Clock>(
 }
 
 /// Begins the calls for the keys of a request, in their order, up to the first that is refused.
-fn begin_each<'a, B: Ledger, T: Ledger, L: Link, R: Wait + Clock>(
+fn begin_each<'a, B: Ledger, T: Ledger, R: Wait + Clock>(
     rt: &R,
     alloc: Global,
     hub: &Hub<B, T>,
     guard: Guard<'a, B, T>,
     seat: &mut Seat<B, T>,
-    errands: &mut Errands<'_, B, T, L>,
+    agenda: &mut Agenda<'_, B, T>,
     routes: &Routes,
     request: &Arc<Request>,
     count: usize,
@@ -294,7 +295,7 @@ fn begin_each<'a, B: Ledger, T: Ledger, L: Link, R: Wait + Clock>(
 {
     let mut guard = guard;
     for key in 0..count {
-        let (next, begun) = begin_in_chapter(rt, alloc, hub, guard, seat, errands, request, key);
+        let (next, begun) = begin_in_chapter(rt, alloc, hub, guard, seat, agenda, request, key);
         guard = next;
         match begun {
             Ok(call) => calls.push_reserved(call),
@@ -331,18 +332,11 @@ fn take_ready<B: Ledger, T: Ledger>(
     progress: Progress,
     taken: &mut Vec<TakenReply>,
 ) -> Progress
-    requires within { progress.done ≤ length calls.now }
+    requires so_far { AreTaken calls.now progress.done progress.missed taken.old.items }
     requires room { length calls.now ≤ vec_capacity taken.old }
-    requires few { vec_len taken.old ≤ progress.done }
-    requires each { All WasTaken taken.old.items }
-    requires calls { progress.missed ≡ None → map (λ t. t.receipt.call) taken.old.items ≡ take progress.done calls.now }
-    requires missed { IfSome progress.missed (λ fault. fault ≡ CoreFault.NoSuchCall) }
-    ensures on { (progress.done ≤ result.done) × (result.done ≤ length calls.now) }
-    ensures most { vec_len taken.new ≤ result.done }
+    ensures so_far { AreTaken calls.now result.done result.missed taken.new.items }
+    ensures on { progress.done ≤ result.done }
     ensures room { vec_capacity taken.new ≡ vec_capacity taken.old }
-    ensures each { All WasTaken taken.new.items }
-    ensures calls { result.missed ≡ None → map (λ t. t.receipt.call) taken.new.items ≡ take result.done calls.now }
-    ensures missed { IfSome result.missed (λ fault. fault ≡ CoreFault.NoSuchCall) }
     ensures counted { seat.new.taken.amount + vec_len taken.old ≡ seat.old.taken.amount + vec_len taken.new }
     ensures begun { seat.new.begun.amount ≡ seat.old.begun.amount }
 {
@@ -373,18 +367,11 @@ fn go_on<B: Ledger, T: Ledger, L: Link, R: Wait>(
     progress: Progress,
     taken: &mut Vec<TakenReply>,
 ) -> Progress
-    requires within { progress.done ≤ length calls.now }
+    requires so_far { AreTaken calls.now progress.done progress.missed taken.old.items }
     requires room { length calls.now ≤ vec_capacity taken.old }
-    requires few { vec_len taken.old ≤ progress.done }
-    requires each { All WasTaken taken.old.items }
-    requires calls { progress.missed ≡ None → map (λ t. t.receipt.call) taken.old.items ≡ take progress.done calls.now }
-    requires missed { IfSome progress.missed (λ fault. fault ≡ CoreFault.NoSuchCall) }
-    ensures on { (progress.done ≤ result.done) × (result.done ≤ length calls.now) }
-    ensures most { vec_len taken.new ≤ result.done }
+    ensures so_far { AreTaken calls.now result.done result.missed taken.new.items }
+    ensures on { progress.done ≤ result.done }
     ensures room { vec_capacity taken.new ≡ vec_capacity taken.old }
-    ensures each { All WasTaken taken.new.items }
-    ensures calls { result.missed ≡ None → map (λ t. t.receipt.call) taken.new.items ≡ take result.done calls.now }
-    ensures missed { IfSome result.missed (λ fault. fault ≡ CoreFault.NoSuchCall) }
     ensures counted { seat.new.taken.amount + vec_len taken.old ≡ seat.old.taken.amount + vec_len taken.new }
     ensures begun { seat.new.begun.amount ≡ seat.old.begun.amount }
 {
@@ -397,7 +384,7 @@ fn go_on<B: Ledger, T: Ledger, L: Link, R: Wait>(
             events::turn_where_full(&mut errands.agenda, &mut guard);
             return progress;
         };
-        let has_lost = errands.set_off(rt, alloc, lanes, &mut guard, calls, *call);
+        let has_lost = errands.set_off(rt, alloc, lanes, &mut guard, calls, Some(*call));
         if errands.have_flight() {
             return progress;
         }
@@ -489,6 +476,13 @@ fn into_parts(taken: Vec<TakenReply>, parts: Vec<Part>) -> Vec<Part>
 }
 
 impl<'a, B: Ledger, T: Ledger, L: Link, W: Watch, R: Wait + Clock> Caller<'a, B, T, L, W, R> {
+    /// Its seat.
+    fn into_seat(self) -> Seat<B, T>
+        ensures { result ≡ self.entry.seat }
+    {
+        self.seat
+    }
+
     /// Begins the calls for the keys of a request at this moment, in their order, up to the first that is refused, and puts a
     /// leg of theirs in flight where that can be done at once.
     fn begin_all(
@@ -512,11 +506,12 @@ impl<'a, B: Ledger, T: Ledger, L: Link, W: Watch, R: Wait + Clock> Caller<'a, B,
         // A moment before the hub's leaves its era as it is.
         let _ = guard.clock(moment);
         let seat = &mut self.seat;
-        let errands = &mut self.errands;
+        let agenda = &mut self.errands.agenda;
         let (mut guard, begun) = begin_each(
-            rt, alloc, hub, guard, seat, errands, routes, request, count, calls,
+            rt, alloc, hub, guard, seat, agenda, routes, request, count, calls,
         );
-        errands.set_off_at_once(rt, alloc, lanes, &mut guard, calls.as_slice());
+        self.errands
+            .set_off(rt, alloc, lanes, &mut guard, calls.as_slice(), None);
         begun
     }
 
@@ -527,18 +522,11 @@ impl<'a, B: Ledger, T: Ledger, L: Link, W: Watch, R: Wait + Clock> Caller<'a, B,
         progress: Progress,
         taken: &mut Vec<TakenReply>,
     ) -> Progress
-        requires within { progress.done ≤ length calls.now }
+        requires so_far { AreTaken calls.now progress.done progress.missed taken.old.items }
         requires room { length calls.now ≤ vec_capacity taken.old }
-        requires few { vec_len taken.old ≤ progress.done }
-        requires each { All WasTaken taken.old.items }
-        requires calls { progress.missed ≡ None → map (λ t. t.receipt.call) taken.old.items ≡ take progress.done calls.now }
-        requires missed { IfSome progress.missed (λ fault. fault ≡ CoreFault.NoSuchCall) }
-        ensures on { (progress.done ≤ result.done) × (result.done ≤ length calls.now) }
-        ensures most { vec_len taken.new ≤ result.done }
+        ensures so_far { AreTaken calls.now result.done result.missed taken.new.items }
+        ensures on { progress.done ≤ result.done }
         ensures room { vec_capacity taken.new ≡ vec_capacity taken.old }
-        ensures each { All WasTaken taken.new.items }
-        ensures calls { result.missed ≡ None → map (λ t. t.receipt.call) taken.new.items ≡ take result.done calls.now }
-        ensures missed { IfSome result.missed (λ fault. fault ≡ CoreFault.NoSuchCall) }
         ensures counted { self.new.seat.taken.amount + vec_len taken.old ≡ self.old.seat.taken.amount + vec_len taken.new }
         ensures begun { self.new.seat.begun.amount ≡ self.old.seat.begun.amount }
     {
@@ -628,7 +616,7 @@ impl<'a, B: Ledger, T: Ledger, L: Link, W: Watch, R: Wait + Clock> HubDesk<'a, B
             caller,
             kept,
         } = self;
-        (caller.seat, kept.receipts)
+        (caller.into_seat(), kept.receipts)
     }
 
     /// Takes a reply for each key of a request, in the order of the keys, and keeps their receipts. All calls are begun before

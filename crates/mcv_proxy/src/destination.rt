@@ -35,19 +35,6 @@ enum Task {
     End,
 }
 
-/// No leg of the server is in flight any more: who is next there is rung.
-fn note_next<B: Ledger, T: Ledger, R: Wait>(
-    rt: &R,
-    lanes: &Lanes,
-    agenda: &mut Agenda<'_, B, T>,
-    guard: &Guard<'_, B, T>,
-    server: ServerId,
-) {
-    if let Some(bell) = lanes.heir(rt, guard.core(), server) {
-        agenda.add(bell);
-    }
-}
-
 /// A leg was lost without being sent: who is next at its server is rung. A server that was marked is to be probed then.
 fn after_loss<B: Ledger, T: Ledger, R: Wait>(
     rt: &R,
@@ -61,27 +48,11 @@ fn after_loss<B: Ledger, T: Ledger, R: Wait>(
         lanes.ask_probe(rt, server);
     }
     let is_probed = lanes.take_probe(rt, server);
-    note_next(rt, lanes, agenda, guard, server);
+    lanes.pass_on(rt, agenda, guard, server);
     if is_probed {
         Task::Probe
     } else {
         Task::Nothing
-    }
-}
-
-/// What is to be done about a leg that came in flight.
-fn task_for<B: Ledger, T: Ledger, R: Wait>(
-    rt: &R,
-    lanes: &Lanes,
-    agenda: &mut Agenda<'_, B, T>,
-    guard: &Guard<'_, B, T>,
-    server: ServerId,
-    was_marked: bool,
-    departure: Departure,
-) -> Task {
-    match departure {
-        Departure::Sent(flight) => Task::Send(flight),
-        Departure::Lost(_) => after_loss(rt, lanes, agenda, guard, server, was_marked),
     }
 }
 
@@ -102,8 +73,9 @@ fn next_task<B: Ledger, T: Ledger, R: Wait>(
         lanes.attend(rt, guard.core(), server);
         let was_marked = guard.core().marked(server);
         match take_next(alloc, agenda, &mut guard, &[], server) {
-            Ok(departure) => {
-                return task_for(rt, lanes, agenda, &guard, server, was_marked, departure);
+            Ok(Departure::Sent(flight)) => return Task::Send(flight),
+            Ok(Departure::Lost(_)) => {
+                return after_loss(rt, lanes, agenda, &guard, server, was_marked);
             }
             Err(CoreFault::NothingWaiting) if ends.are_asked() => return Task::End,
             Err(CoreFault::Busy) => lanes.queue_worker(rt, server),
@@ -149,25 +121,12 @@ pub(crate) fn report_again<B: Ledger, T: Ledger, R: Wait>(
     leg: LegId,
     reply: Result<LegReply, LinkFault>,
 ) -> Landing {
-    let landing = land_for_next(rt, lanes, agenda, pass, server, leg, reply);
-    agenda.ring_all();
-    landing
-}
-
-/// Reports what came of a leg in flight again, and notes whom to ring.
-fn land_for_next<B: Ledger, T: Ledger, R: Wait>(
-    rt: &R,
-    lanes: &Lanes,
-    agenda: &mut Agenda<'_, B, T>,
-    pass: &mut Pass,
-    server: ServerId,
-    leg: LegId,
-    reply: Result<LegReply, LinkFault>,
-) -> Landing {
     let hub = agenda.hub();
     let mut guard = hub.lock(rt, pass);
     let landing = land_again(agenda, &mut guard, server, leg, reply);
-    note_next(rt, lanes, agenda, &guard, server);
+    lanes.pass_on(rt, agenda, &guard, server);
+    drop(guard);
+    agenda.ring_all();
     landing
 }
 
@@ -191,19 +150,6 @@ fn send<B: Ledger, T: Ledger, L: Link>(
     }
 }
 
-/// Takes the mark of a server away: whether it had one.
-fn unmark<B: Ledger, T: Ledger, R: Wait>(
-    rt: &R,
-    hub: &Hub<B, T>,
-    pass: &mut Pass,
-    server: ServerId,
-) -> bool {
-    let mut guard = hub.lock(rt, pass);
-    let was_marked = guard.core().marked(server);
-    guard.unmark(server);
-    was_marked
-}
-
 /// Asks a marked server whether it answers, and takes its mark away where it does.
 pub(crate) fn probe<B: Ledger, T: Ledger, L: Link, R: Wait>(
     rt: &R,
@@ -215,28 +161,14 @@ pub(crate) fn probe<B: Ledger, T: Ledger, L: Link, R: Wait>(
     if link.probe(pass).is_err() {
         return false;
     }
-    if unmark(rt, hub, pass, server) {
+    let mut guard = hub.lock(rt, pass);
+    let was_marked = guard.core().marked(server);
+    guard.unmark(server);
+    drop(guard);
+    if was_marked {
         link.note_unmarked(pass);
     }
     true
-}
-
-/// Does a task that sends no leg.
-fn rest<B: Ledger, T: Ledger, L: Link, R: Wait>(
-    rt: &R,
-    hub: &Hub<B, T>,
-    pass: &mut Pass,
-    link: &mut L,
-    server: ServerId,
-    task: &Task,
-) {
-    match task {
-        Task::Marked => link.note_marked(pass),
-        Task::Probe => {
-            probe(rt, hub, pass, link, server);
-        }
-        Task::Send(..) | Task::Nothing | Task::End => {}
-    }
 }
 
 /// Sends the legs that wait for a server, one at a time, until none waits and the worker is to end, at most 1,000,000,000.
@@ -258,12 +190,21 @@ pub fn serve_destination<B: Ledger, T: Ledger, L: Link, R: Wait>(
         let task = turn(rt, alloc, lanes, &mut agenda, pass, server, ends, sent);
         sent = match task {
             Task::Send(flight) => Some(send(alloc, &mut agenda, pass, link, flight)),
-            Task::End => break,
-            other => {
+            Task::Marked => {
                 agenda.ring_all();
-                rest(rt, hub, pass, link, server, &other);
+                link.note_marked(pass);
                 None
             }
+            Task::Probe => {
+                agenda.ring_all();
+                probe(rt, hub, pass, link, server);
+                None
+            }
+            Task::Nothing => {
+                agenda.ring_all();
+                None
+            }
+            Task::End => break,
         };
     }
     agenda.ring_all();

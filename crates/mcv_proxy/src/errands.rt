@@ -3,14 +3,13 @@
 ghost use Rattle.std.specs.Prelude.{◌≡◌, IfErr, IfOk, IfSome};
 ghost use Rattle.mcv_proxy.specs.Flights.{HasBegun};
 
-use crate::agenda::{Agenda, Due};
+use crate::agenda::{Agenda, Due, waits};
 use crate::departure::take_next;
 use crate::gates::Link;
 use crate::landing::{land, lose};
 use crate::lanes::{Lanes, Links};
 use crate::seen::{Departure, Flight, Landed};
 use mcv_base::{CallId, ServerId};
-use mcv_core::Place;
 use mcv_hub::{Bell, Guard, Hub, Pass};
 use std::alloc::Global;
 use std::marker::PhantomData;
@@ -18,7 +17,7 @@ use std::sync::Wait;
 use std::sync::ledger::Ledger;
 
 /// What becomes of a leg that is due, once its server was looked at.
-#[derive(Clone, Copy, Debug, PartialEq, Eq)]
+#[derive(Clone, Copy)]
 enum Attention {
     /// It isn't due any more.
     None,
@@ -35,8 +34,8 @@ pub(crate) struct Errands<'a, B: Ledger, T: Ledger, L: Link> {
     pub(crate) agenda: Agenda<'a, B, T>,
     /// A leg in flight that the session is to send.
     flight: Option<Flight>,
-    /// The leg in flight that it sent, until that is reported.
-    landed: Option<Landed<L>>,
+    /// The leg in flight that it sent, until that is reported; the flight alone where no link was there for it.
+    landed: Option<Result<Landed<L>, Flight>>,
     /// Legs that are still due, while others are looked at.
     late: Vec<Due>,
     /// A leg was lost without being sent, so that replies may be there.
@@ -68,6 +67,29 @@ fn send_over<L: Link, R: Wait>(
             link: PhantomData,
         }),
         None => Err(flight),
+    }
+}
+
+/// A leg is still due. Where the session has one in flight to another server it leaves the lane to the worker; where it has
+/// none it waits in the lane, at the bell of this call, if there is one.
+fn await_turn<B: Ledger, T: Ledger, R: Wait>(
+    rt: &R,
+    lanes: &Lanes,
+    agenda: &mut Agenda<'_, B, T>,
+    flight: Option<ServerId>,
+    call: Option<CallId>,
+    due: Due,
+) {
+    match (flight, call) {
+        (Some(server), _) if server != due.server => {
+            lanes.leave(rt, due.server, due.leg);
+            return;
+        }
+        (None, Some(call)) => lanes.queue(rt, due.server, due.leg, call),
+        _ => {}
+    }
+    if agenda.due.push(due).is_err() {
+        agenda.add(Bell::Server(due.server));
     }
 }
 
@@ -111,9 +133,7 @@ impl<'a, B: Ledger, T: Ledger, L: Link> Errands<'a, B, T, L> {
             self.agenda.add(Bell::Server(server));
         }
         self.has_lost = true;
-        if let Some(bell) = lanes.heir(rt, guard.core(), server) {
-            self.agenda.add(bell);
-        }
+        lanes.pass_on(rt, &mut self.agenda, guard, server);
     }
 
     /// A leg came in flight to the server of one that is due.
@@ -175,7 +195,7 @@ impl<'a, B: Ledger, T: Ledger, L: Link> Errands<'a, B, T, L> {
         own: &[CallId],
         due: Due,
     ) -> Attention {
-        if guard.core().place(due.leg) != Some(Place::Waiting) {
+        if !waits(guard.core(), due.leg) {
             return Attention::None;
         }
         match self.flies_to() {
@@ -219,35 +239,9 @@ impl<'a, B: Ledger, T: Ledger, L: Link> Errands<'a, B, T, L> {
         }
     }
 
-    /// A leg is still due. Where the session has none in flight it waits in the lane, at the bell of this call; where it has
-    /// one to another server it leaves the lane to the worker.
-    fn await_turn<R: Wait>(&mut self, rt: &R, lanes: &Lanes, call: CallId, due: Due) {
-        match self.flies_to() {
-            None => lanes.queue(rt, due.server, due.leg, call),
-            Some(server) if server == due.server => {}
-            Some(_) => {
-                lanes.leave(rt, due.server, due.leg);
-                return;
-            }
-        }
-        if self.agenda.due.push(due).is_err() {
-            self.agenda.add(Bell::Server(due.server));
-        }
-    }
-
-    /// Awaits the turn of all legs that are still due.
-    fn await_turns<R: Wait>(&mut self, rt: &R, lanes: &Lanes, call: CallId) {
-        for _turn in rt.forever() {
-            let Some(due) = self.late.pop() else {
-                break;
-            };
-            self.await_turn(rt, lanes, call, due);
-        }
-    }
-
     /// Puts a leg in flight to the server of one that is due, if none is in flight there. Where that can't be done for any,
-    /// the session waits in their lanes, at the bell of this call. Whether one was lost without being sent, so that replies
-    /// may be there.
+    /// the session waits in their lanes, at the bell of this call; without a call it looks at them again. Whether one was lost
+    /// without being sent, so that replies may be there.
     pub(crate) fn set_off<R: Wait>(
         &mut self,
         rt: &R,
@@ -255,46 +249,15 @@ impl<'a, B: Ledger, T: Ledger, L: Link> Errands<'a, B, T, L> {
         lanes: &Lanes,
         guard: &mut Guard<'_, B, T>,
         own: &[CallId],
-        call: CallId,
+        call: Option<CallId>,
     ) -> bool {
         self.has_lost = false;
         self.attend_all(rt, alloc, lanes, guard, own);
-        self.await_turns(rt, lanes, call);
+        let flight = self.flies_to();
+        while let Some(due) = self.late.pop() {
+            await_turn(rt, lanes, &mut self.agenda, flight, call, due);
+        }
         self.has_lost
-    }
-
-    /// Puts a leg in flight to the server of one that is due, if none is in flight there. What else is due the session looks
-    /// at again.
-    pub(crate) fn set_off_at_once<R: Wait>(
-        &mut self,
-        rt: &R,
-        alloc: Global,
-        lanes: &Lanes,
-        guard: &mut Guard<'_, B, T>,
-        own: &[CallId],
-    ) {
-        self.attend_all(rt, alloc, lanes, guard, own);
-        let server = self.flies_to();
-        for _turn in rt.forever() {
-            let Some(due) = self.late.pop() else {
-                break;
-            };
-            self.keep_or_leave(rt, lanes, server, due);
-        }
-    }
-
-    /// A leg is still due. Where the session has one in flight to another server it is left to the worker.
-    fn keep_or_leave<R: Wait>(
-        &mut self,
-        rt: &R,
-        lanes: &Lanes,
-        flight: Option<ServerId>,
-        due: Due,
-    ) {
-        match flight {
-            Some(server) if server != due.server => lanes.leave(rt, due.server, due.leg),
-            _ => self.keep(due, Attention::Now),
-        }
     }
 
     /// Sends the leg in flight, and reads its reply. Whoever is to be woken is, while it is under way.
@@ -304,29 +267,29 @@ impl<'a, B: Ledger, T: Ledger, L: Link> Errands<'a, B, T, L> {
         };
         let begun = links.start(rt, pass, flight.server, &flight.request);
         self.agenda.ring_all();
-        match send_over(rt, alloc, links, pass, begun, flight) {
-            Ok(came) => self.landed = Some(came),
-            Err(flight) => self.flight = Some(flight),
-        }
+        self.landed = Some(send_over(rt, alloc, links, pass, begun, flight));
     }
 
     /// Whether a leg of the session waits for the server.
     fn has_due(&self, guard: &Guard<'_, B, T>, server: ServerId) -> bool {
-        self.agenda.due.iter().any(|due| {
-            due.server == server && guard.core().place(due.leg) == Some(Place::Waiting)
-        })
+        let mut legs = self.agenda.due.iter();
+        legs.any(|due| due.server == server && waits(guard.core(), due.leg))
     }
 
     /// Reports what came of the leg that was sent; one that no link was there for is lost. Its server, and whether that is marked
-    /// by it; None where the session has no leg in flight.
+    /// by it; None where it sent none.
     fn report(&mut self, guard: &mut Guard<'_, B, T>, own: &[CallId]) -> Option<(ServerId, bool)> {
-        if let Some(came) = self.landed.take() {
-            let server = came.flight.server;
-            return Some((server, land(&mut self.agenda, guard, own, came)));
+        match self.landed.take() {
+            Some(Ok(came)) => {
+                let server = came.flight.server;
+                Some((server, land(&mut self.agenda, guard, own, came)))
+            }
+            Some(Err(flight)) => {
+                let (server, leg) = (flight.server, flight.leg);
+                Some((server, lose(&mut self.agenda, guard, own, server, leg)))
+            }
+            None => None,
         }
-        let flight = self.flight.take()?;
-        let Flight { server, leg, .. } = flight;
-        Some((server, lose(&mut self.agenda, guard, own, server, leg)))
     }
 
     /// Reports what came of the leg in flight. Where the session has no other leg for its server, who is next there is rung.
@@ -344,9 +307,7 @@ impl<'a, B: Ledger, T: Ledger, L: Link> Errands<'a, B, T, L> {
             self.marked = Some(server);
         }
         if !self.has_due(guard, server) {
-            if let Some(bell) = lanes.heir(rt, guard.core(), server) {
-                self.agenda.add(bell);
-            }
+            lanes.pass_on(rt, &mut self.agenda, guard, server);
         }
     }
 

@@ -16,7 +16,7 @@ ghost use Rattle.mcv_proxy.specs.Steps.{IsLanding};
 use crate::agenda::Agenda;
 use crate::gates::LinkFault;
 use mcv_base::{CallId, LegId, Request, ServerId};
-use mcv_core::{CoreFault, Dispatcher, Place, Step};
+use mcv_core::{CoreFault, Dispatcher, LegState, Step};
 use mcv_hub::{Bell, Guard, LegReply, Seat};
 use mcv_spool::Stored;
 use std::alloc::Global;
@@ -65,7 +65,7 @@ fn note_after<B: Ledger, T: Ledger>(
     core: &Dispatcher,
     own: &[CallId],
     concerned: Concerned,
-    place: Place,
+    state: LegState,
 ) {
     agenda.note_launched(core, concerned.first, own);
     if let Some(call) = concerned.call {
@@ -76,10 +76,10 @@ fn note_after<B: Ledger, T: Ledger>(
     if core.entries() >= MANY_ENTRIES {
         agenda.add(Bell::Chapter);
     }
-    match place {
-        Place::Held => agenda.add(Bell::Spool),
-        Place::Spooled => agenda.add(Bell::Replayer),
-        Place::Waiting | Place::Sent | Place::Performed | Place::Gone => {}
+    match state {
+        LegState::Held => agenda.add(Bell::Spool),
+        LegState::Spooled => agenda.add(Bell::Replayer),
+        LegState::Waiting | LegState::Sent | LegState::Performed | LegState::Gone => {}
     }
 }
 
@@ -102,9 +102,11 @@ pub(crate) fn begin<B: Ledger, T: Ledger>(
     ensures unshared { OnErr result ((seat.new.begun.amount ≡ seat.old.begun.amount) × (seat.new.taken.amount ≡ seat.old.taken.amount)) }
 {
     let first = guard.core().next_leg();
-    let call = guard.begin(alloc, seat, request, key)?;
-    agenda.note_launched(guard.core(), first, &[call]);
-    Ok(call)
+    let begun = guard.begin(alloc, seat, request, key);
+    if let Ok(call) = &begun {
+        agenda.note_launched(guard.core(), first, &[*call]);
+    }
+    begun
 }
 
 /// A leg in flight was answered.
@@ -116,12 +118,14 @@ pub(crate) fn answered<B: Ledger, T: Ledger>(
     reply: LegReply,
 ) -> Result<Step, CoreFault>
     ensures event { IsLegEvent (answer_at (core_view guard.old.core) leg.0 reply) reply leg guard.old guard.new result }
-    ensures records { IfOk result (λ step. records_of guard.new.core ≡ records_after step.place leg.0 (records_of guard.old.core)) }
+    ensures records { IfOk result (λ step. records_of guard.new.core ≡ records_after step.state leg.0 (records_of guard.old.core)) }
 {
     let concerned = concerned_by(guard.core(), leg);
-    let step = guard.answered(leg, reply)?;
-    note_after(agenda, guard.core(), own, concerned, step.place);
-    Ok(step)
+    let answered = guard.answered(leg, reply);
+    if let Ok(step) = &answered {
+        note_after(agenda, guard.core(), own, concerned, step.state);
+    }
+    answered
 }
 
 /// A leg in flight was lost, and its server is marked where it has failed too often.
@@ -135,10 +139,14 @@ pub(crate) fn lost<B: Ledger, T: Ledger>(
     ensures { IsLoss server leg guard.old guard.new result }
 {
     let concerned = concerned_by(guard.core(), leg);
-    let step = guard.lost(leg)?;
-    guard.mark(server);
-    note_after(agenda, guard.core(), own, concerned, step.place);
-    Ok(step)
+    match guard.lost(leg) {
+        Ok(step) => {
+            guard.mark(server);
+            note_after(agenda, guard.core(), own, concerned, step.state);
+            Ok(step)
+        }
+        Err(fault) => Err(fault),
+    }
 }
 
 /// A leg in flight came to this: it was answered, or it was lost.
@@ -169,9 +177,11 @@ pub(crate) fn spooled<B: Ledger, T: Ledger>(
     ensures records { IfOk result (λ step. records_of guard.new.core ≡ put (records_of guard.old.core) leg.0 (Some stored.seq)) }
 {
     let concerned = concerned_by(guard.core(), leg);
-    let step = guard.spooled(leg, stored)?;
-    note_after(agenda, guard.core(), &[], concerned, step.place);
-    Ok(step)
+    let spooled = guard.spooled(leg, stored);
+    if let Ok(step) = &spooled {
+        note_after(agenda, guard.core(), &[], concerned, step.state);
+    }
+    spooled
 }
 
 /// The spool refused a held leg.
@@ -184,7 +194,9 @@ pub(crate) fn spool_refused<B: Ledger, T: Ledger>(
     ensures records { records_of guard.new.core ≡ records_of guard.old.core }
 {
     let concerned = concerned_by(guard.core(), leg);
-    let step = guard.spool_refused(leg)?;
-    note_after(agenda, guard.core(), &[], concerned, step.place);
-    Ok(step)
+    let refused = guard.spool_refused(leg);
+    if let Ok(step) = &refused {
+        note_after(agenda, guard.core(), &[], concerned, step.state);
+    }
+    refused
 }

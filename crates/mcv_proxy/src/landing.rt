@@ -9,7 +9,7 @@ use crate::events::{answered, landed, lost};
 use crate::gates::{Link, LinkFault};
 use crate::seen::{Landed, Performed};
 use mcv_base::{CallId, LegId, LegRequest, Reply, ServerId};
-use mcv_core::Place;
+use mcv_core::LegState;
 use mcv_hub::{Guard, LegReply, Pass};
 use std::alloc::Global;
 use std::sync::ledger::Ledger;
@@ -111,13 +111,14 @@ fn answer_again<B: Ledger, T: Ledger>(
     let Ok(step) = answered(agenda, guard, &[], leg, reply) else {
         return None;
     };
-    let place = step.place;
-    match place {
-        Place::Performed => {
+    let state = step.state;
+    match state {
+        LegState::Performed => {
             let performed = Performed { number };
             Some(performed)
         }
-        Place::Waiting | Place::Sent | Place::Held | Place::Spooled | Place::Gone => None,
+        LegState::Waiting | LegState::Sent | LegState::Held | LegState::Spooled | LegState::Gone =>
+            None,
     }
 }
 

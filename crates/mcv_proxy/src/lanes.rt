@@ -3,14 +3,16 @@
 ghost use Rattle.std.specs.Prelude.{◌≡◌, ◌<◌, [], false, vec_len, IfOk, IfSome, OnErr};
 ghost use Rattle.mcv_proxy.specs.Flights.{HasBegun, IsAnswerTo};
 
+use crate::agenda::{Agenda, waits};
 use crate::gates::{Link, LinkFault};
 use crate::landing::answer_of;
 use mcv_base::{CallId, LegId, LegRequest, ServerId};
-use mcv_core::{Dispatcher, Place};
-use mcv_hub::{Bell, LegReply, Pass};
+use mcv_core::Dispatcher;
+use mcv_hub::{Bell, Guard, LegReply, Pass};
 use std::alloc::{AllocError, Global};
 use std::collections::VecDeque;
-use std::sync::{Mutex, Wait};
+use std::sync::ledger::Ledger;
+use std::sync::{Mutex, MutexGuard, Wait};
 
 /// A session that waits until its leg can be sent, and the call at whose bell it waits.
 #[derive(Clone, Copy)]
@@ -82,7 +84,7 @@ impl Lane {
     fn clear(&mut self, core: &Dispatcher) {
         for _waiter in 0..self.waiters.len() {
             match self.waiters.front() {
-                Some(waiter) if core.place(waiter.leg) == Some(Place::Waiting) => return,
+                Some(waiter) if waits(core, waiter.leg) => return,
                 _ => {
                     let _ = self.waiters.pop_front();
                 }
@@ -98,8 +100,10 @@ impl Lane {
             self.worker = false;
             return Some(Bell::Server(server));
         }
-        let waiter = self.waiters.pop_front()?;
-        Some(Bell::Call(waiter.call))
+        match self.waiters.pop_front() {
+            Some(waiter) => Some(Bell::Call(waiter.call)),
+            None => None,
+        }
     }
 
     /// The worker looks at the server. Those whose legs don't wait any more leave the lane.
@@ -130,56 +134,74 @@ impl Lanes {
         Ok(Lanes { lanes })
     }
 
+    /// The server's lane, locked; None where there is no such server.
+    fn lane<'a, R: Wait>(&'a self, rt: &R, server: ServerId) -> Option<MutexGuard<'a, Lane>> {
+        match self.lanes.get(server.0 as usize) {
+            Some(lane) => Some(lane.lock(rt)),
+            None => None,
+        }
+    }
+
     /// A session waits for its leg to be sent to the server, at the bell of this call.
     pub(crate) fn queue<R: Wait>(&self, rt: &R, server: ServerId, leg: LegId, call: CallId) {
-        if let Some(lane) = self.lanes.get(server.0 as usize) {
-            lane.lock(rt).queue(leg, call);
+        if let Some(mut lane) = self.lane(rt, server) {
+            lane.queue(leg, call);
         }
     }
 
     /// A session waits no more for its leg to be sent to the server: the worker sends it, once the leg in flight has landed.
     pub(crate) fn leave<R: Wait>(&self, rt: &R, server: ServerId, leg: LegId) {
-        if let Some(lane) = self.lanes.get(server.0 as usize) {
-            lane.lock(rt).leave(leg);
+        if let Some(mut lane) = self.lane(rt, server) {
+            lane.leave(leg);
         }
     }
 
     /// The server's worker waits.
     pub(crate) fn queue_worker<R: Wait>(&self, rt: &R, server: ServerId) {
-        if let Some(lane) = self.lanes.get(server.0 as usize) {
-            lane.lock(rt).worker = true;
+        if let Some(mut lane) = self.lane(rt, server) {
+            lane.worker = true;
         }
     }
 
     /// The bell of who is to look at the server next, now that no leg of it is in flight.
-    pub(crate) fn heir<R: Wait>(
+    fn heir<R: Wait>(&self, rt: &R, core: &Dispatcher, server: ServerId) -> Option<Bell> {
+        match self.lane(rt, server) {
+            Some(mut lane) => lane.heir(core, server),
+            None => None,
+        }
+    }
+
+    /// No leg of the server is in flight any more: who is to look at it next is to be rung.
+    pub(crate) fn pass_on<B: Ledger, T: Ledger, R: Wait>(
         &self,
         rt: &R,
-        core: &Dispatcher,
+        agenda: &mut Agenda<'_, B, T>,
+        guard: &Guard<'_, B, T>,
         server: ServerId,
-    ) -> Option<Bell> {
-        let lane = self.lanes.get(server.0 as usize)?;
-        lane.lock(rt).heir(core, server)
+    ) {
+        if let Some(bell) = self.heir(rt, guard.core(), server) {
+            agenda.add(bell);
+        }
     }
 
     /// The server's worker looks at it.
     pub(crate) fn attend<R: Wait>(&self, rt: &R, core: &Dispatcher, server: ServerId) {
-        if let Some(lane) = self.lanes.get(server.0 as usize) {
-            lane.lock(rt).attend(core);
+        if let Some(mut lane) = self.lane(rt, server) {
+            lane.attend(core);
         }
     }
 
     /// The server is to be probed.
     pub(crate) fn ask_probe<R: Wait>(&self, rt: &R, server: ServerId) {
-        if let Some(lane) = self.lanes.get(server.0 as usize) {
-            lane.lock(rt).probe = true;
+        if let Some(mut lane) = self.lane(rt, server) {
+            lane.probe = true;
         }
     }
 
     /// Whether the server is to be probed. If so it isn't any more, and its worker is away for that.
     pub(crate) fn take_probe<R: Wait>(&self, rt: &R, server: ServerId) -> bool {
-        match self.lanes.get(server.0 as usize) {
-            Some(lane) => lane.lock(rt).take_probe(),
+        match self.lane(rt, server) {
+            Some(mut lane) => lane.take_probe(),
             None => false,
         }
     }
@@ -204,6 +226,14 @@ impl<L: Link> Links<L> {
         Ok(Links { links: locked })
     }
 
+    /// The server's link, locked; None where there is no such server.
+    fn link<'a, R: Wait>(&'a self, rt: &R, server: ServerId) -> Option<MutexGuard<'a, L>> {
+        match self.links.get(server.0 as usize) {
+            Some(link) => Some(link.lock(rt)),
+            None => None,
+        }
+    }
+
     /// Begins a leg over the server's link; None where there is no such server.
     pub(crate) fn start<R: Wait>(
         &self,
@@ -214,9 +244,10 @@ impl<L: Link> Links<L> {
     ) -> Option<L::Begun>
         ensures { IfSome result (HasBegun L.begins leg.now) }
     {
-        let link = self.links.get(server.0 as usize)?;
-        let mut link = link.lock(rt);
-        Some(link.start(pass, leg))
+        match self.link(rt, server) {
+            Some(mut link) => Some(link.start(pass, leg)),
+            None => None,
+        }
     }
 
     /// Goes on with a leg that was begun, over the server's link: what is left of its answer; None where there is no such
@@ -233,15 +264,16 @@ impl<L: Link> Links<L> {
         requires { HasBegun L.begins leg.now begun }
         ensures { IfSome result (IsAnswerTo L.begins L.answers leg.now) }
     {
-        let link = self.links.get(server.0 as usize)?;
-        let mut link = link.lock(rt);
-        Some(answer_of(alloc, pass, &mut *link, begun, leg))
+        match self.link(rt, server) {
+            Some(mut link) => Some(answer_of(alloc, pass, &mut *link, begun, leg)),
+            None => None,
+        }
     }
 
     /// `Link::note_marked`.
     pub(crate) fn note_marked<R: Wait>(&self, rt: &R, pass: &Pass, server: ServerId) {
-        if let Some(link) = self.links.get(server.0 as usize) {
-            link.lock(rt).note_marked(pass);
+        if let Some(mut link) = self.link(rt, server) {
+            link.note_marked(pass);
         }
     }
 }

@@ -42,7 +42,7 @@ enum Found {
 }
 
 /// What came of looking at servers.
-#[derive(Clone, Copy, PartialEq, Eq)]
+#[derive(Clone, Copy)]
 enum Sight {
     /// This leg of this server is in flight again.
     Leg(ServerId, LegId),

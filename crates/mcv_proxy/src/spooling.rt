@@ -7,7 +7,7 @@ ghost use Rattle.mcv_core.specs.CoreView.{refusing_at, spooling_at};
 ghost use Rattle.mcv_core.specs.Readers.{IsFirstHeld};
 ghost use Rattle.mcv_core.specs.View.{core_view};
 ghost use Rattle.mcv_hub.specs.State.{IsLegEvent};
-ghost use Rattle.mcv_spool.specs.Found.{IsFound};
+ghost use Rattle.mcv_spool.specs.FoundFile.{IsFound};
 ghost use Rattle.mcv_proxy.specs.Flights.{IsRecordOf};
 ghost use Rattle.mcv_proxy.specs.Steps.{breaks_spool};
 
@@ -80,15 +80,6 @@ fn next_held<B: Ledger, T: Ledger, R: Wait>(
     unreachable!()
 }
 
-/// Writes a record.
-fn append<D: Disk, R: Wait>(
-    rt: &R,
-    spool: &Mutex<Spool<D>>,
-    delete: SpoolRecord,
-) -> Result<Stored, SpoolFault> {
-    spool.lock(rt).append(delete)
-}
-
 /// Opens the spool again where it answers nothing else before; None where it does.
 fn mend<D: Disk>(spool: &mut Spool<D>, fault: SpoolFault) -> Option<Result<(), SpoolFault>>
     ensures asked { is_some result ≡ breaks_spool fault }
@@ -101,12 +92,6 @@ fn mend<D: Disk>(spool: &mut Spool<D>, fault: SpoolFault) -> Option<Result<(), S
         SpoolFault::Device | SpoolFault::Reopen => Some(spool.reopen()),
         SpoolFault::Full | SpoolFault::Memory | SpoolFault::Damaged(_) => None,
     }
-}
-
-/// Opens the spool again where it answers nothing else before.
-fn reopen<D: Disk, R: Wait>(rt: &R, spool: &Mutex<Spool<D>>, fault: SpoolFault) {
-    let mut spool = spool.lock(rt);
-    let _ = mend(&mut *spool, fault);
 }
 
 /// Reports what came of writing the record of a held leg: the leg is in the spool, or the spool refused it.
@@ -178,12 +163,12 @@ pub fn serve_spool<B: Ledger, T: Ledger, D: Disk, W: Watch, R: Wait>(
         let Some(HeldLeg { leg, delete }) = next_held(rt, texts, hub, pass, ends) else {
             return;
         };
-        let outcome = append(rt, spool, delete);
+        let outcome = spool.lock(rt).append(delete);
         let fault = report(rt, &mut agenda, pass, leg, outcome);
         agenda.ring_all();
         note(watch, &mut refuses, fault.is_some());
         if let Some(fault) = fault {
-            reopen(rt, spool, fault);
+            let _ = mend(&mut *spool.lock(rt), fault);
             if ends.are_asked() {
                 return;
             }

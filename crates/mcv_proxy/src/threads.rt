@@ -47,15 +47,15 @@ struct Done<B: Ledger, T: Ledger> {
 #[derive(Drop)]
 struct Shared<B: Ledger, T: Ledger, D: Disk> {
     accepted: Arc<Accepted>,
-    hub: Arc<Hub<B, T>>,
-    lanes: Arc<Lanes>,
-    spool: Arc<Mutex<Spool<D>>>,
+    hub: Hub<B, T>,
+    lanes: Lanes,
+    spool: Mutex<Spool<D>>,
     /// How many records were pending in the spool when it was opened.
     pending: usize,
     /// The end of the servers' workers and of the replayer.
-    work_ends: Arc<Ends>,
+    work_ends: Ends,
     /// The end of the spool's worker, which comes later.
-    spool_ends: Arc<Ends>,
+    spool_ends: Ends,
 }
 
 /// The workers that run.
@@ -67,31 +67,34 @@ struct Crew {
 }
 
 /// The work of a server's worker.
-fn work<B: Ledger, T: Ledger, L: Link, R: Wait>(
+fn work<B: Ledger, T: Ledger, D: Disk, L: Link, R: Wait>(
     rt: &R,
     alloc: Global,
-    hub: &Hub<B, T>,
-    lanes: &Lanes,
-    ends: &Ends,
+    shared: &Shared<B, T, D>,
     mut pass: Pass,
     mut link: L,
     server: ServerId,
 ) {
+    let Shared {
+        hub,
+        lanes,
+        work_ends: ends,
+        ..
+    } = shared;
     serve_destination(rt, alloc, hub, lanes, &mut pass, &mut link, server, ends);
 }
 
-/// Starts the worker of a server.
+/// Starts the worker of a server. None where there is no memory or no thread for it.
 fn employ<
     B: Ledger + Send + Sync + 'static,
     T: Ledger + Send + Sync + 'static,
+    D: Disk + Send + 'static,
     L: Link + Send + 'static,
     R: Threads + Wait + Clock + Copy + Send + 'static,
 >(
     rt: R,
     alloc: Global,
-    hub: Arc<Hub<B, T>>,
-    lanes: Arc<Lanes>,
-    ends: Arc<Ends>,
+    shared: &Arc<Shared<B, T, D>>,
     pass: Pass,
     link: L,
     server: ServerId,
@@ -99,7 +102,10 @@ fn employ<
 where
     L::Begun: Send,
 {
-    let job = move || work(&rt, alloc, &*hub, &*lanes, &*ends, pass, link, server);
+    let Ok(shared) = Arc::try_clone(shared) else {
+        return None;
+    };
+    let job = move || work(&rt, alloc, &*shared, pass, link, server);
     thread::spawn(&rt, job).ok()
 }
 
@@ -107,17 +113,22 @@ where
 fn write_down<B: Ledger, T: Ledger, D: Disk, W: Watch, R: Wait>(
     rt: &R,
     alloc: Global,
-    texts: &[Option<ServerText>],
-    hub: &Hub<B, T>,
-    spool: &Mutex<Spool<D>>,
-    ends: &Ends,
+    shared: &Shared<B, T, D>,
+    texts: Vec<Option<ServerText>>,
     mut pass: Pass,
     mut watch: W,
 ) {
+    let texts = texts.as_slice();
+    let Shared {
+        hub,
+        spool,
+        spool_ends: ends,
+        ..
+    } = shared;
     serve_spool(rt, alloc, texts, hub, &mut pass, spool, &mut watch, ends);
 }
 
-/// Starts the spool's worker.
+/// Starts the spool's worker. None where there is no memory or no thread for it.
 fn employ_spool<
     B: Ledger + Send + Sync + 'static,
     T: Ledger + Send + Sync + 'static,
@@ -127,23 +138,15 @@ fn employ_spool<
 >(
     rt: R,
     alloc: Global,
+    shared: &Arc<Shared<B, T, D>>,
     texts: Vec<Option<ServerText>>,
-    hub: Arc<Hub<B, T>>,
-    spool: Arc<Mutex<Spool<D>>>,
-    ends: Arc<Ends>,
     pass: Pass,
     watch: W,
 ) -> Option<JoinHandle<()>> {
-    let job = move || write_down(
-        &rt,
-        alloc,
-        texts.as_slice(),
-        &*hub,
-        &*spool,
-        &*ends,
-        pass,
-        watch,
-    );
+    let Ok(shared) = Arc::try_clone(shared) else {
+        return None;
+    };
+    let job = move || write_down(&rt, alloc, &*shared, texts, pass, watch);
     thread::spawn(&rt, job).ok()
 }
 
@@ -151,21 +154,25 @@ fn employ_spool<
 fn send_again<B: Ledger, T: Ledger, D: Disk, L: Link, W: Watch, R: Wait>(
     rt: &R,
     alloc: Global,
-    hub: &Hub<B, T>,
-    lanes: &Lanes,
-    spool: &Mutex<Spool<D>>,
-    ends: &Ends,
+    shared: &Shared<B, T, D>,
     mut pass: Pass,
     mut links: Vec<L>,
     mut watch: W,
 ) {
     let links = links.as_mut_slice();
+    let Shared {
+        hub,
+        lanes,
+        spool,
+        work_ends: ends,
+        ..
+    } = shared;
     serve_replay(
         rt, alloc, hub, lanes, &mut pass, spool, links, &mut watch, ends,
     );
 }
 
-/// Starts the replayer.
+/// Starts the replayer. None where there is no memory or no thread for it.
 fn employ_replayer<
     B: Ledger + Send + Sync + 'static,
     T: Ledger + Send + Sync + 'static,
@@ -176,10 +183,7 @@ fn employ_replayer<
 >(
     rt: R,
     alloc: Global,
-    hub: Arc<Hub<B, T>>,
-    lanes: Arc<Lanes>,
-    spool: Arc<Mutex<Spool<D>>>,
-    ends: Arc<Ends>,
+    shared: &Arc<Shared<B, T, D>>,
     pass: Pass,
     links: Vec<L>,
     watch: W,
@@ -187,19 +191,33 @@ fn employ_replayer<
 where
     L::Begun: Send,
 {
-    let job = move || send_again(
-        &rt, alloc, &*hub, &*lanes, &*spool, &*ends, pass, links, watch,
-    );
+    let Ok(shared) = Arc::try_clone(shared) else {
+        return None;
+    };
+    let job = move || send_again(&rt, alloc, &*shared, pass, links, watch);
     thread::spawn(&rt, job).ok()
 }
 
-/// What the threads of sessions share.
+/// What the thread of a session has of others.
 #[derive(Drop)]
-struct SessionContext<B: Ledger, T: Ledger, L: Link> {
+struct SessionContext<B: Ledger, T: Ledger, D: Disk, L: Link> {
     accepted: Arc<Accepted>,
-    hub: Arc<Hub<B, T>>,
-    lanes: Arc<Lanes>,
+    shared: Arc<Shared<B, T, D>>,
     links: Arc<Links<L>>,
+}
+
+impl<B: Ledger, T: Ledger, D: Disk, L: Link> SessionContext<B, T, D, L> {
+    /// That of one more session.
+    fn new(
+        shared: &Arc<Shared<B, T, D>>,
+        links: &Arc<Links<L>>,
+    ) -> Result<SessionContext<B, T, D, L>, AllocError> {
+        Ok(SessionContext {
+            accepted: Arc::try_clone(&shared.accepted)?,
+            shared: Arc::try_clone(shared)?,
+            links: Arc::try_clone(links)?,
+        })
+    }
 }
 
 /// A client that is to be served, and the watch of its session.
@@ -211,18 +229,26 @@ struct Visitor<I: Read + Drop, O: Write + Drop, W: Watch> {
 }
 
 /// Serves a client until its session ends.
-fn serve<B: Ledger, T: Ledger, L: Link, I: Read + Drop, O: Write + Drop, W: Watch, R: Wait + Clock>(
+fn serve<
+    B: Ledger,
+    T: Ledger,
+    D: Disk,
+    L: Link,
+    I: Read + Drop,
+    O: Write + Drop,
+    W: Watch,
+    R: Wait + Clock,
+>(
     rt: &R,
     alloc: Global,
-    context: SessionContext<B, T, L>,
+    context: SessionContext<B, T, D, L>,
     pass: Pass,
     seat: Seat<B, T>,
     visitor: Visitor<I, O, W>,
 ) -> Done<B, T> {
     let SessionContext {
         accepted,
-        hub,
-        lanes,
+        shared,
         links,
     } = context;
     let Visitor {
@@ -230,9 +256,8 @@ fn serve<B: Ledger, T: Ledger, L: Link, I: Read + Drop, O: Write + Drop, W: Watc
         mut writer,
         watch,
     } = visitor;
-    let mut desk = HubDesk::new(
-        rt, alloc, accepted, &*hub, &*lanes, &*links, pass, seat, watch,
-    );
+    let (hub, lanes) = (&shared.hub, &shared.lanes);
+    let mut desk = HubDesk::new(rt, alloc, accepted, hub, lanes, &*links, pass, seat, watch);
     let _ = serve_session(alloc, &mut reader, &mut writer, &mut desk);
     let (seat, receipts) = desk.into_parts();
     Done { seat, receipts }
@@ -242,6 +267,7 @@ fn serve<B: Ledger, T: Ledger, L: Link, I: Read + Drop, O: Write + Drop, W: Watc
 fn host<
     B: Ledger + Send + Sync + 'static,
     T: Ledger + Send + Sync + 'static,
+    D: Disk + Send + 'static,
     L: Link + Send + 'static,
     I: Read + Drop + Send + 'static,
     O: Write + Drop + Send + 'static,
@@ -250,7 +276,7 @@ fn host<
 >(
     rt: R,
     alloc: Global,
-    context: SessionContext<B, T, L>,
+    context: SessionContext<B, T, D, L>,
     pass: Pass,
     seat: Seat<B, T>,
     visitor: Visitor<I, O, W>,
@@ -266,36 +292,28 @@ where
 fn admit<
     B: Ledger + Send + Sync + 'static,
     T: Ledger + Send + Sync + 'static,
-    L: Link + Send + 'static,
-    I: Read + Drop + Send + 'static,
-    O: Write + Drop + Send + 'static,
-    W: Watch + Send + 'static,
+    G: Gates,
     R: Threads + Wait + Clock + Copy + Send + 'static,
 >(
     rt: R,
     alloc: Global,
-    context: &SessionContext<B, T, L>,
-    pass: Pass,
+    shared: &Arc<Shared<B, T, G::Disk>>,
+    links: &Arc<Links<G::Link>>,
+    passes: &Passes<B, T>,
+    gates: &mut G,
     seat: Seat<B, T>,
-    client: (I, O),
-    watch: W,
-) -> Option<JoinHandle<Done<B, T>>>
-where
-    L::Begun: Send + 'static,
-{
-    let context = SessionContext {
-        accepted: Arc::try_clone(&context.accepted).ok()?,
-        hub: Arc::try_clone(&context.hub).ok()?,
-        lanes: Arc::try_clone(&context.lanes).ok()?,
-        links: Arc::try_clone(&context.links).ok()?,
+    client: (G::Reader, G::Writer),
+) -> Option<JoinHandle<Done<B, T>>> {
+    let Ok(context) = SessionContext::new(shared, links) else {
+        return None;
     };
     let (reader, writer) = client;
     let visitor = Visitor {
         reader,
         writer,
-        watch,
+        watch: gates.watch(),
     };
-    host(rt, alloc, context, pass, seat, visitor)
+    host(rt, alloc, context, passes.pass(), seat, visitor)
 }
 
 /// How many servers there are.
@@ -349,13 +367,13 @@ fn enlist(
 fn employ_all<
     B: Ledger + Send + Sync + 'static,
     T: Ledger + Send + Sync + 'static,
-    D: Disk,
+    D: Disk + Send + 'static,
     L: Link + Send + 'static,
     R: Threads + Wait + Clock + Copy + Send + 'static,
 >(
     rt: R,
     alloc: Global,
-    shared: &Shared<B, T, D>,
+    shared: &Arc<Shared<B, T, D>>,
     passes: &Passes<B, T>,
     links: Vec<L>,
     workers: &mut Vec<JoinHandle<()>>,
@@ -366,18 +384,15 @@ where
     workers.reserve(links.len())?;
     let mut number = 0u32;
     for link in links {
-        let hub = Arc::try_clone(&shared.hub)?;
-        let lanes = Arc::try_clone(&shared.lanes)?;
-        let ends = Arc::try_clone(&shared.work_ends)?;
         let server = ServerId(number);
-        let worker = employ(rt, alloc, hub, lanes, ends, passes.pass(), link, server);
+        let worker = employ(rt, alloc, shared, passes.pass(), link, server);
         enlist(workers, worker)?;
         number = number.saturating_add(1);
     }
     Ok(())
 }
 
-/// Starts the spool's worker. An error is that there was no thread or no memory for it.
+/// Starts the spool's worker. None where there is no memory or no thread for it.
 fn staff_spool<
     B: Ledger + Send + Sync + 'static,
     T: Ledger + Send + Sync + 'static,
@@ -386,22 +401,18 @@ fn staff_spool<
 >(
     rt: R,
     alloc: Global,
-    shared: &Shared<B, T, G::Disk>,
+    shared: &Arc<Shared<B, T, G::Disk>>,
     passes: &Passes<B, T>,
     gates: &mut G,
-) -> Result<Option<JoinHandle<()>>, AllocError> {
-    let texts = texts_of(alloc, &shared.accepted)?;
-    let hub = Arc::try_clone(&shared.hub)?;
-    let spool = Arc::try_clone(&shared.spool)?;
-    let ends = Arc::try_clone(&shared.spool_ends)?;
+) -> Option<JoinHandle<()>> {
+    let Ok(texts) = texts_of(alloc, &shared.accepted) else {
+        return None;
+    };
     let watch = gates.watch();
-    match employ_spool(rt, alloc, texts, hub, spool, ends, passes.pass(), watch) {
-        Some(worker) => Ok(Some(worker)),
-        None => Err(AllocError),
-    }
+    employ_spool(rt, alloc, shared, texts, passes.pass(), watch)
 }
 
-/// Starts the replayer. None where there is no thread for it.
+/// Starts the replayer. None where there is no memory or no thread for it.
 fn staff_replayer<
     B: Ledger + Send + Sync + 'static,
     T: Ledger + Send + Sync + 'static,
@@ -410,18 +421,15 @@ fn staff_replayer<
 >(
     rt: R,
     alloc: Global,
-    shared: &Shared<B, T, G::Disk>,
+    shared: &Arc<Shared<B, T, G::Disk>>,
     passes: &Passes<B, T>,
     gates: &mut G,
-) -> Result<Option<JoinHandle<()>>, AllocError> {
-    let hub = Arc::try_clone(&shared.hub)?;
-    let lanes = Arc::try_clone(&shared.lanes)?;
-    let spool = Arc::try_clone(&shared.spool)?;
-    let ends = Arc::try_clone(&shared.work_ends)?;
-    let links = links_of(alloc, &shared.accepted, gates)?;
+) -> Option<JoinHandle<()>> {
+    let Ok(links) = links_of(alloc, &shared.accepted, gates) else {
+        return None;
+    };
     let watch = gates.watch();
-    let pass = passes.pass();
-    Ok(employ_replayer(rt, alloc, hub, lanes, spool, ends, pass, links, watch))
+    employ_replayer(rt, alloc, shared, passes.pass(), links, watch)
 }
 
 /// Starts all workers. Those that were started are in the crew also where one wasn't.
@@ -433,35 +441,20 @@ fn staff<
 >(
     rt: R,
     alloc: Global,
-    shared: &Shared<B, T, G::Disk>,
+    shared: &Arc<Shared<B, T, G::Disk>>,
     passes: &Passes<B, T>,
     gates: &mut G,
     crew: &mut Crew,
 ) -> Result<(), AllocError> {
-    crew.spool = staff_spool(rt, alloc, shared, passes, gates)?;
+    crew.spool = staff_spool(rt, alloc, shared, passes, gates);
+    if crew.spool.is_none() {
+        return Err(AllocError);
+    }
     crew.workers.reserve(1)?;
-    let replayer = staff_replayer(rt, alloc, shared, passes, gates)?;
+    let replayer = staff_replayer(rt, alloc, shared, passes, gates);
     enlist(&mut crew.workers, replayer)?;
     let links = links_of(alloc, &shared.accepted, gates)?;
     employ_all(rt, alloc, shared, passes, links, &mut crew.workers)
-}
-
-/// Starts all workers, and then lets clients come. Those that were started are in the crew also where one wasn't.
-fn ready<
-    B: Ledger + Send + Sync + 'static,
-    T: Ledger + Send + Sync + 'static,
-    G: Gates,
-    R: Threads + Wait + Clock + Copy + Send + 'static,
->(
-    rt: R,
-    alloc: Global,
-    shared: &Shared<B, T, G::Disk>,
-    passes: &Passes<B, T>,
-    gates: &mut G,
-    crew: &mut Crew,
-) -> Result<(), ProxyFault> {
-    staff(rt, alloc, shared, passes, gates, crew)?;
-    gates.opened(shared.pending)
 }
 
 /// Serves clients, each in a thread, until no more come.
@@ -473,7 +466,8 @@ fn accept<
 >(
     rt: R,
     alloc: Global,
-    context: &SessionContext<B, T, G::Link>,
+    shared: &Arc<Shared<B, T, G::Disk>>,
+    links: &Arc<Links<G::Link>>,
     passes: &mut Passes<B, T>,
     gates: &mut G,
 ) -> Vec<JoinHandle<Done<B, T>>> {
@@ -489,9 +483,7 @@ fn accept<
             gates.note_unserved();
             continue;
         };
-        let watch = gates.watch();
-        let pass = passes.pass();
-        match admit(rt, alloc, context, pass, seat, client, watch) {
+        match admit(rt, alloc, shared, links, passes, gates, seat, client) {
             Some(session) => sessions.push_reserved(session),
             None => gates.note_unserved(),
         }
@@ -499,15 +491,15 @@ fn accept<
     sessions
 }
 
-/// Waits for the sessions to end, adds their shares to this seat's, and gives the receipts of all.
+/// Waits for the sessions to end, adds their shares to this seat's, and gives the receipts of all. An error is `Memory`.
 fn gather<B: Ledger + Send, T: Ledger + Send, R: Threads>(
     rt: &R,
     alloc: Global,
     sessions: Vec<JoinHandle<Done<B, T>>>,
     seat: &mut Seat<B, T>,
-) -> Result<Vec<Receipt>, AllocError> {
+) -> Result<Vec<Receipt>, ProxyFault> {
     let mut receipts = Vec::new(alloc);
-    let mut outcome = Ok(());
+    let mut is_short = false;
     for session in sessions {
         let done = session.join(rt);
         seat.begun.merge(done.seat.begun);
@@ -516,10 +508,12 @@ fn gather<B: Ledger + Send, T: Ledger + Send, R: Threads>(
             .extend_from_slice(done.receipts.as_slice())
             .is_err()
         {
-            outcome = Err(AllocError);
+            is_short = true;
         }
     }
-    outcome?;
+    if is_short {
+        return Err(ProxyFault::Memory);
+    }
     Ok(receipts)
 }
 
@@ -571,25 +565,50 @@ fn open<B: Ledger, T: Ledger, D: Disk>(
     requires taken { (taken.name ≡ T.name) × (taken.parts ≡ T.parts) × (taken.parts ≡ SEATS + 1) }
     ensures pending { D.keeps_model → IfOk result (λ r. r.0.pending ≡ length (numbered 0 (map waiting (slots (D.seen disk))))) }
 {
+    let known = Arc::try_clone(&accepted)?;
+    let lanes = Lanes::new(alloc, server_count(&accepted))?;
     let spool = Spool::open(alloc, disk)?;
     let records = pending_records(alloc, spool.pending())?;
     let pending = records.len();
-    let known = Arc::try_clone(&accepted)?;
     let Ok((hub, passes)) = Hub::new(alloc, known, records.as_slice(), BELLS, SEATS, begun, taken)
     else {
         return Err(ProxyFault::Memory);
     };
-    let lanes = Lanes::new(alloc, server_count(&accepted))?;
     let shared = Shared {
         accepted,
-        hub: Arc::new(alloc, hub)?,
-        lanes: Arc::new(alloc, lanes)?,
-        spool: Arc::new(alloc, Mutex::new(spool))?,
+        hub,
+        lanes,
+        spool: Mutex::new(spool),
         pending,
-        work_ends: Arc::new(alloc, Ends::new())?,
-        spool_ends: Arc::new(alloc, Ends::new())?,
+        work_ends: Ends::new(),
+        spool_ends: Ends::new(),
     };
     Ok((shared, passes))
+}
+
+/// Starts all workers, lets clients come and serves them: the receipts of their sessions, whose shares are added to the
+/// seat's. Those workers that were started are in the crew.
+fn serve_all<
+    B: Ledger + Send + Sync + 'static,
+    T: Ledger + Send + Sync + 'static,
+    G: Gates,
+    R: Threads + Wait + Clock + Copy + Send + 'static,
+>(
+    rt: R,
+    alloc: Global,
+    shared: &Arc<Shared<B, T, G::Disk>>,
+    links: &Arc<Links<G::Link>>,
+    passes: &mut Passes<B, T>,
+    gates: &mut G,
+    seat: &mut Seat<B, T>,
+    crew: &mut Crew,
+) -> Result<Vec<Receipt>, ProxyFault> {
+    if staff(rt, alloc, shared, passes, gates, crew).is_err() {
+        return Err(ProxyFault::Memory);
+    }
+    gates.opened(shared.pending)?;
+    let sessions = accept(rt, alloc, shared, links, passes, gates);
+    gather(&rt, alloc, sessions, seat)
 }
 
 /// Serves all clients, and gives the receipts of their sessions; their shares are added to the seat's.
@@ -601,31 +620,21 @@ fn run<
 >(
     rt: R,
     alloc: Global,
-    shared: &Shared<B, T, G::Disk>,
+    shared: &Arc<Shared<B, T, G::Disk>>,
     passes: &mut Passes<B, T>,
     gates: &mut G,
     seat: &mut Seat<B, T>,
 ) -> Result<Vec<Receipt>, ProxyFault> {
+    let links = links_of(alloc, &shared.accepted, gates)?;
+    let links = Arc::new(alloc, Links::new(alloc, links)?)?;
     let mut crew = Crew {
         workers: Vec::new(alloc),
         spool: None,
     };
-    let links = links_of(alloc, &shared.accepted, gates)?;
-    let context = SessionContext {
-        accepted: Arc::try_clone(&shared.accepted)?,
-        hub: Arc::try_clone(&shared.hub)?,
-        lanes: Arc::try_clone(&shared.lanes)?,
-        links: Arc::new(alloc, Links::new(alloc, links)?)?,
-    };
+    let receipts = serve_all(rt, alloc, shared, &links, passes, gates, seat, &mut crew);
     let mut pass = passes.pass();
-    if let Err(fault) = ready(rt, alloc, shared, passes, gates, &mut crew) {
-        dismiss(&rt, shared, &mut pass, crew);
-        return Err(fault);
-    }
-    let sessions = accept(rt, alloc, &context, passes, gates);
-    let receipts = gather(&rt, alloc, sessions, seat);
     dismiss(&rt, shared, &mut pass, crew);
-    Ok(receipts?)
+    receipts
 }
 
 /// Closes the books once all sessions have ended.
@@ -644,6 +653,37 @@ fn close<B: Ledger, T: Ledger, R: Wait>(
     guard.deletes_are_kept();
     let report = guard.close(alloc, begun, taken, receipts)?;
     Ok(report)
+}
+
+/// Serves all clients, and closes the books.
+fn conduct<
+    B: Ledger + Send + Sync + 'static,
+    T: Ledger + Send + Sync + 'static,
+    G: Gates,
+    R: Threads + Wait + Clock + Copy + Send + 'static,
+>(
+    rt: R,
+    alloc: Global,
+    shared: &Arc<Shared<B, T, G::Disk>>,
+    passes: Passes<B, T>,
+    gates: &mut G,
+) -> Result<Report, ProxyFault>
+    ensures { IfOk result IsReport }
+{
+    let mut passes = passes;
+    let Some(mut seat) = passes.seat() else {
+        return Err(ProxyFault::Memory);
+    };
+    let receipts = run(rt, alloc, shared, &mut passes, gates, &mut seat)?;
+    let mut pass = passes.pass();
+    close(
+        &rt,
+        alloc,
+        &shared.hub,
+        &mut pass,
+        &mut seat,
+        receipts.as_slice(),
+    )
 }
 
 /// As `start`, with the ledgers of calls begun and of replies taken.
@@ -667,21 +707,9 @@ fn started<
     let Some(disk) = gates.disk() else {
         return Err(ProxyFault::Device);
     };
-    let (shared, mut passes) = open::<B, T, G::Disk>(alloc, accepted, disk, begun, taken)?;
-    let Some(mut seat) = passes.seat() else {
-        return Err(ProxyFault::Memory);
-    };
-    let receipts = run(rt, alloc, &shared, &mut passes, gates, &mut seat)?;
-    let mut pass = passes.pass();
-    let report = close(
-        &rt,
-        alloc,
-        &shared.hub,
-        &mut pass,
-        &mut seat,
-        receipts.as_slice(),
-    )?;
-    Ok(report)
+    let (shared, passes) = open::<B, T, G::Disk>(alloc, accepted, disk, begun, taken)?;
+    let shared = Arc::new(alloc, shared)?;
+    conduct(rt, alloc, &shared, passes, gates)
 }
 
 /// Runs a proxy: one worker for each server, one for the spool and the replayer, and each session in its thread. Where

@@ -1,13 +1,12 @@
 //! What clients are answered, and what servers are sent.
 
-use crate::scene::{Manner, Scene, Server, bytes, play};
+use crate::scene::{Cues, Duties, Manner, NO_CUES, NO_DUTIES, Scene, bytes, play};
 use mcv_hub::Report;
 use mcv_proxy::ProxyFault;
 use std::alloc::Global;
+use std::process::Abort;
 use std::rt::Clock;
-use std::sync::atomic::{AtomicBool, Ordering};
-use std::sync::{Arc, Wait};
-use std::test::Fail;
+use std::sync::Wait;
 use std::thread::Threads;
 
 /// One pool of one server.
@@ -25,310 +24,9 @@ const WARM_UP: &str =
 const FAILOVER: &str =
     "{\"pools\":{\"A\":{\"servers\":[\"a:11211\"]},\"B\":{\"servers\":[\"b:11211\"]}},\"route\":{\"type\":\"OperationSelectorRoute\",\"operation_policies\":{\"delete\":{\"type\":\"AllSyncRoute\",\"children\":[\"PoolRoute|A\",\"PoolRoute|B\"]}},\"default_policy\":{\"type\":\"FailoverRoute\",\"children\":[\"PoolRoute|A\",\"PoolRoute|B\"]}}}";
 
-const HIT_A: &str = "VALUE a 0 1\r\nx\r\nEND\r\n";
-
-const FAILED: &str = "SERVER_ERROR destination failed\r\n";
-
-/// A server that never breaks.
-fn sound(text: &'static str, has: &'static str) -> Manner {
-    Manner {
-        text,
-        has,
-        breaks_every: 0,
-        in_a_row: 1,
-        answers_probes: true,
-    }
-}
-
-/// A server that breaks each leg.
-fn broken(text: &'static str, answers_probes: bool) -> Manner {
-    Manner {
-        text,
-        has: "",
-        breaks_every: 1,
-        in_a_row: 1,
-        answers_probes,
-    }
-}
-
-fn is_report(report: Report, calls: u64) -> bool {
-    report.begun == calls && report.taken == calls && report.older == 0
-}
-
-/// Whether the servers were sent so many legs.
-fn were_sent<R: Wait + Clock + Copy + Drop + Send + 'static>(
-    seen: &Scene<R>,
-    legs: &[u64],
-) -> bool {
-    for server in 0..legs.len() {
-        if seen.legs(server) != legs[server] {
-            return false;
-        }
-    }
-    true
-}
-
-/// Whether one client of this configuration is answered so, and the servers are sent so many legs.
-fn one_client<R: Threads + Wait + Clock + Copy + Drop + Send + 'static>(
-    rt: R,
-    alloc: Global,
-    config: &str,
-    manners: &[Manner],
-    asks: &str,
-    answer: &str,
-    calls: u64,
-    legs: &[u64],
-) -> Result<bool, Fail> {
-    let mut scene = Scene::new(rt, alloc)?;
-    for manner in manners {
-        scene = scene.with_server(Server::new(alloc, *manner, 0)?)?;
-    }
-    let scene = scene.with_client(bytes(alloc, asks)?, None)?;
-    let (report, seen) = play(rt, alloc, config, scene)?;
-    let Ok(report) = report else {
-        return Ok(false);
-    };
-    Ok(seen.is_answered(0, answer) && is_report(report, calls) && were_sent(&seen, legs))
-}
-
-#[test]
-fn no_client_comes(rt: HostRuntime) -> Result<(), Fail> {
-    let alloc = rt.alloc();
-    let scene = Scene::new(rt, alloc)?.with_server(Server::new(alloc, sound("a:11211", "a"), 0)?)?;
-    let (report, _seen) = play(rt, alloc, ONE, scene)?;
-    assert!(rt; matches!(report, Ok(report) if is_report(report, 0)));
-    Ok(())
-}
-
-#[test]
-fn a_get_is_answered(rt: HostRuntime) -> Result<(), Fail> {
-    let alloc = rt.alloc();
-    let manners = [sound("a:11211", "a")];
-    assert!(rt; one_client(rt, alloc, ONE, &manners, "get a\r\n", HIT_A, 1, &[1])?);
-    Ok(())
-}
-
-/// Two clients, of which the second is answered before the server of the first one answers.
-fn two_clients<R: Threads + Wait + Clock + Copy + Drop + Send + 'static>(
-    rt: R,
-    alloc: Global,
-) -> Result<bool, Fail> {
-    let sign = Arc::new(alloc, AtomicBool::new(false))?;
-    let first = Server::new(alloc, sound("a:11211", "a"), 0)?;
-    let first = first.waiting_for(Arc::try_clone(&sign)?);
-    let second = Server::new(alloc, sound("b:11211", "b"), 0)?;
-    let scene = Scene::new(rt, alloc)?
-        .with_server(first)?
-        .with_server(second)?
-        .with_client(bytes(alloc, "get b\r\n")?, Some(Arc::try_clone(&sign)?))?
-        .with_client(bytes(alloc, "get a\r\n")?, None)?;
-    let (report, seen) = play(rt, alloc, TWO, scene)?;
-    Ok(
-        sign.load(Ordering::SeqCst)
-            && matches!(report, Ok(report) if is_report(report, 2))
-            && seen.is_answered(1, HIT_A)
-            && seen.is_answered(0, "VALUE b 0 1\r\nx\r\nEND\r\n"),
-    )
-}
-
-#[test]
-fn two_sessions_go_on_at_once(rt: HostRuntime) -> Result<(), Fail> {
-    assert!(rt; two_clients(rt, rt.alloc())?);
-    Ok(())
-}
-
-/// What the server was sent.
-fn was_sent<R: Wait + Clock + Copy + Drop + Send + 'static>(
-    rt: R,
-    seen: &Scene<R>,
-    server: usize,
-    wanted: &str,
-) -> bool {
-    match seen.servers.get(server) {
-        Some(server) => server.notes.lock(&rt).text.as_slice() == wanted.as_bytes(),
-        None => false,
-    }
-}
-
-fn warm_up_session<R: Threads + Wait + Clock + Copy + Drop + Send + 'static>(
-    rt: R,
-    alloc: Global,
-) -> Result<bool, Fail> {
-    let asks = "get a b\r\nversion\r\nset /././k 05 0 1\r\nx\r\nquit\r\nget a\r\n";
-    let answer = "VALUE a 0 1\r\nx\r\nEND\r\nVERSION mcv 1\r\nSTORED\r\n";
-    let scene = Scene::new(rt, alloc)?
-        .with_server(Server::new(alloc, sound("a:11211", "a"), 0)?)?
-        .with_server(Server::new(alloc, sound("b:11211", ""), 0)?)?
-        .with_client(bytes(alloc, asks)?, None)?;
-    let (report, seen) = play(rt, alloc, WARM_UP, scene)?;
-    Ok(
-        matches!(report, Ok(report) if is_report(report, 3))
-            && seen.is_answered(0, answer)
-            && was_sent(rt, &seen, 0, "get a\r\nget b\r\nset k 5 0 1\r\nx\r\n")
-            && was_sent(rt, &seen, 1, "get b\r\n"),
-    )
-}
-
-#[test]
-fn a_session_over_a_warm_up(rt: HostRuntime) -> Result<(), Fail> {
-    assert!(rt; warm_up_session(rt, rt.alloc())?);
-    Ok(())
-}
-
-#[test]
-fn the_second_server_answers_for_a_broken_one(rt: HostRuntime) -> Result<(), Fail> {
-    let alloc = rt.alloc();
-    let manners = [broken("a:11211", false), sound("b:11211", "a")];
-    assert!(rt;
-        one_client(
-            rt,
-            alloc,
-            FAILOVER,
-            &manners,
-            "get a\r\n",
-            HIT_A,
-            1,
-            &[1, 1]
-        )?
-    );
-    Ok(())
-}
-
-const FIVE_GETS: &str = "get a\r\nget a\r\nget a\r\nget a\r\nget a\r\n";
-
-const FOUR_GETS: &str = "get a\r\nget a\r\nget a\r\nget a\r\n";
-
-/// So many failures.
-fn failures(alloc: Global, count: usize) -> Result<Vec<u8>, Fail> {
-    let mut text = Vec::new(alloc);
-    for _get in 0..count {
-        text.extend_from_slice(FAILED.as_bytes())?;
-    }
-    Ok(text)
-}
-
-/// Whether a client was answered so many failures.
-fn is_failed<R: Wait + Clock + Copy + Drop + Send + 'static>(
-    rt: R,
-    alloc: Global,
-    seen: &Scene<R>,
-    client: usize,
-    count: usize,
-) -> Result<bool, Fail> {
-    match seen.answers.get(client) {
-        Some(text) => Ok(text.lock(&rt).as_slice() == failures(alloc, count)?.as_slice()),
-        None => Ok(false),
-    }
-}
-
-/// A server that breaks each leg and doesn't answer probes is sent three of five.
-fn five_to_a_dead_one<R: Threads + Wait + Clock + Copy + Drop + Send + 'static>(
-    rt: R,
-    alloc: Global,
-) -> Result<bool, Fail> {
-    let server = Server::new(alloc, broken("a:11211", false), 0)?;
-    let scene = Scene::new(rt, alloc)?
-        .with_server(server)?
-        .with_client(bytes(alloc, FIVE_GETS)?, None)?;
-    let (_report, seen) = play(rt, alloc, ONE, scene)?;
-    Ok(is_failed(rt, alloc, &seen, 0, 5)? && seen.legs(0) == 3)
-}
-
-/// A server that breaks each leg and answers probes is sent three of four, and once its mark is taken away the next one.
-fn five_to_one_that_answers_probes<R: Threads + Wait + Clock + Copy + Drop + Send + 'static>(
-    rt: R,
-    alloc: Global,
-) -> Result<bool, Fail> {
-    let sign = Arc::new(alloc, AtomicBool::new(false))?;
-    let server = Server::new(alloc, broken("a:11211", true), 0)?;
-    let scene = Scene::new(rt, alloc)?
-        .with_server(server.unmarking(Arc::try_clone(&sign)?))?
-        .with_client(bytes(alloc, "get a\r\n")?, None)?
-        .coming_with(Arc::try_clone(&sign)?)
-        .with_client(bytes(alloc, FOUR_GETS)?, None)?;
-    let (_report, seen) = play(rt, alloc, ONE, scene)?;
-    Ok(
-        sign.load(Ordering::SeqCst)
-            && is_failed(rt, alloc, &seen, 1, 4)?
-            && is_failed(rt, alloc, &seen, 0, 1)?
-            && seen.legs(0) == 4,
-    )
-}
-
-#[test]
-fn a_marked_server_is_sent_nothing_until_it_answers_a_probe(rt: HostRuntime) -> Result<(), Fail> {
-    assert!(rt; five_to_a_dead_one(rt, rt.alloc())?);
-    assert!(rt; five_to_one_that_answers_probes(rt, rt.alloc())?);
-    Ok(())
-}
-
-/// Three clients of one server, which answers the first only once a client of another server has its answer: the legs of the
-/// two others wait until then.
-fn three_clients_of_one_server<R: Threads + Wait + Clock + Copy + Drop + Send + 'static>(
-    rt: R,
-    alloc: Global,
-) -> Result<bool, Fail> {
-    let sign = Arc::new(alloc, AtomicBool::new(false))?;
-    let first = Server::new(alloc, sound("a:11211", "a"), 0)?;
-    let first = first.waiting_for(Arc::try_clone(&sign)?);
-    let second = Server::new(alloc, sound("b:11211", "b"), 0)?;
-    let scene = Scene::new(rt, alloc)?
-        .with_server(first)?
-        .with_server(second)?
-        .with_client(bytes(alloc, "get b\r\n")?, Some(Arc::try_clone(&sign)?))?
-        .with_client(bytes(alloc, "get a\r\nget a a\r\n")?, None)?
-        .with_client(bytes(alloc, "set a 0 0 1\r\nx\r\nget a\r\n")?, None)?
-        .with_client(bytes(alloc, "get a\r\n")?, None)?;
-    let (report, seen) = play(rt, alloc, TWO, scene)?;
-    let twice = "VALUE a 0 1\r\nx\r\nEND\r\nVALUE a 0 1\r\nx\r\nVALUE a 0 1\r\nx\r\nEND\r\n";
-    Ok(
-        matches!(report, Ok(report) if is_report(report, 7))
-            && seen.is_answered(3, HIT_A)
-            && seen.is_answered(2, "STORED\r\nVALUE a 0 1\r\nx\r\nEND\r\n")
-            && seen.is_answered(1, twice)
-            && seen.legs(0) == 6,
-    )
-}
-
-#[test]
-fn sessions_wait_for_a_busy_server_in_turn(rt: HostRuntime) -> Result<(), Fail> {
-    assert!(rt; three_clients_of_one_server(rt, rt.alloc())?);
-    Ok(())
-}
-
 /// Deletes to both of two servers.
 const BOTH: &str =
     "{\"pools\":{\"A\":{\"servers\":[\"a:11211\"]},\"B\":{\"servers\":[\"b:11211\"]}},\"route\":{\"type\":\"AllSyncRoute\",\"children\":[\"PoolRoute|A\",\"PoolRoute|B\"]}}";
-
-/// A delete to two servers, of which each answers only once the leg to the other one is under way.
-fn delete_at_once<R: Threads + Wait + Clock + Copy + Drop + Send + 'static>(
-    rt: R,
-    alloc: Global,
-) -> Result<bool, Fail> {
-    let first_sign = Arc::new(alloc, AtomicBool::new(false))?;
-    let second_sign = Arc::new(alloc, AtomicBool::new(false))?;
-    let first = Server::new(alloc, sound("a:11211", ""), 0)?;
-    let first = first.waiting_for(Arc::try_clone(&second_sign)?);
-    let second = Server::new(alloc, sound("b:11211", ""), 0)?;
-    let second = second.waiting_for(Arc::try_clone(&first_sign)?);
-    let scene = Scene::new(rt, alloc)?
-        .with_server(first.starting(first_sign))?
-        .with_server(second.starting(second_sign))?
-        .with_client(bytes(alloc, "delete a\r\n")?, None)?;
-    let (report, seen) = play(rt, alloc, BOTH, scene)?;
-    Ok(
-        matches!(report, Ok(report) if is_report(report, 1))
-            && seen.is_answered(0, "DELETED\r\n")
-            && was_sent(rt, &seen, 0, "delete a\r\n")
-            && was_sent(rt, &seen, 1, "delete a\r\n"),
-    )
-}
-
-#[test]
-fn legs_of_one_call_are_under_way_at_once(rt: HostRuntime) -> Result<(), Fail> {
-    assert!(rt; delete_at_once(rt, rt.alloc())?);
-    Ok(())
-}
 
 /// Deletes to both of two servers, gets to the second.
 const SECOND: &str =
@@ -338,157 +36,591 @@ const SECOND: &str =
 const SECOND_FIRST: &str =
     "{\"pools\":{\"A\":{\"servers\":[\"a:11211\"]},\"B\":{\"servers\":[\"b:11211\"]}},\"route\":{\"type\":\"OperationSelectorRoute\",\"operation_policies\":{\"delete\":{\"type\":\"AllSyncRoute\",\"children\":[\"PoolRoute|B\",\"PoolRoute|A\"]}},\"default_policy\":\"PoolRoute|B\"}}";
 
-/// A delete to both servers, of which the first answers only once a client of the second, which came later, has its answer.
-fn slow_beside_quick<R: Threads + Wait + Clock + Copy + Drop + Send + 'static>(
-    rt: R,
-    alloc: Global,
-    config: &str,
-) -> Result<bool, Fail> {
-    let is_slow = Arc::new(alloc, AtomicBool::new(false))?;
-    let is_answered = Arc::new(alloc, AtomicBool::new(false))?;
-    let first = Server::new(alloc, sound("a:11211", ""), 0)?;
-    let first = first.waiting_for(Arc::try_clone(&is_answered)?);
-    let second = Server::new(alloc, sound("b:11211", "b"), 0)?;
-    let scene = Scene::new(rt, alloc)?
-        .with_server(first.starting(Arc::try_clone(&is_slow)?))?
-        .with_server(second)?
-        .with_client(bytes(alloc, "get b\r\n")?, Some(is_answered))?
-        .coming_with(is_slow)
-        .with_client(bytes(alloc, "delete a\r\n")?, None)?;
-    let (report, seen) = play(rt, alloc, config, scene)?;
-    Ok(
-        matches!(report, Ok(report) if is_report(report, 2))
-            && seen.is_answered(1, "DELETED\r\n")
-            && seen.is_answered(0, "VALUE b 0 1\r\nx\r\nEND\r\n"),
-    )
-}
-
-#[test]
-fn a_slow_server_holds_up_no_other_one(rt: HostRuntime) -> Result<(), Fail> {
-    assert!(rt; slow_beside_quick(rt, rt.alloc(), SECOND)?);
-    assert!(rt; slow_beside_quick(rt, rt.alloc(), SECOND_FIRST)?);
-    Ok(())
-}
-
 /// Sets to the first server at once and to the second without a reply.
 const INITIAL: &str =
     "{\"pools\":{\"A\":{\"servers\":[\"a:11211\"]},\"B\":{\"servers\":[\"b:11211\"]}},\"route\":{\"type\":\"AllInitialRoute\",\"children\":[\"PoolRoute|A\",\"PoolRoute|B\"]}}";
 
-#[test]
-fn legs_without_a_reply_are_sent_too(rt: HostRuntime) -> Result<(), Fail> {
-    let alloc = rt.alloc();
-    let manners = [sound("a:11211", "a"), sound("b:11211", "a")];
-    let asks = "set a 0 0 1\r\nx\r\nset b 0 0 1\r\nx\r\ndelete c\r\n";
-    let answer = "STORED\r\nSTORED\r\nDELETED\r\n";
-    assert!(rt; one_client(rt, alloc, INITIAL, &manners, asks, answer, 3, &[3, 3])?);
-    Ok(())
+/// The first server, which has no value.
+const A: Manner = Manner {
+    text: "a:11211",
+    has: "",
+    breaks_every: 0,
+    in_a_row: 1,
+    answers_probes: true,
+};
+
+/// The first server, which has a value of `a`.
+const A_HAS_A: Manner = Manner {
+    text: "a:11211",
+    has: "a",
+    breaks_every: 0,
+    in_a_row: 1,
+    answers_probes: true,
+};
+
+/// The first server, which breaks each leg and answers no probe.
+const A_IS_DEAD: Manner = Manner {
+    text: "a:11211",
+    has: "",
+    breaks_every: 1,
+    in_a_row: 1,
+    answers_probes: false,
+};
+
+/// The first server, which breaks each leg and answers probes.
+const A_IS_BROKEN: Manner = Manner {
+    text: "a:11211",
+    has: "",
+    breaks_every: 1,
+    in_a_row: 1,
+    answers_probes: true,
+};
+
+/// The second server, which has no value.
+const B: Manner = Manner {
+    text: "b:11211",
+    has: "",
+    breaks_every: 0,
+    in_a_row: 1,
+    answers_probes: true,
+};
+
+/// The second server, which has a value of `a`.
+const B_HAS_A: Manner = Manner {
+    text: "b:11211",
+    has: "a",
+    breaks_every: 0,
+    in_a_row: 1,
+    answers_probes: true,
+};
+
+/// The second server, which has a value of `b`.
+const B_HAS_B: Manner = Manner {
+    text: "b:11211",
+    has: "b",
+    breaks_every: 0,
+    in_a_row: 1,
+    answers_probes: true,
+};
+
+const WAITS_FOR_0: Duties = Duties {
+    waits_for: Some(0),
+    sets: None,
+    starts: None,
+    unmarks: None,
+};
+
+const STARTS_0_WAITS_FOR_1: Duties = Duties {
+    waits_for: Some(1),
+    sets: None,
+    starts: Some(0),
+    unmarks: None,
+};
+
+const STARTS_1_WAITS_FOR_0: Duties = Duties {
+    waits_for: Some(0),
+    sets: None,
+    starts: Some(1),
+    unmarks: None,
+};
+
+const DELETE_SETS_0: Duties = Duties {
+    waits_for: None,
+    sets: Some(0),
+    starts: None,
+    unmarks: None,
+};
+
+const UNMARKS_0: Duties = Duties {
+    waits_for: None,
+    sets: None,
+    starts: None,
+    unmarks: Some(0),
+};
+
+const SETS_0: Cues = Cues {
+    sets: Some(0),
+    comes_with: None,
+    waits_for: None,
+};
+
+const COMES_WITH_0: Cues = Cues {
+    sets: None,
+    comes_with: Some(0),
+    waits_for: None,
+};
+
+const COMES_WITH_0_SETS_1: Cues = Cues {
+    sets: Some(1),
+    comes_with: Some(0),
+    waits_for: None,
+};
+
+const GOES_WITH_0: Cues = Cues {
+    sets: None,
+    comes_with: None,
+    waits_for: Some(0),
+};
+
+const HIT_A: &str = "VALUE a 0 1\r\nx\r\nEND\r\n";
+
+const HIT_B: &str = "VALUE b 0 1\r\nx\r\nEND\r\n";
+
+/// What is played, and what is seen of it. Each of the signs is set in the end.
+#[derive(Clone, Copy)]
+struct Row {
+    config: &'static str,
+    signs: usize,
+    servers: &'static [(Manner, Duties)],
+    /// What they ask; the last one comes first.
+    clients: &'static [(&'static str, Cues)],
+    /// How many calls there are.
+    calls: u64,
+    answers: &'static [&'static str],
+    /// How many legs the servers are sent.
+    legs: &'static [u64],
+    /// What the first servers are sent.
+    texts: &'static [&'static str],
 }
 
-#[test]
-fn a_refused_key_is_the_whole_answer(rt: HostRuntime) -> Result<(), Fail> {
-    let alloc = rt.alloc();
-    let manners = [sound("a:11211", "a")];
-    let asks = "get a /x/y/z\r\nget a\r\n";
-    let answer = "SERVER_ERROR no route\r\nVALUE a 0 1\r\nx\r\nEND\r\n";
-    assert!(rt; one_client(rt, alloc, ONE, &manners, asks, answer, 2, &[2])?);
-    Ok(())
-}
-
-#[test]
-fn nothing_is_written_where_no_reply_is_wanted(rt: HostRuntime) -> Result<(), Fail> {
-    let alloc = rt.alloc();
-    let manners = [sound("a:11211", "a")];
-    let asks = "delete a noreply\r\nset b 0 0 1 noreply\r\nx\r\nversion\r\n";
-    assert!(rt; one_client(rt, alloc, ONE, &manners, asks, "VERSION mcv 1\r\n", 2, &[2])?);
-    Ok(())
-}
-
-/// How many bytes the disk has.
-fn disk_size<R: Wait + Clock + Copy + Drop + Send + 'static>(rt: R, seen: &Scene<R>) -> usize {
-    seen.disk.lock(&rt).len()
-}
-
-/// The byte of the first slot that says whether its record is done.
-fn first_is_done<R: Wait + Clock + Copy + Drop + Send + 'static>(rt: R, seen: &Scene<R>) -> bool {
-    seen.disk.lock(&rt).get(1) == Some(&1)
-}
-
-/// A delete of a broken server is answered and stays in the spool; a proxy that is started on its disk sends it again.
-fn delete_across_two_runs<R: Threads + Wait + Clock + Copy + Drop + Send + 'static>(
-    rt: R,
-    alloc: Global,
-) -> Result<bool, Fail> {
-    let scene = Scene::new(rt, alloc)?
-        .with_server(Server::new(alloc, broken("a:11211", false), 0)?)?
-        .with_client(bytes(alloc, "delete a\r\n")?, None)?;
-    let (report, seen) = play(rt, alloc, ONE, scene)?;
-    let is_kept = matches!(report, Ok(report) if is_report(report, 1))
-        && seen.is_answered(0, "NOT_FOUND\r\n")
-        && disk_size(rt, &seen) == 641
-        && !first_is_done(rt, &seen);
-    let sign = Arc::new(alloc, AtomicBool::new(false))?;
-    let server = Server::new(alloc, sound("a:11211", ""), 0)?;
-    let mut scene = Scene::new(rt, alloc)?
-        .with_server(server.setting(Arc::try_clone(&sign)?))?
-        .with_client(bytes(alloc, "")?, None)?
-        .held_by(Arc::try_clone(&sign)?);
-    scene.disk = Arc::try_clone(&seen.disk)?;
-    let (report, seen) = play(rt, alloc, ONE, scene)?;
-    Ok(
-        is_kept
-            && matches!(report, Ok(report) if is_report(report, 0))
-            && sign.load(Ordering::SeqCst)
-            && was_sent(rt, &seen, 0, "delete a\r\n")
-            && first_is_done(rt, &seen),
-    )
-}
-
-#[test]
-fn a_spooled_delete_is_sent_again_after_a_stop(rt: HostRuntime) -> Result<(), Fail> {
-    assert!(rt; delete_across_two_runs(rt, rt.alloc())?);
-    Ok(())
-}
-
-/// What the client of a broken server is answered where the disk fails at a write, and how long the file is then.
-fn delete_with_a_failing_disk<R: Threads + Wait + Clock + Copy + Drop + Send + 'static>(
-    rt: R,
-    alloc: Global,
-    writes_left: u64,
-    answer: &str,
-) -> Result<Option<usize>, Fail> {
-    let mut scene = Scene::new(rt, alloc)?
-        .with_server(Server::new(alloc, broken("a:11211", false), 0)?)?
-        .with_client(bytes(alloc, "delete a\r\nversion\r\n")?, None)?;
-    scene.writes_left = Some(writes_left);
-    let (report, seen) = play(rt, alloc, ONE, scene)?;
-    if !seen.is_answered(0, answer) || !matches!(report, Ok(report) if is_report(report, 1)) {
-        return Ok(None);
+fn is_report(report: &Result<Report, ProxyFault>, calls: u64) -> bool {
+    match report {
+        Ok(report) => report.begun == calls && report.taken == calls && report.older == 0,
+        Err(_) => false,
     }
-    Ok(Some(disk_size(rt, &seen)))
+}
+
+fn scene_of<R: Wait + Clock + Abort + Copy + Drop + Send + 'static>(
+    rt: R,
+    alloc: Global,
+    row: &Row,
+) -> Scene<R> {
+    let mut scene = Scene::new(rt, alloc, row.signs);
+    for (manner, duties) in row.servers {
+        scene.add_server(*manner, *duties, 0);
+    }
+    for (asks, cues) in row.clients {
+        scene.add_client(bytes(&rt, alloc, *asks), *cues);
+    }
+    scene
+}
+
+fn check_answers<R: Wait + Clock + Abort + Copy + Drop + Send + 'static>(
+    rt: R,
+    seen: &Scene<R>,
+    answers: &[&str],
+) {
+    for (client, answer) in answers.iter().enumerate() {
+        assert!(rt; seen.is_answered(client, *answer), "client {client}");
+    }
+}
+
+fn check_legs<R: Wait + Clock + Abort + Copy + Drop + Send + 'static>(
+    rt: R,
+    seen: &Scene<R>,
+    legs: &[u64],
+) {
+    for (server, count) in legs.iter().enumerate() {
+        let found = seen.legs(server);
+        assert!(rt;
+            found == *count,
+            "{found} legs to server {server}, not {count}"
+        );
+    }
+}
+
+fn check_texts<R: Wait + Clock + Abort + Copy + Drop + Send + 'static>(
+    rt: R,
+    seen: &Scene<R>,
+    texts: &[&str],
+) {
+    for (server, text) in texts.iter().enumerate() {
+        assert!(rt; seen.was_sent(server, *text), "server {server}");
+    }
+}
+
+/// Plays the scene of a row. Gives what is to be looked at.
+fn check_scene<R: Threads + Wait + Clock + Abort + Copy + Drop + Send + 'static>(
+    rt: R,
+    alloc: Global,
+    row: &Row,
+    scene: Scene<R>,
+) -> Scene<R> {
+    let (report, seen) = play(rt, alloc, row.config, scene);
+    assert!(rt; is_report(&report, row.calls), "{report:?}");
+    check_answers(rt, &seen, row.answers);
+    check_legs(rt, &seen, row.legs);
+    check_texts(rt, &seen, row.texts);
+    assert!(rt; seen.are_signs_set(), "a sign isn't set");
+    seen
+}
+
+fn check_row<R: Threads + Wait + Clock + Abort + Copy + Drop + Send + 'static>(
+    rt: R,
+    alloc: Global,
+    row: &Row,
+) {
+    let _seen = check_scene(rt, alloc, row, scene_of(rt, alloc, row));
+}
+
+const NO_CLIENT: Row = Row {
+    config: ONE,
+    signs: 0,
+    servers: &[(A_HAS_A, NO_DUTIES)],
+    clients: &[],
+    calls: 0,
+    answers: &[],
+    legs: &[0],
+    texts: &[],
+};
+
+#[test]
+fn no_client_comes(rt: HostRuntime) {
+    check_row(rt, rt.alloc(), &NO_CLIENT);
+}
+
+const GET: Row = Row {
+    config: ONE,
+    signs: 0,
+    servers: &[(A_HAS_A, NO_DUTIES)],
+    clients: &[("get a\r\n", NO_CUES)],
+    calls: 1,
+    answers: &[HIT_A],
+    legs: &[1],
+    texts: &[],
+};
+
+#[test]
+fn a_get_is_answered(rt: HostRuntime) {
+    check_row(rt, rt.alloc(), &GET);
+}
+
+/// The second client is answered before the server of the first one answers.
+const TWO_CLIENTS: Row = Row {
+    config: TWO,
+    signs: 1,
+    servers: &[(A_HAS_A, WAITS_FOR_0), (B_HAS_B, NO_DUTIES)],
+    clients: &[("get b\r\n", SETS_0), ("get a\r\n", NO_CUES)],
+    calls: 2,
+    answers: &[HIT_B, HIT_A],
+    legs: &[1, 1],
+    texts: &[],
+};
+
+#[test]
+fn two_sessions_go_on_at_once(rt: HostRuntime) {
+    check_row(rt, rt.alloc(), &TWO_CLIENTS);
+}
+
+const WARM_UP_SESSION: Row = Row {
+    config: WARM_UP,
+    signs: 0,
+    servers: &[(A_HAS_A, NO_DUTIES), (B, NO_DUTIES)],
+    clients: &[(
+        "get a b\r\nversion\r\nset /././k 05 0 1\r\nx\r\nquit\r\nget a\r\n",
+        NO_CUES,
+    )],
+    calls: 3,
+    answers: &["VALUE a 0 1\r\nx\r\nEND\r\nVERSION mcv 1\r\nSTORED\r\n"],
+    legs: &[3, 1],
+    texts: &["get a\r\nget b\r\nset k 5 0 1\r\nx\r\n", "get b\r\n"],
+};
+
+#[test]
+fn a_session_over_a_warm_up(rt: HostRuntime) {
+    check_row(rt, rt.alloc(), &WARM_UP_SESSION);
+}
+
+const SECOND_ANSWERS: Row = Row {
+    config: FAILOVER,
+    signs: 0,
+    servers: &[(A_IS_DEAD, NO_DUTIES), (B_HAS_A, NO_DUTIES)],
+    clients: &[("get a\r\n", NO_CUES)],
+    calls: 1,
+    answers: &[HIT_A],
+    legs: &[1, 1],
+    texts: &[],
+};
+
+#[test]
+fn the_second_server_answers_for_a_broken_one(rt: HostRuntime) {
+    check_row(rt, rt.alloc(), &SECOND_ANSWERS);
+}
+
+const FAILED: &str = "SERVER_ERROR destination failed\r\n";
+
+const FOUR_FAILED: &str =
+    "SERVER_ERROR destination failed\r\nSERVER_ERROR destination failed\r\nSERVER_ERROR destination failed\r\nSERVER_ERROR destination failed\r\n";
+
+const FIVE_FAILED: &str =
+    "SERVER_ERROR destination failed\r\nSERVER_ERROR destination failed\r\nSERVER_ERROR destination failed\r\nSERVER_ERROR destination failed\r\nSERVER_ERROR destination failed\r\n";
+
+/// A server that breaks each leg and doesn't answer probes is sent three of five.
+const DEAD: Row = Row {
+    config: ONE,
+    signs: 0,
+    servers: &[(A_IS_DEAD, NO_DUTIES)],
+    clients: &[("get a\r\nget a\r\nget a\r\nget a\r\nget a\r\n", NO_CUES)],
+    calls: 5,
+    answers: &[FIVE_FAILED],
+    legs: &[3],
+    texts: &[],
+};
+
+/// A server that breaks each leg and answers probes is sent three of four, and once its mark is taken away the next one.
+const PROBED: Row = Row {
+    config: ONE,
+    signs: 1,
+    servers: &[(A_IS_BROKEN, UNMARKS_0)],
+    clients: &[
+        ("get a\r\n", COMES_WITH_0),
+        ("get a\r\nget a\r\nget a\r\nget a\r\n", NO_CUES),
+    ],
+    calls: 5,
+    answers: &[FAILED, FOUR_FAILED],
+    legs: &[4],
+    texts: &[],
+};
+
+#[test]
+fn a_marked_server_is_sent_nothing_until_it_answers_a_probe(rt: HostRuntime) {
+    check_row(rt, rt.alloc(), &DEAD);
+    check_row(rt, rt.alloc(), &PROBED);
+}
+
+/// Three clients of one server, which answers the first only once a client of another server has its answer: the legs of the
+/// two others wait until then.
+const BUSY: Row = Row {
+    config: TWO,
+    signs: 1,
+    servers: &[(A_HAS_A, WAITS_FOR_0), (B_HAS_B, NO_DUTIES)],
+    clients: &[
+        ("get b\r\n", SETS_0),
+        ("get a\r\nget a a\r\n", NO_CUES),
+        ("set a 0 0 1\r\nx\r\nget a\r\n", NO_CUES),
+        ("get a\r\n", NO_CUES),
+    ],
+    calls: 7,
+    answers: &[
+        HIT_B,
+        "VALUE a 0 1\r\nx\r\nEND\r\nVALUE a 0 1\r\nx\r\nVALUE a 0 1\r\nx\r\nEND\r\n",
+        "STORED\r\nVALUE a 0 1\r\nx\r\nEND\r\n",
+        HIT_A,
+    ],
+    legs: &[6],
+    texts: &[],
+};
+
+#[test]
+fn sessions_wait_for_a_busy_server_in_turn(rt: HostRuntime) {
+    check_row(rt, rt.alloc(), &BUSY);
+}
+
+/// Each of two servers answers a delete only once the leg to the other one is under way.
+const AT_ONCE: Row = Row {
+    config: BOTH,
+    signs: 2,
+    servers: &[(A, STARTS_0_WAITS_FOR_1), (B, STARTS_1_WAITS_FOR_0)],
+    clients: &[("delete a\r\n", NO_CUES)],
+    calls: 1,
+    answers: &["DELETED\r\n"],
+    legs: &[1, 1],
+    texts: &["delete a\r\n", "delete a\r\n"],
+};
+
+#[test]
+fn legs_of_one_call_are_under_way_at_once(rt: HostRuntime) {
+    check_row(rt, rt.alloc(), &AT_ONCE);
+}
+
+/// The first of two servers answers a delete only once a client of the second, which came later, has its answer.
+const SLOW: Row = Row {
+    config: SECOND,
+    signs: 2,
+    servers: &[(A, STARTS_0_WAITS_FOR_1), (B_HAS_B, NO_DUTIES)],
+    clients: &[
+        ("get b\r\n", COMES_WITH_0_SETS_1),
+        ("delete a\r\n", NO_CUES),
+    ],
+    calls: 2,
+    answers: &[HIT_B, "DELETED\r\n"],
+    legs: &[1, 2],
+    texts: &[],
+};
+
+const SLOW_AFTER: Row = Row {
+    config: SECOND_FIRST,
+    signs: 2,
+    servers: &[(A, STARTS_0_WAITS_FOR_1), (B_HAS_B, NO_DUTIES)],
+    clients: &[
+        ("get b\r\n", COMES_WITH_0_SETS_1),
+        ("delete a\r\n", NO_CUES),
+    ],
+    calls: 2,
+    answers: &[HIT_B, "DELETED\r\n"],
+    legs: &[1, 2],
+    texts: &[],
+};
+
+#[test]
+fn a_slow_server_holds_up_no_other_one(rt: HostRuntime) {
+    check_row(rt, rt.alloc(), &SLOW);
+    check_row(rt, rt.alloc(), &SLOW_AFTER);
+}
+
+const WITHOUT_A_REPLY: Row = Row {
+    config: INITIAL,
+    signs: 0,
+    servers: &[(A_HAS_A, NO_DUTIES), (B_HAS_A, NO_DUTIES)],
+    clients: &[(
+        "set a 0 0 1\r\nx\r\nset b 0 0 1\r\nx\r\ndelete c\r\n",
+        NO_CUES,
+    )],
+    calls: 3,
+    answers: &["STORED\r\nSTORED\r\nDELETED\r\n"],
+    legs: &[3, 3],
+    texts: &[],
+};
+
+#[test]
+fn legs_without_a_reply_are_sent_too(rt: HostRuntime) {
+    check_row(rt, rt.alloc(), &WITHOUT_A_REPLY);
+}
+
+const REFUSED_KEY: Row = Row {
+    config: ONE,
+    signs: 0,
+    servers: &[(A_HAS_A, NO_DUTIES)],
+    clients: &[("get a /x/y/z\r\nget a\r\n", NO_CUES)],
+    calls: 2,
+    answers: &["SERVER_ERROR no route\r\nVALUE a 0 1\r\nx\r\nEND\r\n"],
+    legs: &[2],
+    texts: &[],
+};
+
+#[test]
+fn a_refused_key_is_the_whole_answer(rt: HostRuntime) {
+    check_row(rt, rt.alloc(), &REFUSED_KEY);
+}
+
+const NO_REPLY_WANTED: Row = Row {
+    config: ONE,
+    signs: 0,
+    servers: &[(A_HAS_A, NO_DUTIES)],
+    clients: &[(
+        "delete a noreply\r\nset b 0 0 1 noreply\r\nx\r\nversion\r\n",
+        NO_CUES,
+    )],
+    calls: 2,
+    answers: &["VERSION mcv 1\r\n"],
+    legs: &[2],
+    texts: &[],
+};
+
+#[test]
+fn nothing_is_written_where_no_reply_is_wanted(rt: HostRuntime) {
+    check_row(rt, rt.alloc(), &NO_REPLY_WANTED);
+}
+
+/// A delete of a broken server is answered and stays in the spool.
+const SPOOLED: Row = Row {
+    config: ONE,
+    signs: 0,
+    servers: &[(A_IS_DEAD, NO_DUTIES)],
+    clients: &[("delete a\r\n", NO_CUES)],
+    calls: 1,
+    answers: &["NOT_FOUND\r\n"],
+    legs: &[],
+    texts: &[],
+};
+
+/// A proxy that is started on its disk sends it again.
+const SENT_AGAIN: Row = Row {
+    config: ONE,
+    signs: 1,
+    servers: &[(A, DELETE_SETS_0)],
+    clients: &[("", GOES_WITH_0)],
+    calls: 0,
+    answers: &[""],
+    legs: &[1],
+    texts: &["delete a\r\n"],
+};
+
+/// Runs a proxy on the disk of an earlier one.
+fn run_again<R: Threads + Wait + Clock + Abort + Copy + Drop + Send + 'static>(
+    rt: R,
+    alloc: Global,
+    earlier: &Scene<R>,
+) -> Scene<R> {
+    let mut scene = scene_of(rt, alloc, &SENT_AGAIN);
+    scene.share_disk(earlier);
+    check_scene(rt, alloc, &SENT_AGAIN, scene)
+}
+
+fn check_two_runs<R: Threads + Wait + Clock + Abort + Copy + Drop + Send + 'static>(
+    rt: R,
+    alloc: Global,
+) {
+    let first = check_scene(rt, alloc, &SPOOLED, scene_of(rt, alloc, &SPOOLED));
+    assert!(rt;
+        first.disk_size() == 641 && !first.is_first_done(),
+        "not in the spool"
+    );
+    let second = run_again(rt, alloc, &first);
+    assert!(rt; second.is_first_done(), "still in the spool");
 }
 
 #[test]
-fn a_refused_record_is_an_error_and_is_written_later(rt: HostRuntime) -> Result<(), Fail> {
-    let alloc = rt.alloc();
-    let refused = "SERVER_ERROR destination failed\r\nVERSION mcv 1\r\n";
-    let kept = "NOT_FOUND\r\nVERSION mcv 1\r\n";
+fn a_spooled_delete_is_sent_again_after_a_stop(rt: HostRuntime) {
+    check_two_runs(rt, rt.alloc());
+}
+
+const REFUSED: Row = Row {
+    config: ONE,
+    signs: 0,
+    servers: &[(A_IS_DEAD, NO_DUTIES)],
+    clients: &[("delete a\r\nversion\r\n", NO_CUES)],
+    calls: 1,
+    answers: &["SERVER_ERROR destination failed\r\nVERSION mcv 1\r\n"],
+    legs: &[],
+    texts: &[],
+};
+
+const KEPT: Row = Row {
+    config: ONE,
+    signs: 0,
+    servers: &[(A_IS_DEAD, NO_DUTIES)],
+    clients: &[("delete a\r\nversion\r\n", NO_CUES)],
+    calls: 1,
+    answers: &["NOT_FOUND\r\nVERSION mcv 1\r\n"],
+    legs: &[],
+    texts: &[],
+};
+
+/// Plays a row where the disk fails at a write. How long the file is then.
+fn size_behind<R: Threads + Wait + Clock + Abort + Copy + Drop + Send + 'static>(
+    rt: R,
+    alloc: Global,
+    row: &Row,
+    writes_left: u64,
+) -> usize {
+    let mut scene = scene_of(rt, alloc, row);
+    scene.writes_left = Some(writes_left);
+    check_scene(rt, alloc, row, scene).disk_size()
+}
+
+#[test]
+fn a_refused_record_is_an_error_and_is_written_later(rt: HostRuntime) {
     // The first write is that of the file's gate, in `open`.
-    let size = delete_with_a_failing_disk(rt, alloc, 1, refused)?;
-    assert!(rt; matches!(size, Some(1) | Some(641)));
-    assert!(rt; delete_with_a_failing_disk(rt, alloc, 100, kept)? == Some(641));
-    Ok(())
+    let size = size_behind(rt, rt.alloc(), &REFUSED, 1);
+    assert!(rt; size == 1 || size == 641, "{size} bytes");
+    assert_eq!(rt; size_behind(rt, rt.alloc(), &KEPT, 100), 641);
 }
 
 #[test]
-fn a_disk_that_fails_at_once_ends_the_proxy(rt: HostRuntime) -> Result<(), Fail> {
-    let alloc = rt.alloc();
-    let mut scene = Scene::new(rt, alloc)?.with_server(Server::new(
-        alloc,
-        sound("a:11211", "a"),
-        0,
-    )?)?;
+fn a_disk_that_fails_at_once_ends_the_proxy(rt: HostRuntime) {
+    let mut scene = scene_of(rt, rt.alloc(), &NO_CLIENT);
     scene.writes_left = Some(0);
-    let (report, _seen) = play(rt, alloc, ONE, scene)?;
-    assert!(rt; report == Err(ProxyFault::Device));
-    Ok(())
+    let (report, _seen) = play(rt, rt.alloc(), ONE, scene);
+    assert!(rt; report == Err(ProxyFault::Device), "{report:?}");
 }

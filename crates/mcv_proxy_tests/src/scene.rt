@@ -2,35 +2,27 @@
 
 use crate::disk::MemoryDisk;
 use mcv_base::{LegRequest, Moment, Op, Reply};
-use mcv_check::{Accepted, check};
-use mcv_config::read_config;
+use mcv_check::Accepted;
 use mcv_hub::{Pass, Report};
-use mcv_make::make;
 use mcv_proxy::{Gates, Link, LinkFault, ProxyFault, Watch, start};
-use mcv_route::Routes;
 use mcv_text::leg_text;
+use mcv_verdict::{Judgement, judge_input};
 use std::alloc::{AllocError, Global};
 use std::io::{Read, Write};
+use std::process::Abort;
 use std::rt::Clock;
 use std::sync::atomic::{AtomicBool, AtomicU64, Ordering};
 use std::sync::{Arc, Mutex, Wait};
-use std::test::Fail;
 use std::thread::Threads;
 use std::time::Duration;
 use std::{io, thread};
 
-/// What the checker makes of a configuration.
-pub(crate) fn accepted_of(alloc: Global, text: &str) -> Result<Arc<Accepted>, Fail> {
-    let Ok(config) = read_config(alloc, text.as_bytes()) else {
-        return Err(Fail::from("the text is refused"));
-    };
-    let routes = Routes::build(alloc, config)?;
-    let Ok(certificate) = make(alloc, &routes) else {
-        return Err(Fail::from("the routes aren't covered"));
-    };
-    match check(alloc, routes, &certificate) {
-        Ok(accepted) => Ok(Arc::new(alloc, accepted)?),
-        Err(_) => Err(Fail::from("the certificate is refused")),
+/// What the checker accepts of a configuration.
+pub(crate) fn accepted_of<R: Abort>(rt: &R, alloc: Global, text: &str) -> Arc<Accepted> {
+    let judgement = judge_input(alloc, &mut text.as_bytes());
+    match judgement.expect(rt, "a configuration") {
+        Judgement::Covered { accepted, .. } => Arc::new(alloc, accepted).expect(rt, "memory"),
+        Judgement::Lost { .. } => panic!(rt; "the routes aren't covered"),
     }
 }
 
@@ -46,6 +38,45 @@ pub(crate) struct Manner {
     pub(crate) in_a_row: u64,
     pub(crate) answers_probes: bool,
 }
+
+/// What a server does with the signs of a scene, by their numbers.
+#[derive(Clone, Copy)]
+pub(crate) struct Duties {
+    /// It answers only once this is set.
+    pub(crate) waits_for: Option<usize>,
+    /// It sets this once it has performed a delete.
+    pub(crate) sets: Option<usize>,
+    /// It sets this once a leg to it is under way.
+    pub(crate) starts: Option<usize>,
+    /// It sets this once it isn't marked any more.
+    pub(crate) unmarks: Option<usize>,
+}
+
+/// A server that looks at no sign.
+pub(crate) const NO_DUTIES: Duties = Duties {
+    waits_for: None,
+    sets: None,
+    starts: None,
+    unmarks: None,
+};
+
+/// What a client does with the signs of a scene.
+#[derive(Clone, Copy)]
+pub(crate) struct Cues {
+    /// Each write to it sets this.
+    pub(crate) sets: Option<usize>,
+    /// It sends its first byte only once this is set.
+    pub(crate) comes_with: Option<usize>,
+    /// It goes only once this is set.
+    pub(crate) waits_for: Option<usize>,
+}
+
+/// A client that looks at no sign.
+pub(crate) const NO_CUES: Cues = Cues {
+    sets: None,
+    comes_with: None,
+    waits_for: None,
+};
 
 /// What a server noted: the texts of the legs that it was sent, and how often it performed the delete of each number.
 #[derive(Drop)]
@@ -71,48 +102,6 @@ pub(crate) struct Server {
 }
 
 impl Server {
-    /// A server that performs the deletes of so many numbers.
-    pub(crate) fn new(alloc: Global, manner: Manner, numbers: usize) -> Result<Server, Fail> {
-        let mut deleted = Vec::new(alloc);
-        deleted.resize(numbers, 0)?;
-        Ok(Server {
-            manner,
-            legs: AtomicU64::new(0),
-            waits_for: None,
-            sets: None,
-            starts: None,
-            unmarks: None,
-            notes: Mutex::new(Notes {
-                text: Vec::new(alloc),
-                deleted,
-            }),
-        })
-    }
-
-    /// The same, which answers only once this is set.
-    pub(crate) fn waiting_for(mut self, sign: Arc<AtomicBool>) -> Server {
-        self.waits_for = Some(sign);
-        self
-    }
-
-    /// The same, which sets this once it has performed a delete.
-    pub(crate) fn setting(mut self, sign: Arc<AtomicBool>) -> Server {
-        self.sets = Some(sign);
-        self
-    }
-
-    /// The same, which sets this once a leg to it is under way.
-    pub(crate) fn starting(mut self, sign: Arc<AtomicBool>) -> Server {
-        self.starts = Some(sign);
-        self
-    }
-
-    /// The same, which sets this once it isn't marked any more.
-    pub(crate) fn unmarking(mut self, sign: Arc<AtomicBool>) -> Server {
-        self.unmarks = Some(sign);
-        self
-    }
-
     /// How many legs it was sent, those among them that broke.
     pub(crate) fn legs(&self) -> u64 {
         self.legs.load(Ordering::SeqCst)
@@ -334,82 +323,154 @@ pub(crate) struct Scene<R: Wait + Clock + Copy + Drop + Send + 'static> {
     clients: Vec<(Client<R>, Output<R>)>,
     pub(crate) answers: Vec<Arc<Mutex<Vec<u8>>>>,
     pub(crate) disk: Arc<Mutex<Vec<u8>>>,
+    signs: Vec<Arc<AtomicBool>>,
     /// How many writes of the disk succeed until one fails.
     pub(crate) writes_left: Option<u64>,
 }
 
-impl<R: Wait + Clock + Copy + Drop + Send + 'static> Scene<R> {
-    /// Nothing, and an empty disk.
-    pub(crate) fn new(rt: R, alloc: Global) -> Result<Scene<R>, Fail> {
-        Ok(Scene {
+/// A list of zeros.
+fn zeros<R: Abort>(rt: &R, alloc: Global, count: usize) -> Vec<u8> {
+    let mut list = Vec::new(alloc);
+    list.resize(count, 0).expect(rt, "memory");
+    list
+}
+
+/// A list of bytes that is shared.
+fn shared_list<R: Abort>(rt: &R, alloc: Global) -> Arc<Mutex<Vec<u8>>> {
+    Arc::new(alloc, Mutex::new(Vec::new(alloc))).expect(rt, "memory")
+}
+
+impl<R: Wait + Clock + Abort + Copy + Drop + Send + 'static> Scene<R> {
+    /// So many signs, and an empty disk.
+    pub(crate) fn new(rt: R, alloc: Global, signs: usize) -> Scene<R> {
+        let mut scene = Scene {
             rt,
             alloc,
             servers: Vec::new(alloc),
             clients: Vec::new(alloc),
             answers: Vec::new(alloc),
-            disk: Arc::new(alloc, Mutex::new(Vec::new(alloc)))?,
+            disk: shared_list(&rt, alloc),
+            signs: Vec::new(alloc),
             writes_left: None,
-        })
+        };
+        for _sign in 0..signs {
+            scene.add_sign();
+        }
+        scene
     }
 
-    /// One more server.
-    pub(crate) fn with_server(mut self, server: Server) -> Result<Scene<R>, Fail> {
-        let server = Arc::new(self.alloc, server)?;
-        self.servers.push(server)?;
-        Ok(self)
+    fn add_sign(&mut self) {
+        let sign = Arc::new(self.alloc, AtomicBool::new(false)).expect(&self.rt, "memory");
+        self.signs.push(sign).expect(&self.rt, "memory");
     }
 
-    /// One more client, which comes before those that are there already.
-    pub(crate) fn with_client(
-        mut self,
-        bytes: Vec<u8>,
-        sign: Option<Arc<AtomicBool>>,
-    ) -> Result<Scene<R>, Fail> {
-        let text = Arc::new(self.alloc, Mutex::new(Vec::new(self.alloc)))?;
-        self.answers.push(Arc::try_clone(&text)?)?;
+    fn sign(&self, number: Option<usize>) -> Option<Arc<AtomicBool>> {
+        let sign = self.signs.get(number?).expect(&self.rt, "a sign");
+        Some(Arc::try_clone(sign).expect(&self.rt, "memory"))
+    }
+
+    /// One more server, which performs the deletes of so many numbers.
+    pub(crate) fn add_server(&mut self, manner: Manner, duties: Duties, numbers: usize) {
+        let server = Server {
+            manner,
+            legs: AtomicU64::new(0),
+            waits_for: self.sign(duties.waits_for),
+            sets: self.sign(duties.sets),
+            starts: self.sign(duties.starts),
+            unmarks: self.sign(duties.unmarks),
+            notes: Mutex::new(Notes {
+                text: Vec::new(self.alloc),
+                deleted: zeros(&self.rt, self.alloc, numbers),
+            }),
+        };
+        let server = Arc::new(self.alloc, server).expect(&self.rt, "memory");
+        self.servers.push(server).expect(&self.rt, "memory");
+    }
+
+    /// One more client, which sends these bytes, and comes before those that are there already.
+    pub(crate) fn add_client(&mut self, bytes: Vec<u8>, cues: Cues) {
+        let text = shared_list(&self.rt, self.alloc);
+        let answer = Arc::try_clone(&text).expect(&self.rt, "memory");
+        self.answers.push(answer).expect(&self.rt, "memory");
         let output = Output {
             rt: self.rt,
             text,
-            sign,
+            sign: self.sign(cues.sets),
         };
         let client = Client {
             rt: self.rt,
             bytes,
             at: 0,
-            comes_with: None,
-            waits_for: None,
+            comes_with: self.sign(cues.comes_with),
+            waits_for: self.sign(cues.waits_for),
         };
-        self.clients.push((client, output))?;
-        Ok(self)
+        self.clients
+            .push((client, output))
+            .expect(&self.rt, "memory");
     }
 
-    /// The same clients, of which the next one goes only once this is set.
-    pub(crate) fn held_by(mut self, sign: Arc<AtomicBool>) -> Scene<R> {
-        if let Some(next) = self.clients.last_mut() {
-            next.0.waits_for = Some(sign);
-        }
-        self
+    fn share_server(&mut self, server: &Arc<Server>) {
+        let server = Arc::try_clone(server).expect(&self.rt, "memory");
+        self.servers.push(server).expect(&self.rt, "memory");
     }
 
-    /// The same clients, of which the next one sends its first byte only once this is set.
-    pub(crate) fn coming_with(mut self, sign: Arc<AtomicBool>) -> Scene<R> {
-        if let Some(next) = self.clients.last_mut() {
-            next.0.comes_with = Some(sign);
-        }
-        self
+    fn share_answer(&mut self, answer: &Arc<Mutex<Vec<u8>>>) {
+        let answer = Arc::try_clone(answer).expect(&self.rt, "memory");
+        self.answers.push(answer).expect(&self.rt, "memory");
     }
 
-    /// The same servers, answers and disk, to be looked at.
-    pub(crate) fn seen(&self) -> Result<Scene<R>, Fail> {
-        let mut seen = Scene::new(self.rt, self.alloc)?;
+    fn share_sign(&mut self, sign: &Arc<AtomicBool>) {
+        let sign = Arc::try_clone(sign).expect(&self.rt, "memory");
+        self.signs.push(sign).expect(&self.rt, "memory");
+    }
+
+    /// Has the disk of another scene.
+    pub(crate) fn share_disk(&mut self, other: &Scene<R>) {
+        self.disk = Arc::try_clone(&other.disk).expect(&self.rt, "memory");
+    }
+
+    /// The same servers, answers, signs and disk, to be looked at.
+    fn seen(&self) -> Scene<R> {
+        let mut seen = Scene::new(self.rt, self.alloc, 0);
         for server in self.servers.iter() {
-            seen.servers.push(Arc::try_clone(server)?)?;
+            seen.share_server(server);
         }
         for answer in self.answers.iter() {
-            seen.answers.push(Arc::try_clone(answer)?)?;
+            seen.share_answer(answer);
         }
-        seen.disk = Arc::try_clone(&self.disk)?;
-        Ok(seen)
+        for sign in self.signs.iter() {
+            seen.share_sign(sign);
+        }
+        seen.share_disk(self);
+        seen
+    }
+
+    /// Whether each sign is set.
+    pub(crate) fn are_signs_set(&self) -> bool {
+        for sign in self.signs.iter() {
+            if !sign.load(Ordering::SeqCst) {
+                return false;
+            }
+        }
+        true
+    }
+
+    /// Whether the server of this number was sent this text.
+    pub(crate) fn was_sent(&self, server: usize, wanted: &str) -> bool {
+        match self.servers.get(server) {
+            Some(server) => { server.notes.lock(&self.rt).text.as_slice() == wanted.as_bytes() }
+            None => false,
+        }
+    }
+
+    /// How many bytes the disk has.
+    pub(crate) fn disk_size(&self) -> usize {
+        self.disk.lock(&self.rt).len()
+    }
+
+    /// The byte of the first slot that says whether its record is done.
+    pub(crate) fn is_first_done(&self) -> bool {
+        self.disk.lock(&self.rt).get(1) == Some(&1)
     }
 
     /// What the client of this number was answered.
@@ -474,19 +535,18 @@ impl<R: Wait + Clock + Copy + Drop + Send + 'static> Gates for Scene<R> {
 }
 
 /// Runs a proxy over the scene, and gives what was counted and what is to be looked at.
-pub(crate) fn play<R: Threads + Wait + Clock + Copy + Drop + Send + 'static>(
+pub(crate) fn play<R: Threads + Wait + Clock + Abort + Copy + Drop + Send + 'static>(
     rt: R,
     alloc: Global,
     config: &str,
     scene: Scene<R>,
-) -> Result<(Result<Report, ProxyFault>, Scene<R>), Fail> {
-    let accepted = accepted_of(alloc, config)?;
-    let seen = scene.seen()?;
-    let report = start(rt, alloc, accepted, scene);
-    Ok((report, seen))
+) -> (Result<Report, ProxyFault>, Scene<R>) {
+    let accepted = accepted_of(&rt, alloc, config);
+    let seen = scene.seen();
+    (start(rt, alloc, accepted, scene), seen)
 }
 
 /// The bytes of a text.
-pub(crate) fn bytes(alloc: Global, text: &str) -> Result<Vec<u8>, Fail> {
-    Ok(Vec::from_slice(alloc, text.as_bytes())?)
+pub(crate) fn bytes<R: Abort>(rt: &R, alloc: Global, text: &str) -> Vec<u8> {
+    Vec::from_slice(alloc, text.as_bytes()).expect(rt, "memory")
 }

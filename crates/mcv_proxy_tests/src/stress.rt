@@ -1,14 +1,14 @@
 //! Many sessions at once over servers that break legs.
 
 use crate::disk::MemoryDisk;
-use crate::scene::{Manner, Scene, Server, number_of, play};
+use crate::scene::{Manner, NO_CUES, NO_DUTIES, Scene, number_of, play};
 use mcv_base::push_number;
 use mcv_hub::Report;
 use mcv_spool::{Slot, Spool};
-use std::alloc::Global;
+use std::alloc::{AllocError, Global};
+use std::process::Abort;
 use std::rt::Clock;
-use std::sync::{Arc, Mutex, Wait};
-use std::test::Fail;
+use std::sync::{Arc, Wait};
 use std::thread::Threads;
 
 /// Deletes go to all four servers, a set to the second and later to the third, a get to the first one that answers.
@@ -45,7 +45,7 @@ fn key_of(request: usize) -> usize {
 }
 
 /// A session's request of this number: four for each key, the first of which is a delete.
-fn push_request(text: &mut Vec<u8>, request: usize) -> Result<(), Fail> {
+fn push_request(text: &mut Vec<u8>, request: usize) -> Result<(), AllocError> {
     let (before, behind) = match request % 4 {
         0 => ("delete k", "\r\n"),
         2 => ("set k", " 0 0 1\r\nx\r\n"),
@@ -53,35 +53,34 @@ fn push_request(text: &mut Vec<u8>, request: usize) -> Result<(), Fail> {
     };
     text.extend_from_slice(before.as_bytes())?;
     push_number(text, key_of(request))?;
-    text.extend_from_slice(behind.as_bytes())?;
-    Ok(())
+    text.extend_from_slice(behind.as_bytes())
 }
 
 /// So many requests of a session.
-fn requests(alloc: Global, count: usize) -> Result<Vec<u8>, Fail> {
+fn requests<R: Abort>(rt: &R, alloc: Global, count: usize) -> Vec<u8> {
     let mut text = Vec::new(alloc);
     for request in 0..count {
-        push_request(&mut text, request)?;
+        push_request(&mut text, request).expect(rt, "memory");
     }
-    Ok(text)
+    text
 }
 
 /// Sessions of so many requests each.
-fn scene_of<R: Wait + Clock + Copy + Drop + Send + 'static>(
+fn scene_of<R: Wait + Clock + Abort + Copy + Drop + Send + 'static>(
     rt: R,
     alloc: Global,
     dead: Option<usize>,
     count: usize,
-) -> Result<Scene<R>, Fail> {
-    let mut scene = Scene::new(rt, alloc)?;
+) -> Scene<R> {
+    let mut scene = Scene::new(rt, alloc, 0);
     for (server, text) in SERVERS.iter().enumerate() {
         let manner = manner_of(server, *text, dead == Some(server));
-        scene = scene.with_server(Server::new(alloc, manner, KEYS)?)?;
+        scene.add_server(manner, NO_DUTIES, KEYS);
     }
     for _session in 0..SESSIONS {
-        scene = scene.with_client(requests(alloc, count)?, None)?;
+        scene.add_client(requests(&rt, alloc, count), NO_CUES);
     }
-    Ok(scene)
+    scene
 }
 
 /// One more at a place of a table.
@@ -100,16 +99,19 @@ fn sum_of(table: &[u8]) -> usize {
 }
 
 /// How often each server performed the delete of each key: a byte for each key, server after server.
-fn performed<R: Wait + Clock + Copy + Drop + Send + 'static>(
+fn performed<R: Wait + Clock + Abort + Copy + Drop + Send + 'static>(
     rt: R,
     alloc: Global,
     seen: &Scene<R>,
-) -> Result<Vec<u8>, Fail> {
+) -> Vec<u8> {
     let mut table = Vec::new(alloc);
     for server in seen.servers.iter() {
-        table.extend_from_slice(server.notes.lock(&rt).deleted.as_slice())?;
+        let notes = server.notes.lock(&rt);
+        table
+            .extend_from_slice(notes.deleted.as_slice())
+            .expect(&rt, "memory");
     }
-    Ok(table)
+    table
 }
 
 /// Where the delete of a key is in a table of all servers; None where there is no such server or key.
@@ -123,30 +125,33 @@ fn place_of(server: &[u8], rest: &[u8]) -> Option<usize> {
     None
 }
 
-/// Counts the deletes that are pending in the spool. How many there are.
-fn count_pending<R: Wait + Clock + Copy + Drop + Send + 'static>(
+/// The spool of the scene's disk.
+fn spool_of<R: Wait + Clock + Abort + Copy + Drop + Send + 'static>(
     rt: R,
     alloc: Global,
     seen: &Scene<R>,
-    table: &mut [u8],
-) -> Result<usize, Fail> {
+) -> Spool<MemoryDisk<R>> {
     let disk = MemoryDisk {
         rt,
-        bytes: Arc::try_clone(&seen.disk)?,
+        bytes: Arc::try_clone(&seen.disk).expect(&rt, "memory"),
         writes_left: None,
     };
-    let Ok(spool) = Spool::open(alloc, disk) else {
-        return Err(Fail::from("the spool is refused"));
-    };
+    Spool::open(alloc, disk).expect(&rt, "a spool")
+}
+
+/// Counts the deletes that are pending in a spool. How many there are.
+fn count_pending<R: Wait + Abort + Drop>(
+    rt: &R,
+    spool: &Spool<MemoryDisk<R>>,
+    table: &mut [u8],
+) -> usize {
     let mut count = 0usize;
     for delete in spool.pending().iter().filter_map(Slot::record) {
         count = count.saturating_add(1);
-        match place_of(delete.server.as_bytes(), delete.rest.as_bytes()) {
-            Some(place) => count_at(table, place),
-            None => return Err(Fail::from("a record of another server or key")),
-        }
+        let place = place_of(delete.server.as_bytes(), delete.rest.as_bytes());
+        count_at(table, place.expect(rt, "a record of a server and key"));
     }
-    Ok(count)
+    count
 }
 
 /// Whether a line acknowledges a delete.
@@ -206,50 +211,58 @@ struct Seen {
     lacking: usize,
 }
 
-fn look<R: Wait + Clock + Copy + Drop + Send + 'static>(
+/// What sessions were answered: the lines, those that refuse a request, and the deletes of each key that were acknowledged.
+fn count_answers<R: Wait + Clock + Abort + Copy + Drop + Send + 'static>(
     rt: R,
-    alloc: Global,
     seen: &Scene<R>,
-) -> Result<Seen, Fail> {
-    let mut kept = performed(rt, alloc, seen)?;
-    let pending = count_pending(rt, alloc, seen, kept.as_mut_slice())?;
-    let mut acknowledged = Vec::new(alloc);
-    acknowledged.resize(KEYS, 0u8)?;
+    acknowledged: &mut [u8],
+) -> (usize, usize) {
     let (mut answers, mut refused) = (0usize, 0usize);
     for text in seen.answers.iter() {
         let text = text.lock(&rt);
-        let lines = count_acknowledged(text.as_slice(), acknowledged.as_mut_slice());
+        let lines = count_acknowledged(text.as_slice(), acknowledged);
         answers = answers.saturating_add(lines);
         refused = refused.saturating_add(count_refused(text.as_slice()));
     }
-    Ok(Seen {
+    (answers, refused)
+}
+
+fn look<R: Wait + Clock + Abort + Copy + Drop + Send + 'static>(
+    rt: R,
+    alloc: Global,
+    seen: &Scene<R>,
+) -> Seen {
+    let mut kept = performed(rt, alloc, seen);
+    let spool = spool_of(rt, alloc, seen);
+    let pending = count_pending(&rt, &spool, kept.as_mut_slice());
+    let mut acknowledged = Vec::new(alloc);
+    acknowledged.resize(KEYS, 0u8).expect(&rt, "memory");
+    let (answers, refused) = count_answers(rt, seen, acknowledged.as_mut_slice());
+    Seen {
         answers,
         refused,
         acknowledged: sum_of(acknowledged.as_slice()),
         kept: sum_of(kept.as_slice()),
         pending,
         lacking: lacking(kept.as_slice(), acknowledged.as_slice()),
-    })
+    }
 }
 
 /// What comes of sessions with so many requests each, where this server is dead.
-fn run<R: Threads + Wait + Clock + Copy + Drop + Send + 'static>(
+fn run<R: Threads + Wait + Clock + Abort + Copy + Drop + Send + 'static>(
     rt: R,
     alloc: Global,
     dead: Option<usize>,
     count: usize,
-) -> Result<(Report, Seen), Fail> {
-    let scene = scene_of(rt, alloc, dead, count)?;
-    let (report, seen) = play(rt, alloc, ALL, scene)?;
-    let Ok(report) = report else {
-        return Err(Fail::from("the proxy failed"));
-    };
-    Ok((report, look(rt, alloc, &seen)?))
+) -> (Report, Seen) {
+    let scene = scene_of(rt, alloc, dead, count);
+    let (report, seen) = play(rt, alloc, ALL, scene);
+    (report.expect(&rt, "a report"), look(rt, alloc, &seen))
 }
 
 #[test]
-fn acknowledged_deletes_are_kept(rt: HostRuntime) -> Result<(), Fail> {
-    let (report, seen) = run(rt, rt.alloc(), None, 12_500)?;
+fn acknowledged_deletes_are_kept(rt: HostRuntime) {
+    let (report, seen) = run(rt, rt.alloc(), None, 12_500);
     assert_eq!(rt; seen.answers, 200_000);
     assert_eq!(rt;
         report.begun,
@@ -259,16 +272,14 @@ fn acknowledged_deletes_are_kept(rt: HostRuntime) -> Result<(), Fail> {
     assert!(rt; seen.acknowledged > 49_000);
     assert_eq!(rt; seen.lacking, 0);
     assert_eq!(rt; seen.kept, seen.acknowledged.saturating_mul(4));
-    Ok(())
 }
 
 #[test]
-fn deletes_of_a_dead_server_are_pending(rt: HostRuntime) -> Result<(), Fail> {
-    let (report, seen) = run(rt, rt.alloc(), Some(3), 100)?;
+fn deletes_of_a_dead_server_are_pending(rt: HostRuntime) {
+    let (report, seen) = run(rt, rt.alloc(), Some(3), 100);
     assert_eq!(rt; report.begun, 1_600);
     assert_eq!(rt; seen.acknowledged, 400);
     assert_eq!(rt; seen.lacking, 0);
     assert_eq!(rt; seen.kept, 1_600);
     assert!(rt; seen.pending >= 400);
-    Ok(())
 }

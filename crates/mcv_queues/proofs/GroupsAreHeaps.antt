@@ -13,7 +13,7 @@ use Rattle.mcv_queues.specs.Forest.{left_of, right_of, up_of, IsForest}
 use Rattle.mcv_queues.specs.Heap.{without, with_one, IsOut, IsIn}
 use Rattle.mcv_queues.specs.Groups.{group_at, group_of, same_group, is_group, is_in}
 use Rattle.mcv_queues.specs.Legs.{in_state, with_state}
-use Rattle.mcv_queues.specs.Sound.{AreTrees, AreTreesBut, AreInRange}
+use Rattle.mcv_queues.specs.Soundness.{AreTrees, AreTreesBut, AreInRange}
 use Rattle.mcv_queues.specs.Roots.{is_known, put_root}
 use Rattle.mcv_queues.proofs.Places.{Placed, is_first, is_second, is_third, hangs, place, placed, put_here, put_there, none_some, apart_bool, bool_cases}
 

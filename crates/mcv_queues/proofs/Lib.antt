@@ -2,12 +2,12 @@ pub mod Places
 pub mod LinkChanges
 pub mod MeldsAreForests
 pub mod RootIsLeast
-pub mod TakenOut
+pub mod RemovedNumbers
 pub mod RootsAreSet
 pub mod GroupsAreHeaps
-pub mod PutIn
+pub mod EnteredNumbers
 pub mod SeenRows
-pub mod InFlight
+pub mod LegsInFlight
 pub mod QueuesStaySound
 pub mod UnseenChanges
 mod Examples

@@ -16,7 +16,7 @@ use Rattle.mcv_queues.specs.Forest.{IsForest}
 use Rattle.mcv_queues.specs.Rows.{leg_of, link_of, content_of}
 use Rattle.mcv_queues.specs.Groups.{group_at, group_of, is_group, is_in}
 use Rattle.mcv_queues.specs.Legs.{rests_at, is_flight, is_in_flight_to, leg_content}
-use Rattle.mcv_queues.specs.Sound.{AreTrees, AreTreesBut, AreInRange, IsQueues}
+use Rattle.mcv_queues.specs.Soundness.{AreTrees, AreTreesBut, AreInRange, IsQueues}
 use Rattle.mcv_queues.proofs.Places.{put_here, put_there, none_some}
 use Rattle.mcv_queues.proofs.RootIsLeast.{root_least}
 use Rattle.mcv_queues.proofs.GroupsAreHeaps.{left_none, entered_none, beside, inner_leg, none_leg}

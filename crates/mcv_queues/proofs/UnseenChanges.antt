@@ -10,7 +10,7 @@ use Rattle.mcv_queues.specs.declared.roots.Group.{Group}
 use Rattle.mcv_queues.specs.Numbers.{put}
 use Rattle.mcv_queues.specs.Legs.{in_state, is_flight, is_in_flight_to, recorded_as, stored_as, with_record, with_state, with_stored}
 use Rattle.mcv_queues.specs.Groups.{group_at, group_of, is_group, is_in}
-use Rattle.mcv_queues.specs.Sound.{IsQueues}
+use Rattle.mcv_queues.specs.Soundness.{IsQueues}
 use Rattle.mcv_queues.proofs.Places.{put_here, put_there}
 use Rattle.mcv_queues.proofs.GroupsAreHeaps.{carried, inner_leg, none_leg}
 use Rattle.mcv_queues.proofs.QueuesStaySound.{range_put}

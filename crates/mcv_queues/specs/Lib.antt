@@ -7,6 +7,6 @@ pub mod Rows
 pub mod Melding
 pub mod Groups
 pub mod Roots
-pub mod Sound
+pub mod Soundness
 pub mod Queues
 pub mod Marks

@@ -6,7 +6,7 @@ ghost use Rattle.mcv_queues.specs.Forest.{free_link};
 ghost use Rattle.mcv_queues.specs.Groups.{group_of, group_at};
 ghost use Rattle.mcv_queues.specs.declared.leg.Leg.{Leg};
 ghost use Rattle.mcv_queues.specs.declared.roots.Group.TheVariants.{WaitingFor};
-ghost use Rattle.mcv_queues.specs.Sound.{AreTrees, AreTreesBut, AreInRange};
+ghost use Rattle.mcv_queues.specs.Soundness.{AreTrees, AreTreesBut, AreInRange};
 ghost use Rattle.mcv_queues.specs.Legs.{server_of, with_state};
 ghost use Rattle.mcv_queues.specs.Roots.{root_of, flights, known, IsKnown};
 

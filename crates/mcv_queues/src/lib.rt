@@ -23,7 +23,7 @@ mod transitions;
 
 pub use fault::QueueFault;
 pub use leg::{Leg, State};
-pub use marks::{Mark, Marks};
+pub use marks::{Marks, ServerFailures};
 pub use number_hasher::NumberHasher;
 pub use queues::Queues;
 pub use roots::Group;

@@ -8,16 +8,16 @@ use std::alloc::{AllocError, Global};
 
 /// How often a server failed in a row, and whether it is marked.
 #[derive(Clone, Copy, Debug, PartialEq, Eq)]
-pub struct Mark {
+pub struct ServerFailures {
     /// At most 4,294,967,295, where it stays.
     pub failures: u32,
     pub marked: bool,
 }
 
-/// The marks of all servers. A server that isn't in the table has no failures and no mark, and stays so.
+/// The failures of all servers. A server that isn't in the table has no failures and no mark, and stays so.
 #[derive(Drop)]
 pub struct Marks {
-    servers: Vec<Mark>,
+    servers: Vec<ServerFailures>,
 }
 
 /// From this many failures in a row on `mark` marks a server.
@@ -29,7 +29,7 @@ impl Marks {
         ensures marks { IfOk result (λ all. (s : ℕ) → marks all s ≡ no_mark) }
         ensures servers { IfOk result (λ all. servers all ≡ count) }
     {
-        let unmarked = Mark {
+        let unmarked = ServerFailures {
             failures: 0,
             marked: false,
         };
@@ -37,13 +37,13 @@ impl Marks {
         Ok(Marks { servers })
     }
 
-    /// The mark of a server.
-    pub fn get(&self, server: ServerId) -> Mark
+    /// The failures of a server.
+    pub fn get(&self, server: ServerId) -> ServerFailures
         ensures { result ≡ marks self.now server.0 }
     {
         match self.servers.get(server.0 as usize) {
             Some(mark) => *mark,
-            None => Mark {
+            None => ServerFailures {
                 failures: 0,
                 marked: false,
             },
@@ -86,7 +86,7 @@ impl Marks {
         ensures servers { servers self.new ≡ servers self.old }
     {
         if let Some(mark) = self.servers.get_mut(server.0 as usize) {
-            *mark = Mark {
+            *mark = ServerFailures {
                 failures: 0,
                 marked: false,
             };

@@ -2,7 +2,7 @@
 
 ghost use Rattle.std.specs.Prelude.{length};
 ghost use Rattle.mcv_queues.specs.Rows.{links, legs};
-ghost use Rattle.mcv_queues.specs.Sound.{IsQueues};
+ghost use Rattle.mcv_queues.specs.Soundness.{IsQueues};
 ghost use Rattle.mcv_queues.specs.Roots.{root_of, flights};
 
 use crate::roots::Roots;

@@ -6,13 +6,13 @@ use Rattle.mcv_reply.specs.declared.word.Tail.TheVariants as tails
 use Rattle.mcv_reply.specs.declared.candidate.Head.{Head}
 use Rattle.mcv_reply.specs.declared.candidate.Name.{Name}
 use Rattle.mcv_reply.specs.declared.candidate.Name.TheVariants.{First}
-use Rattle.mcv_reply.specs.declared.candidate.Place.{Place}
-use Rattle.mcv_reply.specs.declared.candidate.Place.TheVariants.{BeforeName, InName}
+use Rattle.mcv_reply.specs.declared.candidate.LinePart.{LinePart}
+use Rattle.mcv_reply.specs.declared.candidate.LinePart.TheVariants.{BeforeName, InName}
 use Rattle.mcv_reply.specs.declared.candidate.Candidate.{Candidate}
 use Rattle.mcv_reply.specs.Word.{tail_of, word_text}
 use Rattle.mcv_reply.specs.Line.{tail_forms}
-use Rattle.mcv_reply.specs.Place.{AllRead, Ends, Follows, SameCas, fewest, is_clean, name_text, needed, zero_head}
-use Rattle.mcv_reply.proofs.Least.{needed_least}
+use Rattle.mcv_reply.specs.Candidate.{AllRead, Ends, Follows, SameCas, fewest, is_clean, name_text, needed, zero_head}
+use Rattle.mcv_reply.proofs.LeastLengths.{needed_least}
 use Rattle.mcv_reply.proofs.Words.{clean_starts, name_clean}
 
 same_cas : (has : Bool) (read : Head) → SameCas has read read
@@ -26,21 +26,21 @@ all_read tails.Value has read = (refl, refl, same_cas has read)
 
 module _ (has : Bool) (key : List ℕ) (c : Candidate) where
   -- bytes are missing
-  pub ends_not : (place : Place) → c.place ≡ place → 1 ≤ needed c.first has key place → Ends has key c None
-  ends_not place is some head f =
-      let least = needed_least c.first has key c.head place head [] (subst (λ (p : Place). Follows c.first has key c.head p head []) is f) in
+  pub ends_not : (part : LinePart) → c.part ≡ part → 1 ≤ needed c.first has key part → Ends has key c None
+  ends_not part is some head f =
+      let least = needed_least c.first has key c.head part head [] (subst (λ (p : LinePart). Follows c.first has key c.head p head []) is f) in
       omega (arith, least)
 
   clean_length : (bytes : List ℕ) → is_clean bytes ≡ true → 1 ≤ length bytes
   clean_length bytes clean = let s = clean_starts bytes clean in omega (arith, ap length s.2)
 
-  pub not_before_name : (name : Name) → c.place ≡ BeforeName name → is_clean key ≡ true → Ends has key c None
+  pub not_before_name : (name : Name) → c.part ≡ BeforeName name → is_clean key ≡ true → Ends has key c None
   not_before_name name is clean = ends_not (BeforeName name) is (omega (arith, clean_length (name_text name c.first key) (name_clean name c.first key clean)))
 
-  pub not_in_word : (at : ℕ) → c.place ≡ InName First at → at < length (word_text c.first) → Ends has key c None
+  pub not_in_word : (at : ℕ) → c.part ≡ InName First at → at < length (word_text c.first) → Ends has key c None
   not_in_word at is l = ends_not (InName First at) is (omega (arith, length-drop at (word_text c.first)))
 
-  pub not_before_value : (at : ℕ) → c.place ≡ InName First at → tail_of c.first ≡ tails.Value → Ends has key c None
+  pub not_before_value : (at : ℕ) → c.part ≡ InName First at → tail_of c.first ≡ tails.Value → Ends has key c None
   not_before_value at is value =
       let same : fewest (tail_forms (tail_of c.first) has key zero_head) 1 ≡ fewest (tail_forms tails.Value has key zero_head) 1 = ap (λ (t : Tail). fewest (tail_forms t has key zero_head) 1) value in
       ends_not (InName First at) is (omega (arith, same))

@@ -10,7 +10,7 @@ use Rattle.mcv_reply.specs.declared.word.Word.TheVariants.{End, ServerError}
 use Rattle.mcv_reply.specs.declared.word.Row.TheVariants.{Reply}
 use Rattle.mcv_reply.specs.declared.candidate.Head.{Head}
 use Rattle.mcv_reply.specs.Line.{IsLine}
-use Rattle.mcv_reply.specs.Place.{zero_head}
+use Rattle.mcv_reply.specs.Candidate.{zero_head}
 use Rattle.mcv_reply.specs.Reply.{Spells, alone, with_value}
 
 without_end : (bytes : List ℕ) → list_all (λ b. not (eqb b 10)) bytes ≡ true → All (λ b. b ≢ 10) bytes

@@ -13,11 +13,11 @@ use Rattle.mcv_reply.specs.declared.word.Row.{Row}
 use Rattle.mcv_reply.specs.declared.word.Row.TheVariants.{Reply, AfterValue, Probe}
 use Rattle.mcv_reply.specs.declared.candidate.Head.{Head}
 use Rattle.mcv_reply.specs.declared.candidate.Name.TheVariants.{First}
-use Rattle.mcv_reply.specs.declared.candidate.Place.TheVariants.{BeforeName}
+use Rattle.mcv_reply.specs.declared.candidate.LinePart.TheVariants.{BeforeName}
 use Rattle.mcv_reply.specs.declared.candidate.Candidate.{Candidate}
 use Rattle.mcv_reply.specs.Word.{has_cas, tail_of, word_text, words}
 use Rattle.mcv_reply.specs.Line.{IsLine, tail_forms, cas_forms}
-use Rattle.mcv_reply.specs.Place.{Ends, IsKept, IsValid, Open, Reads, Says, fewest, is_clean, needed, new_candidate, zero_head}
+use Rattle.mcv_reply.specs.Candidate.{Ends, IsKept, IsValid, Open, Reads, Says, fewest, is_clean, needed, new_candidate, zero_head}
 
 -- at most seven first words
 pub few_words : (row : Row) → length (words row) ≤ 7
@@ -148,7 +148,7 @@ module _ (row : Row) (key line bytes : List ℕ) (candidates : List Candidate) (
 
 -- what a read past the end would give
 abbrev pub any_candidate : Candidate
-any_candidate = record { first = End; place = BeforeName First; head = zero_head; spare = 0 }
+any_candidate = record { first = End; part = BeforeName First; head = zero_head; spare = 0 }
 
 -- none of the first i candidates may end
 abbrev pub NoneEnds : Bool → List Candidate → ℕ → Type 0

@@ -18,7 +18,7 @@ use Rattle.mcv_reply.specs.declared.candidate.Head.{Head}
 use Rattle.mcv_reply.specs.Word.{answers, has_cas, tail_of, word_text}
 use Rattle.mcv_reply.specs.declared.line.Meaning.{Meaning}
 use Rattle.mcv_reply.specs.Line.{IsBlank, IsDigits, IsLine, Next, Writes, cas_forms, decimal_from, flags_forms, number, size_forms, tail_forms, word}
-use Rattle.mcv_reply.specs.Plain.{IsBareWord, SpacedNumber, StartsLine}
+use Rattle.mcv_reply.specs.PlainLine.{IsBareWord, SpacedNumber, StartsLine}
 use Rattle.mcv_reply.proofs.Steps.{end_cut, end_taken, end_within}
 
 -- a text that bytes begin with is taken off them

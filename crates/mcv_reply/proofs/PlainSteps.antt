@@ -14,12 +14,12 @@ use Rattle.mcv_reply.specs.declared.fault.ReplyFault.TheVariants.{NotAReply, Clo
 use Rattle.mcv_reply.specs.declared.progress.Progress.{Progress}
 use Rattle.mcv_reply.specs.Word.{has_cas}
 use Rattle.mcv_reply.specs.Line.{IsLine}
-use Rattle.mcv_reply.specs.Place.{zero_head}
-use Rattle.mcv_reply.specs.Plain.{EndsValue, value_end}
+use Rattle.mcv_reply.specs.Candidate.{zero_head}
+use Rattle.mcv_reply.specs.PlainLine.{EndsValue, value_end}
 use Rattle.mcv_reply.specs.Reply.{Spells, with_value, cas_said}
 use Rattle.mcv_reply.specs.Reader.{Fed}
 use Rattle.mcv_reply.specs.Progress.{FirstEnds, HitMade, StepMakes, Steps}
-use Rattle.mcv_reply.proofs.Open.{clean_ends}
+use Rattle.mcv_reply.proofs.OpenCandidates.{clean_ends}
 
 pub first_step : (op : Op) (key text piece line : List ℕ) (end : ℕ) (reply : Option Reply) (new : Progress) → text ≡ [] → line ≡ take end piece → take (end + 1) piece ≡ take end piece ++ 10 ∷ []
     → FirstEnds op key line (Ok reply) new → StepMakes op key text (take (end + 1) piece) reply new

@@ -12,7 +12,7 @@ use Rattle.mcv_reply.specs.declared.candidate.Candidate.{Candidate}
 use Rattle.mcv_reply.specs.declared.fault.ReplyFault.{ReplyFault}
 use Rattle.mcv_reply.specs.declared.fault.ReplyFault.TheVariants.{NotAReply, Closed, Memory}
 use Rattle.mcv_reply.specs.Line.{IsLine}
-use Rattle.mcv_reply.specs.Place.{GoesOn, IsKept}
+use Rattle.mcv_reply.specs.Candidate.{GoesOn, IsKept}
 use Rattle.mcv_reply.specs.Reply.{SpellsVersion}
 use Rattle.mcv_reply.specs.Probe.{BeginsNoVersion, IsVersionFront, ReadsProbe}
 use Rattle.mcv_reply.proofs.Spelling.{line_one, front_of_line}

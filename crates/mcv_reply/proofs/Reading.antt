@@ -4,22 +4,22 @@ use Rattle.std.proofs.lemmas.List.{drop_more, drop_all}
 use Rattle.std.proofs.lemmas.List.Elements.{All-tail, All-cons}
 use Rattle.mcv_reply.specs.declared.candidate.Head.{Head}
 use Rattle.mcv_reply.specs.declared.candidate.Candidate.{Candidate}
-use Rattle.mcv_reply.specs.declared.candidate.Move.{Move}
-use Rattle.mcv_reply.specs.Place.{IsValid, MovesAt, Open, Reads, ReadsOn, needed}
-use Rattle.mcv_reply.proofs.Least.{needed_least}
+use Rattle.mcv_reply.specs.declared.candidate.Advance.{Advance}
+use Rattle.mcv_reply.specs.Candidate.{IsValid, AdvancesAt, Open, Reads, ReadsOn, needed}
+use Rattle.mcv_reply.proofs.LeastLengths.{needed_least}
 
 module _ (has : Bool) (key : List ℕ) (c : Candidate) (b : ℕ) (no_end : b ≢ 10) where
   -- the line goes on, and may have so many bytes more than it must
-  pub goes : (m : Move) (left cost : ℕ) → MovesAt has key c c.place b (Some m) → needed c.first has key c.place + cost ≡ needed m.next.first has key m.next.place + 1 → c.spare ≡ left + cost → ReadsOn has key c (b ∷ []) (record m.next { spare = left })
+  pub goes : (m : Advance) (left cost : ℕ) → AdvancesAt has key c c.part b (Some m) → needed c.first has key c.part + cost ≡ needed m.next.first has key m.next.part + 1 → c.spare ≡ left + cost → ReadsOn has key c (b ∷ []) (record m.next { spare = left })
   goes m left cost moves needs spare = record {
     on = λ head more o. record {
       follows = moves.on head more o.follows;
-      short = (let short : length (b ∷ more) ≤ needed c.first has key c.place + c.spare = o.short in omega (arith, short));
+      short = (let short : length (b ∷ more) ≤ needed c.first has key c.part + c.spare = o.short in omega (arith, short));
       no_end = All-tail (λ x. x ≢ 10) b more o.no_end;
     };
     back = λ head more o. record {
       follows = moves.back head more o.follows;
-      short = (let short : length more ≤ needed m.next.first has key m.next.place + left = o.short in omega (arith, short));
+      short = (let short : length more ≤ needed m.next.first has key m.next.part + left = o.short in omega (arith, short));
       no_end = All-cons (λ x. x ≢ 10) b more no_end o.no_end;
     };
     first = moves.first;
@@ -27,11 +27,11 @@ module _ (has : Bool) (key : List ℕ) (c : Candidate) (b : ℕ) (no_end : b ≢
   }
 
   -- no byte is left for it
-  pub too_long : (m : Move) → MovesAt has key c c.place b (Some m) → m.free ≡ true → c.spare ≡ 0 → (head : Head) (more : List ℕ) → Open has key c head (b ∷ more) → ⊥
+  pub too_long : (m : Advance) → AdvancesAt has key c c.part b (Some m) → m.free ≡ true → c.spare ≡ 0 → (head : Head) (more : List ℕ) → Open has key c head (b ∷ more) → ⊥
   too_long m moves free none head more o =
-      let least = needed_least m.next.first has key m.next.head m.next.place head more (moves.on head more o.follows) in
-      let cost : needed c.first has key c.place + 1 ≡ needed m.next.first has key m.next.place + 1 = subst (λ (t : Bool). needed c.first has key c.place + cond t 1 0 ≡ needed m.next.first has key m.next.place + 1) free moves.needs in
-      let short : length (b ∷ more) ≤ needed c.first has key c.place + c.spare = o.short in
+      let least = needed_least m.next.first has key m.next.head m.next.part head more (moves.on head more o.follows) in
+      let cost : needed c.first has key c.part + 1 ≡ needed m.next.first has key m.next.part + 1 = subst (λ (t : Bool). needed c.first has key c.part + cond t 1 0 ≡ needed m.next.first has key m.next.part + 1) free moves.needs in
+      let short : length (b ∷ more) ≤ needed c.first has key c.part + c.spare = o.short in
       omega (arith, least, cost, short)
 
 -- the candidate comes behind the first k bytes

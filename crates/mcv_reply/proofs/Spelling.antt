@@ -11,9 +11,9 @@ use Rattle.mcv_reply.specs.declared.word.Row.TheVariants as rows
 use Rattle.mcv_reply.specs.declared.candidate.Head.{Head}
 use Rattle.mcv_reply.specs.Word.{has_cas}
 use Rattle.mcv_reply.specs.Line.{IsLine}
-use Rattle.mcv_reply.specs.Place.{is_clean}
+use Rattle.mcv_reply.specs.Candidate.{is_clean}
 use Rattle.mcv_reply.specs.Reply.{Spells, alone, with_value, cas_said, said_alone}
-use Rattle.mcv_reply.proofs.Alike.{first_one, value_one}
+use Rattle.mcv_reply.proofs.LineHasOneReading.{first_one, value_one}
 
 pub line_one : (l m x y : List ℕ) → All (λ b. b ≢ 10) l → All (λ b. b ≢ 10) m → l ++ 10 ∷ x ≡ m ++ 10 ∷ y → (l ≡ m) × (x ≡ y)
 line_one [] [] x y p q e = (refl, cc)

@@ -16,11 +16,11 @@ use Rattle.mcv_reply.specs.declared.candidate.Head.{Head}
 use Rattle.mcv_reply.specs.declared.candidate.Candidate.{Candidate}
 use Rattle.mcv_reply.specs.Word.{answers, has_cas}
 use Rattle.mcv_reply.specs.Line.{IsLine}
-use Rattle.mcv_reply.specs.Place.{IsKept, is_clean, zero_head}
+use Rattle.mcv_reply.specs.Candidate.{IsKept, is_clean, zero_head}
 use Rattle.mcv_reply.specs.Reply.{Spells, alone, with_value, cas_said, said_alone}
 use Rattle.mcv_reply.specs.Reader.{BeginsNone, IsFront}
 use Rattle.std.specs.Prelude.{codes}
-use Rattle.mcv_reply.proofs.Open.{candidate_opens, clean_ends}
+use Rattle.mcv_reply.proofs.OpenCandidates.{candidate_opens, clean_ends}
 use Rattle.mcv_reply.proofs.Spelling.{line_one, front_of_line, value_goes, value_back, last_goes}
 
 -- no line of the row goes on from the bytes

@@ -24,12 +24,12 @@ use Rattle.mcv_reply.specs.declared.progress.Stage.TheVariants as stages
 use Rattle.mcv_reply.specs.Reader as reader_states
 use Rattle.mcv_reply.specs.Word.{answers, has_cas}
 use Rattle.mcv_reply.specs.Line.{IsLine}
-use Rattle.mcv_reply.specs.Place.{GoesOn, IsKept, is_clean, zero_head}
+use Rattle.mcv_reply.specs.Candidate.{GoesOn, IsKept, is_clean, zero_head}
 use Rattle.mcv_reply.specs.Reply.{Spells, cas_said}
 use Rattle.mcv_reply.specs.Reader.{ReaderState, Fed, Answered, Answers, FeedsAt, IsFront, BeginsNone}
 use Rattle.mcv_reply.specs.Progress.{bytes_at, HitMade, IsAt, IsAtStage, LastEnds, FirstEnds, ReadsPiece, StepMakes, Steps, reader_state_at}
 use Rattle.mcv_reply.proofs.Spelling.{replies_one}
-use Rattle.mcv_reply.proofs.Open.{clean_ends}
+use Rattle.mcv_reply.proofs.OpenCandidates.{clean_ends}
 use Rattle.mcv_reply.proofs.Stages.{front_last, front_line, front_return, front_value, begins_more, end_line, last_right, last_whole, no_last_begins, no_line_begins, only_end}
 
 -- no LF is found

@@ -9,7 +9,7 @@ use Rattle.mcv_reply.specs.declared.candidate.Name.{Name}
 use Rattle.mcv_reply.specs.declared.candidate.Name.TheVariants.{First, Key}
 use Rattle.mcv_reply.specs.Word.{word_text}
 use Rattle.mcv_reply.specs.Line.{word}
-use Rattle.mcv_reply.specs.Place.{is_clean, name_text}
+use Rattle.mcv_reply.specs.Candidate.{is_clean, name_text}
 use Rattle.mcv_reply.proofs.Writing.{Starts}
 
 pub word_clean : (first : Word) → is_clean (word_text first) ≡ true

@@ -1,7 +1,7 @@
 -- What is written for a form, one byte on.
 use Rattle.std.proofs.Common.{◌≡◌, ◌≢◌, ℕ, suc, zero, ◌+◌, ◌-◌, ◌*◌, ◌<◌, ◌≤◌, ◌⊎◌, inl, inr, List, [], ◌∷◌, ◌++◌, refl, sym, ap, subst, ◌∙◌, arith}
 use Rattle.mcv_reply.specs.Line.{Form, word, number, text, Next, Writes, IsWritten, IsDigits, decimal_from, spaces}
-use Rattle.mcv_reply.specs.Place.{Goes, Digits, limit_of}
+use Rattle.mcv_reply.specs.Candidate.{Goes, Digits, limit_of}
 use Rattle.mcv_reply.specs.declared.candidate.Number.{Number}
 use Rattle.mcv_reply.specs.declared.candidate.Number.TheVariants.{Flags, Size, Cas}
 

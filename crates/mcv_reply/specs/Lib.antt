@@ -1,8 +1,8 @@
 pub mod Word
 pub mod Line
 pub mod Reply
-pub mod Place
+pub mod Candidate
 pub mod Reader
-pub mod Plain
+pub mod PlainLine
 pub mod Progress
 pub mod Probe

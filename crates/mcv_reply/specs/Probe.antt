@@ -8,7 +8,7 @@ use Rattle.mcv_reply.specs.declared.fault.ReplyFault.{ReplyFault}
 use Rattle.mcv_reply.specs.declared.fault.ReplyFault.TheVariants as faults
 use Rattle.mcv_reply.specs.declared.probe.ProbeStage.{ProbeStage}
 use Rattle.mcv_reply.specs.declared.probe.ProbeStage.TheVariants as stages
-use Rattle.mcv_reply.specs.Place.{IsKept}
+use Rattle.mcv_reply.specs.Candidate.{IsKept}
 use Rattle.mcv_reply.specs.Reply.{SpellsVersion}
 use Rattle.mcv_reply.specs.Reader.{ReaderState, Fed, Answered, Closed}
 

@@ -14,7 +14,7 @@ use Rattle.mcv_reply.specs.declared.progress.Stage.TheVariants as stages
 use Rattle.mcv_reply.specs.declared.progress.Progress.{Progress}
 use Rattle.mcv_reply.specs.declared.progress.Step.{Step}
 use Rattle.mcv_reply.specs.Line.{IsLine}
-use Rattle.mcv_reply.specs.Place.{IsKept}
+use Rattle.mcv_reply.specs.Candidate.{IsKept}
 use Rattle.mcv_reply.specs.Reply.{Spells, cas_said}
 use Rattle.mcv_reply.specs.Reader.{BeginsNone, ReaderState, Fed, Answered, Closed}
 

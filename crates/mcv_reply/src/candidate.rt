@@ -1,10 +1,10 @@
 //! A line that has come in part, taken for one of a given first word.
 //!
-//! Each byte is looked at once by each candidate, which says what may still follow (specs/Place.antt), and how
+//! Each byte is looked at once by each candidate, which says what may still follow (specs/Candidate.antt), and how
 //! many bytes the line may have beside those that it must have.
 
 ghost use Rattle.std.specs.Prelude.{◌≡◌, ◌≢◌, ◌∷◌, [], ◌≤◌, ◌<◌, ◌+◌, ◌*◌, ◌-◌, ◌==◌, List, ℕ, length, Bool, All, MatchOption, Some, None, true, false, if◌then◌else◌};
-ghost use Rattle.mcv_reply.specs.Place.{Ends, HasName, HasNumber, IsDigitOf, IsValid, MovesAt, MovesBehindName, MovesBehindNumber, Reads, is_clean, limit_of, name_text, needed, new_candidate};
+ghost use Rattle.mcv_reply.specs.Candidate.{Ends, HasName, HasNumber, IsDigitOf, IsValid, AdvancesAt, AdvancesBehindName, AdvancesBehindNumber, Reads, is_clean, limit_of, name_text, needed, new_candidate};
 
 use crate::word::{Tail, Word};
 
@@ -34,9 +34,9 @@ pub enum Number {
     Cas,
 }
 
-/// How far a line has come.
+/// The part of a line that has been reached.
 #[derive(Clone, Copy, Debug, Default, PartialEq, Eq)]
-pub enum Place {
+pub enum LinePart {
     /// In the spaces before a word.
     BeforeName(Name),
     /// So many bytes of the word have come.
@@ -57,7 +57,7 @@ pub enum Place {
 #[derive(Clone, Copy, Debug, Default, PartialEq, Eq)]
 pub struct Candidate {
     pub first: Word,
-    pub place: Place,
+    pub part: LinePart,
     /// The numbers that have come.
     pub head: Head,
     /// How many bytes the line may have beside those that it must have.
@@ -66,7 +66,7 @@ pub struct Candidate {
 
 /// A candidate one byte on, and whether the line could have done without that byte.
 #[derive(Clone, Copy, Debug, PartialEq, Eq)]
-struct Move {
+struct Advance {
     next: Candidate,
     free: bool,
 }
@@ -105,12 +105,12 @@ pub fn digit(byte: u8) -> Option<u64>
 }
 
 /// A byte where a space must be.
-fn separated(candidate: Candidate, place: Place, byte: u8) -> Option<Move>
-    ensures { result ≡ (if byte == 32 then Some (record { next = record candidate { place = place }; free = false }) else None) }
+fn separated(candidate: Candidate, part: LinePart, byte: u8) -> Option<Advance>
+    ensures { result ≡ (if byte == 32 then Some (record { next = record candidate { part = part }; free = false }) else None) }
 {
     if byte == b' ' {
-        Some(Move {
-            next: Candidate { place, ..candidate },
+        Some(Advance {
+            next: Candidate { part, ..candidate },
             free: false,
         })
     } else {
@@ -118,19 +118,19 @@ fn separated(candidate: Candidate, place: Place, byte: u8) -> Option<Move>
     }
 }
 
-/// A byte where the line may end: behind a space it goes on at the place.
-fn closing(candidate: Candidate, place: Place, byte: u8) -> Option<Move>
-    ensures { result ≡ (if byte == 32 then Some (record { next = record candidate { place = place }; free = true }) else (if byte == 13 then Some (record { next = record candidate { place = Place.Return }; free = true }) else None)) }
+/// A byte where the line may end: behind a space it goes on in this part.
+fn closing(candidate: Candidate, part: LinePart, byte: u8) -> Option<Advance>
+    ensures { result ≡ (if byte == 32 then Some (record { next = record candidate { part = part }; free = true }) else (if byte == 13 then Some (record { next = record candidate { part = LinePart.Return }; free = true }) else None)) }
 {
     if byte == b' ' {
-        Some(Move {
-            next: Candidate { place, ..candidate },
+        Some(Advance {
+            next: Candidate { part, ..candidate },
             free: true,
         })
     } else if byte == b'\r' {
-        Some(Move {
+        Some(Advance {
             next: Candidate {
-                place: Place::Return,
+                part: LinePart::Return,
                 ..candidate
             },
             free: true,
@@ -141,17 +141,17 @@ fn closing(candidate: Candidate, place: Place, byte: u8) -> Option<Move>
 }
 
 /// A byte behind a word that is known.
-fn behind_name(cas: bool, key: &[u8], candidate: Candidate, name: Name, byte: u8) -> Option<Move>
+fn behind_name(cas: bool, key: &[u8], candidate: Candidate, name: Name, byte: u8) -> Option<Advance>
     requires { HasName candidate.first name }
-    ensures { MovesBehindName cas key.now candidate name byte result }
+    ensures { AdvancesBehindName cas key.now candidate name byte result }
 {
     match name {
         Name::First => match candidate.first.tail() {
-            Tail::Nothing => closing(candidate, Place::Blank, byte),
-            Tail::Text => closing(candidate, Place::Text, byte),
-            Tail::Value => separated(candidate, Place::BeforeName(Name::Key), byte),
+            Tail::Nothing => closing(candidate, LinePart::Blank, byte),
+            Tail::Text => closing(candidate, LinePart::Text, byte),
+            Tail::Value => separated(candidate, LinePart::BeforeName(Name::Key), byte),
         },
-        Name::Key => separated(candidate, Place::BeforeNumber(Number::Flags), byte),
+        Name::Key => separated(candidate, LinePart::BeforeNumber(Number::Flags), byte),
     }
 }
 
@@ -163,9 +163,9 @@ fn in_name(
     name: Name,
     at: usize,
     byte: u8,
-) -> Option<Move>
+) -> Option<Advance>
     requires { HasName candidate.first name }
-    ensures { MovesAt cas key.now candidate (Place.InName name at) byte result }
+    ensures { AdvancesAt cas key.now candidate (LinePart.InName name at) byte result }
 {
     let text = name_bytes(name, candidate.first, key);
     if at >= text.len() {
@@ -174,9 +174,9 @@ fn in_name(
     if text[at] != byte {
         return None;
     }
-    Some(Move {
+    Some(Advance {
         next: Candidate {
-            place: Place::InName(name, at + 1),
+            part: LinePart::InName(name, at + 1),
             ..candidate
         },
         free: false,
@@ -191,10 +191,10 @@ fn behind_number(
     number: Number,
     value: u64,
     byte: u8,
-) -> Option<Move>
+) -> Option<Advance>
     requires has { HasNumber candidate.first cas number }
     requires within { value ≤ limit_of number }
-    ensures { MovesBehindNumber cas key.now candidate number value byte result }
+    ensures { AdvancesBehindNumber cas key.now candidate number value byte result }
 {
     match number {
         Number::Flags => {
@@ -204,7 +204,7 @@ fn behind_number(
             };
             separated(
                 Candidate { head, ..candidate },
-                Place::BeforeNumber(Number::Size),
+                LinePart::BeforeNumber(Number::Size),
                 byte,
             )
         }
@@ -215,9 +215,9 @@ fn behind_number(
             };
             let read = Candidate { head, ..candidate };
             if cas {
-                separated(read, Place::BeforeNumber(Number::Cas), byte)
+                separated(read, LinePart::BeforeNumber(Number::Cas), byte)
             } else {
-                closing(read, Place::Blank, byte)
+                closing(read, LinePart::Blank, byte)
             }
         }
         Number::Cas => {
@@ -225,7 +225,7 @@ fn behind_number(
                 cas: value,
                 ..candidate.head
             };
-            closing(Candidate { head, ..candidate }, Place::Blank, byte)
+            closing(Candidate { head, ..candidate }, LinePart::Blank, byte)
         }
     }
 }
@@ -247,17 +247,17 @@ fn in_number(
     number: Number,
     value: u64,
     byte: u8,
-) -> Option<Move>
+) -> Option<Advance>
     requires has { HasNumber candidate.first cas number }
     requires within { value ≤ limit_of number }
-    ensures { MovesAt cas key.now candidate (Place.InNumber number value) byte result }
+    ensures { AdvancesAt cas key.now candidate (LinePart.InNumber number value) byte result }
 {
     match digit(byte) {
         Some(digit) => {
             let value = with_digit(value, digit, number.limit())?;
-            Some(Move {
+            Some(Advance {
                 next: Candidate {
-                    place: Place::InNumber(number, value),
+                    part: LinePart::InNumber(number, value),
                     ..candidate
                 },
                 free: true,
@@ -274,23 +274,23 @@ fn before_number(
     candidate: Candidate,
     number: Number,
     byte: u8,
-) -> Option<Move>
+) -> Option<Advance>
     requires { HasNumber candidate.first cas number }
-    ensures { MovesAt cas key.now candidate (Place.BeforeNumber number) byte result }
+    ensures { AdvancesAt cas key.now candidate (LinePart.BeforeNumber number) byte result }
 {
     if byte == b' ' {
-        return Some(Move {
+        return Some(Advance {
             next: Candidate {
-                place: Place::BeforeNumber(number),
+                part: LinePart::BeforeNumber(number),
                 ..candidate
             },
             free: true,
         });
     }
     let value = digit(byte)?;
-    Some(Move {
+    Some(Advance {
         next: Candidate {
-            place: Place::InNumber(number, value),
+            part: LinePart::InNumber(number, value),
             ..candidate
         },
         free: false,
@@ -298,15 +298,15 @@ fn before_number(
 }
 
 /// A byte in the spaces before a word that is known, or its first byte.
-fn before_name(cas: bool, key: &[u8], candidate: Candidate, name: Name, byte: u8) -> Option<Move>
+fn before_name(cas: bool, key: &[u8], candidate: Candidate, name: Name, byte: u8) -> Option<Advance>
     requires clean { is_clean key.now ≡ true }
     requires has { HasName candidate.first name }
-    ensures { MovesAt cas key.now candidate (Place.BeforeName name) byte result }
+    ensures { AdvancesAt cas key.now candidate (LinePart.BeforeName name) byte result }
 {
     if byte == b' ' {
-        return Some(Move {
+        return Some(Advance {
             next: Candidate {
-                place: Place::BeforeName(name),
+                part: LinePart::BeforeName(name),
                 ..candidate
             },
             free: true,
@@ -315,22 +315,22 @@ fn before_name(cas: bool, key: &[u8], candidate: Candidate, name: Name, byte: u8
     in_name(cas, key, candidate, name, 0, byte)
 }
 
-/// A byte at the candidate's place.
-fn moved(cas: bool, key: &[u8], candidate: Candidate, byte: u8) -> Option<Move>
+/// A byte in the candidate's part of the line.
+fn moved(cas: bool, key: &[u8], candidate: Candidate, byte: u8) -> Option<Advance>
     requires clean { is_clean key.now ≡ true }
     requires valid { IsValid cas candidate }
-    ensures { MovesAt cas key.now candidate candidate.place byte result }
+    ensures { AdvancesAt cas key.now candidate candidate.part byte result }
 {
-    match candidate.place {
-        Place::BeforeName(name) => before_name(cas, key, candidate, name, byte),
-        Place::InName(name, at) => in_name(cas, key, candidate, name, at, byte),
-        Place::BeforeNumber(number) => before_number(cas, key, candidate, number, byte),
-        Place::InNumber(number, value) => in_number(cas, key, candidate, number, value, byte),
-        Place::Blank => closing(candidate, Place::Blank, byte),
-        Place::Return => None,
-        Place::Text => Some(Move {
+    match candidate.part {
+        LinePart::BeforeName(name) => before_name(cas, key, candidate, name, byte),
+        LinePart::InName(name, at) => in_name(cas, key, candidate, name, at, byte),
+        LinePart::BeforeNumber(number) => before_number(cas, key, candidate, number, byte),
+        LinePart::InNumber(number, value) => in_number(cas, key, candidate, number, value, byte),
+        LinePart::Blank => closing(candidate, LinePart::Blank, byte),
+        LinePart::Return => None,
+        LinePart::Text => Some(Advance {
             next: Candidate {
-                place: Place::Text,
+                part: LinePart::Text,
                 ..candidate
             },
             free: true,
@@ -345,7 +345,7 @@ fn step(cas: bool, key: &[u8], candidate: Candidate, byte: u8) -> Option<Candida
     requires no_end { byte ≢ 10 }
     ensures { Reads cas key.now candidate (byte ∷ []) result }
 {
-    let Move { next, free } = moved(cas, key, candidate, byte)?;
+    let Advance { next, free } = moved(cas, key, candidate, byte)?;
     if !free {
         return Some(next);
     }
@@ -357,7 +357,7 @@ impl Candidate {
     /// The bytes that a line of this first word must have.
     fn fewest(cas: bool, key: &[u8], first: Word) -> usize
         requires { length key.now ≤ 250 }
-        ensures { result ≡ needed first cas key.now (Place.BeforeName Name.First) }
+        ensures { result ≡ needed first cas key.now (LinePart.BeforeName Name.First) }
     {
         let behind = match first.tail() {
             Tail::Nothing | Tail::Text => 0,
@@ -373,7 +373,7 @@ impl Candidate {
     {
         Candidate {
             first,
-            place: Place::BeforeName(Name::First),
+            part: LinePart::BeforeName(Name::First),
             head: Head {
                 flags: 0,
                 size: 0,
@@ -402,16 +402,16 @@ impl Candidate {
         requires { IsValid cas self }
         ensures { (key : List ℕ) → is_clean key ≡ true → Ends cas key self result }
     {
-        match self.place {
-            Place::BeforeName(_) | Place::BeforeNumber(_) => None,
-            Place::InName(name, at) => self.end_of_name(name, at),
-            Place::InNumber(number, value) => self.end_of_number(cas, number, value),
-            Place::Blank | Place::Return | Place::Text => Some(self.head),
+        match self.part {
+            LinePart::BeforeName(_) | LinePart::BeforeNumber(_) => None,
+            LinePart::InName(name, at) => self.end_of_name(name, at),
+            LinePart::InNumber(number, value) => self.end_of_number(cas, number, value),
+            LinePart::Blank | LinePart::Return | LinePart::Text => Some(self.head),
         }
     }
 
     fn end_of_name(self, name: Name, at: usize) -> Option<Head>
-        requires { self.place ≡ Place.InName name at }
+        requires { self.part ≡ LinePart.InName name at }
         ensures { (has : Bool) (key : List ℕ) → Ends has key self result }
     {
         match name {
@@ -422,7 +422,7 @@ impl Candidate {
 
     fn end_of_number(self, cas: bool, number: Number, value: u64) -> Option<Head>
         requires valid { IsValid cas self }
-        requires place { self.place ≡ Place.InNumber number value }
+        requires part { self.part ≡ LinePart.InNumber number value }
         ensures { (key : List ℕ) → Ends cas key self result }
     {
         match number {
@@ -444,7 +444,7 @@ impl Candidate {
 
     /// The numbers, if the line may end where so many bytes of its first word have come.
     fn end_behind(self, at: usize) -> Option<Head>
-        requires { self.place ≡ Place.InName Name.First at }
+        requires { self.part ≡ LinePart.InName Name.First at }
         ensures { (has : Bool) (key : List ℕ) → Ends has key self result }
     {
         if at < self.first.text().len() {

@@ -3,7 +3,7 @@
 ghost use Rattle.std.specs.Prelude.{◌≡◌, ◌≢◌, ◌≤◌, ◌++◌, ℕ, List, [], All, length, true};
 ghost use Rattle.std.specs.Str.Lines.{strip_carriage_return};
 ghost use Rattle.mcv_reply.specs.Word.{has_cas};
-ghost use Rattle.mcv_reply.specs.Place.{GoesOn, IsKept, IsValid, Says, is_clean};
+ghost use Rattle.mcv_reply.specs.Candidate.{GoesOn, IsKept, IsValid, Says, is_clean};
 
 use crate::candidate::{Candidate, Head};
 use crate::fault::ReplyFault;

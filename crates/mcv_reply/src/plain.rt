@@ -3,7 +3,7 @@
 
 ghost use Rattle.std.specs.Prelude.{◌≡◌, ◌≢◌, ◌≤◌, ◌∷◌, ◌++◌, [], All, IfSome, IsTrue, codes, length};
 ghost use Rattle.mcv_reply.specs.Line.{IsDigits, IsLine, Writes, cas_forms, decimal_from, flags_forms, word};
-ghost use Rattle.mcv_reply.specs.Plain.{IsBareWord, SpacedNumber, StartsLine};
+ghost use Rattle.mcv_reply.specs.PlainLine.{IsBareWord, SpacedNumber, StartsLine};
 ghost use Rattle.mcv_reply.specs.Word.{tail_of, word_text};
 
 use crate::candidate::{Head, LINE_LIMIT, digit, with_digit};

@@ -1,7 +1,7 @@
 //! The reader of the answer to a probe, `VERSION <text>`.
 
 ghost use Rattle.std.specs.Prelude.{◌≡◌, [], codes};
-ghost use Rattle.mcv_reply.specs.Place.{IsKept};
+ghost use Rattle.mcv_reply.specs.Candidate.{IsKept};
 ghost use Rattle.mcv_reply.specs.Probe.{FeedsProbe, IsProbeAt, ReadsProbe, probe_state_in};
 ghost use Rattle.mcv_reply.specs.Reader.{Fed};
 

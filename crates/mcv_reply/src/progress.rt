@@ -6,8 +6,8 @@
 ghost use Rattle.std.specs.Prelude.{◌≡◌, ◌<◌, ◌≤◌, ◌+◌, ℕ, List, IfOk, IsTrue, MatchOption, length, true, Some, None};
 ghost use Rattle.mcv_base.specs.Reply.{reply_value};
 ghost use Rattle.mcv_reply.specs.Line.{IsLine};
-ghost use Rattle.mcv_reply.specs.Place.{IsKept, is_clean};
-ghost use Rattle.mcv_reply.specs.Plain.{EndsValue, StartsLine};
+ghost use Rattle.mcv_reply.specs.Candidate.{IsKept, is_clean};
+ghost use Rattle.mcv_reply.specs.PlainLine.{EndsValue, StartsLine};
 ghost use Rattle.mcv_reply.specs.Reply.{said_alone};
 ghost use Rattle.mcv_reply.specs.Reader.{Fed};
 ghost use Rattle.mcv_reply.specs.Progress.{FirstEnds, HitMade, IsAt, IsAtStage, LastEnds, Steps, bytes_at, reader_state_at};

@@ -2,7 +2,7 @@
 
 ghost use Rattle.std.specs.Prelude.{◌≡◌, ◌≤◌, ◌++◌, ℕ, List, [], length, true};
 ghost use Rattle.std.specs.Arc.{arc_value};
-ghost use Rattle.mcv_reply.specs.Place.{is_clean};
+ghost use Rattle.mcv_reply.specs.Candidate.{is_clean};
 ghost use Rattle.mcv_reply.specs.Reader.{Answers, Fed, Feeds, Reading};
 ghost use Rattle.mcv_reply.specs.Progress.{IsAt, ReadsPiece, reader_state_at};
 

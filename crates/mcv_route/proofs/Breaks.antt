@@ -15,7 +15,7 @@ use Rattle.std.proofs.lemmas.Map.Keys.{IsStrictlyIncreasing-dedup}
 use Rattle.mcv_base.specs.declared.request.Moment.{Moment}
 use Rattle.mcv_pools.specs.Table.{is_in, numbered, with_entry}
 use Rattle.mcv_route.specs.Eras.{era_at, IsBreakTable, IsSince, passed, since_at}
-use Rattle.mcv_route.proofs.Passed.{since_is_last, there}
+use Rattle.mcv_route.proofs.OpeningBreak.{since_is_last, there}
 
 -- ---- lists with nothing twice
 

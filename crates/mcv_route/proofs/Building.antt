@@ -6,9 +6,10 @@ use Rattle.std.specs.declared.sync.Arc.{Arc}
 use Rattle.std.proofs.lemmas.List.{map-append, take_more, get_or-map, length-map}
 use Rattle.std.proofs.lemmas.List.Elements.{All-nil, All-cons, All-head}
 use Rattle.mcv_base.specs.declared.request.ServerId.{ServerId}
-use Rattle.mcv_config.specs.Plan.{Named, named_of, policy_of, prefix_of, shadow_of, nameds_of, IsSoundRoute, AreSoundRoutes}
-use Rattle.mcv_config.specs.Plan as plan
-use Rattle.mcv_config.specs.declared.config.NamedRoute as config
+use Rattle.mcv_names.specs.declared.handle.Many.{Many as Kind}
+use Rattle.mcv_config.specs.ConfigValue.{Named, named_of, policy_of, prefix_of, shadow_of, nameds_of, IsSoundRoute, AreSoundRoutes}
+use Rattle.mcv_config.specs.ConfigValue as config
+use Rattle.mcv_config.specs.declared.config.NamedRoute as asked
 use Rattle.mcv_config.specs.declared.config.NamedRoute.{NamedRoute}
 use Rattle.mcv_config.specs.declared.config.NamedPolicy.{NamedPolicy, out-NamedPolicy}
 use Rattle.mcv_config.specs.declared.config.NamedPrefix.{NamedPrefix, out-NamedPrefix}
@@ -17,19 +18,19 @@ use Rattle.mcv_pools.specs.declared.symbol.HashFunc.{HashFunc}
 use Rattle.mcv_pools.specs.Symbol.{SymbolValue, same_symbol}
 use Rattle.mcv_pools.specs.Table.{with_entry}
 use Rattle.mcv_pools.specs.declared.symbol.HashFunc.TheVariants.{Ch3}
-use Rattle.mcv_route.specs.Built.{pool_at, server_at, symbol_of, pool_named}
+use Rattle.mcv_route.specs.NamedRoutes.{pool_at, server_at, symbol_of, pool_named}
 use Rattle.mcv_route.specs.View.{view, operation_view, prefix_view, shadow_view, pool_view}
 use Rattle.mcv_route.specs.Walk.{IsBuilt, last_named, list_view}
 use Rattle.mcv_route.specs.Tree.{Tree, pool, warm_up, migrate}
 use Rattle.mcv_route.specs.declared.tree.Leaf.{Leaf}
-use Rattle.mcv_route.specs.declared.tree.Route.{Route, Pool, Null, Error, AllSync, AllInitial, AllAsync, Failover, MissFailover, WarmUp, Migrate, PrefixSelector, OperationSelector}
+use Rattle.mcv_route.specs.declared.tree.Route.{Route, Pool, Null, Error, Many, WarmUp, Migrate, PrefixSelector, OperationSelector}
 use Rattle.mcv_route.specs.declared.tree.OperationPolicy.{OperationPolicy}
 use Rattle.mcv_route.specs.declared.tree.PrefixPolicy.{PrefixPolicy}
 use Rattle.mcv_route.specs.declared.tree.Shadow.{Shadow}
-use Rattle.mcv_route.proofs.Nameds.{children_of, names_of, policies_of, policy_of-out, prefix_of-out, shadow_of-out, prefix_routes_of, named_of-Pool, named_of-Server, named_of-Null, named_of-Error, named_of-AllSync, named_of-AllInitial, named_of-AllAsync, named_of-Failover, named_of-MissFailover, named_of-WarmUp, named_of-Migrate, named_of-PrefixSelector, named_of-OperationSelector}
-use Rattle.mcv_route.proofs.Nameds.{ranges_of as asked_ranges, targets_of as asked_targets, prefixes_of as asked_prefixes}
-use Rattle.mcv_route.proofs.Views.{operations_of, prefixes_of, ranges_of, targets_of, last_view, view-Pool, view-Null, view-Error, view-AllSync, view-AllInitial, view-AllAsync, view-Failover, view-MissFailover, view-WarmUp, view-Migrate, view-PrefixSelector, view-OperationSelector}
-use Rattle.mcv_route.proofs.Numbers.{built-append, built-none, built-pool, built-server, built-all_sync, built-all_initial, built-all_async, built-failover, built-miss_failover, built-warm_up, built-migrate, built-prefix_selector, built-operation_selector}
+use Rattle.mcv_route.proofs.NamedHandles.{children_of, names_of, policies_of, policy_of-out, prefix_of-out, shadow_of-out, prefix_routes_of, named_of-Pool, named_of-Server, named_of-Null, named_of-Error, named_of-Many, named_of-WarmUp, named_of-Migrate, named_of-PrefixSelector, named_of-OperationSelector}
+use Rattle.mcv_route.proofs.NamedHandles.{ranges_of as asked_ranges, targets_of as asked_targets, prefixes_of as asked_prefixes}
+use Rattle.mcv_route.proofs.Views.{operations_of, prefixes_of, ranges_of, targets_of, last_view, view-Pool, view-Null, view-Error, view-Many, view-WarmUp, view-Migrate, view-PrefixSelector, view-OperationSelector}
+use Rattle.mcv_route.proofs.Numbers.{built-append, built-none, built-pool, built-server, built-many, built-warm_up, built-migrate, built-prefix_selector, built-operation_selector}
 
 -- ---- lists
 
@@ -62,63 +63,51 @@ AreSoundRoutes-append pools (n ∷ ns) ms h = let more = AreSoundRoutes-append p
 both-sound : (pools : List (List ℕ)) (ns ms : List Named) → AreSoundRoutes pools (nameds_of (ns ++ ms)) → All (IsSoundRoute pools) ns × All (IsSoundRoute pools) ms
 both-sound pools ns ms h = let parts = AreSoundRoutes-append pools ns ms h in (all-sound pools ns parts.0, all-sound pools ms parts.1)
 
-pub sound-pool : (pools : List (List ℕ)) (route : NamedRoute) (k : ℕ) (func : HashFunc) (salt : Vec ℕ Global) (v : Vec NamedShadow Global) → route ≡ config.Pool k func salt v → IsSoundRoute pools (named_of route) → k < length pools
+pub sound-pool : (pools : List (List ℕ)) (route : NamedRoute) (k : ℕ) (func : HashFunc) (salt : Vec ℕ Global) (v : Vec NamedShadow Global) → route ≡ asked.Pool k func salt v → IsSoundRoute pools (named_of route) → k < length pools
 sound-pool pools route k func salt v is h = let both = subst (IsSoundRoute pools) (ap named_of is ∙ named_of-Pool k func salt v) h in both.0
 
-pub sound-shadows : (pools : List (List ℕ)) (route : NamedRoute) (k : ℕ) (func : HashFunc) (salt : Vec ℕ Global) (v : Vec NamedShadow Global) → route ≡ config.Pool k func salt v → IsSoundRoute pools (named_of route)
+pub sound-shadows : (pools : List (List ℕ)) (route : NamedRoute) (k : ℕ) (func : HashFunc) (salt : Vec ℕ Global) (v : Vec NamedShadow Global) → route ≡ asked.Pool k func salt v → IsSoundRoute pools (named_of route)
     → All (λ s. IsSoundRoute pools s.1) (map shadow_of v.items)
 sound-shadows pools route k func salt v is h =
     let both = subst (IsSoundRoute pools) (ap named_of is ∙ named_of-Pool k func salt v) h in
     All-unmap (IsSoundRoute pools) (λ s. s.1) (map shadow_of v.items) (all-sound pools (asked_targets v.items) both.1)
 
-pub sound-server : (pools : List (List ℕ)) (route : NamedRoute) (k n : ℕ) → route ≡ config.Server k n → IsSoundRoute pools (named_of route) → (k < length pools) × (n < length (pool_at pools k))
+pub sound-server : (pools : List (List ℕ)) (route : NamedRoute) (k n : ℕ) → route ≡ asked.Server k n → IsSoundRoute pools (named_of route) → (k < length pools) × (n < length (pool_at pools k))
 sound-server pools route k n is h = subst (IsSoundRoute pools) (ap named_of is ∙ named_of-Server k n) h
 
-pub sound-AllSync : (pools : List (List ℕ)) (route : NamedRoute) (v : Vec NamedRoute Global) → route ≡ config.AllSync v → IsSoundRoute pools (named_of route) → All (IsSoundRoute pools) (map named_of v.items)
-sound-AllSync pools route v is h = let both = subst (IsSoundRoute pools) (ap named_of is ∙ named_of-AllSync v) h in all-sound pools (map named_of v.items) both.1
+pub sound-Many : (pools : List (List ℕ)) (route : NamedRoute) (kind : Kind) (v : Vec NamedRoute Global) → route ≡ asked.Many kind v → IsSoundRoute pools (named_of route) → All (IsSoundRoute pools) (map named_of v.items)
+sound-Many pools route kind v is h = let both = subst (IsSoundRoute pools) (ap named_of is ∙ named_of-Many kind v) h in all-sound pools (map named_of v.items) both.1
 
-pub sound-AllInitial : (pools : List (List ℕ)) (route : NamedRoute) (v : Vec NamedRoute Global) → route ≡ config.AllInitial v → IsSoundRoute pools (named_of route) → All (IsSoundRoute pools) (map named_of v.items)
-sound-AllInitial pools route v is h = let both = subst (IsSoundRoute pools) (ap named_of is ∙ named_of-AllInitial v) h in all-sound pools (map named_of v.items) both.1
-
-pub sound-AllAsync : (pools : List (List ℕ)) (route : NamedRoute) (v : Vec NamedRoute Global) → route ≡ config.AllAsync v → IsSoundRoute pools (named_of route) → All (IsSoundRoute pools) (map named_of v.items)
-sound-AllAsync pools route v is h = let both = subst (IsSoundRoute pools) (ap named_of is ∙ named_of-AllAsync v) h in all-sound pools (map named_of v.items) both.1
-
-pub sound-Failover : (pools : List (List ℕ)) (route : NamedRoute) (v : Vec NamedRoute Global) → route ≡ config.Failover v → IsSoundRoute pools (named_of route) → All (IsSoundRoute pools) (map named_of v.items)
-sound-Failover pools route v is h = let both = subst (IsSoundRoute pools) (ap named_of is ∙ named_of-Failover v) h in all-sound pools (map named_of v.items) both.1
-
-pub sound-MissFailover : (pools : List (List ℕ)) (route : NamedRoute) (v : Vec NamedRoute Global) → route ≡ config.MissFailover v → IsSoundRoute pools (named_of route) → All (IsSoundRoute pools) (map named_of v.items)
-sound-MissFailover pools route v is h = let both = subst (IsSoundRoute pools) (ap named_of is ∙ named_of-MissFailover v) h in all-sound pools (map named_of v.items) both.1
-
-pub sound-WarmUp : (pools : List (List ℕ)) (route : NamedRoute) (cold warm : Box NamedRoute Global) (exptime : ℕ) → route ≡ config.WarmUp cold warm exptime → IsSoundRoute pools (named_of route)
+pub sound-WarmUp : (pools : List (List ℕ)) (route : NamedRoute) (cold warm : Box NamedRoute Global) (exptime : ℕ) → route ≡ asked.WarmUp cold warm exptime → IsSoundRoute pools (named_of route)
     → IsSoundRoute pools (named_of cold.value) × IsSoundRoute pools (named_of warm.value)
 sound-WarmUp pools route cold warm exptime is h = subst (IsSoundRoute pools) (ap named_of is ∙ named_of-WarmUp cold warm exptime) h
 
-pub sound-Migrate : (pools : List (List ℕ)) (route : NamedRoute) (from to : Box NamedRoute Global) (start interval : ℕ) → route ≡ config.Migrate from to start interval → IsSoundRoute pools (named_of route)
+pub sound-Migrate : (pools : List (List ℕ)) (route : NamedRoute) (from to : Box NamedRoute Global) (start interval : ℕ) → route ≡ asked.Migrate from to start interval → IsSoundRoute pools (named_of route)
     → IsSoundRoute pools (named_of from.value) × IsSoundRoute pools (named_of to.value)
 sound-Migrate pools route from to start interval is h = subst (IsSoundRoute pools) (ap named_of is ∙ named_of-Migrate from to start interval) h
 
 -- the policies, and what comes after them
-sound-PrefixSelector : (pools : List (List ℕ)) (route : NamedRoute) (v : Vec NamedPrefix Global) (d : Option (Box NamedRoute Global)) → route ≡ config.PrefixSelector v d → IsSoundRoute pools (named_of route)
+sound-PrefixSelector : (pools : List (List ℕ)) (route : NamedRoute) (v : Vec NamedPrefix Global) (d : Option (Box NamedRoute Global)) → route ≡ asked.PrefixSelector v d → IsSoundRoute pools (named_of route)
     → All (IsSoundRoute pools) (prefix_routes_of v.items) × All (IsSoundRoute pools) (last_named d)
 sound-PrefixSelector pools route v d is h = both-sound pools (prefix_routes_of v.items) (last_named d) (subst (IsSoundRoute pools) (ap named_of is ∙ named_of-PrefixSelector v d) h)
 
-pub sound-prefixes : (pools : List (List ℕ)) (route : NamedRoute) (v : Vec NamedPrefix Global) (d : Option (Box NamedRoute Global)) → route ≡ config.PrefixSelector v d → IsSoundRoute pools (named_of route)
+pub sound-prefixes : (pools : List (List ℕ)) (route : NamedRoute) (v : Vec NamedPrefix Global) (d : Option (Box NamedRoute Global)) → route ≡ asked.PrefixSelector v d → IsSoundRoute pools (named_of route)
     → All (λ p. IsSoundRoute pools p.1) (map prefix_of v.items)
 sound-prefixes pools route v d is h = All-unmap (IsSoundRoute pools) (λ p. p.1) (map prefix_of v.items) (sound-PrefixSelector pools route v d is h).0
 
-pub sound-wildcard : (pools : List (List ℕ)) (route : NamedRoute) (v : Vec NamedPrefix Global) (d : Option (Box NamedRoute Global)) → route ≡ config.PrefixSelector v d → IsSoundRoute pools (named_of route)
+pub sound-wildcard : (pools : List (List ℕ)) (route : NamedRoute) (v : Vec NamedPrefix Global) (d : Option (Box NamedRoute Global)) → route ≡ asked.PrefixSelector v d → IsSoundRoute pools (named_of route)
     → All (IsSoundRoute pools) (last_named d)
 sound-wildcard pools route v d is h = (sound-PrefixSelector pools route v d is h).1
 
-sound-OperationSelector : (pools : List (List ℕ)) (route : NamedRoute) (v : Vec NamedPolicy Global) (d : Option (Box NamedRoute Global)) → route ≡ config.OperationSelector v d → IsSoundRoute pools (named_of route)
+sound-OperationSelector : (pools : List (List ℕ)) (route : NamedRoute) (v : Vec NamedPolicy Global) (d : Option (Box NamedRoute Global)) → route ≡ asked.OperationSelector v d → IsSoundRoute pools (named_of route)
     → All (IsSoundRoute pools) (policies_of v.items) × All (IsSoundRoute pools) (last_named d)
 sound-OperationSelector pools route v d is h = both-sound pools (policies_of v.items) (last_named d) (subst (IsSoundRoute pools) (ap named_of is ∙ named_of-OperationSelector v d) h)
 
-pub sound-policies : (pools : List (List ℕ)) (route : NamedRoute) (v : Vec NamedPolicy Global) (d : Option (Box NamedRoute Global)) → route ≡ config.OperationSelector v d → IsSoundRoute pools (named_of route)
+pub sound-policies : (pools : List (List ℕ)) (route : NamedRoute) (v : Vec NamedPolicy Global) (d : Option (Box NamedRoute Global)) → route ≡ asked.OperationSelector v d → IsSoundRoute pools (named_of route)
     → All (λ p. IsSoundRoute pools p.1) (map policy_of v.items)
 sound-policies pools route v d is h = All-unmap (IsSoundRoute pools) (λ p. p.1) (map policy_of v.items) (sound-OperationSelector pools route v d is h).0
 
-pub sound-default : (pools : List (List ℕ)) (route : NamedRoute) (v : Vec NamedPolicy Global) (d : Option (Box NamedRoute Global)) → route ≡ config.OperationSelector v d → IsSoundRoute pools (named_of route)
+pub sound-default : (pools : List (List ℕ)) (route : NamedRoute) (v : Vec NamedPolicy Global) (d : Option (Box NamedRoute Global)) → route ≡ asked.OperationSelector v d → IsSoundRoute pools (named_of route)
     → All (IsSoundRoute pools) (last_named d)
 sound-default pools route v d is h = (sound-OperationSelector pools route v d is h).1
 
@@ -180,30 +169,30 @@ built-as pools t u n m x y e f b =
 
 -- with the targets of the shadows built after the leaf
 pub built-Pool : (pools : List (List ℕ)) (route : NamedRoute) (k : ℕ) (func : HashFunc) (salt : Vec ℕ Global) (v : Vec NamedShadow Global) (salted : List ℕ) (shadows : List NamedShadow) (t u x : List SymbolValue) (leaf : Leaf) (w : Vec Shadow Global)
-    → route ≡ config.Pool k func salt v → salted ≡ salt.items → shadows ≡ v.items
+    → route ≡ asked.Pool k func salt v → salted ≡ salt.items → shadows ≡ v.items
     → u ≡ with_entry same_symbol t (symbol_of func salted (pool_at pools k)) → pool_view leaf ≡ pool_named u func salted (pool_at pools k)
     → ranges_of w.items ≡ asked_ranges shadows → IsBuilt pools u (asked_targets shadows) x (map (λ s. s.1) (map shadow_view w.items))
     → IsBuilt pools t (named_of route ∷ []) x (view (Pool leaf w) ∷ [])
 built-Pool pools route k func salt v salted shadows t u x leaf w is salt-is same table leaf-is ranges b =
-    let own : named_of route ≡ plan.pool k func salted (asked_ranges shadows) (nameds_of (asked_targets shadows)) =
-    ap named_of is ∙ named_of-Pool k func salt v ∙ (λ i. plan.pool k func (sym salt-is i) (asked_ranges (sym same i)) (nameds_of (asked_targets (sym same i)))) in
-    let named : named_of route ≡ plan.pool k func salted (ranges_of w.items) (nameds_of (asked_targets shadows)) =
-    own ∙ ap (λ r. plan.pool k func salted r (nameds_of (asked_targets shadows))) (sym ranges) in
+    let own : named_of route ≡ config.pool k func salted (asked_ranges shadows) (nameds_of (asked_targets shadows)) =
+    ap named_of is ∙ named_of-Pool k func salt v ∙ (λ i. config.pool k func (sym salt-is i) (asked_ranges (sym same i)) (nameds_of (asked_targets (sym same i)))) in
+    let named : named_of route ≡ config.pool k func salted (ranges_of w.items) (nameds_of (asked_targets shadows)) =
+    own ∙ ap (λ r. config.pool k func salted r (nameds_of (asked_targets shadows))) (sym ranges) in
     built-as pools t x _ _ _ _ named (view-Pool leaf w)
     (built-pool pools t u x k func salted (ranges_of w.items) (pool_view leaf) (asked_targets shadows) (map (λ s. s.1) (map shadow_view w.items)) table leaf-is b)
 
 pub built-Server : (pools : List (List ℕ)) (route : NamedRoute) (k n : ℕ) (t u : List SymbolValue) (leaf : Leaf) (w : Vec Shadow Global)
-    → route ≡ config.Server k n → w.items ≡ []
+    → route ≡ asked.Server k n → w.items ≡ []
     → u ≡ with_entry same_symbol t (symbol_of Ch3 [] (server_at pools k n)) → pool_view leaf ≡ pool_named u Ch3 [] (server_at pools k n)
     → IsBuilt pools t (named_of route ∷ []) u (view (Pool leaf w) ∷ [])
 built-Server pools route k n t u leaf w is bare table leaf-is =
     let P : List Shadow → Type 0 = λ ss. view (Pool leaf w) ≡ pool (pool_view leaf) (ranges_of ss) (targets_of ss) in
     built-as pools t u _ _ _ _ (ap named_of is ∙ named_of-Server k n) (subst P bare (view-Pool leaf w)) (built-server pools t u k n (pool_view leaf) table leaf-is)
 
-pub built-Null : (pools : List (List ℕ)) (route : NamedRoute) (t : List SymbolValue) → route ≡ config.Null → IsBuilt pools t (named_of route ∷ []) t (view Null ∷ [])
+pub built-Null : (pools : List (List ℕ)) (route : NamedRoute) (t : List SymbolValue) → route ≡ asked.Null → IsBuilt pools t (named_of route ∷ []) t (view Null ∷ [])
 built-Null pools route t is = built-as pools t t _ _ _ _ (ap named_of is ∙ named_of-Null) view-Null (record { table = refl; trees_are = refl })
 
-pub built-Error : (pools : List (List ℕ)) (route : NamedRoute) (t : List SymbolValue) → route ≡ config.Error → IsBuilt pools t (named_of route ∷ []) t (view Error ∷ [])
+pub built-Error : (pools : List (List ℕ)) (route : NamedRoute) (t : List SymbolValue) → route ≡ asked.Error → IsBuilt pools t (named_of route ∷ []) t (view Error ∷ [])
 built-Error pools route t is = built-as pools t t _ _ _ _ (ap named_of is ∙ named_of-Error) view-Error (record { table = refl; trees_are = refl })
 
 pub child-more : (pools : List (List ℕ)) (t u v : List SymbolValue) (children : List NamedRoute) (i : ℕ) (child : NamedRoute) (routes : List Route) (r : Route)
@@ -214,38 +203,14 @@ child-more pools t u v children i child routes r h is before one =
     rw (map-more named_of children i child h is, map-append view routes (r ∷ []))
     (built-append pools t u v (map named_of (take i children)) (named_of child ∷ []) (map view routes) (view r ∷ []) before one)
 
-pub built-AllSync : (pools : List (List ℕ)) (route : NamedRoute) (v : Vec NamedRoute Global) (children : List NamedRoute) (t u : List SymbolValue) (w : Vec Route Global)
-    → route ≡ config.AllSync v → children ≡ v.items → IsBuilt pools t (map named_of children) u (map view w.items)
-    → IsBuilt pools t (named_of route ∷ []) u (view (AllSync w) ∷ [])
-built-AllSync pools route v children t u w is same b =
-    built-as pools t u _ _ _ _ (ap named_of is ∙ named_of-AllSync v ∙ ap (λ xs. plan.all_sync (children_of xs)) (sym same)) (view-AllSync w) (built-all_sync pools t u (map named_of children) (map view w.items) b)
-
-pub built-AllInitial : (pools : List (List ℕ)) (route : NamedRoute) (v : Vec NamedRoute Global) (children : List NamedRoute) (t u : List SymbolValue) (w : Vec Route Global)
-    → route ≡ config.AllInitial v → children ≡ v.items → IsBuilt pools t (map named_of children) u (map view w.items)
-    → IsBuilt pools t (named_of route ∷ []) u (view (AllInitial w) ∷ [])
-built-AllInitial pools route v children t u w is same b =
-    built-as pools t u _ _ _ _ (ap named_of is ∙ named_of-AllInitial v ∙ ap (λ xs. plan.all_initial (children_of xs)) (sym same)) (view-AllInitial w) (built-all_initial pools t u (map named_of children) (map view w.items) b)
-
-pub built-AllAsync : (pools : List (List ℕ)) (route : NamedRoute) (v : Vec NamedRoute Global) (children : List NamedRoute) (t u : List SymbolValue) (w : Vec Route Global)
-    → route ≡ config.AllAsync v → children ≡ v.items → IsBuilt pools t (map named_of children) u (map view w.items)
-    → IsBuilt pools t (named_of route ∷ []) u (view (AllAsync w) ∷ [])
-built-AllAsync pools route v children t u w is same b =
-    built-as pools t u _ _ _ _ (ap named_of is ∙ named_of-AllAsync v ∙ ap (λ xs. plan.all_async (children_of xs)) (sym same)) (view-AllAsync w) (built-all_async pools t u (map named_of children) (map view w.items) b)
-
-pub built-Failover : (pools : List (List ℕ)) (route : NamedRoute) (v : Vec NamedRoute Global) (children : List NamedRoute) (t u : List SymbolValue) (w : Vec Route Global)
-    → route ≡ config.Failover v → children ≡ v.items → IsBuilt pools t (map named_of children) u (map view w.items)
-    → IsBuilt pools t (named_of route ∷ []) u (view (Failover w) ∷ [])
-built-Failover pools route v children t u w is same b =
-    built-as pools t u _ _ _ _ (ap named_of is ∙ named_of-Failover v ∙ ap (λ xs. plan.failover (children_of xs)) (sym same)) (view-Failover w) (built-failover pools t u (map named_of children) (map view w.items) b)
-
-pub built-MissFailover : (pools : List (List ℕ)) (route : NamedRoute) (v : Vec NamedRoute Global) (children : List NamedRoute) (t u : List SymbolValue) (w : Vec Route Global)
-    → route ≡ config.MissFailover v → children ≡ v.items → IsBuilt pools t (map named_of children) u (map view w.items)
-    → IsBuilt pools t (named_of route ∷ []) u (view (MissFailover w) ∷ [])
-built-MissFailover pools route v children t u w is same b =
-    built-as pools t u _ _ _ _ (ap named_of is ∙ named_of-MissFailover v ∙ ap (λ xs. plan.miss_failover (children_of xs)) (sym same)) (view-MissFailover w) (built-miss_failover pools t u (map named_of children) (map view w.items) b)
+pub built-Many : (pools : List (List ℕ)) (route : NamedRoute) (kind : Kind) (v : Vec NamedRoute Global) (children : List NamedRoute) (t u : List SymbolValue) (w : Vec Route Global)
+    → route ≡ asked.Many kind v → children ≡ v.items → IsBuilt pools t (map named_of children) u (map view w.items)
+    → IsBuilt pools t (named_of route ∷ []) u (view (Many kind w) ∷ [])
+built-Many pools route kind v children t u w is same b =
+    built-as pools t u _ _ _ _ (ap named_of is ∙ named_of-Many kind v ∙ ap (λ xs. config.many kind (children_of xs)) (sym same)) (view-Many kind w) (built-many kind pools t u (map named_of children) (map view w.items) b)
 
 pub built-WarmUp : (pools : List (List ℕ)) (route : NamedRoute) (cold warm : Box NamedRoute Global) (exptime : ℕ) (t u v : List SymbolValue) (a b : Box Route Global)
-    → route ≡ config.WarmUp cold warm exptime
+    → route ≡ asked.WarmUp cold warm exptime
     → IsBuilt pools t (named_of cold.value ∷ []) u (view a.value ∷ []) → IsBuilt pools u (named_of warm.value ∷ []) v (view b.value ∷ [])
     → IsBuilt pools t (named_of route ∷ []) v (view (WarmUp a b exptime) ∷ [])
 built-WarmUp pools route cold warm exptime t u v a b is x y =
@@ -253,7 +218,7 @@ built-WarmUp pools route cold warm exptime t u v a b is x y =
     (built-warm_up exptime pools t u v (named_of cold.value) (named_of warm.value) (view a.value) (view b.value) x y)
 
 pub built-Migrate : (pools : List (List ℕ)) (route : NamedRoute) (from to : Box NamedRoute Global) (start interval : ℕ) (t u v : List SymbolValue) (a b : Box Route Global)
-    → route ≡ config.Migrate from to start interval
+    → route ≡ asked.Migrate from to start interval
     → IsBuilt pools t (named_of from.value ∷ []) u (view a.value ∷ []) → IsBuilt pools u (named_of to.value ∷ []) v (view b.value ∷ [])
     → IsBuilt pools t (named_of route ∷ []) v (view (Migrate a b start interval) ∷ [])
 built-Migrate pools route from to start interval t u v a b is x y =
@@ -263,47 +228,47 @@ built-Migrate pools route from to start interval t u v a b is x y =
 -- ---- shadows and policies
 
 -- one more item, of which a walk makes what is beside a route, and the route
-pub item-more : {N M A : Type 0} (pools : List (List ℕ)) (t u v : List SymbolValue) (asked : N → A × Named) (made : M → A × Tree) (items : List N) (i : ℕ) (item : N) (built : List M) (q : M) (beside : A) (n : Named) (x : Tree)
-    → i < length items → item ≡ get_or items i item → asked item ≡ (beside, n) → made q ≡ (beside, x)
-    → (map (λ o. o.0) (map made built) ≡ map (λ o. o.0) (map asked (take i items))) × IsBuilt pools t (map (λ o. o.1) (map asked (take i items))) u (map (λ o. o.1) (map made built))
+pub item-more : {N M A : Type 0} (pools : List (List ℕ)) (t u v : List SymbolValue) (given : N → A × Named) (made : M → A × Tree) (items : List N) (i : ℕ) (item : N) (built : List M) (q : M) (beside : A) (n : Named) (x : Tree)
+    → i < length items → item ≡ get_or items i item → given item ≡ (beside, n) → made q ≡ (beside, x)
+    → (map (λ o. o.0) (map made built) ≡ map (λ o. o.0) (map given (take i items))) × IsBuilt pools t (map (λ o. o.1) (map given (take i items))) u (map (λ o. o.1) (map made built))
     → IsBuilt pools u (n ∷ []) v (x ∷ [])
-    → (map (λ o. o.0) (map made (built ++ q ∷ [])) ≡ map (λ o. o.0) (map asked (take (i + 1) items))) × IsBuilt pools t (map (λ o. o.1) (map asked (take (i + 1) items))) v (map (λ o. o.1) (map made (built ++ q ∷ [])))
-item-more pools t u v asked made items i item built q beside n x h is asked-is made-is before one =
+    → (map (λ o. o.0) (map made (built ++ q ∷ [])) ≡ map (λ o. o.0) (map given (take (i + 1) items))) × IsBuilt pools t (map (λ o. o.1) (map given (take (i + 1) items))) v (map (λ o. o.1) (map made (built ++ q ∷ [])))
+item-more pools t u v given made items i item built q beside n x h is asked-is made-is before one =
     let seen : map made (built ++ q ∷ []) ≡ map made built ++ (beside, x) ∷ [] = map-append made built (q ∷ []) ∙ ap (λ y. map made built ++ y ∷ []) made-is in
-    let named : map asked (take (i + 1) items) ≡ map asked (take i items) ++ (beside, n) ∷ [] = map-more asked items i item h is ∙ ap (λ y. map asked (take i items) ++ y ∷ []) asked-is in (
+    let named : map given (take (i + 1) items) ≡ map given (take i items) ++ (beside, n) ∷ [] = map-more given items i item h is ∙ ap (λ y. map given (take i items) ++ y ∷ []) asked-is in (
       ap (map (λ o. o.0)) seen ∙ map-append (λ o. o.0) (map made built) ((beside, x) ∷ []) ∙ ap (λ y. y ++ beside ∷ []) before.0
-          ∙ sym (ap (map (λ o. o.0)) named ∙ map-append (λ o. o.0) (map asked (take i items)) ((beside, n) ∷ [])),
-      rw (ap (map (λ o. o.1)) seen ∙ map-append (λ o. o.1) (map made built) ((beside, x) ∷ []), ap (map (λ o. o.1)) named ∙ map-append (λ o. o.1) (map asked (take i items)) ((beside, n) ∷ []))
-          (built-append pools t u v (map (λ o. o.1) (map asked (take i items))) (n ∷ []) (map (λ o. o.1) (map made built)) (x ∷ []) before.1 one),
+          ∙ sym (ap (map (λ o. o.0)) named ∙ map-append (λ o. o.0) (map given (take i items)) ((beside, n) ∷ [])),
+      rw (ap (map (λ o. o.1)) seen ∙ map-append (λ o. o.1) (map made built) ((beside, x) ∷ []), ap (map (λ o. o.1)) named ∙ map-append (λ o. o.1) (map given (take i items)) ((beside, n) ∷ []))
+          (built-append pools t u v (map (λ o. o.1) (map given (take i items))) (n ∷ []) (map (λ o. o.1) (map made built)) (x ∷ []) before.1 one),
     )
 
 -- with the routes of the policies built, and then what comes after them
 pub built-PrefixSelector : (pools : List (List ℕ)) (route : NamedRoute) (v : Vec NamedPrefix Global) (d : Option (Box NamedRoute Global)) (policies : List NamedPrefix) (t u x : List SymbolValue)
     (w : Vec PrefixPolicy Global) (e : Option (Box Route Global))
-    → route ≡ config.PrefixSelector v d → policies ≡ v.items
+    → route ≡ asked.PrefixSelector v d → policies ≡ v.items
     → prefixes_of w.items ≡ asked_prefixes policies → IsBuilt pools t (prefix_routes_of policies) u (map (λ o. o.1) (map prefix_view w.items))
     → IsBuilt pools u (last_named d) x (last_view e)
     → IsBuilt pools t (named_of route ∷ []) x (view (PrefixSelector w e) ∷ [])
 built-PrefixSelector pools route v d policies t u x w e is same prefixes before last =
-    let own : named_of route ≡ plan.prefix_selector (asked_prefixes policies) (nameds_of (prefix_routes_of policies ++ last_named d)) =
-    ap named_of is ∙ named_of-PrefixSelector v d ∙ ap (λ ps. plan.prefix_selector (asked_prefixes ps) (nameds_of (prefix_routes_of ps ++ last_named d))) (sym same) in
-    let named : named_of route ≡ plan.prefix_selector (prefixes_of w.items) (nameds_of (prefix_routes_of policies ++ last_named d)) =
-    own ∙ ap (λ o. plan.prefix_selector o (nameds_of (prefix_routes_of policies ++ last_named d))) (sym prefixes) in
+    let own : named_of route ≡ config.prefix_selector (asked_prefixes policies) (nameds_of (prefix_routes_of policies ++ last_named d)) =
+    ap named_of is ∙ named_of-PrefixSelector v d ∙ ap (λ ps. config.prefix_selector (asked_prefixes ps) (nameds_of (prefix_routes_of ps ++ last_named d))) (sym same) in
+    let named : named_of route ≡ config.prefix_selector (prefixes_of w.items) (nameds_of (prefix_routes_of policies ++ last_named d)) =
+    own ∙ ap (λ o. config.prefix_selector o (nameds_of (prefix_routes_of policies ++ last_named d))) (sym prefixes) in
     built-as pools t x _ _ _ _ named (view-PrefixSelector w e)
     (built-prefix_selector (prefixes_of w.items) pools t x (prefix_routes_of policies ++ last_named d) (map (λ o. o.1) (map prefix_view w.items) ++ last_view e)
     (built-append pools t u x (prefix_routes_of policies) (last_named d) (map (λ o. o.1) (map prefix_view w.items)) (last_view e) before last))
 
 pub built-OperationSelector : (pools : List (List ℕ)) (route : NamedRoute) (v : Vec NamedPolicy Global) (d : Option (Box NamedRoute Global)) (policies : List NamedPolicy) (t u x : List SymbolValue)
     (w : Vec OperationPolicy Global) (e : Option (Box Route Global))
-    → route ≡ config.OperationSelector v d → policies ≡ v.items
+    → route ≡ asked.OperationSelector v d → policies ≡ v.items
     → operations_of w.items ≡ names_of policies → IsBuilt pools t (policies_of policies) u (map (λ o. o.1) (map operation_view w.items))
     → IsBuilt pools u (last_named d) x (last_view e)
     → IsBuilt pools t (named_of route ∷ []) x (view (OperationSelector w e) ∷ [])
 built-OperationSelector pools route v d policies t u x w e is same ops before last =
-    let own : named_of route ≡ plan.operation_selector (names_of policies) (nameds_of (policies_of policies ++ last_named d)) =
-    ap named_of is ∙ named_of-OperationSelector v d ∙ ap (λ ps. plan.operation_selector (names_of ps) (nameds_of (policies_of ps ++ last_named d))) (sym same) in
-    let named : named_of route ≡ plan.operation_selector (operations_of w.items) (nameds_of (policies_of policies ++ last_named d)) =
-    own ∙ ap (λ o. plan.operation_selector o (nameds_of (policies_of policies ++ last_named d))) (sym ops) in
+    let own : named_of route ≡ config.operation_selector (names_of policies) (nameds_of (policies_of policies ++ last_named d)) =
+    ap named_of is ∙ named_of-OperationSelector v d ∙ ap (λ ps. config.operation_selector (names_of ps) (nameds_of (policies_of ps ++ last_named d))) (sym same) in
+    let named : named_of route ≡ config.operation_selector (operations_of w.items) (nameds_of (policies_of policies ++ last_named d)) =
+    own ∙ ap (λ o. config.operation_selector o (nameds_of (policies_of policies ++ last_named d))) (sym ops) in
     built-as pools t x _ _ _ _ named (view-OperationSelector w e)
     (built-operation_selector (operations_of w.items) pools t x (policies_of policies ++ last_named d) (map (λ o. o.1) (map operation_view w.items) ++ last_view e)
     (built-append pools t u x (policies_of policies) (last_named d) (map (λ o. o.1) (map operation_view w.items)) (last_view e) before last))

@@ -5,7 +5,7 @@ use Rattle.std.specs.Slice.{IsItemAt}
 use Rattle.std.proofs.lemmas.Bool.{cases_lt}
 use Rattle.std.proofs.lemmas.Option.{slice_get-get_or, slice_get-map, slice_get_past}
 use Rattle.mcv_base.specs.declared.request.Moment.{Moment}
-use Rattle.mcv_route.proofs.Ways.{borrowed-at}
+use Rattle.mcv_route.proofs.HandleChildren.{borrowed-at}
 use Rattle.mcv_route.specs.Eras.{HasEra, IsBreakTable, IsEraOf, breaks_of}
 use Rattle.mcv_route.specs.Routes.{RoutesValue}
 use Rattle.mcv_route.proofs.BreakTables.{one_table}

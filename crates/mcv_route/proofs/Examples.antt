@@ -8,15 +8,15 @@ use Rattle.mcv_base.specs.declared.operation.Mark.TheVariants.{Add as Added}
 use Rattle.mcv_base.specs.declared.reply.Outcome.{Outcome}
 use Rattle.mcv_base.specs.declared.reply.Outcome.TheVariants.{Good, Soft, Error}
 use Rattle.mcv_route.specs.Outcomes.{Choice, outcomes}
-use Rattle.mcv_config.specs.Plan as plan
+use Rattle.mcv_config.specs.ConfigValue as config
 use Rattle.mcv_pools.specs.declared.symbol.HashFunc.TheVariants.{Ch3, Crc32}
 use Rattle.mcv_pools.specs.Symbol.{same_symbol}
 use Rattle.mcv_pools.specs.Table.{numbered}
-use Rattle.mcv_route.specs.Built.{symbols_in, tree_named}
+use Rattle.mcv_route.specs.NamedRoutes.{symbols_in, tree_named}
 use Rattle.mcv_route.specs.Eras.{breaks, since_at, era_at}
 use Rattle.mcv_route.specs.Limits.{handles_in, IsWithin}
 use Rattle.mcv_route.specs.Places.{tree_at}
-use Rattle.mcv_route.specs.Tree.{Tree, Trees, pool, null, error, all_sync, all_initial, all_async, failover, miss_failover, warm_up, migrate, prefix_selector, operation_selector, none, child}
+use Rattle.mcv_route.specs.Tree.{Tree, Trees, pool, null, error, many, AllSync, AllInitial, AllAsync, Failover, MissFailover, warm_up, migrate, prefix_selector, operation_selector, none, child}
 use Rattle.mcv_route.specs.Situation.{Situation, asked}
 use Rattle.mcv_route.specs.Replies.{Answer, leg, fixed, refusal, replies}
 use Rattle.mcv_route.specs.declared.launch.Launch.{Launch}
@@ -42,22 +42,22 @@ delete = asked Delete (97 ∷ []) None
 abbrev get : Situation
 get = asked Get (97 ∷ []) None
 
-failover_first : launched (failover (two (one 7) (one 8))) delete first (outcomes []) ≡ at (0 ∷ []) 7 Delete Plain ∷ []
+failover_first : launched (many Failover (two (one 7) (one 8))) delete first (outcomes []) ≡ at (0 ∷ []) 7 Delete Plain ∷ []
 failover_first = refl
 
-failover_second : launched (failover (two (one 7) (one 8))) delete first (outcomes ((0 ∷ [], Error) ∷ [])) ≡ at (0 ∷ []) 7 Delete Plain ∷ at (1 ∷ []) 8 Delete Plain ∷ []
+failover_second : launched (many Failover (two (one 7) (one 8))) delete first (outcomes ((0 ∷ [], Error) ∷ [])) ≡ at (0 ∷ []) 7 Delete Plain ∷ at (1 ∷ []) 8 Delete Plain ∷ []
 failover_second = refl
 
-failover_soft : launched (failover (two (one 7) (one 8))) delete first (outcomes ((0 ∷ [], Soft) ∷ [])) ≡ at (0 ∷ []) 7 Delete Plain ∷ []
+failover_soft : launched (many Failover (two (one 7) (one 8))) delete first (outcomes ((0 ∷ [], Soft) ∷ [])) ≡ at (0 ∷ []) 7 Delete Plain ∷ []
 failover_soft = refl
 
-initial_marks : launched (all_initial (two (one 7) (all_initial (two (one 8) (one 9))))) delete first (outcomes []) ≡ at (0 ∷ []) 7 Delete Plain ∷ at (1 ∷ 0 ∷ []) 8 Delete Async ∷ at (1 ∷ 1 ∷ []) 9 Delete Async ∷ []
+initial_marks : launched (many AllInitial (two (one 7) (many AllInitial (two (one 8) (one 9))))) delete first (outcomes []) ≡ at (0 ∷ []) 7 Delete Plain ∷ at (1 ∷ 0 ∷ []) 8 Delete Async ∷ at (1 ∷ 1 ∷ []) 9 Delete Async ∷ []
 initial_marks = refl
 
-initial_reply : replies (all_initial (two (one 7) (one 8))) delete (outcomes ((1 ∷ [], Good) ∷ [])) ≡ []
+initial_reply : replies (many AllInitial (two (one 7) (one 8))) delete (outcomes ((1 ∷ [], Good) ∷ [])) ≡ []
 initial_reply = refl
 
-async_reply : replies (all_async (two (one 7) (one 8))) delete (outcomes []) ≡ record { outcome = Soft; source = fixed } ∷ []
+async_reply : replies (many AllAsync (two (one 7) (one 8))) delete (outcomes []) ≡ record { outcome = Soft; source = fixed } ∷ []
 async_reply = refl
 
 shadow_inside : launched (pool (record { symbol = 0; servers = 7 ∷ 8 ∷ [] }) (record { first = 0; last = 0 } ∷ []) (child (one 9) none)) delete first (outcomes []) ≡ at [] 7 Delete Plain ∷ at (0 ∷ []) 9 Delete Shadow ∷ []
@@ -100,43 +100,43 @@ operation : launched (operation_selector (Some Delete ∷ []) (two (one 7) (one 
 operation = refl
 
 -- an inner AllSyncRoute comes when it is complete, though its answer came first of all
-inner_is_last : reply (all_sync (two (all_sync (two (one 7) (one 8))) (one 9))) delete ((0 ∷ 1 ∷ [], Good) ∷ (1 ∷ [], Soft) ∷ (0 ∷ 0 ∷ [], Soft) ∷ []) ≡ Some (record { outcome = Soft; source = leg (0 ∷ 0 ∷ []) })
+inner_is_last : reply (many AllSync (two (many AllSync (two (one 7) (one 8))) (one 9))) delete ((0 ∷ 1 ∷ [], Good) ∷ (1 ∷ [], Soft) ∷ (0 ∷ 0 ∷ [], Soft) ∷ []) ≡ Some (record { outcome = Soft; source = leg (0 ∷ 0 ∷ []) })
 inner_is_last = refl
 
-inner_is_first : reply (all_sync (two (all_sync (two (one 7) (one 8))) (one 9))) delete ((1 ∷ [], Soft) ∷ (0 ∷ 1 ∷ [], Good) ∷ (0 ∷ 0 ∷ [], Soft) ∷ []) ≡ Some (record { outcome = Soft; source = leg (1 ∷ []) })
+inner_is_first : reply (many AllSync (two (many AllSync (two (one 7) (one 8))) (one 9))) delete ((1 ∷ [], Soft) ∷ (0 ∷ 1 ∷ [], Good) ∷ (0 ∷ 0 ∷ [], Soft) ∷ []) ≡ Some (record { outcome = Soft; source = leg (1 ∷ []) })
 inner_is_first = refl
 
 -- of three, the first came last among the worst
-three : reply (all_sync (child (one 7) (two (one 8) (one 9)))) delete ((0 ∷ [], Soft) ∷ (2 ∷ [], Good) ∷ (1 ∷ [], Soft) ∷ []) ≡ Some (record { outcome = Soft; source = leg (0 ∷ []) })
+three : reply (many AllSync (child (one 7) (two (one 8) (one 9)))) delete ((0 ∷ [], Soft) ∷ (2 ∷ [], Good) ∷ (1 ∷ [], Soft) ∷ []) ≡ Some (record { outcome = Soft; source = leg (0 ∷ []) })
 three = refl
 
-not_yet : reply (all_sync (child (one 7) (two (one 8) (one 9)))) delete ((2 ∷ [], Error) ∷ (1 ∷ [], Soft) ∷ []) ≡ None
+not_yet : reply (many AllSync (child (one 7) (two (one 8) (one 9)))) delete ((2 ∷ [], Error) ∷ (1 ∷ [], Soft) ∷ []) ≡ None
 not_yet = refl
 
 -- replies at once count as coming in the order of the children
-at_once : reply (all_sync (two (all_async none) null)) delete [] ≡ Some (record { outcome = Soft; source = fixed })
+at_once : reply (many AllSync (two (many AllAsync none) null)) delete [] ≡ Some (record { outcome = Soft; source = fixed })
 at_once = refl
 
 -- ---- AllSyncRoute: equal answers, and the last of them
 
-sync_ties : replies (all_sync (two (one 7) (one 8))) delete (outcomes ((1 ∷ [], Soft) ∷ (0 ∷ [], Soft) ∷ [])) ≡ record { outcome = Soft; source = leg (0 ∷ []) } ∷ record { outcome = Soft; source = leg (1 ∷ []) } ∷ []
+sync_ties : replies (many AllSync (two (one 7) (one 8))) delete (outcomes ((1 ∷ [], Soft) ∷ (0 ∷ [], Soft) ∷ [])) ≡ record { outcome = Soft; source = leg (0 ∷ []) } ∷ record { outcome = Soft; source = leg (1 ∷ []) } ∷ []
 sync_ties = refl
 
-sync_last : reply (all_sync (two (one 7) (one 8))) delete ((0 ∷ [], Error) ∷ (1 ∷ [], Error) ∷ []) ≡ Some (record { outcome = Error; source = leg (0 ∷ []) })
+sync_last : reply (many AllSync (two (one 7) (one 8))) delete ((0 ∷ [], Error) ∷ (1 ∷ [], Error) ∷ []) ≡ Some (record { outcome = Error; source = leg (0 ∷ []) })
 sync_last = refl
 
 -- ---- AllInitialRoute, AllAsyncRoute, MissFailoverRoute, ErrorRoute
 
-initial_first : replies (all_initial (two (one 7) (one 8))) delete (outcomes ((1 ∷ [], Error) ∷ (0 ∷ [], Good) ∷ [])) ≡ record { outcome = Good; source = leg (0 ∷ []) } ∷ []
+initial_first : replies (many AllInitial (two (one 7) (one 8))) delete (outcomes ((1 ∷ [], Error) ∷ (0 ∷ [], Good) ∷ [])) ≡ record { outcome = Good; source = leg (0 ∷ []) } ∷ []
 initial_first = refl
 
-async_failover : launched (all_async (child (failover (two (one 7) (one 8))) none)) delete first (outcomes ((0 ∷ 0 ∷ [], Error) ∷ [])) ≡ at (0 ∷ 0 ∷ []) 7 Delete Async ∷ at (0 ∷ 1 ∷ []) 8 Delete Async ∷ []
+async_failover : launched (many AllAsync (child (many Failover (two (one 7) (one 8))) none)) delete first (outcomes ((0 ∷ 0 ∷ [], Error) ∷ [])) ≡ at (0 ∷ 0 ∷ []) 7 Delete Async ∷ at (0 ∷ 1 ∷ []) 8 Delete Async ∷ []
 async_failover = refl
 
-miss_failover_next : launched (miss_failover (two (one 7) (one 8))) get first (outcomes ((0 ∷ [], Soft) ∷ [])) ≡ at (0 ∷ []) 7 Get Plain ∷ at (1 ∷ []) 8 Get Plain ∷ []
+miss_failover_next : launched (many MissFailover (two (one 7) (one 8))) get first (outcomes ((0 ∷ [], Soft) ∷ [])) ≡ at (0 ∷ []) 7 Get Plain ∷ at (1 ∷ []) 8 Get Plain ∷ []
 miss_failover_next = refl
 
-miss_failover_delete : launched (miss_failover (two (one 7) (one 8))) delete first (outcomes ((0 ∷ [], Soft) ∷ [])) ≡ at (0 ∷ []) 7 Delete Plain ∷ []
+miss_failover_delete : launched (many MissFailover (two (one 7) (one 8))) delete first (outcomes ((0 ∷ [], Soft) ∷ [])) ≡ at (0 ∷ []) 7 Delete Plain ∷ []
 miss_failover_delete = refl
 
 error_route : replies error delete (outcomes []) ≡ record { outcome = Error; source = refusal } ∷ []
@@ -144,7 +144,7 @@ error_route = refl
 
 -- ---- shadows: all below them is marked so, and no reply waits for them
 
-shadow_marks : launched (pool (record { symbol = 0; servers = 7 ∷ 8 ∷ [] }) (record { first = 0; last = 0 } ∷ []) (child (all_async (child (one 9) none)) none)) delete first (outcomes []) ≡ at [] 7 Delete Plain ∷ at (0 ∷ 0 ∷ []) 9 Delete Shadow ∷ []
+shadow_marks : launched (pool (record { symbol = 0; servers = 7 ∷ 8 ∷ [] }) (record { first = 0; last = 0 } ∷ []) (child (many AllAsync (child (one 9) none)) none)) delete first (outcomes []) ≡ at [] 7 Delete Plain ∷ at (0 ∷ 0 ∷ []) 9 Delete Shadow ∷ []
 shadow_marks = refl
 
 shadow_add : launched (pool (record { symbol = 0; servers = 7 ∷ [] }) (record { first = 0; last = 0 } ∷ []) (child (warm_up (one 8) (one 9) 60) none)) get first (outcomes ((0 ∷ 1 ∷ [], Good) ∷ (0 ∷ 0 ∷ [], Soft) ∷ [])) ≡ at [] 7 Get Plain ∷ at (0 ∷ 0 ∷ []) 8 Get Shadow ∷ at (0 ∷ 1 ∷ []) 9 Get Shadow ∷ at (0 ∷ 2 ∷ []) 8 Add Shadow ∷ []
@@ -164,7 +164,7 @@ warm_up_missed = refl
 warm_up_reply : replies (warm_up (one 7) (one 8) 60) get (outcomes ((1 ∷ [], Good) ∷ (0 ∷ [], Soft) ∷ [])) ≡ record { outcome = Good; source = leg (1 ∷ []) } ∷ []
 warm_up_reply = refl
 
-warm_up_async : launched (all_async (child (warm_up (one 7) (one 8) 60) none)) get first (outcomes ((0 ∷ 1 ∷ [], Good) ∷ (0 ∷ 0 ∷ [], Soft) ∷ [])) ≡ at (0 ∷ 0 ∷ []) 7 Get Async ∷ at (0 ∷ 1 ∷ []) 8 Get Async ∷ at (0 ∷ 2 ∷ []) 7 Add Added ∷ []
+warm_up_async : launched (many AllAsync (child (warm_up (one 7) (one 8) 60) none)) get first (outcomes ((0 ∷ 1 ∷ [], Good) ∷ (0 ∷ 0 ∷ [], Soft) ∷ [])) ≡ at (0 ∷ 0 ∷ []) 7 Get Async ∷ at (0 ∷ 1 ∷ []) 8 Get Async ∷ at (0 ∷ 2 ∷ []) 7 Add Added ∷ []
 warm_up_async = refl
 
 -- ---- MigrateRoute: before its start, and after each break
@@ -203,7 +203,7 @@ no_policy_reply = refl
 
 -- ---- eras
 
-migration_breaks : breaks (all_sync (two (migrate (one 7) (one 8) 100 10) (one 9))) ≡ 100 ∷ 110 ∷ 120 ∷ []
+migration_breaks : breaks (many AllSync (two (migrate (one 7) (one 8) 100 10) (one 9))) ≡ 100 ∷ 110 ∷ 120 ∷ []
 migration_breaks = refl
 
 since_before : since_at (100 ∷ 120 ∷ 110 ∷ []) 99 ≡ None
@@ -232,22 +232,22 @@ the_wildcard = refl
 cold_again : tree_at (warm_up (one 7) (one 8) 60) (2 ∷ []) ≡ Some (one 7)
 cold_again = refl
 
-nothing_there : tree_at (all_sync (two (one 7) (one 8))) (2 ∷ []) ≡ None
+nothing_there : tree_at (many AllSync (two (one 7) (one 8))) (2 ∷ []) ≡ None
 nothing_there = refl
 
--- ---- what a plan names: a pool of two servers with a shadow, the second server as a pool of its own, and the pool again, under another hash and under the first
+-- ---- what a configuration names: a pool of two servers with a shadow, the second server as a pool of its own, and the pool again, under another hash and under the first
 
 abbrev pools : List (List ℕ)
 pools = (7 ∷ 8 ∷ []) ∷ []
 
-abbrev shadowed : plan.Named
-shadowed = plan.pool 0 Ch3 [] (record { first = 0; last = 1 } ∷ []) (plan.named (plan.server 0 1) plan.no_named)
+abbrev shadowed : config.Named
+shadowed = config.pool 0 Ch3 [] (record { first = 0; last = 1 } ∷ []) (config.named (config.server 0 1) config.no_named)
 
-abbrev salted : plan.Named
-salted = plan.pool 0 Crc32 (120 ∷ []) [] plan.no_named
+abbrev salted : config.Named
+salted = config.pool 0 Crc32 (120 ∷ []) [] config.no_named
 
-abbrev asks : plan.Named
-asks = plan.all_sync (plan.named shadowed (plan.named (plan.server 0 1) (plan.named salted (plan.named (plan.pool 0 Ch3 [] [] plan.no_named) plan.no_named))))
+abbrev asks : config.Named
+asks = config.many AllSync (config.named shadowed (config.named (config.server 0 1) (config.named salted (config.named (config.pool 0 Ch3 [] [] config.no_named) config.no_named))))
 
 abbrev second_server : Tree
 second_server = pool (record { symbol = 1; servers = 8 ∷ [] }) [] none
@@ -258,20 +258,20 @@ pool_of_two symbol = pool (record { symbol = symbol; servers = 7 ∷ 8 ∷ [] })
 abbrev with_shadow : Tree
 with_shadow = pool (record { symbol = 0; servers = 7 ∷ 8 ∷ [] }) (record { first = 0; last = 1 } ∷ []) (child second_server none)
 
-named_tree : tree_named (numbered same_symbol (symbols_in pools asks)) pools asks ≡ all_sync (child with_shadow (child second_server (two (pool_of_two 2) (pool_of_two 0))))
+named_tree : tree_named (numbered same_symbol (symbols_in pools asks)) pools asks ≡ many AllSync (child with_shadow (child second_server (two (pool_of_two 2) (pool_of_two 0))))
 named_tree = refl
 
-warm_up_walk : symbols_in pools (plan.warm_up salted (plan.server 0 0) 60) ≡ record { func = Crc32; salt = 120 ∷ []; n = 2 } ∷ record { func = Ch3; salt = []; n = 1 } ∷ []
+warm_up_walk : symbols_in pools (config.warm_up salted (config.server 0 0) 60) ≡ record { func = Crc32; salt = 120 ∷ []; n = 2 } ∷ record { func = Ch3; salt = []; n = 1 } ∷ []
 warm_up_walk = refl
 
-named_migration : tree_named [] pools (plan.migrate plan.null plan.error 100 10) ≡ migrate null error 100 10
+named_migration : tree_named [] pools (config.migrate config.null config.error 100 10) ≡ migrate null error 100 10
 named_migration = refl
 
 -- the add that goes to the cold side is no handle of its own
 warm_up_handles : handles_in (warm_up (one 7) (one 8) 60) ≡ 3
 warm_up_handles = refl
 
-not_on_one_level : IsWithin 1 (failover (two (one 7) (one 8))) → ⊥
+not_on_one_level : IsWithin 1 (many Failover (two (one 7) (one 8))) → ⊥
 not_on_one_level h = h.0
 
 -- ---- whole routes: the legs sent at first, those that an outcome sends, and the one reply
@@ -328,10 +328,10 @@ get_second_of_two = refl
 -- ---- a delete to each server of the pool from which all else is answered
 
 abbrev all_servers : Tree
-all_servers = for_delete (all_sync (two (one 7) (one 8))) (pool_of_two 1)
+all_servers = for_delete (many AllSync (two (one 7) (one 8))) (pool_of_two 1)
 
-abbrev names_all_servers : plan.Named
-names_all_servers = plan.operation_selector (Some Delete ∷ []) (plan.named (plan.all_sync (plan.named (plan.server 0 0) (plan.named (plan.server 0 1) plan.no_named))) (plan.named (plan.pool 0 Ch3 [] [] plan.no_named) plan.no_named))
+abbrev names_all_servers : config.Named
+names_all_servers = config.operation_selector (Some Delete ∷ []) (config.named (config.many AllSync (config.named (config.server 0 0) (config.named (config.server 0 1) config.no_named))) (config.named (config.pool 0 Ch3 [] [] config.no_named) config.no_named))
 
 all_servers_named : tree_named (numbered same_symbol (symbols_in pools names_all_servers)) pools names_all_servers ≡ all_servers
 all_servers_named = refl
@@ -365,7 +365,7 @@ warm_up_deleted : reply (warm_up (one 7) (one 8) 60) delete ((0 ∷ [], Good) �
 warm_up_deleted = refl
 
 abbrev both_sides : Tree
-both_sides = for_delete (all_sync (two (one 7) (one 8))) (warm_up (one 7) (one 8) 60)
+both_sides = for_delete (many AllSync (two (one 7) (one 8))) (warm_up (one 7) (one 8) 60)
 
 both_sides_delete : launched both_sides delete first (outcomes []) ≡ at (0 ∷ 0 ∷ []) 7 Delete Plain ∷ at (0 ∷ 1 ∷ []) 8 Delete Plain ∷ []
 both_sides_delete = refl
@@ -393,31 +393,31 @@ both_sides_set = refl
 
 -- ---- FailoverRoute
 
-failover_good : launched (failover (two (one 7) (one 8))) delete first (outcomes ((0 ∷ [], Good) ∷ [])) ≡ at (0 ∷ []) 7 Delete Plain ∷ []
+failover_good : launched (many Failover (two (one 7) (one 8))) delete first (outcomes ((0 ∷ [], Good) ∷ [])) ≡ at (0 ∷ []) 7 Delete Plain ∷ []
 failover_good = refl
 
-failover_deleted : reply (failover (two (one 7) (one 8))) delete ((0 ∷ [], Good) ∷ []) ≡ replied Good (0 ∷ [])
+failover_deleted : reply (many Failover (two (one 7) (one 8))) delete ((0 ∷ [], Good) ∷ []) ≡ replied Good (0 ∷ [])
 failover_deleted = refl
 
-failover_get : launched (failover (two (one 7) (one 8))) get first (outcomes ((0 ∷ [], Error) ∷ [])) ≡ at (0 ∷ []) 7 Get Plain ∷ at (1 ∷ []) 8 Get Plain ∷ []
+failover_get : launched (many Failover (two (one 7) (one 8))) get first (outcomes ((0 ∷ [], Error) ∷ [])) ≡ at (0 ∷ []) 7 Get Plain ∷ at (1 ∷ []) 8 Get Plain ∷ []
 failover_get = refl
 
-failover_hit : reply (failover (two (one 7) (one 8))) get ((1 ∷ [], Good) ∷ (0 ∷ [], Error) ∷ []) ≡ replied Good (1 ∷ [])
+failover_hit : reply (many Failover (two (one 7) (one 8))) get ((1 ∷ [], Good) ∷ (0 ∷ [], Error) ∷ []) ≡ replied Good (1 ∷ [])
 failover_hit = refl
 
 -- ---- MissFailoverRoute for gets, and for deletes a failover past an ErrorRoute
 
 abbrev missed_over : Tree
-missed_over = miss_failover (two (one 7) (one 8))
+missed_over = many MissFailover (two (one 7) (one 8))
 
 abbrev past_an_error : Tree
-past_an_error = failover (two (all_sync (two (one 7) error)) (one 8))
+past_an_error = many Failover (two (many AllSync (two (one 7) error)) (one 8))
 
 abbrev not_waited_for : Tree
-not_waited_for = for_delete (all_async (child past_an_error none)) missed_over
+not_waited_for = for_delete (many AllAsync (child past_an_error none)) missed_over
 
 abbrev waited_for : Tree
-waited_for = for_delete (all_sync (child past_an_error none)) missed_over
+waited_for = for_delete (many AllSync (child past_an_error none)) missed_over
 
 not_waited_for_delete : launched not_waited_for delete first (outcomes []) ≡ at (0 ∷ 0 ∷ 0 ∷ 0 ∷ []) 7 Delete Async ∷ []
 not_waited_for_delete = refl
@@ -443,7 +443,7 @@ waited_for_deleted = refl
 -- ---- a delete that ErrorRoute always fails
 
 abbrev always_fails : Tree
-always_fails = for_delete (all_sync (two (one 7) error)) (one 8)
+always_fails = for_delete (many AllSync (two (one 7) error)) (one 8)
 
 always_fails_delete : launched always_fails delete first (outcomes []) ≡ at (0 ∷ 0 ∷ []) 7 Delete Plain ∷ []
 always_fails_delete = refl
@@ -535,7 +535,7 @@ two_hashes_hit = refl
 -- ---- NullRoute: a delete that is sent nowhere, and gets that never hit
 
 abbrev never_hits : Tree
-never_hits = for_delete null (all_sync (two (one 7) null))
+never_hits = for_delete null (many AllSync (two (one 7) null))
 
 never_hits_delete : launched never_hits delete first (outcomes []) ≡ []
 never_hits_delete = refl
@@ -552,7 +552,7 @@ never_hits_reply = refl
 -- ---- AllInitialRoute: the first server is waited for
 
 abbrev initially : Tree
-initially = for_delete (all_initial (two (one 7) (one 8))) (one 8)
+initially = for_delete (many AllInitial (two (one 7) (one 8))) (one 8)
 
 initially_delete : launched initially delete first (outcomes []) ≡ at (0 ∷ 0 ∷ []) 7 Delete Plain ∷ at (0 ∷ 1 ∷ []) 8 Delete Async ∷ []
 initially_delete = refl

@@ -8,15 +8,16 @@ use Rattle.std.proofs.lemmas.List.Concat.{flat_map-append}
 use Rattle.std.proofs.lemmas.List.Folds.{prefix_len-append}
 use Rattle.std.proofs.lemmas.List.Sums.{fold-append}
 use Rattle.mcv_base.specs.declared.operation.Op.{Op}
-use Rattle.mcv_config.specs.Plan.{Range, Named, Nameds, nameds_of, no_named, named}
-use Rattle.mcv_config.specs.Plan as plan
+use Rattle.mcv_names.specs.declared.handle.Many.{Many as Kind}
+use Rattle.mcv_config.specs.ConfigValue.{Range, Named, Nameds, nameds_of, no_named, named}
+use Rattle.mcv_config.specs.ConfigValue as config
 use Rattle.mcv_pools.specs.declared.symbol.HashFunc.{HashFunc}
 use Rattle.mcv_pools.specs.declared.symbol.HashFunc.TheVariants.{Ch3}
 use Rattle.mcv_pools.specs.Symbol.{SymbolValue, same_symbol}
 use Rattle.mcv_pools.specs.Table.{is_in, with_entry}
 use Rattle.mcv_pools.proofs.Sameness.{same_symbol-Decides}
-use Rattle.mcv_route.specs.Built.{pool_at, server_at, symbol_of, symbols_in, symbols_below, number_of, pool_named, tree_named, trees_named}
-use Rattle.mcv_route.specs.Tree.{Pool, Tree, Trees, pool, null, error, all_sync, all_initial, all_async, failover, miss_failover, warm_up, migrate, prefix_selector, operation_selector, none, child}
+use Rattle.mcv_route.specs.NamedRoutes.{pool_at, server_at, symbol_of, symbols_in, symbols_below, number_of, pool_named, tree_named, trees_named}
+use Rattle.mcv_route.specs.Tree.{Pool, Tree, Trees, pool, null, error, many, warm_up, migrate, prefix_selector, operation_selector, none, child}
 use Rattle.mcv_route.specs.View.{trees_of}
 use Rattle.mcv_route.specs.Walk.{IsBuilt}
 
@@ -93,19 +94,15 @@ known-with_one table s = by (is_in same_symbol table s) refl
 abbrev mutual
   -- the table has the symbols of the handle and of those below it
   pub HasSymbols : List (List ℕ) → List SymbolValue → Named → Type 0
-  HasSymbols pools table (plan.pool k func salt ranges targets) = IsKnown table (symbol_of func salt (pool_at pools k)) × HaveSymbols pools table targets
-  HasSymbols pools table (plan.server k n) = IsKnown table (symbol_of Ch3 [] (server_at pools k n))
-  HasSymbols pools table plan.null = Unit {0}
-  HasSymbols pools table plan.error = Unit {0}
-  HasSymbols pools table (plan.all_sync ts) = HaveSymbols pools table ts
-  HasSymbols pools table (plan.all_initial ts) = HaveSymbols pools table ts
-  HasSymbols pools table (plan.all_async ts) = HaveSymbols pools table ts
-  HasSymbols pools table (plan.failover ts) = HaveSymbols pools table ts
-  HasSymbols pools table (plan.miss_failover ts) = HaveSymbols pools table ts
-  HasSymbols pools table (plan.warm_up cold warm exptime) = HasSymbols pools table cold × HasSymbols pools table warm
-  HasSymbols pools table (plan.migrate from to start interval) = HasSymbols pools table from × HasSymbols pools table to
-  HasSymbols pools table (plan.prefix_selector prefixes ts) = HaveSymbols pools table ts
-  HasSymbols pools table (plan.operation_selector ops ts) = HaveSymbols pools table ts
+  HasSymbols pools table (config.pool k func salt ranges targets) = IsKnown table (symbol_of func salt (pool_at pools k)) × HaveSymbols pools table targets
+  HasSymbols pools table (config.server k n) = IsKnown table (symbol_of Ch3 [] (server_at pools k n))
+  HasSymbols pools table config.null = Unit {0}
+  HasSymbols pools table config.error = Unit {0}
+  HasSymbols pools table (config.many kind ts) = HaveSymbols pools table ts
+  HasSymbols pools table (config.warm_up cold warm exptime) = HasSymbols pools table cold × HasSymbols pools table warm
+  HasSymbols pools table (config.migrate from to start interval) = HasSymbols pools table from × HasSymbols pools table to
+  HasSymbols pools table (config.prefix_selector prefixes ts) = HaveSymbols pools table ts
+  HasSymbols pools table (config.operation_selector ops ts) = HaveSymbols pools table ts
 
   pub HaveSymbols : List (List ℕ) → List SymbolValue → Nameds → Type 0
   HaveSymbols pools table no_named = Unit {0}
@@ -113,19 +110,15 @@ abbrev mutual
 
 mutual
   pub has-with_all : (pools : List (List ℕ)) (table xs : List SymbolValue) (t : Named) → HasSymbols pools table t → HasSymbols pools (with_all table xs) t
-  has-with_all pools table xs (plan.pool k func salt ranges targets) h = (known-with_all table xs (symbol_of func salt (pool_at pools k)) h.0, have-with_all pools table xs targets h.1)
-  has-with_all pools table xs (plan.server k n) h = known-with_all table xs (symbol_of Ch3 [] (server_at pools k n)) h
-  has-with_all pools table xs plan.null h = tt
-  has-with_all pools table xs plan.error h = tt
-  has-with_all pools table xs (plan.all_sync ts) h = have-with_all pools table xs ts h
-  has-with_all pools table xs (plan.all_initial ts) h = have-with_all pools table xs ts h
-  has-with_all pools table xs (plan.all_async ts) h = have-with_all pools table xs ts h
-  has-with_all pools table xs (plan.failover ts) h = have-with_all pools table xs ts h
-  has-with_all pools table xs (plan.miss_failover ts) h = have-with_all pools table xs ts h
-  has-with_all pools table xs (plan.warm_up cold warm exptime) h = (has-with_all pools table xs cold h.0, has-with_all pools table xs warm h.1)
-  has-with_all pools table xs (plan.migrate from to start interval) h = (has-with_all pools table xs from h.0, has-with_all pools table xs to h.1)
-  has-with_all pools table xs (plan.prefix_selector prefixes ts) h = have-with_all pools table xs ts h
-  has-with_all pools table xs (plan.operation_selector ops ts) h = have-with_all pools table xs ts h
+  has-with_all pools table xs (config.pool k func salt ranges targets) h = (known-with_all table xs (symbol_of func salt (pool_at pools k)) h.0, have-with_all pools table xs targets h.1)
+  has-with_all pools table xs (config.server k n) h = known-with_all table xs (symbol_of Ch3 [] (server_at pools k n)) h
+  has-with_all pools table xs config.null h = tt
+  has-with_all pools table xs config.error h = tt
+  has-with_all pools table xs (config.many kind ts) h = have-with_all pools table xs ts h
+  has-with_all pools table xs (config.warm_up cold warm exptime) h = (has-with_all pools table xs cold h.0, has-with_all pools table xs warm h.1)
+  has-with_all pools table xs (config.migrate from to start interval) h = (has-with_all pools table xs from h.0, has-with_all pools table xs to h.1)
+  has-with_all pools table xs (config.prefix_selector prefixes ts) h = have-with_all pools table xs ts h
+  has-with_all pools table xs (config.operation_selector ops ts) h = have-with_all pools table xs ts h
 
   pub have-with_all : (pools : List (List ℕ)) (table xs : List SymbolValue) (ts : Nameds) → HaveSymbols pools table ts → HaveSymbols pools (with_all table xs) ts
   have-with_all pools table xs no_named h = tt
@@ -143,24 +136,20 @@ both-walked pools table t u h g =
 
 mutual
   pub has-walked : (pools : List (List ℕ)) (table : List SymbolValue) (t : Named) → HasSymbols pools (with_all table (symbols_in pools t)) t
-  has-walked pools table (plan.pool k func salt ranges targets) =
+  has-walked pools table (config.pool k func salt ranges targets) =
       let own = symbol_of func salt (pool_at pools k) in
       let one = with_entry same_symbol table own in
       (known-with_all one (symbols_below pools targets) own (known-with_one table own), have-walked pools one targets)
-  has-walked pools table (plan.server k n) = known-with_one table (symbol_of Ch3 [] (server_at pools k n))
-  has-walked pools table plan.null = tt
-  has-walked pools table plan.error = tt
-  has-walked pools table (plan.all_sync ts) = have-walked pools table ts
-  has-walked pools table (plan.all_initial ts) = have-walked pools table ts
-  has-walked pools table (plan.all_async ts) = have-walked pools table ts
-  has-walked pools table (plan.failover ts) = have-walked pools table ts
-  has-walked pools table (plan.miss_failover ts) = have-walked pools table ts
-  has-walked pools table (plan.warm_up cold warm exptime) =
+  has-walked pools table (config.server k n) = known-with_one table (symbol_of Ch3 [] (server_at pools k n))
+  has-walked pools table config.null = tt
+  has-walked pools table config.error = tt
+  has-walked pools table (config.many kind ts) = have-walked pools table ts
+  has-walked pools table (config.warm_up cold warm exptime) =
       both-walked pools table cold warm (has-walked pools table cold) (has-walked pools (with_all table (symbols_in pools cold)) warm)
-  has-walked pools table (plan.migrate from to start interval) =
+  has-walked pools table (config.migrate from to start interval) =
       both-walked pools table from to (has-walked pools table from) (has-walked pools (with_all table (symbols_in pools from)) to)
-  has-walked pools table (plan.prefix_selector prefixes ts) = have-walked pools table ts
-  has-walked pools table (plan.operation_selector ops ts) = have-walked pools table ts
+  has-walked pools table (config.prefix_selector prefixes ts) = have-walked pools table ts
+  has-walked pools table (config.operation_selector ops ts) = have-walked pools table ts
 
   pub have-walked : (pools : List (List ℕ)) (table : List SymbolValue) (ts : Nameds) → HaveSymbols pools (with_all table (symbols_below pools ts)) ts
   have-walked pools table no_named = tt
@@ -176,20 +165,16 @@ pool_named-stays table xs func salt servers h = λ i. record { symbol = number_o
 
 mutual
   pub tree_named-stays : (pools : List (List ℕ)) (table xs : List SymbolValue) (t : Named) → HasSymbols pools table t → tree_named (with_all table xs) pools t ≡ tree_named table pools t
-  tree_named-stays pools table xs (plan.pool k func salt ranges targets) h =
+  tree_named-stays pools table xs (config.pool k func salt ranges targets) h =
       λ i. pool (pool_named-stays table xs func salt (pool_at pools k) h.0 i) ranges (trees_named-stay pools table xs targets h.1 i)
-  tree_named-stays pools table xs (plan.server k n) h = λ i. pool (pool_named-stays table xs Ch3 [] (server_at pools k n) h i) [] none
-  tree_named-stays pools table xs plan.null h = refl
-  tree_named-stays pools table xs plan.error h = refl
-  tree_named-stays pools table xs (plan.all_sync ts) h = ap all_sync (trees_named-stay pools table xs ts h)
-  tree_named-stays pools table xs (plan.all_initial ts) h = ap all_initial (trees_named-stay pools table xs ts h)
-  tree_named-stays pools table xs (plan.all_async ts) h = ap all_async (trees_named-stay pools table xs ts h)
-  tree_named-stays pools table xs (plan.failover ts) h = ap failover (trees_named-stay pools table xs ts h)
-  tree_named-stays pools table xs (plan.miss_failover ts) h = ap miss_failover (trees_named-stay pools table xs ts h)
-  tree_named-stays pools table xs (plan.warm_up cold warm exptime) h = λ i. warm_up (tree_named-stays pools table xs cold h.0 i) (tree_named-stays pools table xs warm h.1 i) exptime
-  tree_named-stays pools table xs (plan.migrate from to start interval) h = λ i. migrate (tree_named-stays pools table xs from h.0 i) (tree_named-stays pools table xs to h.1 i) start interval
-  tree_named-stays pools table xs (plan.prefix_selector prefixes ts) h = ap (prefix_selector prefixes) (trees_named-stay pools table xs ts h)
-  tree_named-stays pools table xs (plan.operation_selector ops ts) h = ap (operation_selector ops) (trees_named-stay pools table xs ts h)
+  tree_named-stays pools table xs (config.server k n) h = λ i. pool (pool_named-stays table xs Ch3 [] (server_at pools k n) h i) [] none
+  tree_named-stays pools table xs config.null h = refl
+  tree_named-stays pools table xs config.error h = refl
+  tree_named-stays pools table xs (config.many kind ts) h = ap (many kind) (trees_named-stay pools table xs ts h)
+  tree_named-stays pools table xs (config.warm_up cold warm exptime) h = λ i. warm_up (tree_named-stays pools table xs cold h.0 i) (tree_named-stays pools table xs warm h.1 i) exptime
+  tree_named-stays pools table xs (config.migrate from to start interval) h = λ i. migrate (tree_named-stays pools table xs from h.0 i) (tree_named-stays pools table xs to h.1 i) start interval
+  tree_named-stays pools table xs (config.prefix_selector prefixes ts) h = ap (prefix_selector prefixes) (trees_named-stay pools table xs ts h)
+  tree_named-stays pools table xs (config.operation_selector ops ts) h = ap (operation_selector ops) (trees_named-stay pools table xs ts h)
 
   pub trees_named-stay : (pools : List (List ℕ)) (table xs : List SymbolValue) (ts : Nameds) → HaveSymbols pools table ts → trees_named (with_all table xs) pools ts ≡ trees_named table pools ts
   trees_named-stay pools table xs no_named h = refl
@@ -238,7 +223,7 @@ trees-below pools t u ns ts b = ap trees_of b.trees_are ∙ sym (trees_named-lis
 -- a PoolRoute, from its leaf and from the targets of its shadows, which were built after it
 pub built-pool : (pools : List (List ℕ)) (t u v : List SymbolValue) (k : ℕ) (func : HashFunc) (salt : List ℕ) (ranges : List Range) (leaf : Pool) (ns : List Named) (ts : List Tree)
     → u ≡ with_entry same_symbol t (symbol_of func salt (pool_at pools k)) → leaf ≡ pool_named u func salt (pool_at pools k) → IsBuilt pools u ns v ts
-    → IsBuilt pools t (plan.pool k func salt ranges (nameds_of ns) ∷ []) v (pool leaf ranges (trees_of ts) ∷ [])
+    → IsBuilt pools t (config.pool k func salt ranges (nameds_of ns) ∷ []) v (pool leaf ranges (trees_of ts) ∷ [])
 built-pool pools t u v k func salt ranges leaf ns ts table is b =
     let servers = pool_at pools k in
     let own = symbol_of func salt servers in
@@ -256,7 +241,7 @@ built-pool pools t u v k func salt ranges leaf ns ts table is b =
 
 pub built-server : (pools : List (List ℕ)) (t u : List SymbolValue) (k n : ℕ) (leaf : Pool)
     → u ≡ with_entry same_symbol t (symbol_of Ch3 [] (server_at pools k n)) → leaf ≡ pool_named u Ch3 [] (server_at pools k n)
-    → IsBuilt pools t (plan.server k n ∷ []) u (pool leaf [] none ∷ [])
+    → IsBuilt pools t (config.server k n ∷ []) u (pool leaf [] none ∷ [])
 built-server pools t u k n leaf table is = record { table = table; trees_are = λ i. pool (is i) [] none ∷ [] }
 
 -- a handle over children that were built, where its symbols are theirs
@@ -268,28 +253,16 @@ built-over handle made symbols trees pools t u ns ts b = record {
   trees_are = ap (λ x. x ∷ []) (ap made (trees-below pools t u ns ts b) ∙ sym (trees u pools (nameds_of ns)));
 }
 
-pub built-all_sync : (pools : List (List ℕ)) (t u : List SymbolValue) (ns : List Named) (ts : List Tree) → IsBuilt pools t ns u ts → IsBuilt pools t (plan.all_sync (nameds_of ns) ∷ []) u (all_sync (trees_of ts) ∷ [])
-built-all_sync = built-over plan.all_sync all_sync (λ pools ts. refl) (λ table pools ts. refl)
-
-pub built-all_initial : (pools : List (List ℕ)) (t u : List SymbolValue) (ns : List Named) (ts : List Tree) → IsBuilt pools t ns u ts → IsBuilt pools t (plan.all_initial (nameds_of ns) ∷ []) u (all_initial (trees_of ts) ∷ [])
-built-all_initial = built-over plan.all_initial all_initial (λ pools ts. refl) (λ table pools ts. refl)
-
-pub built-all_async : (pools : List (List ℕ)) (t u : List SymbolValue) (ns : List Named) (ts : List Tree) → IsBuilt pools t ns u ts → IsBuilt pools t (plan.all_async (nameds_of ns) ∷ []) u (all_async (trees_of ts) ∷ [])
-built-all_async = built-over plan.all_async all_async (λ pools ts. refl) (λ table pools ts. refl)
-
-pub built-failover : (pools : List (List ℕ)) (t u : List SymbolValue) (ns : List Named) (ts : List Tree) → IsBuilt pools t ns u ts → IsBuilt pools t (plan.failover (nameds_of ns) ∷ []) u (failover (trees_of ts) ∷ [])
-built-failover = built-over plan.failover failover (λ pools ts. refl) (λ table pools ts. refl)
-
-pub built-miss_failover : (pools : List (List ℕ)) (t u : List SymbolValue) (ns : List Named) (ts : List Tree) → IsBuilt pools t ns u ts → IsBuilt pools t (plan.miss_failover (nameds_of ns) ∷ []) u (miss_failover (trees_of ts) ∷ [])
-built-miss_failover = built-over plan.miss_failover miss_failover (λ pools ts. refl) (λ table pools ts. refl)
+pub built-many : (kind : Kind) (pools : List (List ℕ)) (t u : List SymbolValue) (ns : List Named) (ts : List Tree) → IsBuilt pools t ns u ts → IsBuilt pools t (config.many kind (nameds_of ns) ∷ []) u (many kind (trees_of ts) ∷ [])
+built-many kind = built-over (config.many kind) (many kind) (λ pools ts. refl) (λ table pools ts. refl)
 
 pub built-prefix_selector : (prefixes : List (List ℕ)) (pools : List (List ℕ)) (t u : List SymbolValue) (ns : List Named) (ts : List Tree)
-    → IsBuilt pools t ns u ts → IsBuilt pools t (plan.prefix_selector prefixes (nameds_of ns) ∷ []) u (prefix_selector prefixes (trees_of ts) ∷ [])
-built-prefix_selector prefixes = built-over (plan.prefix_selector prefixes) (prefix_selector prefixes) (λ pools ts. refl) (λ table pools ts. refl)
+    → IsBuilt pools t ns u ts → IsBuilt pools t (config.prefix_selector prefixes (nameds_of ns) ∷ []) u (prefix_selector prefixes (trees_of ts) ∷ [])
+built-prefix_selector prefixes = built-over (config.prefix_selector prefixes) (prefix_selector prefixes) (λ pools ts. refl) (λ table pools ts. refl)
 
 pub built-operation_selector : (ops : List (Option Op)) (pools : List (List ℕ)) (t u : List SymbolValue) (ns : List Named) (ts : List Tree)
-    → IsBuilt pools t ns u ts → IsBuilt pools t (plan.operation_selector ops (nameds_of ns) ∷ []) u (operation_selector ops (trees_of ts) ∷ [])
-built-operation_selector ops = built-over (plan.operation_selector ops) (operation_selector ops) (λ pools ts. refl) (λ table pools ts. refl)
+    → IsBuilt pools t ns u ts → IsBuilt pools t (config.operation_selector ops (nameds_of ns) ∷ []) u (operation_selector ops (trees_of ts) ∷ [])
+built-operation_selector ops = built-over (config.operation_selector ops) (operation_selector ops) (λ pools ts. refl) (λ table pools ts. refl)
 
 -- a handle over two that were built one after the other
 built-two : (handle : Named → Named → Named) (made : Tree → Tree → Tree) → ((pools : List (List ℕ)) (n m : Named) → symbols_in pools (handle n m) ≡ symbols_in pools n ++ symbols_in pools m)
@@ -307,9 +280,9 @@ built-two handle made symbols trees pools t u v n m x y a b =
     }
 
 pub built-warm_up : (exptime : ℕ) (pools : List (List ℕ)) (t u v : List SymbolValue) (n m : Named) (x y : Tree) → IsBuilt pools t (n ∷ []) u (x ∷ []) → IsBuilt pools u (m ∷ []) v (y ∷ [])
-    → IsBuilt pools t (plan.warm_up n m exptime ∷ []) v (warm_up x y exptime ∷ [])
-built-warm_up exptime = built-two (λ n m. plan.warm_up n m exptime) (λ x y. warm_up x y exptime) (λ pools n m. refl) (λ table pools n m. refl)
+    → IsBuilt pools t (config.warm_up n m exptime ∷ []) v (warm_up x y exptime ∷ [])
+built-warm_up exptime = built-two (λ n m. config.warm_up n m exptime) (λ x y. warm_up x y exptime) (λ pools n m. refl) (λ table pools n m. refl)
 
 pub built-migrate : (start interval : ℕ) (pools : List (List ℕ)) (t u v : List SymbolValue) (n m : Named) (x y : Tree) → IsBuilt pools t (n ∷ []) u (x ∷ []) → IsBuilt pools u (m ∷ []) v (y ∷ [])
-    → IsBuilt pools t (plan.migrate n m start interval ∷ []) v (migrate x y start interval ∷ [])
-built-migrate start interval = built-two (λ n m. plan.migrate n m start interval) (λ x y. migrate x y start interval) (λ pools n m. refl) (λ table pools n m. refl)
+    → IsBuilt pools t (config.migrate n m start interval ∷ []) v (migrate x y start interval ∷ [])
+built-migrate start interval = built-two (λ n m. config.migrate n m start interval) (λ x y. migrate x y start interval) (λ pools n m. refl) (λ table pools n m. refl)

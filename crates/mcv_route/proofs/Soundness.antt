@@ -1,4 +1,4 @@
--- The routes of a sound plan are sound.
+-- The routes of a sound configuration are sound.
 use Rattle.std.proofs.Common.{◌≡◌, ◌≢◌, ℕ, ◌<◌, List, [], ◌∷◌, length, map, get_or, Some, refl, ap, sym, subst, ◌∙◌, arith}
 use Rattle.std.specs.List.{All, position_or_len}
 use Rattle.std.specs.Prelude.{slice_get, slice_index, slice_index_or, option_map, unwrap_or}
@@ -6,13 +6,13 @@ use Rattle.std.proofs.lemmas.List.Elements.{All-nil, All-cons, All-map}
 use Rattle.std.proofs.lemmas.List.Sums.{passes_at_first}
 use Rattle.std.proofs.lemmas.List.Folds.{flat_map-map}
 use Rattle.std.proofs.lemmas.Option.{slice_get-get_or}
-use Rattle.mcv_config.specs.Plan.{Named, Nameds, Plan, nameds_of, no_named, named, IsSound, IsSoundRoute, AreSoundRoutes}
-use Rattle.mcv_config.specs.Plan as plan
+use Rattle.mcv_config.specs.ConfigValue.{Named, Nameds, ConfigValue, nameds_of, no_named, named, IsSound, IsSoundRoute, AreSoundRoutes}
+use Rattle.mcv_config.specs.ConfigValue as config
 use Rattle.mcv_pools.specs.declared.symbol.HashFunc.{HashFunc}
 use Rattle.mcv_pools.specs.declared.symbol.HashFunc.TheVariants.{Ch3}
 use Rattle.mcv_pools.specs.Symbol.{SymbolValue, same_symbol}
 use Rattle.mcv_pools.proofs.Sameness.{same_symbol-Decides}
-use Rattle.mcv_route.specs.Built.{pool_at, server_at, symbol_of, symbols_in, symbols_below, symbols_named, number_of, pool_named, tree_named, trees_named, routes_named}
+use Rattle.mcv_route.specs.NamedRoutes.{pool_at, server_at, symbol_of, symbols_in, symbols_below, symbols_named, number_of, pool_named, tree_named, trees_named, routes_named}
 use Rattle.mcv_route.specs.Routes.{IsSoundPool, IsSoundTree, AreSoundTrees, IsSoundRoutes}
 use Rattle.mcv_route.specs.Tree.{none}
 use Rattle.mcv_route.proofs.Building.{All-unmap}
@@ -37,27 +37,23 @@ some_trees : (table : List SymbolValue) (pools : List (List ℕ)) (ts : Nameds) 
 some_trees table pools no_named h = absurd (h refl)
 some_trees table pools (named t ts) h = λ e. cc
 
-module _ (count : ℕ) (pools : List (List ℕ)) (table : List SymbolValue) (sound : All (plan.IsSoundPool count) pools) where
+module _ (count : ℕ) (pools : List (List ℕ)) (table : List SymbolValue) (sound : All (config.IsSoundPool count) pools) where
   mutual
     pub sound-tree : (t : Named) → IsSoundRoute pools t → HasSymbols pools table t → IsSoundTree count table (tree_named table pools t)
-    sound-tree (plan.pool k func salt ranges targets) inside h =
+    sound-tree (config.pool k func salt ranges targets) inside h =
         let p = sound k [] inside.0 in
         (sound-pool_named count table func salt (pool_at pools k) p.some p.known h.0, sound-trees targets inside.1 h.1)
-    sound-tree (plan.server k n) inside h =
+    sound-tree (config.server k n) inside h =
         let p = sound k [] inside.0 in
         let known : All (λ s. s < count) (server_at pools k n) = All-cons (λ s. s < count) (slice_index (pool_at pools k) n) [] (p.known n 0 inside.1) (All-nil (λ s. s < count)) in
         (sound-pool_named count table Ch3 [] (server_at pools k n) (omega arith) known h, tt)
-    sound-tree plan.null inside h = tt
-    sound-tree plan.error inside h = tt
-    sound-tree (plan.all_sync ts) inside h = (some_trees table pools ts inside.0, sound-trees ts inside.1 h)
-    sound-tree (plan.all_initial ts) inside h = (some_trees table pools ts inside.0, sound-trees ts inside.1 h)
-    sound-tree (plan.all_async ts) inside h = (some_trees table pools ts inside.0, sound-trees ts inside.1 h)
-    sound-tree (plan.failover ts) inside h = (some_trees table pools ts inside.0, sound-trees ts inside.1 h)
-    sound-tree (plan.miss_failover ts) inside h = (some_trees table pools ts inside.0, sound-trees ts inside.1 h)
-    sound-tree (plan.warm_up cold warm exptime) inside h = (sound-tree cold inside.0 h.0, sound-tree warm inside.1 h.1)
-    sound-tree (plan.migrate from to start interval) inside h = (sound-tree from inside.0 h.0, sound-tree to inside.1 h.1)
-    sound-tree (plan.prefix_selector prefixes ts) inside h = sound-trees ts inside h
-    sound-tree (plan.operation_selector ops ts) inside h = sound-trees ts inside h
+    sound-tree config.null inside h = tt
+    sound-tree config.error inside h = tt
+    sound-tree (config.many kind ts) inside h = (some_trees table pools ts inside.0, sound-trees ts inside.1 h)
+    sound-tree (config.warm_up cold warm exptime) inside h = (sound-tree cold inside.0 h.0, sound-tree warm inside.1 h.1)
+    sound-tree (config.migrate from to start interval) inside h = (sound-tree from inside.0 h.0, sound-tree to inside.1 h.1)
+    sound-tree (config.prefix_selector prefixes ts) inside h = sound-trees ts inside h
+    sound-tree (config.operation_selector ops ts) inside h = sound-trees ts inside h
 
     pub sound-trees : (ts : Nameds) → AreSoundRoutes pools ts → HaveSymbols pools table ts → AreSoundTrees count table (trees_named table pools ts)
     sound-trees no_named inside h = tt
@@ -67,7 +63,7 @@ all-have : (pools : List (List ℕ)) (table : List SymbolValue) (ns : List Named
 all-have pools table [] h = All-nil (HasSymbols pools table)
 all-have pools table (n ∷ ns) h = All-cons (HasSymbols pools table) n ns h.0 (all-have pools table ns h.1)
 
-pub sound-built : (p : Plan) → IsSound p → IsSoundRoutes (routes_named p)
+pub sound-built : (p : ConfigValue) → IsSound p → IsSoundRoutes (routes_named p)
 sound-built p sound =
     let count = length p.servers in
     let table = symbols_named p in

@@ -1,14 +1,15 @@
 -- The tree of a route, one level at a time.
 use Rattle.std.proofs.Common.{◌≡◌, ℕ, List, ◌++◌, map, Vec, Box, Global, Option, Some, None, rules}
 use Rattle.mcv_base.specs.declared.operation.Op.{Op}
-use Rattle.mcv_route.specs.Tree.{Range, Trees, pool, null, error, all_sync, all_initial, all_async, failover, miss_failover, warm_up, migrate, prefix_selector, operation_selector}
+use Rattle.mcv_names.specs.declared.handle.Many.{Many as Kind}
+use Rattle.mcv_route.specs.Tree.{Range, Trees, pool, null, error, many, warm_up, migrate, prefix_selector, operation_selector}
 pub use Rattle.mcv_route.specs.View.{last_view}
 use Rattle.mcv_route.specs.View.{trees_of, pool_view, view, operation_view, prefix_view, shadow_view}
 use Rattle.mcv_route.specs.declared.tree.Leaf.{Leaf}
 use Rattle.mcv_route.specs.declared.tree.OperationPolicy.{OperationPolicy, out-OperationPolicy}
 use Rattle.mcv_route.specs.declared.tree.PrefixPolicy.{PrefixPolicy, out-PrefixPolicy}
 use Rattle.mcv_route.specs.declared.tree.Shadow.{Shadow, out-Shadow}
-use Rattle.mcv_route.specs.declared.tree.Route.{Route, Pool, Null, Error, AllSync, AllInitial, AllAsync, Failover, MissFailover, WarmUp, Migrate, PrefixSelector, OperationSelector, the_lemmas}
+use Rattle.mcv_route.specs.declared.tree.Route.{Route, Pool, Null, Error, Many, WarmUp, Migrate, PrefixSelector, OperationSelector, the_lemmas}
 
 -- the children of a handle that has a list of them
 abbrev pub children_view : List Route → Trees
@@ -47,20 +48,8 @@ view-Null = search (rules, the_lemmas)
 pub view-Error : view Error ≡ error
 view-Error = search (rules, the_lemmas)
 
-pub view-AllSync : (v : Vec Route Global) → view (AllSync v) ≡ all_sync (children_view v.items)
-view-AllSync v = search (rules, the_lemmas)
-
-pub view-AllInitial : (v : Vec Route Global) → view (AllInitial v) ≡ all_initial (children_view v.items)
-view-AllInitial v = search (rules, the_lemmas)
-
-pub view-AllAsync : (v : Vec Route Global) → view (AllAsync v) ≡ all_async (children_view v.items)
-view-AllAsync v = search (rules, the_lemmas)
-
-pub view-Failover : (v : Vec Route Global) → view (Failover v) ≡ failover (children_view v.items)
-view-Failover v = search (rules, the_lemmas)
-
-pub view-MissFailover : (v : Vec Route Global) → view (MissFailover v) ≡ miss_failover (children_view v.items)
-view-MissFailover v = search (rules, the_lemmas)
+pub view-Many : (kind : Kind) (v : Vec Route Global) → view (Many kind v) ≡ many kind (children_view v.items)
+view-Many kind v = search (rules, the_lemmas)
 
 pub view-WarmUp : (cold warm : Box Route Global) (exptime : ℕ) → view (WarmUp cold warm exptime) ≡ warm_up (view cold.value) (view warm.value) exptime
 view-WarmUp cold warm exptime = search (rules, the_lemmas)

@@ -1,7 +1,7 @@
 -- The routing prefixes that select the routes (mcrouter wiki, Routing Prefix).
 use Rattle.std.specs.Prelude.{ℕ, List, Option, option_and_then, slice_get}
 use Rattle.std.specs.List.{All, flat_map}
-use Rattle.mcv_config.specs.Plan.{AreAliases}
+use Rattle.mcv_config.specs.ConfigValue.{AreAliases}
 use Rattle.mcv_pools.specs.Table.{IsOneToOne}
 use Rattle.mcv_route.specs.Routes.{RouteEntry, RoutesValue}
 

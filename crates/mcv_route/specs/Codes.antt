@@ -4,15 +4,19 @@ use Rattle.std.specs.Coded.{Coded, code_by, coded×, coded_ℕ, coded_list, code
 use Rattle.std.proofs.Common.{ap}
 use Rattle.mcv_base.specs.declared.operation.Op.{Op}
 use Rattle.mcv_base.specs.contracts.operation.Op.{the_row}
+use Rattle.mcv_names.specs.declared.handle.Many.{Many}
+use Rattle.mcv_names.specs.declared.handle.Many.TheVariants.{AllSync}
+use Rattle.mcv_names.specs.contracts.handle.Many.{the_row as many_row}
 use Rattle.mcv_pools.specs.Symbol.{SymbolValue}
 use Rattle.mcv_config.specs.Labels.{Node, Nodes, node, no_node, beside, node_code}
 use Rattle.mcv_pools.specs.contracts.symbol.Symbol.{the_row as symbol_row}
 use Rattle.mcv_route.specs.Routes.{RouteEntry, RoutesValue}
-use Rattle.mcv_route.specs.Tree.{Range, Tree, Trees, pool, null, error, all_sync, all_initial, all_async, failover, miss_failover, warm_up, migrate, prefix_selector, operation_selector, none, child}
+use Rattle.mcv_route.specs.Tree.{Range, Tree, Trees, pool, null, error, many, warm_up, migrate, prefix_selector, operation_selector, none, child}
 
--- what a handle is, but for its children
+-- what a handle is, but for its children; what it does not have is filled with anything
 pub record Label : Type 0 where
-  pub kind : ℕ
+  pub handle : ℕ
+  pub kind : Many
   pub first : ℕ
   pub second : ℕ
   pub servers : List ℕ
@@ -21,26 +25,22 @@ pub record Label : Type 0 where
   pub operations : List (Option Op)
 
 abbrev pub plain : ℕ → Label
-plain kind = record { kind = kind; first = 0; second = 0; servers = []; ranges = []; prefixes = []; operations = [] }
+plain handle = record { handle = handle; kind = AllSync; first = 0; second = 0; servers = []; ranges = []; prefixes = []; operations = [] }
 
 abbrev mutual
   pub node_of : Tree → Node Label
-  node_of (pool p ranges targets) = node (record { kind = 0; first = p.symbol; second = 0; servers = p.servers; ranges = ranges; prefixes = []; operations = [] }) (nodes_of targets)
+  node_of (pool p ranges targets) = node (record { handle = 0; kind = AllSync; first = p.symbol; second = 0; servers = p.servers; ranges = ranges; prefixes = []; operations = [] }) (nodes_of targets)
   node_of null = node (plain 1) no_node
   node_of error = node (plain 2) no_node
-  node_of (all_sync ts) = node (plain 3) (nodes_of ts)
-  node_of (all_initial ts) = node (plain 4) (nodes_of ts)
-  node_of (all_async ts) = node (plain 5) (nodes_of ts)
-  node_of (failover ts) = node (plain 6) (nodes_of ts)
-  node_of (miss_failover ts) = node (plain 7) (nodes_of ts)
+  node_of (many kind ts) = node (record { handle = 3; kind = kind; first = 0; second = 0; servers = []; ranges = []; prefixes = []; operations = [] }) (nodes_of ts)
   node_of (warm_up cold warm exptime) =
-      node (record { kind = 8; first = exptime; second = 0; servers = []; ranges = []; prefixes = []; operations = [] }) (beside (node_of cold) (beside (node_of warm) no_node))
+      node (record { handle = 4; kind = AllSync; first = exptime; second = 0; servers = []; ranges = []; prefixes = []; operations = [] }) (beside (node_of cold) (beside (node_of warm) no_node))
   node_of (migrate from to start interval) =
-      node (record { kind = 9; first = start; second = interval; servers = []; ranges = []; prefixes = []; operations = [] }) (beside (node_of from) (beside (node_of to) no_node))
+      node (record { handle = 5; kind = AllSync; first = start; second = interval; servers = []; ranges = []; prefixes = []; operations = [] }) (beside (node_of from) (beside (node_of to) no_node))
   node_of (prefix_selector prefixes ts) =
-      node (record { kind = 10; first = 0; second = 0; servers = []; ranges = []; prefixes = prefixes; operations = [] }) (nodes_of ts)
+      node (record { handle = 6; kind = AllSync; first = 0; second = 0; servers = []; ranges = []; prefixes = prefixes; operations = [] }) (nodes_of ts)
   node_of (operation_selector ops ts) =
-      node (record { kind = 11; first = 0; second = 0; servers = []; ranges = []; prefixes = []; operations = ops }) (nodes_of ts)
+      node (record { handle = 7; kind = AllSync; first = 0; second = 0; servers = []; ranges = []; prefixes = []; operations = ops }) (nodes_of ts)
 
   pub nodes_of : Trees → Nodes Label
   nodes_of none = no_node
@@ -56,17 +56,13 @@ others_of (child t ts) = ts
 
 abbrev pub tree_by : Label → Trees → Tree
 tree_by l ts =
-    if l.kind == 0 then pool (record { symbol = l.first; servers = l.servers }) l.ranges ts
-    else if l.kind == 1 then null
-    else if l.kind == 2 then error
-    else if l.kind == 3 then all_sync ts
-    else if l.kind == 4 then all_initial ts
-    else if l.kind == 5 then all_async ts
-    else if l.kind == 6 then failover ts
-    else if l.kind == 7 then miss_failover ts
-    else if l.kind == 8 then warm_up (first_of ts) (first_of (others_of ts)) l.first
-    else if l.kind == 9 then migrate (first_of ts) (first_of (others_of ts)) l.first l.second
-    else if l.kind == 10 then prefix_selector l.prefixes ts
+    if l.handle == 0 then pool (record { symbol = l.first; servers = l.servers }) l.ranges ts
+    else if l.handle == 1 then null
+    else if l.handle == 2 then error
+    else if l.handle == 3 then many l.kind ts
+    else if l.handle == 4 then warm_up (first_of ts) (first_of (others_of ts)) l.first
+    else if l.handle == 5 then migrate (first_of ts) (first_of (others_of ts)) l.first l.second
+    else if l.handle == 6 then prefix_selector l.prefixes ts
     else operation_selector l.operations ts
 
 abbrev mutual
@@ -82,11 +78,7 @@ mutual
   tree_of-node_of (pool p ranges targets) = ap (pool p ranges) (trees_of-nodes_of targets)
   tree_of-node_of null = refl
   tree_of-node_of error = refl
-  tree_of-node_of (all_sync ts) = ap all_sync (trees_of-nodes_of ts)
-  tree_of-node_of (all_initial ts) = ap all_initial (trees_of-nodes_of ts)
-  tree_of-node_of (all_async ts) = ap all_async (trees_of-nodes_of ts)
-  tree_of-node_of (failover ts) = ap failover (trees_of-nodes_of ts)
-  tree_of-node_of (miss_failover ts) = ap miss_failover (trees_of-nodes_of ts)
+  tree_of-node_of (many kind ts) = ap (many kind) (trees_of-nodes_of ts)
   tree_of-node_of (warm_up cold warm exptime) = λ i. warm_up (tree_of-node_of cold i) (tree_of-node_of warm i) exptime
   tree_of-node_of (migrate from to start interval) = λ i. migrate (tree_of-node_of from i) (tree_of-node_of to i) start interval
   tree_of-node_of (prefix_selector prefixes ts) = ap (prefix_selector prefixes) (trees_of-nodes_of ts)
@@ -100,15 +92,15 @@ abbrev pub range_code : Coded Range
 range_code = code_by (ℕ × ℕ) (coded× coded_ℕ coded_ℕ) (λ r. (r.first, r.last)) (λ p. record { first = p.0; last = p.1 }) (λ _. refl)
 
 abbrev pub Parts : Type 0
-Parts = (ℕ × (ℕ × ℕ)) × ((List ℕ × List Range) × (List (List ℕ) × List (Option Op)))
+Parts = ((ℕ × Many) × (ℕ × ℕ)) × ((List ℕ × List Range) × (List (List ℕ) × List (Option Op)))
 
 abbrev pub parts_code : Coded Parts
-parts_code = coded× (coded× coded_ℕ (coded× coded_ℕ coded_ℕ)) (coded× (coded× (coded_list coded_ℕ) (coded_list range_code)) (coded× (coded_list (coded_list coded_ℕ)) (coded_list (coded_option the_row.coded))))
+parts_code = coded× (coded× (coded× coded_ℕ many_row.coded) (coded× coded_ℕ coded_ℕ)) (coded× (coded× (coded_list coded_ℕ) (coded_list range_code)) (coded× (coded_list (coded_list coded_ℕ)) (coded_list (coded_option the_row.coded))))
 
 abbrev pub label_code : Coded Label
 label_code =
-    code_by Parts parts_code (λ l. ((l.kind, (l.first, l.second)), ((l.servers, l.ranges), (l.prefixes, l.operations))))
-    (λ p. record { kind = p.0.0; first = p.0.1.0; second = p.0.1.1; servers = p.1.0.0; ranges = p.1.0.1; prefixes = p.1.1.0; operations = p.1.1.1 }) (λ _. refl)
+    code_by Parts parts_code (λ l. (((l.handle, l.kind), (l.first, l.second)), ((l.servers, l.ranges), (l.prefixes, l.operations))))
+    (λ p. record { handle = p.0.0.0; kind = p.0.0.1; first = p.0.1.0; second = p.0.1.1; servers = p.1.0.0; ranges = p.1.0.1; prefixes = p.1.1.0; operations = p.1.1.1 }) (λ _. refl)
 
 abbrev pub tree_code : Coded Tree
 tree_code = code_by (Node Label) (node_code label_code) node_of tree_of tree_of-node_of

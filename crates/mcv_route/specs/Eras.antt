@@ -4,7 +4,7 @@ use Rattle.std.specs.Option.{option_map_or}
 use Rattle.std.specs.List.{All, Contains, flat_map}
 use Rattle.std.specs.List.Sorted.{IsStrictlyIncreasing}
 use Rattle.mcv_pools.specs.Table.{numbered}
-use Rattle.mcv_route.specs.Tree.{Tree, Trees, pool, null, error, all_sync, all_initial, all_async, failover, miss_failover, warm_up, migrate, prefix_selector, operation_selector, none, child}
+use Rattle.mcv_route.specs.Tree.{Tree, Trees, pool, null, error, many, warm_up, migrate, prefix_selector, operation_selector, none, child}
 use Rattle.mcv_route.specs.Routes.{RoutesValue}
 use Rattle.mcv_route.specs.Situation.{has_passed}
 
@@ -18,11 +18,7 @@ abbrev mutual
   breaks (pool p ranges targets) = breaks_each targets
   breaks null = []
   breaks error = []
-  breaks (all_sync ts) = breaks_each ts
-  breaks (all_initial ts) = breaks_each ts
-  breaks (all_async ts) = breaks_each ts
-  breaks (failover ts) = breaks_each ts
-  breaks (miss_failover ts) = breaks_each ts
+  breaks (many kind ts) = breaks_each ts
   breaks (warm_up cold warm exptime) = breaks cold ++ breaks warm
   breaks (migrate from to start interval) = own_breaks start interval ++ (breaks from ++ breaks to)
   breaks (prefix_selector prefixes ts) = breaks_each ts

@@ -4,8 +4,8 @@ use Rattle.mcv_base.specs.declared.reply.Outcome.{Outcome}
 use Rattle.mcv_route.specs.Outcomes.{Outcomes, Choice}
 use Rattle.mcv_base.specs.Reply.{is_error, is_missed, is_good}
 use Rattle.mcv_route.specs.declared.launch.Launch.{Launch}
-use Rattle.mcv_route.specs.Tree.{Pool, Tree, Trees, pool, null, error, all_sync, all_initial, all_async, failover, miss_failover, warm_up, migrate, prefix_selector, operation_selector, none, child}
-use Rattle.mcv_base.specs.Operation.{is_reading}
+use Rattle.mcv_route.specs.Tree.{Pool, Tree, Trees, pool, null, error, many, AllSync, AllInitial, AllAsync, Failover, MissFailover, warm_up, migrate, prefix_selector, operation_selector, none, child}
+use Rattle.mcv_route.specs.Misses.{fails_over_on_miss, is_warmed_up}
 use Rattle.mcv_route.specs.Situation.{Situation, under, asynchronous, shadowed, adding}
 use Rattle.mcv_route.specs.Children.{joined, child_or, rest_of, of_those_holding, policy_of, prefix_policy, way_of, by_way}
 use Rattle.mcv_route.specs.Replies.{Answer, replies, replies_each}
@@ -32,16 +32,16 @@ abbrev mutual
       own_leg p s c ∷ of_those_holding (c p.symbol) ranges (launched_each 0 targets (shadowed s) c o)
   launched null s c o = []
   launched error s c o = []
-  launched (all_sync ts) s c o = joined (launched_each 0 ts s c o)
-  launched (all_initial ts) s c o =
+  launched (many AllSync ts) s c o = joined (launched_each 0 ts s c o)
+  launched (many AllInitial ts) s c o =
       child_or [] 0 (launched_each 0 ts s c o) ++ joined (rest_of (launched_each 0 ts (asynchronous s) c o))
-  launched (all_async ts) s c o = joined (launched_each 0 ts (asynchronous s) c o)
-  launched (failover ts) s c o = in_turn is_error (replies_each 0 ts s o) (launched_each 0 ts s c o)
-  launched (miss_failover ts) s c o =
-      if is_reading s.op then in_turn is_missed (replies_each 0 ts s o) (launched_each 0 ts s c o)
+  launched (many AllAsync ts) s c o = joined (launched_each 0 ts (asynchronous s) c o)
+  launched (many Failover ts) s c o = in_turn is_error (replies_each 0 ts s o) (launched_each 0 ts s c o)
+  launched (many MissFailover ts) s c o =
+      if fails_over_on_miss s.op then in_turn is_missed (replies_each 0 ts s o) (launched_each 0 ts s c o)
       else child_or [] 0 (launched_each 0 ts s c o)
   launched (warm_up cold warm exptime) s c o =
-      if is_reading s.op
+      if is_warmed_up s.op
       then launched cold (under 0 s) c o
       ++ once is_missed (replies cold (under 0 s) o) (launched warm (under 1 s) c o
       ++ once is_good (replies warm (under 1 s) o) (launched cold (under 2 (adding s)) c o))

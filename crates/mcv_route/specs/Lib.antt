@@ -1,8 +1,9 @@
 pub mod Outcomes
 pub mod Tree
-pub mod WellFormed
+pub mod WellFormedTrees
 pub mod Situation
 pub mod Children
+pub mod Misses
 pub mod Replies
 pub mod Launched
 pub mod Reply
@@ -12,7 +13,7 @@ pub mod Limits
 pub mod Routes
 pub mod Codes
 pub mod RoutesView
-pub mod Built
+pub mod NamedRoutes
 pub mod Walk
 pub mod Places
 pub mod Eras

@@ -10,7 +10,7 @@ use Rattle.mcv_config.specs.Hash.{salt_limit}
 use Rattle.mcv_config.specs.Numbers.{seconds_limit}
 use Rattle.mcv_config.specs.Pools.{pool_limit}
 use Rattle.mcv_route.specs.Routes.{RoutesValue}
-use Rattle.mcv_route.specs.Tree.{Tree, Trees, pool, null, error, all_sync, all_initial, all_async, failover, miss_failover, warm_up, migrate, prefix_selector, operation_selector, none, child}
+use Rattle.mcv_route.specs.Tree.{Tree, Trees, pool, null, error, many, warm_up, migrate, prefix_selector, operation_selector, none, child}
 
 abbrev mutual
   -- the handles of a tree: its own, and those below it; a server by itself is a pool's handle too
@@ -18,11 +18,7 @@ abbrev mutual
   handles_in (pool p ranges targets) = suc (handles_below targets)
   handles_in null = 1
   handles_in error = 1
-  handles_in (all_sync ts) = suc (handles_below ts)
-  handles_in (all_initial ts) = suc (handles_below ts)
-  handles_in (all_async ts) = suc (handles_below ts)
-  handles_in (failover ts) = suc (handles_below ts)
-  handles_in (miss_failover ts) = suc (handles_below ts)
+  handles_in (many kind ts) = suc (handles_below ts)
   handles_in (warm_up cold warm exptime) = suc (handles_in cold + handles_in warm)
   handles_in (migrate from to start interval) = suc (handles_in from + handles_in to)
   handles_in (prefix_selector prefixes ts) = suc (handles_below ts)
@@ -39,11 +35,7 @@ abbrev mutual
   IsWithin (suc n) (pool p ranges targets) = (length p.servers ≤ pool_limit) × AreWithin n targets
   IsWithin (suc n) null = Unit {0}
   IsWithin (suc n) error = Unit {0}
-  IsWithin (suc n) (all_sync ts) = AreWithin n ts
-  IsWithin (suc n) (all_initial ts) = AreWithin n ts
-  IsWithin (suc n) (all_async ts) = AreWithin n ts
-  IsWithin (suc n) (failover ts) = AreWithin n ts
-  IsWithin (suc n) (miss_failover ts) = AreWithin n ts
+  IsWithin (suc n) (many kind ts) = AreWithin n ts
   IsWithin (suc n) (warm_up cold warm exptime) = (exptime ≤ seconds_limit) × IsWithin n cold × IsWithin n warm
   IsWithin (suc n) (migrate from to start interval) = (start ≤ seconds_limit) × (interval ≤ seconds_limit) × IsWithin n from × IsWithin n to
   IsWithin (suc n) (prefix_selector prefixes ts) = All (λ p. length p ≤ prefix_limit) prefixes × AreWithin n ts

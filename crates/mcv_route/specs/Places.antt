@@ -2,7 +2,7 @@
 use Rattle.std.specs.Prelude.{ℕ, zero, suc, List, [], ◌∷◌, Bool, Option, Some, None, option_and_then, position, slice_get}
 use Rattle.std.specs.List.{list_any}
 use Rattle.std.specs.Str.{bytes_eq}
-use Rattle.mcv_route.specs.Tree.{Pool, Tree, Trees, pool, null, error, all_sync, all_initial, all_async, failover, miss_failover, warm_up, migrate, prefix_selector, operation_selector, none, child}
+use Rattle.mcv_route.specs.Tree.{Pool, Tree, Trees, pool, null, error, many, warm_up, migrate, prefix_selector, operation_selector, none, child}
 use Rattle.mcv_route.specs.Routes.{RouteEntry, RoutesValue}
 
 -- the children in the order of their numbers; the add of a warm-up goes to the cold side under the number 2
@@ -10,11 +10,7 @@ abbrev pub children_of : Tree → Trees
 children_of (pool p ranges targets) = targets
 children_of null = none
 children_of error = none
-children_of (all_sync ts) = ts
-children_of (all_initial ts) = ts
-children_of (all_async ts) = ts
-children_of (failover ts) = ts
-children_of (miss_failover ts) = ts
+children_of (many kind ts) = ts
 children_of (warm_up cold warm exptime) = child cold (child warm (child cold none))
 children_of (migrate from to start interval) = child from (child to none)
 children_of (prefix_selector prefixes ts) = ts

@@ -4,8 +4,8 @@ use Rattle.mcv_base.specs.declared.reply.Outcome.{Outcome}
 use Rattle.mcv_base.specs.declared.reply.Outcome.TheVariants.{Good, Soft, Error}
 use Rattle.mcv_route.specs.Outcomes.{Outcomes}
 use Rattle.mcv_base.specs.Reply.{is_error, is_good, badness}
-use Rattle.mcv_route.specs.Tree.{Tree, Trees, pool, null, error, all_sync, all_initial, all_async, failover, miss_failover, warm_up, migrate, prefix_selector, operation_selector, none, child}
-use Rattle.mcv_base.specs.Operation.{is_reading}
+use Rattle.mcv_route.specs.Tree.{Tree, Trees, pool, null, error, many, AllSync, AllInitial, AllAsync, Failover, MissFailover, warm_up, migrate, prefix_selector, operation_selector, none, child}
+use Rattle.mcv_route.specs.Misses.{fails_over_on_miss, is_warmed_up}
 use Rattle.mcv_route.specs.Situation.{Situation, under}
 use Rattle.mcv_route.specs.Children.{child_or, together, policy_of, prefix_policy, way_of, by_way}
 
@@ -60,15 +60,15 @@ abbrev mutual
   replies (pool p ranges targets) s o = own_answers s.position (o s.position)
   replies null s o = default_answer ∷ []
   replies error s o = refused ∷ []
-  replies (all_sync ts) s o = together the_worse (refused ∷ []) (replies_each 0 ts s o)
-  replies (all_initial ts) s o = child_or (refused ∷ []) 0 (replies_each 0 ts s o)
-  replies (all_async ts) s o = default_answer ∷ []
-  replies (failover ts) s o = together or_after_error (refused ∷ []) (replies_each 0 ts s o)
-  replies (miss_failover ts) s o =
-      if is_reading s.op then together or_after_miss (refused ∷ []) (replies_each 0 ts s o)
+  replies (many AllSync ts) s o = together the_worse (refused ∷ []) (replies_each 0 ts s o)
+  replies (many AllInitial ts) s o = child_or (refused ∷ []) 0 (replies_each 0 ts s o)
+  replies (many AllAsync ts) s o = default_answer ∷ []
+  replies (many Failover ts) s o = together or_after_error (refused ∷ []) (replies_each 0 ts s o)
+  replies (many MissFailover ts) s o =
+      if fails_over_on_miss s.op then together or_after_miss (refused ∷ []) (replies_each 0 ts s o)
       else child_or (refused ∷ []) 0 (replies_each 0 ts s o)
   replies (warm_up cold warm exptime) s o =
-      if is_reading s.op then or_after_miss (replies cold (under 0 s) o) (replies warm (under 1 s) o) else replies cold (under 0 s) o
+      if is_warmed_up s.op then or_after_miss (replies cold (under 0 s) o) (replies warm (under 1 s) o) else replies cold (under 0 s) o
   replies (migrate from to start interval) s o =
       by_way (way_of s start interval) (replies from (under 0 s) o) (replies to (under 1 s) o)
       (the_worse (replies from (under 0 s) o) (replies to (under 1 s) o))

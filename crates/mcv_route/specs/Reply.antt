@@ -3,8 +3,8 @@ use Rattle.std.specs.Prelude.{ℕ, suc, List, [], ◌∷◌, Bool, true, false, 
 use Rattle.mcv_base.specs.declared.reply.Outcome.{Outcome}
 use Rattle.mcv_route.specs.Outcomes.{History, outcomes}
 use Rattle.mcv_base.specs.Reply.{is_error, is_good, badness}
-use Rattle.mcv_route.specs.Tree.{Tree, Trees, pool, null, error, all_sync, all_initial, all_async, failover, miss_failover, warm_up, migrate, prefix_selector, operation_selector, none, child}
-use Rattle.mcv_base.specs.Operation.{is_reading}
+use Rattle.mcv_route.specs.Tree.{Tree, Trees, pool, null, error, many, AllSync, AllInitial, AllAsync, Failover, MissFailover, warm_up, migrate, prefix_selector, operation_selector, none, child}
+use Rattle.mcv_route.specs.Misses.{fails_over_on_miss, is_warmed_up}
 use Rattle.mcv_route.specs.Situation.{Situation, under}
 use Rattle.mcv_route.specs.Children.{child_or, together, policy_of, prefix_policy, way_of, by_way}
 use Rattle.mcv_route.specs.Replies.{Answer, leg, default_answer, refused, replies}
@@ -59,15 +59,15 @@ abbrev mutual
   reply (pool p ranges targets) s es = own_answer s.position (outcomes es s.position)
   reply null s es = Some default_answer
   reply error s es = Some refused
-  reply (all_sync ts) s es = (together last_worse (arrival (Some refused) 0) (arrivals 0 ts s es)).answer
-  reply (all_initial ts) s es = child_or (Some refused) 0 (answers_of (arrivals 0 ts s es))
-  reply (all_async ts) s es = Some default_answer
-  reply (failover ts) s es = together next_after_error (Some refused) (answers_of (arrivals 0 ts s es))
-  reply (miss_failover ts) s es =
-      if is_reading s.op then together next_after_miss (Some refused) (answers_of (arrivals 0 ts s es))
+  reply (many AllSync ts) s es = (together last_worse (arrival (Some refused) 0) (arrivals 0 ts s es)).answer
+  reply (many AllInitial ts) s es = child_or (Some refused) 0 (answers_of (arrivals 0 ts s es))
+  reply (many AllAsync ts) s es = Some default_answer
+  reply (many Failover ts) s es = together next_after_error (Some refused) (answers_of (arrivals 0 ts s es))
+  reply (many MissFailover ts) s es =
+      if fails_over_on_miss s.op then together next_after_miss (Some refused) (answers_of (arrivals 0 ts s es))
       else child_or (Some refused) 0 (answers_of (arrivals 0 ts s es))
   reply (warm_up cold warm exptime) s es =
-      if is_reading s.op then next_after_miss (reply cold (under 0 s) es) (reply warm (under 1 s) es) else reply cold (under 0 s) es
+      if is_warmed_up s.op then next_after_miss (reply cold (under 0 s) es) (reply warm (under 1 s) es) else reply cold (under 0 s) es
   reply (migrate from to start interval) s es =
       by_way (way_of s start interval) (reply from (under 0 s) es) (reply to (under 1 s) es)
       (last_worse (arrival (reply from (under 0 s) es) (came from (under 0 s) es)) (arrival (reply to (under 1 s) es) (came to (under 1 s) es))).answer

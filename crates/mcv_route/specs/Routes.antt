@@ -2,7 +2,7 @@
 use Rattle.std.specs.Prelude.{◌≡◌, ◌≢◌, ℕ, ◌<◌, List, Some, length, slice_get, option_map}
 use Rattle.std.specs.List.{All}
 use Rattle.mcv_pools.specs.Symbol.{SymbolValue}
-use Rattle.mcv_route.specs.Tree.{Pool, Tree, Trees, pool, null, error, all_sync, all_initial, all_async, failover, miss_failover, warm_up, migrate, prefix_selector, operation_selector, none, child}
+use Rattle.mcv_route.specs.Tree.{Pool, Tree, Trees, pool, null, error, many, warm_up, migrate, prefix_selector, operation_selector, none, child}
 
 pub record RouteEntry : Type 0 where
   -- the routing prefixes that select the route
@@ -28,11 +28,7 @@ abbrev mutual
   IsSoundTree servers symbols (pool p ranges targets) = IsSoundPool servers symbols p × AreSoundTrees servers symbols targets
   IsSoundTree servers symbols null = Unit {0}
   IsSoundTree servers symbols error = Unit {0}
-  IsSoundTree servers symbols (all_sync ts) = (ts ≢ none) × AreSoundTrees servers symbols ts
-  IsSoundTree servers symbols (all_initial ts) = (ts ≢ none) × AreSoundTrees servers symbols ts
-  IsSoundTree servers symbols (all_async ts) = (ts ≢ none) × AreSoundTrees servers symbols ts
-  IsSoundTree servers symbols (failover ts) = (ts ≢ none) × AreSoundTrees servers symbols ts
-  IsSoundTree servers symbols (miss_failover ts) = (ts ≢ none) × AreSoundTrees servers symbols ts
+  IsSoundTree servers symbols (many kind ts) = (ts ≢ none) × AreSoundTrees servers symbols ts
   IsSoundTree servers symbols (warm_up cold warm exptime) = IsSoundTree servers symbols cold × IsSoundTree servers symbols warm
   IsSoundTree servers symbols (migrate from to start interval) = IsSoundTree servers symbols from × IsSoundTree servers symbols to
   IsSoundTree servers symbols (prefix_selector prefixes ts) = AreSoundTrees servers symbols ts

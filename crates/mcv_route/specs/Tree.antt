@@ -1,9 +1,12 @@
 -- The tree of a route: what each handle is, without where it lies in memory.
--- One constructor for each row of the table of handles (mcrouter wiki, List of Route Handles), in its order.
+-- The constructors are in the order of the table of handles (mcrouter wiki, List of Route Handles). Those with children and nothing else share one.
 use Rattle.std.specs.Prelude.{ℕ, List, Option}
 use Rattle.mcv_base.specs.declared.operation.Op.{Op}
+-- the handles with children and nothing else
+pub use Rattle.mcv_names.specs.declared.handle.Many.{Many}
+pub use Rattle.mcv_names.specs.declared.handle.Many.TheVariants.{AllSync, AllInitial, AllAsync, Failover, MissFailover}
 -- the indexes from the first to the last
-pub use Rattle.mcv_config.specs.Plan.{Range}
+pub use Rattle.mcv_config.specs.ConfigValue.{Range}
 
 -- a pool under one hash: its symbol, and its servers in order
 pub record Pool : Type 0 where
@@ -16,11 +19,7 @@ mutual
     pool : Pool → List Range → Trees → Tree
     null : Tree
     error : Tree
-    all_sync : Trees → Tree
-    all_initial : Trees → Tree
-    all_async : Trees → Tree
-    failover : Trees → Tree
-    miss_failover : Trees → Tree
+    many : Many → Trees → Tree
     -- cold, warm, and the exptime of the add
     warm_up : Tree → Tree → ℕ → Tree
     -- from, to, the start and the interval

@@ -1,9 +1,10 @@
 -- What outcomes can come, what can be read, and when a route is covered.
 use Rattle.std.specs.Prelude.{◌≡◌, ◌≢◌, ◌⊎◌, ℕ, true, List, [], ◌∷◌, Option, Some, None, ⊤}
-use Rattle.mcv_base.specs.declared.operation.Op.TheVariants.{Get, Gets, Delete}
+use Rattle.mcv_base.specs.declared.operation.Op.{Op}
+use Rattle.mcv_base.specs.declared.operation.Op.TheVariants.{Delete}
 use Rattle.mcv_base.specs.declared.reply.Outcome.{Outcome}
 use Rattle.mcv_base.specs.declared.reply.Outcome.TheVariants.{Good, Error}
-use Rattle.mcv_base.specs.Operation.{is_counting}
+use Rattle.mcv_base.specs.Operation.{is_counting, is_reading}
 use Rattle.mcv_route.specs.Outcomes.{Outcomes, Choice, IsChoice, History, outcomes}
 use Rattle.mcv_route.specs.Tree.{Tree}
 use Rattle.mcv_route.specs.Situation.{Situation, asked}
@@ -35,9 +36,9 @@ IsHit t s o p = Has (replies t s o) (λ a. a ≡ record { outcome = Good; source
 abbrev pub CanHit : Tree → Situation → Choice → ℕ → Type 0
 CanHit t s c x = (o : Outcomes) × IsReachable t s c o × Has (launched t s c o) (λ l. (l.server.0 ≡ x) × IsHit t s o l.position)
 
--- a get or gets can be answered by the server
+-- an operation that reads can be answered by the server
 abbrev pub IsReadable : Tree → List ℕ → Option ℕ → Choice → ℕ → Type 0
-IsReadable t rest since c x = CanHit t (asked Get rest since) c x ⊎ CanHit t (asked Gets rest since) c x
+IsReadable t rest since c x = (op : Op) × (is_reading op ≡ true) × CanHit t (asked op rest since) c x
 
 -- the delete was sent to the server by a leg that counts
 abbrev pub IsSent : Tree → List ℕ → Option ℕ → Choice → Outcomes → ℕ → Type 0

@@ -2,7 +2,7 @@
 use Rattle.std.specs.Prelude.{ℕ, List, [], ◌∷◌, ◌++◌, map, Option, Some, None, option_map, Box}
 use Rattle.std.specs.declared.alloc.Global.{Global}
 use Rattle.mcv_base.specs.declared.operation.Op.{Op}
-use Rattle.mcv_route.specs.Tree.{Pool, Range, Tree, Trees, pool, null, error, all_sync, all_initial, all_async, failover, miss_failover, warm_up, migrate, prefix_selector, operation_selector, none, child}
+use Rattle.mcv_route.specs.Tree.{Pool, Range, Tree, Trees, pool, null, error, many, warm_up, migrate, prefix_selector, operation_selector, none, child}
 use Rattle.mcv_route.specs.declared.tree.Leaf.{Leaf}
 use Rattle.mcv_route.specs.declared.tree.Route.{Route}
 use Rattle.mcv_route.specs.declared.tree.Route.TheOpen.{Route-F, OperationPolicy-F, PrefixPolicy-F, Shadow-F}
@@ -40,11 +40,7 @@ abbrev pub view_step : Route-F Tree OperationView PrefixView ShadowView → Tree
 view_step (Route-F.Pool leaf shadows) = pool (pool_view leaf) (map (λ s. s.0) shadows.items) (trees_of (map (λ s. s.1) shadows.items))
 view_step Route-F.Null = null
 view_step Route-F.Error = error
-view_step (Route-F.AllSync children) = all_sync (trees_of children.items)
-view_step (Route-F.AllInitial children) = all_initial (trees_of children.items)
-view_step (Route-F.AllAsync children) = all_async (trees_of children.items)
-view_step (Route-F.Failover children) = failover (trees_of children.items)
-view_step (Route-F.MissFailover children) = miss_failover (trees_of children.items)
+view_step (Route-F.Many kind children) = many kind (trees_of children.items)
 view_step (Route-F.WarmUp cold warm exptime) = warm_up cold.value warm.value exptime
 view_step (Route-F.Migrate from to start interval) = migrate from.value to.value start interval
 view_step (Route-F.PrefixSelector policies wildcard) =

@@ -1,15 +1,15 @@
--- A walk over handles that a plan names, which makes their trees and adds their symbols to a table (own).
+-- A walk over handles that a configuration names, which makes their trees and adds their symbols to a table (own).
 use Rattle.std.specs.Prelude.{◌≡◌, ℕ, List, [], ◌∷◌, Option, Some, None, Box, map, fold}
 use Rattle.std.specs.List.{flat_map}
 use Rattle.std.specs.declared.alloc.Global.{Global}
 use Rattle.std.specs.declared.sync.Arc.{Arc}
 use Rattle.std.specs.declared.vec.Vec.{Vec}
 use Rattle.mcv_base.specs.declared.request.ServerId.{ServerId}
-use Rattle.mcv_config.specs.Plan.{Named, named_of}
+use Rattle.mcv_config.specs.ConfigValue.{Named, named_of}
 use Rattle.mcv_config.specs.declared.config.NamedRoute.{NamedRoute}
 use Rattle.mcv_pools.specs.Symbol.{SymbolValue, same_symbol}
 use Rattle.mcv_pools.specs.Table.{with_entry}
-use Rattle.mcv_route.specs.Built.{symbols_in, tree_named}
+use Rattle.mcv_route.specs.NamedRoutes.{symbols_in, tree_named}
 use Rattle.mcv_route.specs.Tree.{Tree}
 
 -- the servers of a shared list

@@ -3,11 +3,11 @@
 
 ghost use Rattle.std.specs.Prelude.{◌≡◌, ◌<◌, [], ◌∷◌, length, map, IfOk};
 ghost use Rattle.std.specs.List.{All};
-ghost use Rattle.mcv_config.specs.Plan.{IsSoundRoute, named_of, policy_of, pool_plan, prefix_of, shadow_of};
+ghost use Rattle.mcv_config.specs.ConfigValue.{IsSoundRoute, named_of, policy_of, pool_servers, prefix_of, shadow_of};
 ghost use Rattle.mcv_pools.specs.declared.symbol.HashFunc.TheVariants.{Ch3};
 ghost use Rattle.mcv_pools.specs.Symbol.{same_symbol};
 ghost use Rattle.mcv_pools.specs.Table.{with_entry};
-ghost use Rattle.mcv_route.specs.Built.{pool_at, pool_named, server_at, symbol_of};
+ghost use Rattle.mcv_route.specs.NamedRoutes.{pool_at, pool_named, server_at, symbol_of};
 ghost use Rattle.mcv_route.specs.View.{last_view, operation_view, pool_view, prefix_view, shadow_view, view};
 ghost use Rattle.mcv_route.specs.Walk.{IsBuilt, last_named, list_view};
 
@@ -20,7 +20,7 @@ use std::sync::Arc;
 
 /// One list for each pool, which its leaves share.
 pub fn shared_lists(alloc: Global, pools: Vec<Pool>) -> Result<Vec<Arc<Vec<ServerId>>>, AllocError>
-    ensures { IfOk result (λ lists. map list_view lists.items ≡ map pool_plan pools.items) }
+    ensures { IfOk result (λ lists. map list_view lists.items ≡ map pool_servers pools.items) }
 {
     let mut lists = Vec::with_capacity(alloc, pools.len())?;
     for pool in pools {
@@ -117,20 +117,9 @@ pub fn build_route(
         }
         NamedRoute::Null => Ok(Route::Null),
         NamedRoute::Error => Ok(Route::Error),
-        NamedRoute::AllSync(children) => {
-            Ok(Route::AllSync(build_children(alloc, children, lists, symbols)?))
-        }
-        NamedRoute::AllInitial(children) => {
-            Ok(Route::AllInitial(build_children(alloc, children, lists, symbols)?))
-        }
-        NamedRoute::AllAsync(children) => {
-            Ok(Route::AllAsync(build_children(alloc, children, lists, symbols)?))
-        }
-        NamedRoute::Failover(children) => {
-            Ok(Route::Failover(build_children(alloc, children, lists, symbols)?))
-        }
-        NamedRoute::MissFailover(children) => {
-            Ok(Route::MissFailover(build_children(alloc, children, lists, symbols)?))
+        NamedRoute::Many(kind, children) => {
+            let children = build_children(alloc, children, lists, symbols)?;
+            Ok(Route::Many(*kind, children))
         }
         NamedRoute::WarmUp {
             cold,

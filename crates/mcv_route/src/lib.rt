@@ -13,5 +13,6 @@ mod tree;
 
 pub use eras::{era_count, eras_are_opened_by_breaks, opened};
 pub use launch::{Answered, Launch};
+pub use mcv_names::Many;
 pub use routes::Routes;
 pub use tree::{Leaf, OperationPolicy, PrefixPolicy, Route, Shadow};

@@ -19,11 +19,7 @@ pub fn push_breaks(moments: &mut Vec<u64>, route: &Route) -> Result<(), AllocErr
         Route::Pool { leaf: _, shadows } => push_shadows(moments, shadows),
         Route::Null => Ok(()),
         Route::Error => Ok(()),
-        Route::AllSync(children) => push_children(moments, children),
-        Route::AllInitial(children) => push_children(moments, children),
-        Route::AllAsync(children) => push_children(moments, children),
-        Route::Failover(children) => push_children(moments, children),
-        Route::MissFailover(children) => push_children(moments, children),
+        Route::Many(_, children) => push_children(moments, children),
         Route::WarmUp {
             cold,
             warm,

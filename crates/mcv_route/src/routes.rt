@@ -3,9 +3,9 @@
 ghost use Rattle.std.specs.Prelude.{◌≡◌, ◌<◌, [], ◌∷◌, Some, None, IfOk, length, map, option_map, position, slice_get, true};
 ghost use Rattle.std.specs.List.{All, flat_map};
 ghost use Rattle.mcv_base.specs.Server.{is_server};
-ghost use Rattle.mcv_config.specs.Plan.{IsSoundRoute, named_of};
+ghost use Rattle.mcv_config.specs.ConfigValue.{IsSoundRoute, named_of};
 ghost use Rattle.mcv_route.specs.Aliases.{first_alias, AreSelected};
-ghost use Rattle.mcv_route.specs.Built.{routes_named};
+ghost use Rattle.mcv_route.specs.NamedRoutes.{routes_named};
 ghost use Rattle.mcv_route.specs.Eras.{breaks, breaks_of, era_at, since_at, IsBreakTable};
 ghost use Rattle.mcv_route.specs.Limits.{AreWithinLimits};
 ghost use Rattle.mcv_route.specs.Places.{is_alias, leaf_in, route_of_prefix};

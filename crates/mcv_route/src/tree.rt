@@ -1,6 +1,7 @@
 //! The handles of a route, as they are kept to be walked. The definition of what each one is: `specs/View.antt`.
 
 use mcv_base::{Op, ServerId};
+use mcv_names::Many;
 use std::sync::Arc;
 
 /// A pool under one hash: what a PoolRoute sends its own leg to.
@@ -53,11 +54,8 @@ pub enum Route {
     },
     Null,
     Error,
-    AllSync(Vec<Route>),
-    AllInitial(Vec<Route>),
-    AllAsync(Vec<Route>),
-    Failover(Vec<Route>),
-    MissFailover(Vec<Route>),
+    /// One with children and nothing else.
+    Many(Many, Vec<Route>),
     WarmUp {
         cold: Box<Route>,
         warm: Box<Route>,

@@ -9,7 +9,7 @@ use Rattle.mcv_base.specs.declared.reply.FixedReply.TheVariants.{Deleted, NotFou
 use Rattle.mcv_base.specs.declared.reply.Part.TheVariants as parts
 use Rattle.mcv_route.specs.declared.launch.Answered.{Answered}
 use Rattle.mcv_route.specs.Outcomes.{outcomes}
-use Rattle.mcv_route.specs.Tree.{Tree, Trees, pool, null, all_sync, failover, operation_selector, none, child}
+use Rattle.mcv_route.specs.Tree.{Tree, Trees, pool, null, many, AllSync, Failover, operation_selector, none, child}
 use Rattle.mcv_route.specs.Situation.{Situation, asked}
 use Rattle.mcv_route.specs.Reply as one
 use Rattle.mcv_rules.specs.Plan.{Leg, Send, Reply, Both, OnError, Shadowed, reply, launched}
@@ -38,10 +38,10 @@ leg_at p n m = record { position = p; symbol = 0; servers = n ∷ []; op = Delet
 
 -- ---- plans
 
-all_sync_plan : plan (all_sync (two (server 7) null)) delete ≡ Both (Send (leg_at (0 ∷ []) 7 Plain)) (Reply Soft)
+all_sync_plan : plan (many AllSync (two (server 7) null)) delete ≡ Both (Send (leg_at (0 ∷ []) 7 Plain)) (Reply Soft)
 all_sync_plan = refl
 
-failover_plan : plan (failover (two (server 7) (server 8))) delete ≡ OnError (Send (leg_at (0 ∷ []) 7 Plain)) (Send (leg_at (1 ∷ []) 8 Plain))
+failover_plan : plan (many Failover (two (server 7) (server 8))) delete ≡ OnError (Send (leg_at (0 ∷ []) 7 Plain)) (Send (leg_at (1 ∷ []) 8 Plain))
 failover_plan = refl
 
 selector_plan : plan (operation_selector (None ∷ Some Delete ∷ []) (child null (two (server 7) (server 8)))) delete ≡ Send (leg_at (1 ∷ []) 7 Plain)
@@ -69,20 +69,20 @@ answered p f = record { position = p; reply = parts.Fixed f }
 abbrev deleted : Tree → List Answered → Status
 deleted t xs = status_of Delete xs (one.reply t delete (history_of xs))
 
-both_faulty : deleted (all_sync (two (server 7) (server 8))) (answered (1 ∷ []) Lost ∷ answered (0 ∷ []) Lost ∷ []) ≡ Replied (Outcome 1)
+both_faulty : deleted (many AllSync (two (server 7) (server 8))) (answered (1 ∷ []) Lost ∷ answered (0 ∷ []) Lost ∷ []) ≡ Replied (Outcome 1)
 both_faulty = refl
 
-one_missing : deleted (all_sync (two (server 7) (server 8))) (answered (1 ∷ []) Lost ∷ []) ≡ Waits
+one_missing : deleted (many AllSync (two (server 7) (server 8))) (answered (1 ∷ []) Lost ∷ []) ≡ Waits
 one_missing = refl
 
-default_and_miss : deleted (all_sync (two null (server 8))) (answered (1 ∷ []) NotFound ∷ []) ≡ Replied (Outcome 0)
+default_and_miss : deleted (many AllSync (two null (server 8))) (answered (1 ∷ []) NotFound ∷ []) ≡ Replied (Outcome 0)
 default_and_miss = refl
 
-default_and_hit : deleted (all_sync (two null (server 8))) (answered (1 ∷ []) Deleted ∷ []) ≡ Replied (Fixed NotFound)
+default_and_hit : deleted (many AllSync (two null (server 8))) (answered (1 ∷ []) Deleted ∷ []) ≡ Replied (Fixed NotFound)
 default_and_hit = refl
 
 -- the middle child is there last, by its second leg; its worst reply is the first of all
-whole_child : deleted (all_sync (child (server 7) (two (all_sync (two (server 8) (server 9))) (server 6))))
+whole_child : deleted (many AllSync (child (server 7) (two (many AllSync (two (server 8) (server 9))) (server 6))))
     (answered (1 ∷ 0 ∷ []) Lost ∷ answered (0 ∷ []) Lost ∷ answered (2 ∷ []) Lost ∷ answered (1 ∷ 1 ∷ []) Deleted ∷ []) ≡ Replied (Outcome 0)
 whole_child = refl
 
@@ -90,7 +90,7 @@ missing_policy : deleted (operation_selector [] none) [] ≡ Replied (Fixed Erro
 missing_policy = refl
 
 -- the search within came after the other child, by its second leg
-search_came_last : deleted (all_sync (two (failover (two (server 7) (server 8))) (server 9)))
+search_came_last : deleted (many AllSync (two (many Failover (two (server 7) (server 8))) (server 9)))
     (answered (0 ∷ 0 ∷ []) Lost ∷ answered (1 ∷ []) Lost ∷ answered (0 ∷ 1 ∷ []) Lost ∷ []) ≡ Replied (Outcome 2)
 search_came_last = refl
 

@@ -20,7 +20,7 @@ use Rattle.mcv_rules.specs.Times.{IsStable}
 use Rattle.mcv_rules.specs.declared.arrival.Arrival.{Arrival}
 use Rattle.mcv_rules.specs.declared.status.Source.TheVariants.{Outcome as placed}
 use Rattle.mcv_rules.proofs.Orders.{same_is, one_more}
-use Rattle.mcv_rules.proofs.Stays
+use Rattle.mcv_rules.proofs.AnswersStay
 
 pub same_bytes : (p q : List ℕ) → bytes_eq p q ≡ is_same p q
 same_bytes [] [] = refl
@@ -207,4 +207,4 @@ apart xs = apart_all [] xs tt
 pub stable : (t : Tree) (s : Situation) (es : History) → IsApart es → IsStable (λ h. replies t s (outcomes h)) es
 stable t s [] h = tt
 stable t s (e ∷ es) h =
-    (λ n. ⊎_elim (λ z. absurd (n z)) (λ z. z) (Stays.reply_stays t s (outcomes es) (outcomes (e ∷ es)) (one_more e.0 e.1 es h.0)), stable t s es h.1)
+    (λ n. ⊎_elim (λ z. absurd (n z)) (λ z. z) (AnswersStay.reply_stays t s (outcomes es) (outcomes (e ∷ es)) (one_more e.0 e.1 es h.0)), stable t s es h.1)

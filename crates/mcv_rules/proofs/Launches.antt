@@ -7,7 +7,7 @@ use Rattle.mcv_base.specs.Reply.{is_error, is_missed, is_good}
 use Rattle.mcv_route.specs.Outcomes.{Outcomes, Choice}
 use Rattle.mcv_rules.specs.Plan.{Leg, Plan, Send, Reply, Both, Beside, OnError, OnMiss, OnHit, Shadowed, reply, IsMissed, on_reply, launched}
 use Rattle.mcv_rules.proofs.Sending.{Sends}
-use Rattle.mcv_rules.proofs.Among.{Among, among_left, among_right, among_either}
+use Rattle.mcv_rules.proofs.ListMembers.{Among, among_left, among_right, among_either}
 
 error_reply : (r : Option Outcome) (ls : List Leg) (l : Leg) → Among (on_reply is_error r ls) l → (r ≡ Some Error) × Among ls l
 error_reply None ls l h = absurd h

@@ -6,12 +6,12 @@ use Rattle.mcv_base.specs.declared.reply.Outcome.TheVariants.{Good, Soft, Error}
 use Rattle.mcv_rules.specs.Plan.{Leg, Plan, Send, Reply, Both, Beside, OnError, OnMiss, OnHit, Shadowed, both, on_error, on_miss, reply, IsMissed}
 use Rattle.mcv_route.specs.Outcomes.{Outcomes, Choice, is_same, History, outcomes}
 use Rattle.mcv_rules.proofs.Sending.{Sends, IsLegal, IsReachable}
-use Rattle.mcv_rules.specs.Sound.{positions}
+use Rattle.mcv_rules.specs.Soundness.{positions}
 use Rattle.mcv_rules.proofs.Sending.{IsClosed, ReachableIsClosed}
 use Rattle.mcv_rules.specs.Laws.{Extends}
-use Rattle.mcv_rules.specs.Sound.{In}
+use Rattle.mcv_rules.specs.Soundness.{In}
 use Rattle.mcv_rules.proofs.Basics
-use Rattle.mcv_rules.proofs.Later
+use Rattle.mcv_rules.proofs.RepliesAndLegsStay
 
 -- ---- positions
 
@@ -226,7 +226,7 @@ legal_closed t c (f ∷ es) h p x e =
     ]
   where
     sent_up : (t : Plan) (c : Choice) (es : History) (f : List ℕ × Outcome) → Extends (outcomes es) (outcomes (f ∷ es)) → (l : Leg) → Sends t c (outcomes es) l → Sends t c (outcomes (f ∷ es)) l
-    sent_up t c es f more l s = Later.sent_stays t c (outcomes es) (outcomes (f ∷ es)) l more s
+    sent_up t c es f more l s = RepliesAndLegsStay.sent_stays t c (outcomes es) (outcomes (f ∷ es)) l more s
 
 one_is_none : (a b : Option Outcome) (x : Outcome) → a ≡ None → b ≡ Some x → gap a b ≡ 0 → ⊥
 unfolding gap
@@ -263,7 +263,7 @@ closed_reachable t c o k = build t c o k (missing (outcomes []) o (positions t))
 pub reachable_closed : (t : Plan) (c : Choice) (o : Outcomes) → IsReachable t c o → IsClosed t c o
 reachable_closed t c o r p x e =
     let s = legal_closed t c r.0 r.1 p x (r.2 p ∙ e) in
-    (s.0, s.1, Later.sent_stays t c (outcomes r.0) o s.0 (λ q y f. sym (r.2 q) ∙ f) s.2)
+    (s.0, s.1, RepliesAndLegsStay.sent_stays t c (outcomes r.0) o s.0 (λ q y f. sym (r.2 q) ∙ f) s.2)
 
 pub reachable_is_closed : ReachableIsClosed
 reachable_is_closed t c o = (reachable_closed t c o, closed_reachable t c o)

@@ -7,7 +7,7 @@ use Rattle.mcv_base.specs.Reply.{outcome_of, fixed_value}
 use Rattle.mcv_route.specs.Outcomes.{Choice, Outcomes}
 use Rattle.mcv_route.specs.Children.{joined, child_or, together, is_within}
 use Rattle.mcv_rules.specs.Arrivals.{arrived_at_once, all_arrived, next_arrived}
-use Rattle.mcv_rules.specs.Laid.{launch_of, legs_each, replies_each, searched, next_reply, is_hit, sent, arrived}
+use Rattle.mcv_rules.specs.PlanInMemory.{launch_of, legs_each, replies_each, searched, next_reply, is_hit, sent, arrived}
 use Rattle.mcv_rules.specs.Plan.{both}
 use Rattle.mcv_rules.specs.declared.arrival.After.{After}
 use Rattle.mcv_rules.specs.declared.arrival.Arrival.{Arrival}

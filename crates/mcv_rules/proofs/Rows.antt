@@ -17,7 +17,7 @@ use Rattle.mcv_route.specs.Replies.{Answer, outcome_of, replies, replies_each}
 use Rattle.mcv_route.specs.Launched.{launched, launched_each, own_leg, once, in_turn}
 use Rattle.mcv_rules.specs.Plan.{IsMissed}
 use Rattle.mcv_rules.specs.Rows.{Sends, ChildSends, child_replied, PoolRow, AllSyncRow, AllInitialRow, AllAsyncRow, FailoverRow, MissFailoverReads, MissFailoverWrites, WarmUpReads, WarmUpWrites, MigrateBefore, MigrateDeletes, MigrateFirst, MigrateSecond, MigrateAfter, PrefixSelectorRow, OperationSelectorRow, FirstPolicyCounts}
-use Rattle.mcv_rules.proofs.Among.{Among, among_left, among_right, among_either}
+use Rattle.mcv_rules.proofs.ListMembers.{Among, among_left, among_right, among_either}
 
 -- ---- by a child's number
 

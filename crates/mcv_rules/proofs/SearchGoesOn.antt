@@ -6,12 +6,12 @@ use Rattle.mcv_base.specs.declared.reply.Outcome.{Outcome}
 use Rattle.mcv_route.specs.declared.launch.Launch.{Launch}
 use Rattle.mcv_route.specs.Children.{joined}
 use Rattle.mcv_rules.specs.Arrivals.{goes_on_after, next_arrived}
-use Rattle.mcv_rules.specs.Laid.{Sent, legs_each, searched, next_reply, replies_each}
+use Rattle.mcv_rules.specs.PlanInMemory.{Sent, legs_each, searched, next_reply, replies_each}
 use Rattle.mcv_rules.specs.Plan.{both}
 use Rattle.mcv_rules.specs.declared.arrival.After.{After}
 use Rattle.mcv_rules.specs.declared.arrival.Arrival.{Arrival}
 use Rattle.mcv_rules.specs.declared.plan.Plan.{Plan}
-use Rattle.mcv_rules.proofs.Stopping.{no_legs}
+use Rattle.mcv_rules.proofs.StoppedSearch.{no_legs}
 
 -- one plan more, before which the search goes on
 pub legs_on : (w : After) (F : Plan → Sent) (plans : List Plan) (i : ℕ) (p : Plan) (found found2 all : List Launch) (r r2 : Option Outcome) → i < length plans → p ≡ get_or plans i p → goes_on_after w r ≡ true

@@ -10,7 +10,7 @@ use Rattle.mcv_base.specs.declared.reply.FixedReply.TheVariants.{ErrorRoute}
 use Rattle.mcv_route.specs.declared.launch.Answered.{Answered}
 use Rattle.mcv_route.specs.declared.launch.Launch.{Launch}
 use Rattle.mcv_route.specs.Outcomes.{Outcomes, Choice, History, outcomes}
-use Rattle.mcv_route.specs.Tree.{Tree, Trees, failover, miss_failover, warm_up}
+use Rattle.mcv_route.specs.Tree.{Tree, Trees, many, Failover, MissFailover, warm_up}
 use Rattle.mcv_route.specs.Situation.{Situation, under, adding}
 use Rattle.mcv_route.specs.Children.{joined, together}
 use Rattle.mcv_route.specs.View.{trees_of}
@@ -20,24 +20,24 @@ use Rattle.mcv_route.specs.Reply.{reply, came, arrival, arrivals, answers_of, ne
 use Rattle.mcv_rules.specs.Laws.{IsOneOf}
 use Rattle.mcv_rules.specs.Plan as planned
 use Rattle.mcv_rules.specs.Plans.{plan, plan_each}
-use Rattle.mcv_rules.specs.Sound.{positions}
-use Rattle.mcv_rules.specs.Whole.{part, turns_of}
-use Rattle.mcv_rules.specs.Whole.{in_turn as join}
+use Rattle.mcv_rules.specs.Soundness.{positions}
+use Rattle.mcv_rules.specs.NormalForm.{part, turns_of}
+use Rattle.mcv_rules.specs.NormalForm.{in_turn as join}
 use Rattle.mcv_rules.specs.Times.{time, IsStable}
 use Rattle.mcv_rules.specs.History.{history_of}
 use Rattle.mcv_rules.specs.Arrivals.{seen, own_arrived, arrived_at_once, goes_on, goes_on_after, next_arrived}
-use Rattle.mcv_rules.specs.Laid.{sent, searched, next_reply, is_hit, arrived, Serves, ServeEach}
+use Rattle.mcv_rules.specs.PlanInMemory.{sent, searched, next_reply, is_hit, arrived, Serves, ServeEach}
 use Rattle.mcv_rules.specs.declared.arrival.After.{After}
 use Rattle.mcv_rules.specs.declared.arrival.After.TheVariants as after
 use Rattle.mcv_rules.specs.declared.arrival.Arrival.{Arrival}
 use Rattle.mcv_rules.specs.declared.plan.Plan.{Plan, InTurn, OnHit}
-use Rattle.mcv_rules.proofs.One
+use Rattle.mcv_rules.proofs.OneReply
 use Rattle.mcv_rules.proofs.Times as times
 use Rattle.mcv_rules.proofs.Times.{came_time, no_cons}
 use Rattle.mcv_rules.proofs.Verdicts.{reply_is_planned, replies_are_alike}
 use Rattle.mcv_rules.proofs.KnownIsHistory.{apart, stable}
 use Rattle.mcv_rules.proofs.Places.{kind-InTurn, kind-OnHit, places-InTurn, places-OnHit}
-use Rattle.mcv_rules.proofs.Whole.{part-InTurn, part-OnHit}
+use Rattle.mcv_rules.proofs.NormalForms.{part-InTurn, part-OnHit}
 use Rattle.mcv_rules.proofs.Plans.{sent-InTurn, sent-OnHit, arrived-InTurn, arrived-OnHit}
 use Rattle.mcv_rules.proofs.Serving.{at_once, kinds-each, places-each, positions-together, replies-each, reply-together, wholes-each}
 
@@ -126,7 +126,7 @@ decides-child op xs p t s same f =
     let es = history_of xs in
     record {
       is = f.answers xs ∙ ap₂ (λ op n. seen op xs (arrival (reply t s es) n)) (sym same) (came_time t s es);
-      alike = one_alike t s (outcomes es) (reply t s es) (One.reply_is_one_of t s es);
+      alike = one_alike t s (outcomes es) (reply t s es) (OneReply.reply_is_one_of t s es);
       stays = stable t s es (apart xs);
     }
 
@@ -251,10 +251,10 @@ serves-search w v t ts s h a = record {
   answers = λ xs. rw (arrived-InTurn (own_arrived xs) w v) (search_answers w xs v.items t ts s h a);
 }
 
-pub failover_searches : (ts : Trees) (s : Situation) → Searches after.Error (failover ts) ts s
+pub failover_searches : (ts : Trees) (s : Situation) → Searches after.Error (many Failover ts) ts s
 failover_searches ts s = record { legs = λ c o. refl; answers = λ o. refl; answer = λ es. refl; plans = refl }
 
-pub miss_searches : (ts : Trees) (s : Situation) → is_reading s.op ≡ true → Searches after.Miss (miss_failover ts) ts s
+pub miss_searches : (ts : Trees) (s : Situation) → is_reading s.op ≡ true → Searches after.Miss (many MissFailover ts) ts s
 miss_searches ts s h = record { legs = λ c o. rw h refl; answers = λ o. rw h refl; answer = λ es. rw h refl; plans = rw h refl }
 
 -- ---- warm-ups

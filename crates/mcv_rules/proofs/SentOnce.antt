@@ -14,12 +14,12 @@ use Rattle.mcv_route.specs.Children.{is_within}
 use Rattle.mcv_rules.specs.Plan.{Leg, Plan, Send, Reply, Both, Beside, OnError, OnMiss, OnHit, Shadowed, reply, on_reply, launched}
 use Rattle.mcv_rules.specs.Plans.{plan}
 use Rattle.mcv_rules.specs.Rows.{LegsAreSentOnce, ShadowsAreMarked}
-use Rattle.mcv_rules.specs.Sound.{In, IsApart, IsMarked, positions}
+use Rattle.mcv_rules.specs.Soundness.{In, IsApart, IsMarked, positions}
 use Rattle.mcv_rules.proofs.Sending.{Sends}
 use Rattle.mcv_rules.proofs.Orders.{in_left, in_right}
-use Rattle.mcv_rules.proofs.Rising.{launched_places, places}
-use Rattle.mcv_rules.proofs.Sent
-use Rattle.mcv_rules.proofs.Sound.{in_either, plan_apart, plan_marked}
+use Rattle.mcv_rules.proofs.LegsRise.{launched_places, places}
+use Rattle.mcv_rules.proofs.LegsOfPlan
+use Rattle.mcv_rules.proofs.PlansAreSound.{in_either, plan_apart, plan_marked}
 use Rattle.mcv_rules.proofs.Verdicts.{has_sends}
 
 -- ---- positions that come once
@@ -93,7 +93,7 @@ sent_part (Shadowed s a b t u) c o h =
 
 pub legs_are_sent_once : LegsAreSentOnce
 legs_are_sent_once t s c o =
-    subst (λ (ps : List (List ℕ)). IsOneToOne ps) (sym (ap (λ ls. map (λ l. l.position) ls) (Sent.sent t s c o) ∙ launched_places c (launched (plan t s) c o)))
+    subst (λ (ps : List (List ℕ)). IsOneToOne ps) (sym (ap (λ ls. map (λ l. l.position) ls) (LegsOfPlan.sent t s c o) ∙ launched_places c (launched (plan t s) c o)))
     (one_to_one (places (launched (plan t s) c o)) (sent_part (plan t s) c o (plan_apart t s)).once)
 
 -- ---- shadows

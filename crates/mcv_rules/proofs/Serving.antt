@@ -13,7 +13,7 @@ use Rattle.mcv_base.specs.declared.reply.FixedReply.TheVariants.{ErrorRoute}
 use Rattle.mcv_base.specs.Reply.{outcome_of, fixed_value}
 use Rattle.mcv_route.specs.declared.launch.Answered.{Answered}
 use Rattle.mcv_route.specs.Outcomes.{Outcomes, Choice, History, outcomes}
-use Rattle.mcv_route.specs.Tree.{Pool, Tree, Trees, pool, null, error, all_sync, none, child}
+use Rattle.mcv_route.specs.Tree.{Pool, Tree, Trees, pool, null, error, many, AllSync, none, child}
 use Rattle.mcv_route.specs.Situation.{Situation, under}
 use Rattle.mcv_route.specs.Children as children
 use Rattle.mcv_route.specs.Children.{together}
@@ -27,21 +27,21 @@ use Rattle.mcv_route.specs.Reply.{reply, came, arrival, arrivals, last_worse, is
 use Rattle.mcv_rules.specs.Plan as planned
 use Rattle.mcv_rules.specs.Places.{are_plain, kind_of, places_of}
 use Rattle.mcv_rules.specs.Plans.{plan, plan_each}
-use Rattle.mcv_rules.specs.Sound.{positions}
-use Rattle.mcv_rules.specs.Whole.{all_of, alone, part, whole_of}
+use Rattle.mcv_rules.specs.Soundness.{positions}
+use Rattle.mcv_rules.specs.NormalForm.{all_of, alone, part, whole_of}
 use Rattle.mcv_rules.specs.Times.{came_each}
 use Rattle.mcv_rules.specs.Status.{default_reply}
 use Rattle.mcv_rules.specs.History.{history_of}
 use Rattle.mcv_rules.specs.Arrivals.{seen, seen_answer, weight, later, own_arrived, all_arrived}
-use Rattle.mcv_rules.specs.Laid as laid
-use Rattle.mcv_rules.specs.Laid.{sent, legs_each, arrived, Serves, ServeEach}
+use Rattle.mcv_rules.specs.PlanInMemory as laid
+use Rattle.mcv_rules.specs.PlanInMemory.{sent, legs_each, arrived, Serves, ServeEach}
 use Rattle.mcv_rules.specs.declared.plan.PlannedLeg.{PlannedLeg}
 use Rattle.mcv_rules.specs.declared.plan.Plan.{Plan, Send, Reply, All}
 use Rattle.mcv_rules.proofs.Times as times
 use Rattle.mcv_rules.proofs.Verdicts.{reply_is_planned}
 use Rattle.mcv_rules.proofs.KnownIsHistory.{own_seen}
 use Rattle.mcv_rules.proofs.Places.{kind-All, kind-Reply, kind-Send, places-All, places-Reply, places-Send}
-use Rattle.mcv_rules.proofs.Whole.{part-All, part-Reply, part-Send}
+use Rattle.mcv_rules.proofs.NormalForms.{part-All, part-Reply, part-Send}
 use Rattle.mcv_rules.proofs.Plans.{sent-Send, sent-Reply, sent-All, arrived-Send, arrived-Reply, arrived-All}
 
 -- what is laid out serves the whole, where it serves the part
@@ -202,8 +202,8 @@ came-seen : (op : Op) (xs : List Answered) (k : ℕ) (ts : Trees) (s : Situation
 came-seen op xs k none s es = refl
 came-seen op xs k (child t ts) s es = ap (λ ns. came t (under k s) es ∷ ns) (came-seen op xs (suc k) ts s es)
 
-all-seen : (ts : List Tree) (s : Situation) (xs : List Answered) → all_arrived (map (seen s.op xs) (arrivals 0 (trees_of ts) s (history_of xs))) ≡ seen s.op xs (arrival (reply (all_sync (trees_of ts)) s (history_of xs)) (came (all_sync (trees_of ts)) s (history_of xs)))
-all-seen [] s xs = rw (at_once (all_sync none) s (λ o. refl) (history_of xs)) refl
+all-seen : (ts : List Tree) (s : Situation) (xs : List Answered) → all_arrived (map (seen s.op xs) (arrivals 0 (trees_of ts) s (history_of xs))) ≡ seen s.op xs (arrival (reply (many AllSync (trees_of ts)) s (history_of xs)) (came (many AllSync (trees_of ts)) s (history_of xs)))
+all-seen [] s xs = rw (at_once (many AllSync none) s (λ o. refl) (history_of xs)) refl
 all-seen (t ∷ ts) s xs =
     let es = history_of xs in
     let first = arrival (reply t (under 0 s) es) (came t (under 0 s) es) in
@@ -241,12 +241,12 @@ module _ (join : planned.Plan → planned.Plan → planned.Plan) (h : (t u : pla
   positions-together [] = refl
   positions-together (u ∷ us) = positions-fold u us
 
-pub serves-all : (v : Vec Plan Global) (ts : List Tree) (s : Situation) → ServeEach 0 v.items ts s → Serves (All v) (all_sync (trees_of ts)) s
+pub serves-all : (v : Vec Plan Global) (ts : List Tree) (s : Situation) → ServeEach 0 v.items ts s → Serves (All v) (many AllSync (trees_of ts)) s
 serves-all v ts s a = record {
   sends = λ c o. rw (sent-All c o v, legs-each 0 v.items ts s c o a) refl;
   replies = λ c o.
       rw (sent-All c o v, replies-each 0 v.items ts s c o a)
-      (reply-together o planned.both planned.Both (λ t u. refl) (planned.Reply Error) (plan_each 0 (trees_of ts) s) ∙ sym (reply_is_planned (all_sync (trees_of ts)) s o));
+      (reply-together o planned.both planned.Both (λ t u. refl) (planned.Reply Error) (plan_each 0 (trees_of ts) s) ∙ sym (reply_is_planned (many AllSync (trees_of ts)) s o));
   kind = rw (kind-All v, kinds-each 0 v.items ts s a) refl;
   whole = part-All v ∙ ap (λ us. part (all_of us)) (wholes-each 0 v.items ts s a);
   places = places-All v ∙ ap children.joined (places-each 0 v.items ts s a) ∙ sym (positions-together planned.Both (λ t u. refl) (plan_each 0 (trees_of ts) s));

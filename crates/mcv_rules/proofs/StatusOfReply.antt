@@ -12,8 +12,8 @@ use Rattle.mcv_route.specs.Replies.{Source, leg, fixed, refusal, Answer, replies
 use Rattle.mcv_route.specs.Launched.{launched}
 use Rattle.mcv_route.specs.Reply.{reply}
 use Rattle.mcv_rules.specs.Arrivals.{known_at, outcome_in, own_arrived, seen_answer}
-use Rattle.mcv_rules.specs.Called.{Called, situation_of}
-use Rattle.mcv_rules.specs.Laid.{Serves, arrived, sent, situation_at}
+use Rattle.mcv_rules.specs.RouteCall.{Called, situation_of}
+use Rattle.mcv_rules.specs.PlanInMemory.{Serves, arrived, sent, situation_at}
 use Rattle.mcv_rules.specs.declared.arrival.Answer.{Answer as SeenAnswer}
 use Rattle.mcv_rules.specs.declared.arrival.Arrival.{Arrival}
 use Rattle.mcv_rules.specs.declared.asked.Asked.{Asked}
@@ -24,10 +24,10 @@ use Rattle.mcv_rules.specs.declared.status.Status.TheVariants.{Waits, Replied}
 use Rattle.mcv_rules.specs.Laws.{outcome_at, IsOneOf}
 use Rattle.mcv_rules.specs.History.{history_of}
 use Rattle.mcv_rules.specs.Status.{source_of, source_outcome, status_of, status_outcome}
-use Rattle.mcv_rules.proofs.One
+use Rattle.mcv_rules.proofs.OneReply
 use Rattle.mcv_rules.proofs.KnownIsHistory.{own_outcome, outcome_at_place, outcome_first}
 use Rattle.mcv_rules.proofs.Serving.{default_is_soft}
-use Rattle.mcv_rules.proofs.True
+use Rattle.mcv_rules.proofs.AnswersAreTrue
 
 source_of_reply : (op : Op) (xs : List Answered) (source : Source) (x : Outcome) → outcome_at (outcomes (history_of xs)) source ≡ Some x → source_outcome xs (source_of op xs source) ≡ Some x
 source_of_reply op xs (leg p) x e = outcome_at_place xs p ∙ sym (outcome_first xs p) ∙ e
@@ -38,7 +38,7 @@ answer_of_reply : (op : Op) (xs : List Answered) (t : Tree) (s : Situation) (r :
 answer_of_reply op xs t s None e = refl
 answer_of_reply op xs t s (Some a) e =
     source_of_reply op xs a.source a.outcome
-    (True.answers_are_true t s (outcomes (history_of xs)) a (subst (λ r. IsOneOf r (replies t s (outcomes (history_of xs)))) e (One.reply_is_one_of t s (history_of xs))))
+    (AnswersAreTrue.answers_are_true t s (outcomes (history_of xs)) a (subst (λ r. IsOneOf r (replies t s (outcomes (history_of xs)))) e (OneReply.reply_is_one_of t s (history_of xs))))
 
 pub status_of_reply : (op : Op) (xs : List Answered) (t : Tree) (s : Situation) → status_outcome xs (status_of op xs (reply t s (history_of xs))) ≡ option_map (λ a. a.outcome) (reply t s (history_of xs))
 status_of_reply op xs t s = answer_of_reply op xs t s (reply t s (history_of xs)) refl

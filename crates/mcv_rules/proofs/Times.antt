@@ -3,12 +3,12 @@ use Rattle.std.proofs.Common.{◌≡◌, ◌≢◌, ◌⊎◌, ◌≤◌, cond, 
 use Rattle.std.specs.Prelude.{fold}
 use Rattle.mcv_route.specs.Outcomes.{History, outcomes}
 use Rattle.mcv_base.specs.Reply.{is_error, is_good}
-use Rattle.mcv_route.specs.Tree.{Tree, Trees, all_sync, none, child}
+use Rattle.mcv_route.specs.Tree.{Tree, Trees, many, AllSync, none, child}
 use Rattle.mcv_route.specs.Situation.{Situation, under}
 use Rattle.mcv_route.specs.Replies.{Answer, the_worse, or_after_error, or_after_miss, replies, replies_each}
 use Rattle.mcv_route.specs.Reply.{is_waiting, came}
 use Rattle.mcv_rules.specs.Times.{time, came_each, TimeOfAllSync, IsStable, TimeAfterError, TimeAfterMiss, RepliesAreStable}
-use Rattle.mcv_rules.proofs.Stays
+use Rattle.mcv_rules.proofs.AnswersStay
 use Rattle.mcv_rules.proofs.Orders
 
 bound : (b : Bool) (n a : ℕ) → a ≤ n → cond b (suc n) a ≤ suc n
@@ -55,7 +55,7 @@ fold_time f k (child t ts) s es =
 
 pub time_of_all_sync : TimeOfAllSync
 time_of_all_sync t ts s es =
-    came_time (all_sync (child t ts)) s es
+    came_time (many AllSync (child t ts)) s es
     ∙ fold_time (λ h. replies t (under 0 s) (outcomes h)) 1 ts s es
     ∙ ap (λ n. fold max n (came_each 1 ts s es)) (sym (came_time t (under 0 s) es))
 
@@ -136,4 +136,4 @@ time_after_miss f g a more es i e = by_test (is_good a.outcome) refl
 pub replies_are_stable : RepliesAreStable
 replies_are_stable t s c [] h u v = tt
 replies_are_stable t s c (e ∷ es) h u v =
-    (λ n. ⊎_elim (λ z. absurd (n z)) (λ z. z) (Stays.reply_stays u v (outcomes es) (outcomes (e ∷ es)) (Orders.one_more e.0 e.1 es h.1)), replies_are_stable t s c es h.2 u v)
+    (λ n. ⊎_elim (λ z. absurd (n z)) (λ z. z) (AnswersStay.reply_stays u v (outcomes es) (outcomes (e ∷ es)) (Orders.one_more e.0 e.1 es h.1)), replies_are_stable t s c es h.2 u v)

@@ -12,21 +12,21 @@ use Rattle.mcv_rules.specs.Plans.{plan, launch_of}
 use Rattle.mcv_rules.specs.Laws.{LaunchedIsPlanned, ReplyIsPlanned, RepliesAreAlike, HitIsPlanned, SentStays, ReachableIsClosed}
 use Rattle.mcv_rules.proofs.Sending as plans
 use Rattle.mcv_rules.proofs.Sending.{Sends}
-use Rattle.mcv_rules.proofs.Among
+use Rattle.mcv_rules.proofs.ListMembers
 use Rattle.mcv_rules.proofs.Launches
 use Rattle.mcv_rules.proofs.Orders
-use Rattle.mcv_rules.proofs.Later
-use Rattle.mcv_rules.proofs.Replied
-use Rattle.mcv_rules.proofs.Sent
+use Rattle.mcv_rules.proofs.RepliesAndLegsStay
+use Rattle.mcv_rules.proofs.AnswersOfPlan
+use Rattle.mcv_rules.proofs.LegsOfPlan
 
 -- ---- launched legs
 
-map_has : (c : Choice) (ls : List Leg) (P : Launch → Type 0) → Has (map (launch_of c) ls) P → (l : Leg) × Among.Among ls l × P (launch_of c l)
+map_has : (c : Choice) (ls : List Leg) (P : Launch → Type 0) → Has (map (launch_of c) ls) P → (l : Leg) × ListMembers.Among ls l × P (launch_of c l)
 map_has c [] P h = absurd h
 map_has c (l ∷ ls) P (inl h) = (l, inl refl, h)
 map_has c (l ∷ ls) P (inr h) = let k = map_has c ls P h in (k.0, inr k.1, k.2)
 
-has_map : (c : Choice) (ls : List Leg) (P : Launch → Type 0) (l : Leg) → Among.Among ls l → P (launch_of c l) → Has (map (launch_of c) ls) P
+has_map : (c : Choice) (ls : List Leg) (P : Launch → Type 0) (l : Leg) → ListMembers.Among ls l → P (launch_of c l) → Has (map (launch_of c) ls) P
 has_map c [] P l h p = absurd h
 has_map c (k ∷ ls) P l (inl e) p = inl (subst (λ m. P (launch_of c m)) (sym e) p)
 has_map c (k ∷ ls) P l (inr h) p = inr (has_map c ls P l h p)
@@ -34,33 +34,33 @@ has_map c (k ∷ ls) P l (inr h) p = inr (has_map c ls P l h p)
 -- a launched leg is one that the plan sends
 pub has_sends : (t : Tree) (s : Situation) (c : Choice) (o : Outcomes) (P : Launch → Type 0) → Has (launched t s c o) P → (l : Leg) × Sends (plan t s) c o l × P (launch_of c l)
 has_sends t s c o P h =
-    let k = map_has c (planned.launched (plan t s) c o) P (subst (λ ls. Has ls P) (Sent.sent t s c o) h) in
+    let k = map_has c (planned.launched (plan t s) c o) P (subst (λ ls. Has ls P) (LegsOfPlan.sent t s c o) h) in
     (k.0, Launches.launched_is (plan t s) c o k.0 k.1, k.2)
 
 pub sends_has : (t : Tree) (s : Situation) (c : Choice) (o : Outcomes) (P : Launch → Type 0) (l : Leg) → Sends (plan t s) c o l → P (launch_of c l) → Has (launched t s c o) P
 sends_has t s c o P l h p =
-    subst (λ ls. Has ls P) (sym (Sent.sent t s c o)) (has_map c (planned.launched (plan t s) c o) P l (Launches.is_launched (plan t s) c o l h) p)
+    subst (λ ls. Has ls P) (sym (LegsOfPlan.sent t s c o)) (has_map c (planned.launched (plan t s) c o) P l (Launches.is_launched (plan t s) c o l h) p)
 
 pub launched_is_planned : LaunchedIsPlanned
-launched_is_planned t s c o = Sent.sent t s c o
+launched_is_planned t s c o = LegsOfPlan.sent t s c o
 
 pub sent_stays : SentStays
 sent_stays t s c o o2 l h m =
     let k = has_sends t s c o (λ n. n ≡ l) m in
-    sends_has t s c o2 (λ n. n ≡ l) k.0 (Later.sent_stays (plan t s) c o o2 k.0 h k.1) k.2
+    sends_has t s c o2 (λ n. n ≡ l) k.0 (RepliesAndLegsStay.sent_stays (plan t s) c o o2 k.0 h k.1) k.2
 
 -- ---- replies
 
 pub reply_is_planned : ReplyIsPlanned
-reply_is_planned t s o = (Replied.replied t s o).outcome
+reply_is_planned t s o = (AnswersOfPlan.replied t s o).outcome
 
 pub replies_are_alike : RepliesAreAlike
-replies_are_alike t s o a h = (Replied.replied t s o).same a h
+replies_are_alike t s o a h = (AnswersOfPlan.replied t s o).same a h
 
 pub hit_is_planned : HitIsPlanned
 hit_is_planned t s o p = (
-  λ h. (Replied.replied t s o).hits p h,
-  λ h. subst (λ q. IsHit t s o q) h.2 ((Replied.replied t s o).back h.0 h.1),
+  λ h. (AnswersOfPlan.replied t s o).hits p h,
+  λ h. subst (λ q. IsHit t s o q) h.2 ((AnswersOfPlan.replied t s o).back h.0 h.1),
 )
 
 -- ---- reachable outcomes

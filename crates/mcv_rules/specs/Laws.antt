@@ -7,8 +7,8 @@ use Rattle.mcv_base.specs.declared.reply.Outcome.TheVariants.{Soft, Error}
 use Rattle.mcv_route.specs.declared.launch.Launch.{Launch}
 use Rattle.mcv_route.specs.Outcomes.{Outcomes, Choice, History, outcomes}
 use Rattle.mcv_route.specs.Places.{child_at}
-use Rattle.mcv_route.specs.Tree.{Tree, Trees, all_sync, none}
-use Rattle.mcv_route.specs.WellFormed.{IsWellFormed}
+use Rattle.mcv_route.specs.Tree.{Tree, Trees, many, AllSync, none}
+use Rattle.mcv_route.specs.WellFormedTrees.{IsWellFormed}
 use Rattle.mcv_route.specs.Situation.{Situation, asked, under}
 use Rattle.mcv_route.specs.Children.{together}
 use Rattle.mcv_route.specs.Replies.{Answer, Source, leg, fixed, refusal, outcome_of, replies}
@@ -16,7 +16,7 @@ use Rattle.mcv_route.specs.Launched.{launched}
 use Rattle.mcv_route.specs.Reply as one
 use Rattle.mcv_route.specs.Verdict.{Has, IsReachable, IsClosed, IsHit}
 use Rattle.mcv_rules.specs.Plan.{Leg, reply, HitAt}
-use Rattle.mcv_rules.specs.Sound.{IsSound, IsForDelete}
+use Rattle.mcv_rules.specs.Soundness.{IsSound, IsForDelete}
 use Rattle.mcv_rules.specs.Plans.{plan, legs_of}
 
 -- ---- the plan says the same
@@ -93,5 +93,5 @@ arrival_of t k s es = one.arrival (one.reply t (under k s) es) (one.came t (unde
 -- an AllSyncRoute replies as the one of its children that prevails over all
 abbrev pub AllSyncReplies : Type 0
 AllSyncReplies = (ts : Trees) (s : Situation) (es : History) → ts ≢ none →
-    (k : ℕ) × (t : Tree) × (child_at ts k ≡ Some t) × (one.reply (all_sync ts) s es ≡ one.reply t (under k s) es)
+    (k : ℕ) × (t : Tree) × (child_at ts k ≡ Some t) × (one.reply (many AllSync ts) s es ≡ one.reply t (under k s) es)
     × ((j : ℕ) (u : Tree) → child_at ts j ≡ Some u → Prevails (arrival_of t k s es) (arrival_of u j s es))

@@ -1,13 +1,13 @@
 pub mod Plan
-pub mod Sound
+pub mod Soundness
 pub mod Plans
 pub mod Times
 pub mod Laws
-pub mod Called
+pub mod RouteCall
 pub mod History
 pub mod Status
 pub mod Arrivals
 pub mod Places
-pub mod Whole
-pub mod Laid
+pub mod NormalForm
+pub mod PlanInMemory
 pub mod Rows

@@ -5,9 +5,9 @@ use Rattle.mcv_rules.specs.Plan as planned
 use Rattle.mcv_rules.specs.Plan.{Leg, Plan, Send, Reply, Both, Beside, OnError, OnMiss, OnHit, Shadowed, server}
 use Rattle.mcv_route.specs.Outcomes.{Outcomes, Choice}
 use Rattle.mcv_route.specs.declared.launch.Launch.{Launch}
-use Rattle.mcv_route.specs.Tree.{Pool, Range, Tree, Trees, pool, null, error, all_sync, all_initial, all_async, failover, miss_failover, warm_up, migrate, prefix_selector, operation_selector, none, child}
+use Rattle.mcv_route.specs.Tree.{Pool, Range, Tree, Trees, pool, null, error, many, AllSync, AllInitial, AllAsync, Failover, MissFailover, warm_up, migrate, prefix_selector, operation_selector, none, child}
 use Rattle.mcv_route.specs.Situation.{Situation, under, asynchronous, shadowed, adding}
-use Rattle.mcv_base.specs.Operation.{is_reading}
+use Rattle.mcv_route.specs.Misses.{fails_over_on_miss, is_warmed_up}
 use Rattle.mcv_route.specs.Children.{child_or, rest_of, together, policy_of, prefix_policy, way_of, by_way}
 
 abbrev pub leg_of : Pool → Situation → Leg
@@ -25,14 +25,14 @@ abbrev mutual
   plan (pool p ranges targets) s = with_shadows p.symbol (Send (leg_of p s)) ranges (plan_each 0 targets (shadowed s))
   plan null s = Reply Soft
   plan error s = Reply Error
-  plan (all_sync ts) s = together Both (Reply Error) (plan_each 0 ts s)
-  plan (all_initial ts) s = fold Beside (child_or (Reply Error) 0 (plan_each 0 ts s)) (rest_of (plan_each 0 ts (asynchronous s)))
-  plan (all_async ts) s = fold Beside (Reply Soft) (plan_each 0 ts (asynchronous s))
-  plan (failover ts) s = together OnError (Reply Error) (plan_each 0 ts s)
-  plan (miss_failover ts) s =
-      if is_reading s.op then together OnMiss (Reply Error) (plan_each 0 ts s) else child_or (Reply Error) 0 (plan_each 0 ts s)
+  plan (many AllSync ts) s = together Both (Reply Error) (plan_each 0 ts s)
+  plan (many AllInitial ts) s = fold Beside (child_or (Reply Error) 0 (plan_each 0 ts s)) (rest_of (plan_each 0 ts (asynchronous s)))
+  plan (many AllAsync ts) s = fold Beside (Reply Soft) (plan_each 0 ts (asynchronous s))
+  plan (many Failover ts) s = together OnError (Reply Error) (plan_each 0 ts s)
+  plan (many MissFailover ts) s =
+      if fails_over_on_miss s.op then together OnMiss (Reply Error) (plan_each 0 ts s) else child_or (Reply Error) 0 (plan_each 0 ts s)
   plan (warm_up cold warm exptime) s =
-      if is_reading s.op
+      if is_warmed_up s.op
       then OnMiss (plan cold (under 0 s)) (OnHit (plan warm (under 1 s)) (plan cold (under 2 (adding s))))
       else plan cold (under 0 s)
   plan (migrate from to start interval) s =

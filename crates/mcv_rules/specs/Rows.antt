@@ -10,11 +10,12 @@ use Rattle.mcv_base.specs.declared.operation.Mark.TheVariants.{Shadow}
 use Rattle.mcv_base.specs.declared.reply.Outcome.{Outcome}
 use Rattle.mcv_base.specs.declared.reply.Outcome.TheVariants.{Good, Error}
 use Rattle.mcv_base.specs.Key.{begins_with}
-use Rattle.mcv_base.specs.Operation.{is_reading, is_delete}
+use Rattle.mcv_base.specs.Operation.{is_delete}
+use Rattle.mcv_route.specs.Misses.{fails_over_on_miss, is_warmed_up}
 use Rattle.mcv_pools.specs.Table.{IsOneToOne}
 use Rattle.mcv_route.specs.declared.launch.Launch.{Launch}
 use Rattle.mcv_route.specs.Outcomes.{Outcomes, Choice}
-use Rattle.mcv_route.specs.Tree.{Pool, Range, Tree, Trees, pool, null, error, all_sync, all_initial, all_async, failover, miss_failover, warm_up, migrate, prefix_selector, operation_selector}
+use Rattle.mcv_route.specs.Tree.{Pool, Range, Tree, Trees, pool, null, error, many, AllSync, AllInitial, AllAsync, Failover, MissFailover, warm_up, migrate, prefix_selector, operation_selector}
 use Rattle.mcv_route.specs.Situation.{Situation, under, asked, asynchronous, shadowed, adding, has_passed}
 use Rattle.mcv_route.specs.Children.{is_within, is_policy_for, policy_of, prefix_policy}
 use Rattle.mcv_route.specs.Places.{child_at, pool_at_position}
@@ -64,11 +65,11 @@ ShadowsAreMarked = (t : Tree) (s : Situation) (c : Choice) (o : Outcomes) (l : L
 
 -- a leg has the operation that is asked, but for the add of a warm-up, which get and gets alone send
 abbrev pub LegsHaveTheOperation : Type 0
-LegsHaveTheOperation = (t : Tree) (s : Situation) (c : Choice) (o : Outcomes) (l : Launch) → Sends t s c o l → (l.op ≡ s.op) ⊎ ((is_reading s.op ≡ true) × (l.op ≡ Add))
+LegsHaveTheOperation = (t : Tree) (s : Situation) (c : Choice) (o : Outcomes) (l : Launch) → Sends t s c o l → (l.op ≡ s.op) ⊎ ((is_warmed_up s.op ≡ true) × (l.op ≡ Add))
 
 -- so what reads nothing sends its own operation alone, and a delete sends deletes
 abbrev pub OwnOperation : Type 0
-OwnOperation = (t : Tree) (s : Situation) (c : Choice) (o : Outcomes) (l : Launch) → is_reading s.op ≡ false → Sends t s c o l → l.op ≡ s.op
+OwnOperation = (t : Tree) (s : Situation) (c : Choice) (o : Outcomes) (l : Launch) → is_warmed_up s.op ≡ false → Sends t s c o l → l.op ≡ s.op
 
 -- ---- one row for each handle
 
@@ -86,41 +87,41 @@ ErrorRow = (s : Situation) (c : Choice) (o : Outcomes) (l : Launch) → Sends er
 
 -- what each child sends
 abbrev pub AllSyncRow : Type 0
-AllSyncRow = (ts : Trees) (s : Situation) (c : Choice) (o : Outcomes) (l : Launch) → Sends (all_sync ts) s c o l ↔ ((k : ℕ) × ChildSends ts k s c o l)
+AllSyncRow = (ts : Trees) (s : Situation) (c : Choice) (o : Outcomes) (l : Launch) → Sends (many AllSync ts) s c o l ↔ ((k : ℕ) × ChildSends ts k s c o l)
 
 -- what the first child sends, and what each further one sends that no one waits for
 abbrev pub AllInitialRow : Type 0
 AllInitialRow = (ts : Trees) (s : Situation) (c : Choice) (o : Outcomes) (l : Launch) →
-    Sends (all_initial ts) s c o l ↔ (ChildSends ts 0 s c o l ⊎ ((k : ℕ) × ChildSends ts (suc k) (asynchronous s) c o l))
+    Sends (many AllInitial ts) s c o l ↔ (ChildSends ts 0 s c o l ⊎ ((k : ℕ) × ChildSends ts (suc k) (asynchronous s) c o l))
 
 -- what each child sends that no one waits for
 abbrev pub AllAsyncRow : Type 0
-AllAsyncRow = (ts : Trees) (s : Situation) (c : Choice) (o : Outcomes) (l : Launch) → Sends (all_async ts) s c o l ↔ ((k : ℕ) × ChildSends ts k (asynchronous s) c o l)
+AllAsyncRow = (ts : Trees) (s : Situation) (c : Choice) (o : Outcomes) (l : Launch) → Sends (many AllAsync ts) s c o l ↔ ((k : ℕ) × ChildSends ts k (asynchronous s) c o l)
 
 -- what a child sends, once all before it have replied errors
 abbrev pub FailoverRow : Type 0
 FailoverRow = (ts : Trees) (s : Situation) (c : Choice) (o : Outcomes) (l : Launch) →
-    Sends (failover ts) s c o l ↔ ((k : ℕ) × ((j : ℕ) → j < k → child_replied ts j s o ≡ Some Error) × ChildSends ts k s c o l)
+    Sends (many Failover ts) s c o l ↔ ((k : ℕ) × ((j : ℕ) → j < k → child_replied ts j s o ≡ Some Error) × ChildSends ts k s c o l)
 
 -- for get and gets what a child sends, once all before it have replied and none with a hit
 abbrev pub MissFailoverReads : Type 0
-MissFailoverReads = (ts : Trees) (s : Situation) (c : Choice) (o : Outcomes) (l : Launch) → is_reading s.op ≡ true →
-    Sends (miss_failover ts) s c o l ↔ ((k : ℕ) × ((j : ℕ) → j < k → IsMissed (child_replied ts j s o)) × ChildSends ts k s c o l)
+MissFailoverReads = (ts : Trees) (s : Situation) (c : Choice) (o : Outcomes) (l : Launch) → fails_over_on_miss s.op ≡ true →
+    Sends (many MissFailover ts) s c o l ↔ ((k : ℕ) × ((j : ℕ) → j < k → IsMissed (child_replied ts j s o)) × ChildSends ts k s c o l)
 
 -- for the rest what the first child sends
 abbrev pub MissFailoverWrites : Type 0
-MissFailoverWrites = (ts : Trees) (s : Situation) (c : Choice) (o : Outcomes) (l : Launch) → is_reading s.op ≡ false → Sends (miss_failover ts) s c o l ↔ ChildSends ts 0 s c o l
+MissFailoverWrites = (ts : Trees) (s : Situation) (c : Choice) (o : Outcomes) (l : Launch) → fails_over_on_miss s.op ≡ false → Sends (many MissFailover ts) s c o l ↔ ChildSends ts 0 s c o l
 
 -- for get and gets what cold sends; once cold has replied and not with a hit, what warm sends; and once warm has hit then, what cold sends for the add
 abbrev pub WarmUpReads : Type 0
-WarmUpReads = (cold warm : Tree) (exptime : ℕ) (s : Situation) (c : Choice) (o : Outcomes) (l : Launch) → is_reading s.op ≡ true →
+WarmUpReads = (cold warm : Tree) (exptime : ℕ) (s : Situation) (c : Choice) (o : Outcomes) (l : Launch) → is_warmed_up s.op ≡ true →
     Sends (warm_up cold warm exptime) s c o l ↔
     (Sends cold (under 0 s) c o l
     ⊎ (IsMissed (replied cold (under 0 s) o) × (Sends warm (under 1 s) c o l ⊎ ((replied warm (under 1 s) o ≡ Some Good) × Sends cold (under 2 (adding s)) c o l))))
 
 -- for the rest what cold sends
 abbrev pub WarmUpWrites : Type 0
-WarmUpWrites = (cold warm : Tree) (exptime : ℕ) (s : Situation) (c : Choice) (o : Outcomes) (l : Launch) → is_reading s.op ≡ false →
+WarmUpWrites = (cold warm : Tree) (exptime : ℕ) (s : Situation) (c : Choice) (o : Outcomes) (l : Launch) → is_warmed_up s.op ≡ false →
     Sends (warm_up cold warm exptime) s c o l ↔ Sends cold (under 0 s) c o l
 
 -- before its start a migration sends to the old place
@@ -179,9 +180,9 @@ FirstPolicyCounts = (op : Op) (ops : List (Option Op)) →
 -- a child that hasn't replied, or not with an error, and all before it have, or the last one: its replies are those of the handle
 abbrev pub FailoverReplies : Type 0
 FailoverReplies = (ts : Trees) (s : Situation) (o : Outcomes) (k : ℕ) (t : Tree) → child_at ts k ≡ Some t → ((j : ℕ) → j < k → child_replied ts j s o ≡ Some Error)
-    → (replied t (under k s) o ≢ Some Error) ⊎ (child_at ts (suc k) ≡ None) → replies (failover ts) s o ≡ replies t (under k s) o
+    → (replied t (under k s) o ≢ Some Error) ⊎ (child_at ts (suc k) ≡ None) → replies (many Failover ts) s o ≡ replies t (under k s) o
 
 -- a child that hasn't replied, or with a hit, and all before it have and without one, or the last one
 abbrev pub MissFailoverReplies : Type 0
-MissFailoverReplies = (ts : Trees) (s : Situation) (o : Outcomes) (k : ℕ) (t : Tree) → is_reading s.op ≡ true → child_at ts k ≡ Some t → ((j : ℕ) → j < k → IsMissed (child_replied ts j s o))
-    → (IsMissed (replied t (under k s) o) → ⊥) ⊎ (child_at ts (suc k) ≡ None) → replies (miss_failover ts) s o ≡ replies t (under k s) o
+MissFailoverReplies = (ts : Trees) (s : Situation) (o : Outcomes) (k : ℕ) (t : Tree) → fails_over_on_miss s.op ≡ true → child_at ts k ≡ Some t → ((j : ℕ) → j < k → IsMissed (child_replied ts j s o))
+    → (IsMissed (replied t (under k s) o) → ⊥) ⊎ (child_at ts (suc k) ≡ None) → replies (many MissFailover ts) s o ≡ replies t (under k s) o

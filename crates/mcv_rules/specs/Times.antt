@@ -2,7 +2,7 @@
 use Rattle.std.specs.Prelude.{◌≡◌, ◌≢◌, ℕ, suc, max, List, [], ◌∷◌, length, if◌then◌else◌, fold, ⊤}
 use Rattle.mcv_route.specs.Outcomes.{Choice, History, outcomes}
 use Rattle.mcv_base.specs.Reply.{is_error, is_good}
-use Rattle.mcv_route.specs.Tree.{Tree, Trees, all_sync, none, child}
+use Rattle.mcv_route.specs.Tree.{Tree, Trees, many, AllSync, none, child}
 use Rattle.mcv_route.specs.Situation.{Situation, under}
 use Rattle.mcv_route.specs.Replies.{Answer, or_after_error, or_after_miss, replies}
 use Rattle.mcv_route.specs.Reply.{is_waiting, came}
@@ -19,7 +19,7 @@ came_each k (child t ts) s es = came t (under k s) es ∷ came_each (suc k) ts s
 
 -- AllSyncRoute has its answer when the last child has
 abbrev pub TimeOfAllSync : Type 0
-TimeOfAllSync = (t : Tree) (ts : Trees) (s : Situation) (es : History) → came (all_sync (child t ts)) s es ≡ fold max (came t (under 0 s) es) (came_each 1 ts s es)
+TimeOfAllSync = (t : Tree) (ts : Trees) (s : Situation) (es : History) → came (many AllSync (child t ts)) s es ≡ fold max (came t (under 0 s) es) (came_each 1 ts s es)
 
 -- once there is an answer in the list's past, it is the one there is now
 abbrev pub IsStable : (History → List Answer) → History → Type 0

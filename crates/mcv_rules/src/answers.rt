@@ -4,7 +4,7 @@ ghost use Rattle.std.specs.Prelude.{◌≡◌, map};
 ghost use Rattle.mcv_base.specs.declared.reply.FixedReply.TheVariants.{ErrorRoute};
 ghost use Rattle.mcv_route.specs.Children.{child_or, together};
 ghost use Rattle.mcv_rules.specs.Arrivals.{all_arrived, arrived_at_once, known_at, next_arrived};
-ghost use Rattle.mcv_rules.specs.Laid.{arrived};
+ghost use Rattle.mcv_rules.specs.PlanInMemory.{arrived};
 
 use crate::arrival::{After, Arrival};
 use crate::known::Known;

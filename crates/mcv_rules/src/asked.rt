@@ -1,12 +1,12 @@
 //! What a handle is asked, and where a migration sends that.
 
 ghost use Rattle.std.specs.Prelude.{◌≡◌, [], option_map};
-ghost use Rattle.mcv_base.specs.Operation.{is_delete};
 ghost use Rattle.mcv_base.specs.declared.operation.Mark.TheVariants.{Shadow as Shadowed};
 ghost use Rattle.mcv_base.specs.declared.operation.Op.TheVariants.{Add as Adding};
 ghost use Rattle.mcv_route.specs.Children.{way_of};
+ghost use Rattle.mcv_route.specs.Misses.{fails_over_on_miss, is_warmed_up};
 ghost use Rattle.mcv_route.specs.Situation.{has_passed, marked_add, marked_async};
-ghost use Rattle.mcv_rules.specs.Laid.{situation_at, way_seen};
+ghost use Rattle.mcv_rules.specs.PlanInMemory.{situation_at, way_seen};
 
 use mcv_base::{Mark, Moment, Op, Rest};
 
@@ -68,6 +68,20 @@ impl<'a> Asked<'a> {
         }
     }
 
+    /// Whether a MissFailoverRoute asks its children in turn, up to a hit: for get and gets.
+    pub fn fails_over_on_miss(&self) -> bool
+        ensures { result ≡ fails_over_on_miss self.now.op }
+    {
+        self.op.is_reading()
+    }
+
+    /// Whether a WarmUpRoute asks warm where cold has missed: for get and gets.
+    pub fn is_warmed_up(&self) -> bool
+        ensures { result ≡ is_warmed_up self.now.op }
+    {
+        self.op.is_reading()
+    }
+
     /// Where a migration sends what is asked: of deletes more than of the rest, between its start and its end.
     pub fn way(&self, start: u32, interval: u32) -> Way
         ensures { way_seen result ≡ way_of (situation_at self.now []) start interval }
@@ -78,7 +92,7 @@ impl<'a> Asked<'a> {
             Way::From
         } else if has_passed(self.since, start + 2 * interval) {
             Way::To
-        } else if is_delete(self.op) {
+        } else if self.op.is_delete() {
             Way::Both
         } else if has_passed(self.since, start + interval) {
             Way::To
@@ -86,12 +100,6 @@ impl<'a> Asked<'a> {
             Way::From
         }
     }
-}
-
-fn is_delete(op: Op) -> bool
-    ensures { result ≡ is_delete op }
-{
-    matches!(op, Op::Delete)
 }
 
 /// Whether the era began at the moment or after it.

@@ -5,7 +5,7 @@ ghost use Rattle.mcv_route.specs.Launched.{launched};
 ghost use Rattle.mcv_route.specs.Outcomes.{outcomes as known};
 ghost use Rattle.mcv_route.specs.Reply.{reply};
 ghost use Rattle.mcv_route.specs.View.{view};
-ghost use Rattle.mcv_rules.specs.Called.{situation_of};
+ghost use Rattle.mcv_rules.specs.RouteCall.{situation_of};
 ghost use Rattle.mcv_rules.specs.History.{history_of};
 ghost use Rattle.mcv_rules.specs.Status.{status_of, status_outcome};
 
@@ -33,7 +33,7 @@ pub struct Eval<'a> {
 }
 
 impl<'a> Model for Eval<'a> {
-    ghost use Rattle.mcv_rules.specs.Called.{Called, called_code, situation_of};
+    ghost use Rattle.mcv_rules.specs.RouteCall.{Called, called_code, situation_of};
 
     ghost Value = { Called };
 
@@ -42,7 +42,7 @@ impl<'a> Model for Eval<'a> {
     ghost use Rattle.std.specs.Prelude.{◌≡◌, [], option_map};
     ghost use Rattle.mcv_base.specs.declared.operation.Mark.TheVariants.{Plain};
     ghost use Rattle.mcv_route.specs.View.{view as tree_of};
-    ghost use Rattle.mcv_rules.specs.Laid.{Serves, situation_at};
+    ghost use Rattle.mcv_rules.specs.PlanInMemory.{Serves, situation_at};
 
     ghost view = { λ e. record { tree = tree_of e.route.now; op = e.asked.op; rest = e.asked.rest.now; since = option_map (λ m. m.0) e.asked.since; choice = e.choice.now } };
 

@@ -1,19 +1,19 @@
 //! The plan of a route, laid out for what it is asked at its place: one arm for each handle.
 
 ghost use Rattle.std.specs.Prelude.{◌≡◌, ℕ, IfOk, [], ◌∷◌, map, true};
-ghost use Rattle.mcv_base.specs.Operation.{is_reading};
 ghost use Rattle.mcv_route.specs.Children.{is_policy_for, policy_of, prefix_policy};
+ghost use Rattle.mcv_route.specs.Misses.{is_warmed_up};
 ghost use Rattle.mcv_route.specs.Situation.{Situation, adding, under};
-ghost use Rattle.mcv_route.specs.Tree.{Tree, all_async, all_initial, all_sync, child, miss_failover, none, pool, warm_up};
+ghost use Rattle.mcv_route.specs.Tree.{Tree, many, AllSync, AllInitial, AllAsync, MissFailover, child, none, pool, warm_up};
 ghost use Rattle.mcv_route.specs.View.{operation_view, pool_view, view};
-ghost use Rattle.mcv_rules.specs.Laid.{ServeEach, Serves, children_of, longer_of, operations_of, prefixes_of, ranges_of, situation_at, targets_of};
+ghost use Rattle.mcv_rules.specs.PlanInMemory.{ServeEach, Serves, children_of, longer_of, operations_of, prefixes_of, ranges_of, situation_at, targets_of};
 
 use crate::arrival::After;
 use crate::asked::{Asked, Way};
 use crate::plan::{Plan, PlannedLeg};
 use crate::status::default_reply;
 use mcv_base::{FixedReply, Op, Position, Rest, begins_with};
-use mcv_route::{Leaf, OperationPolicy, PrefixPolicy, Route, Shadow};
+use mcv_route::{Leaf, Many, OperationPolicy, PrefixPolicy, Route, Shadow};
 use std::alloc::{AllocError, Global};
 use std::sync::Arc;
 
@@ -31,23 +31,14 @@ pub fn laid_out(
         Route::Pool { leaf, shadows } => with_shadows(alloc, shadows, leaf, asked, position),
         Route::Null => Ok(Plan::Reply(default_reply(asked.op))),
         Route::Error => Ok(Plan::Reply(FixedReply::ErrorRoute)),
-        Route::AllSync(children) => {
-            Ok(Plan::All(each_laid_out(alloc, children, asked, position)?))
-        }
-        Route::AllInitial(children) => first_waited_for(alloc, children, asked, position),
-        Route::AllAsync(children) => none_waited_for(alloc, children, asked, position),
-        Route::Failover(children) => {
-            let plans = each_laid_out(alloc, children, asked, position)?;
-            Ok(Plan::InTurn(After::Error, plans))
-        }
-        Route::MissFailover(children) => misses_passed_on(alloc, children, asked, position),
+        Route::Many(kind, children) => many_laid_out(alloc, *kind, children, asked, position),
         Route::WarmUp {
             cold,
             warm,
             exptime: _,
         } => {
             let first = child_laid_out(alloc, cold, asked, position, 0)?;
-            if asked.op.is_reading() {
+            if asked.is_warmed_up() {
                 let second = child_laid_out(alloc, warm, asked, position, 1)?;
                 let filling = child_laid_out(alloc, cold, &asked.adding(), position, 2)?;
                 filled(alloc, first, second, filling)
@@ -95,6 +86,29 @@ pub fn laid_out(
                 }
             }
         }
+    }
+}
+
+/// The plan of a handle of this kind with these children, at this position.
+#[cycle(planning)]
+fn many_laid_out(
+    alloc: Global,
+    kind: Many,
+    children: &[Route],
+    asked: &Asked,
+    position: &Position,
+) -> Result<Plan, AllocError>
+    ensures { IfOk result (λ p. Serves p (many kind (children_of children.now)) (situation_at asked.now position.now)) }
+{
+    match kind {
+        Many::AllSync => Ok(Plan::All(each_laid_out(alloc, children, asked, position)?)),
+        Many::AllInitial => first_waited_for(alloc, children, asked, position),
+        Many::AllAsync => none_waited_for(alloc, children, asked, position),
+        Many::Failover => {
+            let plans = each_laid_out(alloc, children, asked, position)?;
+            Ok(Plan::InTurn(After::Error, plans))
+        }
+        Many::MissFailover => misses_passed_on(alloc, children, asked, position),
     }
 }
 
@@ -184,7 +198,7 @@ fn first_waited_for(
     asked: &Asked,
     position: &Position,
 ) -> Result<Plan, AllocError>
-    ensures { IfOk result (λ p. Serves p (all_initial (children_of children.now)) (situation_at asked.now position.now)) }
+    ensures { IfOk result (λ p. Serves p (many AllInitial (children_of children.now)) (situation_at asked.now position.now)) }
 {
     let Some((first, others)) = children.split_first() else {
         return Ok(Plan::Reply(FixedReply::ErrorRoute));
@@ -206,7 +220,7 @@ fn none_waited_for(
     asked: &Asked,
     position: &Position,
 ) -> Result<Plan, AllocError>
-    ensures { IfOk result (λ p. Serves p (all_async (children_of children.now)) (situation_at asked.now position.now)) }
+    ensures { IfOk result (λ p. Serves p (many AllAsync (children_of children.now)) (situation_at asked.now position.now)) }
 {
     let mut plans = Vec::with_capacity(alloc, 1)?;
     plans.push(Plan::Reply(default_reply(asked.op)))?;
@@ -217,7 +231,7 @@ fn none_waited_for(
     Ok(Plan::Beside(plans))
 }
 
-/// For what reads, the children one after another until one has a hit; for the rest the first child.
+/// The children one after another until one has a hit, for what fails over; for the rest the first child.
 #[cycle(planning)]
 fn misses_passed_on(
     alloc: Global,
@@ -225,9 +239,9 @@ fn misses_passed_on(
     asked: &Asked,
     position: &Position,
 ) -> Result<Plan, AllocError>
-    ensures { IfOk result (λ p. Serves p (miss_failover (children_of children.now)) (situation_at asked.now position.now)) }
+    ensures { IfOk result (λ p. Serves p (many MissFailover (children_of children.now)) (situation_at asked.now position.now)) }
 {
-    if !asked.op.is_reading() {
+    if !asked.fails_over_on_miss() {
         return match children.first() {
             Some(first) => child_laid_out(alloc, first, asked, position, 0),
             None => Ok(Plan::Reply(FixedReply::ErrorRoute)),
@@ -239,7 +253,7 @@ fn misses_passed_on(
 
 /// Cold's plan, after a miss warm's, and after its hit the add's.
 fn filled(alloc: Global, cold: Plan, warm: Plan, filling: Plan) -> Result<Plan, AllocError>
-    ensures { (t u : Tree) (exptime : ℕ) (s : Situation) → is_reading s.op ≡ true → Serves cold t (under 0 s) → Serves warm u (under 1 s) → Serves filling t (under 2 (adding s)) → IfOk result (λ p. Serves p (warm_up t u exptime) s) }
+    ensures { (t u : Tree) (exptime : ℕ) (s : Situation) → is_warmed_up s.op ≡ true → Serves cold t (under 0 s) → Serves warm u (under 1 s) → Serves filling t (under 2 (adding s)) → IfOk result (λ p. Serves p (warm_up t u exptime) s) }
 {
     let filled = Plan::OnHit(Box::new(alloc, warm)?, Box::new(alloc, filling)?);
     Ok(Plan::InTurn(After::Miss, pair(alloc, cold, filled)?))
@@ -247,7 +261,7 @@ fn filled(alloc: Global, cold: Plan, warm: Plan, filling: Plan) -> Result<Plan, 
 
 /// Two plans, both waited for.
 fn both(alloc: Global, first: Plan, second: Plan) -> Result<Plan, AllocError>
-    ensures { (t u : Tree) (s : Situation) → Serves first t (under 0 s) → Serves second u (under 1 s) → IfOk result (λ p. Serves p (all_sync (child t (child u none))) s) }
+    ensures { (t u : Tree) (s : Situation) → Serves first t (under 0 s) → Serves second u (under 1 s) → IfOk result (λ p. Serves p (many AllSync (child t (child u none))) s) }
 {
     Ok(Plan::All(pair(alloc, first, second)?))
 }

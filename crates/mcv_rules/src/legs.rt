@@ -4,7 +4,7 @@ ghost use Rattle.std.specs.Prelude.{◌≡◌, ◌++◌, IfOk, OnOk, map, slice_
 ghost use Rattle.mcv_base.specs.declared.reply.Outcome.TheVariants.{Error};
 ghost use Rattle.mcv_route.specs.Children.{child_or, is_within, joined, together};
 ghost use Rattle.mcv_rules.specs.Arrivals.{known_at, outcome_in};
-ghost use Rattle.mcv_rules.specs.Laid.{is_hit, legs_each, next_reply, replies_each, searched, sent};
+ghost use Rattle.mcv_rules.specs.PlanInMemory.{is_hit, legs_each, next_reply, replies_each, searched, sent};
 ghost use Rattle.mcv_rules.specs.Plan.{both};
 
 use crate::arrival::After;

@@ -1,7 +1,7 @@
 //! The plan of a call: the legs and replies of its route for one operation, rest and era.
 
 ghost use Rattle.std.specs.Prelude.{◌≡◌, IfOk, map, slice_index};
-ghost use Rattle.mcv_rules.specs.Laid.{launch_of};
+ghost use Rattle.mcv_rules.specs.PlanInMemory.{launch_of};
 
 use crate::arrival::After;
 use mcv_base::{FixedReply, Mark, Op, Position, ServerId};

@@ -1,171 +1,103 @@
 //! What legs ask, a row a case: an add stores the value and the flags that `warm` replied (mcrouter's wiki, List of Route
 //! Handles, WarmUpRoute).
 
-use crate::routes::{pool, position, two, warm_up};
+use crate::routes::{
+    answers, check_found, halves, named, op_of, position, rest_of_a, shared, word,
+};
 use mcv_asks::{Call, Heard, client_request, leg_request};
-use mcv_base::{Ask, FixedReply, LegRequest, Mark, Op, Part, Reply, Request, Rest, ServerId};
+use mcv_base::{Ask, LegRequest, Mark, Op, Request, Rest, ServerId};
 use mcv_pools::Choice;
 use mcv_route::{Answered, Launch, Route};
-use std::alloc::{AllocError, Global};
 use std::process::Abort;
 use std::str::from_utf8;
 use std::sync::Arc;
-use std::test::Fail;
 
-/// A pool of one server.
-fn lone(alloc: Global) -> Result<Route, AllocError> {
-    pool(alloc, 0, &[ServerId(1)])
-}
+/// The routes that the rows name, with pools of one server: `warm_up` adds for 60 s; another one that adds for 5 s has it as
+/// its warm or its cold side; `failover` has it behind a pool.
+const NAMES: [(&str, &str); 7] = [
+    ("pool", "1"),
+    ("warm_up", "11w"),
+    ("as_warm", "111wv"),
+    ("as_cold", "11w1v"),
+    ("failover", "111wf"),
+    ("of_failovers", "11f11fw"),
+    ("of_all", "111sw"),
+];
 
-fn two_pools(alloc: Global) -> Result<Vec<Route>, AllocError> {
-    two(alloc, lone(alloc)?, lone(alloc)?)
-}
-
-/// A warm-up that adds for 60 s.
-fn plain(alloc: Global) -> Result<Route, AllocError> {
-    warm_up(alloc, lone(alloc)?, lone(alloc)?, 60)
-}
-
-fn behind_error(alloc: Global) -> Result<Route, AllocError> {
-    Ok(Route::Failover(two(alloc, lone(alloc)?, plain(alloc)?)?))
-}
-
-fn of_failovers(alloc: Global) -> Result<Route, AllocError> {
-    let cold = Route::Failover(two_pools(alloc)?);
-    warm_up(alloc, cold, Route::Failover(two_pools(alloc)?), 60)
-}
-
-fn of_all(alloc: Global) -> Result<Route, AllocError> {
-    warm_up(alloc, lone(alloc)?, Route::AllSync(two_pools(alloc)?), 60)
-}
-
-/// The route that a row's first word names.
-fn route_of(alloc: Global, name: &str) -> Result<Route, AllocError> {
-    match name {
-        "warm_up" => plain(alloc),
-        "as_warm" => warm_up(alloc, lone(alloc)?, plain(alloc)?, 5),
-        "as_cold" => warm_up(alloc, plain(alloc)?, lone(alloc)?, 5),
-        "failover" => behind_error(alloc),
-        "of_failovers" => of_failovers(alloc),
-        "of_all" => of_all(alloc),
-        _ => lone(alloc),
-    }
-}
-
-/// A hit with 7 flags, a miss, or an error line.
-fn reply(alloc: Global, word: &str) -> Result<Part, AllocError> {
-    Ok(match word {
-        "miss" => Part::Fixed(FixedReply::Miss),
-        "lost" => Part::Fixed(FixedReply::Lost),
-        value => Part::Owned(Arc::new(
-            alloc,
-            Reply::Hit {
-                flags: 7,
-                cas: None,
-                body: Arc::new(alloc, Vec::from_slice(alloc, value.as_bytes())?)?,
-            },
-        )?),
+/// What the client asked: with 3 flags, an exptime of 9 s and the value `mine`.
+fn client(rt: &(impl AllocGlobal + Abort), op: Op) -> Request {
+    let key = Vec::from_slice(rt.alloc(), b"a").expect(rt, "memory");
+    Request::Ask(Ask {
+        op,
+        keys: vec![in rt.alloc(); key].expect(rt, "memory"),
+        flags: 3,
+        exptime: 9,
+        body: shared(rt, b"mine"),
+        cas: None,
+        noreply: false,
     })
 }
 
-/// What the client asked: with 3 flags, an exptime of 9 s and the value `mine`.
-fn client(alloc: Global, op: Op) -> Result<Request, AllocError> {
-    let mut keys = Vec::new(alloc);
-    keys.push(Vec::from_slice(alloc, b"a")?)?;
-    Ok(Request::Ask(Ask {
-        op,
-        keys,
-        flags: 3,
-        exptime: 9,
-        body: Arc::new(alloc, Vec::from_slice(alloc, b"mine")?)?,
-        cas: None,
-        noreply: false,
-    }))
-}
-
-fn shown(alloc: Global, request: &LegRequest) -> Result<String, Fail> {
-    let mut text = String::new(alloc);
+fn shown(rt: &(impl AllocGlobal + Abort), request: &LegRequest) -> String {
     let op = request.op.name();
     let flags = request.flags;
     let exptime = request.exptime;
     let body = from_utf8(request.body.as_slice()).unwrap_or("");
     let cas = request.cas;
-    write!(text, "{op} {flags} {exptime} {body} {cas:?}")?;
-    Ok(text)
+    format!(in rt.alloc(); "{op} {flags} {exptime} {body} {cas:?}").expect(rt, "memory")
 }
 
-fn op_of(name: &str) -> Op {
-    Op::named(name.as_bytes()).unwrap_or(Op::Touch)
-}
-
-/// The replies of a call's legs, in the order in which they came.
-fn came(alloc: Global, words: &str) -> Result<Vec<Answered>, AllocError> {
-    let mut came = Vec::new(alloc);
-    for word in words.split(' ') {
-        if let Some((place, word)) = word.split_once('=') {
-            came.push(Answered {
-                position: position(alloc, place)?,
-                reply: reply(alloc, word)?,
-            })?;
-        }
-    }
-    Ok(came)
-}
-
-fn heard<'a>(alloc: Global, came: &'a [Answered]) -> Result<Vec<Heard<'a>>, AllocError> {
-    let mut heard = Vec::new(alloc);
+fn heard<'a>(rt: &(impl AllocGlobal + Abort), came: &'a [Answered]) -> Vec<Heard<'a>> {
+    let mut heard = Vec::new(rt.alloc());
     for leg in came {
-        heard.push(Heard {
-            position: leg.position.steps(),
-            reply: &leg.reply,
-        })?;
+        let position = leg.position.steps();
+        let reply = &leg.reply;
+        heard.push(Heard { position, reply }).expect(rt, "memory");
     }
-    Ok(heard)
+    heard
 }
 
-/// What a leg of a call asks once these replies have come.
-fn asked(
-    alloc: Global,
+/// The leg of a row: its operation, and its position.
+fn launch_of(rt: &(impl AllocGlobal + Abort), row: &str) -> Launch {
+    Launch {
+        op: op_of(rt, row, 2),
+        position: position(rt, word(rt, row, 3)),
+        server: ServerId(1),
+        mark: Mark::Plain,
+    }
+}
+
+/// The rest of every call's key, shared.
+fn shared_rest(rt: &(impl AllocGlobal + Abort)) -> Arc<Rest> {
+    Arc::new(rt.alloc(), rest_of_a(rt)).expect(rt, "memory")
+}
+
+/// What a leg of a call asks, whose client asked for the same operation.
+fn asked_by(
+    rt: &(impl AllocGlobal + Abort),
     route: &Route,
-    op: Op,
+    call: Call<'_>,
     launch: &Launch,
-    heard: &[Heard<'_>],
-) -> Result<String, Fail> {
-    let rest = Arc::new(alloc, Rest::of(b"a").ok_or("no rest")?)?;
-    let choice = Choice::new(Vec::from_slice(alloc, &[0])?);
+    rest: &Arc<Rest>,
+) -> String {
+    let client = client(rt, call.op);
+    let request = leg_request(rt.alloc(), route, call, Some(&client), launch, rest);
+    shown(rt, &request.expect(rt, "memory"))
+}
+
+/// What the leg of a row asks once these replies have come: the name of a route, the call's operation, the leg's and its position.
+fn asked(rt: &(impl AllocGlobal + Abort), row: &str, heard: &[Heard<'_>]) -> String {
+    let rest = shared_rest(rt);
+    let choice = Choice::new(Vec::from_slice(rt.alloc(), &[0]).expect(rt, "memory"));
     let call = Call {
-        op,
+        op: op_of(rt, row, 1),
         rest: &rest,
         since: None,
         choice: &choice,
         heard,
     };
-    let client = client(alloc, op)?;
-    let request = leg_request(alloc, route, call, Some(&client), launch, &rest)?;
-    shown(alloc, &request)
-}
-
-/// What the leg asks, by the call's operation, the leg's, its position, and the replies.
-fn given_by(alloc: Global, route: &Route, row: &str) -> Result<String, Fail> {
-    let (op, row) = row.split_once(' ').ok_or("an operation")?;
-    let (sent, row) = row.split_once(' ').ok_or("the leg's operation")?;
-    let (place, row) = row.split_once(' ').unwrap_or((row, ""));
-    let launch = Launch {
-        op: op_of(sent),
-        position: position(alloc, place)?,
-        server: ServerId(1),
-        mark: Mark::Plain,
-    };
-    let came = came(alloc, row)?;
-    let heard = heard(alloc, came.as_slice())?;
-    asked(alloc, route, op_of(op), &launch, heard.as_slice())
-}
-
-/// What the leg of a row asks. Its first half is the name of a route and what is asked of it.
-fn given(alloc: Global, row: &str) -> Result<String, Fail> {
-    let (name, row) = row.split_once(' ').ok_or("a route")?;
-    let route = route_of(alloc, name)?;
-    given_by(alloc, &route, row)
+    let route = named(rt, &NAMES, word(rt, row, 0));
+    asked_by(rt, &route, call, &launch_of(rt, row), &rest)
 }
 
 const ROWS: &str = "\
@@ -185,30 +117,30 @@ of_failovers get add 2.1 0.0=miss 1.0=x 2.0=lost | add 7 60 x None
 of_all get add 2 0=miss 1.1=x 1.0=y | add 7 60 y None
 of_all get add 2 0=miss 1.0=y 1.1=x | add 7 60 x None";
 
+/// What the leg of a row asks after its replies is what the row wants.
+fn check_row(rt: &(impl AllocGlobal + Abort), row: &str) {
+    let (call, wanted) = halves(rt, row);
+    let came = answers(rt, call);
+    let found = asked(rt, call, &heard(rt, &came));
+    check_found(rt, row, found.as_str(), wanted);
+}
+
 #[test]
-fn legs_ask(rt: HostRuntime) -> Result<(), Fail> {
-    let alloc = rt.alloc();
+fn legs_ask(rt: HostRuntime) {
     for row in ROWS.lines() {
-        let Some((asked, wanted)) = row.split_once(" | ") else {
-            return Ok(assert!(rt; false, "{row}"));
-        };
-        let found = given(alloc, asked)?;
-        let found = found.as_str();
-        assert!(rt; found == wanted, "{row}\n{found}");
+        check_row(&rt, row);
     }
-    Ok(())
+}
+
+/// What a delete of `a` asks whose record the spool held at the start.
+fn spooled(rt: &(impl AllocGlobal + Abort)) -> String {
+    let request = client_request(rt.alloc(), None, Op::Delete, &shared_rest(rt));
+    shown(rt, &request.expect(rt, "memory"))
 }
 
 /// A delete whose record the spool held at the start has nothing but its rest.
 #[test]
-fn spooled_deletes_ask(rt: HostRuntime) -> Result<(), Fail> {
-    let alloc = rt.alloc();
-    let Some(rest) = Rest::of(b"a") else {
-        return Err(Fail::from("no rest"));
-    };
-    let request = client_request(alloc, None, Op::Delete, &Arc::new(alloc, rest)?)?;
-    let found = shown(alloc, &request)?;
-    let found = found.as_str();
-    assert!(rt; found == "delete 0 0  None", "{found}");
-    Ok(())
+fn spooled_deletes_ask(rt: HostRuntime) {
+    let row = "delete 0 0  None";
+    check_found(&rt, row, spooled(&rt).as_str(), row);
 }

@@ -1,163 +1,135 @@
 //! What is launched and replied, step by step, a row a case: a route, an operation, the break that opened the era, and the
 //! outcomes of legs by their numbers. Pool n has one server, n.
 
-use crate::routes::{migration, pool, shadowed, warm_up};
-use mcv_base::{Mark, Moment, Op, Outcome, Position, Rest, ServerId};
+use crate::routes::{check, check_found, halves, moment_of, op_of, pool, rest_of_a, spelled, word};
+use mcv_base::{Mark, Moment, Op, Outcome, Position, ServerId};
 use mcv_plan::{EvalState, Source, most_legs};
 use mcv_pools::Choice;
-use mcv_route::{Launch, Route, Shadow};
+use mcv_route::{Launch, Many, Route};
 use mcv_rules::{Asked, Plan, laid_out};
-use std::alloc::{AllocError, Global};
 use std::process::Abort;
-use std::test::Fail;
-
-fn pool_of(alloc: Global, number: u32) -> Result<Route, AllocError> {
-    pool(alloc, number as usize, &[ServerId(number)])
-}
 
 /// So many pools, from 0 on.
-fn pools(alloc: Global, count: u32) -> Result<Vec<Route>, AllocError> {
-    let mut routes = Vec::new(alloc);
+fn pools(rt: &(impl AllocGlobal + Abort), count: u32) -> Vec<Route> {
+    let mut routes = Vec::new(rt.alloc());
     for number in 0..count {
-        routes.push(pool_of(alloc, number)?)?;
+        let pool = pool(rt, number as usize, &[ServerId(number)]);
+        routes.push(pool).expect(rt, "memory");
     }
-    Ok(routes)
-}
-
-/// Pool 0, whose index 0 is shadowed to pool 1.
-fn copied(alloc: Global) -> Result<Route, AllocError> {
-    let mut shadows = Vec::new(alloc);
-    shadows.push(Shadow {
-        first: 0,
-        last: 0,
-        target: pool_of(alloc, 1)?,
-    })?;
-    shadowed(alloc, 0, &[ServerId(0)], shadows)
-}
-
-/// Cold is pool 0, warm pool 1.
-fn filling(alloc: Global) -> Result<Route, AllocError> {
-    let cold = pool_of(alloc, 0)?;
-    warm_up(alloc, cold, pool_of(alloc, 1)?, 0)
-}
-
-/// From pool 0 to pool 1, from moment 100 on, a step every 10 seconds.
-fn moving(alloc: Global) -> Result<Route, AllocError> {
-    let from = pool_of(alloc, 0)?;
-    migration(alloc, from, pool_of(alloc, 1)?, 100, 10)
+    routes
 }
 
 /// A MissFailoverRoute of so many pools, which is sent and not waited for.
-fn async_miss_failover(alloc: Global, count: u32) -> Result<Route, AllocError> {
-    let mut children = Vec::new(alloc);
-    children.push(Route::MissFailover(pools(alloc, count)?))?;
-    Ok(Route::AllAsync(children))
+fn async_miss_failover(rt: &(impl AllocGlobal + Abort), count: u32) -> Route {
+    let search = Route::Many(Many::MissFailover, pools(rt, count));
+    let children = vec![in rt.alloc(); search].expect(rt, "memory");
+    Route::Many(Many::AllAsync, children)
 }
 
-/// The route that a row's first word names; behind a dot the number of its children, where they aren't two.
-fn route_of(alloc: Global, word: &str) -> Result<Route, Fail> {
+/// The kind of a name.
+fn kind_of(name: &str) -> Many {
+    match name {
+        "sync" => Many::AllSync,
+        "initial" => Many::AllInitial,
+        "async" => Many::AllAsync,
+        "failover" => Many::Failover,
+        _ => Many::MissFailover,
+    }
+}
+
+/// The route of a name; behind a dot the number of its children, where they aren't two.
+fn route_of(rt: &(impl AllocGlobal + Abort), word: &str) -> Route {
     let (name, count) = word.split_once('.').unwrap_or((word, "2"));
-    let count = count.parse::<u32>()?;
-    Ok(match name {
-        "shadowed" => copied(alloc)?,
-        "sync" => Route::AllSync(pools(alloc, count)?),
-        "initial" => Route::AllInitial(pools(alloc, count)?),
-        "async" => Route::AllAsync(pools(alloc, count)?),
-        "failover" => Route::Failover(pools(alloc, count)?),
-        "miss_failover" => Route::MissFailover(pools(alloc, count)?),
-        "async_miss_failover" => async_miss_failover(alloc, count)?,
-        "warm_up" => filling(alloc)?,
-        "migrate" => moving(alloc)?,
-        _ => Route::Error,
-    })
-}
-
-fn plan_of(alloc: Global, route: &Route, op: Op, since: Option<Moment>) -> Result<Plan, Fail> {
-    let rest = Rest::of(b"a").ok_or("no rest")?;
-    let asked = Asked {
-        op,
-        rest: &rest,
-        since,
-        mark: Mark::Plain,
-    };
-    Ok(laid_out(alloc, route, &asked, &Position::root(alloc))?)
-}
-
-fn op_of(name: &str) -> Op {
-    Op::named(name.as_bytes()).unwrap_or(Op::Touch)
-}
-
-fn moment_of(word: &str) -> Option<Moment> {
-    word.parse::<u64>().ok().map(Moment)
+    let count = count.parse::<u32>().expect(rt, "a number");
+    match name {
+        "shadowed" => spelled(rt, "C"),
+        "async_miss_failover" => async_miss_failover(rt, count),
+        "warm_up" => spelled(rt, "01w"),
+        "migrate" => spelled(rt, "01G"),
+        _ => Route::Many(kind_of(name), pools(rt, count)),
+    }
 }
 
 /// A plan by the words of a row: a route, an operation, and the break that opened the era.
-fn planned(alloc: Global, row: &str) -> Result<Plan, Fail> {
-    let (name, row) = row.split_once(' ').ok_or("a route")?;
-    let (op, since) = row.split_once(' ').ok_or("an operation")?;
-    let route = route_of(alloc, name)?;
-    plan_of(alloc, &route, op_of(op), moment_of(since))
+fn planned(rt: &(impl AllocGlobal + Abort), row: &str) -> Plan {
+    let route = route_of(rt, word(rt, row, 0));
+    let rest = rest_of_a(rt);
+    let asked = Asked {
+        op: op_of(rt, row, 1),
+        rest: &rest,
+        since: moment_of(rt, row, 2),
+        mark: Mark::Plain,
+    };
+    let root = Position::root(rt.alloc());
+    laid_out(rt.alloc(), &route, &asked, &root).expect(rt, "memory")
 }
 
 /// An outcome as a row has it: the number of a leg, `=` and a word.
-fn outcome(word: &str) -> Result<(usize, Outcome), Fail> {
-    let (entry, outcome) = word.split_once('=').ok_or("an outcome")?;
+fn outcome(rt: &impl Abort, word: &str) -> (usize, Outcome) {
+    let (entry, outcome) = word.split_once('=').expect(rt, "an outcome");
     let outcome = match outcome {
         "good" => Outcome::Good,
         "soft" => Outcome::Soft,
         _ => Outcome::Error,
     };
-    Ok((entry.parse::<usize>()?, outcome))
+    (entry.parse::<usize>().expect(rt, "a leg"), outcome)
 }
 
-/// The numbers of the fresh legs, and the reply where it is there.
-fn push_step(state: &EvalState, text: &mut String) -> Result<(), Fail> {
-    text.push_str("[")?;
-    for entry in state.fresh() {
-        write!(text, " {entry}")?;
-    }
-    text.push_str(" ]")?;
+fn push(rt: &impl Abort, text: &mut String, piece: &str) {
+    text.push_str(piece).expect(rt, "memory");
+}
+
+/// The reply where it is there.
+fn push_reply(rt: &impl Abort, state: &EvalState, text: &mut String) {
     if let Some(answer) = state.status() {
         match answer.source {
-            Source::Entry(entry) => write!(text, " reply {entry}")?,
-            Source::Fixed(_) => text.push_str(" reply fixed")?,
+            Source::Entry(entry) => write!(text, " reply {entry}").expect(rt, "memory"),
+            Source::Fixed(_) => push(rt, text, " reply fixed"),
         }
     }
-    Ok(())
 }
 
-fn push_steps(state: &mut EvalState, outcomes: &str, text: &mut String) -> Result<(), Fail> {
-    push_step(state, text)?;
-    for word in outcomes.split(' ') {
-        let (entry, outcome) = outcome(word)?;
-        if entry < state.legs() {
-            state.advance(entry, outcome);
-        }
-        push_step(state, text)?;
+/// The numbers of the fresh legs, and the reply.
+fn push_step(rt: &impl Abort, state: &EvalState, text: &mut String) {
+    push(rt, text, "[");
+    for entry in state.fresh() {
+        write!(text, " {entry}").expect(rt, "memory");
     }
-    Ok(())
+    push(rt, text, " ]");
+    push_reply(rt, state, text);
 }
 
-fn state_of(alloc: Global, plan: &Plan) -> Result<(EvalState, Vec<Launch>), AllocError> {
-    EvalState::new(alloc, plan, &Choice::new(Vec::new(alloc)))
+fn state_of(rt: &(impl AllocGlobal + Abort), plan: &Plan) -> (EvalState, Vec<Launch>) {
+    let choice = Choice::new(Vec::new(rt.alloc()));
+    EvalState::new(rt.alloc(), plan, &choice).expect(rt, "memory")
 }
 
 /// What is launched before any outcome and after each.
-fn steps(alloc: Global, plan: &Plan, outcomes: &str) -> Result<String, Fail> {
-    let (mut state, _entries) = state_of(alloc, plan)?;
-    let mut text = String::new(alloc);
-    push_steps(&mut state, outcomes, &mut text)?;
-    Ok(text)
+fn steps(rt: &(impl AllocGlobal + Abort), plan: &Plan, outcomes: &str) -> String {
+    let (mut state, _entries) = state_of(rt, plan);
+    let mut text = String::new(rt.alloc());
+    push_step(rt, &state, &mut text);
+    for word in outcomes.split(' ') {
+        let (entry, outcome) = outcome(rt, word);
+        if entry < state.legs() {
+            state.advance(entry, outcome);
+        }
+        push_step(rt, &state, &mut text);
+    }
+    text
 }
 
-fn check_steps(rt: &impl Abort, alloc: Global, rows: &str) -> Result<(), Fail> {
+fn check_row(rt: &(impl AllocGlobal + Abort), row: &str) {
+    let (asked, wanted) = halves(rt, row);
+    let (asked, outcomes) = asked.split_once(": ").expect(rt, "a row");
+    let found = steps(rt, &planned(rt, asked), outcomes);
+    check_found(rt, row, found.as_str(), wanted);
+}
+
+fn check_steps(rt: &(impl AllocGlobal + Abort), rows: &str) {
     for row in rows.lines() {
-        let (asked, more) = row.split_once(": ").ok_or("no row")?;
-        let (outcomes, wanted) = more.split_once(" | ").ok_or("no row")?;
-        let plan = planned(alloc, asked)?;
-        assert_eq!(rt; steps(alloc, &plan, outcomes)?.as_str(), wanted, "{row}");
+        check_row(rt, row);
     }
-    Ok(())
 }
 
 const WARM_UP: &str = "\
@@ -167,28 +139,29 @@ warm_up get -: 0=good | [ 0 ][ ] reply 0
 warm_up set -: 0=soft | [ 0 ][ ] reply 0";
 
 #[test]
-fn a_warm_up_fills_its_cold_side(rt: HostRuntime) -> Result<(), Fail> {
-    check_steps(&rt, rt.alloc(), WARM_UP)
+fn a_warm_up_fills_its_cold_side(rt: HostRuntime) {
+    check_steps(&rt, WARM_UP);
 }
 
-fn first_marked(entries: &[Launch], mark: Mark) -> Option<usize> {
-    entries.iter().position(|leg| leg.mark == mark)
+fn is_add(leg: &Launch) -> bool {
+    leg.mark == Mark::Add
 }
 
-#[test]
-fn the_add_is_marked(rt: HostRuntime) -> Result<(), Fail> {
-    let alloc = rt.alloc();
-    let plan = planned(alloc, "warm_up get -")?;
-    let (_state, entries) = state_of(alloc, &plan)?;
-    assert!(rt; first_marked(&entries, Mark::Add) == Some(2));
-    assert!(rt; entries.get(2).map(|leg| leg.op) == Some(Op::Add));
-    Ok(())
+fn is_of_add(leg: &Launch) -> bool {
+    leg.op == Op::Add
 }
 
 #[test]
-fn the_last_of_the_worst_is_the_reply(rt: HostRuntime) -> Result<(), Fail> {
+fn the_add_is_marked(rt: HostRuntime) {
+    let (_state, entries) = state_of(&rt, &planned(&rt, "warm_up get -"));
+    check(&rt, entries.iter().position(is_add) == Some(2), "leg 2");
+    check(&rt, entries.get(2).is_some_and(is_of_add), "an add");
+}
+
+#[test]
+fn the_last_of_the_worst_is_the_reply(rt: HostRuntime) {
     let row = "sync delete -: 1=error 0=error | [ 0 1 ][ ][ ] reply 0";
-    check_steps(&rt, rt.alloc(), row)
+    check_steps(&rt, row);
 }
 
 const FIRST: &str = "\
@@ -196,8 +169,8 @@ initial delete -: 1=error 0=good | [ 0 1 ][ ][ ] reply 0
 async delete -: 1=error | [ 0 1 ] reply fixed[ ] reply fixed";
 
 #[test]
-fn the_first_is_waited_for(rt: HostRuntime) -> Result<(), Fail> {
-    check_steps(&rt, rt.alloc(), FIRST)
+fn the_first_is_waited_for(rt: HostRuntime) {
+    check_steps(&rt, FIRST);
 }
 
 const SEARCHES: &str = "\
@@ -205,14 +178,14 @@ failover.3 get -: 0=error 1=soft | [ 0 ][ 1 ][ ] reply 1
 miss_failover.3 get -: 0=error 1=soft 2=good | [ 0 ][ 1 ][ 2 ][ ] reply 2";
 
 #[test]
-fn searches_go_on_after_what_they_pass(rt: HostRuntime) -> Result<(), Fail> {
-    check_steps(&rt, rt.alloc(), SEARCHES)
+fn searches_go_on_after_what_they_pass(rt: HostRuntime) {
+    check_steps(&rt, SEARCHES);
 }
 
 #[test]
-fn no_one_waits_for_a_shadow(rt: HostRuntime) -> Result<(), Fail> {
+fn no_one_waits_for_a_shadow(rt: HostRuntime) {
     let row = "shadowed get -: 0=good 1=error | [ 0 1 ][ ] reply 0[ ] reply 0";
-    check_steps(&rt, rt.alloc(), row)
+    check_steps(&rt, row);
 }
 
 const MIGRATION: &str = "\
@@ -220,8 +193,8 @@ migrate delete 105: 0=good 1=soft | [ 0 1 ][ ][ ] reply 1
 migrate get 105: 0=good | [ 0 ][ ] reply 0";
 
 #[test]
-fn deletes_of_a_migration_go_to_both(rt: HostRuntime) -> Result<(), Fail> {
-    check_steps(&rt, rt.alloc(), MIGRATION)
+fn deletes_of_a_migration_go_to_both(rt: HostRuntime) {
+    check_steps(&rt, MIGRATION);
 }
 
 /// Advances by a good outcome of each leg.
@@ -234,14 +207,11 @@ fn advance_all(state: &mut EvalState, count: usize) {
 }
 
 #[test]
-fn wide_routes(rt: HostRuntime) -> Result<(), Fail> {
-    let alloc = rt.alloc();
-    let plan = planned(alloc, "sync.4096 delete -")?;
-    let (mut state, entries) = state_of(alloc, &plan)?;
-    assert!(rt; state.fresh().len() == entries.len());
+fn wide_routes(rt: HostRuntime) {
+    let (mut state, entries) = state_of(&rt, &planned(&rt, "sync.4096 delete -"));
+    check(&rt, state.fresh().len() == entries.len(), "all at once");
     advance_all(&mut state, entries.len());
-    assert!(rt; state.status().is_some());
-    Ok(())
+    check(&rt, state.status().is_some(), "a reply");
 }
 
 /// Routes, each with an operation, a break, and the most legs of such a call of `a`.
@@ -259,80 +229,88 @@ migrate delete 105 2
 migrate delete - 1";
 
 /// The most legs of a call of `a` in a row.
-fn most(alloc: Global, row: &str) -> Result<usize, Fail> {
-    let (name, row) = row.split_once(' ').ok_or("a route")?;
-    let (op, since) = row.split_once(' ').ok_or("an operation")?;
-    let route = route_of(alloc, name)?;
-    let rest = Rest::of(b"a").ok_or("no rest")?;
-    Ok(most_legs(&route, op_of(op), &rest, moment_of(since)))
+fn most(rt: &(impl AllocGlobal + Abort), row: &str) -> usize {
+    let route = route_of(rt, word(rt, row, 0));
+    let (op, since) = (op_of(rt, row, 1), moment_of(rt, row, 2));
+    most_legs(&route, op, &rest_of_a(rt), since)
+}
+
+/// The last word of a row is its number of legs.
+fn check_most(rt: &(impl AllocGlobal + Abort), row: &str) {
+    let (asked, wanted) = row.rsplit_once(' ').expect(rt, "a row");
+    let wanted = wanted.parse::<usize>().expect(rt, "a number");
+    check(rt, most(rt, asked) == wanted, row);
 }
 
 #[test]
-fn the_most_legs_are_those_of_all_parts(rt: HostRuntime) -> Result<(), Fail> {
+fn the_most_legs_are_those_of_all_parts(rt: HostRuntime) {
     for row in MOST.lines() {
-        let (asked, wanted) = row.rsplit_once(' ').ok_or("no row")?;
-        let wanted = wanted.parse::<usize>()?;
-        assert_eq!(rt; most(rt.alloc(), asked)?, wanted, "{row}");
+        check_most(&rt, row);
     }
-    Ok(())
 }
 
-fn mark_fresh(state: &EvalState, launched: &mut Vec<bool>) {
-    for entry in state.fresh() {
-        if let Some(mark) = launched.get_mut(*entry) {
-            *mark = true;
+/// A state, the outcomes that it took in, and the legs that were fresh so far.
+#[derive(Drop)]
+struct Followed {
+    state: EvalState,
+    known: Vec<Option<Outcome>>,
+    launched: Vec<bool>,
+}
+
+impl Followed {
+    fn of(rt: &(impl AllocGlobal + Abort), plan: &Plan) -> Followed {
+        let (state, entries) = state_of(rt, plan);
+        let mut followed = Followed {
+            state,
+            known: vec![in rt.alloc(); None; entries.len()].expect(rt, "memory"),
+            launched: vec![in rt.alloc(); false; entries.len()].expect(rt, "memory"),
+        };
+        followed.mark_fresh();
+        followed
+    }
+
+    fn mark_fresh(&mut self) {
+        for entry in self.state.fresh() {
+            if let Some(mark) = self.launched.get_mut(*entry) {
+                *mark = true;
+            }
         }
     }
-}
 
-fn are_launched(state: &EvalState, known: &[Option<Outcome>], launched: &[bool]) -> bool {
-    for (entry, mark) in launched.iter().enumerate() {
-        if state.is_launched(known, entry) != *mark {
-            return false;
+    /// Takes in the outcome of a leg.
+    fn take(&mut self, entry: usize, outcome: Outcome) {
+        if entry < self.state.legs() {
+            self.state.advance(entry, outcome);
         }
+        if let Some(known) = self.known.get_mut(entry) {
+            *known = Some(outcome);
+        }
+        self.mark_fresh();
     }
-    !state.is_launched(known, launched.len())
-}
 
-/// Takes in the outcome of a leg. The result: whether the legs that were fresh so far are those that are launched.
-fn takes_in(
-    state: &mut EvalState,
-    known: &mut Vec<Option<Outcome>>,
-    launched: &mut Vec<bool>,
-    entry: usize,
-    outcome: Outcome,
-) -> bool {
-    if entry < state.legs() && entry < known.len() {
-        state.advance(entry, outcome);
-        known[entry] = Some(outcome);
+    /// Whether the legs that were fresh so far are those that are launched.
+    fn is_right(&self) -> bool {
+        for (entry, mark) in self.launched.iter().enumerate() {
+            if self.state.is_launched(&self.known, entry) != *mark {
+                return false;
+            }
+        }
+        !self.state.is_launched(&self.known, self.launched.len())
     }
-    mark_fresh(state, launched);
-    are_launched(state, known.as_slice(), launched.as_slice())
-}
 
-/// Takes in each outcome. The result: whether the legs that were fresh so far were those that are launched, each time.
-fn goes_on(
-    state: &mut EvalState,
-    known: &mut Vec<Option<Outcome>>,
-    launched: &mut Vec<bool>,
-    outcomes: &str,
-) -> Result<bool, Fail> {
-    let mut well = true;
-    for word in outcomes.split(' ') {
-        let (entry, outcome) = outcome(word)?;
-        well = takes_in(state, known, launched, entry, outcome) && well;
+    /// Of the legs that are launched and have no outcome, the one with so many before it.
+    fn awaited(&self, before: usize) -> Option<usize> {
+        let mut left = before;
+        for (entry, known) in self.known.iter().enumerate() {
+            if known.is_none() && self.launched.get(entry) == Some(&true) {
+                if left == 0 {
+                    return Some(entry);
+                }
+                left = left.saturating_sub(1);
+            }
+        }
+        None
     }
-    Ok(well)
-}
-
-/// Whether after each of the outcomes the legs that were fresh so far are those that are launched.
-fn agrees(alloc: Global, plan: &Plan, outcomes: &str) -> Result<bool, Fail> {
-    let (mut state, entries) = state_of(alloc, plan)?;
-    let mut known: Vec<Option<Outcome>> = vec![in alloc; None; entries.len()]?;
-    let mut launched = vec![in alloc; false; entries.len()]?;
-    mark_fresh(&state, &mut launched);
-    let begins_well = are_launched(&state, &known, &launched);
-    Ok(goes_on(&mut state, &mut known, &mut launched, outcomes)? && begins_well)
 }
 
 /// Routes, each with an operation, a break, and outcomes.
@@ -344,14 +322,23 @@ failover.3 get -: 0=error 1=soft
 sync delete -: 1=error 0=error
 shadowed get -: 1=error";
 
-#[test]
-fn what_was_fresh_is_launched(rt: HostRuntime) -> Result<(), Fail> {
-    for row in AGREED.lines() {
-        let (asked, outcomes) = row.split_once(": ").ok_or("no row")?;
-        let plan = planned(rt.alloc(), asked)?;
-        assert!(rt; agrees(rt.alloc(), &plan, outcomes)?, "{row}");
+/// After each of a row's outcomes the legs that were fresh so far are those that are launched.
+fn check_agreed(rt: &(impl AllocGlobal + Abort), row: &str) {
+    let (asked, outcomes) = row.split_once(": ").expect(rt, "a row");
+    let mut followed = Followed::of(rt, &planned(rt, asked));
+    check(rt, followed.is_right(), row);
+    for word in outcomes.split(' ') {
+        let (entry, outcome) = outcome(rt, word);
+        followed.take(entry, outcome);
+        check(rt, followed.is_right(), row);
     }
-    Ok(())
+}
+
+#[test]
+fn what_was_fresh_is_launched(rt: HostRuntime) {
+    for row in AGREED.lines() {
+        check_agreed(&rt, row);
+    }
 }
 
 /// Routes of at most four legs, each with an operation and a break.
@@ -365,20 +352,6 @@ warm_up get -
 shadowed delete -
 migrate delete 105";
 
-/// Of the legs that are launched and have no outcome, the one with so many before it.
-fn awaited(known: &[Option<Outcome>], launched: &[bool], before: usize) -> Option<usize> {
-    let mut left = before;
-    for (entry, mark) in launched.iter().enumerate() {
-        if *mark && known.get(entry).copied().unwrap_or(None).is_none() {
-            if left == 0 {
-                return Some(entry);
-            }
-            left = left.saturating_sub(1);
-        }
-    }
-    None
-}
-
 fn outcome_of(digit: usize) -> Outcome {
     match digit {
         0 => Outcome::Good,
@@ -388,34 +361,31 @@ fn outcome_of(digit: usize) -> Outcome {
 }
 
 /// Four outcomes as the order's digits say: of one of four legs that are awaited, where there are so many, one of three.
-/// The result: whether the legs that were fresh so far were those that are launched, each time.
-fn agrees_in_order(alloc: Global, plan: &Plan, order: usize) -> Result<bool, Fail> {
-    let (mut state, entries) = state_of(alloc, plan)?;
-    let mut known: Vec<Option<Outcome>> = vec![in alloc; None; entries.len()]?;
-    let mut launched = vec![in alloc; false; entries.len()]?;
-    mark_fresh(&state, &mut launched);
-    let mut well = are_launched(&state, &known, &launched);
+/// The legs that were fresh so far are those that are launched, each time.
+fn check_order(rt: &(impl AllocGlobal + Abort), plan: &Plan, order: usize, row: &str) {
+    let mut followed = Followed::of(rt, plan);
+    check(rt, followed.is_right(), row);
     let mut digits = order;
     for _ in 0..4 {
-        let outcome = outcome_of(digits % 3);
-        if let Some(entry) = awaited(&known, &launched, digits / 3 % 4) {
-            well = takes_in(&mut state, &mut known, &mut launched, entry, outcome) && well;
+        if let Some(entry) = followed.awaited(digits / 3 % 4) {
+            followed.take(entry, outcome_of(digits % 3));
+            assert!(rt; followed.is_right(), "{row}: order {order}");
         }
         digits /= 12;
     }
-    Ok(well)
+}
+
+/// In every order.
+fn check_orders(rt: &(impl AllocGlobal + Abort), row: &str) {
+    let plan = planned(rt, row);
+    for order in 0..12 * 12 * 12 * 12 {
+        check_order(rt, &plan, order, row);
+    }
 }
 
 #[test]
-fn what_was_fresh_is_launched_in_every_order(rt: HostRuntime) -> Result<(), Fail> {
+fn what_was_fresh_is_launched_in_every_order(rt: HostRuntime) {
     for row in ORDERED.lines() {
-        let plan = planned(rt.alloc(), row)?;
-        for order in 0..12 * 12 * 12 * 12 {
-            assert!(rt;
-                agrees_in_order(rt.alloc(), &plan, order)?,
-                "{row}: {order}"
-            );
-        }
+        check_orders(&rt, row);
     }
-    Ok(())
 }

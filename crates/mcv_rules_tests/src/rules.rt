@@ -1,243 +1,92 @@
 //! What routes send and reply, a row a case; the values are those of mcrouter's wiki, List of Route Handles.
 
-use crate::routes::{migration, pool, position, shadowed, two, warm_up};
-use mcv_base::{FixedReply, Moment, Op, Outcome, Part, Reply, ServerId, split_key};
+use crate::routes::{answers, check, check_found, halves, moment_of, named, op_of, word};
+use mcv_base::{FixedReply, Op, Outcome, Rest, split_key};
 use mcv_pools::Choice;
-use mcv_route::{Answered, Launch, OperationPolicy, PrefixPolicy, Route, Shadow};
+use mcv_route::{Answered, Launch, Route};
 use mcv_rules::{Eval, Outcomes, Status, default_reply};
-use std::alloc::{AllocError, Global};
 use std::process::Abort;
-use std::sync::Arc;
-use std::test::Fail;
 
-/// A pool of server 1 and one of server 2.
-fn two_pools(alloc: Global) -> Result<Vec<Route>, AllocError> {
-    let first = pool(alloc, 0, &[ServerId(1)])?;
-    two(alloc, first, pool(alloc, 0, &[ServerId(2)])?)
-}
-
-/// A pool of servers 1 and 2; at index 0 server 3 gets a copy, at 1 to 9 server 4.
-fn two_shadows(alloc: Global) -> Result<Route, AllocError> {
-    let mut shadows = Vec::new(alloc);
-    shadows.push(Shadow {
-        first: 0,
-        last: 0,
-        target: pool(alloc, 0, &[ServerId(3)])?,
-    })?;
-    shadows.push(Shadow {
-        first: 1,
-        last: 9,
-        target: pool(alloc, 0, &[ServerId(0), ServerId(4)])?,
-    })?;
-    shadowed(alloc, 0, &[ServerId(1), ServerId(2)], shadows)
-}
-
-/// A child without legs, and a pool of server 1.
-fn null_first(alloc: Global) -> Result<Vec<Route>, AllocError> {
-    two(alloc, Route::Null, pool(alloc, 0, &[ServerId(1)])?)
-}
-
-/// Two pools in the background, the second after an error of the first.
-fn in_background(alloc: Global) -> Result<Route, AllocError> {
-    let search = Route::Failover(two_pools(alloc)?);
-    Ok(Route::AllAsync(two(alloc, search, Route::Error)?))
-}
-
-/// Three children, the middle one of which is itself such a route.
-fn nested(alloc: Global) -> Result<Route, AllocError> {
-    let within = Route::AllSync(two_pools(alloc)?);
-    let mut children = two(alloc, pool(alloc, 0, &[ServerId(0)])?, within)?;
-    children.push(pool(alloc, 0, &[ServerId(3)])?)?;
-    Ok(Route::AllSync(children))
-}
-
-/// Server 1 is cold, and server 2 warm.
-fn warming(alloc: Global) -> Result<Route, AllocError> {
-    let cold = pool(alloc, 0, &[ServerId(1)])?;
-    warm_up(alloc, cold, pool(alloc, 0, &[ServerId(2)])?, 60)
-}
-
-/// From server 1 to server 2.
-fn moving(alloc: Global) -> Result<Route, AllocError> {
-    let from = pool(alloc, 0, &[ServerId(1)])?;
-    migration(alloc, from, pool(alloc, 0, &[ServerId(2)])?, 1000, 3600)
-}
-
-/// Server 1 for rests that begin with `a`, server 2 for those with `ab`.
-fn prefixes(alloc: Global) -> Result<Route, AllocError> {
-    let mut policies = Vec::new(alloc);
-    policies.push(PrefixPolicy {
-        prefix: Vec::from_slice(alloc, b"a")?,
-        route: pool(alloc, 0, &[ServerId(1)])?,
-    })?;
-    policies.push(PrefixPolicy {
-        prefix: Vec::from_slice(alloc, b"ab")?,
-        route: pool(alloc, 0, &[ServerId(2)])?,
-    })?;
-    Ok(Route::PrefixSelector {
-        policies,
-        wildcard: None,
-    })
-}
-
-/// Servers 7 and 8 for delete; a policy whose operation no command has comes before.
-fn policies(alloc: Global) -> Result<Vec<OperationPolicy>, AllocError> {
-    let mut policies = Vec::new(alloc);
-    policies.push(OperationPolicy {
-        op: None,
-        route: Route::Null,
-    })?;
-    policies.push(OperationPolicy {
-        op: Some(Op::Delete),
-        route: pool(alloc, 0, &[ServerId(7), ServerId(8)])?,
-    })?;
-    Ok(policies)
-}
-
-/// Those policies, and server 1 for other operations.
-fn operations(alloc: Global) -> Result<Route, AllocError> {
-    let one = pool(alloc, 0, &[ServerId(1)])?;
-    let default_policy = Some(Box::new(alloc, one)?);
-    Ok(Route::OperationSelector {
-        policies: policies(alloc)?,
-        default_policy,
-    })
-}
-
-fn no_default(alloc: Global) -> Result<Route, AllocError> {
-    Ok(Route::OperationSelector {
-        policies: policies(alloc)?,
-        default_policy: None,
-    })
-}
-
-/// The route that a row's first word names.
-fn route_of(alloc: Global, name: &str) -> Result<Route, AllocError> {
-    Ok(match name {
-        "pool" => pool(alloc, 0, &[ServerId(1), ServerId(2)])?,
-        "shadows" => two_shadows(alloc)?,
-        "null" => Route::Null,
-        "sync" => Route::AllSync(two_pools(alloc)?),
-        "null_sync" => Route::AllSync(null_first(alloc)?),
-        "nested" => nested(alloc)?,
-        "initial" => Route::AllInitial(two_pools(alloc)?),
-        "async" => in_background(alloc)?,
-        "failover" => Route::Failover(two_pools(alloc)?),
-        "miss_failover" => Route::MissFailover(two_pools(alloc)?),
-        "warm_up" => warming(alloc)?,
-        "migrate" => moving(alloc)?,
-        "prefixes" => prefixes(alloc)?,
-        "operations" => operations(alloc)?,
-        "no_default" => no_default(alloc)?,
-        _ => Route::Error,
-    })
-}
-
-/// The operations of the rows.
-fn op_of(name: &str) -> Op {
-    Op::named(name.as_bytes()).unwrap_or(Op::Touch)
-}
-
-fn fault(alloc: Global, line: &[u8]) -> Result<Part, AllocError> {
-    let line = Vec::from_slice(alloc, line)?;
-    Ok(Part::Owned(Arc::new(alloc, Reply::Fault(line))?))
-}
-
-fn hit(alloc: Global) -> Result<Part, AllocError> {
-    let body = Vec::from_slice(alloc, b"x")?;
-    let reply = Reply::Hit {
-        flags: 0,
-        cas: None,
-        body: Arc::new(alloc, body)?,
-    };
-    Ok(Part::Owned(Arc::new(alloc, reply)?))
-}
-
-/// An outcome as a row has it: a position, `=` and a word.
-fn answered(alloc: Global, word: &str) -> Result<Answered, AllocError> {
-    let (place, reply) = word.split_once('=').unwrap_or((word, ""));
-    Ok(Answered {
-        position: position(alloc, place)?,
-        reply: match reply {
-            "hit" => hit(alloc)?,
-            "miss" => Part::Fixed(FixedReply::Miss),
-            "not_found" => Part::Fixed(FixedReply::NotFound),
-            "deleted" => Part::Fixed(FixedReply::Deleted),
-            "fault" => fault(alloc, b"SERVER_ERROR x")?,
-            _ => fault(alloc, b"ERROR")?,
-        },
-    })
-}
+/// The routes that the rows name. `nested` has three children, the middle one of which is itself such a route; `async` has
+/// two pools in the background, the second after an error of the first; `warm_up` has server 1 cold and server 2 warm.
+const NAMES: [(&str, &str); 16] = [
+    ("pool", "P"),
+    ("shadows", "T"),
+    ("null", "N"),
+    ("error", "E"),
+    ("sync", "12s"),
+    ("null_sync", "N1s"),
+    ("nested", "012s3S"),
+    ("initial", "12i"),
+    ("async", "12fEy"),
+    ("failover", "12f"),
+    ("miss_failover", "12m"),
+    ("warm_up", "12w"),
+    ("migrate", "12M"),
+    ("prefixes", "X"),
+    ("operations", "O"),
+    ("no_default", "D"),
+];
 
 /// The legs as their positions, servers, operations and marks; the status, and what the reply amounts to.
 fn shown(
-    alloc: Global,
+    rt: &(impl AllocGlobal + Abort),
     legs: &[Launch],
     status: Status,
     outcome: Option<Outcome>,
-) -> Result<String, Fail> {
-    let mut text = String::new(alloc);
+) -> String {
+    let mut text = String::new(rt.alloc());
     for leg in legs {
         let steps = leg.position.steps();
         let server = leg.server.0;
         let op = leg.op.name();
         let mark = leg.mark;
-        write!(text, "{steps:?} {server} {op} {mark:?}; ")?;
+        write!(text, "{steps:?} {server} {op} {mark:?}; ").expect(rt, "memory");
     }
-    write!(text, "{status:?} {outcome:?}")?;
-    Ok(text)
-}
-
-/// The outcomes of a row.
-fn answers(alloc: Global, words: &str) -> Result<Vec<Answered>, AllocError> {
-    let mut answers = Vec::new(alloc);
-    for word in words.split(' ') {
-        if !word.is_empty() {
-            answers.push(answered(alloc, word)?)?;
-        }
-    }
-    Ok(answers)
+    write!(text, "{status:?} {outcome:?}").expect(rt, "memory");
+    text
 }
 
 /// What is sent and replied after these outcomes.
-fn evaluated(alloc: Global, eval: &Eval<'_>, answers: &[Answered]) -> Result<String, Fail> {
-    let outcomes = Outcomes::of(alloc, answers)?;
-    let legs = eval.launched(alloc, &outcomes)?;
+fn evaluated(rt: &(impl AllocGlobal + Abort), eval: &Eval<'_>, answers: &[Answered]) -> String {
+    let outcomes = Outcomes::of(rt.alloc(), answers).expect(rt, "memory");
+    let legs = eval.launched(rt.alloc(), &outcomes).expect(rt, "memory");
     let status = eval.status(&outcomes);
-    shown(alloc, legs.as_slice(), status, status.outcome(answers))
+    shown(rt, &legs, status, status.outcome(answers))
 }
 
-/// What a route gives for the operation, the key, the index of symbol 0, the break that opened the era, and the outcomes.
-fn given_by(alloc: Global, route: &Route, row: &str) -> Result<String, Fail> {
-    let (op, row) = row.split_once(' ').ok_or("an operation")?;
-    let (key, row) = row.split_once(' ').ok_or("a key")?;
-    let (index, row) = row.split_once(' ').ok_or("an index")?;
-    let (since, row) = row.split_once(' ').unwrap_or((row, ""));
-    let (_, rest) = split_key(key.as_bytes())?;
-    let since = since.parse::<u64>().ok().map(Moment);
-    let choice = Choice::new(Vec::from_slice(alloc, &[index.parse::<usize>()?])?);
-    let eval = Eval::new(alloc, route, op_of(op), &rest, since, &choice)?;
-    let answers = answers(alloc, row)?;
-    evaluated(alloc, &eval, answers.as_slice())
+/// The choice of an index for symbol 0.
+fn choice_of(rt: &(impl AllocGlobal + Abort), index: &str) -> Choice {
+    let index = index.parse::<usize>().expect(rt, "an index");
+    Choice::new(Vec::from_slice(rt.alloc(), &[index]).expect(rt, "memory"))
 }
 
-/// What a row gives. Its first half is the name of a route and what is asked of it.
-fn given(alloc: Global, row: &str) -> Result<String, Fail> {
-    let (name, row) = row.split_once(' ').ok_or("a route")?;
-    let route = route_of(alloc, name)?;
-    given_by(alloc, &route, row)
+/// The rest of a key.
+fn rest_of(rt: &impl Abort, key: &str) -> Rest {
+    let (_, rest) = split_key(key.as_bytes()).expect(rt, "a key");
+    rest
 }
 
-fn check_rows(rt: &impl Abort, alloc: Global, table: &str) -> Result<(), Fail> {
+/// What a route gives for a row's operation, key, index of symbol 0, break that opened the era, and outcomes.
+fn given(rt: &(impl AllocGlobal + Abort), route: &Route, row: &str) -> String {
+    let rest = rest_of(rt, word(rt, row, 2));
+    let choice = choice_of(rt, word(rt, row, 3));
+    let (op, since) = (op_of(rt, row, 1), moment_of(rt, row, 4));
+    let eval = Eval::new(rt.alloc(), route, op, &rest, since, &choice).expect(rt, "memory");
+    evaluated(rt, &eval, &answers(rt, row))
+}
+
+/// A row gives what it wants; its first word is the name of a route.
+fn check_row(rt: &(impl AllocGlobal + Abort), row: &str) {
+    let (asked, wanted) = halves(rt, row);
+    let route = named(rt, &NAMES, word(rt, asked, 0));
+    check_found(rt, row, given(rt, &route, asked).as_str(), wanted);
+}
+
+fn check_rows(rt: &(impl AllocGlobal + Abort), table: &str) {
     for row in table.lines() {
-        let Some((asked, wanted)) = row.split_once(" | ") else {
-            return Ok(assert!(rt; false, "{row}"));
-        };
-        let found = given(alloc, asked)?;
-        let found = found.as_str();
-        assert!(rt; found == wanted, "{row}\n{found}");
+        check_row(rt, row);
     }
-    Ok(())
 }
 
 /// Handles that send to all their children, or to none.
@@ -292,25 +141,28 @@ operations get a 0 - | [2] 1 get Plain; Waits None
 no_default get a 0 - | Replied(Fixed(ErrorRoute)) Some(Error)";
 
 #[test]
-fn all_are_sent_to(rt: HostRuntime) -> Result<(), Fail> {
-    check_rows(&rt, rt.alloc(), ALL)
+fn all_are_sent_to(rt: HostRuntime) {
+    check_rows(&rt, ALL);
 }
 
 #[test]
-fn searches_stop(rt: HostRuntime) -> Result<(), Fail> {
-    check_rows(&rt, rt.alloc(), SEARCHES)
+fn searches_stop(rt: HostRuntime) {
+    check_rows(&rt, SEARCHES);
 }
 
 #[test]
-fn one_is_chosen(rt: HostRuntime) -> Result<(), Fail> {
-    check_rows(&rt, rt.alloc(), CHOICES)
+fn one_is_chosen(rt: HostRuntime) {
+    check_rows(&rt, CHOICES);
 }
 
 /// The default replies of the operations that no row has.
 #[test]
-fn nothing_asked_is_a_miss(rt: HostRuntime) -> Result<(), Fail> {
-    assert_eq!(rt; default_reply(Op::Gets), FixedReply::Miss);
-    assert_eq!(rt; default_reply(Op::Cas), FixedReply::NotStored);
-    assert_eq!(rt; default_reply(Op::Touch), FixedReply::NotFound);
-    Ok(())
+fn nothing_asked_is_a_miss(rt: HostRuntime) {
+    for (op, reply) in [
+        (Op::Gets, FixedReply::Miss),
+        (Op::Cas, FixedReply::NotStored),
+        (Op::Touch, FixedReply::NotFound),
+    ] {
+        check(&rt, default_reply(op) == reply, op.name());
+    }
 }

@@ -1,114 +1,49 @@
 //! What can be read and what is acknowledged, a row a case; each pool has one server.
 
-use crate::routes::{pool, shadowed, warm_up};
-use mcv_base::{Op, Outcome, Position, Rest, ServerId};
-use mcv_route::{Route, Shadow};
+use crate::routes::{check_found, halves, rest_of_a, spelled};
+use mcv_base::{Op, Outcome, Position, Rest};
+use mcv_route::Route;
 use mcv_rules::PlannedLeg;
 use mcv_symbolic::{Case, LegAnswer};
-use std::alloc::{AllocError, Global};
-use std::test::Fail;
+use std::alloc::AllocError;
+use std::process::Abort;
 
-fn lone(alloc: Global, server: u32) -> Result<Route, AllocError> {
-    pool(alloc, 0, &[ServerId(server)])
+fn push(rt: &impl Abort, text: &mut String, piece: &str) {
+    text.push_str(piece).expect(rt, "memory");
 }
 
-/// A pool whose copies go to another.
-fn copied(alloc: Global) -> Result<Route, AllocError> {
-    let mut shadows = Vec::new(alloc);
-    shadows.push(Shadow {
-        first: 0,
-        last: 0,
-        target: lone(alloc, 1)?,
-    })?;
-    shadowed(alloc, 0, &[ServerId(0)], shadows)
-}
-
-/// The last routes, in their order.
-fn last_of(alloc: Global, routes: &mut Vec<Route>, count: usize) -> Result<Vec<Route>, AllocError> {
-    let mut children = Vec::new(alloc);
-    for _ in 0..count {
-        if let Some(route) = routes.pop() {
-            children.push(route)?;
-        }
-    }
-    children.reverse();
-    Ok(children)
-}
-
-/// A WarmUpRoute of the last two routes.
-fn warming(alloc: Global, routes: &mut Vec<Route>) -> Result<Route, AllocError> {
-    let warm = routes.pop().unwrap_or(Route::Null);
-    let cold = routes.pop().unwrap_or(Route::Null);
-    warm_up(alloc, cold, warm, 60)
-}
-
-/// The route of a letter, whose children are the last ones: N a NullRoute, E an ErrorRoute, C a copied pool; s, i, m and f
-/// an AllSyncRoute, an AllInitialRoute, a MissFailoverRoute and a FailoverRoute of the last two, w a WarmUpRoute of them,
-/// F a FailoverRoute of the last three; any other letter a pool.
-fn lettered(alloc: Global, routes: &mut Vec<Route>, letter: u8) -> Result<Route, AllocError> {
-    Ok(match letter {
-        b'N' => Route::Null,
-        b'E' => Route::Error,
-        b'C' => copied(alloc)?,
-        b's' => Route::AllSync(last_of(alloc, routes, 2)?),
-        b'i' => Route::AllInitial(last_of(alloc, routes, 2)?),
-        b'm' => Route::MissFailover(last_of(alloc, routes, 2)?),
-        b'f' => Route::Failover(last_of(alloc, routes, 2)?),
-        b'w' => warming(alloc, routes)?,
-        b'F' => Route::Failover(last_of(alloc, routes, 3)?),
-        other => lone(alloc, u32::from(other))?,
-    })
-}
-
-fn push_lettered(alloc: Global, routes: &mut Vec<Route>, letter: u8) -> Result<(), AllocError> {
-    let route = lettered(alloc, routes, letter)?;
-    Ok(routes.push(route)?)
-}
-
-/// The route that letters spell.
-fn route_of(alloc: Global, letters: &str) -> Result<Route, Fail> {
-    let mut routes = Vec::new(alloc);
-    for letter in letters.as_bytes() {
-        push_lettered(alloc, &mut routes, *letter)?;
-    }
-    Ok(routes.pop().ok_or("no route")?)
-}
-
-fn places(alloc: Global, legs: &[&PlannedLeg]) -> Result<String, Fail> {
-    let mut text = String::new(alloc);
+fn push_places(rt: &impl Abort, text: &mut String, legs: &[&PlannedLeg]) {
     for leg in legs {
         let steps = leg.position.steps();
-        write!(text, "{steps:?}")?;
+        write!(text, "{steps:?}").expect(rt, "memory");
     }
-    Ok(text)
 }
 
-/// The positions from which the route can be read by a get.
-fn readable(alloc: Global, route: &Route) -> Result<String, Fail> {
-    let rest = Rest::of(b"a").ok_or("no rest")?;
-    let get = Case::new(alloc, route, Op::Get, &rest, None)?;
-    let legs = get.readable(alloc)?;
-    places(alloc, legs.as_slice())
+/// The calls of an operation on this rest.
+fn case<'a>(rt: &(impl AllocGlobal + Abort), route: &'a Route, op: Op, rest: &'a Rest) -> Case<'a> {
+    Case::new(rt.alloc(), route, op, rest, None).expect(rt, "memory")
 }
 
-/// The positions to which every delete that has a reply has been sent, and whether one can be acknowledged.
-fn acknowledged(alloc: Global, route: &Route) -> Result<String, Fail> {
-    let rest = Rest::of(b"a").ok_or("no rest")?;
-    let delete = Case::new(alloc, route, Op::Delete, &rest, None)?;
-    let legs = delete.acknowledged_legs(alloc)?;
-    let mut text = places(alloc, legs.as_slice())?;
+/// Adds the positions from which a get can read.
+fn push_readable(rt: &(impl AllocGlobal + Abort), text: &mut String, route: &Route, rest: &Rest) {
+    let get = case(rt, route, Op::Get, rest);
+    let legs = get.readable(rt.alloc()).expect(rt, "memory");
+    push_places(rt, text, &legs);
+}
+
+/// Adds the positions to which every delete that has a reply has been sent, and whether one can be acknowledged.
+fn push_acknowledged(
+    rt: &(impl AllocGlobal + Abort),
+    text: &mut String,
+    route: &Route,
+    rest: &Rest,
+) -> Result<(), AllocError> {
+    let delete = Case::new(rt.alloc(), route, Op::Delete, rest, None)?;
+    let legs = delete.acknowledged_legs(rt.alloc())?;
+    push_places(rt, text, &legs);
     let can = delete.can_acknowledge();
-    write!(text, " {can}")?;
-    Ok(text)
-}
-
-/// Where the route of these letters can be read, and what is acknowledged there.
-fn given(alloc: Global, letters: &str) -> Result<String, Fail> {
-    let route = route_of(alloc, letters)?;
-    let mut text = readable(alloc, &route)?;
-    text.push_str(" ")?;
-    text.push_str(acknowledged(alloc, &route)?.as_str())?;
-    Ok(text)
+    write!(text, " {can}").expect(rt, "memory");
+    Ok(())
 }
 
 const ROWS: &str = "\
@@ -124,51 +59,26 @@ C | [] [] true
 E |   false";
 
 #[test]
-fn sets_are_those_of_the_rows(rt: HostRuntime) -> Result<(), Fail> {
-    let alloc = rt.alloc();
-    for row in ROWS.lines() {
-        let (letters, wanted) = row.split_once(" | ").ok_or("a row without a bar")?;
-        let found = given(alloc, letters)?;
-        let found = found.as_str();
-        assert!(rt; found == wanted, "{row}\n{found}");
-    }
-    Ok(())
+fn sets_are_those_of_the_rows(rt: HostRuntime) {
+    check_rows(&rt, ROWS, Table::Sets);
 }
 
-fn shown(alloc: Global, answers: &[LegAnswer]) -> Result<String, Fail> {
-    let mut text = String::new(alloc);
+fn push_shown(rt: &impl Abort, text: &mut String, answers: &[LegAnswer<'_>]) {
     for answer in answers {
         let steps = answer.leg.position.steps();
         let outcome = answer.outcome;
-        write!(text, "{steps:?}{outcome:?}")?;
-    }
-    Ok(text)
-}
-
-/// The answers by which a hit of this leaf is a get's answer, `-` where none do.
-fn hit(alloc: Global, get: &Case<'_>, leaf: &Position) -> Result<String, Fail> {
-    match get.hit_of(alloc, leaf)? {
-        Some(answers) => shown(alloc, answers.as_slice()),
-        None => Ok(String::from_str(alloc, "-")?),
+        write!(text, "{steps:?}{outcome:?}").expect(rt, "memory");
     }
 }
 
-/// The answers by which a hit of each of the first two children is a get's answer.
-fn hits(alloc: Global, route: &Route) -> Result<String, Fail> {
-    let rest = Rest::of(b"a").ok_or("no rest")?;
-    let get = Case::new(alloc, route, Op::Get, &rest, None)?;
-    let mut text = String::new(alloc);
-    for child in 0..2 {
-        let leaf = Position::at(alloc, &[child])?;
-        text.push_str(hit(alloc, &get, &leaf)?.as_str())?;
-        text.push_str(";")?;
+/// Adds the answers by which a hit of this leaf is a get's answer, `-` where none do, and a semicolon.
+fn push_hit(rt: &(impl AllocGlobal + Abort), text: &mut String, get: &Case<'_>, child: usize) {
+    let leaf = Position::at(rt.alloc(), &[child]).expect(rt, "memory");
+    match get.hit_of(rt.alloc(), &leaf).expect(rt, "memory") {
+        Some(answers) => push_shown(rt, text, &answers),
+        None => push(rt, text, "-"),
     }
-    Ok(text)
-}
-
-fn hits_of(alloc: Global, letters: &str) -> Result<String, Fail> {
-    let route = route_of(alloc, letters)?;
-    hits(alloc, &route)
+    push(rt, text, ";");
 }
 
 const HITS: &str = "\
@@ -182,32 +92,34 @@ Nbf | -;-;
 Ebf | -;[1]Good;";
 
 #[test]
-fn hits_are_those_of_the_rows(rt: HostRuntime) -> Result<(), Fail> {
-    let alloc = rt.alloc();
-    for row in HITS.lines() {
-        let (letters, wanted) = row.split_once(" | ").ok_or("a row without a bar")?;
-        let found = hits_of(alloc, letters)?;
-        let found = found.as_str();
-        assert!(rt; found == wanted, "{row}\n{found}");
-    }
-    Ok(())
+fn hits_are_those_of_the_rows(rt: HostRuntime) {
+    check_rows(&rt, HITS, Table::Hits);
 }
 
-/// The answers of a delete where all legs answer so.
-fn answers(alloc: Global, route: &Route, outcome: Outcome) -> Result<String, Fail> {
-    let rest = Rest::of(b"a").ok_or("no rest")?;
-    let delete = Case::new(alloc, route, Op::Delete, &rest, None)?;
-    let legs = delete.answers(alloc, outcome)?;
-    shown(alloc, legs.as_slice())
+/// Adds the answers by which a hit of each of the first two children is a get's answer.
+fn push_hits(rt: &(impl AllocGlobal + Abort), text: &mut String, route: &Route, rest: &Rest) {
+    let get = case(rt, route, Op::Get, rest);
+    push_hit(rt, text, &get, 0);
+    push_hit(rt, text, &get, 1);
 }
 
-/// The answers of a delete where all legs answer Good, and where all answer Error.
-fn alike(alloc: Global, letters: &str) -> Result<String, Fail> {
-    let route = route_of(alloc, letters)?;
-    let mut text = answers(alloc, &route, Outcome::Good)?;
-    text.push_str(" ")?;
-    text.push_str(answers(alloc, &route, Outcome::Error)?.as_str())?;
-    Ok(text)
+/// Adds the answers of a delete where all legs answer so.
+fn push_answers(
+    rt: &(impl AllocGlobal + Abort),
+    text: &mut String,
+    delete: &Case<'_>,
+    outcome: Outcome,
+) {
+    let legs = delete.answers(rt.alloc(), outcome).expect(rt, "memory");
+    push_shown(rt, text, &legs);
+}
+
+/// Adds the answers of a delete where all legs answer Good, and where all answer Error.
+fn push_both(rt: &(impl AllocGlobal + Abort), text: &mut String, route: &Route, rest: &Rest) {
+    let delete = case(rt, route, Op::Delete, rest);
+    push_answers(rt, text, &delete, Outcome::Good);
+    push(rt, text, " ");
+    push_answers(rt, text, &delete, Outcome::Error);
 }
 
 const ALIKE: &str = "\
@@ -217,13 +129,44 @@ abi | [0]Good [0]Error
 C | []Good []Error";
 
 #[test]
-fn answers_alike_are_those_of_the_rows(rt: HostRuntime) -> Result<(), Fail> {
-    let alloc = rt.alloc();
-    for row in ALIKE.lines() {
-        let (letters, wanted) = row.split_once(" | ").ok_or("a row without a bar")?;
-        let found = alike(alloc, letters)?;
-        let found = found.as_str();
-        assert!(rt; found == wanted, "{row}\n{found}");
+fn answers_alike_are_those_of_the_rows(rt: HostRuntime) {
+    check_rows(&rt, ALIKE, Table::Alike);
+}
+
+/// What the rows of a table are of: where a get reads and what is acknowledged, the answers by which a hit of each of the
+/// first two children is a get's answer, or the answers of a delete where all legs answer alike.
+#[derive(Clone, Copy)]
+enum Table {
+    Sets,
+    Hits,
+    Alike,
+}
+
+/// What a table has for a route.
+fn found(rt: &(impl AllocGlobal + Abort), route: &Route, table: Table) -> String {
+    let rest = rest_of_a(rt);
+    let mut text = String::new(rt.alloc());
+    match table {
+        Table::Sets => {
+            push_readable(rt, &mut text, route, &rest);
+            push(rt, &mut text, " ");
+            push_acknowledged(rt, &mut text, route, &rest).expect(rt, "memory");
+        }
+        Table::Hits => push_hits(rt, &mut text, route, &rest),
+        Table::Alike => push_both(rt, &mut text, route, &rest),
     }
-    Ok(())
+    text
+}
+
+/// A row is the letters of a route, and what its table has for it.
+fn check_row(rt: &(impl AllocGlobal + Abort), row: &str, table: Table) {
+    let (letters, wanted) = halves(rt, row);
+    let route = spelled(rt, letters);
+    check_found(rt, row, found(rt, &route, table).as_str(), wanted);
+}
+
+fn check_rows(rt: &(impl AllocGlobal + Abort), rows: &str, table: Table) {
+    for row in rows.lines() {
+        check_row(rt, row, table);
+    }
 }

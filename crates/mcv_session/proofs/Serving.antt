@@ -11,7 +11,7 @@ use Rattle.mcv_session.specs.declared.session.Flow.TheVariants.{GoesOn}
 use Rattle.mcv_session.specs.declared.serve.ServeFault.{ServeFault}
 use Rattle.mcv_session.specs.declared.serve.ServeFault.TheVariants as faults
 use Rattle.mcv_session.specs.Session.{Serves}
-use Rattle.mcv_session.specs.Served.{IsStopped, Served, Stops}
+use Rattle.mcv_session.specs.ServedSession.{IsStopped, Served, Stops}
 use Rattle.mcv_session.proofs.Pieces.{serves_join, breaks_unread}
 
 module _ {D : Type 0} (asks : D → RequestValue → Result (List ReplyValue) DeskFault → D → Type 0) where

@@ -2,5 +2,5 @@ pub mod Desk
 pub mod Exchange
 pub mod Session
 pub mod State
-pub mod Served
+pub mod ServedSession
 pub mod Step

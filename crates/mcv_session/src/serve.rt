@@ -2,7 +2,7 @@
 
 ghost use Rattle.std.specs.Prelude.{◌≡◌, ◌<◌, ◌≤◌, [], ℕ, take, length, false, IfOk, IfErr, OnOk, MatchOption};
 ghost use Rattle.std.specs.Io.KnownBytes.{Appends, Consumes, IsAtEnd};
-ghost use Rattle.mcv_session.specs.Served.{IsServed, IsStopped, Stops};
+ghost use Rattle.mcv_session.specs.ServedSession.{IsServed, IsStopped, Stops};
 ghost use Rattle.mcv_session.specs.Session.{Serves};
 
 use crate::desk::Desk;

@@ -7,7 +7,7 @@ use Rattle.std.specs.List.{Contains}
 use Rattle.mcv_spool.specs.Disk.{LeavesOnly}
 use Rattle.mcv_spool.specs.File.{damage, is_done, marked, read_record, slot_of, slots, slots_within, waiting}
 use Rattle.mcv_spool.specs.Version.{HasSlotsOf, IsBeforeOrAfter, IsVersion}
-use Rattle.mcv_spool.specs.History.{Reported, HasNumber, IsKept, World, record_in, records_of, nothing_reported, reported_found, reported_stored, reported_tried, reported_done, Call, History}
+use Rattle.mcv_spool.specs.History.{Reported, HasNumber, IsKept, SpoolState, record_in, records_of, nothing_reported, reported_found, reported_stored, reported_tried, reported_done, SpoolCall, History}
 use Rattle.mcv_spool.specs.declared.record.SpoolRecord.{SpoolRecord}
 use Rattle.mcv_spool.proofs.Marks.{records_marked}
 use Rattle.mcv_spool.proofs.Versions.{counted}
@@ -215,7 +215,7 @@ module _ {D : Type 0} (seen : D → List ℕ) (may_leave : D → List ℕ → Ty
     (counts_now : (disk : D) (t : ℕ) (c : List ℕ) → t ≤ moment disk → may_leave disk c → left_since disk t c)
     (only_now : (disk : D) (c : List ℕ) → left_since disk (moment disk) c → may_leave disk c) where
   -- what is known after any list of calls
-  pub record Sound (t : Reported) (w : World D) : Type 0 where
+  pub record Sound (t : Reported) (w : SpoolState D) : Type 0 where
     pub crash : (c : List ℕ) → may_leave w.disk c → IsKept t c
     pub whole : w.is_ready ≡ true → Whole t (slots (seen w.disk))
 
@@ -229,20 +229,20 @@ module _ {D : Type 0} (seen : D → List ℕ) (may_leave : D → List ℕ → Ty
   now old new P Q run before here c left = since_then old new P Q run before here c (counts_now new (moment old) c run.later left)
 
   -- at any moment of a call
-  pub within : (t : Reported) (old new : World D) (answered stopped : Reported → Reported) → Sound t old → Call seen may_leave moment left_since old new answered stopped
+  pub within : (t : Reported) (old new : SpoolState D) (answered stopped : Reported → Reported) → Sound t old → SpoolCall seen may_leave moment left_since old new answered stopped
       → (c : List ℕ) → left_since new.disk (moment old.disk) c → IsKept (stopped t) c
-  within t old new answered stopped sound (Call.found records o n finds ready) = since_then o.disk n.disk (HasSlotsOf (may_leave o.disk)) (IsKept t) finds.any_moment sound.crash (λ c p. kept_same t p.0 c p.2 (sound.crash p.0 p.1))
-  within t old new answered stopped sound (Call.not_found o n leaves ready) = since_then o.disk n.disk (HasSlotsOf (may_leave o.disk)) (IsKept t) leaves sound.crash (λ c p. kept_same t p.0 c p.2 (sound.crash p.0 p.1))
-  within t old new answered stopped sound (Call.stored r o n before stores ready) = since_then o.disk n.disk (IsBeforeOrAfter (slots (seen o.disk)) r) (IsKept (reported_tried r t)) stores.writes.any_moment (λ c left. kept_tried t r c (sound.crash c left))
+  within t old new answered stopped sound (SpoolCall.found records o n finds ready) = since_then o.disk n.disk (HasSlotsOf (may_leave o.disk)) (IsKept t) finds.any_moment sound.crash (λ c p. kept_same t p.0 c p.2 (sound.crash p.0 p.1))
+  within t old new answered stopped sound (SpoolCall.not_found o n leaves ready) = since_then o.disk n.disk (HasSlotsOf (may_leave o.disk)) (IsKept t) leaves sound.crash (λ c p. kept_same t p.0 c p.2 (sound.crash p.0 p.1))
+  within t old new answered stopped sound (SpoolCall.stored r o n before stores ready) = since_then o.disk n.disk (IsBeforeOrAfter (slots (seen o.disk)) r) (IsKept (reported_tried r t)) stores.writes.any_moment (λ c left. kept_tried t r c (sound.crash c left))
       (λ c p. kept_either t r (seen o.disk) c (sound.whole before) (sound.crash (seen o.disk) (read_may_stay o.disk)) stores.writes.reads stores.writes.room p)
-  within t old new answered stopped sound (Call.not_stored r o n before writes ready) = since_then o.disk n.disk (IsBeforeOrAfter (slots (seen o.disk)) r) (IsKept (reported_tried r t)) writes.any_moment (λ c left. kept_tried t r c (sound.crash c left))
+  within t old new answered stopped sound (SpoolCall.not_stored r o n before writes ready) = since_then o.disk n.disk (IsBeforeOrAfter (slots (seen o.disk)) r) (IsKept (reported_tried r t)) writes.any_moment (λ c left. kept_tried t r c (sound.crash c left))
       (λ c p. kept_either t r (seen o.disk) c (sound.whole before) (sound.crash (seen o.disk) (read_may_stay o.disk)) writes.reads writes.room p)
-  within t old new answered stopped sound (Call.marks k o n before marks) = since_then o.disk n.disk (IsVersion (marked k (slots (seen o.disk)))) (IsKept (reported_done k t)) marks.any_moment (λ c left. kept_done t k c (sound.crash c left))
+  within t old new answered stopped sound (SpoolCall.marks k o n before marks) = since_then o.disk n.disk (IsVersion (marked k (slots (seen o.disk)))) (IsKept (reported_done k t)) marks.any_moment (λ c left. kept_done t k c (sound.crash c left))
       (λ c p. kept_marked t k (seen o.disk) c (sound.whole before) (sound.crash (seen o.disk) (read_may_stay o.disk)) p)
-  within t old new answered stopped sound (Call.nothing w) = λ c left. sound.crash c (only_now w.disk c left)
+  within t old new answered stopped sound (SpoolCall.nothing w) = λ c left. sound.crash c (only_now w.disk c left)
 
   -- the file that a read gives is one that a crash may leave
-  seen_kept : (t : Reported) (old new : World D) (answered stopped : Reported → Reported) → Sound t old → Call seen may_leave moment left_since old new answered stopped → moment old.disk ≤ moment new.disk
+  seen_kept : (t : Reported) (old new : SpoolState D) (answered stopped : Reported → Reported) → Sound t old → SpoolCall seen may_leave moment left_since old new answered stopped → moment old.disk ≤ moment new.disk
       → IsKept (stopped t) (seen new.disk)
   seen_kept t old new answered stopped sound call later = within t old new answered stopped sound call (seen new.disk) (counts_now new.disk (moment old.disk) (seen new.disk) later (read_may_stay new.disk))
 
@@ -250,40 +250,40 @@ module _ {D : Type 0} (seen : D → List ℕ) (may_leave : D → List ℕ → Ty
   false_true b A is_false is_true = absurd (true≢false (sym is_true ∙ is_false))
 
   -- once a call has answered
-  pub after : (t : Reported) (old new : World D) (answered stopped : Reported → Reported) → Sound t old → Call seen may_leave moment left_since old new answered stopped → Sound (answered t) new
-  after t old new answered stopped sound (Call.found records o n finds ready) =
+  pub after : (t : Reported) (old new : SpoolState D) (answered stopped : Reported → Reported) → Sound t old → SpoolCall seen may_leave moment left_since old new answered stopped → Sound (answered t) new
+  after t old new answered stopped sound (SpoolCall.found records o n finds ready) =
       let whole : map read_record (slots (seen n.disk)) ≡ map Some (records ++ []) = ap (λ (ss : List (List ℕ)). map read_record ss) finds.same ∙ finds.reads ∙ ap (λ (l : List SpoolRecord). map Some l) (sym (append-nil records)) in
-      let kept = seen_kept t o n (reported_found records) (λ t. t) sound (Call.found records o n finds ready) finds.any_moment.later in
+      let kept = seen_kept t o n (reported_found records) (λ t. t) sound (SpoolCall.found records o n finds ready) finds.any_moment.later in
       record {
         crash = λ c left. kept_whole (reported_found records t) (slots (seen n.disk)) c kept.few whole (ap (λ (f : List ℕ). map read_record (slots f)) (finds.durable c left))
             (λ k h. kept.done k (subst (λ (f : List ℕ). is_done (get_or (slots f) k []) ≡ true) (finds.durable c left) h));
         whole = λ yes. (whole, refl);
       }
-  after t old new answered stopped sound (Call.not_found o n leaves ready) = record {
+  after t old new answered stopped sound (SpoolCall.not_found o n leaves ready) = record {
     crash = now o.disk n.disk (HasSlotsOf (may_leave o.disk)) (IsKept t) leaves sound.crash (λ c p. kept_same t p.0 c p.2 (sound.crash p.0 p.1));
     whole = λ yes. false_true n.is_ready (Whole t (slots (seen n.disk))) ready yes;
   }
-  after t old new answered stopped sound (Call.stored r o n before stores ready) =
+  after t old new answered stopped sound (SpoolCall.stored r o n before stores ready) =
       let was = sound.whole before in
       let whole : map read_record (slots (seen n.disk)) ≡ map Some (t.found ++ (t.stored ++ r ∷ [])) =
       ap (λ (ss : List (List ℕ)). map read_record ss) stores.adds ∙ added t r (slots (seen o.disk)) was.0 stores.writes.reads ∙ ap (λ (l : List SpoolRecord). map Some l) (append_assoc t.found t.stored (r ∷ [])) in
-      let kept = seen_kept t o n (reported_stored r) (reported_tried r) sound (Call.stored r o n before stores ready) stores.writes.any_moment.later in
+      let kept = seen_kept t o n (reported_stored r) (reported_tried r) sound (SpoolCall.stored r o n before stores ready) stores.writes.any_moment.later in
       record {
         crash = λ c left. kept_whole (reported_stored r t) (slots (seen n.disk)) c kept.few whole (ap (λ (f : List ℕ). map read_record (slots f)) (stores.durable c left))
             (λ k h. kept.done k (subst (λ (f : List ℕ). is_done (get_or (slots f) k []) ≡ true) (stores.durable c left) h));
         whole = λ yes. (whole, was.1);
       }
-  after t old new answered stopped sound (Call.not_stored r o n before writes ready) = record {
-    crash = λ c left. within t o n (reported_tried r) (reported_tried r) sound (Call.not_stored r o n before writes ready) c (counts_now n.disk (moment o.disk) c writes.any_moment.later left);
+  after t old new answered stopped sound (SpoolCall.not_stored r o n before writes ready) = record {
+    crash = λ c left. within t o n (reported_tried r) (reported_tried r) sound (SpoolCall.not_stored r o n before writes ready) c (counts_now n.disk (moment o.disk) c writes.any_moment.later left);
     whole = λ yes. false_true n.is_ready (Whole (reported_tried r t) (slots (seen n.disk))) ready yes;
   }
-  after t old new answered stopped sound (Call.marks k o n before marks) = record {
-    crash = λ c left. within t o n (reported_done k) (reported_done k) sound (Call.marks k o n before marks) c (counts_now n.disk (moment o.disk) c marks.any_moment.later left);
+  after t old new answered stopped sound (SpoolCall.marks k o n before marks) = record {
+    crash = λ c left. within t o n (reported_done k) (reported_done k) sound (SpoolCall.marks k o n before marks) c (counts_now n.disk (moment o.disk) c marks.any_moment.later left);
     whole = λ yes. (marks.same yes ∙ (sound.whole before).0, (sound.whole before).1);
   }
-  after t old new answered stopped sound (Call.nothing w) = sound
+  after t old new answered stopped sound (SpoolCall.nothing w) = sound
 
-  pub sound : (t : Reported) (w : World D) → History seen may_leave moment left_since t w → Sound t w
+  pub sound : (t : Reported) (w : SpoolState D) → History seen may_leave moment left_since t w → Sound t w
   sound t w (History.began d empty) = record {
     crash = λ c left. subst (IsKept nothing_reported) (sym (empty c left)) nothing_kept;
     whole = λ yes. absurd (true≢false (sym yes));

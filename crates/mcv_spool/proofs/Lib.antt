@@ -5,7 +5,7 @@ pub mod Moments
 pub mod Pieces
 pub mod Records
 pub mod Repair
-pub mod Settled
+pub mod SettledSpool
 pub mod Slots
 pub mod Versions
 pub mod Histories

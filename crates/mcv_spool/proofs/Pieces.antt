@@ -1,7 +1,7 @@
 -- The slots of a file, read piece by piece.
 use Rattle.std.proofs.Common.{◌≡◌, ◌≢◌, inl, inr, ℕ, zero, suc, ◌+◌, ◌*◌, ◌<◌, ◌≤◌, min, true, false, true≢false, List, [], ◌∷◌, ◌++◌, length, map, get_or, take, drop, Option, Some, None, is_none, cond, ◌==◌, ◌||◌, refl, sym, ◌∙◌, ap, arith, append_assoc, append-nil, length-append, length-drop, length-take, take-append-drop, take_all, get_or-take, take-take, drop-drop}
 use Rattle.std.proofs.lemmas.List.{drop-take, length-map, map-append, take_min}
-use Rattle.mcv_spool.specs.Found.{IsFound}
+use Rattle.mcv_spool.specs.FoundFile.{IsFound}
 use Rattle.mcv_spool.specs.File.{damage, is_open, read_record, slots, waiting}
 use Rattle.mcv_spool.proofs.Slots.{open_gate, open_longer, makes_open, shut_short, slots-open, slots-shut, truth}
 use Rattle.mcv_spool.specs.declared.record.SpoolRecord.{SpoolRecord}

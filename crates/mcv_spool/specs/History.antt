@@ -90,16 +90,16 @@ abbrev pub HasNumber : Reported → SpoolRecord → ℕ → Type 0
 HasNumber t r k = (k < length (t.found ++ t.stored)) × (slice_index_or (t.found ++ t.stored) k r ≡ r)
 
 -- Where a run of calls is: the disk, and whether a spool is open on it that doesn't answer Reopen.
-pub record World (D : Type 0) : Type 0 where
+pub record SpoolState (D : Type 0) : Type 0 where
   pub disk : D
   pub is_ready : Bool
 
 -- that of an open spool
-abbrev pub world : {D : Type 0} → D → Bool → World D
-world d needs_reopen = record { disk = d; is_ready = not needs_reopen }
+abbrev pub spool_state : {D : Type 0} → D → Bool → SpoolState D
+spool_state d needs_reopen = record { disk = d; is_ready = not needs_reopen }
 
 -- a disk on which no spool is open
-abbrev pub shut : {D : Type 0} → D → World D
+abbrev pub shut : {D : Type 0} → D → SpoolState D
 shut d = record { disk = d; is_ready = false }
 
 module _ {D : Type 0} (seen : D → List ℕ) (may_leave : D → List ℕ → Type 0) (moment : D → ℕ) (left_since : D → ℕ → List ℕ → Type 0) where
@@ -123,25 +123,25 @@ module _ {D : Type 0} (seen : D → List ℕ) (may_leave : D → List ℕ → Ty
     pub durable : Only (seen new) (may_leave new)
 
   -- A `done` that answers Ok or Device.
-  pub record Marks (k : ℕ) (old new : World D) : Type 0 where
+  pub record Marks (k : ℕ) (old new : SpoolState D) : Type 0 where
     pub any_moment : LeavesOnly moment left_since old.disk new.disk (IsVersion (marked k (slots (seen old.disk))))
     pub same : new.is_ready ≡ true → map read_record (slots (seen new.disk)) ≡ map read_record (slots (seen old.disk))
 
-  -- One call, from one world to another: what it has reported once it has answered, and what where it is stopped.
-  pub data Call : World D → World D → (Reported → Reported) → (Reported → Reported) → Type 0 where
-    found : (records : List SpoolRecord) (old new : World D) → Finds records old.disk new.disk → new.is_ready ≡ true → Call old new (reported_found records) (λ t. t)
-    not_found : (old new : World D) → LeavesOnly moment left_since old.disk new.disk (HasSlotsOf (may_leave old.disk)) → new.is_ready ≡ false → Call old new (λ t. t) (λ t. t)
-    stored : (r : SpoolRecord) (old new : World D) → old.is_ready ≡ true → Stores r old.disk new.disk → new.is_ready ≡ true → Call old new (reported_stored r) (reported_tried r)
-    not_stored : (r : SpoolRecord) (old new : World D) → old.is_ready ≡ true → Appends r old.disk new.disk → new.is_ready ≡ false → Call old new (reported_tried r) (reported_tried r)
-    marks : (k : ℕ) (old new : World D) → old.is_ready ≡ true → Marks k old new → Call old new (reported_done k) (reported_done k)
+  -- One call of a spool, from one state to another: what it has reported once it has answered, and what where it is stopped.
+  pub data SpoolCall : SpoolState D → SpoolState D → (Reported → Reported) → (Reported → Reported) → Type 0 where
+    found : (records : List SpoolRecord) (old new : SpoolState D) → Finds records old.disk new.disk → new.is_ready ≡ true → SpoolCall old new (reported_found records) (λ t. t)
+    not_found : (old new : SpoolState D) → LeavesOnly moment left_since old.disk new.disk (HasSlotsOf (may_leave old.disk)) → new.is_ready ≡ false → SpoolCall old new (λ t. t) (λ t. t)
+    stored : (r : SpoolRecord) (old new : SpoolState D) → old.is_ready ≡ true → Stores r old.disk new.disk → new.is_ready ≡ true → SpoolCall old new (reported_stored r) (reported_tried r)
+    not_stored : (r : SpoolRecord) (old new : SpoolState D) → old.is_ready ≡ true → Appends r old.disk new.disk → new.is_ready ≡ false → SpoolCall old new (reported_tried r) (reported_tried r)
+    marks : (k : ℕ) (old new : SpoolState D) → old.is_ready ≡ true → Marks k old new → SpoolCall old new (reported_done k) (reported_done k)
     -- an `append` that answers Full, Memory or Reopen, or a `done` that answers Reopen
-    nothing : (world : World D) → Call world world (λ t. t) (λ t. t)
+    nothing : (state : SpoolState D) → SpoolCall state state (λ t. t) (λ t. t)
 
   -- Any list of calls, on a file that began empty and that these calls alone wrote: what they have reported, and where they are.
   -- The machine may stop between two calls, or at any moment in one. What goes on from there is a disk with a file that the stop may have left.
-  pub data History : Reported → World D → Type 0 where
+  pub data History : Reported → SpoolState D → Type 0 where
     began : (d : D) → Only [] (may_leave d) → History nothing_reported (shut d)
-    called : (t : Reported) (old new : World D) (answered stopped : Reported → Reported) → History t old → Call old new answered stopped → History (answered t) new
-    stopped_between : (t : Reported) (old : World D) (d : D) → History t old → ((c : List ℕ) → may_leave d c → may_leave old.disk c) → History t (shut d)
-    stopped_within : (t : Reported) (old new : World D) (answered stopped : Reported → Reported) (d : D) → History t old → Call old new answered stopped
+    called : (t : Reported) (old new : SpoolState D) (answered stopped : Reported → Reported) → History t old → SpoolCall old new answered stopped → History (answered t) new
+    stopped_between : (t : Reported) (old : SpoolState D) (d : D) → History t old → ((c : List ℕ) → may_leave d c → may_leave old.disk c) → History t (shut d)
+    stopped_within : (t : Reported) (old new : SpoolState D) (answered stopped : Reported → Reported) (d : D) → History t old → SpoolCall old new answered stopped
         → ((c : List ℕ) → may_leave d c → left_since new.disk (moment old.disk) c) → History (stopped t) (shut d)

@@ -1,7 +1,7 @@
 pub mod Disk
 pub mod Fault
 pub mod File
-pub mod Found
+pub mod FoundFile
 pub mod Version
 pub mod History
 pub mod WorstDisk

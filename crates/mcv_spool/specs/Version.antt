@@ -1,7 +1,7 @@
 -- What a crash may leave of a file: the same records, or these and one more.
 use Rattle.std.specs.Prelude.{◌≡◌, ◌⊎◌, ℕ, true, Option, List, [], ◌∷◌, ◌++◌, map, slice_index_or}
 use Rattle.mcv_spool.specs.File.{slots, read_record, is_done, IsClosed, slot_of}
-use Rattle.mcv_spool.specs.Found.{IsFound}
+use Rattle.mcv_spool.specs.FoundFile.{IsFound}
 use Rattle.mcv_spool.specs.declared.record.SpoolRecord.{SpoolRecord}
 
 -- The file has the records of these slots, each done only where its slot is, and its end gate is closed.

@@ -2,7 +2,7 @@
 
 ghost use Rattle.std.specs.Prelude.{◌≡◌, ℕ, ◌+◌, ◌*◌, ◌<◌, ◌≤◌, ◌↔◌, true, None, Some, IsTrue, IsSome, [], ◌∷◌, ◌++◌, length, map, set, slice_index_or, vec_len, vec_capacity, IfOk, OnOk, is_some, if◌then◌else◌, MatchOption};
 ghost use Rattle.mcv_spool.specs.File.{damage, is_done, read_record, slots, waiting};
-ghost use Rattle.mcv_spool.specs.Found.{IsFindFault};
+ghost use Rattle.mcv_spool.specs.FoundFile.{IsFindFault};
 
 use crate::fault::SpoolFault;
 use crate::record::{CLOSED, PENDING, SpoolRecord, read_record};

@@ -3,7 +3,7 @@
 ghost use Rattle.std.specs.Prelude.{◌≡◌, ℕ, ◌+◌, ◌*◌, ◌<◌, ◌≤◌, min, Some, length, take, drop, IfOk, IsErrOf};
 ghost use Rattle.mcv_spool.specs.Disk.{IsQuiet};
 ghost use Rattle.mcv_spool.specs.File.{damage, slots};
-ghost use Rattle.mcv_spool.specs.Found.{IsFound, IsOpenFault, IsReadFault};
+ghost use Rattle.mcv_spool.specs.FoundFile.{IsFound, IsOpenFault, IsReadFault};
 
 use crate::contents::{Contents, SLOT_SIZE};
 use crate::disk::Disk;

@@ -6,7 +6,7 @@
 ghost use Rattle.std.specs.Prelude.{◌≡◌, ℕ, List, [], ◌∷◌, ◌++◌, length, None};
 ghost use Rattle.mcv_spool.specs.Disk.{Cut, Torn};
 ghost use Rattle.mcv_spool.specs.File.{damage, slots};
-ghost use Rattle.mcv_spool.specs.History.{Finds, History, IsKept, Reported, World};
+ghost use Rattle.mcv_spool.specs.History.{Finds, History, IsKept, Reported, SpoolState};
 ghost use Rattle.mcv_spool.specs.declared.record.SpoolRecord.{SpoolRecord};
 ghost use Rattle.mcv_spool.specs.WorstDisk.{Change, KeepsModel, left_of, left_since_of, read_of};
 
@@ -14,10 +14,10 @@ use crate::disk::Disk;
 
 /// Whatever a crash leaves after any list of calls has what was reported; and that is what the next `open` finds.
 pub fn what_was_reported_is_kept<D: Disk>()
-    ensures kept { D.keeps_model → (reported : Reported) (w : World D) → History D.seen D.may_leave D.moment D.left_since reported w → (file : List ℕ) → D.may_leave w.disk file → IsKept reported file }
-    ensures found { D.keeps_model → (reported : Reported) (w : World D) (records : List SpoolRecord) (new : D) → History D.seen D.may_leave D.moment D.left_since reported w → Finds D.seen D.may_leave D.moment D.left_since records w.disk new → (more : List SpoolRecord) × (others : List SpoolRecord) × (reported.tried ≡ more ++ others) × (records ≡ reported.found ++ reported.stored ++ more) }
+    ensures kept { D.keeps_model → (reported : Reported) (w : SpoolState D) → History D.seen D.may_leave D.moment D.left_since reported w → (file : List ℕ) → D.may_leave w.disk file → IsKept reported file }
+    ensures found { D.keeps_model → (reported : Reported) (w : SpoolState D) (records : List SpoolRecord) (new : D) → History D.seen D.may_leave D.moment D.left_since reported w → Finds D.seen D.may_leave D.moment D.left_since records w.disk new → (more : List SpoolRecord) × (others : List SpoolRecord) × (reported.tried ≡ more ++ others) × (records ≡ reported.found ++ reported.stored ++ more) }
     // No slot of such a file is damaged, so no later `open` or `reopen` answers Damaged.
-    ensures undamaged { D.keeps_model → (reported : Reported) (w : World D) → History D.seen D.may_leave D.moment D.left_since reported w → (file : List ℕ) → D.may_leave w.disk file → damage 0 (slots file) ≡ None }
+    ensures undamaged { D.keeps_model → (reported : Reported) (w : SpoolState D) → History D.seen D.may_leave D.moment D.left_since reported w → (file : List ℕ) → D.may_leave w.disk file → damage 0 (slots file) ≡ None }
 {}
 
 /// The clauses of a disk contradict one another nowhere: one that is empty at first, and of which a crash leaves whatever they allow, meets them.

@@ -3,7 +3,7 @@
 ghost use Rattle.std.specs.Prelude.{◌≡◌, ◌≢◌, ℕ, ◌*◌, ◌^◌, ◌<◌, ◌≤◌, Some, length, IfOk, IfErr, OnOk, OnErr, IsErrOf};
 ghost use Rattle.mcv_spool.specs.Disk.{IsQuiet, LeavesOnly, Only};
 ghost use Rattle.mcv_spool.specs.File.{IsClosed, damage, slots};
-ghost use Rattle.mcv_spool.specs.Found.{IsFound, IsOpenFault};
+ghost use Rattle.mcv_spool.specs.FoundFile.{IsFound, IsOpenFault};
 ghost use Rattle.mcv_spool.specs.Version.{HasSlotsOf};
 
 use crate::contents::{Contents, SLOT_SIZE};

@@ -4,8 +4,8 @@ ghost use Rattle.std.specs.Prelude.{◌≡◌, ◌≢◌, ◌⊎◌, ◌↔◌, 
 ghost use Rattle.std.specs.List.{Contains};
 ghost use Rattle.mcv_spool.specs.Disk.{LeavesOnly, Only};
 ghost use Rattle.mcv_spool.specs.File.{damage, marked, slot_of, slots};
-ghost use Rattle.mcv_spool.specs.Found.{IsAppendFault, IsDoneFault, IsFound, IsOpenFault, WritesNothing};
-ghost use Rattle.mcv_spool.specs.History.{Call, HasNumber, History, Reported, append_reported, append_stopped, done_reported, records_of, reopen_reported, reported_found, shut, world};
+ghost use Rattle.mcv_spool.specs.FoundFile.{IsAppendFault, IsDoneFault, IsFound, IsOpenFault, WritesNothing};
+ghost use Rattle.mcv_spool.specs.History.{SpoolCall, HasNumber, History, Reported, append_reported, append_stopped, done_reported, records_of, reopen_reported, reported_found, shut, spool_state};
 ghost use Rattle.mcv_spool.specs.declared.record.SpoolRecord.{SpoolRecord};
 ghost use Rattle.mcv_spool.specs.Version.{HasSlotsOf, IsBeforeOrAfter, IsSettled, IsVersion};
 
@@ -37,11 +37,11 @@ impl<D: Disk> Spool<D> {
         ensures damaged { D.keeps_model → (k : ℕ) → result ≡ Err (SpoolFault.Damaged k) → damage 0 (slots (D.seen disk)) ≡ Some k }
         // A crash at any moment of the call leaves the records that one before it could have left.
         ensures any_moment { D.keeps_model → IfOk result (λ spool. LeavesOnly D.moment D.left_since disk spool.disk (HasSlotsOf (D.may_leave disk))) }
-        ensures step { D.keeps_model → IfOk result (λ spool. Call D.seen D.may_leave D.moment D.left_since (shut disk) (world spool.disk spool.needs_reopen) (reported_found (records_of (slots (D.seen disk)))) (λ t. t)) }
+        ensures step { D.keeps_model → IfOk result (λ spool. SpoolCall D.seen D.may_leave D.moment D.left_since (shut disk) (spool_state spool.disk spool.needs_reopen) (reported_found (records_of (slots (D.seen disk)))) (λ t. t)) }
         // An `open` that is refused drops its disk. As the disk was last, a call of it had failed where the fault is Device,
         // and where it is another it reads as before; whichever it is, the slots are those of before. A crash at any moment of the call leaves the records that one before it
         // could have left.
-        ensures refused { D.keeps_model → IfErr result (λ fault. (last : D) × Call D.seen D.may_leave D.moment D.left_since (shut disk) (shut last) (λ t. t) (λ t. t) × (fault ≡ SpoolFault.Device → D.failures disk < D.failures last) × (fault ≢ SpoolFault.Device → D.seen last ≡ D.seen disk) × (slots (D.seen last) ≡ slots (D.seen disk))) }
+        ensures refused { D.keeps_model → IfErr result (λ fault. (last : D) × SpoolCall D.seen D.may_leave D.moment D.left_since (shut disk) (shut last) (λ t. t) (λ t. t) × (fault ≡ SpoolFault.Device → D.failures disk < D.failures last) × (fault ≢ SpoolFault.Device → D.seen last ≡ D.seen disk) × (slots (D.seen last) ≡ slots (D.seen disk))) }
         ensures alone { IsOpenFault result }
     {
         let mut disk = disk;
@@ -69,7 +69,7 @@ impl<D: Disk> Spool<D> {
         ensures unwritten { D.keeps_model → IfErr result (λ fault. fault ≢ SpoolFault.Device → D.seen self.new.disk ≡ D.seen self.old.disk) }
         // Where it is refused, what was pending is pending still.
         ensures still_pending { OnErr result (self.new.contents.pending.items ≡ self.old.contents.pending.items) }
-        ensures step { D.keeps_model → Call D.seen D.may_leave D.moment D.left_since (world self.old.disk self.old.needs_reopen) (world self.new.disk self.new.needs_reopen) (reopen_reported result (records_of (slots (D.seen self.old.disk)))) (λ t. t) }
+        ensures step { D.keeps_model → SpoolCall D.seen D.may_leave D.moment D.left_since (spool_state self.old.disk self.old.needs_reopen) (spool_state self.new.disk self.new.needs_reopen) (reopen_reported result (records_of (slots (D.seen self.old.disk)))) (λ t. t) }
         ensures alone { IsOpenFault result }
     {
         self.needs_reopen = true;
@@ -94,7 +94,7 @@ impl<D: Disk> Spool<D> {
         ensures unchanged { WritesNothing result → (self.new.disk ≡ self.old.disk) × (self.new.contents.pending.items ≡ self.old.contents.pending.items) × (self.new.needs_reopen ≡ self.old.needs_reopen) }
         // Whatever refuses it, what was pending is pending still.
         ensures still_pending { OnErr result (self.new.contents.pending.items ≡ self.old.contents.pending.items) }
-        ensures step { D.keeps_model → Call D.seen D.may_leave D.moment D.left_since (world self.old.disk self.old.needs_reopen) (world self.new.disk self.new.needs_reopen) (append_reported result delete) (append_stopped result delete) }
+        ensures step { D.keeps_model → SpoolCall D.seen D.may_leave D.moment D.left_since (spool_state self.old.disk self.old.needs_reopen) (spool_state self.new.disk self.new.needs_reopen) (append_reported result delete) (append_stopped result delete) }
         ensures alone { IsAppendFault result }
     {
         if self.needs_reopen {
@@ -127,7 +127,7 @@ impl<D: Disk> Spool<D> {
         ensures unchanged { IsErrOf result SpoolFault.Reopen → (self.new.disk ≡ self.old.disk) × (self.new.contents.pending.items ≡ self.old.contents.pending.items) × (self.new.needs_reopen ≡ true) }
         // Whatever refuses it, what was pending is pending still, the record of this number too.
         ensures still_pending { OnErr result (self.new.contents.pending.items ≡ self.old.contents.pending.items) }
-        ensures step { D.keeps_model → Call D.seen D.may_leave D.moment D.left_since (world self.old.disk self.old.needs_reopen) (world self.new.disk self.new.needs_reopen) (done_reported result seq) (done_reported result seq) }
+        ensures step { D.keeps_model → SpoolCall D.seen D.may_leave D.moment D.left_since (spool_state self.old.disk self.old.needs_reopen) (spool_state self.new.disk self.new.needs_reopen) (done_reported result seq) (done_reported result seq) }
         ensures alone { IsDoneFault result }
     {
         if self.needs_reopen {
@@ -150,7 +150,7 @@ impl<D: Disk> Spool<D> {
         ensures value { result.now ≡ self.now.contents.pending.items }
         // A record that was reported is missing only where `done` was called for its number. This speaks of a spool that
         // doesn't answer Reopen; a call that is refused leaves all as they were (`still_pending`).
-        ensures kept { D.keeps_model → (reported : Reported) → History D.seen D.may_leave D.moment D.left_since reported (world self.now.disk self.now.needs_reopen) → self.now.needs_reopen ≡ false → (r : SpoolRecord) (k : ℕ) → HasNumber reported r k → Contains reported.done k ⊎ (slice_index_or result.now k None ≡ Some r) }
+        ensures kept { D.keeps_model → (reported : Reported) → History D.seen D.may_leave D.moment D.left_since reported (spool_state self.now.disk self.now.needs_reopen) → self.now.needs_reopen ≡ false → (r : SpoolRecord) (k : ℕ) → HasNumber reported r k → Contains reported.done k ⊎ (slice_index_or result.now k None ≡ Some r) }
     {
         self.contents.slots()
     }

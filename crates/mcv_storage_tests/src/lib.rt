@@ -4,4 +4,6 @@
 #[cfg(test)]
 mod queues;
 #[cfg(test)]
+mod script;
+#[cfg(test)]
 mod spool;

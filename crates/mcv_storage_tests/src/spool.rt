@@ -1,4 +1,5 @@
 //! Records in a file.
 
 mod disk;
+mod play;
 mod runs;

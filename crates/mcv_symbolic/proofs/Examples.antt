@@ -3,10 +3,10 @@ use Rattle.std.proofs.Common.{◌≡◌, ℕ, List, [], ◌∷◌, map, None, re
 use Rattle.mcv_base.specs.declared.operation.Op.TheVariants.{Get, Delete}
 use Rattle.mcv_base.specs.declared.reply.Outcome.TheVariants.{Good, Soft, Error}
 use Rattle.mcv_route.specs.Situation.{asked}
-use Rattle.mcv_route.specs.Tree.{Tree, Trees, pool, null, error, all_sync, all_initial, all_async, failover, miss_failover, none, child}
+use Rattle.mcv_route.specs.Tree.{Tree, Trees, pool, null, error, many, AllSync, AllInitial, AllAsync, Failover, MissFailover, none, child}
 use Rattle.mcv_rules.specs.Plan.{Plan}
 use Rattle.mcv_rules.specs.Plans.{plan}
-use Rattle.mcv_symbolic.specs.Listed.{acknowledged, hits}
+use Rattle.mcv_symbolic.specs.SetLists.{acknowledged, hits}
 use Rattle.mcv_symbolic.specs.Structure.{if_all}
 
 abbrev one : ℕ → Tree
@@ -31,44 +31,44 @@ abbrev readable_of : Tree → List (List ℕ)
 readable_of t = map (λ l. l.position) (hits (plan t (asked Get [] None)))
 
 -- ErrorRoute can't be acknowledged, so the next child is
-row-error_first : acknowledged_of (failover (child error (two a b))) ≡ (1 ∷ []) ∷ []
+row-error_first : acknowledged_of (many Failover (child error (two a b))) ≡ (1 ∷ []) ∷ []
 row-error_first = refl
 
-row-error_first_done : if_all Good (deleted (failover (child error (two a b)))) ≡ Good
+row-error_first_done : if_all Good (deleted (many Failover (child error (two a b)))) ≡ Good
 row-error_first_done = refl
 
 -- NullRoute can't fail, so nothing behind it answers
-row-null_between : readable_of (failover (child a (two null (one 2)))) ≡ (0 ∷ []) ∷ []
+row-null_between : readable_of (many Failover (child a (two null (one 2)))) ≡ (0 ∷ []) ∷ []
 row-null_between = refl
 
 -- an AllSyncRoute with an ErrorRoute always fails
-row-sync_fails : acknowledged_of (failover (two (all_sync (two a error)) b)) ≡ (0 ∷ 0 ∷ []) ∷ (1 ∷ []) ∷ []
+row-sync_fails : acknowledged_of (many Failover (two (many AllSync (two a error)) b)) ≡ (0 ∷ 0 ∷ []) ∷ (1 ∷ []) ∷ []
 row-sync_fails = refl
 
 -- a failover whose first child is an ErrorRoute sends the second at once
-row-first_wave : acknowledged_of (all_initial (two a (failover (two error b)))) ≡ (0 ∷ []) ∷ (1 ∷ 1 ∷ []) ∷ []
+row-first_wave : acknowledged_of (many AllInitial (two a (many Failover (two error b)))) ≡ (0 ∷ []) ∷ (1 ∷ 1 ∷ []) ∷ []
 row-first_wave = refl
 
 -- one whose first child is a pool doesn't
-row-one_wave : acknowledged_of (all_initial (two a (failover (two b a)))) ≡ (0 ∷ []) ∷ (1 ∷ 0 ∷ []) ∷ []
+row-one_wave : acknowledged_of (many AllInitial (two a (many Failover (two b a)))) ≡ (0 ∷ []) ∷ (1 ∷ 0 ∷ []) ∷ []
 row-one_wave = refl
 
-row-miss_first : readable_of (miss_failover (two null a)) ≡ (1 ∷ []) ∷ []
+row-miss_first : readable_of (many MissFailover (two null a)) ≡ (1 ∷ []) ∷ []
 row-miss_first = refl
 
 -- the worst reply is never a hit
-row-sync_never_hits : readable_of (all_sync (two a null)) ≡ []
+row-sync_never_hits : readable_of (many AllSync (two a null)) ≡ []
 row-sync_never_hits = refl
 
-row-sync_hits : readable_of (all_sync (two a b)) ≡ (0 ∷ []) ∷ (1 ∷ []) ∷ []
+row-sync_hits : readable_of (many AllSync (two a b)) ≡ (0 ∷ []) ∷ (1 ∷ []) ∷ []
 row-sync_hits = refl
 
 -- a delete by it can't be acknowledged
-row-never_done : if_all Good (deleted (all_sync (two a error))) ≡ Error
+row-never_done : if_all Good (deleted (many AllSync (two a error))) ≡ Error
 row-never_done = refl
 
 -- a default reply counts
-row-async_done : if_all Good (deleted (all_async (two a b))) ≡ Soft
+row-async_done : if_all Good (deleted (many AllAsync (two a b))) ≡ Soft
 row-async_done = refl
 
 -- a shadow is neither acknowledged nor read

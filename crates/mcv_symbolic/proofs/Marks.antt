@@ -6,11 +6,11 @@ use Rattle.mcv_base.specs.declared.reply.Outcome.{Outcome}
 use Rattle.mcv_base.specs.declared.reply.Outcome.TheVariants.{Good, Soft, Error}
 use Rattle.mcv_route.specs.Outcomes.{Outcomes, Choice}
 use Rattle.mcv_rules.specs.Plan.{Leg, Plan, Send, Reply, Both, Beside, OnError, OnMiss, OnHit, Shadowed, reply, IsMissed}
-use Rattle.mcv_rules.specs.Sound.{IsMarked, IsSized}
+use Rattle.mcv_rules.specs.Soundness.{IsMarked, IsSized}
 use Rattle.mcv_rules.proofs.Sending.{Sends}
-use Rattle.mcv_rules.proofs.Among.{Among, among_left, among_right, among_either}
+use Rattle.mcv_rules.proofs.ListMembers.{Among, among_left, among_right, among_either}
 use Rattle.mcv_symbolic.specs.Structure.{nothing, if_all, Counts, Acknowledged, Hits}
-use Rattle.mcv_symbolic.specs.Listed.{when_error, when_replied, counted, acknowledged, of_both, hits}
+use Rattle.mcv_symbolic.specs.SetLists.{when_error, when_replied, counted, acknowledged, of_both, hits}
 
 pub counts_sent : (t : Plan) (c : Choice) (o : Outcomes) (l : Leg) → IsMarked true t → Counts t o l → Sends t c o l × ((is_counting l.mark) ≡ true)
 counts_sent (Send k) c o l m e = (e, ap (λ n. (is_counting n.mark)) (sym e) ∙ m)

@@ -4,15 +4,15 @@ use Rattle.std.specs.Prelude.{slice_index}
 use Rattle.std.proofs.lemmas.Bool.{cases_eq, eq-eqb, ne_eqb}
 use Rattle.mcv_route.specs.Outcomes.{Choice}
 use Rattle.mcv_rules.specs.Plan.{Leg, Plan}
-use Rattle.mcv_rules.specs.Sound.{IsSized}
-use Rattle.mcv_rules.proofs.Among
-use Rattle.mcv_symbolic.specs.Listed.{acknowledged}
-use Rattle.mcv_symbolic.proofs.OnPlans.{IsAnswered, IsAlwaysAnswered}
+use Rattle.mcv_rules.specs.Soundness.{IsSized}
+use Rattle.mcv_rules.proofs.ListMembers
+use Rattle.mcv_symbolic.specs.SetLists.{acknowledged}
+use Rattle.mcv_symbolic.proofs.JustifiedPlans.{IsAnswered, IsAlwaysAnswered}
 use Rattle.mcv_symbolic.proofs.Marks
 
 -- a leg of this symbol with the server x at index j
 abbrev HasServer : List Leg → ℕ → ℕ → ℕ → Type 0
-HasServer ls s j x = (m : Leg) × Among.Among ls m × (m.symbol ≡ s) × (slice_index m.servers j ≡ x)
+HasServer ls s j x = (m : Leg) × ListMembers.Among ls m × (m.symbol ≡ s) × (slice_index m.servers j ≡ x)
 
 has_or_not : (ls : List Leg) (s j x : ℕ) → HasServer ls s j x ⊎ (HasServer ls s j x → ⊥)
 has_or_not [] s j x = inr (λ h. h.1)

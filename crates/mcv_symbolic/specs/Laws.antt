@@ -5,7 +5,7 @@ use Rattle.mcv_base.specs.declared.operation.Op.TheVariants.{Delete}
 use Rattle.mcv_base.specs.declared.reply.Outcome.TheVariants.{Good, Error}
 use Rattle.mcv_route.specs.Outcomes.{Outcomes, Choice}
 use Rattle.mcv_route.specs.Tree.{Tree}
-use Rattle.mcv_route.specs.WellFormed.{IsWellFormed}
+use Rattle.mcv_route.specs.WellFormedTrees.{IsWellFormed}
 use Rattle.mcv_route.specs.Situation.{asked}
 use Rattle.mcv_route.specs.Replies.{replies}
 use Rattle.mcv_route.specs.Verdict.{IsReachable, IsDone, IsCovered}
@@ -14,7 +14,7 @@ use Rattle.mcv_rules.specs.Plans.{plan}
 use Rattle.mcv_classes.specs.Laws.{AreAlike}
 use Rattle.mcv_symbolic.specs.Sets.{CanHitAt, CanBeAcknowledged, IsCountedAt, IsAcknowledged}
 use Rattle.mcv_symbolic.specs.Structure.{if_all, Acknowledged, Hits}
-use Rattle.mcv_symbolic.specs.Justified.{IsJustified}
+use Rattle.mcv_symbolic.specs.JustifiedRoutes.{IsJustified}
 
 -- ---- the sets don't depend on the choice
 
@@ -30,7 +30,7 @@ abbrev pub AcknowledgedIgnoresTheChoice : Type 0
 AcknowledgedIgnoresTheChoice = (t : Tree) (rest : List ℕ) (since : Option ℕ) (c d : Choice) (p : List ℕ) →
     IsAcknowledged t rest since c p → IsAcknowledged t rest since d p
 
--- ---- they are those that the structure gives, one handle at a time
+-- ---- they are those that the structure of the plan gives, by a rule for each form of a plan
 
 abbrev pub HitsAreExact : Type 0
 HitsAreExact = (t : Tree) (op : Op) (rest : List ℕ) (since : Option ℕ) (c : Choice) (p : List ℕ) →

@@ -1,10 +1,10 @@
-pub mod InMemory
+pub mod LegInMemory
 pub mod Case
 pub mod Sets
 pub mod Structure
-pub mod Listed
-pub mod Shown
-pub mod Tried
-pub mod Justified
+pub mod SetLists
+pub mod ShownAnswers
+pub mod HitSearch
+pub mod JustifiedRoutes
 pub mod Laws
-pub mod Covered
+pub mod CoveredRoutes

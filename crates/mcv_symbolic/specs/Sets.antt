@@ -12,7 +12,7 @@ use Rattle.mcv_route.specs.Launched.{launched}
 use Rattle.mcv_route.specs.Replies.{replies}
 use Rattle.mcv_route.specs.Verdict.{Has, IsReachable, IsHit, IsDone}
 use Rattle.mcv_rules.specs.declared.plan.PlannedLeg.{PlannedLeg}
-use Rattle.mcv_symbolic.specs.InMemory.{pool_of}
+use Rattle.mcv_symbolic.specs.LegInMemory.{pool_of}
 
 -- the leg at the position can be the answer: under some outcomes that can come its hit is among the replies
 abbrev pub CanHitAt : Tree → Situation → Choice → List ℕ → Type 0

@@ -8,7 +8,7 @@ ghost use Rattle.mcv_route.specs.View.{view};
 ghost use Rattle.mcv_rules.specs.Plans.{plan};
 ghost use Rattle.mcv_symbolic.specs.Case.{situation_of};
 ghost use Rattle.mcv_symbolic.specs.Sets.{AreLegsAt, CanBeAcknowledged, CanHitAt, IsAcknowledged};
-ghost use Rattle.mcv_symbolic.specs.Shown.{answers, history_of, leaf_hit};
+ghost use Rattle.mcv_symbolic.specs.ShownAnswers.{answers, history_of, leaf_hit};
 
 use crate::sets::{push_acknowledged, push_hits, reply_if_all};
 use crate::shown::{Added, LegAnswer, push_answers, push_leaf_hit};
@@ -38,7 +38,7 @@ impl<'a> Model for Case<'a> {
     ghost use Rattle.mcv_route.specs.Situation.{asked as asking};
     ghost use Rattle.mcv_route.specs.View.{view as tree_of};
     ghost use Rattle.mcv_rules.specs.Plans.{plan as plan_for};
-    ghost use Rattle.mcv_rules.specs.Whole.{whole_of};
+    ghost use Rattle.mcv_rules.specs.NormalForm.{whole_of};
 
     ghost view = { λ c. record { tree = tree_of c.route.now; op = c.asked.op; rest = c.asked.rest.now; since = option_map (λ m. m.0) c.asked.since } };
 

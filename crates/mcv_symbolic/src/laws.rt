@@ -1,7 +1,7 @@
 //! The laws by which finitely many comparisons decide coverage. They hold of the definitions alone.
 
-ghost use Rattle.mcv_symbolic.specs.Covered.{CoveredByMembers};
-ghost use Rattle.mcv_symbolic.specs.Justified.{SymbolsAreIndependent};
+ghost use Rattle.mcv_symbolic.specs.CoveredRoutes.{CoveredByMembers};
+ghost use Rattle.mcv_symbolic.specs.JustifiedRoutes.{SymbolsAreIndependent};
 ghost use Rattle.mcv_symbolic.specs.Laws.{AcknowledgedIgnoresTheChoice, AcknowledgedIsExact, AcknowledgedIsLeast, AlikeAreCovered, CoveredIsJustified, DoneIgnoresTheChoice, DoneIsExact, HitsAreExact, HitsIgnoreTheChoice};
 
 /// The sets are the same under every choice.
@@ -11,7 +11,7 @@ pub fn sets_ignore_the_choice()
     ensures acknowledged { AcknowledgedIgnoresTheChoice }
 {}
 
-/// The sets are those that the structure of the route gives, one handle at a time.
+/// The sets are those that the structure of the route's plan gives, by a rule for each form of a plan.
 pub fn sets_are_exact()
     ensures hits { HitsAreExact }
     ensures done { DoneIsExact }

@@ -3,9 +3,9 @@
 ghost use Rattle.std.specs.Prelude.{◌≡◌, ◌<◌, ◌++◌, IfOk, List, OnOk, length, map};
 ghost use Rattle.mcv_base.specs.declared.reply.Outcome.TheVariants.{Error as Failed, Good as Done};
 ghost use Rattle.mcv_rules.specs.Plan.{Leg, both, reply};
-ghost use Rattle.mcv_rules.specs.Whole.{all_of, led_by, leg_of, part_of, turns_of, whole_of};
+ghost use Rattle.mcv_rules.specs.NormalForm.{all_of, led_by, leg_of, part_of, turns_of, whole_of};
 ghost use Rattle.mcv_rules.specs.declared.arrival.After.TheVariants.{Error as on_error, Miss as on_miss};
-ghost use Rattle.mcv_symbolic.specs.Listed.{acknowledged, counted, hits, of_both};
+ghost use Rattle.mcv_symbolic.specs.SetLists.{acknowledged, counted, hits, of_both};
 ghost use Rattle.mcv_symbolic.specs.Structure.{after_miss, if_all, nothing};
 
 use mcv_base::Outcome;

@@ -4,10 +4,10 @@ ghost use Rattle.std.specs.Prelude.{◌≡◌, ◌++◌, IfOk, OnOk, Option, len
 ghost use Rattle.mcv_base.specs.declared.reply.Outcome.{Outcome as Outcomes};
 ghost use Rattle.mcv_route.specs.Outcomes.{History};
 ghost use Rattle.mcv_rules.specs.Plan.{Both, Plan as Planned, Send};
-ghost use Rattle.mcv_rules.specs.Whole.{all_of, led_by, leg_of, part_of, turns_of, whole_of};
-ghost use Rattle.mcv_symbolic.specs.Shown.{answers, first_hit, history_of, leaf_hit};
+ghost use Rattle.mcv_rules.specs.NormalForm.{all_of, led_by, leg_of, part_of, turns_of, whole_of};
+ghost use Rattle.mcv_symbolic.specs.ShownAnswers.{answers, first_hit, history_of, leaf_hit};
 ghost use Rattle.mcv_symbolic.specs.Structure.{if_all};
-ghost use Rattle.mcv_symbolic.specs.Tried.{IsAdded, IsLead, IsTried, goes_on_after, is_hit, passed_on};
+ghost use Rattle.mcv_symbolic.specs.HitSearch.{IsAdded, IsLead, IsTried, goes_on_after, is_hit, passed_on};
 
 use mcv_base::{Outcome, Position};
 use mcv_rules::{After, Plan, PlannedLeg};

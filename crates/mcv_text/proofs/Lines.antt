@@ -8,7 +8,7 @@ use Rattle.mcv_base.specs.declared.operation.Op.{Op}
 use Rattle.mcv_base.specs.declared.operation.Op.TheVariants as ops
 use Rattle.mcv_base.specs.Operation.{op_name}
 use Rattle.mcv_text.specs.Line.{LineValue, bad, unknown, said, plain, reads, storing, storing_said, cas_said, touch_said}
-use Rattle.mcv_text.specs.Parsed.{all_three, numbers_said}
+use Rattle.mcv_text.specs.ParsedLine.{all_three, numbers_said}
 use Rattle.mcv_text.specs.Words.{noreply_said, number32_said, number64_said, signed_said}
 
 pub storing_short : (op : Op) (ws : List (List ℕ)) → length ws < 4 → bad ≡ storing_said op ws

@@ -2,7 +2,7 @@ pub mod Refusals
 pub mod Request
 pub mod Words
 pub mod Line
-pub mod Parsed
+pub mod ParsedLine
 pub mod Stream
 pub mod Reader
 pub mod Answer

@@ -4,7 +4,7 @@ ghost use Rattle.std.specs.Prelude.{◌≡◌, ◌≢◌, ◌∷◌, [], IfOk, m
 ghost use Rattle.std.specs.Option.{option_map};
 ghost use Rattle.mcv_base.specs.Operation.{op_name};
 ghost use Rattle.mcv_text.specs.Line.{alone_said, cas_said, delete_said, meaning, plain, reading_said, said, storing, storing_said, touch_said};
-ghost use Rattle.mcv_text.specs.Parsed.{IsSmall, KeysRead, line_value, numbers_said};
+ghost use Rattle.mcv_text.specs.ParsedLine.{IsSmall, KeysRead, line_value, numbers_said};
 ghost use Rattle.mcv_text.specs.Request.{request_value};
 
 use crate::words::{delete_options, line_words, noreply, number32, number64, signed};

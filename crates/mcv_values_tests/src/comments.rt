@@ -1,13 +1,12 @@
 //! Texts and what is left of them. In the tables `^` is a LF, `~` a double quote, `&` a backslash and `_` a space.
 
+use crate::rows::check_bytes;
 use mcv_comments::{CommentFault, strip_comments};
-use std::alloc::{AllocError, Global};
 use std::process::Abort;
-use std::test::Fail;
 
 /// The bytes of a column.
-fn unfolded(alloc: Global, column: &str) -> Result<Vec<u8>, AllocError> {
-    let mut bytes = Vec::new(alloc);
+fn unfolded(rt: &(impl AllocGlobal + Abort), column: &str) -> Vec<u8> {
+    let mut bytes = Vec::new(rt.alloc());
     for byte in column.as_bytes() {
         let meant = match *byte {
             b'^' => b'\n',
@@ -16,9 +15,9 @@ fn unfolded(alloc: Global, column: &str) -> Result<Vec<u8>, AllocError> {
             b'_' => b' ',
             other => other,
         };
-        bytes.push(meant)?;
+        bytes.push(meant).expect(rt, "memory");
     }
-    Ok(bytes)
+    bytes
 }
 
 /// A case a line: its name, the text, and what is left of it.
@@ -39,26 +38,29 @@ a star alone|1*/2|1*/2
 a text that never ends|~a//b|~a//b
 a backslash at the end|~a&|~a&";
 
-/// Each row's text has what is left of it.
-fn check_rows(rt: &impl Abort, alloc: Global, table: &str) -> Result<(), Fail> {
-    for row in table.lines() {
-        let Some((_, columns)) = row.split_once('|') else {
-            return Ok(assert!(rt; false, "{row}"));
-        };
-        let Some((text, left)) = columns.split_once('|') else {
-            return Ok(assert!(rt; false, "{row}"));
-        };
-        let text = unfolded(alloc, text)?;
-        let left = unfolded(alloc, left)?;
-        let kept = strip_comments(alloc, text.as_slice())?;
-        assert!(rt; kept.as_slice() == left.as_slice(), "{row}");
-    }
-    Ok(())
+/// What is left of a column.
+fn stripped(rt: &(impl AllocGlobal + Abort), column: &str) -> Vec<u8> {
+    let text = unfolded(rt, column);
+    strip_comments(rt.alloc(), text.as_slice()).expect(rt, "a text")
+}
+
+/// A row's text has what is left of it.
+fn check_row(rt: &(impl AllocGlobal + Abort), row: &str) {
+    let (_, columns) = row.split_once('|').expect(rt, "a name");
+    let (text, left) = columns.split_once('|').expect(rt, "a text");
+    check_bytes(
+        rt,
+        row,
+        stripped(rt, text).as_slice(),
+        unfolded(rt, left).as_slice(),
+    );
 }
 
 #[test]
-fn comments_are_taken_out(rt: HostRuntime) -> Result<(), Fail> {
-    check_rows(&rt, rt.alloc(), STRIPPED)
+fn comments_are_taken_out(rt: HostRuntime) {
+    for row in STRIPPED.lines() {
+        check_row(&rt, row);
+    }
 }
 
 /// Texts with a comment that doesn't end.
@@ -68,12 +70,18 @@ const OPEN: &str = "/*/
 [~/*~]/*~*
 //*/^/*";
 
+/// Whether a column has a comment that doesn't end.
+fn is_open(rt: &(impl AllocGlobal + Abort), column: &str) -> bool {
+    let text = unfolded(rt, column);
+    matches!(
+        strip_comments(rt.alloc(), text.as_slice()),
+        Err(CommentFault::Open)
+    )
+}
+
 #[test]
-fn comments_without_an_end_are_refused(rt: HostRuntime) -> Result<(), Fail> {
+fn comments_without_an_end_are_refused(rt: HostRuntime) {
     for row in OPEN.lines() {
-        let text = unfolded(rt.alloc(), row)?;
-        let kept = strip_comments(rt.alloc(), text.as_slice());
-        assert!(rt; matches!(kept, Err(CommentFault::Open)), "{row}");
+        assert!(rt; is_open(&rt, row), "{row}");
     }
-    Ok(())
 }

@@ -4,6 +4,8 @@
 #[cfg(test)]
 mod comments;
 #[cfg(test)]
+mod legs;
+#[cfg(test)]
 mod names;
 #[cfg(test)]
 mod protocol;

@@ -3,3 +3,5 @@
 mod items;
 mod replies;
 mod threads;
+
+pub use threads::moved;

@@ -1,50 +1,41 @@
+use crate::rows::check;
 use mcv_base::ServerId;
 use mcv_pools::{Fnv, HashFunc, KeyHash, Servers, Symbol, Symbols, TableHash, choose};
-use std::alloc::Global;
-use std::test::Fail;
+use std::process::Abort;
 
-fn symbol(alloc: Global, salt: &str, n: usize) -> Option<Symbol> {
-    let salt = Vec::from_slice(alloc, salt.as_bytes()).ok()?;
-    Symbol::new(HashFunc::Ch3, salt, n)
+fn symbol(rt: &(impl AllocGlobal + Abort), salt: &str, n: usize) -> Symbol {
+    let salt = Vec::from_slice(rt.alloc(), salt.as_bytes()).expect(rt, "memory");
+    Symbol::new(HashFunc::Ch3, salt, n).expect(rt, "a symbol")
 }
 
 /// The servers of a list, in its order.
-fn servers_of(alloc: Global, list: &str) -> Option<Servers> {
-    let mut servers = Servers::new(alloc);
+fn servers_of(rt: &(impl AllocGlobal + Abort), list: &str) -> Servers {
+    let mut servers = Servers::new(rt.alloc());
     for text in list.split(' ') {
-        servers.insert(text).ok()?;
+        let _ = servers.insert(text).expect(rt, "a server");
     }
-    Some(servers)
+    servers
 }
 
 #[test]
-fn servers_are_numbered_by_first_appearance(rt: HostRuntime) -> Result<(), Fail> {
-    let servers = servers_of(rt.alloc(), "b:1 a:1 b:1 c:1 a:1").ok_or("no servers")?;
-    assert_eq!(rt; servers.len(), 3);
+fn servers_are_numbered_by_first_appearance(rt: HostRuntime) {
+    let servers = servers_of(&rt, "b:1 a:1 b:1 c:1 a:1");
+    check(&rt, servers.len() == 3, "three servers");
     for (id, text) in [(0, "b:1"), (1, "a:1"), (2, "c:1")] {
-        assert!(rt; servers.find(text) == Some(ServerId(id)), "{text}");
-        assert!(rt; servers.text(ServerId(id)) == Some(text), "{text}");
+        check(&rt, servers.find(text) == Some(ServerId(id)), text);
+        check(&rt, servers.text(ServerId(id)) == Some(text), text);
     }
-    assert!(rt; servers.find("c:2").is_none() && servers.text(ServerId(3)).is_none());
-    Ok(())
+    check(&rt, servers.find("c:2").is_none(), "c:2");
+    check(&rt, servers.text(ServerId(3)).is_none(), "no server 3");
 }
 
-/// Symbols with these salts and two servers each.
-fn symbols_of(alloc: Global, salts: &str) -> Option<Symbols> {
-    let mut symbols = Symbols::new(alloc);
-    for salt in salts.split(' ') {
-        let symbol = symbol(alloc, salt, 2)?;
-        symbols.insert(symbol).ok()?;
+/// Symbols with these salts, each with the number of its servers.
+fn symbols_of(rt: &(impl AllocGlobal + Abort), rows: &[(&str, usize)]) -> Symbols {
+    let mut symbols = Symbols::new(rt.alloc());
+    for (salt, n) in rows {
+        let _ = symbols.insert(symbol(rt, salt, *n)).expect(rt, "memory");
     }
-    Some(symbols)
-}
-
-/// Whether the symbol with this salt and so many servers is found there.
-fn is_found(alloc: Global, symbols: &Symbols, salt: &str, n: usize, at: Option<usize>) -> bool {
-    match symbol(alloc, salt, n) {
-        Some(symbol) => symbols.find(&symbol) == at,
-        None => false,
-    }
+    symbols
 }
 
 /// Whether a symbol is of the salt `y` and two servers.
@@ -53,20 +44,19 @@ fn is_of_y(symbol: &Symbol) -> bool {
 }
 
 #[test]
-fn symbols_that_agree_are_one(rt: HostRuntime) -> Result<(), Fail> {
-    let symbols = symbols_of(rt.alloc(), "x y x").ok_or("no symbols")?;
-    assert_eq!(rt; symbols.len(), 2);
+fn symbols_that_agree_are_one(rt: HostRuntime) {
+    let symbols = symbols_of(&rt, &[("x", 2), ("y", 2), ("x", 2)]);
+    check(&rt, symbols.len() == 2, "two symbols");
     for (salt, n, at) in [("x", 2, Some(0)), ("y", 2, Some(1)), ("y", 3, None)] {
-        assert!(rt; is_found(rt.alloc(), &symbols, salt, n, at), "{salt} {n}");
+        check(&rt, symbols.find(&symbol(&rt, salt, n)) == at, salt);
     }
-    assert!(rt; symbols.get(1).is_some_and(is_of_y) && symbols.get(2).is_none());
-    Ok(())
+    check(&rt, symbols.get(1).is_some_and(is_of_y), "the second");
+    check(&rt, symbols.get(2).is_none(), "no third");
 }
 
 /// The index that FNV-1a gives a part, with this salt and as many servers as there can be.
-fn fnv_index(alloc: Global, part: &str, salt: &str) -> Option<usize> {
-    let symbol = symbol(alloc, salt, usize::MAX)?;
-    Some(Fnv.index(&symbol, part.as_bytes()))
+fn fnv_index(rt: &(impl AllocGlobal + Abort), part: &str, salt: &str) -> usize {
+    Fnv.index(&symbol(rt, salt, usize::MAX), part.as_bytes())
 }
 
 #[test]
@@ -76,41 +66,33 @@ fn fnv_has_its_reference_vectors(rt: HostRuntime) {
         ("a", "", 0xaf63_dc4c_8601_ec8c),
         ("foo", "bar", 0x8594_4171_f739_67e8),
     ] {
-        assert!(rt;
-            fnv_index(rt.alloc(), part, salt) == Some(index),
-            "{part}{salt}"
-        );
+        check(&rt, fnv_index(&rt, part, salt) == index, part);
     }
 }
 
 /// The indexes of a part for a symbol of two servers and one of one, and behind them.
-fn choice_of(alloc: Global, part: &[u8]) -> Option<(usize, usize, usize)> {
-    let mut symbols = Symbols::new(alloc);
-    for n in [2, 1] {
-        let symbol = symbol(alloc, "", n)?;
-        symbols.insert(symbol).ok()?;
-    }
-    let choice = choose(alloc, &Fnv, &symbols, part).ok()?;
-    Some((choice.index(0), choice.index(1), choice.index(2)))
+fn choice_of(rt: &(impl AllocGlobal + Abort), part: &[u8]) -> (usize, usize, usize) {
+    let symbols = symbols_of(rt, &[("", 2), ("", 1)]);
+    let choice = choose(rt.alloc(), &Fnv, &symbols, part).expect(rt, "memory");
+    (choice.index(0), choice.index(1), choice.index(2))
 }
 
 #[test]
 fn a_choice_has_an_index_for_each_symbol(rt: HostRuntime) {
-    assert!(rt; choice_of(rt.alloc(), b"a") == Some((0, 0, 0)));
-    assert!(rt; choice_of(rt.alloc(), b"b") == Some((1, 0, 0)));
+    check(&rt, choice_of(&rt, b"a") == (0, 0, 0), "a");
+    check(&rt, choice_of(&rt, b"b") == (1, 0, 0), "b");
 }
 
 /// A hash that has 5 for the part `a`.
-fn list_of_a(alloc: Global) -> Option<TableHash> {
-    let mut rows = Vec::new(alloc);
-    rows.push((Vec::from_slice(alloc, b"a").ok()?, 5)).ok()?;
-    Some(TableHash::new(rows))
+fn list_of_a(rt: &(impl AllocGlobal + Abort)) -> TableHash {
+    let part = Vec::from_slice(rt.alloc(), b"a").expect(rt, "memory");
+    TableHash::new(vec![in rt.alloc(); (part, 5)].expect(rt, "memory"))
 }
 
 #[test]
-fn a_list_answers_for_the_parts_that_it_has(rt: HostRuntime) -> Result<(), Fail> {
-    let hash = list_of_a(rt.alloc()).ok_or("no list")?;
-    let two = symbol(rt.alloc(), "", 2).ok_or("no symbol")?;
-    assert!(rt; hash.index(&two, b"a") == 1 && hash.index(&two, b"c") == 0);
-    Ok(())
+fn a_list_answers_for_the_parts_that_it_has(rt: HostRuntime) {
+    let hash = list_of_a(&rt);
+    let two = symbol(&rt, "", 2);
+    check(&rt, hash.index(&two, b"a") == 1, "a");
+    check(&rt, hash.index(&two, b"c") == 0, "c");
 }

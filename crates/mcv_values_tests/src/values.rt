@@ -1,10 +1,10 @@
+use crate::legs::hit;
+use crate::rows::check;
 use mcv_base::{
     CallId, FixedReply, KeyFault, LegId, Mark, Op, Outcome, Part, Parts, Position, Prefix, Reply,
     Rest, ServerId, ServerText, hashed_part, split_key,
 };
-use std::alloc::{AllocError, Global};
-use std::sync::Arc;
-use std::test::Fail;
+use std::process::Abort;
 
 fn parts<'a>(key: &'a Result<(Prefix, Rest), KeyFault>) -> Option<(&'a [u8], &'a [u8])> {
     match key {
@@ -30,13 +30,9 @@ fn keys_are_cut_behind_the_third_slash(rt: HostRuntime) {
     ];
     for (word, prefix, rest) in cases {
         let key = split_key(word);
-        match parts(&key) {
-            Some((found, more)) => {
-                assert!(rt; found == prefix, "prefix");
-                assert!(rt; more == rest, "rest");
-            }
-            None => assert!(rt; false, "refused"),
-        }
+        let (found, more) = parts(&key).expect(&rt, "a key");
+        check(&rt, found == prefix, "prefix");
+        check(&rt, more == rest, "rest");
     }
 }
 
@@ -52,10 +48,16 @@ fn words_that_are_no_keys_have_their_fault(rt: HostRuntime) {
         (b"/a/b/", Some(KeyFault::NoRest)),
     ];
     for (word, wanted) in cases {
-        assert!(rt; fault(word) == wanted);
+        check(&rt, fault(word) == wanted, "the fault");
     }
-    assert!(rt; KeyFault::Empty.number() == 1 && KeyFault::TooLong.number() == 2);
-    assert!(rt; KeyFault::BadByte.number() == 3 && KeyFault::NoRest.number() == 4);
+    for (fault, number) in [
+        (KeyFault::Empty, 1),
+        (KeyFault::TooLong, 2),
+        (KeyFault::BadByte, 3),
+        (KeyFault::NoRest, 4),
+    ] {
+        check(&rt, fault.number() == number, "the number");
+    }
 }
 
 #[test]
@@ -67,12 +69,10 @@ fn the_part_before_the_first_separator_is_hashed(rt: HostRuntime) {
         (b"ab|#c", b"ab|#c"),
     ];
     for (word, part) in cases {
-        match Rest::of(word) {
-            Some(rest) => assert!(rt; hashed_part(&rest) == part),
-            None => assert!(rt; false, "refused"),
-        }
+        let rest = Rest::of(word).expect(&rt, "a rest");
+        check(&rt, hashed_part(&rest) == part, "the part");
     }
-    assert!(rt; Rest::of(b"").is_none());
+    check(&rt, Rest::of(b"").is_none(), "no rest");
 }
 
 #[test]
@@ -90,49 +90,61 @@ fn operations_have_one_name_each(rt: HostRuntime) {
         Op::Touch,
     ];
     for op in all {
-        assert!(rt; Op::named(op.name().as_bytes()) == Some(op));
-        assert!(rt; op.is(op));
-        assert!(rt; op.is_reading() == (op == Op::Get || op == Op::Gets));
+        check(&rt, Op::named(op.name().as_bytes()) == Some(op), "its name");
+        check(&rt, op.is(op), "itself");
+        check(
+            &rt,
+            op.is_reading() == (op == Op::Get || op == Op::Gets),
+            "reading",
+        );
     }
-    assert!(rt; Op::named(b"incr").is_none());
-    assert!(rt; !Op::Get.is(Op::Gets));
+    check(&rt, Op::named(b"incr").is_none(), "no operation");
+    check(&rt, !Op::Get.is(Op::Gets), "another one");
 }
 
 /// The position that is reached from the root by these steps.
-fn reached(alloc: Global, steps: &[usize]) -> Option<Position> {
-    let mut position = Position::root(alloc);
+fn reached(rt: &(impl AllocGlobal + Abort), steps: &[usize]) -> Position {
+    let mut position = Position::root(rt.alloc());
     for step in steps {
-        position = position.child(alloc, *step).ok()?;
+        position = position.child(rt.alloc(), *step).expect(rt, "memory");
     }
-    Some(position)
+    position
 }
 
-/// Whether a position has this text and is the one with these indexes, and its copy too.
-fn is_spelled(alloc: Global, position: &Position, indexes: &[usize], text: &[u8]) -> Option<bool> {
-    let mut spelled = Vec::new(alloc);
-    position.push_text(&mut spelled).ok()?;
-    let made = Position::at(alloc, indexes).ok()?;
-    let copy = position.copy(alloc).ok()?;
-    Some(spelled.as_slice() == text && position.is(&made) && copy.is(&made))
+/// Whether a position is the one with these indexes, and its copy too.
+fn is_at(rt: &(impl AllocGlobal + Abort), position: &Position, indexes: &[usize]) -> bool {
+    let made = Position::at(rt.alloc(), indexes).expect(rt, "memory");
+    let copy = position.copy(rt.alloc()).expect(rt, "memory");
+    position.is(&made) && copy.is(&made)
+}
+
+/// Whether a position has this text.
+fn has_text(rt: &(impl AllocGlobal + Abort), position: &Position, text: &[u8]) -> bool {
+    let mut spelled = Vec::new(rt.alloc());
+    position.push_text(&mut spelled).expect(rt, "memory");
+    spelled.as_slice() == text
 }
 
 #[test]
-fn positions_have_their_text(rt: HostRuntime) -> Result<(), Fail> {
+fn positions_have_their_text(rt: HostRuntime) {
     let cases: [(&[usize], &[u8]); 3] = [(&[], b"-"), (&[3], b"3"), (&[0, 12], b"0.12")];
     for (indexes, text) in cases {
-        let position = reached(rt.alloc(), indexes).ok_or("no position")?;
-        assert!(rt; is_spelled(rt.alloc(), &position, indexes, text) == Some(true));
-        assert!(rt; is_spelled(rt.alloc(), &position, &[0], b"0") == Some(false));
+        let position = reached(&rt, indexes);
+        check(&rt, has_text(&rt, &position, text), "the text");
+        check(&rt, is_at(&rt, &position, indexes), "the indexes");
+        check(&rt, !has_text(&rt, &position, b"0"), "another text");
+        check(&rt, !is_at(&rt, &position, &[0]), "other indexes");
     }
-    Ok(())
 }
 
-fn hit(alloc: Global) -> Result<Reply, AllocError> {
-    Ok(Reply::Hit {
-        flags: 7,
-        cas: Some(9),
-        body: Arc::new(alloc, Vec::from_slice(alloc, b"x")?)?,
-    })
+/// A hit with flags 7.
+fn hit_of_7(rt: &(impl AllocGlobal + Abort)) -> Reply {
+    hit(rt.alloc(), 7, Some(9), b"x").expect(rt, "memory")
+}
+
+/// An error line.
+fn fault_line(rt: &(impl AllocGlobal + Abort)) -> Reply {
+    Reply::Fault(Vec::from_slice(rt.alloc(), b"ERROR").expect(rt, "memory"))
 }
 
 /// What a reply amounts to; it is let go here.
@@ -141,19 +153,18 @@ fn amounts(reply: Reply) -> Outcome {
 }
 
 #[test]
-fn replies_amount_to_outcomes(rt: HostRuntime) -> Result<(), Fail> {
-    let line = Vec::from_slice(rt.alloc(), b"ERROR")?;
-    assert!(rt; amounts(Reply::Fault(line)) == Outcome::Error);
-    assert!(rt; amounts(hit(rt.alloc())?) == Outcome::Good);
-    assert!(rt; amounts(Reply::NotFound) == Outcome::Soft);
+fn replies_amount_to_outcomes(rt: HostRuntime) {
+    check(&rt, amounts(fault_line(&rt)) == Outcome::Error, "a line");
+    check(&rt, amounts(hit_of_7(&rt)) == Outcome::Good, "a hit");
+    check(&rt, amounts(Reply::NotFound) == Outcome::Soft, "not found");
     for (fixed, outcome) in [
         (FixedReply::Deleted, Outcome::Good),
         (FixedReply::Miss, Outcome::Soft),
         (FixedReply::Lost, Outcome::Error),
     ] {
-        assert!(rt; fixed.outcome() == outcome && Parts::fixed(fixed).outcome() == outcome);
+        check(&rt, fixed.outcome() == outcome, "a fixed one");
+        check(&rt, Parts::fixed(fixed).outcome() == outcome, "its parts");
     }
-    Ok(())
 }
 
 /// Whether a part is a hit with flags 7.
@@ -171,32 +182,61 @@ fn is_in_each_part(parts: Parts) -> bool {
     answers && is_the_hit(&outcome) && is_the_hit(&taken) && is_the_hit(&history)
 }
 
+fn parts_of(rt: &(impl AllocGlobal + Abort), reply: Reply) -> Parts {
+    Parts::new(rt.alloc(), reply).expect(rt, "memory")
+}
+
 #[test]
-fn one_reply_has_three_equal_parts(rt: HostRuntime) -> Result<(), Fail> {
-    let parts = Parts::new(rt.alloc(), hit(rt.alloc())?)?;
-    assert!(rt; is_in_each_part(parts));
-    let (_, taken, _) = Parts::new(rt.alloc(), Reply::Deleted)?.into_parts();
-    assert!(rt; matches!(taken, Part::Fixed(FixedReply::Deleted)));
-    Ok(())
+fn one_reply_has_three_equal_parts(rt: HostRuntime) {
+    check(&rt, is_in_each_part(parts_of(&rt, hit_of_7(&rt))), "a hit");
+    let (_, taken, _) = parts_of(&rt, Reply::Deleted).into_parts();
+    check(
+        &rt,
+        matches!(taken, Part::Fixed(FixedReply::Deleted)),
+        "fixed",
+    );
 }
 
 #[test]
 fn operations_get_replies_of_their_own(rt: HostRuntime) {
-    assert!(rt; Reply::NotFound.may_answer(Op::Delete) && !Reply::NotFound.may_answer(Op::Set));
-    assert!(rt; FixedReply::Exists.may_answer(Op::Cas) && !FixedReply::Exists.may_answer(Op::Add));
-    assert!(rt; Part::Fixed(FixedReply::Lost).may_answer(Op::Touch));
-    assert!(rt; Op::Delete.is_delete() && !Op::Touch.is_delete() && Op::Cas.is_storing());
-    assert!(rt; Mark::Async.is_counting() && !Mark::Shadow.is_counting());
-    assert!(rt; CallId(7).is(CallId(7)) && !LegId(7).is(LegId(8)) && ServerId(1).is(ServerId(1)));
+    check(&rt, Reply::NotFound.may_answer(Op::Delete), "a delete");
+    check(&rt, !Reply::NotFound.may_answer(Op::Set), "a set");
+    check(&rt, FixedReply::Exists.may_answer(Op::Cas), "a cas");
+    check(&rt, !FixedReply::Exists.may_answer(Op::Add), "an add");
+    check(
+        &rt,
+        Part::Fixed(FixedReply::Lost).may_answer(Op::Touch),
+        "a touch",
+    );
+    check(
+        &rt,
+        Op::Delete.is_delete() && !Op::Touch.is_delete(),
+        "deletes",
+    );
+    check(&rt, Op::Cas.is_storing(), "storing");
+    check(
+        &rt,
+        Mark::Async.is_counting() && !Mark::Shadow.is_counting(),
+        "marks",
+    );
+    check(
+        &rt,
+        CallId(7).is(CallId(7)) && !LegId(7).is(LegId(8)),
+        "numbers",
+    );
+    check(&rt, ServerId(1).is(ServerId(1)), "servers");
 }
 
 #[test]
-fn copies_are_equal(rt: HostRuntime) -> Result<(), Fail> {
-    let rest = Rest::of(b"a").ok_or("a rest")?;
-    let other = Rest::of(b"ab").ok_or("a rest")?;
-    assert!(rt; rest.copied() == rest && rest != other);
-    let server = ServerText::of(b"a:1").ok_or("a server")?;
-    let second = ServerText::of(b"a:2").ok_or("a server")?;
-    assert!(rt; server.copied() == server && server != second);
-    Ok(())
+fn copies_are_equal(rt: HostRuntime) {
+    let rest = Rest::of(b"a").expect(&rt, "a rest");
+    let other = Rest::of(b"ab").expect(&rt, "a rest");
+    check(&rt, rest.copied() == rest && rest != other, "rests");
+    let server = ServerText::of(b"a:1").expect(&rt, "a server");
+    let second = ServerText::of(b"a:2").expect(&rt, "a server");
+    check(
+        &rt,
+        server.copied() == server && server != second,
+        "servers",
+    );
 }

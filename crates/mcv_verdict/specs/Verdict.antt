@@ -5,12 +5,12 @@ use Rattle.mcv_cert.specs.Pair.{IsCertificate, PairValue}
 use Rattle.mcv_cert.specs.Reading.{Says, pairs}
 use Rattle.mcv_cert.specs.Text.{certificate_text}
 use Rattle.mcv_route.specs.Routes.{RoutesValue}
-use Rattle.mcv_symbolic.specs.Covered.{AreCovered}
+use Rattle.mcv_symbolic.specs.CoveredRoutes.{AreCovered}
 use Rattle.mcv_blocks.specs.Blocks.{IsJustifiedBy}
-use Rattle.mcv_certify.specs.Picked.{IsPickedOf}
+use Rattle.mcv_certify.specs.PickedReasons.{IsPickedOf}
 use Rattle.mcv_input.specs.Fault.{AreNamedBy}
-use Rattle.mcv_make.specs.First.{IsFirstFinding}
-use Rattle.mcv_make.specs.Shown.{IsShown}
+use Rattle.mcv_make.specs.FirstFinding.{IsFirstFinding}
+use Rattle.mcv_make.specs.ShownFinding.{IsShown}
 use Rattle.mcv_witness.specs.Finding.{FindingValue}
 use Rattle.mcv_witness.specs.Text.{finding_text}
 use Rattle.mcv_verdict.specs.declared.verdict.Judgement.{Judgement}

@@ -4,8 +4,8 @@ use Rattle.std.specs.Prelude.{All, AllPairs}
 use Rattle.std.specs.declared.cmp.Ordering.TheVariants.{Less}
 use Rattle.std.proofs.lemmas.List.Elements.{All-cons, All-nil}
 use Rattle.std.proofs.lemmas.List.Kept.{AllPairs-cons}
-use Rattle.mcv_cert.specs.Pair.{list_cmp}
-use Rattle.mcv_judge.specs.Faults.{AreInOrder, AreLegsRising, IsInOrder, block_cmp}
+use Rattle.mcv_cert.specs.Pair.{list_cmp, spot_cmp}
+use Rattle.mcv_judge.specs.Faults.{AreInOrder, AreLegsRising, IsInOrder}
 use Rattle.mcv_judge.specs.Reason.{BlockValue, LegValue}
 
 none : {X : Type 0} (R : X → X → Type 0) → AllPairs R []
@@ -34,6 +34,6 @@ alone R x = AllPairs-cons R x [] (All-nil (R x)) (none R)
 
 pub block_in_order : (b : BlockValue) → AreLegsRising b.readable → All HasIndex b.readable → AreLegsRising b.acknowledged → AreInOrder (b ∷ [])
 block_in_order b readable indexed acknowledged = record {
-  rising = alone (λ c d. block_cmp c d ≡ Less) b;
+  rising = alone (λ c d. spot_cmp c.spot d.spot ≡ Less) b;
   each = All-cons IsInOrder b [] (record { readable = readable; indexed = indexed; acknowledged = acknowledged }) (All-nil IsInOrder);
 }

@@ -1,7 +1,7 @@
 //! Texts that are read, and texts at fault. In the tables `^` is a LF and `~` a CR.
 
 use mcv_base::Position;
-use mcv_cert::{CertFault, Certificate, Pair, Reason, read_certificate};
+use mcv_cert::{CertFault, Certificate, Pair, Place, Reason, read_certificate};
 use std::alloc::{AllocError, Global};
 use std::process::Abort;
 use std::test::Fail;
@@ -115,13 +115,7 @@ fn all(alloc: Global, index: usize) -> Result<Reason, AllocError> {
 
 /// The pair of the leaf 1 with this reason.
 fn pair(alloc: Global, reason: Reason) -> Result<Pair, AllocError> {
-    Ok(Pair {
-        route: 0,
-        class: Vec::new(alloc),
-        era: 0,
-        leaf: Position::at(alloc, &[1])?,
-        reason,
-    })
+    Ok(Pair::new(place(alloc)?, reason))
 }
 
 fn push_next(
@@ -135,6 +129,16 @@ fn push_next(
     assert!(rt; pair.reason.index() == index, "the index");
     certificate.push(pair)?;
     Ok(())
+}
+
+/// The leaf 1 of the first route, in the first era, for the class of the empty word.
+fn place(alloc: Global) -> Result<Place, AllocError> {
+    Ok(Place {
+        route: 0,
+        class: Vec::new(alloc),
+        era: 0,
+        leaf: Position::at(alloc, &[1])?,
+    })
 }
 
 #[test]

@@ -32,11 +32,11 @@ const LOST: &str = "\
 fn shown(alloc: Global, routes: &Routes, gap: &Gap) -> Result<String, Fail> {
     let mut text = String::new(alloc);
     let server = routes.servers().text(gap.server).unwrap_or("none");
-    let route = gap.route;
-    let word = gap.class.len();
-    let era = gap.era;
+    let route = gap.place.route;
+    let word = gap.place.class.len();
+    let era = gap.place.era;
     write!(text, "{server} {route} {word} {era} ")?;
-    for step in gap.leaf.steps() {
+    for step in gap.place.leaf.steps() {
         write!(text, ".{step}")?;
     }
     let at = gap.at;

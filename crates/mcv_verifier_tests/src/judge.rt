@@ -3,12 +3,12 @@
 
 ghost use Rattle.std.specs.Prelude.{◌≡◌, ◌<◌, ◌∷◌, [], length, All};
 ghost use Rattle.mcv_judge.specs.Faults.{AreLegsRising};
-ghost use Rattle.mcv_judge.specs.InMemory.{legs_of};
+ghost use Rattle.mcv_judge.specs.PairsInMemory.{legs_of};
 
 use crate::built::check_number;
 use mcv_base::{Position, ServerId};
 use mcv_cert::{Certificate, read_certificate};
-use mcv_judge::{Block, Leg, judge};
+use mcv_judge::{Block, Leg, Spot, judge};
 use std::alloc::{AllocError, Global};
 use std::process::Abort;
 use std::test::Fail;
@@ -25,9 +25,11 @@ fn number_reported<'a>(
     requires acknowledged { AreLegsRising (legs_of acknowledged.now) }
 {
     let blocks = [Block {
-        route: 0,
-        class,
-        era: 0,
+        spot: Spot {
+            route: 0,
+            class,
+            era: 0,
+        },
         readable,
         acknowledged,
         can_be_acknowledged: true,

@@ -2,6 +2,7 @@
 
 use crate::built::{check_true, halves, routes};
 use mcv_base::{Op, Outcome, Position, ServerId};
+use mcv_cert::Place;
 use mcv_pools::Choice;
 use mcv_route::Routes;
 use mcv_witness::{Finding, LegOutcome, confirm};
@@ -129,11 +130,13 @@ fn class(word: &str) -> &[u8] {
 /// A finding without a key, read at the root.
 fn empty(alloc: Global) -> Finding {
     Finding {
-        route: 0,
-        class: Vec::new(alloc),
-        era: 0,
+        place: Place {
+            route: 0,
+            class: Vec::new(alloc),
+            era: 0,
+            leaf: Position::root(alloc),
+        },
         key: Vec::new(alloc),
-        leaf: Position::root(alloc),
         at: 0,
         server: ServerId(0),
         choice: Choice::new(Vec::new(alloc)),
@@ -145,11 +148,14 @@ fn empty(alloc: Global) -> Finding {
 
 /// Takes in where the finding of a case is.
 fn set_place(alloc: Global, finding: &mut Finding, case: &str) -> Result<(), Fail> {
-    finding.route = word(case, 1)?.parse::<usize>()?;
-    finding.class.extend_from_slice(class(word(case, 2)?))?;
-    finding.era = word(case, 3)?.parse::<usize>()?;
+    finding.place.route = word(case, 1)?.parse::<usize>()?;
+    finding
+        .place
+        .class
+        .extend_from_slice(class(word(case, 2)?))?;
+    finding.place.era = word(case, 3)?.parse::<usize>()?;
     finding.key.extend_from_slice(word(case, 4)?.as_bytes())?;
-    finding.leaf = position(alloc, word(case, 5)?)?;
+    finding.place.leaf = position(alloc, word(case, 5)?)?;
     Ok(())
 }
 

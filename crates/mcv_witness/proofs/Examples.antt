@@ -14,7 +14,7 @@ use Rattle.mcv_route.specs.Routes.{RoutesValue}
 use Rattle.mcv_route.specs.Situation.{asked}
 use Rattle.mcv_route.specs.Tree.{Tree, pool, warm_up, none}
 use Rattle.mcv_rules.proofs.Verdicts.{reachable_is_closed}
-use Rattle.mcv_symbolic.specs.Covered.{sizes_of}
+use Rattle.mcv_symbolic.specs.CoveredRoutes.{sizes_of}
 use Rattle.mcv_witness.specs.Breaks.{BreaksCoverage, chosen}
 use Rattle.mcv_witness.specs.Finding.{FindingValue}
 use Rattle.mcv_witness.specs.Text.{finding_text}
@@ -35,13 +35,10 @@ routes = record {
 
 abbrev finding : FindingValue
 finding = record {
-  route = 0;
-  class = [];
-  era = 0;
-  key = codes "/././!";
-  leaf = 1 ∷ [];
+  place = record { spot = record { route = 0; class = []; era = 0 }; leaf = 1 ∷ [] };
   at = 0;
   server = 1;
+  key = codes "/././!";
   choice = 0 ∷ [];
   op = Get;
   gets = (0 ∷ [], Soft) ∷ (1 ∷ [], Good) ∷ [];

@@ -1,17 +1,17 @@
-pub mod Each
-pub mod Escaped
+pub mod EachMember
+pub mod EscapedByte
 pub mod Regions
-pub mod Spread
+pub mod LegsAreBelow
 pub mod Tests
-pub mod Gathered
-pub mod Right
+pub mod GatheredChildren
+pub mod WalkIsRight
 pub mod Fronts
-pub mod Selected
+pub mod SelectorWalk
 pub mod Shades
-pub mod Judged
-pub mod Confirmed
+pub mod RouteWalk
+pub mod ConfirmedFindings
 pub mod LongestWord
 pub mod LongestSelected
-pub mod Decided
+pub mod BreakDecision
 pub mod Losses
 mod Examples

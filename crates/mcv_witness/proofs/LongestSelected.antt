@@ -6,7 +6,7 @@ use Rattle.mcv_route.specs.View.{last_view, operation_view, prefix_view, trees_o
 use Rattle.mcv_route.specs.declared.tree.OperationPolicy.{OperationPolicy}
 use Rattle.mcv_route.specs.declared.tree.PrefixPolicy.{PrefixPolicy}
 use Rattle.mcv_route.specs.declared.tree.Route.{Route, OperationSelector, PrefixSelector}
-use Rattle.mcv_rules.specs.Laid.{prefixes_of}
+use Rattle.mcv_rules.specs.PlanInMemory.{prefixes_of}
 use Rattle.mcv_witness.specs.LongestWord.{longest_below, longest_in, longest_of}
 
 below-append : (rest : List ℕ) (ts us : List Tree) (most : ℕ) → longest_below most rest (trees_of (ts ++ us)) ≡ longest_below (longest_below most rest (trees_of ts)) rest (trees_of us)

@@ -8,7 +8,7 @@ use Rattle.mcv_route.proofs.RisingLists.{behind_first, first_or_behind, none_the
 use Rattle.mcv_classes.proofs.Order.{begins-same, shorter-begins}
 use Rattle.mcv_classes.specs.Class.{IsClassWord}
 use Rattle.mcv_classes.specs.Words.{class_words, prefixes_below, prefixes_in}
-use Rattle.mcv_route.specs.Tree.{Tree, Trees, pool, null, error, all_sync, all_initial, all_async, failover, miss_failover, warm_up, migrate, prefix_selector, operation_selector, none, child}
+use Rattle.mcv_route.specs.Tree.{Tree, Trees, pool, null, error, many, warm_up, migrate, prefix_selector, operation_selector, none, child}
 use Rattle.mcv_witness.specs.LongestWord.{longer, longest_below, longest_in, longest_of}
 
 -- ---- over a tree, and over its prefixes
@@ -23,11 +23,7 @@ module _ (rest : List ℕ) where
     in-words (pool p ranges targets) most = below-words targets most
     in-words null most = refl
     in-words error most = refl
-    in-words (all_sync ts) most = below-words ts most
-    in-words (all_initial ts) most = below-words ts most
-    in-words (all_async ts) most = below-words ts most
-    in-words (failover ts) most = below-words ts most
-    in-words (miss_failover ts) most = below-words ts most
+    in-words (many kind ts) most = below-words ts most
     in-words (warm_up cold warm exptime) most =
         ap (λ n. longest_in n rest warm) (in-words cold most) ∙ in-words warm (longest_of most rest (prefixes_in cold)) ∙ sym (longest-append rest (prefixes_in cold) (prefixes_in warm) most)
     in-words (migrate from to start interval) most =

@@ -2,12 +2,8 @@
 use Rattle.std.proofs.Common.{◌≡◌, ◌⊎◌, inl, inr, ⊎_elim, cond, ℕ, zero, suc, Bool, true, false, List, [], ◌∷◌, Option, Some, option_map, refl, sym, ap, ◌∙◌, subst, arith}
 use Rattle.std.specs.Prelude.{slice_get, slice_index}
 use Rattle.std.specs.List.{Contains}
-use Rattle.std.proofs.lemmas.Bool.{false≢true}
 use Rattle.std.proofs.lemmas.List.Elements.{Contains-append_right}
 use Rattle.std.proofs.lemmas.Option.{none-some, same_Some}
-use Rattle.mcv_base.specs.Operation.{is_reading}
-use Rattle.mcv_base.specs.declared.operation.Op.{Op}
-use Rattle.mcv_base.specs.declared.operation.Op.TheVariants.{Get, Gets, Set, Add, Replace, Append, Prepend, Cas, Delete, Touch}
 use Rattle.mcv_base.specs.declared.reply.Outcome.{Outcome}
 use Rattle.mcv_route.proofs.BreakTables.{era_there}
 use Rattle.mcv_route.specs.Launched.{launched}
@@ -16,17 +12,17 @@ use Rattle.mcv_route.specs.Places.{pool_at_position}
 use Rattle.mcv_route.specs.Routes.{RouteEntry}
 use Rattle.mcv_route.specs.Situation.{Situation, asked}
 use Rattle.mcv_route.specs.Tree.{Tree}
-use Rattle.mcv_route.specs.Verdict.{CanHit, Has, IsCovered, IsHit, IsReadable}
+use Rattle.mcv_route.specs.Verdict.{CanHit, Has, IsCovered, IsHit}
 use Rattle.mcv_rules.specs.Plan.{Leg, Plan, Send, Reply, Both, Beside, OnError, OnMiss, OnHit, Shadowed, HitAt, server}
 use Rattle.mcv_rules.specs.Plans.{plan, launch_of}
 use Rattle.mcv_rules.proofs.Leaves.{legs_are_of_pools}
 use Rattle.mcv_rules.proofs.Orders.{same_is}
 use Rattle.mcv_rules.proofs.Sending.{Sends}
 use Rattle.mcv_rules.proofs.Verdicts.{hit_is_planned, sends_has}
-use Rattle.mcv_symbolic.specs.Covered.{sizes_of}
+use Rattle.mcv_symbolic.specs.CoveredRoutes.{sizes_of}
 use Rattle.mcv_witness.specs.Breaks.{FindingsAreLosses, IsLeafOf, IsRead, chosen}
 use Rattle.mcv_witness.specs.Finding.{FindingValue}
-use Rattle.mcv_witness.proofs.Each.{Each}
+use Rattle.mcv_witness.proofs.EachMember.{Each}
 
 -- ---- lists
 
@@ -74,30 +70,18 @@ can_hit f t rest since leaf read =
     let s = asked f.op rest since in
     let c = chosen f in
     let o = outcomes f.gets in
-    let k = (hit_is_planned t s o f.leaf).0 read.hit in
+    let k = (hit_is_planned t s o f.place.leaf).0 read.hit in
     let sends = hit_sent (plan t s) c o k.0 k.1 in
     let own = legs_are_of_pools t f.op rest since c o (launch_of c k.0) (sends_has t s c o (λ m. m ≡ launch_of c k.0) k.0 sends refl) in
     let same = same_Some own.0 leaf.pool (sym own.1 ∙ ap (pool_at_position t) k.2 ∙ leaf.pool_there) in
     let at : server c k.0 ≡ f.server = own.2 ∙ ap (λ p. slice_index p.servers (c p.symbol)) same ∙ ap (λ i. slice_index leaf.pool.servers i) leaf.index ∙ got leaf.pool.servers f.at f.server leaf.server in
     (o, read.reachable, sends_has t s c o (λ l. (l.server.0 ≡ f.server) × IsHit t s o l.position) k.0 sends (at, subst (λ q. IsHit t s o q) (sym k.2) read.hit))
 
-readable : (op : Op) (t : Tree) (rest : List ℕ) (since : Option ℕ) (c : Choice) (x : ℕ) → is_reading op ≡ true → CanHit t (asked op rest since) c x → IsReadable t rest since c x
-readable Get t rest since c x e h = inl h
-readable Gets t rest since c x e h = inr h
-readable Set t rest since c x e h = absurd (false≢true e)
-readable Add t rest since c x e h = absurd (false≢true e)
-readable Replace t rest since c x e h = absurd (false≢true e)
-readable Append t rest since c x e h = absurd (false≢true e)
-readable Prepend t rest since c x e h = absurd (false≢true e)
-readable Cas t rest since c x e h = absurd (false≢true e)
-readable Delete t rest since c x e h = absurd (false≢true e)
-readable Touch t rest since c x e h = absurd (false≢true e)
-
 -- ---- the law
 
 pub findings_are_losses : FindingsAreLosses
 findings_are_losses r f b covered =
-    let e = entry_at r.entries f.route b.tree b.placed.route in
-    let here = subst (λ u. IsCovered (sizes_of r) u b.rest b.since) e.2 (covered e.0 b.rest b.since e.1 b.placed.rest_is (era_there r f.era b.since b.placed.era)) in
+    let e = entry_at r.entries f.place.spot.route b.tree b.placed.route in
+    let here = subst (λ u. IsCovered (sizes_of r) u b.rest b.since) e.2 (covered e.0 b.rest b.since e.1 b.placed.rest_is (era_there r f.place.spot.era b.since b.placed.era)) in
     b.missed.unsent (here (chosen f) (outcomes f.deletes) b.choice b.missed.reachable b.missed.done f.server
-    (readable f.op b.tree b.rest b.since (chosen f) f.server b.read.reading (can_hit f b.tree b.rest b.since b.leaf b.read)))
+    (f.op, b.read.reading, can_hit f b.tree b.rest b.since b.leaf b.read))

@@ -11,7 +11,7 @@ use Rattle.mcv_classes.specs.Class.{IsBefore}
 use Rattle.mcv_classes.proofs.Order.{before-through, not-itself}
 use Rattle.mcv_route.specs.Outcomes.{History}
 use Rattle.mcv_witness.specs.Walk.{is_number, is_below, front, behind, depth_of, Known, below, past}
-use Rattle.mcv_witness.proofs.Each.{Each, each_left, each_right}
+use Rattle.mcv_witness.proofs.EachMember.{Each, each_left, each_right}
 
 -- at the base or below it
 abbrev pub At : List ℕ → List ℕ → Type 0

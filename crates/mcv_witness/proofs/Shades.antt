@@ -8,7 +8,7 @@ use Rattle.mcv_route.specs.Situation.{Situation}
 use Rattle.mcv_route.specs.Tree.{Range}
 use Rattle.mcv_route.specs.View.{ShadowView, shadow_view, view}
 use Rattle.mcv_route.specs.declared.tree.Shadow.{Shadow, out-Shadow}
-use Rattle.mcv_rules.specs.Laid.{ranges_of, targets_of}
+use Rattle.mcv_rules.specs.PlanInMemory.{ranges_of, targets_of}
 use Rattle.mcv_witness.specs.Walk.{Known, below, joined_seen, pass, pass_each, past, shade}
 use Rattle.mcv_witness.specs.declared.seen.Join.TheVariants.{Beside}
 use Rattle.mcv_witness.specs.declared.seen.Seen.{Seen}

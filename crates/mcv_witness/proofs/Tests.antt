@@ -16,7 +16,7 @@ use Rattle.mcv_witness.specs.declared.seen.Join.{Join}
 use Rattle.mcv_witness.specs.declared.seen.Join.TheVariants.{Both, Beside, OnError, OnMiss}
 use Rattle.mcv_witness.specs.declared.seen.Seen.{Seen}
 use Rattle.mcv_witness.specs.declared.seen.SeenReply.{SeenReply}
-use Rattle.mcv_witness.proofs.Each.{Each}
+use Rattle.mcv_witness.proofs.EachMember.{Each}
 
 -- ---- truth values
 

@@ -13,19 +13,19 @@ use Rattle.mcv_route.specs.Routes.{RoutesValue}
 use Rattle.mcv_route.specs.Situation.{asked}
 use Rattle.mcv_route.specs.Tree.{Pool, Tree}
 use Rattle.mcv_route.specs.Verdict.{IsDone, IsHit, IsReachable, IsSent}
-use Rattle.mcv_symbolic.specs.Covered.{AreCovered, sizes_of}
+use Rattle.mcv_symbolic.specs.CoveredRoutes.{AreCovered, sizes_of}
 use Rattle.mcv_witness.specs.Finding.{FindingValue}
 
 -- the finding's route has this tree, its key has this rest, of the route and the class named, and this break opened its era
 pub record IsAtPlace (r : RoutesValue) (f : FindingValue) (t : Tree) (rest : List ℕ) (since : Option ℕ) : Type 0 where
   pub prefix : List ℕ
-  pub route : option_map (λ e. e.tree) (slice_get r.entries f.route) ≡ Some t
+  pub route : option_map (λ e. e.tree) (slice_get r.entries f.place.spot.route) ≡ Some t
   pub word : is_key_word f.key ≡ true
   pub cut : IsCut f.key prefix rest
   pub rest_is : IsRest rest
-  pub selects : route_of_prefix prefix r.entries ≡ Some f.route
-  pub class : IsClassWord (class_words t) rest f.class
-  pub era : IsEraOf r f.era since
+  pub selects : route_of_prefix prefix r.entries ≡ Some f.place.spot.route
+  pub class : IsClassWord (class_words t) rest f.place.spot.class
+  pub era : IsEraOf r f.place.spot.era since
 
 -- the index that the finding gives each symbol
 abbrev pub chosen : FindingValue → Choice
@@ -34,7 +34,7 @@ chosen f = slice_index f.choice
 -- a pool is at the leaf, and has under the choice the index and the server named
 pub record IsLeafOf (f : FindingValue) (t : Tree) : Type 0 where
   pub pool : Pool
-  pub pool_there : pool_at_position t f.leaf ≡ Some pool
+  pub pool_there : pool_at_position t f.place.leaf ≡ Some pool
   pub index : chosen f pool.symbol ≡ f.at
   pub server : slice_get pool.servers f.at ≡ Some f.server
 
@@ -47,7 +47,7 @@ pub record IsRead (f : FindingValue) (t : Tree) (rest : List ℕ) (since : Optio
   pub reading : is_reading f.op ≡ true
   pub rising : AreRising f.gets
   pub reachable : IsReachable t (asked f.op rest since) (chosen f) (outcomes f.gets)
-  pub hit : IsHit t (asked f.op rest since) (outcomes f.gets) f.leaf
+  pub hit : IsHit t (asked f.op rest since) (outcomes f.gets) f.place.leaf
 
 -- the outcomes of the delete can come about, it has a reply that isn't an error, and by then it wasn't sent to the server
 pub record IsMissed (f : FindingValue) (t : Tree) (rest : List ℕ) (since : Option ℕ) : Type 0 where

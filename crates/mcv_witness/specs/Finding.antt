@@ -1,21 +1,18 @@
 -- A finding: a key, a get and a delete of it, by which a server can keep what was deleted (own).
 use Rattle.std.specs.Prelude.{ℕ, List, map}
 use Rattle.mcv_base.specs.declared.operation.Op.{Op}
+use Rattle.mcv_cert.specs.Pair.{PlaceValue, place_of}
 use Rattle.mcv_route.specs.Outcomes.{History}
 use Rattle.mcv_witness.specs.declared.finding.Finding.{Finding}
 use Rattle.mcv_witness.specs.declared.finding.LegOutcome.{LegOutcome}
 
 pub record FindingValue : Type 0 where
-  -- the number of the route, the word of the class, and the number of the era
-  pub route : ℕ
-  pub class : List ℕ
-  pub era : ℕ
-  -- the key word
-  pub key : List ℕ
-  -- the position of the leaf that is read, its index, and the number of its server there
-  pub leaf : List ℕ
+  -- the leaf that is read, its index, and the number of its server there
+  pub place : PlaceValue
   pub at : ℕ
   pub server : ℕ
+  -- the key word
+  pub key : List ℕ
   -- the index of each symbol, by the symbol's number
   pub choice : List ℕ
   -- how the key is read: get or gets
@@ -31,13 +28,10 @@ outcomes_of legs = map (λ l. (l.position, l.outcome)) legs
 -- the finding that is kept so
 abbrev pub finding_of : Finding → FindingValue
 finding_of f = record {
-  route = f.route;
-  class = f.class.items;
-  era = f.era;
-  key = f.key.items;
-  leaf = f.leaf;
+  place = place_of f.place;
   at = f.at;
   server = f.server.0;
+  key = f.key.items;
   choice = f.choice;
   op = f.op;
   gets = outcomes_of f.gets.items;

@@ -1,7 +1,7 @@
 -- How the code finds the length of the class word of a rest. Nothing but private contracts cites this.
 use Rattle.std.specs.Prelude.{ℕ, ◌&&◌, List, [], ◌∷◌, if◌then◌else◌, length, nat_lt}
 use Rattle.mcv_base.specs.Key.{begins_with}
-use Rattle.mcv_route.specs.Tree.{Tree, Trees, pool, null, error, all_sync, all_initial, all_async, failover, miss_failover, warm_up, migrate, prefix_selector, operation_selector, none, child}
+use Rattle.mcv_route.specs.Tree.{Tree, Trees, pool, null, error, many, warm_up, migrate, prefix_selector, operation_selector, none, child}
 
 -- the length of the word, where the rest begins with it and it is longer than so much
 abbrev pub longer : ℕ → List ℕ → List ℕ → ℕ
@@ -18,11 +18,7 @@ abbrev mutual
   longest_in most rest (pool p ranges targets) = longest_below most rest targets
   longest_in most rest null = most
   longest_in most rest error = most
-  longest_in most rest (all_sync ts) = longest_below most rest ts
-  longest_in most rest (all_initial ts) = longest_below most rest ts
-  longest_in most rest (all_async ts) = longest_below most rest ts
-  longest_in most rest (failover ts) = longest_below most rest ts
-  longest_in most rest (miss_failover ts) = longest_below most rest ts
+  longest_in most rest (many kind ts) = longest_below most rest ts
   longest_in most rest (warm_up cold warm exptime) = longest_in (longest_in most rest cold) rest warm
   longest_in most rest (migrate from to start interval) = longest_in (longest_in most rest from) rest to
   longest_in most rest (prefix_selector prefixes ts) = longest_below (longest_of most rest prefixes) rest ts

@@ -72,9 +72,9 @@ lost_line r f = line (codes "lost") (unwrap_or (slice_get r.servers f.server) []
 abbrev pub finding_text : RoutesValue → FindingValue → List ℕ
 finding_text r f =
     lost_line r f
-    ++ line (codes "route") (decimal f.route)
-    ++ line (codes "class") (codes "=" ++ escaped f.class)
-    ++ line (codes "era") (decimal f.era)
+    ++ line (codes "route") (decimal f.place.spot.route)
+    ++ line (codes "class") (codes "=" ++ escaped f.place.spot.class)
+    ++ line (codes "era") (decimal f.place.spot.era)
     ++ line (codes "key") (escaped f.key)
     ++ index_lines f.choice 0 r.symbols
     ++ line (op_name f.op) (answers_text f.op f.gets)

@@ -3,12 +3,13 @@ use Rattle.std.specs.Prelude.{ℕ, suc, Bool, true, false, ◌&&◌, ◌||◌, �
 use Rattle.std.specs.Str.{bytes_eq}
 use Rattle.mcv_base.specs.declared.reply.Outcome.{Outcome}
 use Rattle.mcv_base.specs.declared.reply.Outcome.TheVariants.{Soft, Error}
-use Rattle.mcv_base.specs.Operation.{is_counting, is_reading}
+use Rattle.mcv_base.specs.Operation.{is_counting}
+use Rattle.mcv_route.specs.Misses.{fails_over_on_miss, is_warmed_up}
 use Rattle.mcv_base.specs.Reply.{is_error, is_good, is_missed, badness}
 use Rattle.mcv_route.specs.Children.{child_or, is_within, policy_of, prefix_policy, rest_of, way_of, by_way}
 use Rattle.mcv_route.specs.Outcomes.{Choice, History}
 use Rattle.mcv_route.specs.Situation.{Situation, asynchronous, shadowed, adding}
-use Rattle.mcv_route.specs.Tree.{Range, Tree, Trees, pool, null, error, all_sync, all_initial, all_async, failover, miss_failover, warm_up, migrate, prefix_selector, operation_selector, none, child}
+use Rattle.mcv_route.specs.Tree.{Range, Tree, Trees, pool, null, error, many, AllSync, AllInitial, AllAsync, Failover, MissFailover, warm_up, migrate, prefix_selector, operation_selector, none, child}
 use Rattle.mcv_witness.specs.Finding.{outcomes_of}
 use Rattle.mcv_witness.specs.declared.seen.Join.{Join}
 use Rattle.mcv_witness.specs.declared.seen.Join.TheVariants.{Both, Beside, OnError, OnMiss}
@@ -175,14 +176,14 @@ module _ (leaf : List ℕ) (server : ℕ) (c : Choice) where
         (past_own k)
     pass null s k = finish (at_once Soft) k.legs
     pass error s k = finish (at_once Error) k.legs
-    pass (all_sync ts) s k = gather_all Both (pass_each ts s) (rest_of (pass_each ts s)) k
-    pass (all_initial ts) s k = gather_all Beside (pass_each ts s) (rest_of (pass_each ts (asynchronous s))) k
-    pass (all_async ts) s k = gather Beside 0 (pass_each ts (asynchronous s)) (at_once Soft) k
-    pass (failover ts) s k = gather_all OnError (pass_each ts s) (rest_of (pass_each ts s)) k
-    pass (miss_failover ts) s k =
-        if is_reading s.op then gather_all OnMiss (pass_each ts s) (rest_of (pass_each ts s)) k else only_nth 0 (pass_each ts s) 0 k
+    pass (many AllSync ts) s k = gather_all Both (pass_each ts s) (rest_of (pass_each ts s)) k
+    pass (many AllInitial ts) s k = gather_all Beside (pass_each ts s) (rest_of (pass_each ts (asynchronous s))) k
+    pass (many AllAsync ts) s k = gather Beside 0 (pass_each ts (asynchronous s)) (at_once Soft) k
+    pass (many Failover ts) s k = gather_all OnError (pass_each ts s) (rest_of (pass_each ts s)) k
+    pass (many MissFailover ts) s k =
+        if fails_over_on_miss s.op then gather_all OnMiss (pass_each ts s) (rest_of (pass_each ts s)) k else only_nth 0 (pass_each ts s) 0 k
     pass (warm_up cold warm exptime) s k =
-        if is_reading s.op then warmed (pass cold s) (pass warm s) (pass cold (adding s)) k else only (pass cold s) 0 k
+        if is_warmed_up s.op then warmed (pass cold s) (pass warm s) (pass cold (adding s)) k else only (pass cold s) 0 k
     pass (migrate from to start interval) s k =
         by_way (way_of s start interval) (only (pass from s) 0 k) (only (pass to s) 1 k)
         (gather_all Both (pass from s ∷ pass to s ∷ []) (pass to s ∷ []) k)

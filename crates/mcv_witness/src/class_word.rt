@@ -4,7 +4,7 @@ ghost use Rattle.std.specs.Prelude.{◌≡◌, ◌↔◌, IsTrue, map};
 ghost use Rattle.mcv_classes.specs.Class.{IsClassWord};
 ghost use Rattle.mcv_classes.specs.Words.{class_words};
 ghost use Rattle.mcv_route.specs.View.{last_view, operation_view, prefix_view, trees_of, view};
-ghost use Rattle.mcv_rules.specs.Laid.{children_of, prefixes_of, targets_of};
+ghost use Rattle.mcv_rules.specs.PlanInMemory.{children_of, prefixes_of, targets_of};
 ghost use Rattle.mcv_witness.specs.LongestWord.{longer, longest_below, longest_in, longest_of};
 
 use mcv_base::{Rest, begins_with};
@@ -43,11 +43,7 @@ fn longest(route: &Route, rest: &Rest, most: usize) -> usize
         Route::Pool { leaf: _, shadows } => longest_of_shadows(shadows, rest, most),
         Route::Null => most,
         Route::Error => most,
-        Route::AllSync(children) => longest_of_children(children, rest, most),
-        Route::AllInitial(children) => longest_of_children(children, rest, most),
-        Route::AllAsync(children) => longest_of_children(children, rest, most),
-        Route::Failover(children) => longest_of_children(children, rest, most),
-        Route::MissFailover(children) => longest_of_children(children, rest, most),
+        Route::Many(_, children) => longest_of_children(children, rest, most),
         Route::WarmUp {
             cold,
             warm,

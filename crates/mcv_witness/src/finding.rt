@@ -1,6 +1,7 @@
 //! Findings as they are kept.
 
 use mcv_base::{Op, Outcome, Position, ServerId};
+use mcv_cert::Place;
 use mcv_pools::Choice;
 
 /// What the leg at a position answered.
@@ -13,20 +14,14 @@ pub struct LegOutcome {
 /// A key, and a get and a delete of it, by which a server can keep what was deleted.
 #[derive(Drop)]
 pub struct Finding {
-    /// The number of the route.
-    pub route: usize,
-    /// The word of the class of rests.
-    pub class: Vec<u8>,
-    /// The number of the era.
-    pub era: usize,
-    /// The key word, in the class and of the route.
-    pub key: Vec<u8>,
-    /// The position of the leaf that is read.
-    pub leaf: Position,
+    /// Where the leaf is that is read.
+    pub place: Place,
     /// The index of a server that the choice gives the leaf.
     pub at: usize,
     /// The leaf's server at this index: the one that is lost.
     pub server: ServerId,
+    /// The key word, in the class and of the route.
+    pub key: Vec<u8>,
     /// The index of each symbol.
     pub choice: Choice,
     /// How the key is read: `Get` or `Gets`.

@@ -28,7 +28,7 @@ use std::cmp::Ordering;
 pub fn confirm(routes: &Routes, finding: &Finding) -> bool
     ensures { IsTrue result ↔ BreaksCoverage routes.now (finding_of finding.now) }
 {
-    let Some(place) = place_of(routes, finding) else {
+    let Some(scene) = scene_of(routes, finding) else {
         return false;
     };
     if !is_choice(routes.symbols().as_slice(), &finding.choice) {
@@ -37,55 +37,55 @@ pub fn confirm(routes: &Routes, finding: &Finding) -> bool
     if !has_leaf(routes, finding) {
         return false;
     }
-    if !is_read(&place, finding) {
+    if !is_read(&scene, finding) {
         return false;
     }
-    is_missed(&place, finding)
+    is_missed(&scene, finding)
 }
 
 /// Where a finding is: its route, the rest of its key, and the break that opened its era.
 #[derive(Drop)]
-struct Place<'a> {
+struct Scene<'a> {
     route: &'a Route,
     rest: Rest,
     since: Option<Moment>,
 }
 
-/// The place that the finding names, if there is one.
-fn place_of<'a>(routes: &'a Routes, finding: &Finding) -> Option<Place<'a>>
+/// The scene that the finding names, if there is one.
+fn scene_of<'a>(routes: &'a Routes, finding: &Finding) -> Option<Scene<'a>>
     ensures { MatchOption result (IsNowhere routes.now (finding_of finding.now)) (λ p. IsAtPlace routes.now (finding_of finding.now) (view p.route.now) p.rest (option_map (λ m. m.0) p.since)) }
 {
     match split_key(finding.key.as_slice()) {
-        Ok((prefix, rest)) => place_by(routes, finding, &prefix, rest),
+        Ok((prefix, rest)) => scene_by(routes, finding, &prefix, rest),
         Err(_) => None,
     }
 }
 
 /// The same, of a key with this routing prefix and this rest.
-fn place_by<'a>(
+fn scene_by<'a>(
     routes: &'a Routes,
     finding: &Finding,
     prefix: &Prefix,
     rest: Rest,
-) -> Option<Place<'a>>
+) -> Option<Scene<'a>>
     requires word { is_key_word finding.now.key.items ≡ true }
     requires cut { IsCut finding.now.key.items prefix.now rest }
     ensures { MatchOption result (IsNowhere routes.now (finding_of finding.now)) (λ p. IsAtPlace routes.now (finding_of finding.now) (view p.route.now) p.rest (option_map (λ m. m.0) p.since)) }
 {
     let number = routes.route_of(prefix)?;
-    if number != finding.route {
+    if number != finding.place.route {
         return None;
     }
     let route = routes.route(number)?;
-    if finding.era >= era_count(routes) {
+    if finding.place.era >= era_count(routes) {
         return None;
     }
-    if !is_class_word(route, &rest, finding.class.as_slice()) {
+    if !is_class_word(route, &rest, finding.place.class.as_slice()) {
         return None;
     }
     let _ = rest.as_bytes();
-    let since = opened(routes, finding.era);
-    Some(Place { route, rest, since })
+    let since = opened(routes, finding.place.era);
+    Some(Scene { route, rest, since })
 }
 
 /// Whether each symbol has an index below its number of servers.
@@ -102,9 +102,9 @@ fn is_choice(symbols: &[Symbol], choice: &Choice) -> bool
 
 /// Whether a pool is at the leaf with the index and the server that the finding names.
 fn has_leaf(routes: &Routes, finding: &Finding) -> bool
-    ensures { (t : Tree) → option_map (λ e. e.tree) (slice_get routes.now.entries finding.now.route) ≡ Some t → IsTrue result ↔ IsLeafOf (finding_of finding.now) t }
+    ensures { (t : Tree) → option_map (λ e. e.tree) (slice_get routes.now.entries finding.now.place.route) ≡ Some t → IsTrue result ↔ IsLeafOf (finding_of finding.now) t }
 {
-    let Some(leaf) = routes.leaf_at(finding.route, &finding.leaf) else {
+    let Some(leaf) = routes.leaf_at(finding.place.route, &finding.place.leaf) else {
         return false;
     };
     if finding.choice.index(leaf.symbol) != finding.at {
@@ -152,22 +152,22 @@ fn are_rising(legs: &[LegOutcome]) -> bool
 }
 
 /// What is seen of the finding's route at these outcomes of an operation.
-fn seen(place: &Place, finding: &Finding, op: Op, legs: &[LegOutcome]) -> Option<Seen>
-    ensures { result ≡ pass finding.now.leaf finding.now.server.0 (slice_index finding.now.choice) (view place.now.route.now)
-        (asked op place.now.rest (option_map (λ m. m.0) place.now.since)) (record { legs = outcomes_of legs.now; depth = 0 }) }
+fn seen(scene: &Scene, finding: &Finding, op: Op, legs: &[LegOutcome]) -> Option<Seen>
+    ensures { result ≡ pass finding.now.place.leaf finding.now.server.0 (slice_index finding.now.choice) (view scene.now.route.now)
+        (asked op scene.now.rest (option_map (λ m. m.0) scene.now.since)) (record { legs = outcomes_of legs.now; depth = 0 }) }
 {
     let asked = Asked {
         op,
-        rest: &place.rest,
-        since: place.since,
+        rest: &scene.rest,
+        since: scene.since,
         mark: Mark::Plain,
     };
     let sought = Sought {
-        leaf: &finding.leaf,
+        leaf: &finding.place.leaf,
         server: finding.server,
         choice: &finding.choice,
     };
-    walk(place.route, &asked, &sought, Known { legs, depth: 0 })
+    walk(scene.route, &asked, &sought, Known { legs, depth: 0 })
 }
 
 /// Whether a hit of the leaf is among the replies.
@@ -200,8 +200,8 @@ fn is_past(seen: Option<Seen>) -> bool
 }
 
 /// Whether the get's outcomes can come about, and a hit of the leaf is among its replies.
-fn is_read(place: &Place, finding: &Finding) -> bool
-    ensures { IsTrue result ↔ IsRead (finding_of finding.now) (view place.now.route.now) place.now.rest (option_map (λ m. m.0) place.now.since) }
+fn is_read(scene: &Scene, finding: &Finding) -> bool
+    ensures { IsTrue result ↔ IsRead (finding_of finding.now) (view scene.now.route.now) scene.now.rest (option_map (λ m. m.0) scene.now.since) }
 {
     if !finding.op.is_reading() {
         return false;
@@ -209,15 +209,15 @@ fn is_read(place: &Place, finding: &Finding) -> bool
     if !are_rising(finding.gets.as_slice()) {
         return false;
     }
-    is_hit(seen(place, finding, finding.op, finding.gets.as_slice()))
+    is_hit(seen(scene, finding, finding.op, finding.gets.as_slice()))
 }
 
 /// Whether the delete's outcomes can come about, it has a reply that isn't an error, and the server was sent none of it.
-fn is_missed(place: &Place, finding: &Finding) -> bool
-    ensures { IsTrue result ↔ IsMissed (finding_of finding.now) (view place.now.route.now) place.now.rest (option_map (λ m. m.0) place.now.since) }
+fn is_missed(scene: &Scene, finding: &Finding) -> bool
+    ensures { IsTrue result ↔ IsMissed (finding_of finding.now) (view scene.now.route.now) scene.now.rest (option_map (λ m. m.0) scene.now.since) }
 {
     if !are_rising(finding.deletes.as_slice()) {
         return false;
     }
-    is_past(seen(place, finding, Op::Delete, finding.deletes.as_slice()))
+    is_past(seen(scene, finding, Op::Delete, finding.deletes.as_slice()))
 }

@@ -24,9 +24,9 @@ pub fn finding_text(
 {
     let mut text = Vec::new(alloc);
     push_lost(&mut text, finding, routes)?;
-    push_number_line(&mut text, b"route", finding.route)?;
-    push_class(&mut text, finding.class.as_slice())?;
-    push_number_line(&mut text, b"era", finding.era)?;
+    push_number_line(&mut text, b"route", finding.place.route)?;
+    push_class(&mut text, finding.place.class.as_slice())?;
+    push_number_line(&mut text, b"era", finding.place.era)?;
     push_key(&mut text, finding.key.as_slice())?;
     push_indexes(&mut text, &finding.choice, routes.symbols().as_slice())?;
     push_answers_line(&mut text, finding.op, finding.gets.as_slice())?;
@@ -82,7 +82,7 @@ fn push_key(text: &mut Vec<u8>, key: &[u8]) -> Result<(), AllocError>
 // ---- indexes
 
 /// Adds a byte of a salt: as in a word, but `/` and `=` escaped too.
-#[tactic(auto, using(crate::proofs::Escaped::escaped_one))]
+#[tactic(auto, using(crate::proofs::EscapedByte::escaped_one))]
 fn push_salt_byte(text: &mut Vec<u8>, byte: u8) -> Result<(), AllocError>
     ensures { OnOk result (text.new.items ≡ text.old.items ++ salt_byte byte) }
 {

@@ -2,21 +2,20 @@
 //! counts, where each outcome is of a leg that is sent. It takes no memory.
 
 ghost use Rattle.std.specs.Prelude.{◌≡◌, [], map, slice_index};
-ghost use Rattle.mcv_base.specs.Operation.{is_counting};
 ghost use Rattle.mcv_base.specs.declared.reply.Outcome.TheVariants.{Soft as Missed};
 ghost use Rattle.mcv_route.specs.Children.{is_within, rest_of};
 ghost use Rattle.mcv_route.specs.Situation.{asynchronous, shadowed};
-ghost use Rattle.mcv_route.specs.Tree.{pool};
+ghost use Rattle.mcv_route.specs.Tree.{many, pool};
 ghost use Rattle.mcv_route.specs.View.{pool_view, view};
-ghost use Rattle.mcv_rules.specs.Laid.{children_of, ranges_of, situation_at, targets_of};
+ghost use Rattle.mcv_rules.specs.PlanInMemory.{children_of, ranges_of, situation_at, targets_of};
 ghost use Rattle.mcv_witness.specs.Walk.{at_once, gather, gather_all, known_of, one_more, only, only_nth, shade, walked, walked_each};
 ghost use Rattle.mcv_witness.specs.declared.seen.Join.TheVariants.{Beside as beside};
 
 use crate::known::Known;
 use crate::seen::{Join, Seen, is_good};
-use mcv_base::{Mark, Outcome, Position, ServerId};
+use mcv_base::{Outcome, Position, ServerId};
 use mcv_pools::Choice;
-use mcv_route::{Leaf, Route, Shadow};
+use mcv_route::{Leaf, Many, Route, Shadow};
 use mcv_rules::{Asked, Way, policy_number, prefix_number};
 
 /// What is looked for, and the choice under which.
@@ -38,23 +37,13 @@ pub fn walk(route: &Route, asked: &Asked, sought: &Sought, known: Known) -> Opti
         Route::Pool { leaf, shadows } => walk_pool(leaf, shadows, asked, sought, known),
         Route::Null => known.finish(Seen::at_once(Outcome::Soft)),
         Route::Error => known.finish(Seen::at_once(Outcome::Error)),
-        Route::AllSync(children) => walk_joined(children, asked, sought, Join::Both, known),
-        Route::AllInitial(children) => walk_initial(children, asked, sought, known),
-        Route::AllAsync(children) => walk_unheard(children, &asked.asynchronous(), sought, known),
-        Route::Failover(children) => walk_joined(children, asked, sought, Join::OnError, known),
-        Route::MissFailover(children) => {
-            if asked.op.is_reading() {
-                walk_joined(children, asked, sought, Join::OnMiss, known)
-            } else {
-                walk_first(children, asked, sought, known)
-            }
-        }
+        Route::Many(kind, children) => walk_many(*kind, children, asked, sought, known),
         Route::WarmUp {
             cold,
             warm,
             exptime: _,
         } => {
-            if !asked.op.is_reading() {
+            if !asked.is_warmed_up() {
                 return walk_only(cold, 0, asked, sought, known);
             }
             let (own, past) = known.split(0);
@@ -108,6 +97,32 @@ pub fn walk(route: &Route, asked: &Asked, sought: &Sought, known: Known) -> Opti
                     Some(route) => walk_only(route, number, asked, sought, known),
                     None => known.finish(Seen::at_once(Outcome::Error)),
                 }
+            }
+        }
+    }
+}
+
+/// A handle of this kind with these children.
+#[cycle(walking)]
+fn walk_many(
+    kind: Many,
+    children: &[Route],
+    asked: &Asked,
+    sought: &Sought,
+    known: Known,
+) -> Option<Seen>
+    ensures { result ≡ walked sought.now (many kind (children_of children.now)) (situation_at asked.now []) (known_of known.entry) }
+{
+    match kind {
+        Many::AllSync => walk_joined(children, asked, sought, Join::Both, known),
+        Many::AllInitial => walk_initial(children, asked, sought, known),
+        Many::AllAsync => walk_unheard(children, &asked.asynchronous(), sought, known),
+        Many::Failover => walk_joined(children, asked, sought, Join::OnError, known),
+        Many::MissFailover => {
+            if asked.fails_over_on_miss() {
+                walk_joined(children, asked, sought, Join::OnMiss, known)
+            } else {
+                walk_first(children, asked, sought, known)
             }
         }
     }
@@ -176,7 +191,7 @@ fn walk_pool(
     let own = server_at(&leaf.servers, index);
     let seen = Seen {
         reply,
-        sent: own.0 == sought.server.0 && is_counting(asked.mark),
+        sent: own.0 == sought.server.0 && asked.mark.is_counting(),
     };
     walk_shadows(shadows, &asked.shadowed(), sought, index, seen, past)
 }
@@ -186,12 +201,6 @@ fn server_at(servers: &[ServerId], index: usize) -> ServerId
     ensures { result.0 ≡ slice_index (map (λ s. s.0) servers.now) index }
 {
     servers.get(index).copied().unwrap_or(ServerId(0))
-}
-
-fn is_counting(mark: Mark) -> bool
-    ensures { result ≡ is_counting mark }
-{
-    !matches!(mark, Mark::Shadow)
 }
 
 /// Beside what was seen the targets of the shadows that hold the index.

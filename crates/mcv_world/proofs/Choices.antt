@@ -2,7 +2,7 @@
 use Rattle.std.proofs.Common.{zero, suc, ◌<◌, [], ◌∷◌, ℕ, Option, Some, None, arith}
 use Rattle.std.proofs.lemmas.List.Elements.{All-head, All-tail}
 use Rattle.mcv_pools.specs.Symbol.{SymbolValue}
-use Rattle.mcv_route.proofs.Passed.{since_is_last}
+use Rattle.mcv_route.proofs.OpeningBreak.{since_is_last}
 use Rattle.mcv_route.specs.Eras.{IsEra, IsSince, breaks_of, since_at}
 use Rattle.mcv_world.specs.Laws.{ChosenIsChoice, MomentsHaveEras}
 

@@ -16,11 +16,11 @@ use Rattle.mcv_route.specs.Tree.{Tree, error}
 use Rattle.mcv_route.specs.Launched.{launched}
 use Rattle.mcv_route.specs.Replies.{replies}
 use Rattle.mcv_route.specs.Verdict.{IsCovered, IsLegal, IsReadable, IsSent}
-use Rattle.mcv_rules.proofs.Among.{Among}
-use Rattle.mcv_symbolic.specs.Covered.{AreCovered, sizes_of}
-use Rattle.mcv_world.specs.World.{Place, Queued, Performed, Spooled, Gone, Call, World, tree_of, choice_of, history_of, reply_of, is_counted_delete}
+use Rattle.mcv_rules.proofs.ListMembers.{Among}
+use Rattle.mcv_symbolic.specs.CoveredRoutes.{AreCovered, sizes_of}
+use Rattle.mcv_world.specs.World.{LegState, Queued, Performed, Spooled, Gone, Call, World, tree_of, choice_of, history_of, reply_of, is_counted_delete}
 use Rattle.mcv_world.specs.Moves.{after, run}
-use Rattle.mcv_world.specs.Kept.{KeepsLeg}
+use Rattle.mcv_world.specs.KeptLegs.{KeepsLeg}
 use Rattle.mcv_world.specs.Laws.{IsWorld, LosesNothing, NothingLaunchedIsLost, ReadableIsLaunched, CoveredIsKept, CoveredWorldsAreKept, MovesKeepDeletes}
 use Rattle.mcv_world.proofs.CallsLegs.{among_has, has_among, deletes_send_deletes}
 use Rattle.mcv_world.proofs.Replies.{reply_answer}
@@ -29,7 +29,7 @@ use Rattle.mcv_world.proofs.MovesKeepWorlds.{opening_is_world, moves_keep_worlds
 at_place : {A : Type 0} (xs : List A) (n : ℕ) (x : A) → slice_get xs n ≡ Some x → Contains xs x
 at_place xs n x e = subst (Contains xs) (get_or_from_slice_get xs n x x e) (Contains-get_or xs n x (slice_get_within xs n x e))
 
-not_gone : (place : Place) → place ≢ Gone → (place ≡ Performed) ⊎ (place ≡ Queued) ⊎ (place ≡ Spooled)
+not_gone : (state : LegState) → state ≢ Gone → (state ≡ Performed) ⊎ (state ≡ Queued) ⊎ (state ≡ Spooled)
 not_gone Queued h = inr (inl refl)
 not_gone Performed h = inl refl
 not_gone Spooled h = inr (inr refl)
@@ -72,7 +72,7 @@ module _ (r : RoutesValue) (w : World) (covered : AreCovered r) (i : IsWorld r w
         server = ap (λ l. l.server.0) h.launch ∙ s.2.0;
         deletes = deletes;
         counts = counts;
-        place = not_gone h.leg.place (i.counted h.number h.leg h.there counted);
+        state = not_gone h.leg.state (i.counted h.number h.leg h.there counted);
       }
 
 pub readable_is_launched : ReadableIsLaunched

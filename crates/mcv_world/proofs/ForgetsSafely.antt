@@ -8,9 +8,9 @@ use Rattle.mcv_base.specs.declared.reply.Outcome.{Outcome}
 use Rattle.mcv_route.specs.declared.launch.Launch.{Launch}
 use Rattle.mcv_route.specs.Outcomes.{outcomes}
 use Rattle.mcv_route.specs.Routes.{RoutesValue}
-use Rattle.mcv_world.specs.World.{Place, Queued, Performed, Spooled, Gone, Call, Leg, World, history_of, launched_by, reply_of, is_counted_delete, is_queued, is_spooled, put}
-use Rattle.mcv_world.specs.Moves.{Move, Began, Answered, WasSpooled, WasRefused, WasPerformed, EraBegan, Taken, counted_as, is_error_reply, is_one, has_no_outcome, is_awaited, can_be_answered, can_be_spooled, can_be_refused, can_be_taken, is_move, queued, queue, new_call, began, with_reply, launched_since, recorded_by, recorded_if, recorded_for, placed, answered_place, with_taken, with_leg, with_call, changed, after}
-use Rattle.mcv_world.specs.Live.{has_ended, running, live_at, live_leg, live_of}
+use Rattle.mcv_world.specs.World.{LegState, Queued, Performed, Spooled, Gone, Call, Leg, World, history_of, launched_by, reply_of, is_counted_delete, is_queued, is_spooled, put}
+use Rattle.mcv_world.specs.Moves.{Move, Began, Answered, WasSpooled, WasRefused, WasPerformed, EraBegan, Taken, counted_as, is_error_reply, is_one, has_no_outcome, is_awaited, can_be_answered, can_be_spooled, can_be_refused, can_be_taken, is_move, queued, queue, new_call, began, with_reply, launched_since, recorded_by, recorded_if, recorded_for, with_leg_state, answered_state, with_taken, with_leg, with_call, changed, after}
+use Rattle.mcv_world.specs.LiveWorld.{has_ended, running, live_in, live_leg, live_of}
 use Rattle.mcv_world.proofs.CallsLegs.{all_at}
 use Rattle.mcv_world.specs.Laws.{IsWorld, ForgetsSafely, MovesAreLive, MovesOfEveryWorld}
 
@@ -34,15 +34,15 @@ twice_running r (Some call) = by_cases (has_ended r call) refl
     by_cases true e = refl
     by_cases false e = ap (λ b. cond b None (Some call)) e
 
-twice_placed : (s : Leg) (p : Place) → s.place ≡ p → live_leg (live_at s p) ≡ live_at s p
-twice_placed s Queued e = ap (live_at s) e
-twice_placed s Performed e = refl
-twice_placed s Spooled e = ap (live_at s) e
-twice_placed s Gone e = refl
+twice_in_state : (s : Leg) (p : LegState) → s.state ≡ p → live_leg (live_in s p) ≡ live_in s p
+twice_in_state s Queued e = ap (live_in s) e
+twice_in_state s Performed e = refl
+twice_in_state s Spooled e = ap (live_in s) e
+twice_in_state s Gone e = refl
 
 pub twice_live_leg : (o : Option Leg) → live_leg (live_leg o) ≡ live_leg o
 twice_live_leg None = refl
-twice_live_leg (Some s) = twice_placed s s.place refl
+twice_live_leg (Some s) = twice_in_state s s.state refl
 
 pub with_live : (r : RoutesValue) (w : World) → Alike r w (live_of r w)
 with_live r w = record { calls = λ k. sym (twice_running r (w.calls k)); legs = λ n. sym (twice_live_leg (w.legs n)); since = refl; next_call = refl; next_leg = refl }
@@ -63,9 +63,9 @@ queue_live_leg f g n k rest (l ∷ ls) e m =
     queue_live_leg (put f n (Some (queued k rest l))) (put g n (Some (queued k rest l))) (suc n) k rest ls (λ j. put_live_leg (nat_eq n j) (Some (queued k rest l)) (f j) (g j) (e j)) m
 
 module _ (r : RoutesValue) (w v : World) (a : Alike r w v) where
-  pub alike_placed : (n : ℕ) (s : Leg) (place : Place) → Alike r (placed w n s place) (placed v n s place)
-  alike_placed n s place =
-      record { calls = a.calls; legs = λ m. put_live_leg (nat_eq n m) (Some (record s { place = place })) (w.legs m) (v.legs m) (a.legs m); since = a.since; next_call = a.next_call; next_leg = a.next_leg }
+  pub alike_with_state : (n : ℕ) (s : Leg) (state : LegState) → Alike r (with_leg_state w n s state) (with_leg_state v n s state)
+  alike_with_state n s state =
+      record { calls = a.calls; legs = λ m. put_live_leg (nat_eq n m) (Some (record s { state = state })) (w.legs m) (v.legs m) (a.legs m); since = a.since; next_call = a.next_call; next_leg = a.next_leg }
 
   alike_put : (k : ℕ) (call : Call) → Alike r (record w { calls = put w.calls k (Some call) }) (record v { calls = put v.calls k (Some call) })
   alike_put k call =
@@ -140,11 +140,11 @@ one_running r (Some call) test quiet = by_cases (has_ended r call) (quiet call r
     by_cases true q = q refl
     by_cases false q = refl
 
-one_live_leg : (o : Option Leg) (f g : Leg → Bool) → ((s : Leg) → o ≡ Some s → f s ≡ g s) → ((s : Leg) → s.place ≡ Performed → f s ≡ false) → ((s : Leg) → s.place ≡ Gone → f s ≡ false) → is_one o f ≡ is_one (live_leg o) g
+one_live_leg : (o : Option Leg) (f g : Leg → Bool) → ((s : Leg) → o ≡ Some s → f s ≡ g s) → ((s : Leg) → s.state ≡ Performed → f s ≡ false) → ((s : Leg) → s.state ≡ Gone → f s ≡ false) → is_one o f ≡ is_one (live_leg o) g
 one_live_leg None f g same performed gone = refl
-one_live_leg (Some s) f g same performed gone = by_cases s.place refl
+one_live_leg (Some s) f g same performed gone = by_cases s.state refl
   where
-    by_cases : (p : Place) → s.place ≡ p → f s ≡ is_one (live_at s p) g
+    by_cases : (p : LegState) → s.state ≡ p → f s ≡ is_one (live_in s p) g
     by_cases Queued e = same s refl
     by_cases Performed e = performed s e
     by_cases Spooled e = same s refl
@@ -160,27 +160,27 @@ taken_ended r call e = ap (λ b. not b && is_some (reply_of r call)) (and_parts 
 pub moves_are_live : MovesAreLive
 moves_are_live r w (Began op route rest choice) i = refl
 moves_are_live r w (Answered n x) i = one_live_leg (w.legs n) (can_be_answered w x) (can_be_answered (live_of r w) x)
-    (λ s at. ap (λ b. is_queued s.place && (b && not (is_counted_delete s && is_error_reply (counted_as s.launch.op x)))) (awaited_live r w s s.call (quiet r w i n s at)))
+    (λ s at. ap (λ b. is_queued s.state && (b && not (is_counted_delete s && is_error_reply (counted_as s.launch.op x)))) (awaited_live r w s s.call (quiet r w i n s at)))
     (λ s e. ap (λ p. is_queued p && (is_awaited w s s.call && not (is_counted_delete s && is_error_reply (counted_as s.launch.op x)))) e)
     (λ s e. ap (λ p. is_queued p && (is_awaited w s s.call && not (is_counted_delete s && is_error_reply (counted_as s.launch.op x)))) e)
 moves_are_live r w (WasSpooled n) i = one_live_leg (w.legs n) can_be_spooled can_be_spooled (λ s at. refl) (λ s e. ap (λ p. is_queued p && is_counted_delete s) e) (λ s e. ap (λ p. is_queued p && is_counted_delete s) e)
 moves_are_live r w (WasRefused n) i = one_live_leg (w.legs n) (can_be_refused w) (can_be_refused (live_of r w))
-    (λ s at. ap (λ b. is_queued s.place && (b && is_counted_delete s)) (awaited_live r w s s.call (quiet r w i n s at)))
+    (λ s at. ap (λ b. is_queued s.state && (b && is_counted_delete s)) (awaited_live r w s s.call (quiet r w i n s at)))
     (λ s e. ap (λ p. is_queued p && (is_awaited w s s.call && is_counted_delete s)) e)
     (λ s e. ap (λ p. is_queued p && (is_awaited w s s.call && is_counted_delete s)) e)
-moves_are_live r w (WasPerformed n) i = one_live_leg (w.legs n) (λ s. is_spooled s.place) (λ s. is_spooled s.place) (λ s at. refl) (λ s e. ap is_spooled e) (λ s e. ap is_spooled e)
+moves_are_live r w (WasPerformed n) i = one_live_leg (w.legs n) (λ s. is_spooled s.state) (λ s. is_spooled s.state) (λ s at. refl) (λ s e. ap is_spooled e) (λ s e. ap is_spooled e)
 moves_are_live r w (EraBegan since) i = refl
 moves_are_live r w (Taken k) i = one_running r (w.calls k) (can_be_taken r) (λ call e f. taken_ended r call f)
 
 -- ---- what they change
 
 leg_alike : (r : RoutesValue) (w v : World) (o : Option Leg) (test : Leg → Bool) (f g : Leg → World) → is_one o test ≡ true
-    → ((s : Leg) → o ≡ Some s → Alike r (f s) (g s)) → ((s : Leg) → s.place ≡ Performed → test s ≡ false) → ((s : Leg) → s.place ≡ Gone → test s ≡ false)
+    → ((s : Leg) → o ≡ Some s → Alike r (f s) (g s)) → ((s : Leg) → s.state ≡ Performed → test s ≡ false) → ((s : Leg) → s.state ≡ Gone → test s ≡ false)
     → Alike r (with_leg w o f) (with_leg v (live_leg o) g)
 leg_alike r w v None test f g e same performed gone = absurd (true≢false (sym e))
-leg_alike r w v (Some s) test f g e same performed gone = by_cases s.place refl
+leg_alike r w v (Some s) test f g e same performed gone = by_cases s.state refl
   where
-    by_cases : (p : Place) → s.place ≡ p → Alike r (f s) (with_leg v (live_at s p) g)
+    by_cases : (p : LegState) → s.state ≡ p → Alike r (f s) (with_leg v (live_in s p) g)
     by_cases Queued q = same s refl
     by_cases Performed q = absurd (true≢false (sym e ∙ performed s q))
     by_cases Spooled q = same s refl
@@ -196,15 +196,15 @@ taken_alike r w k (Some call) e = by_cases (has_ended r call) (taken_ended r cal
     by_cases true q = absurd (true≢false (sym e ∙ q refl))
     by_cases false q = alike_put r w (live_of r w) (with_live r w) k (with_taken call)
 
-recorded_alike : (r : RoutesValue) (w : World) → IsWorld r w → (n : ℕ) (s : Leg) (place : Place) (x : ReplyValue) → w.legs n ≡ Some s
-    → Alike r (recorded_for r (placed w n s place) s x s.call) (recorded_for r (placed (live_of r w) n s place) s x s.call)
-recorded_alike r w i n s place x at =
-    alike_recorded_for r (placed w n s place) (placed (live_of r w) n s place) (alike_placed r w (live_of r w) (with_live r w) n s place) s x s.call (λ k. refl) (quiet r w i n s at)
+recorded_alike : (r : RoutesValue) (w : World) → IsWorld r w → (n : ℕ) (s : Leg) (state : LegState) (x : ReplyValue) → w.legs n ≡ Some s
+    → Alike r (recorded_for r (with_leg_state w n s state) s x s.call) (recorded_for r (with_leg_state (live_of r w) n s state) s x s.call)
+recorded_alike r w i n s state x at =
+    alike_recorded_for r (with_leg_state w n s state) (with_leg_state (live_of r w) n s state) (alike_with_state r w (live_of r w) (with_live r w) n s state) s x s.call (λ k. refl) (quiet r w i n s at)
 
 changed_alike : (r : RoutesValue) (w : World) (m : Move) → IsWorld r w → is_move r w m ≡ true → Alike r (changed r w m) (changed r (live_of r w) m)
 changed_alike r w (Began op route rest choice) i e = alike_began r w (live_of r w) (with_live r w) (new_call w op route rest choice)
 changed_alike r w (Answered n x) i e = leg_alike r w (live_of r w) (w.legs n) (can_be_answered w x) _ _ e
-    (λ s at. recorded_alike r w i n s (answered_place s.launch.op (counted_as s.launch.op x)) (counted_as s.launch.op x) at)
+    (λ s at. recorded_alike r w i n s (answered_state s.launch.op (counted_as s.launch.op x)) (counted_as s.launch.op x) at)
     (λ s q. ap (λ p. is_queued p && (is_awaited w s s.call && not (is_counted_delete s && is_error_reply (counted_as s.launch.op x)))) q)
     (λ s q. ap (λ p. is_queued p && (is_awaited w s s.call && not (is_counted_delete s && is_error_reply (counted_as s.launch.op x)))) q)
 changed_alike r w (WasSpooled n) i e = leg_alike r w (live_of r w) (w.legs n) can_be_spooled _ _ e (λ s at. recorded_alike r w i n s Spooled not_found at)
@@ -213,7 +213,7 @@ changed_alike r w (WasRefused n) i e = leg_alike r w (live_of r w) (w.legs n) (c
     (λ s at. alike_recorded_for r w (live_of r w) (with_live r w) s (fixed_value Lost) s.call (λ k. refl) (quiet r w i n s at))
     (λ s q. ap (λ p. is_queued p && (is_awaited w s s.call && is_counted_delete s)) q)
     (λ s q. ap (λ p. is_queued p && (is_awaited w s s.call && is_counted_delete s)) q)
-changed_alike r w (WasPerformed n) i e = leg_alike r w (live_of r w) (w.legs n) (λ s. is_spooled s.place) _ _ e (λ s at. alike_placed r w (live_of r w) (with_live r w) n s Performed) (λ s q. ap is_spooled q) (λ s q. ap is_spooled q)
+changed_alike r w (WasPerformed n) i e = leg_alike r w (live_of r w) (w.legs n) (λ s. is_spooled s.state) _ _ e (λ s at. alike_with_state r w (live_of r w) (with_live r w) n s Performed) (λ s q. ap is_spooled q) (λ s q. ap is_spooled q)
 changed_alike r w (EraBegan since) i e = let a = with_live r w in record { calls = a.calls; legs = a.legs; since = refl; next_call = refl; next_leg = refl }
 changed_alike r w (Taken k) i e = taken_alike r w k (w.calls k) e
 

@@ -11,9 +11,9 @@ use Rattle.mcv_route.specs.Routes.{RoutesValue}
 use Rattle.mcv_rules.specs.Laws.{Extends}
 use Rattle.mcv_rules.proofs.Orders.{one_more}
 use Rattle.mcv_rules.proofs.Verdicts.{sent_stays}
-use Rattle.mcv_world.specs.World.{Place, Queued, Performed, Spooled, Gone, Call, Leg, World, tree_of, situation_of, choice_of, history_of, launched_by, reply_of, is_counted_delete, put}
-use Rattle.mcv_world.specs.Moves.{Move, Began, Answered, WasSpooled, WasRefused, WasPerformed, EraBegan, Taken, counted_as, is_error_reply, is_one, has_no_outcome, can_be_answered, can_be_spooled, can_be_refused, can_be_taken, is_move, queued, new_call, began, with_reply, launched_since, recorded_by, recorded_if, recorded_for, placed, answered_place, with_taken, with_leg, with_call, changed, after, run}
-use Rattle.mcv_world.specs.Possible.{IsAllowed, ArePossible}
+use Rattle.mcv_world.specs.World.{LegState, Queued, Performed, Spooled, Gone, Call, Leg, World, tree_of, situation_of, choice_of, history_of, launched_by, reply_of, is_counted_delete, put}
+use Rattle.mcv_world.specs.Moves.{Move, Began, Answered, WasSpooled, WasRefused, WasPerformed, EraBegan, Taken, counted_as, is_error_reply, is_one, has_no_outcome, can_be_answered, can_be_spooled, can_be_refused, can_be_taken, is_move, queued, new_call, began, with_reply, launched_since, recorded_by, recorded_if, recorded_for, with_leg_state, answered_state, with_taken, with_leg, with_call, changed, after, run}
+use Rattle.mcv_world.specs.PossibleMoves.{IsAllowed, ArePossible}
 use Rattle.mcv_world.specs.Laws.{Launches, IsCall, HasLeg, IsWorld, OpeningIsWorld, MovesKeepWorlds}
 use Rattle.mcv_world.proofs.Numbers.{same_some, none_when, no_some, put_same, put_other, put_cases, queue_old, queue_new, queue_back, new_or_old, new_is}
 use Rattle.mcv_world.proofs.CallsLegs.{among_has, one_leg_later}
@@ -42,27 +42,27 @@ opening_is_world r w o =
       era = o.era;
     }
 
--- ---- a leg is placed
+-- ---- a leg comes to a state
 
-module _ (r : RoutesValue) (w : World) (n : ℕ) (s : Leg) (place : Place) (i : IsWorld r w) (at : w.legs n ≡ Some s) where
+module _ (r : RoutesValue) (w : World) (n : ℕ) (s : Leg) (state : LegState) (i : IsWorld r w) (at : w.legs n ≡ Some s) where
   moved : Leg
-  moved = record s { place = place }
+  moved = record s { state = state }
 
   abbrev legs2 : ℕ → Option Leg
-  legs2 = put w.legs n (Some (record s { place = place }))
+  legs2 = put w.legs n (Some (record s { state = state }))
 
   -- what the leg there was
-  was : (m : ℕ) (z : Leg) → legs2 m ≡ Some z → (v : Leg) × (w.legs m ≡ Some v) × (z.call ≡ v.call) × (z.launch ≡ v.launch) × (z.rest ≡ v.rest) × ((z.place ≡ place) × (v ≡ s) ⊎ (z.place ≡ v.place))
+  was : (m : ℕ) (z : Leg) → legs2 m ≡ Some z → (v : Leg) × (w.legs m ≡ Some v) × (z.call ≡ v.call) × (z.launch ≡ v.launch) × (z.rest ≡ v.rest) × ((z.state ≡ state) × (v ≡ s) ⊎ (z.state ≡ v.state))
   was m z e =
-      elim (put_cases w.legs n m (Some (record s { place = place })) z e) [
+      elim (put_cases w.legs n m (Some (record s { state = state })) z e) [
         | inl q ↦
             let same = sym (same_some q.1) in
-            (s, ap w.legs (sym q.0) ∙ at, ap (λ v. v.call) same, ap (λ v. v.launch) same, ap (λ v. v.rest) same, inl (ap (λ v. v.place) same, refl))
+            (s, ap w.legs (sym q.0) ∙ at, ap (λ v. v.call) same, ap (λ v. v.launch) same, ap (λ v. v.rest) same, inl (ap (λ v. v.state) same, refl))
         | inr q ↦ (z, q.1, refl, refl, refl, inr refl)
       ]
 
-  pub placed_world : (is_counted_delete s ≡ true → place ≢ Gone) → IsWorld r (placed w n s place)
-  placed_world kept =
+  pub world_with_state : (is_counted_delete s ≡ true → state ≢ Gone) → IsWorld r (with_leg_state w n s state)
+  world_with_state kept =
       record {
         calls = i.calls;
         has = λ k call l e f. let h = i.has k call l e f in
@@ -71,13 +71,13 @@ module _ (r : RoutesValue) (w : World) (n : ℕ) (s : Leg) (place : Place) (i : 
                   let same : s ≡ h.leg = same_some (sym at ∙ ap w.legs q ∙ h.there) in
                   record {
                     number = n;
-                    leg = record s { place = place };
-                    there = put_same w.legs n (Some (record s { place = place }));
+                    leg = record s { state = state };
+                    there = put_same w.legs n (Some (record s { state = state }));
                     own = ap (λ z. z.call) same ∙ h.own;
                     launch = ap (λ z. z.launch) same ∙ h.launch;
                     rest = ap (λ z. z.rest) same ∙ h.rest;
                   }
-              | inr ne ↦ record { number = h.number; leg = h.leg; there = put_other w.legs n h.number (Some (record s { place = place })) ne ∙ h.there; own = h.own; launch = h.launch; rest = h.rest }
+              | inr ne ↦ record { number = h.number; leg = h.leg; there = put_other w.legs n h.number (Some (record s { state = state })) ne ∙ h.there; own = h.own; launch = h.launch; rest = h.rest }
             ];
         sent = λ m z k call e f g. let v = was m z e in subst (λ l. Launches r call l) (sym v.3) (i.sent m v.0 k call v.1 (sym v.2 ∙ f) g);
         counted = λ m z e o g. let v = was m z e in
@@ -174,7 +174,7 @@ module _ (r : RoutesValue) (w : World) (k : ℕ) (call : Call) (l : Launch) (x :
         ];
         counted = λ n z e f g. elim (queue_back w.legs w.next_leg k call.rest new n z e) [
           | inl old ↦ i.counted n z old f g
-          | inr q ↦ queued_stays (ap (λ v. v.place) q.2 ∙ g)
+          | inr q ↦ queued_stays (ap (λ v. v.state) q.2 ∙ g)
         ];
         number = λ n z e. elim (queue_back w.legs w.next_leg k call.rest new n z e) [ inl old ↦ omega (arith, i.number n z old) | inr q ↦ q.3 ];
         owner = λ n z j e f. elim (queue_back w.legs w.next_leg k call.rest new n z e) [
@@ -219,7 +219,7 @@ module _ (r : RoutesValue) (w : World) (call : Call) (i : IsWorld r w) (a : IsCa
         ];
         counted = λ n z e f g. elim (queue_back w.legs w.next_leg w.next_call call.rest all n z e) [
           | inl old ↦ i.counted n z old f g
-          | inr q ↦ queued_stays (ap (λ v. v.place) q.2 ∙ g)
+          | inr q ↦ queued_stays (ap (λ v. v.state) q.2 ∙ g)
         ];
         number = λ n z e. elim (queue_back w.legs w.next_leg w.next_call call.rest all n z e) [ inl old ↦ omega (arith, i.number n z old) | inr q ↦ q.3 ];
         owner = λ n z j e f. elim (queue_back w.legs w.next_leg w.next_call call.rest all n z e) [
@@ -319,16 +319,16 @@ changed_world r w (Began op route rest choice) i a e =
     began_world r w (new_call w op route rest choice) i (record { began = a; era = i.era; legal = tt; taken = λ t. absurd (true≢false (sym t)) })
 changed_world r w (Answered n x) i a e = with_leg_world r w (w.legs n) (can_be_answered w x) _ e (λ s at t.
     let y = counted_as s.launch.op x in
-    let place = answered_place s.launch.op y in
+    let state = answered_state s.launch.op y in
     let parts = and_parts _ _ (and_parts _ _ t).1 in
-    recorded_for_world r (placed w n s place) s y s.call
-    (placed_world r w n s place i at (answered_stays (is_delete s.launch.op) (is_counting s.launch.mark) (is_error_reply y) parts.1))
+    recorded_for_world r (with_leg_state w n s state) s y s.call
+    (world_with_state r w n s state i at (answered_stays (is_delete s.launch.op) (is_counting s.launch.mark) (is_error_reply y) parts.1))
     (λ k call own there. i.sent n s k call at own there))
 changed_world r w (WasSpooled n) i a e = with_leg_world r w (w.legs n) can_be_spooled _ e (λ s at t.
-    recorded_for_world r (placed w n s Spooled) s not_found s.call (placed_world r w n s Spooled i at (λ o. spooled_stays)) (λ k call own there. i.sent n s k call at own there))
+    recorded_for_world r (with_leg_state w n s Spooled) s not_found s.call (world_with_state r w n s Spooled i at (λ o. spooled_stays)) (λ k call own there. i.sent n s k call at own there))
 changed_world r w (WasRefused n) i a e = with_leg_world r w (w.legs n) (can_be_refused w) _ e (λ s at t.
     recorded_for_world r w s (fixed_value Lost) s.call i (λ k call own there. i.sent n s k call at own there))
-changed_world r w (WasPerformed n) i a e = with_leg_world r w (w.legs n) _ _ e (λ s at t. placed_world r w n s Performed i at (λ o. performed_stays))
+changed_world r w (WasPerformed n) i a e = with_leg_world r w (w.legs n) _ _ e (λ s at t. world_with_state r w n s Performed i at (λ o. performed_stays))
 changed_world r w (EraBegan since) i a e =
     record { calls = i.calls; has = λ k call l f g. let h = i.has k call l f g in record { number = h.number; leg = h.leg; there = h.there; own = h.own; launch = h.launch; rest = h.rest }; sent = i.sent; counted = i.counted; number = i.number; owner = i.owner; era = a }
 changed_world r w (Taken k) i a e = with_call_world r w (w.calls k) (can_be_taken r) _ e (λ call at t. taken_world r w k call i at (and_parts _ _ t).1)

@@ -4,7 +4,7 @@ use Rattle.std.specs.List.{list_any}
 use Rattle.std.proofs.lemmas.Bool.{cases_Bool, cases_eq, eq-eqb, ne_eqb}
 use Rattle.mcv_route.specs.declared.launch.Launch.{Launch}
 use Rattle.mcv_route.specs.Outcomes.{is_same}
-use Rattle.mcv_rules.proofs.Among.{Among}
+use Rattle.mcv_rules.proofs.ListMembers.{Among}
 use Rattle.mcv_rules.proofs.Orders.{same_is}
 use Rattle.mcv_world.specs.World.{Leg, put}
 use Rattle.mcv_world.specs.Moves.{queued, queue, is_new, fresh}

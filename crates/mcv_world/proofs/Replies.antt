@@ -11,10 +11,10 @@ use Rattle.mcv_route.specs.Replies.{Answer, Source, leg, fixed, refusal, replies
 use Rattle.mcv_route.specs.Routes.{RoutesValue}
 use Rattle.mcv_rules.specs.Laws.{IsOneOf, outcome_at}
 use Rattle.mcv_rules.specs.Status.{default_reply}
-use Rattle.mcv_rules.proofs.Among.{Among}
-use Rattle.mcv_rules.proofs.One.{reply_is_one_of, one_reply_stays}
+use Rattle.mcv_rules.proofs.ListMembers.{Among}
+use Rattle.mcv_rules.proofs.OneReply.{reply_is_one_of, one_reply_stays}
 use Rattle.mcv_rules.proofs.Orders.{same_is}
-use Rattle.mcv_rules.proofs.True.{answers_are_true}
+use Rattle.mcv_rules.proofs.AnswersAreTrue.{answers_are_true}
 use Rattle.mcv_world.specs.World.{Recorded, Call, tree_of, situation_of, history_of, answer_of, reply_at, reply_from, reply_of}
 use Rattle.mcv_world.specs.Moves.{with_reply}
 use Rattle.mcv_world.proofs.Numbers.{same_some, no_some}

@@ -5,8 +5,8 @@ use Rattle.mcv_base.specs.Reply.{ReplyValue, not_found, fixed_value}
 use Rattle.mcv_base.specs.declared.reply.FixedReply.TheVariants.{Lost}
 use Rattle.mcv_route.specs.Outcomes.{outcomes}
 use Rattle.mcv_route.specs.Routes.{RoutesValue}
-use Rattle.mcv_world.specs.World.{Place, Performed, Spooled, Call, Leg, World, history_of, launched_by, reply_of, put}
-use Rattle.mcv_world.specs.Moves.{Move, Began, Answered, WasSpooled, WasRefused, WasPerformed, EraBegan, Taken, counted_as, has_no_outcome, is_move, new_call, with_reply, launched_since, recorded_by, recorded_if, recorded_for, placed, answered_place, with_taken, with_leg, with_call, changed}
+use Rattle.mcv_world.specs.World.{LegState, Performed, Spooled, Call, Leg, World, history_of, launched_by, reply_of, put}
+use Rattle.mcv_world.specs.Moves.{Move, Began, Answered, WasSpooled, WasRefused, WasPerformed, EraBegan, Taken, counted_as, has_no_outcome, is_move, new_call, with_reply, launched_since, recorded_by, recorded_if, recorded_for, with_leg_state, answered_state, with_taken, with_leg, with_call, changed}
 use Rattle.mcv_world.specs.Laws.{IsWorld, IsSameLeg, HasReply, LegsStay, RepliesStay}
 use Rattle.mcv_world.proofs.Numbers.{same_some, none_when, put_same, put_other, queue_old}
 use Rattle.mcv_world.proofs.Replies.{reply_stays}
@@ -28,19 +28,19 @@ recorded_legs r w s x (Some k) n low = by_call (w.calls k)
         by_cases true = queue_old w.legs w.next_leg k n call.rest (launched_since r call s.launch.position x) low
         by_cases false = refl
 
-placed_legs : (w : World) (m : ℕ) (z : Leg) (place : Place) → w.legs m ≡ Some z → (n : ℕ) (s : Leg) → w.legs n ≡ Some s → IsSameLeg ((placed w m z place).legs n) s
-placed_legs w m z place at n s e =
+legs_with_state : (w : World) (m : ℕ) (z : Leg) (state : LegState) → w.legs m ≡ Some z → (n : ℕ) (s : Leg) → w.legs n ≡ Some s → IsSameLeg ((with_leg_state w m z state).legs n) s
+legs_with_state w m z state at n s e =
     elim (cases_eq m n) [
       | inl q ↦
           let same : z ≡ s = same_some (sym at ∙ ap w.legs q ∙ e) in
           record {
-            leg = record z { place = place };
-            is = subst (λ i. put w.legs m (Some (record z { place = place })) i ≡ Some (record z { place = place })) q (put_same w.legs m (Some (record z { place = place })));
+            leg = record z { state = state };
+            is = subst (λ i. put w.legs m (Some (record z { state = state })) i ≡ Some (record z { state = state })) q (put_same w.legs m (Some (record z { state = state })));
             call = ap (λ v. v.call) same;
             launch = ap (λ v. v.launch) same;
             rest = ap (λ v. v.rest) same;
           }
-      | inr ne ↦ still _ s (put_other w.legs m n (Some (record z { place = place })) ne ∙ e)
+      | inr ne ↦ still _ s (put_other w.legs m n (Some (record z { state = state })) ne ∙ e)
     ]
 
 with_leg_legs : (w : World) (o : Option Leg) (f : Leg → World) (n : ℕ) (s : Leg) → w.legs n ≡ Some s → ((z : Leg) → o ≡ Some z → IsSameLeg ((f z).legs n) s) → IsSameLeg ((with_leg w o f).legs n) s
@@ -55,11 +55,11 @@ changed_legs r w (Began op route rest choice) i n s e =
     let call = new_call w op route rest choice in still _ s (queue_old w.legs w.next_leg w.next_call n rest (launched_by r call) (i.number n s e) ∙ e)
 changed_legs r w (Answered m x) i n s e = with_leg_legs w (w.legs m) _ n s e (λ z at.
     let y = counted_as z.launch.op x in
-    let place = answered_place z.launch.op y in
-    recorded_still r (placed w m z place) z y n s (i.number n s e) (placed_legs w m z place at n s e))
-changed_legs r w (WasSpooled m) i n s e = with_leg_legs w (w.legs m) _ n s e (λ z at. recorded_still r (placed w m z Spooled) z not_found n s (i.number n s e) (placed_legs w m z Spooled at n s e))
+    let state = answered_state z.launch.op y in
+    recorded_still r (with_leg_state w m z state) z y n s (i.number n s e) (legs_with_state w m z state at n s e))
+changed_legs r w (WasSpooled m) i n s e = with_leg_legs w (w.legs m) _ n s e (λ z at. recorded_still r (with_leg_state w m z Spooled) z not_found n s (i.number n s e) (legs_with_state w m z Spooled at n s e))
 changed_legs r w (WasRefused m) i n s e = with_leg_legs w (w.legs m) _ n s e (λ z at. recorded_still r w z (fixed_value Lost) n s (i.number n s e) (still _ s e))
-changed_legs r w (WasPerformed m) i n s e = with_leg_legs w (w.legs m) _ n s e (λ z at. placed_legs w m z Performed at n s e)
+changed_legs r w (WasPerformed m) i n s e = with_leg_legs w (w.legs m) _ n s e (λ z at. legs_with_state w m z Performed at n s e)
 changed_legs r w (EraBegan since) i n s e = still _ s e
 changed_legs r w (Taken k) i n s e = by_call (w.calls k)
   where
@@ -76,7 +76,7 @@ legs_stay r w m i n s e = by_cases (is_move r w m)
 
 -- ---- replies
 
--- a call in whose place another one with the reply is put
+-- a call in whose stead another one with the reply is put
 replied_put : (r : RoutesValue) (calls : ℕ → Option Call) (j : ℕ) (d more : Call) (k : ℕ) (x : ReplyValue) → calls j ≡ Some d → (reply_of r d ≡ Some x → reply_of r more ≡ Some x)
     → HasReply r (calls k) x → HasReply r (put calls j (Some more) k) x
 replied_put r calls j d more k x at keeps h =
@@ -111,8 +111,8 @@ changed_replied r w (Began op route rest choice) i k x h =
     let ne : w.next_call ≡ k → ⊥ = λ e. omega (arith, low, e) in
     record { call = h.call; is = put_other w.calls w.next_call k (Some (new_call w op route rest choice)) ne ∙ h.is; reply = h.reply }
 changed_replied r w (Answered n y) i k x h = with_leg_replied r w (w.legs n) _ k x h (λ z.
-    let v = counted_as z.launch.op y in recorded_replied r (placed w n z (answered_place z.launch.op v)) z v z.call k x h)
-changed_replied r w (WasSpooled n) i k x h = with_leg_replied r w (w.legs n) _ k x h (λ z. recorded_replied r (placed w n z Spooled) z not_found z.call k x h)
+    let v = counted_as z.launch.op y in recorded_replied r (with_leg_state w n z (answered_state z.launch.op v)) z v z.call k x h)
+changed_replied r w (WasSpooled n) i k x h = with_leg_replied r w (w.legs n) _ k x h (λ z. recorded_replied r (with_leg_state w n z Spooled) z not_found z.call k x h)
 changed_replied r w (WasRefused n) i k x h = with_leg_replied r w (w.legs n) _ k x h (λ z. recorded_replied r w z (fixed_value Lost) z.call k x h)
 changed_replied r w (WasPerformed n) i k x h = with_leg_replied r w (w.legs n) _ k x h (λ z. h)
 changed_replied r w (EraBegan since) i k x h = h

@@ -11,12 +11,12 @@ use Rattle.mcv_route.specs.Eras.{IsEra, breaks_of, since_at}
 use Rattle.mcv_route.specs.Outcomes.{IsChoice, outcomes}
 use Rattle.mcv_route.specs.Routes.{RoutesValue}
 use Rattle.mcv_route.specs.Verdict.{Has, IsLegal, IsReachable, IsReadable, IsSent}
-use Rattle.mcv_symbolic.specs.Covered.{AreCovered}
+use Rattle.mcv_symbolic.specs.CoveredRoutes.{AreCovered}
 use Rattle.mcv_world.specs.World.{Gone, Call, Leg, World, tree_of, situation_of, choice_of, history_of, launched_by, reply_of, is_counted_delete}
 use Rattle.mcv_world.specs.Moves.{Move, is_move, after, run}
-use Rattle.mcv_world.specs.Possible.{CanBegin, IsPossible, ArePossible, IsOpening}
-use Rattle.mcv_world.specs.Live.{live_of}
-use Rattle.mcv_world.specs.Kept.{Kept}
+use Rattle.mcv_world.specs.PossibleMoves.{CanBegin, IsPossible, ArePossible, IsOpening}
+use Rattle.mcv_world.specs.LiveWorld.{live_of}
+use Rattle.mcv_world.specs.KeptLegs.{Kept}
 
 -- ---- what moves keep
 
@@ -48,7 +48,7 @@ pub record IsWorld (r : RoutesValue) (w : World) : Type 0 where
   -- and a call has no other legs
   pub sent : (n : ℕ) (s : Leg) (k : ℕ) (call : Call) → w.legs n ≡ Some s → s.call ≡ Some k → w.calls k ≡ Some call → Launches r call s.launch
   -- no counted delete leg is Gone
-  pub counted : (n : ℕ) (s : Leg) → w.legs n ≡ Some s → is_counted_delete s ≡ true → s.place ≢ Gone
+  pub counted : (n : ℕ) (s : Leg) → w.legs n ≡ Some s → is_counted_delete s ≡ true → s.state ≢ Gone
   pub number : (n : ℕ) (s : Leg) → w.legs n ≡ Some s → n < w.next_leg
   pub owner : (n : ℕ) (s : Leg) (k : ℕ) → w.legs n ≡ Some s → s.call ≡ Some k → k < w.next_call
   pub era : IsEra r w.since
@@ -65,7 +65,7 @@ MovesKeepWorlds = (r : RoutesValue) (w : World) (m : Move) → IsWorld r w → I
 pub record LosesNothing (r : RoutesValue) (w : World) : Type 0 where
   pub reachable : (k : ℕ) (call : Call) → w.calls k ≡ Some call → IsReachable (tree_of r call.route) (situation_of call) (choice_of call) (outcomes (history_of call.recorded))
   pub legs : (k : ℕ) (call : Call) (l : Launch) → w.calls k ≡ Some call → Launches r call l → HasLeg w k call l
-  pub counted : (n : ℕ) (s : Leg) → w.legs n ≡ Some s → is_counted_delete s ≡ true → s.place ≢ Gone
+  pub counted : (n : ℕ) (s : Leg) → w.legs n ≡ Some s → is_counted_delete s ≡ true → s.state ≢ Gone
 
 abbrev pub NothingLaunchedIsLost : Type 0
 NothingLaunchedIsLost = (r : RoutesValue) (w : World) (ms : List Move) → IsOpening r w → ArePossible r w ms → LosesNothing r (run r w ms)
@@ -107,7 +107,7 @@ MovesOfEveryWorld =
 
 -- ---- what stays
 
--- the leg is there, whatever its place
+-- the leg is there, whatever its state
 pub record IsSameLeg (there : Option Leg) (s : Leg) : Type 0 where
   pub leg : Leg
   pub is : there ≡ Some leg

@@ -1,6 +1,6 @@
 pub mod World
 pub mod Moves
-pub mod Possible
-pub mod Live
-pub mod Kept
+pub mod PossibleMoves
+pub mod LiveWorld
+pub mod KeptLegs
 pub mod Laws

@@ -8,7 +8,7 @@ use Rattle.mcv_base.specs.Reply.{ReplyValue, not_found, outcome_of, fixed_value,
 use Rattle.mcv_route.specs.declared.launch.Launch.{Launch}
 use Rattle.mcv_route.specs.Outcomes.{is_same, outcomes}
 use Rattle.mcv_route.specs.Routes.{RoutesValue}
-use Rattle.mcv_world.specs.World.{Place, Queued, Performed, Spooled, Gone, Call, Leg, World, history_of, launched_by, reply_of, is_counted_delete, is_queued, is_spooled, put}
+use Rattle.mcv_world.specs.World.{LegState, Queued, Performed, Spooled, Gone, Call, Leg, World, history_of, launched_by, reply_of, is_counted_delete, is_queued, is_spooled, put}
 
 pub data Move : Type 0 where
   -- a call of this operation on the rest by the route, with the index of each symbol
@@ -53,15 +53,15 @@ is_awaited w s (Some k) = is_one (w.calls k) (has_no_outcome s)
 
 -- a queued leg without an outcome; an error, or the loss of the leg, is no answer to a counted delete leg, which stays queued
 abbrev pub can_be_answered : World → ReplyValue → Leg → Bool
-can_be_answered w x s = is_queued s.place && (is_awaited w s s.call && not (is_counted_delete s && is_error_reply (counted_as s.launch.op x)))
+can_be_answered w x s = is_queued s.state && (is_awaited w s s.call && not (is_counted_delete s && is_error_reply (counted_as s.launch.op x)))
 
 -- with an outcome or without one, and also once its call has ended
 abbrev pub can_be_spooled : Leg → Bool
-can_be_spooled s = is_queued s.place && is_counted_delete s
+can_be_spooled s = is_queued s.state && is_counted_delete s
 
 -- one that has an outcome stays as it is
 abbrev pub can_be_refused : World → Leg → Bool
-can_be_refused w s = is_queued s.place && (is_awaited w s s.call && is_counted_delete s)
+can_be_refused w s = is_queued s.state && (is_awaited w s s.call && is_counted_delete s)
 
 -- once
 abbrev pub can_be_taken : RoutesValue → Call → Bool
@@ -72,14 +72,14 @@ is_move r w (Began op route rest choice) = true
 is_move r w (Answered n x) = is_one (w.legs n) (can_be_answered w x)
 is_move r w (WasSpooled n) = is_one (w.legs n) can_be_spooled
 is_move r w (WasRefused n) = is_one (w.legs n) (can_be_refused w)
-is_move r w (WasPerformed n) = is_one (w.legs n) (λ s. is_spooled s.place)
+is_move r w (WasPerformed n) = is_one (w.legs n) (λ s. is_spooled s.state)
 is_move r w (EraBegan since) = true
 is_move r w (Taken k) = is_one (w.calls k) (can_be_taken r)
 
 -- ---- legs that are launched
 
 abbrev pub queued : ℕ → List ℕ → Launch → Leg
-queued k rest l = record { call = Some k; launch = l; rest = rest; place = Queued }
+queued k rest l = record { call = Some k; launch = l; rest = rest; state = Queued }
 
 -- the legs of the call take the numbers from n on
 abbrev pub queue : (ℕ → Option Leg) → ℕ → ℕ → List ℕ → List Launch → ℕ → Option Leg
@@ -135,12 +135,12 @@ abbrev pub recorded_for : RoutesValue → World → Leg → ReplyValue → Optio
 recorded_for r w s x None = w
 recorded_for r w s x (Some k) = recorded_if r w s x k (w.calls k)
 
-abbrev pub placed : World → ℕ → Leg → Place → World
-placed w n s place = record w { legs = put w.legs n (Some (record s { place = place })) }
+abbrev pub with_leg_state : World → ℕ → Leg → LegState → World
+with_leg_state w n s state = record w { legs = put w.legs n (Some (record s { state = state })) }
 
 -- a delete is performed by any answer but an error; no other leg has to be performed
-abbrev pub answered_place : Op → ReplyValue → Place
-answered_place op x = if is_delete op && not (is_error_reply x) then Performed else Gone
+abbrev pub answered_state : Op → ReplyValue → LegState
+answered_state op x = if is_delete op && not (is_error_reply x) then Performed else Gone
 
 abbrev pub with_taken : Call → Call
 with_taken call = record call { taken = true }
@@ -156,10 +156,10 @@ with_call w (Some call) f = f call
 
 abbrev pub changed : RoutesValue → World → Move → World
 changed r w (Began op route rest choice) = began r w (new_call w op route rest choice)
-changed r w (Answered n x) = with_leg w (w.legs n) (λ s. recorded_for r (placed w n s (answered_place s.launch.op (counted_as s.launch.op x))) s (counted_as s.launch.op x) s.call)
-changed r w (WasSpooled n) = with_leg w (w.legs n) (λ s. recorded_for r (placed w n s Spooled) s not_found s.call)
+changed r w (Answered n x) = with_leg w (w.legs n) (λ s. recorded_for r (with_leg_state w n s (answered_state s.launch.op (counted_as s.launch.op x))) s (counted_as s.launch.op x) s.call)
+changed r w (WasSpooled n) = with_leg w (w.legs n) (λ s. recorded_for r (with_leg_state w n s Spooled) s not_found s.call)
 changed r w (WasRefused n) = with_leg w (w.legs n) (λ s. recorded_for r w s (fixed_value Lost) s.call)
-changed r w (WasPerformed n) = with_leg w (w.legs n) (λ s. placed w n s Performed)
+changed r w (WasPerformed n) = with_leg w (w.legs n) (λ s. with_leg_state w n s Performed)
 changed r w (EraBegan since) = record w { since = since }
 changed r w (Taken k) = with_call w (w.calls k) (λ call. record w { calls = put w.calls k (Some (with_taken call)) })
 

@@ -16,15 +16,15 @@ use Rattle.mcv_route.specs.Routes.{RoutesValue}
 use Rattle.mcv_rules.specs.Status.{default_reply}
 
 -- where a leg is
-pub data Place : Type 0 where
+pub data LegState : Type 0 where
   -- launched, and not yet done with: it waits for its server, is under way, or is held for the spool
-  Queued : Place
+  Queued : LegState
   -- a delete that its server answered without an error
-  Performed : Place
+  Performed : LegState
   -- kept in the spool, from which it is sent again until it is performed
-  Spooled : Place
+  Spooled : LegState
   -- of no further use: a leg that needn't be sent again
-  Gone : Place
+  Gone : LegState
 
 -- what a call has recorded of its leg at a position: what the server replied, NOT_FOUND for a leg that was spooled, or
 -- the error line of a leg that was lost or that the spool refused
@@ -55,7 +55,7 @@ pub record Leg : Type 0 where
   -- its position, server, operation and mark
   pub launch : Launch
   pub rest : List ℕ
-  pub place : Place
+  pub state : LegState
 
 -- calls and legs by number
 pub record World : Type 0 where
@@ -115,13 +115,13 @@ is_settled r call = list_all (λ l. is_some (outcomes (history_of call.recorded)
 abbrev pub is_counted_delete : Leg → Bool
 is_counted_delete s = is_delete s.launch.op && is_counting s.launch.mark
 
-abbrev pub is_queued : Place → Bool
+abbrev pub is_queued : LegState → Bool
 is_queued Queued = true
 is_queued Performed = false
 is_queued Spooled = false
 is_queued Gone = false
 
-abbrev pub is_spooled : Place → Bool
+abbrev pub is_spooled : LegState → Bool
 is_spooled Queued = false
 is_spooled Performed = false
 is_spooled Spooled = true

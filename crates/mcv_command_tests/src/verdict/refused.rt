@@ -1,11 +1,10 @@
 //! Certificates that are refused, and other faults, in their order.
 
-use super::verdicts::{by_operation, shown};
+use super::verdicts::{by_operation, check};
 use crate::devices::Broken;
 use mcv_input::RunFault;
 use mcv_verdict::{Verdict, run_check};
-use std::alloc::Global;
-use std::test::Fail;
+use std::process::Abort;
 
 /// The pairs of a certificate over a pool of two servers and deletes to both, with semicolons between its lines, and what is written.
 const PAIRS: &str = "\
@@ -21,26 +20,20 @@ mcv-cert 1;0 = 0 1 all 0 0.0;0 = 0 1 all 1 0.1;0 = 0 1 all 2 0.1;end; = 5 5 cert
 mcv-cert 1;0 = 0 1 all 0 0.0;0 = 0 1 same 1 0.2;end; = 5 5 certificate fault 3
 mcv-cert 1;0 = 0 1 never;end; = 5 5 certificate fault 5";
 
-/// A text with line ends in place of semicolons.
-fn with_lines(alloc: Global, text: &str) -> Result<Vec<u8>, Fail> {
-    let mut bytes = Vec::new(alloc);
-    for byte in text.bytes() {
-        bytes.push(if byte == b';' { b'\n' } else { byte })?;
-    }
-    Ok(bytes)
+fn check_pairs(rt: &(impl AllocGlobal + Abort), configuration: &str, case: &str) {
+    let (certificate, wanted) = case.rsplit_once(" = ").expect(rt, "a case");
+    let text = certificate
+        .replace(rt.alloc(), ";", "\n")
+        .expect(rt, "memory");
+    check(rt, configuration, Some(text.as_bytes()), wanted);
 }
 
 #[test]
-fn certificates_are_judged(rt: HostRuntime) -> Result<(), Fail> {
-    let alloc = rt.alloc();
-    let configuration = by_operation(alloc, "\"AllSyncRoute|Pool|C\"", "\"PoolRoute|C\"")?;
+fn certificates_are_judged(rt: HostRuntime) {
+    let configuration = by_operation(&rt, "\"AllSyncRoute|Pool|C\"", "\"PoolRoute|C\"");
     for case in PAIRS.lines() {
-        let (certificate, want) = case.rsplit_once(" = ").ok_or("no case")?;
-        let certificate = with_lines(alloc, certificate)?;
-        let text = shown(alloc, configuration.as_str(), Some(certificate.as_slice()))?;
-        assert_eq!(rt; text.as_str(), want, "{case}");
+        check_pairs(&rt, configuration.as_str(), case);
     }
-    Ok(())
 }
 
 const BOTH: &str =
@@ -49,50 +42,45 @@ const BOTH: &str =
 const LATE: &str =
     "{\"type\":\"FailoverRoute\",\"children\":[{\"type\":\"AllSyncRoute\",\"children\":[\"PoolRoute|A\",\"ErrorRoute\"]},\"PoolRoute|B\"]}";
 
+/// What is written by this certificate where late deletes go through the handle.
+fn check_late(rt: &(impl AllocGlobal + Abort), handle: &str, cert: &[u8], wanted: &str) {
+    let deletes = format!(in rt.alloc(); "{{\"type\":\"{handle}\",\"children\":[{LATE}]}}");
+    let configuration = by_operation(rt, deletes.expect(rt, "memory").as_str(), BOTH);
+    check(rt, configuration.as_str(), Some(cert), wanted);
+}
+
+const UNREAD: &str = "{\"type\":\"AllSyncRoute\",\"children\":[\"PoolRoute|A\",\"NullRoute\"]}";
+
 #[test]
-fn certificates_of_other_routes_are_refused(rt: HostRuntime) -> Result<(), Fail> {
-    let alloc = rt.alloc();
+fn certificates_of_other_routes_are_refused(rt: HostRuntime) {
     let covered = b"mcv-cert 1\n0 = 0 1.0 twin 0.0.0.0\n0 = 0 1.1 twin 0.0.1\nend\n";
-    for (handle, want) in [
-        ("AllSyncRoute", "covered 2"),
-        ("AllAsyncRoute", "5 5 certificate fault 3"),
-    ] {
-        let deletes = format!(in alloc; "{{\"type\":\"{handle}\",\"children\":[{LATE}]}}")?;
-        let configuration = by_operation(alloc, deletes.as_str(), BOTH)?;
-        let text = shown(alloc, configuration.as_str(), Some(covered.as_slice()))?;
-        assert_eq!(rt; text.as_str(), want, "{handle}");
-    }
-    let unread = by_operation(
-        alloc,
-        "\"NullRoute\"",
-        "{\"type\":\"AllSyncRoute\",\"children\":[\"PoolRoute|A\",\"NullRoute\"]}",
-    )?;
-    let stray = b"mcv-cert 1\n0 = 0 1.0 never\nend\n";
-    let text = shown(alloc, unread.as_str(), Some(stray.as_slice()))?;
-    assert_eq!(rt; text.as_str(), "5 5 certificate fault 2");
-    Ok(())
+    check_late(&rt, "AllSyncRoute", covered, "covered 2");
+    check_late(&rt, "AllAsyncRoute", covered, "5 5 certificate fault 3");
+    let unread = by_operation(&rt, "\"NullRoute\"", UNREAD);
+    let stray = b"mcv-cert 1\n0 = 0 1.0 never\nend\n".as_slice();
+    check(&rt, unread.as_str(), Some(stray), "5 5 certificate fault 2");
 }
 
 #[test]
-fn the_configuration_is_judged_before_the_certificate(rt: HostRuntime) -> Result<(), Fail> {
-    let alloc = rt.alloc();
-    let text = shown(alloc, "{", Some(b"nothing".as_slice()))?;
-    assert_eq!(rt; text.as_str(), "3 2 configuration 1 at .");
-    let text = shown(alloc, "{\"route\":\"PoolRoute|Z\"}", None)?;
-    assert_eq!(rt; text.as_str(), "3 2 configuration 5 at /route");
-    Ok(())
+fn the_configuration_is_judged_before_the_certificate(rt: HostRuntime) {
+    let nothing = b"nothing".as_slice();
+    check(&rt, "{", Some(nothing), "3 2 configuration 1 at .");
+    check(
+        &rt,
+        "{\"route\":\"PoolRoute|Z\"}",
+        None,
+        "3 2 configuration 5 at /route",
+    );
 }
 
 #[test]
-fn broken_devices_are_reported(rt: HostRuntime) -> Result<(), Fail> {
-    let alloc = rt.alloc();
+fn broken_devices_are_reported(rt: HostRuntime) {
     let input = b"{\"route\":\"NullRoute\"}";
-    let unread = run_check(alloc, &mut Broken, &mut Vec::new(alloc), None);
+    let mut output = Vec::new(rt.alloc());
+    let unread = run_check(rt.alloc(), &mut Broken, &mut output, None);
     assert!(rt; matches!(unread, Err(RunFault::Device)));
-    let unwritten = run_check(alloc, &mut input.as_slice(), &mut Broken, None);
+    let unwritten = run_check(rt.alloc(), &mut input.as_slice(), &mut Broken, None);
     assert!(rt; matches!(unwritten, Err(RunFault::Device)));
-    let mut output = Vec::new(alloc);
-    let verdict = run_check(alloc, &mut input.as_slice(), &mut output, None);
+    let verdict = run_check(rt.alloc(), &mut input.as_slice(), &mut output, None);
     assert!(rt; matches!(verdict, Ok(Verdict::Covered(0))));
-    Ok(())
 }

@@ -1,10 +1,9 @@
 //! Which verdict there is on configurations, and what is written of it.
 
 use crate::devices::joined;
+use mcv_input::RunFault;
 use mcv_verdict::{Verdict, run_check};
-use std::alloc::Global;
 use std::process::Abort;
-use std::test::Fail;
 
 /// A of `a:11211`, B of `b:11211`, C and D of both, E of `a:11211` and `c:11211`, F of `c:11211` and `b:11211`.
 pub const POOLS: &str =
@@ -34,85 +33,88 @@ const WHOLE: &str = "\
 {\"type\":\"PrefixSelectorRoute\",\"policies\":{\"a\":\"PoolRoute|A\",\"ab\":{\"type\":\"WarmUpRoute\",\"cold\":\"PoolRoute|A\",\"warm\":\"PoolRoute|B\"}}} = lost b:11211 / route 0 / class =ab / era 0 / key /././ab / get 1.0=miss 1.1=hit / delete 1.0=deleted
 {\"type\":\"PrefixSelectorRoute\",\"policies\":{\"a b\":\"PoolRoute|A\"},\"wildcard\":\"PoolRoute|B\"} = covered 1 / mcv-cert 1 / 0 = 0 1 twin 1 / end";
 
-/// What is written of a configuration, with slashes between the lines.
-pub fn shown(
-    alloc: Global,
-    configuration: &str,
-    certificate: Option<&[u8]>,
-) -> Result<String, Fail> {
-    let mut output = Vec::new(alloc);
-    if let Err(fault) = run_check(
-        alloc,
-        &mut configuration.as_bytes(),
-        &mut output,
-        certificate,
-    ) {
-        let written = output.len();
-        let (number, status) = (fault.number(), fault.status());
-        if written > 0 {
-            return Err(Fail::from("written beside a fault"));
+/// The number, the status and the text of a fault.
+fn fault_text(rt: &(impl AllocGlobal + Abort), fault: &RunFault) -> String {
+    let (number, status) = (fault.number(), fault.status());
+    format!(in rt.alloc(); "{number} {status} {fault}").expect(rt, "memory")
+}
+
+/// What is written of a configuration, with slashes between the lines, or the fault, beside which nothing is written.
+fn shown(rt: &(impl AllocGlobal + Abort), configuration: &str, cert: Option<&[u8]>) -> String {
+    let mut output = Vec::new(rt.alloc());
+    match run_check(rt.alloc(), &mut configuration.as_bytes(), &mut output, cert) {
+        Ok(_) => joined(rt, output),
+        Err(fault) => {
+            assert!(rt; output.is_empty(), "written beside a fault");
+            fault_text(rt, &fault)
         }
-        return Ok(format!(in alloc; "{number} {status} {fault}")?);
     }
-    joined(alloc, output)
+}
+
+/// What is written of a configuration is this.
+pub fn check(
+    rt: &(impl AllocGlobal + Abort),
+    configuration: &str,
+    cert: Option<&[u8]>,
+    wanted: &str,
+) {
+    let text = shown(rt, configuration, cert);
+    assert!(rt;
+        text.as_str() == wanted,
+        "{configuration}: {text}, not {wanted}"
+    );
 }
 
 /// A configuration with these pools, whose deletes go one way, and all else another.
-pub fn by_operation(alloc: Global, deletes: &str, others: &str) -> Result<String, Fail> {
-    Ok(format!(in alloc;
+pub fn by_operation(rt: &(impl AllocGlobal + Abort), deletes: &str, others: &str) -> String {
+    let text = format!(in rt.alloc();
         "{POOLS}\"route\":{{\"type\":\"OperationSelectorRoute\",\"operation_policies\":{{\"delete\":{deletes}}},\"default_policy\":{others}}}}}"
-    )?)
+    );
+    text.expect(rt, "memory")
 }
 
-fn table_holds(rt: &(impl AllocGlobal + Abort), table: &str) -> Result<(), Fail> {
-    let alloc = rt.alloc();
-    for case in table.lines() {
-        let (route, want) = case.split_once(" = ").ok_or("no case")?;
-        let configuration = format!(in alloc; "{POOLS}\"route\":{route}}}")?;
-        assert_eq!(rt;
-            shown(alloc, configuration.as_str(), None)?.as_str(),
-            want,
-            "{route}"
-        );
-    }
-    Ok(())
+fn check_by_operation(rt: &(impl AllocGlobal + Abort), case: &str) {
+    let (deletes, more) = case.split_once(" = ").expect(rt, "a case");
+    let (others, wanted) = more.split_once(" = ").expect(rt, "a case");
+    check(rt, by_operation(rt, deletes, others).as_str(), None, wanted);
 }
 
 #[test]
-fn verdicts_by_operation_are_written(rt: HostRuntime) -> Result<(), Fail> {
-    let alloc = rt.alloc();
+fn verdicts_by_operation_are_written(rt: HostRuntime) {
     for case in BY_OPERATION.lines() {
-        let (deletes, more) = case.split_once(" = ").ok_or("no case")?;
-        let (others, want) = more.split_once(" = ").ok_or("no case")?;
-        let configuration = by_operation(alloc, deletes, others)?;
-        assert_eq!(rt;
-            shown(alloc, configuration.as_str(), None)?.as_str(),
-            want,
-            "{deletes}"
-        );
+        check_by_operation(&rt, case);
     }
-    Ok(())
+}
+
+fn check_whole(rt: &(impl AllocGlobal + Abort), case: &str) {
+    let (route, wanted) = case.split_once(" = ").expect(rt, "a case");
+    let configuration = format!(in rt.alloc(); "{POOLS}\"route\":{route}}}");
+    check(
+        rt,
+        configuration.expect(rt, "memory").as_str(),
+        None,
+        wanted,
+    );
 }
 
 #[test]
-fn verdicts_are_written(rt: HostRuntime) -> Result<(), Fail> {
-    table_holds(&rt, WHOLE)
+fn verdicts_are_written(rt: HostRuntime) {
+    for case in WHOLE.lines() {
+        check_whole(&rt, case);
+    }
 }
 
 const ROUTES: &str =
     "\"routes\":[{\"aliases\":[\"/././\"],\"route\":\"PoolRoute|A\"},{\"aliases\":[\"/a/b/\"],\"route\":{\"type\":\"PrefixSelectorRoute\",\"policies\":{\"ab\":{\"type\":\"FailoverRoute\",\"children\":[\"PoolRoute|A\",\"PoolRoute|B\"]}},\"wildcard\":\"NullRoute\"}}]}";
 
+const FIRST_LOSS: &str =
+    "lost b:11211 / route 1 / class =ab / era 0 / key /a/b/ab / get 0.0=error 0.1=hit / delete 0.0=deleted";
+
 #[test]
-fn the_first_loss_is_named(rt: HostRuntime) -> Result<(), Fail> {
-    let alloc = rt.alloc();
-    let configuration = format!(in alloc; "{POOLS}{ROUTES}")?;
-    let text = shown(alloc, configuration.as_str(), None)?;
-    assert_eq!(rt;
-        text.as_str(),
-        "lost b:11211 / route 1 / class =ab / era 0 / key /a/b/ab / get 0.0=error 0.1=hit / delete 0.0=deleted"
-    );
-    let mut output = Vec::new(alloc);
-    let verdict = run_check(alloc, &mut configuration.as_bytes(), &mut output, None);
+fn the_first_loss_is_named(rt: HostRuntime) {
+    let configuration = format!(in rt.alloc(); "{POOLS}{ROUTES}").expect(&rt, "memory");
+    check(&rt, configuration.as_str(), None, FIRST_LOSS);
+    let mut output = Vec::new(rt.alloc());
+    let verdict = run_check(rt.alloc(), &mut configuration.as_bytes(), &mut output, None);
     assert!(rt; matches!(verdict, Ok(Verdict::Lost)));
-    Ok(())
 }

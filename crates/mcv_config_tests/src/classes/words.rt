@@ -1,52 +1,53 @@
 //! The table of the class words of a route.
 
+use crate::built::{check, check_text};
 use mcv_base::Rest;
 use mcv_classes::{Class, ClassTable};
 use mcv_route::{PrefixPolicy, Route};
-use std::alloc::{AllocError, Global};
 use std::process::Abort;
-use std::test::Fail;
 
-fn policy(alloc: Global, prefix: &[u8], route: Route) -> Result<PrefixPolicy, AllocError> {
-    let prefix = Vec::from_slice(alloc, prefix)?;
-    Ok(PrefixPolicy { prefix, route })
+fn policy(rt: &(impl AllocGlobal + Abort), prefix: &[u8], route: Route) -> PrefixPolicy {
+    let prefix = Vec::from_slice(rt.alloc(), prefix).expect(rt, "memory");
+    PrefixPolicy { prefix, route }
 }
 
-/// A selector with the policy `a`, and behind that one with the policy `ab`.
-fn nested(alloc: Global) -> Result<Route, AllocError> {
-    let inner = Route::PrefixSelector {
-        policies: vec![in alloc; policy(alloc, b"ab", Route::Null)?]?,
+/// A selector with one policy.
+fn selector(rt: &(impl AllocGlobal + Abort), prefix: &[u8], route: Route) -> Route {
+    let policies = vec![in rt.alloc(); policy(rt, prefix, route)];
+    Route::PrefixSelector {
+        policies: policies.expect(rt, "memory"),
         wildcard: None,
-    };
-    Ok(Route::PrefixSelector {
-        policies: vec![in alloc; policy(alloc, b"a", inner)?]?,
-        wildcard: None,
-    })
+    }
 }
 
-/// A selector with a policy for each key byte up to the last.
-fn one_byte_policies(alloc: Global, last: u16) -> Result<Route, AllocError> {
-    let mut policies = Vec::new(alloc);
+/// The table of a selector with the policy `a`, and behind that one with the policy `ab`.
+fn nested(rt: &(impl AllocGlobal + Abort)) -> ClassTable {
+    let inner = selector(rt, b"ab", Route::Null);
+    table_of(rt, selector(rt, b"a", inner))
+}
+
+/// The table of a selector with a policy for each key byte up to the last.
+fn one_byte_policies(rt: &(impl AllocGlobal + Abort), last: u16) -> ClassTable {
+    let mut policies = Vec::new(rt.alloc());
     for byte in 33..256u16 {
         if byte != 127 && byte <= last {
-            policies.push(policy(alloc, &[byte as u8], Route::Null)?)?;
+            let policy = policy(rt, &[byte as u8], Route::Null);
+            policies.push(policy).expect(rt, "memory");
         }
     }
-    Ok(Route::PrefixSelector {
-        policies,
-        wildcard: None,
-    })
+    let wildcard = None;
+    table_of(rt, Route::PrefixSelector { policies, wildcard })
 }
 
 /// The words of classes, each with its member.
-pub fn shown(alloc: Global, classes: &[Class]) -> Result<String, Fail> {
-    let mut text = String::new(alloc);
+pub fn shown(rt: &(impl AllocGlobal + Abort), classes: &[Class]) -> String {
+    let mut text = String::new(rt.alloc());
     for class in classes {
-        let member = class.member().ok_or("no member")?;
+        let member = class.member().expect(rt, "a member");
         let (word, member) = (class.word(), member.as_bytes());
-        write!(text, "{word:?} {member:?}|")?;
+        write!(text, "{word:?} {member:?}|").expect(rt, "memory");
     }
-    Ok(text)
+    text
 }
 
 /// Rests, each with its class word where the policies are `a` and `ab`.
@@ -55,67 +56,54 @@ pub const RESTS: &str = "a a|ab ab|abc ab|b ";
 /// The classes there.
 pub const NESTED: &str = "[] [33]|[97] [97]|[97, 98] [97, 98]|";
 
-fn table_of(alloc: Global, route: Route) -> Result<ClassTable, AllocError> {
-    ClassTable::new(alloc, &route)
+fn table_of(rt: &(impl AllocGlobal + Abort), route: Route) -> ClassTable {
+    ClassTable::new(rt.alloc(), &route).expect(rt, "memory")
 }
 
-fn check_rests(rt: &impl Abort, alloc: Global, table: &ClassTable) -> Result<(), Fail> {
+/// A row's rest, and the word of its class.
+pub fn rest_and_word<'a>(rt: &impl Abort, row: &'a str) -> (Rest, &'a [u8]) {
+    let (rest, word) = row.split_once(' ').expect(rt, "a blank");
+    let rest = Rest::of(rest.as_bytes()).expect(rt, "a rest");
+    (rest, word.as_bytes())
+}
+
+fn check_rest(rt: &(impl AllocGlobal + Abort), table: &ClassTable, row: &str) {
+    let (rest, word) = rest_and_word(rt, row);
+    let class = table.class_of(rt.alloc(), &rest).expect(rt, "memory");
+    check(rt, class.word() == word, row);
+}
+
+#[test]
+fn the_longest_word_counts(rt: HostRuntime) {
+    let table = nested(&rt);
     for row in RESTS.split('|') {
-        let (rest, word) = row.split_once(' ').ok_or("a row without a blank")?;
-        let rest = Rest::of(rest.as_bytes()).ok_or("no rest")?;
-        let class = table.class_of(alloc, &rest)?;
-        assert_eq!(rt; class.word(), word.as_bytes());
+        check_rest(&rt, &table, row);
     }
-    Ok(())
 }
 
 #[test]
-fn the_longest_word_counts(rt: HostRuntime) -> Result<(), Fail> {
-    let alloc = rt.alloc();
-    let table = table_of(alloc, nested(alloc)?)?;
-    check_rests(&rt, alloc, &table)
-}
-
-fn all_shown(alloc: Global, table: &ClassTable) -> Result<String, Fail> {
-    let classes = table.classes(alloc)?;
-    shown(alloc, classes.as_slice())
-}
-
-#[test]
-fn classes_have_members(rt: HostRuntime) -> Result<(), Fail> {
-    let alloc = rt.alloc();
-    let table = table_of(alloc, nested(alloc)?)?;
-    assert_eq!(rt; all_shown(alloc, &table)?.as_str(), NESTED);
-    Ok(())
+fn classes_have_members(rt: HostRuntime) {
+    let classes = nested(&rt).classes(rt.alloc()).expect(&rt, "memory");
+    check_text(&rt, "nested", shown(&rt, &classes).as_str(), NESTED);
 }
 
 /// The word of the first class, and how many classes there are.
-fn check_classes(
-    rt: &impl Abort,
-    alloc: Global,
-    table: &ClassTable,
-    word: &[u8],
-    count: usize,
-) -> Result<(), Fail> {
-    let classes = table.classes(alloc)?;
-    assert_eq!(rt; classes.len(), count);
-    let first = classes.first().ok_or("no class")?;
-    assert_eq!(rt; first.word(), word);
-    Ok(())
+fn check_classes(rt: &(impl AllocGlobal + Abort), table: &ClassTable, word: &[u8], count: usize) {
+    let classes = table.classes(rt.alloc()).expect(rt, "memory");
+    check(rt, classes.len() == count, "so many classes");
+    let first = classes.first().expect(rt, "a class");
+    check(rt, first.word() == word, "the first word");
 }
 
 #[test]
-fn the_least_free_byte_is_a_member(rt: HostRuntime) -> Result<(), Fail> {
-    let alloc = rt.alloc();
-    let table = table_of(alloc, one_byte_policies(alloc, 126)?)?;
-    let member = table.member_of(b"").ok_or("no member")?;
-    assert_eq!(rt; member.as_bytes(), [128].as_slice());
-    check_classes(&rt, alloc, &table, b"", 95)
+fn the_least_free_byte_is_a_member(rt: HostRuntime) {
+    let table = one_byte_policies(&rt, 126);
+    let member = table.member_of(b"").expect(&rt, "a member");
+    check(&rt, member.as_bytes() == [128].as_slice(), "the member");
+    check_classes(&rt, &table, b"", 95);
 }
 
 #[test]
-fn a_class_without_a_member_is_left_out(rt: HostRuntime) -> Result<(), Fail> {
-    let alloc = rt.alloc();
-    let table = table_of(alloc, one_byte_policies(alloc, 255)?)?;
-    check_classes(&rt, alloc, &table, &[33], 222)
+fn a_class_without_a_member_is_left_out(rt: HostRuntime) {
+    check_classes(&rt, &one_byte_policies(&rt, 255), &[33], 222);
 }

@@ -1,23 +1,19 @@
 //! Legs of two servers, from their first call to their last.
 
-use super::{FIRST, SECOND};
+use super::{play, server};
+use crate::script::shown;
 use mcv_base::{LegId, ServerId};
-use mcv_queues::{QueueFault, Queues, State};
+use mcv_queues::{Queues, State};
 use std::process::Abort;
-use std::test::Fail;
 
-/// Adds legs of a server, each with its number as its content.
-fn add(queues: &mut Queues<u64>, server: ServerId, numbers: &[u64]) -> Result<(), Fail> {
-    for number in numbers {
-        queues.reserve(1)?;
-        let leg = LegId(*number);
-        if queues.get(leg).is_none() {
-            if (server.0 as usize) < queues.servers() {
-                queues.push(leg, server, *number);
-            }
+/// Adds a leg of a server, with its number as its content.
+fn add(rt: &impl Abort, queues: &mut Queues<u64>, server: ServerId, number: u64) {
+    queues.reserve(1).expect(rt, "memory");
+    if queues.get(LegId(number)).is_none() {
+        if (server.0 as usize) < queues.servers() {
+            queues.push(LegId(number), server, number);
         }
     }
-    Ok(())
 }
 
 fn hold(queues: &mut Queues<u64>, number: u64) {
@@ -62,83 +58,127 @@ fn record(queues: &Queues<u64>, number: u64) -> Option<u64> {
     queues.get(LegId(number))?.record
 }
 
-#[test]
-fn legs_are_handed_out_in_the_order_of_their_numbers(rt: HostRuntime) -> Result<(), Fail> {
-    let mut queues = Queues::new(rt.alloc(), 2)?;
-    add(&mut queues, SECOND, &[5, 3, 8])?;
-    add(&mut queues, FIRST, &[1])?;
-    assert!(rt; queues.next(SECOND) == Ok(LegId(3)));
-    assert!(rt; state(&queues, 3) == Some(State::Sent));
-    assert!(rt; queues.in_flight(SECOND) == Some(LegId(3)));
-    assert!(rt; queues.next(SECOND) == Err(QueueFault::Busy));
-    assert!(rt; queues.next(FIRST) == Ok(LegId(1)));
-    assert!(rt; perform(&mut queues, 3) == Some(3));
-    assert!(rt; queues.get(LegId(3)).is_none());
-    assert!(rt; queues.next(SECOND) == Ok(LegId(5)));
-    assert!(rt; perform(&mut queues, 5) == Some(5));
-    assert!(rt; queues.next(SECOND) == Ok(LegId(8)));
-    assert!(rt; perform(&mut queues, 8) == Some(8));
-    assert!(rt; queues.next(SECOND) == Err(QueueFault::NothingWaiting));
-    assert!(rt; queues.next(ServerId(2)) == Err(QueueFault::NothingWaiting));
-    Ok(())
+/// What a call on a leg or a server of this number gives.
+pub(super) fn answer(
+    rt: &(impl AllocGlobal + Abort),
+    queues: &mut Queues<u64>,
+    word: &str,
+    number: u64,
+    more: u64,
+) -> String {
+    match word {
+        "add" => shown(rt, add(rt, queues, server(number), more)),
+        "next" => shown(rt, queues.next(server(number))),
+        "replay" => shown(rt, queues.replay(server(number))),
+        "hold" => shown(rt, hold(queues, number)),
+        "refuse" => shown(rt, refuse(queues, number)),
+        "store" => shown(rt, store(queues, number, more)),
+        "fail" => shown(rt, fail_replay(queues, number)),
+        "perform" => shown(rt, perform(queues, number)),
+        "set" => shown(rt, queues.set_content(LegId(number), more)),
+        "grow" => shown(rt, queues.reserve(usize::MAX).is_ok()),
+        _ => seen(rt, queues, word, number),
+    }
 }
 
-#[test]
-fn held_legs_come_before_refused_ones(rt: HostRuntime) -> Result<(), Fail> {
-    let mut queues = Queues::new(rt.alloc(), 2)?;
-    add(&mut queues, FIRST, &[1, 4])?;
-    add(&mut queues, SECOND, &[2])?;
-    assert!(rt; queues.first_held().is_none());
-    assert!(rt; queues.next(FIRST) == Ok(LegId(1)));
-    hold(&mut queues, 1);
-    assert!(rt; queues.next(SECOND) == Ok(LegId(2)));
-    hold(&mut queues, 2);
-    assert!(rt; queues.first_held() == Some(LegId(1)));
-    refuse(&mut queues, 1);
-    assert!(rt; queues.first_held() == Some(LegId(2)));
-    store(&mut queues, 2, 0);
-    assert!(rt; queues.first_held() == Some(LegId(1)));
-    assert!(rt; state(&queues, 1) == Some(State::Refused));
-    assert!(rt; queues.next(FIRST) == Ok(LegId(4)));
-    Ok(())
+/// What is seen of a leg or a server of this number.
+fn seen(rt: &(impl AllocGlobal + Abort), queues: &Queues<u64>, word: &str, number: u64) -> String {
+    match word {
+        "state" => shown(rt, state(queues, number)),
+        "record" => shown(rt, record(queues, number)),
+        "sent" => shown(rt, queues.in_flight(server(number))),
+        "held" => shown(rt, queues.first_held()),
+        "replayed" => shown(rt, queues.in_replay()),
+        _ => shown(rt, "no such word"),
+    }
 }
 
-#[test]
-fn replay_takes_the_least_number_and_keeps_what_fails(rt: HostRuntime) -> Result<(), Fail> {
-    let mut queues = Queues::new(rt.alloc(), 2)?;
-    add(&mut queues, FIRST, &[6, 2, 9])?;
-    assert!(rt; record(&queues, 6).is_none());
-    store(&mut queues, 9, 30);
-    store(&mut queues, 6, 31);
-    assert!(rt; record(&queues, 9) == Some(30));
-    assert!(rt; record(&queues, 2).is_none());
-    assert!(rt; queues.in_replay().is_none());
-    assert!(rt; queues.replay(FIRST) == Ok(LegId(6)));
-    assert!(rt; queues.in_replay() == Some(LegId(6)));
-    assert!(rt; queues.replay(FIRST) == Err(QueueFault::Busy));
-    assert!(rt; queues.next(FIRST) == Err(QueueFault::Busy));
-    fail_replay(&mut queues, 6);
-    assert!(rt; queues.in_replay().is_none());
-    assert!(rt; state(&queues, 6) == Some(State::InSpool));
-    assert!(rt; record(&queues, 6) == Some(31));
-    store(&mut queues, 2, 32);
-    queues.set_content(LegId(2), 2);
-    assert!(rt; record(&queues, 2) == Some(32));
-    assert!(rt; queues.replay(FIRST) == Ok(LegId(2)));
-    assert!(rt; perform(&mut queues, 2) == Some(2));
-    assert!(rt; queues.replay(FIRST) == Ok(LegId(6)));
-    assert!(rt; perform(&mut queues, 6) == Some(6));
-    assert!(rt; queues.replay(SECOND) == Err(QueueFault::NothingWaiting));
-    Ok(())
-}
+const ORDER: &str = "\
+add 1 5 = ()
+add 1 3 = ()
+add 1 8 = ()
+add 0 1 = ()
+next 1 = Ok(LegId(3))
+state 3 = Some(Sent)
+sent 1 = Some(LegId(3))
+next 1 = Err(Busy)
+next 0 = Ok(LegId(1))
+perform 3 = Some(3)
+state 3 = None
+next 1 = Ok(LegId(5))
+perform 5 = Some(5)
+next 1 = Ok(LegId(8))
+perform 8 = Some(8)
+next 1 = Err(NothingWaiting)
+next 2 = Err(NothingWaiting)";
 
 #[test]
-fn refused_growth_changes_nothing(rt: HostRuntime) -> Result<(), Fail> {
-    let mut queues = Queues::new(rt.alloc(), 2)?;
-    add(&mut queues, FIRST, &[1])?;
-    assert!(rt; queues.reserve(usize::MAX).is_err());
-    queues.set_content(LegId(1), 70);
-    assert!(rt; queues.next(FIRST) == Ok(LegId(1)));
-    assert!(rt; perform(&mut queues, 1) == Some(70));
-    Ok(())
+fn legs_are_handed_out_in_the_order_of_their_numbers(rt: HostRuntime) {
+    play(&rt, ORDER);
+}
+
+const HELD: &str = "\
+add 0 1 = ()
+add 0 4 = ()
+add 1 2 = ()
+held = None
+next 0 = Ok(LegId(1))
+hold 1 = ()
+next 1 = Ok(LegId(2))
+hold 2 = ()
+held = Some(LegId(1))
+refuse 1 = ()
+held = Some(LegId(2))
+store 2 0 = ()
+held = Some(LegId(1))
+state 1 = Some(Refused)
+next 0 = Ok(LegId(4))";
+
+#[test]
+fn held_legs_come_before_refused_ones(rt: HostRuntime) {
+    play(&rt, HELD);
+}
+
+const REPLAYED: &str = "\
+add 0 6 = ()
+add 0 2 = ()
+add 0 9 = ()
+record 6 = None
+store 9 30 = ()
+store 6 31 = ()
+record 9 = Some(30)
+record 2 = None
+replayed = None
+replay 0 = Ok(LegId(6))
+replayed = Some(LegId(6))
+replay 0 = Err(Busy)
+next 0 = Err(Busy)
+fail 6 = ()
+replayed = None
+state 6 = Some(InSpool)
+record 6 = Some(31)
+store 2 32 = ()
+set 2 2 = ()
+record 2 = Some(32)
+replay 0 = Ok(LegId(2))
+perform 2 = Some(2)
+replay 0 = Ok(LegId(6))
+perform 6 = Some(6)
+replay 1 = Err(NothingWaiting)";
+
+#[test]
+fn replay_takes_the_least_number_and_keeps_what_fails(rt: HostRuntime) {
+    play(&rt, REPLAYED);
+}
+
+const GROWN: &str = "\
+add 0 1 = ()
+grow = false
+set 1 70 = ()
+next 0 = Ok(LegId(1))
+perform 1 = Some(70)";
+
+#[test]
+fn refused_growth_changes_nothing(rt: HostRuntime) {
+    play(&rt, GROWN);
 }

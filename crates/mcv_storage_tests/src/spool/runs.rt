@@ -1,22 +1,22 @@
 //! What no clause says: the bytes of the worked rows, and runs that fail or stop at each of their calls.
 
 use super::disk::{Borrowed, Left, TestDisk, Trouble};
+use super::play::{play, play_on};
 use mcv_base::{Rest, ServerText};
 use mcv_spool::{Disk, FileDisk, Slot, Spool, SpoolFault, SpoolRecord};
 use std::alloc::Global;
 use std::io::ErrorKind;
 use std::process::Abort;
-use std::test::Fail;
 use std::{env, fs, process, thread};
 
-fn record(server: &[u8], rest: &[u8]) -> Option<SpoolRecord> {
+pub(super) fn record(server: &[u8], rest: &[u8]) -> Option<SpoolRecord> {
     Some(SpoolRecord {
         server: ServerText::of(server)?,
         rest: Rest::of(rest)?,
     })
 }
 
-fn open(alloc: Global, disk: &mut TestDisk) -> Result<Spool<Borrowed<'_>>, SpoolFault> {
+pub(super) fn open(alloc: Global, disk: &mut TestDisk) -> Result<Spool<Borrowed<'_>>, SpoolFault> {
     Spool::open(alloc, Borrowed { disk })
 }
 
@@ -39,77 +39,30 @@ fn slots_counted<D: Disk>(spool: &mut Spool<D>) -> Option<u64> {
     append(spool, b"a:11211", b"next")
 }
 
-/// How many slots a file opens to, or none where it is refused.
-fn slots_of(alloc: Global, bytes: Vec<u8>) -> Option<u64> {
-    let mut disk = TestDisk::new(alloc, bytes);
-    let mut spool = open(alloc, &mut disk).ok()?;
+/// How many slots a file opens to.
+fn slots_of(rt: &(impl AllocGlobal + Abort), bytes: Vec<u8>) -> Option<u64> {
+    let mut disk = TestDisk::new(rt.alloc(), bytes);
+    let mut spool = open(rt.alloc(), &mut disk).expect(rt, "a spool");
     slots_counted(&mut spool)
 }
 
-/// Whether the slot of this number is pending exactly when its digit is among these.
-fn is_as_said(number: usize, slot: &Slot, digits: &[u8]) -> bool {
-    let digit = b'0'.saturating_add(number.min(9) as u8);
-    slot.record().is_some() == digits.contains(&digit)
-}
-
-/// Whether the records of these digits are pending, and no others.
-fn are_pending<D: Disk>(spool: &Spool<D>, digits: &[u8]) -> bool {
-    for (number, slot) in spool.pending().iter().enumerate() {
-        if !is_as_said(number, slot, digits) {
-            return false;
-        }
-    }
-    digits.iter().all(|digit| usize::from(digit.saturating_sub(b'0')) < spool.pending().len())
-}
-
-/// Whether nothing is pending in this file once it is opened, and it is one closed gate then.
-fn gets_a_closed_gate(alloc: Global, bytes: &[u8]) -> Option<bool> {
-    let mut disk = TestDisk::new(alloc, bytes.to_vec(alloc).ok()?);
-    let is_empty = are_pending(&open(alloc, &mut disk).ok()?, b"");
-    Some(is_empty && disk.bytes.as_slice() == b"\x00".as_slice())
+/// Nothing is pending in this file once it is opened, and it is one closed gate then.
+fn check_gate(rt: &(impl AllocGlobal + Abort), bytes: &[u8]) {
+    let bytes = bytes.to_vec(rt.alloc()).expect(rt, "memory");
+    let mut disk = TestDisk::new(rt.alloc(), bytes);
+    play_on(rt, &mut disk, "pending = ");
+    assert!(rt;
+        disk.bytes.as_slice() == b"\x00".as_slice(),
+        "no closed gate"
+    );
 }
 
 #[test]
 fn an_empty_file_and_one_of_one_byte_get_a_closed_gate(rt: HostRuntime) {
-    for bytes in [b"".as_slice(), b"\x00", b"\x01", b"\xff"] {
-        assert!(rt; gets_a_closed_gate(rt.alloc(), bytes) == Some(true));
-    }
-}
-
-/// Whether two records are appended under the numbers 0 and 1, and the first is done.
-fn two_are_appended<D: Disk>(spool: &mut Spool<D>) -> bool {
-    append(spool, b"a:11211", b"a") == Some(0)
-        && append(spool, b"b:11211", b"ab") == Some(1)
-        && spool.done(0).is_ok()
-}
-
-/// Whether a slot has the record that is pending with this rest.
-fn has_rest(slot: Option<&Slot>, rest: &[u8]) -> bool {
-    match slot {
-        Some(slot) => slot
-            .record()
-            .is_some_and(|record| record.rest.as_bytes() == rest),
-        None => false,
-    }
-}
-
-/// Whether the second of these records alone is pending.
-fn is_second_pending<D: Disk>(spool: &Spool<D>) -> bool {
-    are_pending(spool, b"1") && has_rest(spool.pending().get(1), b"ab")
-}
-
-/// Whether two records come into the file, and further calls of `done` change nothing.
-fn spell_two(alloc: Global, disk: &mut TestDisk) -> bool {
-    match open(alloc, disk) {
-        Ok(mut spool) => {
-            two_are_appended(&mut spool)
-                && is_second_pending(&spool)
-                && spool.done(0).is_ok()
-                && spool.done(7).is_ok()
-                && is_second_pending(&spool)
-        }
-        Err(_) => false,
-    }
+    check_gate(&rt, b"");
+    check_gate(&rt, b"\x00");
+    check_gate(&rt, b"\x01");
+    check_gate(&rt, b"\xff");
 }
 
 /// Whether the bytes begin with these, and then have so many zeros and no more.
@@ -120,10 +73,26 @@ fn is_spelled(bytes: &[u8], begin: &[u8], zeros: usize) -> bool {
     }
 }
 
+/// Two records come, of which the first is done.
+const TWO: &str = "\
+append a:11211 a = 0 a
+append b:11211 ab = 1 ab
+done 0 = Ok(())";
+
+/// Further calls of `done` change nothing.
+const SPELLED: &str = "\
+append a:11211 a = 0 a
+append b:11211 ab = 1 ab
+done 0 = Ok(())
+pending = 1:ab;
+done 0 = Ok(())
+done 7 = Ok(())
+pending = 1:ab;";
+
 #[test]
 fn records_are_spelled_byte_for_byte(rt: HostRuntime) {
     let mut disk = empty_disk(rt.alloc());
-    assert!(rt; spell_two(rt.alloc(), &mut disk));
+    play_on(&rt, &mut disk, SPELLED);
     let bytes = disk.bytes.as_slice();
     assert!(rt; bytes.len() == 1_281);
     let (first, second) = bytes.split_at(640);
@@ -131,129 +100,104 @@ fn records_are_spelled_byte_for_byte(rt: HostRuntime) {
     assert!(rt; is_spelled(second, b"\x01\x00\x00\x07\x00\x02b:11211ab", 626));
 }
 
-/// Whether three records are appended.
-fn three_are_appended(spool: &mut Spool<Borrowed<'_>>) -> bool {
-    for (number, rest) in [(0, b"a"), (1, b"b"), (2, b"c")] {
-        if append(spool, b"a:11211", rest) != Some(number) {
-            return false;
-        }
-    }
-    true
-}
-
-/// Numbers that are done one after another, each with those that are pending then.
-const DONE: [(u64, &[u8]); 3] = [(1, b"02"), (2, b"0"), (u64::MAX, b"0")];
-
-fn are_done_in_turn(spool: &mut Spool<Borrowed<'_>>) -> bool {
-    for (number, digits) in DONE {
-        if spool.done(number).is_err() || !are_pending(spool, digits) {
-            return false;
-        }
-    }
-    true
-}
+const DONE: &str = "\
+append a:11211 a = 0 a
+append a:11211 b = 1 b
+append a:11211 c = 2 c
+pending = 0:a;1:b;2:c;
+done 1 = Ok(())
+pending = 0:a;2:c;
+done 2 = Ok(())
+pending = 0:a;
+done 18446744073709551615 = Ok(())
+pending = 0:a;
+append a:11211 d = 3 d
+pending = 0:a;3:d;
+reopen = Ok(())
+pending = 0:a;3:d;";
 
 #[test]
-fn records_are_done_in_any_order(rt: HostRuntime) -> Result<(), Fail> {
+fn records_are_done_in_any_order(rt: HostRuntime) {
     let mut disk = empty_disk(rt.alloc());
-    let mut spool = open(rt.alloc(), &mut disk)?;
-    assert!(rt; three_are_appended(&mut spool) && are_pending(&spool, b"012"));
-    assert!(rt; are_done_in_turn(&mut spool));
-    assert!(rt; append(&mut spool, b"a:11211", b"d") == Some(3));
-    assert!(rt; are_pending(&spool, b"03"));
-    assert!(rt; spool.reopen().is_ok() && are_pending(&spool, b"03"));
-    Ok(())
+    play_on(&rt, &mut disk, DONE);
 }
 
-/// Whether a record is of this server and rest.
-fn is_of(one: &SpoolRecord, server: &[u8], rest: &[u8]) -> Option<bool> {
-    let other = record(server, rest)?;
-    Some(one.is(&other.server, &other.rest))
+/// Whether a record and its copy are of this server and rest, or neither of the two is.
+fn check_of(rt: &impl Abort, one: &SpoolRecord, server: &[u8], rest: &[u8], is: bool) {
+    let other = record(server, rest).expect(rt, "a record");
+    assert!(rt; one.is(&other.server, &other.rest) == is, "{other:?}");
+    assert!(rt;
+        one.copied().is(&other.server, &other.rest) == is,
+        "the copy, {other:?}"
+    );
 }
 
 #[test]
-fn a_record_is_of_one_server_and_one_rest(rt: HostRuntime) -> Result<(), Fail> {
-    let one = record(b"a:11211", b"a").ok_or("record")?;
-    let copy = one.copied();
-    for (server, rest, is) in [
-        (b"a:11211", b"a", true),
-        (b"b:11211", b"a", false),
-        (b"a:11212", b"a", false),
-        (b"a:11211", b"b", false),
-    ] {
-        assert!(rt; is_of(&one, server, rest) == Some(is));
-        assert!(rt; is_of(&copy, server, rest) == Some(is));
-    }
-    Ok(())
+fn a_record_is_of_one_server_and_one_rest(rt: HostRuntime) {
+    let one = record(b"a:11211", b"a").expect(&rt, "a record");
+    check_of(&rt, &one, b"a:11211", b"a", true);
+    check_of(&rt, &one, b"b:11211", b"a", false);
+    check_of(&rt, &one, b"a:11212", b"a", false);
+    check_of(&rt, &one, b"a:11211", b"b", false);
 }
 
-/// The number of a record that is appended to the file.
-fn append_to(alloc: Global, disk: &mut TestDisk) -> Option<u64> {
-    let mut spool = open(alloc, disk).ok()?;
-    append(&mut spool, b"a:11211", b"a")
-}
-
-/// A file with one record whose length doesn't read, and with an open end gate.
-fn damaged(alloc: Global) -> Option<TestDisk> {
-    let mut disk = empty_disk(alloc);
-    append_to(alloc, &mut disk)?;
-    *disk.bytes.get_mut(3)? = 0;
-    *disk.bytes.get_mut(640)? = 1;
-    Some(disk)
+/// Makes the length of the first record one that doesn't read, and opens the end gate.
+fn spoil(bytes: &mut Vec<u8>) -> Option<()> {
+    *bytes.get_mut(3)? = 0;
+    *bytes.get_mut(640)? = 1;
+    Some(())
 }
 
 /// An opening closes the end gate, and one that is refused for damage has written nothing.
 #[test]
-fn a_length_that_does_not_read_is_damage(rt: HostRuntime) -> Result<(), Fail> {
-    let mut disk = damaged(rt.alloc()).ok_or("file")?;
+fn a_length_that_does_not_read_is_damage(rt: HostRuntime) {
+    let mut disk = empty_disk(rt.alloc());
+    play_on(&rt, &mut disk, "append a:11211 a = 0 a");
+    assert!(rt; spoil(&mut disk.bytes).is_some());
     assert!(rt; open(rt.alloc(), &mut disk).err() == Some(SpoolFault::Damaged(0)));
     assert!(rt; disk.bytes.len() == 641 && disk.bytes.last() == Some(&1));
-    Ok(())
 }
+
+const FAULTS: [SpoolFault; 5] = [
+    SpoolFault::Device,
+    SpoolFault::Full,
+    SpoolFault::Memory,
+    SpoolFault::Reopen,
+    SpoolFault::Damaged(0),
+];
 
 #[test]
 fn faults_have_numbers(rt: HostRuntime) {
-    for (fault, number) in [
-        (SpoolFault::Device, 1),
-        (SpoolFault::Full, 2),
-        (SpoolFault::Memory, 3),
-        (SpoolFault::Reopen, 4),
-        (SpoolFault::Damaged(0), 5),
-    ] {
-        assert!(rt; fault.number() == number, "{number}");
+    for (place, fault) in FAULTS.iter().enumerate() {
+        let number = usize::from(fault.number());
+        assert!(rt; number == place.saturating_add(1), "{number}");
     }
 }
 
-/// Why a record isn't taken.
-fn refused(spool: &mut Spool<Borrowed<'_>>) -> Option<SpoolFault> {
-    spool.append(record(b"b:11211", b"ab")?).err()
-}
+const FAILED: &str = "\
+append a:11211 a = 0 a
+append b:11211 ab = Device
+pending = 0:a;
+append b:11211 ab = Reopen
+done 0 = Err(Reopen)
+reopen = Ok(())
+pending = 0:a;";
 
 #[test]
-fn a_failed_sync_wants_a_reopen(rt: HostRuntime) -> Result<(), Fail> {
+fn a_failed_sync_wants_a_reopen(rt: HostRuntime) {
     let mut disk = empty_disk(rt.alloc());
     disk.trouble = Trouble::FailAt(12);
-    let mut spool = open(rt.alloc(), &mut disk)?;
-    assert!(rt; append(&mut spool, b"a:11211", b"a") == Some(0));
-    assert!(rt; refused(&mut spool) == Some(SpoolFault::Device) && are_pending(&spool, b"0"));
-    assert!(rt; refused(&mut spool) == Some(SpoolFault::Reopen));
-    assert!(rt; spool.done(0).err() == Some(SpoolFault::Reopen));
-    assert!(rt; spool.reopen().is_ok() && are_pending(&spool, b"0"));
-    Ok(())
+    play_on(&rt, &mut disk, FAILED);
 }
 
-/// Whether each opening renews the disk once, and no other call does.
-fn opens_renew(alloc: Global) -> Option<bool> {
-    let mut disk = empty_disk(alloc);
-    append_to(alloc, &mut disk)?;
-    let once = disk.renewals == 1;
-    let reopened = open(alloc, &mut disk).ok()?.reopen().is_ok();
-    Some(once && reopened && disk.renewals == 3)
-}
-
+/// Each opening renews the disk once, and no other call does.
 #[test]
 fn each_opening_renews_the_disk(rt: HostRuntime) {
-    assert!(rt; opens_renew(rt.alloc()) == Some(true));
+    let mut disk = empty_disk(rt.alloc());
+    play_on(&rt, &mut disk, "append a:11211 a = 0 a");
+    assert!(rt; disk.renewals == 1);
+    play_on(&rt, &mut disk, "reopen = Ok(())");
+    assert!(rt; disk.renewals == 3);
 }
 
 /// What a run was answered.
@@ -345,178 +289,178 @@ fn run_in(alloc: Global, disk: &mut TestDisk, trouble: Trouble) -> Reported {
     run(alloc, disk)
 }
 
-/// Whether the records of a run that stops at this call are kept in what it leaves.
-fn outlive_a_stop(alloc: Global, call: usize, left: Left) -> Option<bool> {
-    let mut disk = empty_disk(alloc);
-    let reported = run_in(alloc, &mut disk, Trouble::StopAt(call));
-    let mut after = TestDisk::new(alloc, disk.left(left).ok()?);
-    let mut spool = open(alloc, &mut after).ok()?;
-    Some(is_kept(&mut spool, reported))
+/// The records of a run that stops at this call are kept in what it leaves.
+fn check_stop(rt: &(impl AllocGlobal + Abort), call: usize, left: Left) {
+    let mut disk = empty_disk(rt.alloc());
+    let reported = run_in(rt.alloc(), &mut disk, Trouble::StopAt(call));
+    let bytes = disk.left(left).expect(rt, "memory");
+    let mut after = TestDisk::new(rt.alloc(), bytes);
+    let mut spool = open(rt.alloc(), &mut after).expect(rt, "a spool");
+    assert!(rt; is_kept(&mut spool, reported), "stop at call {call}");
 }
 
 #[test]
 fn records_outlive_a_stop_at_each_call(rt: HostRuntime) {
     for call in 0..20 {
-        for left in [Left::Synced, Left::Seen, Left::Torn] {
-            assert!(rt;
-                outlive_a_stop(rt.alloc(), call, left) == Some(true),
-                "stop at call {call}"
-            );
-        }
+        check_stop(&rt, call, Left::Synced);
+        check_stop(&rt, call, Left::Seen);
+        check_stop(&rt, call, Left::Torn);
     }
 }
 
-/// Whether the records of a run of which this call fails are kept, also once the spool is opened anew.
-fn outlive_a_failure(alloc: Global, call: usize, reopens: bool) -> Option<bool> {
-    let mut disk = empty_disk(alloc);
-    let reported = run_in(alloc, &mut disk, Trouble::FailAt(call));
-    let mut spool = open(alloc, &mut disk).ok()?;
-    if reopens {
-        spool.reopen().ok()?;
-    }
-    Some(is_kept(&mut spool, reported))
+/// The records of a run of which this call fails are kept, also once the spool is opened anew.
+fn check_failure(rt: &(impl AllocGlobal + Abort), call: usize, reopens: bool) {
+    let mut disk = empty_disk(rt.alloc());
+    let reported = run_in(rt.alloc(), &mut disk, Trouble::FailAt(call));
+    let mut spool = open(rt.alloc(), &mut disk).expect(rt, "a spool");
+    let opened = !reopens || spool.reopen().is_ok();
+    assert!(rt;
+        opened && is_kept(&mut spool, reported),
+        "failure of call {call}"
+    );
 }
 
 #[test]
 fn records_outlive_a_failure_of_each_call(rt: HostRuntime) {
     for call in 0..20 {
-        for reopens in [false, true] {
-            assert!(rt;
-                outlive_a_failure(rt.alloc(), call, reopens) == Some(true),
-                "failure of call {call}"
-            );
-        }
+        check_failure(&rt, call, false);
+        check_failure(&rt, call, true);
     }
 }
 
-/// How many records a run that stops at this call was answered are stored, and how many slots its file has.
-fn stored_and_left(alloc: Global, call: usize, left: Left) -> Option<(u64, u64)> {
-    let mut disk = empty_disk(alloc);
-    let reported = run_in(alloc, &mut disk, Trouble::StopAt(call));
-    let slots = slots_of(alloc, disk.left(left).ok()?)?;
-    Some((reported.stored, slots))
+/// So many records of a run that stops at this call were answered to be stored, and its file has so many slots.
+fn check_left(rt: &(impl AllocGlobal + Abort), call: usize, left: Left, stored: u64, slots: u64) {
+    let mut disk = empty_disk(rt.alloc());
+    let reported = run_in(rt.alloc(), &mut disk, Trouble::StopAt(call));
+    let bytes = disk.left(left).expect(rt, "memory");
+    assert!(rt;
+        reported.stored == stored && slots_of(rt, bytes) == Some(slots),
+        "stop at call {call}"
+    );
 }
 
 /// The second append makes the calls 11 to 14.
 #[test]
 fn the_second_record_counts_after_the_second_sync(rt: HostRuntime) {
-    for (call, left, stored, slots) in [
-        (11, Left::Torn, 1, 1),
-        (12, Left::Torn, 1, 1),
-        (13, Left::Synced, 1, 1),
-        (15, Left::Synced, 2, 2),
-    ] {
-        assert!(rt;
-            stored_and_left(rt.alloc(), call, left) == Some((stored, slots)),
-            "stop at call {call}"
-        );
-    }
+    check_left(&rt, 11, Left::Torn, 1, 1);
+    check_left(&rt, 12, Left::Torn, 1, 1);
+    check_left(&rt, 13, Left::Synced, 1, 1);
+    check_left(&rt, 15, Left::Synced, 2, 2);
 }
 
 /// A path that no other run of the tests has, nor another test.
-fn own_path(rt: &HostRuntime, test: &str) -> Result<String, Fail> {
-    let number = process::id(rt.process());
-    let temporary = env::temp_dir(rt)?;
+fn own_path(host: &HostRuntime, rt: &impl Abort, test: &str) -> String {
+    let number = process::id(host.process());
+    let temporary = env::temp_dir(host).expect(rt, "a folder");
     let folder = temporary.as_str();
-    Ok(format!(in rt.alloc(); "{folder}/mcv_spool_{test}_{number}")?)
+    format!(in host.alloc(); "{folder}/mcv_spool_{test}_{number}").expect(rt, "memory")
 }
 
-fn open_file(rt: &HostRuntime, path: &str) -> Result<Spool<FileDisk>, Fail> {
-    Ok(Spool::open(rt.alloc(), FileDisk::open(rt, path)?)?)
+fn open_file(host: &HostRuntime, rt: &impl Abort, path: &str) -> Spool<FileDisk> {
+    let disk = FileDisk::open(host, path).expect(rt, "a file");
+    Spool::open(host.alloc(), disk).expect(rt, "a spool")
 }
 
-/// Whether nothing is pending in the spool of a file.
-fn is_empty_there(rt: &HostRuntime, path: &str) -> Result<bool, Fail> {
-    let spool = open_file(rt, path)?;
-    Ok(are_pending(&spool, b""))
+/// Plays a script on the spool of a file, which is opened.
+fn play_in(host: &HostRuntime, rt: &(impl AllocGlobal + Abort), path: &str, script: &str) {
+    let mut spool = open_file(host, rt, path);
+    play(rt, &mut spool, script);
 }
 
-/// Whether two records come into the spool of a file, and the first is done.
-fn append_two_to(rt: &HostRuntime, path: &str) -> Result<bool, Fail> {
-    let mut spool = open_file(rt, path)?;
-    Ok(two_are_appended(&mut spool))
+/// The file has these bytes.
+fn check_bytes(host: &HostRuntime, rt: &impl Abort, path: &str, wanted: &[u8]) {
+    let bytes = fs::read(host, path).expect(rt, "bytes");
+    assert!(rt; bytes.as_slice() == wanted, "other bytes");
 }
 
-/// Whether the second of these records is pending there, and no more have come.
-fn is_second_there(rt: &HostRuntime, path: &str) -> Result<bool, Fail> {
-    let mut spool = open_file(rt, path)?;
-    Ok(is_second_pending(&spool) && slots_counted(&mut spool) == Some(2))
+fn remove(host: &HostRuntime, rt: &impl Abort, path: &str) {
+    fs::remove_file(host, path).expect(rt, "a file");
 }
 
-#[test]
-fn a_file_of_the_system_keeps_records(rt: HostRuntime) -> Result<(), Fail> {
-    let path = own_path(&rt, "records")?;
-    fs::write(&rt, path.as_str(), "\x01torn")?;
-    assert!(rt; is_empty_there(&rt, path.as_str())?);
-    assert!(rt; fs::read(&rt, path.as_str())?.as_slice() == b"\x00".as_slice());
-    assert!(rt; append_two_to(&rt, path.as_str())?);
-    assert!(rt; is_second_there(&rt, path.as_str())?);
-    fs::remove_file(&rt, path.as_str())?;
-    Ok(())
-}
-
-/// Whether a file that is open can't be opened again.
-fn is_open_once(rt: &HostRuntime, path: &str) -> Result<bool, Fail> {
-    let _first = FileDisk::open(rt, path)?;
-    let second = FileDisk::open(rt, path);
-    Ok(
-        second
-            .err()
-            .is_some_and(|e| e.kind() == ErrorKind::WouldBlock),
-    )
-}
-
-/// Whether a file can be opened and takes a byte.
-fn takes_a_byte(rt: &HostRuntime, path: &str) -> Result<bool, Fail> {
-    let mut disk = FileDisk::open(rt, path)?;
-    Ok(disk.write_at(0, b"\x00").is_ok() && disk.sync().is_ok() && disk.len() == Ok(1))
+/// A torn file becomes empty, and two records are kept in it.
+fn check_kept(host: &HostRuntime, rt: &(impl AllocGlobal + Abort), path: &str) {
+    fs::write(host, path, "\x01torn").expect(rt, "a file");
+    play_in(host, rt, path, "pending = ");
+    check_bytes(host, rt, path, b"\x00");
+    play_in(host, rt, path, TWO);
+    play_in(
+        host,
+        rt,
+        path,
+        "pending = 1:ab;\nappend a:11211 next = 2 next",
+    );
+    remove(host, rt, path);
 }
 
 #[test]
-fn a_file_of_the_system_is_open_once(rt: HostRuntime) -> Result<(), Fail> {
-    let path = own_path(&rt, "lock")?;
-    assert!(rt; is_open_once(&rt, path.as_str())?);
-    assert!(rt; takes_a_byte(&rt, path.as_str())?);
-    fs::remove_file(&rt, path.as_str())?;
-    Ok(())
+fn a_file_of_the_system_keeps_records(rt: HostRuntime) {
+    let path = own_path(&rt, &rt, "records");
+    check_kept(&rt, &rt, path.as_str());
 }
 
-/// Whether a file takes bytes that are synced, and more that are written again before they are.
-fn writes_again(rt: &HostRuntime, path: &str) -> Result<bool, Fail> {
-    let mut disk = FileDisk::open(rt, path)?;
-    Ok(
-        disk.write_at(0, b"abc").is_ok()
-            && disk.sync().is_ok()
-            && disk.write_at(1, b"xyz").is_ok()
-            && disk.cut(3).is_ok()
-            && disk.renew().is_ok()
-            && disk.sync().is_ok(),
-    )
+/// A file that is open can't be opened again.
+fn check_lock(host: &HostRuntime, rt: &impl Abort, path: &str) {
+    let _first = FileDisk::open(host, path).expect(rt, "a file");
+    let fault = FileDisk::open(host, path).err().expect(rt, "a lock");
+    assert!(rt; fault.kind() == ErrorKind::WouldBlock);
 }
 
-#[test]
-fn what_is_not_synced_is_written_again(rt: HostRuntime) -> Result<(), Fail> {
-    let path = own_path(&rt, "renewed")?;
-    assert!(rt; writes_again(&rt, path.as_str())?);
-    assert!(rt; fs::read(&rt, path.as_str())?.as_slice() == b"axy".as_slice());
-    fs::remove_file(&rt, path.as_str())?;
-    Ok(())
-}
-
-/// Whether the third record comes to a spool of two, and is pending beside the second then.
-fn append_third(mut spool: Spool<FileDisk>) -> bool {
-    append(&mut spool, b"a:11211", b"a") == Some(2) && are_pending(&spool, b"12")
+/// A file can be opened and takes a byte.
+fn check_byte(host: &HostRuntime, rt: &impl Abort, path: &str) {
+    let mut disk = FileDisk::open(host, path).expect(rt, "a file");
+    let written = disk.write_at(0, b"\x00").is_ok() && disk.sync().is_ok();
+    assert!(rt; written && disk.len() == Ok(1), "no byte");
 }
 
 #[test]
-fn a_spool_goes_to_another_thread(rt: HostRuntime) -> Result<(), Fail> {
-    let path = own_path(&rt, "thread")?;
-    assert!(rt; append_two_to(&rt, path.as_str())?);
-    let spool = open_file(&rt, path.as_str())?;
-    let child = thread::spawn(&rt, move || append_third(spool))
-        .ok()
-        .ok_or("thread")?;
-    assert!(rt; child.join(&rt));
-    fs::remove_file(&rt, path.as_str())?;
-    Ok(())
+fn a_file_of_the_system_is_open_once(rt: HostRuntime) {
+    let path = own_path(&rt, &rt, "lock");
+    check_lock(&rt, &rt, path.as_str());
+    check_byte(&rt, &rt, path.as_str());
+    remove(&rt, &rt, path.as_str());
+}
+
+/// Whether a disk takes bytes that are synced, and more that are written again before they are.
+fn writes_again(disk: &mut FileDisk) -> bool {
+    disk.write_at(0, b"abc").is_ok()
+        && disk.sync().is_ok()
+        && disk.write_at(1, b"xyz").is_ok()
+        && disk.cut(3).is_ok()
+        && disk.renew().is_ok()
+        && disk.sync().is_ok()
+}
+
+fn check_writes(host: &HostRuntime, rt: &impl Abort, path: &str) {
+    let mut disk = FileDisk::open(host, path).expect(rt, "a file");
+    assert!(rt; writes_again(&mut disk), "not written");
+}
+
+#[test]
+fn what_is_not_synced_is_written_again(rt: HostRuntime) {
+    let path = own_path(&rt, &rt, "renewed");
+    check_writes(&rt, &rt, path.as_str());
+    check_bytes(&rt, &rt, path.as_str(), b"axy");
+    remove(&rt, &rt, path.as_str());
+}
+
+/// The spool, if the third record comes to it.
+fn append_third(mut spool: Spool<FileDisk>) -> Option<Spool<FileDisk>> {
+    if append(&mut spool, b"a:11211", b"a") == Some(2) {
+        Some(spool)
+    } else {
+        None
+    }
+}
+
+/// Two records come to a spool, and in another thread a third.
+#[test]
+fn a_spool_goes_to_another_thread(rt: HostRuntime) {
+    let path = own_path(&rt, &rt, "thread");
+    play_in(&rt, &rt, path.as_str(), TWO);
+    let spool = open_file(&rt, &rt, path.as_str());
+    let child = thread::spawn(&rt, move || append_third(spool));
+    let back = child.expect(&rt, "a thread").join(&rt);
+    let mut spool = back.expect(&rt, "a third record");
+    play(&rt, &mut spool, "pending = 1:ab;2:a;");
+    remove(&rt, &rt, path.as_str());
 }

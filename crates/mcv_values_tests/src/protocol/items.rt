@@ -1,47 +1,40 @@
 //! Items and texts against the words of memcached's `protocol.txt`.
 
-use crate::rows::unfolded;
+use crate::legs::{hit, leg_line, shared};
+use crate::rows::{check, check_bytes, push, push_meant, unfolded};
 use itoa::Buffer;
-use mcv_base::{Ask, FixedReply, LegRequest, Op, Part, Reply, Request, Rest, split_key};
+use mcv_base::{Ask, FixedReply, LegRequest, Op, Part, Reply, Request, Rest};
 use mcv_text::{Item, Refusal, RequestReader, TextFault, leg_text, reply_text};
-use std::alloc::{AllocError, Global};
 use std::process::Abort;
 use std::sync::Arc;
-use std::test::Fail;
 
-fn push_word(text: &mut Vec<u8>, mark: &[u8], word: &[u8]) -> Result<(), AllocError> {
-    text.extend_from_slice(mark)?;
-    text.extend_from_slice(word)
+fn push_word(rt: &impl Abort, text: &mut Vec<u8>, mark: &[u8], word: &[u8]) {
+    push(rt, text, mark);
+    push(rt, text, word);
 }
 
-fn push_number(text: &mut Vec<u8>, mark: &[u8], number: i64) -> Result<(), AllocError> {
+fn push_number(rt: &impl Abort, text: &mut Vec<u8>, mark: &[u8], number: i64) {
     let mut buffer = Buffer::new();
-    push_word(text, mark, buffer.format(number).as_bytes())
+    push_word(rt, text, mark, buffer.format(number).as_bytes());
 }
 
-fn push_unless_0(text: &mut Vec<u8>, mark: &[u8], number: i64) -> Result<(), AllocError> {
-    if number == 0 {
-        Ok(())
-    } else {
-        push_number(text, mark, number)
+fn push_unless_0(rt: &impl Abort, text: &mut Vec<u8>, mark: &[u8], number: i64) {
+    if number != 0 {
+        push_number(rt, text, mark, number);
     }
 }
 
-fn push_cas(text: &mut Vec<u8>, cas: Option<u64>) -> Result<(), AllocError> {
-    match cas {
-        Some(cas) => {
-            let mut buffer = Buffer::new();
-            push_word(text, b" c", buffer.format(cas).as_bytes())
-        }
-        None => Ok(()),
+fn push_cas(rt: &impl Abort, text: &mut Vec<u8>, cas: Option<u64>) {
+    if let Some(cas) = cas {
+        let mut buffer = Buffer::new();
+        push_word(rt, text, b" c", buffer.format(cas).as_bytes());
     }
 }
 
-fn push_keys(text: &mut Vec<u8>, ask: &Ask) -> Result<(), AllocError> {
+fn push_keys(rt: &impl Abort, text: &mut Vec<u8>, ask: &Ask) {
     for key in &ask.keys {
-        push_word(text, b" ", key.as_slice())?;
+        push_word(rt, text, b" ", key.as_slice());
     }
-    Ok(())
 }
 
 /// The mark before a value, or none where it is empty.
@@ -49,105 +42,129 @@ fn body_mark(ask: &Ask) -> &'static [u8] {
     if ask.body.is_empty() { b"" } else { b" =" }
 }
 
-fn push_ask(text: &mut Vec<u8>, ask: &Ask) -> Result<(), AllocError> {
-    text.extend_from_slice(ask.op.name().as_bytes())?;
-    push_keys(text, ask)?;
-    push_unless_0(text, b" f", i64::from(ask.flags))?;
-    push_unless_0(text, b" e", ask.exptime)?;
-    push_cas(text, ask.cas)?;
-    text.extend_from_slice(if ask.noreply { b" noreply" } else { b"" })?;
-    push_word(text, body_mark(ask), ask.body.as_slice())
+fn push_ask(rt: &impl Abort, text: &mut Vec<u8>, ask: &Ask) {
+    push(rt, text, ask.op.name().as_bytes());
+    push_keys(rt, text, ask);
+    push_unless_0(rt, text, b" f", i64::from(ask.flags));
+    push_unless_0(rt, text, b" e", ask.exptime);
+    push_cas(rt, text, ask.cas);
+    push(rt, text, if ask.noreply { b" noreply" } else { b"" });
+    push_word(rt, text, body_mark(ask), ask.body.as_slice());
 }
 
 /// An item as a word or more and a semicolon; fields that are 0, empty or None aren't shown.
-fn push_item(text: &mut Vec<u8>, item: &Item) -> Result<(), AllocError> {
+fn push_item(rt: &impl Abort, text: &mut Vec<u8>, item: &Item) {
     match item {
-        Item::Refused(refusal) => push_number(text, b"refused ", i64::from(refusal.number()))?,
-        Item::Asked(Request::Version) => text.extend_from_slice(b"version")?,
-        Item::Asked(Request::Quit) => text.extend_from_slice(b"quit")?,
-        Item::Asked(Request::Ask(ask)) => push_ask(text, ask)?,
+        Item::Refused(refusal) => push_number(rt, text, b"refused ", i64::from(refusal.number())),
+        Item::Asked(Request::Version) => push(rt, text, b"version"),
+        Item::Asked(Request::Quit) => push(rt, text, b"quit"),
+        Item::Asked(Request::Ask(ask)) => push_ask(rt, text, ask),
     }
-    text.extend_from_slice(b";")
+    push(rt, text, b";");
 }
 
-fn push_items(text: &mut Vec<u8>, items: &[Item]) -> Result<(), AllocError> {
-    for item in items {
-        push_item(text, item)?;
-    }
-    Ok(())
-}
-
-/// Feeds a piece and adds its items; a reader that has failed gives none.
-fn push_fed(text: &mut Vec<u8>, reader: &mut RequestReader, piece: &[u8]) -> Result<(), Fail> {
-    match reader.feed(piece) {
-        Err(TextFault::Failed) => Ok(()),
-        fed => Ok(push_items(text, fed?.as_slice())?),
-    }
-}
-
-/// Adds `failed` where a further piece is answered Failed.
-fn push_end(text: &mut Vec<u8>, reader: &mut RequestReader) -> Result<(), AllocError> {
-    match reader.feed(b"") {
-        Err(TextFault::Failed) => text.extend_from_slice(b"failed"),
-        _ => Ok(()),
-    }
-}
-
-/// Adds what is read of two pieces.
-fn push_cut(
+/// Feeds a piece and adds its items, or `end` where the reader has failed.
+fn push_fed(
+    rt: &impl Abort,
     text: &mut Vec<u8>,
     reader: &mut RequestReader,
+    piece: &[u8],
+    end: &[u8],
+) {
+    match reader.feed(piece) {
+        Ok(items) => {
+            for item in &items {
+                push_item(rt, text, item);
+            }
+        }
+        Err(fault) => {
+            check(rt, fault == TextFault::Failed, "memory");
+            push(rt, text, end);
+        }
+    }
+}
+
+/// What is read of a piece with the bytes up to the cut, and of pieces of so many bytes each behind it; `failed` comes
+/// last where a further piece is answered Failed.
+fn read(rt: &(impl AllocGlobal + Abort), bytes: &[u8], cut: usize, size: usize) -> Vec<u8> {
+    let mut text = Vec::new(rt.alloc());
+    let mut reader = RequestReader::new(rt.alloc());
+    let (first, behind) = bytes.split_at(cut.min(bytes.len()));
+    push_fed(rt, &mut text, &mut reader, first, b"");
+    for piece in behind.chunks(size.max(1)) {
+        push_fed(rt, &mut text, &mut reader, piece, b"");
+    }
+    push_fed(rt, &mut text, &mut reader, b"", b"failed");
+    text
+}
+
+/// Whether a long stream of `length` bytes is cut here: each cut near both ends, and some between them.
+fn is_tried(cut: usize, length: usize) -> bool {
+    cut < 24 || length.saturating_sub(cut) < 24 || cut % 65_537 == 0
+}
+
+/// A stream has these items in a piece up to the cut and pieces of so many bytes.
+fn check_cut(
+    rt: &(impl AllocGlobal + Abort),
+    row: &str,
     bytes: &[u8],
+    items: &[u8],
     cut: usize,
-) -> Result<(), Fail> {
-    let (first, second) = bytes.split_at(cut.min(bytes.len()));
-    push_fed(text, reader, first)?;
-    push_fed(text, reader, second)?;
-    Ok(push_end(text, reader)?)
+    size: usize,
+) {
+    let found = read(rt, bytes, cut, size);
+    assert!(rt; found.as_slice() == items, "{row}: cut at {cut}");
 }
 
-/// Adds what is read of a piece for each byte: the stream cut at every byte at once.
-fn push_bytes(text: &mut Vec<u8>, reader: &mut RequestReader, bytes: &[u8]) -> Result<(), Fail> {
-    for piece in bytes.chunks(1) {
-        push_fed(text, reader, piece)?;
-    }
-    Ok(push_end(text, reader)?)
-}
-
-/// Whether a stream that is cut there has these items.
-fn is_read_cut(alloc: Global, bytes: &[u8], items: &[u8], cut: usize) -> Result<bool, Fail> {
-    let mut text = Vec::new(alloc);
-    let mut reader = RequestReader::new(alloc);
-    push_cut(&mut text, &mut reader, bytes, cut)?;
-    Ok(text.as_slice() == items)
-}
-
-/// Whether a stream that is cut at every byte at once has these items.
-fn is_read_by_bytes(alloc: Global, bytes: &[u8], items: &[u8]) -> Result<bool, Fail> {
-    let mut text = Vec::new(alloc);
-    let mut reader = RequestReader::new(alloc);
-    push_bytes(&mut text, &mut reader, bytes)?;
-    Ok(text.as_slice() == items)
-}
-
-/// A row's stream has its items, wherever it is cut.
-fn check_row(rt: &impl Abort, alloc: Global, bytes: &[u8], items: &[u8]) -> Result<(), Fail> {
+/// A stream has its items in two pieces, wherever it is cut; of a long one some cuts are tried.
+fn check_cuts(
+    rt: &(impl AllocGlobal + Abort),
+    row: &str,
+    bytes: &[u8],
+    items: &[u8],
+    is_long: bool,
+) {
     for cut in 0..=bytes.len() {
-        assert!(rt; is_read_cut(alloc, bytes, items, cut)?, "cut at {cut}");
+        if !is_long || is_tried(cut, bytes.len()) {
+            check_cut(rt, row, bytes, items, cut, bytes.len());
+        }
     }
-    assert!(rt; is_read_by_bytes(alloc, bytes, items)?, "cut at every byte");
-    Ok(())
 }
 
-/// Each row is a stream and its items.
-fn check_rows(rt: &impl Abort, alloc: Global, table: &str) -> Result<(), Fail> {
-    for row in table.lines() {
-        let (stream, items) = row.split_once(" | ").ok_or("a row")?;
-        let bytes = unfolded(alloc, stream)?;
-        let items = unfolded(alloc, items)?;
-        check_row(rt, alloc, bytes.as_slice(), items.as_slice())?;
+/// Adds a letter so many times.
+fn push_letters(rt: &impl Abort, bytes: &mut Vec<u8>, count: usize) {
+    for _ in 0..count {
+        push(rt, bytes, b"k");
     }
-    Ok(())
+}
+
+/// The bytes that a column means, where `*` is so many letters.
+fn stretched(rt: &(impl AllocGlobal + Abort), column: &str, count: usize) -> Vec<u8> {
+    let mut bytes = Vec::new(rt.alloc());
+    for byte in column.as_bytes() {
+        match *byte {
+            b'*' => push_letters(rt, &mut bytes, count),
+            other => push_meant(rt, &mut bytes, other),
+        }
+    }
+    bytes
+}
+
+/// A row's stream has its items. Without letters it is short, and is cut everywhere, and at every byte at once.
+fn check_row(rt: &(impl AllocGlobal + Abort), row: &str, letters: usize) {
+    let (stream, items) = row.split_once(" | ").expect(rt, "a row");
+    let bytes = stretched(rt, stream, letters);
+    let items = stretched(rt, items, letters);
+    check_cuts(rt, row, &bytes, &items, letters > 0);
+    if letters == 0 {
+        check_cut(rt, row, &bytes, &items, 0, 1);
+    }
+}
+
+fn check_rows(rt: &(impl AllocGlobal + Abort), table: &str) {
+    for row in table.lines() {
+        check_row(rt, row, 0);
+    }
 }
 
 const READ: &str = "get a b~ | get a b;
@@ -166,8 +183,8 @@ get a^get b~ | get a;get b;
 foo~~get a~incr a 1~ | refused 1;refused 1;get a;refused 1;";
 
 #[test]
-fn streams_have_their_items_however_cut(rt: HostRuntime) -> Result<(), Fail> {
-    check_rows(&rt, rt.alloc(), READ)
+fn streams_have_their_items_however_cut(rt: HostRuntime) {
+    check_rows(&rt, READ);
 }
 
 const REFUSED: &str = "set k 05 0 3~x~y~~get a~ | refused 3;failed
@@ -191,78 +208,36 @@ set a 0 0 1~x^ | refused 3;failed
 get a~add a 0 0 0~ ~ | get a;refused 3;failed";
 
 #[test]
-fn refusals_2_and_3_end_the_reading(rt: HostRuntime) -> Result<(), Fail> {
-    check_rows(&rt, rt.alloc(), REFUSED)
+fn refusals_2_and_3_end_the_reading(rt: HostRuntime) {
+    check_rows(&rt, REFUSED);
 }
 
-/// Bytes that begin with the first word, go on with so many letters and end with the last one.
-type Long = (&'static [u8], usize, &'static [u8]);
-
-fn long_bytes(alloc: Global, long: &Long) -> Result<Vec<u8>, AllocError> {
-    let mut bytes = Vec::from_slice(alloc, long.0)?;
-    for _ in 0..long.1 {
-        bytes.push(b'k')?;
-    }
-    bytes.extend_from_slice(long.2)?;
-    Ok(bytes)
-}
-
-/// Whether a stream of `length` bytes is cut here: each cut near both ends, and some between them.
-fn is_tried(cut: usize, length: usize) -> bool {
-    cut < 24 || length.saturating_sub(cut) < 24 || cut % 65_537 == 0
-}
-
-/// Streams at the limits and one byte beyond, with their items.
-const LIMITS: [(Long, Long); 10] = [
-    ((b"get ", 250, b" a\r\n"), (b"get ", 250, b" a;")),
-    ((b"get ", 251, b" a\r\n"), (b"refused 2;failed", 0, b"")),
+/// Streams at the limits and one byte beyond, with their items: how many letters `*` is, and the row.
+const LIMITS: [(usize, &str); 10] = [
+    (250, "get * a~ | get * a;"),
+    (251, "get * a~ | refused 2;failed"),
+    (65_531, "foo *~get a~ | refused 1;get a;"),
+    (65_532, "foo *~get a~ | refused 2;failed"),
+    (65_532, "foo * | "),
+    (65_533, "foo * | refused 2;failed"),
+    (1_048_576, "set k 0 0 1048576~*~get a~ | set k =*;get a;"),
+    (1_048_579, "set k 0 0 1048577~*get a~ | refused 4;get a;"),
     (
-        (b"foo ", 65_531, b"\r\nget a\r\n"),
-        (b"refused 1;get a;", 0, b""),
+        1_048_578,
+        "set k 0 0 1048577 noreply~*get a~ | refused 4;refused 1;",
     ),
     (
-        (b"foo ", 65_532, b"\r\nget a\r\n"),
-        (b"refused 2;failed", 0, b""),
-    ),
-    ((b"foo ", 65_532, b""), (b"", 0, b"")),
-    ((b"foo ", 65_533, b""), (b"refused 2;failed", 0, b"")),
-    (
-        (b"set k 0 0 1048576\r\n", 1_048_576, b"\r\nget a\r\n"),
-        (b"set k =", 1_048_576, b";get a;"),
-    ),
-    (
-        (b"set k 0 0 1048577\r\n", 1_048_579, b"get a\r\n"),
-        (b"refused 4;get a;", 0, b""),
-    ),
-    (
-        (b"set k 0 0 1048577 noreply\r\n", 1_048_578, b"get a\r\n"),
-        (b"refused 4;refused 1;", 0, b""),
-    ),
-    (
-        (b"set k 0 0 1048577\r\n", 1_048_577, b"\r\nversion\r\n"),
-        (b"refused 4;version;", 0, b""),
+        1_048_577,
+        "set k 0 0 1048577~*~version~ | refused 4;version;",
     ),
 ];
 
-/// A long stream has its items at each cut that is tried.
-fn check_limit(rt: &impl Abort, alloc: Global, bytes: &[u8], items: &[u8]) -> Result<(), Fail> {
-    for cut in 0..=bytes.len() {
-        if is_tried(cut, bytes.len()) {
-            assert!(rt; is_read_cut(alloc, bytes, items, cut)?, "cut at {cut}");
-        }
-    }
-    Ok(())
-}
-
 /// The other cuts are tried by `bench/cuts`; that all of them give the same items is the law `any_pieces`.
 #[test]
-fn limits_are_met_exactly_however_cut(rt: HostRuntime) -> Result<(), Fail> {
-    for (stream, items) in &LIMITS {
-        let bytes = long_bytes(rt.alloc(), stream)?;
-        let items = long_bytes(rt.alloc(), items)?;
-        check_limit(&rt, rt.alloc(), bytes.as_slice(), items.as_slice())?;
+fn limits_are_met_exactly_however_cut(rt: HostRuntime) {
+    for (letters, row) in &LIMITS {
+        check_row(&rt, row, *letters);
     }
-    Ok(())
 }
 
 /// Refusals with their numbers and lines.
@@ -291,13 +266,12 @@ const REFUSALS: [(Refusal, u8, &str, &str); 4] = [
 #[test]
 fn refusals_and_faults_have_numbers_and_lines(rt: HostRuntime) {
     for (refusal, number, line, text) in &REFUSALS {
-        assert!(rt; refusal.number() == *number, "{line}");
-        assert!(rt;
-            refusal.line() == *line && refusal.text() == *text,
-            "{line}"
-        );
+        check(&rt, refusal.number() == *number, line);
+        check(&rt, refusal.line() == *line, line);
+        check(&rt, refusal.text() == *text, line);
     }
-    assert!(rt; TextFault::Failed.number() == 1 && TextFault::Memory.number() == 2);
+    check(&rt, TextFault::Failed.number() == 1, "failed");
+    check(&rt, TextFault::Memory.number() == 2, "memory");
 }
 
 fn is_failed(reader: &mut RequestReader) -> bool {
@@ -312,7 +286,8 @@ fn count_fed(rt: &impl Abort, reader: &mut RequestReader, bytes: &[u8]) -> Optio
         match reader.feed(piece) {
             Ok(items) => count = count.saturating_add(items.len()),
             Err(fault) => {
-                assert!(rt; fault == TextFault::Memory && is_failed(reader));
+                check(rt, fault == TextFault::Memory, "memory");
+                check(rt, is_failed(reader), "failed");
                 return None;
             }
         }
@@ -325,12 +300,9 @@ fn count_fed(rt: &impl Abort, reader: &mut RequestReader, bytes: &[u8]) -> Optio
 #[test]
 fn want_of_memory_fails_the_reader(rt: HostRuntime) {
     let mut reader = RequestReader::new(rt.alloc());
-    let count = count_fed(
-        &rt,
-        &mut reader,
-        b"get a b\r\nset a 0 0 1\r\nx\r\ntouch a 1\r\n",
-    );
-    assert!(rt; count.is_none() || count == Some(3));
+    let stream = b"get a b\r\nset a 0 0 1\r\nx\r\ntouch a 1\r\n";
+    let count = count_fed(&rt, &mut reader, stream);
+    check(&rt, count.is_none_or(|count| count == 3), "three items");
 }
 
 /// Whether a request has nine keys, in vectors that have no other room.
@@ -349,76 +321,94 @@ fn is_exact(item: &Item) -> bool {
 
 /// The words of a line take one growth, its keys one for all and one for each: no vector has other room than it needs.
 #[test]
-fn a_line_takes_one_growth_for_each_key(rt: HostRuntime) -> Result<(), Fail> {
-    let mut reader = RequestReader::new(rt.alloc());
-    let items = reader.feed(b"get a bb  ccc d e f g h i\r\n")?;
-    assert!(rt; items.first().is_some_and(is_exact));
-    Ok(())
+fn a_line_takes_one_growth_for_each_key(rt: HostRuntime) {
+    let items = items_of(&rt, b"get a bb  ccc d e f g h i\r\n");
+    check(&rt, items.first().is_some_and(is_exact), "exact");
 }
 
-/// The answer to a first item.
-fn answer_to(alloc: Global, item: Option<&Item>, parts: &[Part]) -> Result<Vec<u8>, AllocError> {
+/// The items of a stream.
+fn items_of(rt: &(impl AllocGlobal + Abort), stream: &[u8]) -> Vec<Item> {
+    let mut reader = RequestReader::new(rt.alloc());
+    reader.feed(stream).expect(rt, "items")
+}
+
+/// The request of an item.
+fn request_of(item: &Item) -> Option<&Request> {
     match item {
-        Some(Item::Asked(request)) => reply_text(alloc, request, parts),
-        _ => Ok(Vec::new(alloc)),
+        Item::Asked(request) => Some(request),
+        Item::Refused(_) => None,
     }
 }
 
 /// The answer to the first item of a stream.
-fn answered(alloc: Global, stream: &[u8], parts: &[Part]) -> Result<Vec<u8>, Fail> {
-    let items = RequestReader::new(alloc).feed(stream)?;
-    Ok(answer_to(alloc, items.first(), parts)?)
+fn answered(rt: &(impl AllocGlobal + Abort), stream: &str, parts: &[Part]) -> Vec<u8> {
+    let items = items_of(rt, &unfolded(rt, stream));
+    let item = items.first().expect(rt, "an item");
+    let request = request_of(item).expect(rt, "a request");
+    reply_text(rt.alloc(), request, parts).expect(rt, "memory")
 }
 
-fn hit(alloc: Global, flags: u32, body: &[u8]) -> Result<Part, AllocError> {
-    let body = Arc::new(alloc, Vec::from_slice(alloc, body)?)?;
-    let cas = Some(9);
-    Ok(Part::Owned(Arc::new(alloc, Reply::Hit { flags, cas, body })?))
+fn owned(rt: &(impl AllocGlobal + Abort), reply: Reply) -> Part {
+    Part::Owned(Arc::new(rt.alloc(), reply).expect(rt, "memory"))
 }
 
-fn fault(alloc: Global, line: &[u8]) -> Result<Part, AllocError> {
-    let line = Vec::from_slice(alloc, line)?;
-    Ok(Part::Owned(Arc::new(alloc, Reply::Fault(line))?))
+fn hit_part(rt: &(impl AllocGlobal + Abort), flags: u32, body: &[u8]) -> Part {
+    owned(
+        rt,
+        hit(rt.alloc(), flags, Some(9), body).expect(rt, "memory"),
+    )
+}
+
+fn fault(rt: &(impl AllocGlobal + Abort), line: &[u8]) -> Part {
+    let line = Vec::from_slice(rt.alloc(), line).expect(rt, "memory");
+    owned(rt, Reply::Fault(line))
+}
+
+/// The reply without a value that a letter means.
+fn fixed(letter: u8) -> FixedReply {
+    match letter {
+        b'l' => FixedReply::Lost,
+        b's' => FixedReply::Stored,
+        b'n' => FixedReply::NotStored,
+        b'x' => FixedReply::Exists,
+        b'o' => FixedReply::NotFound,
+        b'd' => FixedReply::Deleted,
+        b't' => FixedReply::Touched,
+        b'r' => FixedReply::ErrorRoute,
+        _ => FixedReply::Miss,
+    }
 }
 
 /// The reply that a letter means: h is a hit, e an empty one, f an error line, - a miss.
-fn part(alloc: Global, letter: u8) -> Result<Part, AllocError> {
+fn part(rt: &(impl AllocGlobal + Abort), letter: u8) -> Part {
     match letter {
-        b'h' => hit(alloc, 5, b"xyz"),
-        b'e' => hit(alloc, 0, b""),
-        b'f' => fault(alloc, b"SERVER_ERROR x"),
-        b'l' => Ok(Part::Fixed(FixedReply::Lost)),
-        b's' => Ok(Part::Fixed(FixedReply::Stored)),
-        b'n' => Ok(Part::Fixed(FixedReply::NotStored)),
-        b'x' => Ok(Part::Fixed(FixedReply::Exists)),
-        b'o' => Ok(Part::Fixed(FixedReply::NotFound)),
-        b'd' => Ok(Part::Fixed(FixedReply::Deleted)),
-        b't' => Ok(Part::Fixed(FixedReply::Touched)),
-        b'r' => Ok(Part::Fixed(FixedReply::ErrorRoute)),
-        _ => Ok(Part::Fixed(FixedReply::Miss)),
+        b'h' => hit_part(rt, 5, b"xyz"),
+        b'e' => hit_part(rt, 0, b""),
+        b'f' => fault(rt, b"SERVER_ERROR x"),
+        other => Part::Fixed(fixed(other)),
     }
 }
 
-fn parts_of(alloc: Global, letters: &str) -> Result<Vec<Part>, AllocError> {
-    let mut parts = Vec::new(alloc);
+fn parts_of(rt: &(impl AllocGlobal + Abort), letters: &str) -> Vec<Part> {
+    let mut parts = Vec::new(rt.alloc());
     for letter in letters.as_bytes() {
-        parts.push(part(alloc, *letter)?)?;
+        parts.push(part(rt, *letter)).expect(rt, "memory");
     }
-    Ok(parts)
+    parts
 }
 
-/// Whether a stream has this answer where its legs have the replies of these letters.
-fn is_answered(alloc: Global, stream: &str, letters: &str, text: &str) -> Result<bool, Fail> {
-    let stream = unfolded(alloc, stream)?;
-    let parts = parts_of(alloc, letters)?;
-    let text = unfolded(alloc, text)?;
-    let answer = answered(alloc, stream.as_slice(), parts.as_slice())?;
-    Ok(answer.as_slice() == text.as_slice())
+/// A row's stream has its answer.
+fn check_answer(rt: &(impl AllocGlobal + Abort), row: &Answered) {
+    let (stream, letters, text) = *row;
+    let found = answered(rt, stream, &parts_of(rt, letters));
+    check_bytes(rt, stream, &found, &unfolded(rt, text));
 }
+
+type Answered = (&'static str, &'static str, &'static str);
 
 /// Streams of one request with the replies of its legs, by their letters, and the answer: hits under the client's keys, the
 /// first error line for all, and else one line.
-const ANSWERED: [(&str, &str, &str); 11] = [
+const ANSWERED: [Answered; 11] = [
     (
         "get /././a b c~",
         "h-e",
@@ -437,76 +427,56 @@ const ANSWERED: [(&str, &str, &str); 11] = [
 ];
 
 #[test]
-fn requests_are_answered_from_their_replies(rt: HostRuntime) -> Result<(), Fail> {
-    for (stream, letters, text) in &ANSWERED {
-        assert!(rt; is_answered(rt.alloc(), stream, letters, text)?, "{text}");
+fn requests_are_answered_from_their_replies(rt: HostRuntime) {
+    for row in &ANSWERED {
+        check_answer(&rt, row);
     }
-    Ok(())
-}
-
-/// The leg that sends a request on, under the rest of its first key.
-fn leg_of(alloc: Global, ask: &Ask) -> Option<LegRequest> {
-    let (_prefix, rest) = split_key(ask.keys.first()?.as_slice()).ok()?;
-    let body = Vec::from_slice(alloc, ask.body.as_slice()).ok()?;
-    Some(LegRequest {
-        op: ask.op,
-        rest: Arc::new(alloc, rest).ok()?,
-        flags: ask.flags,
-        exptime: ask.exptime,
-        body: Arc::new(alloc, body).ok()?,
-        cas: ask.cas,
-    })
 }
 
 /// The text of the leg that sends an item on.
-fn sent(alloc: Global, item: &Item) -> Option<Vec<u8>> {
+fn sent(rt: &(impl AllocGlobal + Abort), item: &Item) -> Vec<u8> {
     match item {
-        Item::Asked(Request::Ask(ask)) => leg_text(alloc, &leg_of(alloc, ask)?).ok(),
-        _ => None,
+        Item::Asked(Request::Ask(ask)) => leg_line(rt.alloc(), ask).expect(rt, "a leg"),
+        _ => panic!(rt; "no leg"),
     }
 }
 
-/// Whether the one item of two pieces is sent on so.
-fn is_sent_on(alloc: Global, bytes: &[u8], cut: usize, text: &[u8]) -> Option<bool> {
-    let mut reader = RequestReader::new(alloc);
+/// The one item of two pieces is sent on so.
+fn check_sent(rt: &(impl AllocGlobal + Abort), bytes: &[u8], cut: usize, text: &[u8]) {
+    let mut reader = RequestReader::new(rt.alloc());
     let (first, second) = bytes.split_at(cut.min(bytes.len()));
-    let early = reader.feed(first).ok()?;
-    let late = reader.feed(second).ok()?;
-    let sent = sent(alloc, early.first().or(late.first())?)?;
-    Some(early.len().saturating_add(late.len()) == 1 && sent.as_slice() == text)
+    let early = reader.feed(first).expect(rt, "items");
+    let late = reader.feed(second).expect(rt, "items");
+    check(rt, early.len().saturating_add(late.len()) == 1, "one item");
+    let item = early.first().or(late.first()).expect(rt, "an item");
+    assert!(rt; sent(rt, item).as_slice() == text, "cut at {cut}");
 }
 
 #[test]
 fn a_request_is_sent_on_under_its_rest(rt: HostRuntime) {
     let bytes = b"set   /././k 05 0 1 noreply\r\nx\r\n".as_slice();
-    let text = b"set k 5 0 1\r\nx\r\n".as_slice();
     for cut in 0..=bytes.len() {
-        assert!(rt;
-            is_sent_on(rt.alloc(), bytes, cut, text) == Some(true),
-            "cut at {cut}"
-        );
+        check_sent(&rt, bytes, cut, b"set k 5 0 1\r\nx\r\n");
     }
 }
 
 /// The leg of an operation on `k` with flags 5, exptime -1, value `x` and cas 9.
-fn leg(alloc: Global, op: Op) -> Option<LegRequest> {
-    let rest = Rest::of(b"k")?;
-    let body = Vec::from_slice(alloc, b"x").ok()?;
-    Some(LegRequest {
+fn leg(rt: &(impl AllocGlobal + Abort), op: Op) -> LegRequest {
+    let rest = Rest::of(b"k").expect(rt, "a rest");
+    LegRequest {
         op,
-        rest: Arc::new(alloc, rest).ok()?,
+        rest: Arc::new(rt.alloc(), rest).expect(rt, "memory"),
         flags: 5,
         exptime: -1,
-        body: Arc::new(alloc, body).ok()?,
+        body: shared(rt.alloc(), b"x").expect(rt, "memory"),
         cas: Some(9),
-    })
+    }
 }
 
-/// Whether the leg of this operation has this text.
-fn is_spelled(alloc: Global, op: Op, text: &[u8]) -> Option<bool> {
-    let leg = leg(alloc, op)?;
-    let spelled = leg_text(alloc, &leg).ok()?;
-    Some(spelled.as_slice() == text)
+/// The leg of an operation has this text.
+fn check_leg(rt: &(impl AllocGlobal + Abort), op: Op, text: &[u8]) {
+    let spelled = leg_text(rt.alloc(), &leg(rt, op)).expect(rt, "memory");
+    check_bytes(rt, op.name(), &spelled, text);
 }
 
 const LEGS: [(Op, &[u8]); 10] = [
@@ -525,6 +495,6 @@ const LEGS: [(Op, &[u8]); 10] = [
 #[test]
 fn legs_have_single_spaces_and_no_leading_zeros(rt: HostRuntime) {
     for (op, text) in &LEGS {
-        assert!(rt; is_spelled(rt.alloc(), *op, text) == Some(true));
+        check_leg(&rt, *op, text);
     }
 }

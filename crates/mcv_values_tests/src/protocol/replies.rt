@@ -1,10 +1,11 @@
 //! What no clause says: that replies are given at all, and whole ones to whoever takes their parts.
 
+use crate::rows::{check, push};
 use mcv_base::{Op, Part, Parts, Reply, Rest};
 use mcv_reply::{ProbeReader, ReplyFault, ReplyReader, one_reply, one_version};
-use std::alloc::{AllocError, Global};
+use std::alloc::Global;
+use std::process::Abort;
 use std::sync::Arc;
-use std::test::Fail;
 
 /// Operation, bytes (`|` is CR LF, `^` is LF) and what they are; the key is `a`.
 const REPLIES: &str = "get END| = miss
@@ -55,23 +56,27 @@ struct Case<'a> {
     answer: &'a str,
 }
 
-fn read_case<'a>(line: &'a str) -> Option<Case<'a>> {
-    let (op, behind) = line.split_once(" ")?;
-    let (text, answer) = behind.split_once(" = ")?;
-    Some(Case { op, text, answer })
+fn read_case<'a>(rt: &impl Abort, line: &'a str) -> Case<'a> {
+    let (op, behind) = line.split_once(" ").expect(rt, "an operation");
+    let (text, answer) = behind.split_once(" = ").expect(rt, "an answer");
+    Case { op, text, answer }
 }
 
-fn wire(alloc: Global, text: &str) -> Result<Vec<u8>, AllocError> {
-    let mut bytes = Vec::new(alloc);
-    for byte in text.as_bytes() {
-        match *byte {
-            b'|' => bytes.extend_from_slice(b"\r\n")?,
-            b'^' => bytes.push(b'\n')?,
-            b'~' => {}
-            byte => bytes.push(byte)?,
-        }
+fn push_wire(rt: &impl Abort, bytes: &mut Vec<u8>, byte: u8) {
+    match byte {
+        b'|' => push(rt, bytes, b"\r\n"),
+        b'^' => push(rt, bytes, b"\n"),
+        b'~' => {}
+        byte => push(rt, bytes, &[byte]),
     }
-    Ok(bytes)
+}
+
+fn wire(rt: &(impl AllocGlobal + Abort), text: &str) -> Vec<u8> {
+    let mut bytes = Vec::new(rt.alloc());
+    for byte in text.as_bytes() {
+        push_wire(rt, &mut bytes, *byte);
+    }
+    bytes
 }
 
 /// A reader for a leg of this operation on `a`, if there is memory for the key.
@@ -112,40 +117,36 @@ fn answer_to(reader: &mut ReplyReader, piece: &[u8]) -> &'static str {
     }
 }
 
-/// Whether the bytes, cut there, are the reply of the case, given once.
-fn is_given_once(alloc: Global, case: Case<'_>, bytes: &[u8], cut: usize) -> bool {
-    let (front, back) = bytes.split_at(cut.min(bytes.len()));
-    match reader_for(alloc, case.op) {
-        None => false,
-        Some(mut reader) => {
-            answer_to(&mut reader, front) == "more"
-                && answer_to(&mut reader, back) == case.answer
-                && answer_to(&mut reader, b"") == "refused"
-                && answer_to(&mut reader, b"") == "closed"
-        }
-    }
+/// The answer to a piece is this one.
+fn check_answer(rt: &impl Abort, reader: &mut ReplyReader, piece: &[u8], answer: &str) {
+    let found = answer_to(reader, piece);
+    assert!(rt; found == answer, "{answer}, not {found}");
 }
 
-fn is_given_at_every_cut(alloc: Global, case: Case<'_>, bytes: &[u8]) -> bool {
+/// The bytes, cut there, are the reply of the case, given once.
+fn check_given(rt: &(impl AllocGlobal + Abort), case: Case<'_>, bytes: &[u8], cut: usize) {
+    let (front, back) = bytes.split_at(cut.min(bytes.len()));
+    let mut reader = reader_for(rt.alloc(), case.op).expect(rt, "a reader");
+    check_answer(rt, &mut reader, front, "more");
+    check_answer(rt, &mut reader, back, case.answer);
+    check_answer(rt, &mut reader, b"", "refused");
+    check_answer(rt, &mut reader, b"", "closed");
+}
+
+/// The bytes of a line are the reply of its case at every cut.
+fn check_given_line(rt: &(impl AllocGlobal + Abort), line: &str) {
+    let case = read_case(rt, line);
+    let bytes = wire(rt, case.text);
     for cut in 0..bytes.len() {
-        if !is_given_once(alloc, case, bytes, cut) {
-            return false;
-        }
+        check_given(rt, case, &bytes, cut);
     }
-    true
 }
 
 #[test]
-fn replies_are_given_once_at_every_cut(rt: HostRuntime) -> Result<(), Fail> {
+fn replies_are_given_once_at_every_cut(rt: HostRuntime) {
     for line in REPLIES.lines() {
-        let case = read_case(line).ok_or("a case")?;
-        let bytes = wire(rt.alloc(), case.text)?;
-        assert!(rt;
-            is_given_at_every_cut(rt.alloc(), case, bytes.as_slice()),
-            "{line}"
-        );
+        check_given_line(&rt, line);
     }
-    Ok(())
 }
 
 /// The answer to so many bytes that there should be, where so many are good and have this answer.
@@ -159,40 +160,46 @@ fn expected_at<'a>(cut: usize, good: usize, answer: &'a str) -> &'a str {
     }
 }
 
-/// Whether the bytes, cut there, are answered so where so many are good and no more.
-fn is_refused_at(alloc: Global, case: Case<'_>, bytes: &[u8], good: usize, cut: usize) -> bool {
+/// The bytes, cut there, are answered so where so many are good and no more.
+fn check_refused(
+    rt: &(impl AllocGlobal + Abort),
+    case: Case<'_>,
+    bytes: &[u8],
+    good: usize,
+    cut: usize,
+) {
     let (front, back) = bytes.split_at(cut.min(bytes.len()));
-    match reader_for(alloc, case.op) {
-        None => false,
-        Some(mut reader) => {
-            answer_to(&mut reader, front) == expected_at(cut, good, case.answer)
-                && answer_to(&mut reader, back) == if cut > good { "closed" } else { "refused" }
-        }
-    }
+    let mut reader = reader_for(rt.alloc(), case.op).expect(rt, "a reader");
+    check_answer(rt, &mut reader, front, expected_at(cut, good, case.answer));
+    check_answer(
+        rt,
+        &mut reader,
+        back,
+        if cut > good { "closed" } else { "refused" },
+    );
 }
 
-fn is_refused_at_every_cut(alloc: Global, case: Case<'_>, bytes: &[u8], good: usize) -> bool {
+/// How many bytes of a case are good.
+fn good_of(rt: &(impl AllocGlobal + Abort), case: Case<'_>) -> usize {
+    let (good, _behind) = case.text.split_once("~").expect(rt, "a wrong byte");
+    wire(rt, good).len()
+}
+
+/// The bytes of a line are refused from the first wrong one on, at every cut.
+fn check_refused_line(rt: &(impl AllocGlobal + Abort), line: &str) {
+    let case = read_case(rt, line);
+    let good = good_of(rt, case);
+    let bytes = wire(rt, case.text);
     for cut in 0..=bytes.len() {
-        if !is_refused_at(alloc, case, bytes, good, cut) {
-            return false;
-        }
+        check_refused(rt, case, &bytes, good, cut);
     }
-    true
 }
 
 #[test]
-fn bytes_are_refused_from_the_first_wrong_one(rt: HostRuntime) -> Result<(), Fail> {
+fn bytes_are_refused_from_the_first_wrong_one(rt: HostRuntime) {
     for line in REFUSED.lines() {
-        let case = read_case(line).ok_or("a case")?;
-        let (good, _behind) = case.text.split_once("~").ok_or("a case")?;
-        let good = wire(rt.alloc(), good)?;
-        let bytes = wire(rt.alloc(), case.text)?;
-        assert!(rt;
-            is_refused_at_every_cut(rt.alloc(), case, bytes.as_slice(), good.len()),
-            "{line}"
-        );
+        check_refused_line(&rt, line);
     }
-    Ok(())
 }
 
 /// Whether a part is the hit of the value `x` with flags 3 and unique number 7.
@@ -208,45 +215,64 @@ fn is_the_hit(part: &Part) -> bool {
     }
 }
 
-#[test]
-fn a_hit_is_whole_in_its_parts(rt: HostRuntime) -> Result<(), Fail> {
-    let mut reader = reader_for(rt.alloc(), "gets").ok_or("no reader")?;
-    let fed = reader.feed(b"VALUE a 3 1 7\r\nx\r\nEND\r\n")?;
-    let parts = Parts::new(rt.alloc(), fed.ok_or("no reply")?)?;
+/// Whether the hit is in each part.
+fn is_in_each_part(parts: Parts) -> bool {
     let (outcome, taken, history) = parts.into_parts();
-    assert!(rt; is_the_hit(&outcome) && is_the_hit(&taken) && is_the_hit(&history));
-    Ok(())
+    is_the_hit(&outcome) && is_the_hit(&taken) && is_the_hit(&history)
 }
 
-/// The answer to the last piece behind so many spaces, where a reply to a delete goes on from them.
-fn answer_behind(alloc: Global, count: usize, last: &[u8]) -> Result<&'static str, Fail> {
-    let spaces = vec![in alloc; b' '; count]?;
-    let mut reader = reader_for(alloc, "delete").ok_or("no reader")?;
-    if answer_to(&mut reader, spaces.as_slice()) == "more" {
-        Ok(answer_to(&mut reader, last))
-    } else {
-        Ok("refused in the spaces")
+/// The reply to a gets in these bytes.
+fn reply_of(rt: &(impl AllocGlobal + Abort), bytes: &[u8]) -> Reply {
+    let mut reader = reader_for(rt.alloc(), "gets").expect(rt, "a reader");
+    let fed = reader.feed(bytes).expect(rt, "a piece");
+    fed.expect(rt, "a reply")
+}
+
+#[test]
+fn a_hit_is_whole_in_its_parts(rt: HostRuntime) {
+    let reply = reply_of(&rt, b"VALUE a 3 1 7\r\nx\r\nEND\r\n");
+    let parts = Parts::new(rt.alloc(), reply).expect(&rt, "memory");
+    check(&rt, is_in_each_part(parts), "the hit");
+}
+
+/// The last piece is answered so behind so many bytes, where the reply goes on behind the first piece and behind them.
+fn check_behind(
+    rt: &(impl AllocGlobal + Abort),
+    op: &str,
+    first: &[u8],
+    bytes: &[u8],
+    last: &[u8],
+    answer: &str,
+) {
+    let mut reader = reader_for(rt.alloc(), op).expect(rt, "a reader");
+    check_answer(rt, &mut reader, first, "more");
+    for piece in bytes.chunks(99_999) {
+        check_answer(rt, &mut reader, piece, "more");
+    }
+    check_answer(rt, &mut reader, last, answer);
+}
+
+fn many(rt: &(impl AllocGlobal + Abort), byte: u8, count: usize) -> Vec<u8> {
+    vec![in rt.alloc(); byte; count].expect(rt, "memory")
+}
+
+#[test]
+fn a_line_has_2048_bytes_at_the_most(rt: HostRuntime) {
+    for (count, last, answer) in [
+        (2041, "DELETED\n", "deleted"),
+        (2042, "D", "refused"),
+        (2043, " ", "refused"),
+    ] {
+        let spaces = many(&rt, b' ', count);
+        check_behind(&rt, "delete", b"", &spaces, last.as_bytes(), answer);
     }
 }
 
 #[test]
-fn a_line_has_2048_bytes_at_the_most(rt: HostRuntime) -> Result<(), Fail> {
-    assert!(rt; answer_behind(rt.alloc(), 2041, b"DELETED\n")? == "deleted");
-    assert!(rt; answer_behind(rt.alloc(), 2042, b"D")? == "refused");
-    assert!(rt; answer_behind(rt.alloc(), 2043, b" ")? == "refused");
-    Ok(())
-}
-
-#[test]
-fn a_value_has_1048576_bytes_at_the_most(rt: HostRuntime) -> Result<(), Fail> {
-    let value = vec![in rt.alloc(); b'x'; 1_048_576]?;
-    let mut reader = reader_for(rt.alloc(), "get").ok_or("no reader")?;
-    assert!(rt; answer_to(&mut reader, b"VALUE a 0 1048576\r\n") == "more");
-    for piece in value.chunks(99_999) {
-        assert!(rt; answer_to(&mut reader, piece) == "more");
-    }
-    assert!(rt; answer_to(&mut reader, b"\r\nEND\r\n") == "hit");
-    Ok(())
+fn a_value_has_1048576_bytes_at_the_most(rt: HostRuntime) {
+    let value = many(&rt, b'x', 1_048_576);
+    let first = b"VALUE a 0 1048576\r\n";
+    check_behind(&rt, "get", first, &value, b"\r\nEND\r\n", "hit");
 }
 
 /// The answer to a piece, in a word.
@@ -264,60 +290,74 @@ fn probe_answer_to(probe: &mut ProbeReader, piece: &[u8]) -> &'static str {
     }
 }
 
-/// Whether the bytes, cut there, are the answer to a probe, given once.
-fn is_probe_answered_once(alloc: Global, bytes: &[u8], cut: usize) -> bool {
+/// The probe's answer to a piece is this one.
+fn check_probe(rt: &impl Abort, probe: &mut ProbeReader, piece: &[u8], answer: &str) {
+    let found = probe_answer_to(probe, piece);
+    assert!(rt; found == answer, "{answer}, not {found}");
+}
+
+/// The bytes, cut there, are the answer to a probe, given once.
+fn check_probed(rt: &(impl AllocGlobal + Abort), bytes: &[u8], cut: usize) {
     let (front, back) = bytes.split_at(cut.min(bytes.len()));
-    let mut probe = ProbeReader::new(alloc);
-    probe_answer_to(&mut probe, front) == "more"
-        && probe_answer_to(&mut probe, back) == "version"
-        && probe_answer_to(&mut probe, b"") == "refused"
-        && probe_answer_to(&mut probe, b"") == "closed"
+    let mut probe = ProbeReader::new(rt.alloc());
+    check_probe(rt, &mut probe, front, "more");
+    check_probe(rt, &mut probe, back, "version");
+    check_probe(rt, &mut probe, b"", "refused");
+    check_probe(rt, &mut probe, b"", "closed");
 }
 
 #[test]
 fn a_probe_is_answered_once_at_every_cut(rt: HostRuntime) {
     for cut in 0..15 {
-        assert!(rt;
-            is_probe_answered_once(rt.alloc(), b"VERSION 1.6.9\r\n", cut),
-            "{cut}"
-        );
+        check_probed(&rt, b"VERSION 1.6.9\r\n", cut);
     }
 }
 
 #[test]
 fn a_probe_wants_the_word(rt: HostRuntime) {
     let mut probe = ProbeReader::new(rt.alloc());
-    assert!(rt; probe_answer_to(&mut probe, b"VERSIO\r") == "refused");
+    check_probe(&rt, &mut probe, b"VERSIO\r", "refused");
 }
 
 #[test]
 fn faults_have_numbers(rt: HostRuntime) {
     one_reply();
     one_version();
-    assert!(rt; ReplyFault::NotAReply.number() == 1);
-    assert!(rt; ReplyFault::Memory.number() == 3);
+    check(&rt, ReplyFault::NotAReply.number() == 1, "no reply");
+    check(&rt, ReplyFault::Memory.number() == 3, "memory");
+}
+
+/// A piece has this answer, or there is no memory and the reader is closed from then on.
+fn check_answered_or_closed(rt: &impl Abort, reader: &mut ReplyReader, piece: &[u8], answer: &str) {
+    let found = answer_to(reader, piece);
+    if found == "memory" {
+        check_answer(rt, reader, b"", "closed");
+    } else {
+        check(rt, found == answer, answer);
+    }
 }
 
 /// Each allocation may fail here: the reader says so, and is closed then.
 #[test]
 fn want_of_memory_closes_the_reader(rt: HostRuntime) {
     if let Some(mut reader) = reader_for(rt.alloc(), "gets") {
-        let answer = answer_to(&mut reader, b"VALUE a 0 5 7\r\nworld\r\nEND\r\n");
-        if answer == "memory" {
-            assert!(rt; answer_to(&mut reader, b"") == "closed");
-        } else {
-            assert!(rt; answer == "hit");
-        }
+        let piece = b"VALUE a 0 5 7\r\nworld\r\nEND\r\n";
+        check_answered_or_closed(&rt, &mut reader, piece, "hit");
+    }
+}
+
+/// The same of the probe's version.
+fn check_probed_or_closed(rt: &impl Abort, probe: &mut ProbeReader, piece: &[u8]) {
+    let found = probe_answer_to(probe, piece);
+    if found == "memory" {
+        check_probe(rt, probe, b"", "closed");
+    } else {
+        check(rt, found == "version", "the version");
     }
 }
 
 #[test]
 fn want_of_memory_closes_the_probe(rt: HostRuntime) {
     let mut probe = ProbeReader::new(rt.alloc());
-    let answer = probe_answer_to(&mut probe, b"VERSION 1.6.9\r\n");
-    if answer == "memory" {
-        assert!(rt; probe_answer_to(&mut probe, b"") == "closed");
-    } else {
-        assert!(rt; answer == "version");
-    }
+    check_probed_or_closed(&rt, &mut probe, b"VERSION 1.6.9\r\n");
 }

@@ -4,9 +4,9 @@ ghost use Rattle.std.specs.Prelude.{◌≡◌, length};
 ghost use Rattle.mcv_text.specs.Request.{request_value};
 ghost use Rattle.mcv_session.specs.Desk.{keys_of};
 
-use mcv_base::{Ask, FixedReply, LegRequest, Part, Reply, Request, split_key};
+use crate::legs::{hit, leg_line};
+use mcv_base::{FixedReply, Part, Request};
 use mcv_session::{Desk, DeskFault};
-use mcv_text::leg_text;
 use std::alloc::{AllocError, Global};
 use std::sync::Arc;
 
@@ -52,44 +52,29 @@ impl<'a> Script<'a> {
         let Request::Ask(ask) = request else {
             return None;
         };
-        let text = leg_text(self.alloc, &leg_of(self.alloc, ask)?).ok()?;
+        let text = leg_line(self.alloc, ask)?;
         self.asked.extend_from_slice(text.as_slice()).ok()
     }
 }
 
-/// The leg that sends a request on, under the rest of its first key.
-fn leg_of(alloc: Global, ask: &Ask) -> Option<LegRequest> {
-    let (_prefix, rest) = split_key(ask.keys.first()?.as_slice()).ok()?;
-    let body = Vec::from_slice(alloc, ask.body.as_slice()).ok()?;
-    Some(LegRequest {
-        op: ask.op,
-        rest: Arc::new(alloc, rest).ok()?,
-        flags: ask.flags,
-        exptime: ask.exptime,
-        body: Arc::new(alloc, body).ok()?,
-        cas: ask.cas,
-    })
-}
-
-fn hit(alloc: Global) -> Result<Part, AllocError> {
-    let body = Arc::new(alloc, Vec::from_slice(alloc, b"x")?)?;
-    let hit = Reply::Hit {
-        flags: 0,
-        cas: Some(7),
-        body,
-    };
-    Ok(Part::Owned(Arc::new(alloc, hit)?))
+/// The reply without a value that a letter means.
+fn fixed(letter: u8) -> FixedReply {
+    match letter {
+        b'f' => FixedReply::Lost,
+        b's' => FixedReply::Stored,
+        b'd' => FixedReply::Deleted,
+        b'n' => FixedReply::NotFound,
+        _ => FixedReply::Miss,
+    }
 }
 
 /// The reply that a letter means: h is a hit with `x`, f an error line, m a miss.
 fn part(alloc: Global, letter: u8) -> Result<Part, AllocError> {
-    match letter {
-        b'h' => hit(alloc),
-        b'f' => Ok(Part::Fixed(FixedReply::Lost)),
-        b's' => Ok(Part::Fixed(FixedReply::Stored)),
-        b'd' => Ok(Part::Fixed(FixedReply::Deleted)),
-        b'n' => Ok(Part::Fixed(FixedReply::NotFound)),
-        _ => Ok(Part::Fixed(FixedReply::Miss)),
+    if letter == b'h' {
+        let hit = hit(alloc, 0, Some(7), b"x")?;
+        Ok(Part::Owned(Arc::new(alloc, hit)?))
+    } else {
+        Ok(Part::Fixed(fixed(letter)))
     }
 }
 

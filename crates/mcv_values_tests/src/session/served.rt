@@ -2,13 +2,12 @@
 
 use super::script::Script;
 use super::sessions::{ROWS, Row};
-use crate::rows::unfolded;
+use crate::rows::{check, check_bytes, unfolded};
 use mcv_session::{ServeFault, serve_session};
 use std::alloc::Global;
 use std::io;
 use std::io::{Read, Write};
 use std::process::Abort;
-use std::test::Fail;
 
 /// Gives at most so many bytes a read, and is interrupted before the first. At the end it fails where it is broken.
 #[derive(Drop)]
@@ -79,82 +78,76 @@ fn writing(alloc: Global, left: u64) -> Output {
     }
 }
 
-fn is_served(alloc: Global, row: &Row, most: usize) -> Result<bool, Fail> {
-    let (stream, answers, text, asked, _ends) = *row;
-    let bytes = unfolded(alloc, stream)?;
-    let want = unfolded(alloc, text)?;
-    let want_asked = unfolded(alloc, asked)?;
-    let mut written = writing(alloc, 1000);
-    let mut desk = Script::new(alloc, answers);
-    serve_session(
-        alloc,
-        &mut reading(bytes.as_slice(), most),
-        &mut written,
-        &mut desk,
-    )?;
-    Ok(written.bytes.as_slice() == want.as_slice() && desk.asked() == want_asked.as_slice())
+/// A client is served by a desk with these answers, which is asked this, where so many writes are left; the session ends
+/// so. The result: how many writes there were.
+fn check_served(
+    rt: &(impl AllocGlobal + Abort),
+    client: &mut Client<'_>,
+    left: u64,
+    fault: Option<ServeFault>,
+    answers: &str,
+    text: &str,
+    asked: &str,
+) -> u64 {
+    let mut desk = Script::new(rt.alloc(), answers);
+    let mut written = writing(rt.alloc(), left);
+    let served = serve_session(rt.alloc(), client, &mut written, &mut desk);
+    check(rt, served.err() == fault, text);
+    check_bytes(rt, text, &written.bytes, &unfolded(rt, text));
+    check_bytes(rt, asked, desk.asked(), &unfolded(rt, asked));
+    written.writes
+}
+
+/// The client of a row is served as it says, by reads of so many bytes.
+fn check_row(rt: &(impl AllocGlobal + Abort), row: &Row, most: usize) {
+    let (stream, answers, text, asked, _) = *row;
+    let bytes = unfolded(rt, stream);
+    let mut client = reading(&bytes, most);
+    let _ = check_served(rt, &mut client, 1000, None, answers, text, asked);
 }
 
 #[test]
-fn clients_are_served(rt: HostRuntime) -> Result<(), Fail> {
-    for row in &ROWS {
-        for most in [1, 2, 7, 16384, 100000] {
-            assert!(rt; is_served(rt.alloc(), row, most)?, "{} by {most}", row.0);
+fn clients_are_served(rt: HostRuntime) {
+    for most in [1, 2, 7, 16384, 100000] {
+        for row in &ROWS {
+            check_row(&rt, row, most);
         }
     }
-    Ok(())
 }
 
 #[test]
-fn a_slice_is_served(rt: HostRuntime) -> Result<(), Fail> {
-    let alloc = rt.alloc();
-    let mut written = Vec::new(alloc);
-    let mut desk = Script::new(alloc, "hm/d");
+fn a_slice_is_served(rt: HostRuntime) {
+    let mut written = Vec::new(rt.alloc());
+    let mut desk = Script::new(rt.alloc(), "hm/d");
     let bytes = b"get a b\r\ndelete a\r\n".as_slice();
-    serve_session(alloc, &mut &*bytes, &mut written, &mut desk)?;
-    assert!(rt; written.as_slice() == b"VALUE a 0 1\r\nx\r\nEND\r\nDELETED\r\n".as_slice());
-    Ok(())
+    let served = serve_session(rt.alloc(), &mut &*bytes, &mut written, &mut desk);
+    check(&rt, served.is_ok(), "served");
+    let text = b"VALUE a 0 1\r\nx\r\nEND\r\nDELETED\r\n";
+    check_bytes(&rt, "a slice", &written, text);
 }
 
 #[test]
-fn what_one_read_gives_is_answered_by_one_write(rt: HostRuntime) -> Result<(), Fail> {
-    let alloc = rt.alloc();
-    let mut written = writing(alloc, 1000);
-    let mut desk = Script::new(alloc, "d/n/d");
-    let bytes = b"delete a\r\ndelete b\r\nversion\r\ndelete c\r\n".as_slice();
-    serve_session(alloc, &mut reading(bytes, 1000), &mut written, &mut desk)?;
-    assert!(rt;
-        written.bytes.as_slice()
-            == b"DELETED\r\nNOT_FOUND\r\nVERSION mcv 1\r\nDELETED\r\n".as_slice()
-    );
-    assert_eq!(rt; written.writes, 1);
-    Ok(())
+fn what_one_read_gives_is_answered_by_one_write(rt: HostRuntime) {
+    let mut client = reading(b"delete a\r\ndelete b\r\nversion\r\ndelete c\r\n", 1000);
+    let text = "DELETED~NOT_FOUND~VERSION mcv 1~DELETED~";
+    let asked = "delete a~delete b~delete c~";
+    let writes = check_served(&rt, &mut client, 1000, None, "d/n/d", text, asked);
+    check(&rt, writes == 1, "one write");
 }
 
 #[test]
 fn a_reader_that_fails_ends_the_session(rt: HostRuntime) {
-    let alloc = rt.alloc();
-    let mut written = writing(alloc, 1000);
-    let mut desk = Script::new(alloc, "d");
-    let mut reader = reading(b"delete a\r\ndelete b", 1000);
-    reader.is_broken = true;
-    assert_eq!(rt;
-        serve_session(alloc, &mut reader, &mut written, &mut desk),
-        Err(ServeFault::Read)
-    );
-    assert!(rt; written.bytes.as_slice() == b"DELETED\r\n".as_slice());
+    let mut client = reading(b"delete a\r\ndelete b", 1000);
+    client.is_broken = true;
+    let fault = Some(ServeFault::Read);
+    let (text, asked) = ("DELETED~", "delete a~");
+    let _ = check_served(&rt, &mut client, 1000, fault, "d/n/d", text, asked);
 }
 
 #[test]
 fn a_writer_that_fails_ends_the_session(rt: HostRuntime) {
-    let alloc = rt.alloc();
-    let mut written = writing(alloc, 1);
-    let mut desk = Script::new(alloc, "d/n/d");
-    let bytes = b"delete a\r\ndelete b\r\ndelete c\r\n".as_slice();
-    assert_eq!(rt;
-        serve_session(alloc, &mut reading(bytes, 10), &mut written, &mut desk),
-        Err(ServeFault::Write)
-    );
-    assert!(rt; written.bytes.as_slice() == b"DELETED\r\n".as_slice());
-    assert!(rt; desk.asked() == b"delete a\r\ndelete b\r\n".as_slice());
+    let mut client = reading(b"delete a\r\ndelete b\r\ndelete c\r\n", 10);
+    let fault = Some(ServeFault::Write);
+    let (text, asked) = ("DELETED~", "delete a~delete b~");
+    let _ = check_served(&rt, &mut client, 1, fault, "d/n/d", text, asked);
 }

@@ -1,12 +1,10 @@
 //! Sessions over a scripted desk.
 
 use super::script::Script;
-use crate::rows::unfolded;
+use crate::protocol::moved;
+use crate::rows::{check, check_bytes, push, unfolded};
 use mcv_session::{Flow, Session, SessionFault};
-use std::alloc::Global;
 use std::process::Abort;
-use std::test::Fail;
-use std::thread;
 
 /// A client's bytes, the desk's answers, what is written, what the desk was asked, and whether the session has ended.
 pub type Row = (&'static str, &'static str, &'static str, &'static str, bool);
@@ -120,95 +118,94 @@ pub const ROWS: [Row; 22] = [
     ("", "", "", "", false),
 ];
 
-/// Reads a stream in pieces of so many bytes; adds the texts. The result: whether the session has ended.
-fn push_read(
-    alloc: Global,
+/// Reads a piece and adds the text. The result: how the session goes on, None where it had ended before.
+fn read_piece(
+    rt: &impl Abort,
     text: &mut Vec<u8>,
+    session: &mut Session,
     desk: &mut Script<'_>,
-    bytes: &[u8],
-    size: usize,
-) -> Result<bool, Fail> {
-    let mut session = Session::new(alloc);
+    piece: &[u8],
+) -> Option<Flow> {
+    match session.read(desk, piece) {
+        Ok(flow) => {
+            push(rt, text, session.text());
+            Some(flow)
+        }
+        Err(fault) => {
+            check(rt, fault == SessionFault::Ended, "a fault");
+            None
+        }
+    }
+}
+
+/// A session has a row's answers to pieces of so many bytes of the stream.
+fn check_row(rt: &(impl AllocGlobal + Abort), row: &Row, size: usize) {
+    let (stream, answers, wanted, asked, ends) = *row;
+    let bytes = unfolded(rt, stream);
+    let mut text = Vec::new(rt.alloc());
+    let mut session = Session::new(rt.alloc());
+    let mut desk = Script::new(rt.alloc(), answers);
     let mut has_ended = false;
     for piece in bytes.chunks(size.max(1)) {
-        match session.read(desk, piece) {
-            Ok(flow) => {
-                has_ended = flow == Flow::Ends;
-                text.extend_from_slice(session.text())?;
-            }
-            Err(SessionFault::Ended) if has_ended => {}
-            Err(_) => return Err(Fail::from("a fault")),
+        match read_piece(rt, &mut text, &mut session, &mut desk, piece) {
+            Some(flow) => has_ended = flow == Flow::Ends,
+            None => check(rt, has_ended, stream),
         }
     }
-    Ok(has_ended)
-}
-
-fn is_answered(alloc: Global, row: &Row, size: usize) -> Result<bool, Fail> {
-    let (stream, answers, text, asked, ends) = *row;
-    let bytes = unfolded(alloc, stream)?;
-    let want = unfolded(alloc, text)?;
-    let want_asked = unfolded(alloc, asked)?;
-    let mut written = Vec::new(alloc);
-    let mut desk = Script::new(alloc, answers);
-    let has_ended = push_read(alloc, &mut written, &mut desk, bytes.as_slice(), size)?;
-    Ok(
-        written.as_slice() == want.as_slice()
-            && desk.asked() == want_asked.as_slice()
-            && has_ended == ends,
-    )
+    check(rt, has_ended == ends, stream);
+    check_bytes(rt, stream, &text, &unfolded(rt, wanted));
+    check_bytes(rt, stream, desk.asked(), &unfolded(rt, asked));
 }
 
 #[test]
-fn streams_are_answered_in_pieces_of_any_size(rt: HostRuntime) -> Result<(), Fail> {
+fn streams_are_answered_in_pieces_of_any_size(rt: HostRuntime) {
     for row in &ROWS {
         for size in 1..80 {
-            assert!(rt; is_answered(rt.alloc(), row, size)?, "{} by {size}", row.0);
+            check_row(&rt, row, size);
         }
     }
-    Ok(())
+}
+
+/// What is behind the text of a piece: a bar, with `!` before it where the session ends and `?` where it had ended.
+fn mark(flow: Option<Flow>) -> &'static [u8] {
+    match flow {
+        Some(Flow::GoesOn) => b"|",
+        Some(Flow::Ends) => b"!|",
+        None => b"?|",
+    }
+}
+
+/// The texts of the pieces, each with its mark, and what the desk was asked.
+fn check_texts(rt: &(impl AllocGlobal + Abort), answers: &str, pieces: &str, wanted: &str) {
+    let mut text = Vec::new(rt.alloc());
+    let mut session = Session::new(rt.alloc());
+    let mut desk = Script::new(rt.alloc(), answers);
+    for piece in pieces.split('|') {
+        let bytes = unfolded(rt, piece);
+        let flow = read_piece(rt, &mut text, &mut session, &mut desk, &bytes);
+        push(rt, &mut text, mark(flow));
+    }
+    push(rt, &mut text, desk.asked());
+    check_bytes(rt, pieces, &text, &unfolded(rt, wanted));
 }
 
 #[test]
-fn a_session_that_has_ended_answers_nothing(rt: HostRuntime) -> Result<(), Fail> {
-    let alloc = rt.alloc();
-    let mut desk = Script::new(alloc, "d");
-    let mut session = Session::new(alloc);
-    assert_eq!(rt; session.read(&mut desk, b"quit\r\n"), Ok(Flow::Ends));
-    assert_eq!(rt;
-        session.read(&mut desk, b"delete a\r\n"),
-        Err(SessionFault::Ended)
-    );
-    assert_eq!(rt; desk.asked().len(), 0);
-    Ok(())
+fn a_session_that_has_ended_answers_nothing(rt: HostRuntime) {
+    check_texts(&rt, "d", "quit~|delete a~", "!|?|");
 }
 
 #[test]
-fn the_text_is_that_of_the_last_piece(rt: HostRuntime) -> Result<(), Fail> {
-    let alloc = rt.alloc();
-    let mut desk = Script::new(alloc, "d/n");
-    let mut session = Session::new(alloc);
-    assert_eq!(rt; session.text().len(), 0);
-    assert_eq!(rt; session.read(&mut desk, b"delete a\r\n"), Ok(Flow::GoesOn));
-    assert!(rt; session.text() == b"DELETED\r\n".as_slice());
-    assert_eq!(rt;
-        session.read(&mut desk, b"delete b\r\ndel"),
-        Ok(Flow::GoesOn)
-    );
-    assert!(rt; session.text() == b"NOT_FOUND\r\n".as_slice());
-    assert_eq!(rt; session.read(&mut desk, b"ete c"), Ok(Flow::GoesOn));
-    assert_eq!(rt; session.text().len(), 0);
-    Ok(())
+fn the_text_is_that_of_the_last_piece(rt: HostRuntime) {
+    check(&rt, Session::new(rt.alloc()).text().is_empty(), "no text");
+    let pieces = "delete a~|delete b~del|ete c";
+    let wanted = "DELETED~|NOT_FOUND~||delete a~delete b~";
+    check_texts(&rt, "d/n", pieces, wanted);
 }
 
 #[test]
-fn a_session_is_moved(rt: HostRuntime) -> Result<(), Fail> {
-    let alloc = rt.alloc();
-    let mut desk = Script::new(alloc, "d");
-    let mut session = Session::new(alloc);
-    let child = thread::spawn(
-        &rt,
-        move || session.read(&mut desk, b"delete a\r\n") == Ok(Flow::GoesOn),
-    )?;
-    assert!(rt; child.join(&rt));
-    Ok(())
+fn a_session_is_moved(rt: HostRuntime) {
+    let mut desk = Script::new(rt.alloc(), "d");
+    let mut session = moved(&rt, Session::new(rt.alloc()));
+    let flow = session.read(&mut desk, b"delete a\r\n");
+    check(&rt, flow == Ok(Flow::GoesOn), "goes on");
 }

@@ -1,6 +1,6 @@
 use Rattle.std.proofs.Common.{refl}
 use Rattle.mcv_route.specs.View.{view}
-use Rattle.mcv_route.proofs.Ways.{child_at-Pool, child_at-Null, child_at-Error, child_at-AllSync, child_at-AllInitial, child_at-AllAsync, child_at-Failover, child_at-MissFailover, child-of-WarmUp, child-of-Migrate, child_at-PrefixSelector, child_at-OperationSelector, borrowed-at}
+use Rattle.mcv_route.proofs.HandleChildren.{child_at-Pool, child_at-Null, child_at-Error, child_at-Many, child-of-WarmUp, child-of-Migrate, child_at-PrefixSelector, child_at-OperationSelector, borrowed-at}
 use Rattle.mcv_asks.proofs.children.child_of.Goals as goal
 
 pub returns-in-Pool : goal.returns-in-Pool
@@ -12,25 +12,9 @@ returns-in-Null c = rw (c.in-Null.is, child_at-Null) refl
 pub returns-in-Error : goal.returns-in-Error
 returns-in-Error c = rw (c.in-Error.is, child_at-Error) refl
 
-pub returns-in-AllSync : goal.returns-in-AllSync
-returns-in-AllSync c =
-    rw (c.in-AllSync.is, child_at-AllSync c.in-AllSync.children c.args.number, ← c.deref-in-AllSync.ensures.value) (borrowed-at view c.deref-in-AllSync.result.now c.args.number c.get.result c.get.ensures.lookup)
-
-pub returns-in-AllInitial : goal.returns-in-AllInitial
-returns-in-AllInitial c =
-    rw (c.in-AllInitial.is, child_at-AllInitial c.in-AllInitial.children c.args.number, ← c.deref-in-AllInitial.ensures.value) (borrowed-at view c.deref-in-AllInitial.result.now c.args.number c.get-in-AllInitial.result c.get-in-AllInitial.ensures.lookup)
-
-pub returns-in-AllAsync : goal.returns-in-AllAsync
-returns-in-AllAsync c =
-    rw (c.in-AllAsync.is, child_at-AllAsync c.in-AllAsync.children c.args.number, ← c.deref-in-AllAsync.ensures.value) (borrowed-at view c.deref-in-AllAsync.result.now c.args.number c.get-in-AllAsync.result c.get-in-AllAsync.ensures.lookup)
-
-pub returns-in-Failover : goal.returns-in-Failover
-returns-in-Failover c =
-    rw (c.in-Failover.is, child_at-Failover c.in-Failover.children c.args.number, ← c.deref-in-Failover.ensures.value) (borrowed-at view c.deref-in-Failover.result.now c.args.number c.get-in-Failover.result c.get-in-Failover.ensures.lookup)
-
-pub returns-in-MissFailover : goal.returns-in-MissFailover
-returns-in-MissFailover c =
-    rw (c.in-MissFailover.is, child_at-MissFailover c.in-MissFailover.children c.args.number, ← c.deref-in-MissFailover.ensures.value) (borrowed-at view c.deref-in-MissFailover.result.now c.args.number c.get-in-MissFailover.result c.get-in-MissFailover.ensures.lookup)
+pub returns-in-Many : goal.returns-in-Many
+returns-in-Many c =
+    rw (c.in-Many.is, child_at-Many c.in-Many.field-0 c.in-Many.children c.args.number, ← c.deref-in-Many.ensures.value) (borrowed-at view c.deref-in-Many.result.now c.args.number c.get.result c.get.ensures.lookup)
 
 pub returns-in-WarmUp : goal.returns-in-WarmUp
 returns-in-WarmUp c =

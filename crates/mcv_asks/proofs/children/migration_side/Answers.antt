@@ -1,6 +1,6 @@
 use Rattle.std.proofs.Common.{arith}
 use Rattle.mcv_route.specs.View.{view}
-use Rattle.mcv_route.proofs.Ways.{past-two}
+use Rattle.mcv_route.proofs.HandleChildren.{past-two}
 use Rattle.mcv_asks.proofs.children.migration_side.Goals as goal
 
 pub returns-in_default : goal.returns-in_default

@@ -2,7 +2,7 @@ use Rattle.std.proofs.Common.{◌≡◌, sym, ap, ◌∙◌, arith, get_or, leng
 use Rattle.std.specs.Prelude.{slice_get}
 use Rattle.mcv_route.specs.View.{view, last_view, prefix_view}
 use Rattle.mcv_route.proofs.Views.{prefix_view-out}
-use Rattle.mcv_route.proofs.Ways.{policy-at, policy-past, policy-last}
+use Rattle.mcv_route.proofs.HandleChildren.{policy-at, policy-past, policy-last}
 use Rattle.mcv_asks.proofs.children.prefix_route.Goals as goal
 
 pub returns-then-number-prefixes : goal.returns-then-number-prefixes

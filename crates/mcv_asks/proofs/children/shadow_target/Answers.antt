@@ -1,7 +1,7 @@
 use Rattle.std.proofs.Common.{ap, get_or}
 use Rattle.mcv_route.specs.View.{shadow_view}
 use Rattle.mcv_route.proofs.Views.{shadow_view-out}
-use Rattle.mcv_route.proofs.Ways.{item-at, no-item}
+use Rattle.mcv_route.proofs.HandleChildren.{item-at, no-item}
 use Rattle.mcv_asks.proofs.children.shadow_target.Goals as goal
 
 pub returns-then-number-shadows : goal.returns-then-number-shadows

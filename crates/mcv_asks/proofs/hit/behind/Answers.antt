@@ -2,7 +2,7 @@ use Rattle.std.proofs.Common.{None, Some, ◌∙◌, ap, sym}
 use Rattle.std.proofs.lemmas.Bool.Decides.{Decides-eqb}
 use Rattle.std.proofs.lemmas.Slice.Eq.{strip_prefix_is}
 use Rattle.mcv_asks.specs.Hits.{behind}
-use Rattle.mcv_asks.proofs.Behind.{behind_append, behind_none}
+use Rattle.mcv_asks.proofs.PositionTails.{behind_append, behind_none}
 use Rattle.mcv_asks.proofs.hit.behind.Goals as goal
 
 pub returns-in-Some : goal.returns-in-Some

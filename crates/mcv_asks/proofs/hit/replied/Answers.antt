@@ -6,7 +6,7 @@ use Rattle.mcv_rules.specs.Status.{status_of}
 use Rattle.mcv_rules.specs.declared.status.Source.TheVariants as sources
 use Rattle.mcv_rules.specs.declared.status.Status.TheVariants.{Replied, Waits}
 use Rattle.mcv_asks.specs.Hits.{situation_of}
-use Rattle.mcv_asks.proofs.Heards.{status_said}
+use Rattle.mcv_asks.proofs.ReplyOfStatus.{status_said}
 use Rattle.mcv_asks.proofs.hit.replied.Goals as goal
 
 pub returns-in-Waits : goal.returns-in-Waits

@@ -1,4 +1,4 @@
-use Rattle.mcv_base.proofs.Hashed.{hashed_is_cut, one_hashed_cut}
+use Rattle.mcv_base.proofs.HashedPart.{hashed_is_cut, one_hashed_cut}
 use Rattle.mcv_base.proofs.key.hashed_part_is_a_cut.Goals as goal
 
 pub returns-clause-cut : goal.returns-clause-cut

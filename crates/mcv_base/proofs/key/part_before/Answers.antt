@@ -1,4 +1,4 @@
-use Rattle.mcv_base.proofs.Hashed.{no_mark, part_whole}
+use Rattle.mcv_base.proofs.HashedPart.{no_mark, part_whole}
 use Rattle.mcv_base.proofs.key.part_before.Goals as goal
 
 pub returns-in-None : goal.returns-in-None

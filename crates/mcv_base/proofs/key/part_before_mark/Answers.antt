@@ -1,5 +1,5 @@
 use Rattle.std.proofs.Common.{arith}
-use Rattle.mcv_base.proofs.Hashed.{part_at, part_whole}
+use Rattle.mcv_base.proofs.HashedPart.{part_at, part_whole}
 use Rattle.mcv_base.proofs.key.part_before_mark.Goals as goal
 
 pub returns-in-Some : goal.returns-in-Some

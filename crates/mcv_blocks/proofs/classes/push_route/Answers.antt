@@ -2,7 +2,7 @@ use Rattle.std.proofs.Common.{◌≡◌, ◌++◌, ap, map, rules, sym, ◌∙�
 use Rattle.std.proofs.lemmas.Iterator.Consumers.{YieldsList-end}
 use Rattle.std.proofs.lemmas.Iterator.Adapters.{YieldsList-from_vec}
 use Rattle.mcv_classes.specs.Words.{class_words}
-use Rattle.mcv_classes.proofs.Shared.{table-classes}
+use Rattle.mcv_classes.proofs.TableHasClasses.{table-classes}
 use Rattle.mcv_route.specs.View.{view}
 use Rattle.mcv_blocks.specs.Places.{of_route}
 use Rattle.mcv_blocks.proofs.classes.push_route.Goals as goal

@@ -1,6 +1,6 @@
 use Rattle.std.proofs.Common.{◌+◌, sym, subst, arith}
 use Rattle.mcv_route.specs.View.{view}
-use Rattle.mcv_blocks.proofs.Listed.{AreClassesBelow, all_below, few_routes, more_classes, no_route_left, none_below, number_within}
+use Rattle.mcv_blocks.proofs.RouteClasses.{AreClassesBelow, all_below, few_routes, more_classes, no_route_left, none_below, number_within}
 use Rattle.mcv_blocks.proofs.classes.route_classes.Goals as goal
 
 pub overflow_add-number : goal.overflow_add-number

@@ -1,5 +1,5 @@
 use Rattle.std.proofs.Common.{◌-◌, length}
-use Rattle.mcv_blocks.proofs.Listed.{AreClassesBelow}
+use Rattle.mcv_blocks.proofs.RouteClasses.{AreClassesBelow}
 use Rattle.mcv_blocks.proofs.classes.route_classes.Given as goal
 
 abbrev pub invariant-loop-route : goal.invariant-loop-route

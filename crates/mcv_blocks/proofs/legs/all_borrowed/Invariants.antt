@@ -1,6 +1,6 @@
 use Rattle.std.proofs.Common.{◌≡◌, take}
-use Rattle.mcv_judge.specs.InMemory.{legs_of}
-use Rattle.mcv_blocks.specs.Merged.{leaves_of}
+use Rattle.mcv_judge.specs.PairsInMemory.{legs_of}
+use Rattle.mcv_blocks.specs.MergedLegs.{leaves_of}
 use Rattle.mcv_blocks.proofs.legs.all_borrowed.Given as goal
 
 abbrev pub invariant-loop-leg : goal.invariant-loop-leg

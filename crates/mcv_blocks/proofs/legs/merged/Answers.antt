@@ -1,8 +1,8 @@
 use Rattle.std.proofs.Common.{◌+◌, ◌-◌, ◌≤◌, ◌++◌, take, drop, length, ap, ◌∙◌, subst, arith}
 use Rattle.std.proofs.lemmas.List.{length-drop, map_push, take_rest}
-use Rattle.mcv_judge.specs.InMemory.{leg_of, legs_of}
-use Rattle.mcv_blocks.specs.Merged.{leaves_of, merge}
-use Rattle.mcv_blocks.proofs.Merging.{merged_more}
+use Rattle.mcv_judge.specs.PairsInMemory.{leg_of, legs_of}
+use Rattle.mcv_blocks.specs.MergedLegs.{leaves_of, merge}
+use Rattle.mcv_blocks.proofs.MergesRise.{merged_more}
 use Rattle.mcv_blocks.proofs.legs.merged.Goals as goal
 
 pub loop-next-preserved : goal.loop-next-preserved

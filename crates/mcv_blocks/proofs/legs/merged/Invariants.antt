@@ -1,6 +1,6 @@
 use Rattle.std.proofs.Common.{◌≡◌, ◌+◌, ◌-◌, ◌≤◌, ◌++◌, drop, length}
-use Rattle.mcv_judge.specs.InMemory.{legs_of}
-use Rattle.mcv_blocks.specs.Merged.{leaves_of, merge}
+use Rattle.mcv_judge.specs.PairsInMemory.{legs_of}
+use Rattle.mcv_blocks.specs.MergedLegs.{leaves_of, merge}
 use Rattle.mcv_blocks.proofs.legs.merged.Given as goal
 
 abbrev pub invariant-loop-next : goal.invariant-loop-next

@@ -1,7 +1,7 @@
 use Rattle.std.proofs.Common.{◌≡◌, List, ℕ, map, take}
 use Rattle.std.specs.List.{All}
 use Rattle.mcv_base.specs.Position.{position_text}
-use Rattle.mcv_cert.specs.Pair.{FitsPosition}
+use Rattle.mcv_cert.specs.Fits.{FitsPosition}
 use Rattle.mcv_cert.proofs.parse.read_positions.Given as goal
 
 abbrev pub invariant-loop-word : goal.invariant-loop-word

@@ -1,7 +1,7 @@
 use Rattle.std.proofs.Common.{◌≡◌, ◌==◌, List, ℕ, length, map, take}
 use Rattle.std.specs.Prelude.{decimal}
 use Rattle.std.specs.List.{slice_split}
-use Rattle.mcv_cert.specs.Pair.{FitsPosition}
+use Rattle.mcv_cert.specs.Fits.{FitsPosition}
 use Rattle.mcv_cert.proofs.parse.read_steps.Given as goal
 
 abbrev pub invariant-loop-part : goal.invariant-loop-part

@@ -1,9 +1,9 @@
 use Rattle.std.proofs.Common.{◌≡◌, ◌<◌, length, get_or, Some, sym, ap, ◌∙◌, subst, arith}
 use Rattle.mcv_base.specs.declared.request.ServerId.{ServerId}
-use Rattle.mcv_judge.specs.InMemory.{block_of, leg_of, numbers}
+use Rattle.mcv_judge.specs.PairsInMemory.{block_of, leg_of, numbers}
 use Rattle.mcv_judge.specs.Reason.{LegValue, server_at}
 use Rattle.mcv_judge.proofs.Servers.{servers_counted}
-use Rattle.mcv_pairs.proofs.Picked.{server_there}
+use Rattle.mcv_pairs.proofs.PickedReasons.{server_there}
 use Rattle.mcv_certify.proofs.LeafOfGap.{leg_there, placed_at}
 use Rattle.mcv_certify.proofs.gap.gap_of.Goals as goal
 

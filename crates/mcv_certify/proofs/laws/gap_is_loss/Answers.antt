@@ -1,4 +1,4 @@
-use Rattle.mcv_certify.proofs.Loss.{gap_lost}
+use Rattle.mcv_certify.proofs.GapIsLoss.{gap_lost}
 use Rattle.mcv_certify.proofs.laws.gap_is_loss.Goals as goal
 
 pub returns : goal.returns

@@ -7,16 +7,16 @@ use Rattle.std.proofs.lemmas.Option.{slice_get-get_or}
 use Rattle.std.proofs.lemmas.Result.{err_from_is_err_and}
 use Rattle.mcv_cert.specs.declared.pair.Pair.{Pair}
 use Rattle.mcv_pools.specs.Symbol.{SymbolValue}
-use Rattle.mcv_judge.specs.InMemory.{pairs_of}
+use Rattle.mcv_judge.specs.PairsInMemory.{pairs_of}
 use Rattle.mcv_blocks.specs.Blocks.{IsJustifiedBy}
 use Rattle.mcv_blocks.specs.Places.{AreRouteClasses, IsRouteClass}
-use Rattle.mcv_blocks.specs.Spots.{eras_from, spots_of}
+use Rattle.mcv_blocks.specs.Spots.{eras_from, classes_in_eras}
 use Rattle.mcv_blocks.specs.declared.classes.RouteClass.{RouteClass}
-use Rattle.mcv_certify.specs.Picked.{IsPickedOf}
-use Rattle.mcv_certify.specs.Made.{AddsFor, ReportsGapIn}
+use Rattle.mcv_certify.specs.PickedReasons.{IsPickedOf}
+use Rattle.mcv_certify.specs.BlockSteps.{AddsFor, ReportsGapIn}
 use Rattle.mcv_certify.proofs.GapsOfSpots.{adds_class, adds_none, reports_class}
-use Rattle.mcv_certify.proofs.Certified.{are_picked, is_certificate, is_justified}
-use Rattle.mcv_certify.proofs.Lost.{if_lost}
+use Rattle.mcv_certify.proofs.AnsweringPairsJustify.{are_picked, is_certificate, is_justified}
+use Rattle.mcv_certify.proofs.GapReports.{if_lost}
 use Rattle.mcv_certify.proofs.Verdicts.{known, only_memory, right}
 use Rattle.mcv_certify.proofs.making.certify.Goals as goal
 
@@ -47,7 +47,7 @@ returns-in_err-push_class c =
     let sound = c.servers-servers.ensures.sound in
     let are = subst (AreRouteClasses r) (sym c.deref-class-items.ensures.value) c.in_ok-classes.ensures in
     let there = slice_get-get_or cs c.loop-class.class-index class c.loop-class-test.true in
-    let reported = if_lost _ (ReportsGapIn r (eras_from class 0 n)) (ReportsGapIn r (spots_of cs n)) (λ f h. reports_class r cs c.loop-class.class-index n class [] (pairs_of c.loop-class.pairs.items) f (subst (λ (d : RouteClass). slice_get cs c.loop-class.class-index ≡ Some d) (sym c.class-item.is) there) c.loop-class.invariant h) c.in_err-push_class.ensures.lost in
+    let reported = if_lost _ (ReportsGapIn r (eras_from class 0 n)) (ReportsGapIn r (classes_in_eras cs n)) (λ f h. reports_class r cs c.loop-class.class-index n class [] (pairs_of c.loop-class.pairs.items) f (subst (λ (d : RouteClass). slice_get cs c.loop-class.class-index ≡ Some d) (sym c.class-item.is) there) c.loop-class.invariant h) c.in_err-push_class.ensures.lost in
     let p = err_from_is_err_and c.from_residual-in_err-push_class.result c.from_residual-in_err-push_class.ensures.1 in
     rw (p.1, p.2) (record {
       justified = tt;
@@ -62,7 +62,7 @@ of-requires c =
     let r = c.args.routes.now in
     let cs = c.deref-class-items.result.now in
     let are = subst (AreRouteClasses r) (sym c.deref-class-items.ensures.value) c.in_ok-classes.ensures in
-    let all : AddsFor r (spots_of cs c.era_count-eras.result) [] (pairs_of c.loop-class.pairs.items) = subst (λ (ds : List RouteClass). AddsFor r (spots_of ds c.era_count-eras.result) [] (pairs_of c.loop-class.pairs.items)) (take_all c.loop-class.class-index cs c.loop-class-test.false) c.loop-class.invariant in
+    let all : AddsFor r (classes_in_eras cs c.era_count-eras.result) [] (pairs_of c.loop-class.pairs.items) = subst (λ (ds : List RouteClass). AddsFor r (classes_in_eras ds c.era_count-eras.result) [] (pairs_of c.loop-class.pairs.items)) (take_all c.loop-class.class-index cs c.loop-class-test.false) c.loop-class.invariant in
     is_certificate r cs c.era_count-eras.result (pairs_of c.loop-class.pairs.items) c.servers-servers.ensures.sound are c.era_count-eras.ensures all
 
 pub returns-clause-justified : goal.returns-clause-justified
@@ -70,12 +70,12 @@ returns-clause-justified c =
     let r = c.args.routes.now in
     let cs = c.deref-class-items.result.now in
     let are = subst (AreRouteClasses r) (sym c.deref-class-items.ensures.value) c.in_ok-classes.ensures in
-    let all : AddsFor r (spots_of cs c.era_count-eras.result) [] (pairs_of c.loop-class.pairs.items) = subst (λ (ds : List RouteClass). AddsFor r (spots_of ds c.era_count-eras.result) [] (pairs_of c.loop-class.pairs.items)) (take_all c.loop-class.class-index cs c.loop-class-test.false) c.loop-class.invariant in
+    let all : AddsFor r (classes_in_eras cs c.era_count-eras.result) [] (pairs_of c.loop-class.pairs.items) = subst (λ (ds : List RouteClass). AddsFor r (classes_in_eras ds c.era_count-eras.result) [] (pairs_of c.loop-class.pairs.items)) (take_all c.loop-class.class-index cs c.loop-class-test.false) c.loop-class.invariant in
     subst (IsJustifiedBy r) (sym c.of.ensures) (is_justified r cs c.era_count-eras.result (pairs_of c.loop-class.pairs.items) c.servers-servers.ensures.sound are c.era_count-eras.ensures all)
 
 pub returns-clause-picked : goal.returns-clause-picked
 returns-clause-picked c =
     let r = c.args.routes.now in
     let cs = c.deref-class-items.result.now in
-    let all : AddsFor r (spots_of cs c.era_count-eras.result) [] (pairs_of c.loop-class.pairs.items) = subst (λ (ds : List RouteClass). AddsFor r (spots_of ds c.era_count-eras.result) [] (pairs_of c.loop-class.pairs.items)) (take_all c.loop-class.class-index cs c.loop-class-test.false) c.loop-class.invariant in
+    let all : AddsFor r (classes_in_eras cs c.era_count-eras.result) [] (pairs_of c.loop-class.pairs.items) = subst (λ (ds : List RouteClass). AddsFor r (classes_in_eras ds c.era_count-eras.result) [] (pairs_of c.loop-class.pairs.items)) (take_all c.loop-class.class-index cs c.loop-class-test.false) c.loop-class.invariant in
     subst (All (IsPickedOf c.args.routes.now)) (sym c.of.ensures) (are_picked c.args.routes.now cs c.era_count-eras.result (pairs_of c.loop-class.pairs.items) all)

@@ -1,10 +1,10 @@
 use Rattle.std.proofs.Common.{ℕ, subst}
 use Rattle.std.proofs.lemmas.Result.{err_from_is_err_and}
-use Rattle.mcv_judge.specs.InMemory.{pairs_of}
-use Rattle.mcv_blocks.specs.Spots.{eras_from, spot}
-use Rattle.mcv_certify.specs.Made.{AddsFor, ReportsGapAt, ReportsGapIn}
+use Rattle.mcv_judge.specs.PairsInMemory.{pairs_of}
+use Rattle.mcv_blocks.specs.Spots.{eras_from, in_era}
+use Rattle.mcv_certify.specs.BlockSteps.{AddsFor, ReportsGapAt, ReportsGapIn}
 use Rattle.mcv_certify.proofs.GapsOfSpots.{adds_era, adds_none, reports_era}
-use Rattle.mcv_certify.proofs.Lost.{if_lost}
+use Rattle.mcv_certify.proofs.GapReports.{if_lost}
 use Rattle.mcv_certify.proofs.Spots.{none-within, next-within, past-all}
 use Rattle.mcv_certify.proofs.making.push_class.Goals as goal
 
@@ -24,7 +24,7 @@ pub returns-in_err-push_era-clause-lost : goal.returns-in_err-push_era-clause-lo
 returns-in_err-push_era-clause-lost c =
     let r = c.args.routes.now in
     let class = c.args.class.now in
-    let reported = if_lost _ (ReportsGapAt r (spot class c.loop-era.era)) (ReportsGapIn r (eras_from class 0 c.args.eras)) (λ f h. reports_era r class c.loop-era.era c.args.eras (pairs_of c.args.pairs.now.items) (pairs_of c.loop-era.pairs.items) f c.loop-era-test.true c.loop-era.invariant.so_far h) c.in_err-push_era.ensures.lost in
+    let reported = if_lost _ (ReportsGapAt r (in_era class c.loop-era.era)) (ReportsGapIn r (eras_from class 0 c.args.eras)) (λ f h. reports_era r class c.loop-era.era c.args.eras (pairs_of c.args.pairs.now.items) (pairs_of c.loop-era.pairs.items) f c.loop-era-test.true c.loop-era.invariant.so_far h) c.in_err-push_era.ensures.lost in
     let p = err_from_is_err_and c.from_residual.result c.from_residual.ensures.1 in
     rw (p.1, p.2) reported
 

@@ -1,7 +1,7 @@
 use Rattle.std.proofs.Common.{◌≤◌}
-use Rattle.mcv_judge.specs.InMemory.{pairs_of}
+use Rattle.mcv_judge.specs.PairsInMemory.{pairs_of}
 use Rattle.mcv_blocks.specs.Spots.{eras_from}
-use Rattle.mcv_certify.specs.Made.{AddsFor}
+use Rattle.mcv_certify.specs.BlockSteps.{AddsFor}
 use Rattle.mcv_certify.proofs.making.push_class.Given as goal
 
 abbrev pub invariant-loop-era : goal.invariant-loop-era

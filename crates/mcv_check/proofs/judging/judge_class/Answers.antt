@@ -1,5 +1,5 @@
 use Rattle.std.proofs.lemmas.Result.{err_from_is_err_and}
-use Rattle.mcv_judge.specs.InMemory.{pairs_of}
+use Rattle.mcv_judge.specs.PairsInMemory.{pairs_of}
 use Rattle.mcv_check.proofs.Eras.{all_eras, era_stops, first_era, next_era}
 use Rattle.mcv_check.proofs.judging.judge_class.Goals as goal
 

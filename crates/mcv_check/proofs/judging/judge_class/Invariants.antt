@@ -1,5 +1,5 @@
 use Rattle.mcv_cert.specs.Pair.{AreRising}
-use Rattle.mcv_judge.specs.InMemory.{pairs_of}
+use Rattle.mcv_judge.specs.PairsInMemory.{pairs_of}
 use Rattle.mcv_check.proofs.Eras.{IsJudgedTo}
 use Rattle.mcv_check.proofs.judging.judge_class.Given as goal
 

@@ -1,7 +1,7 @@
 use Rattle.std.proofs.Common.{sym, subst}
 use Rattle.std.proofs.lemmas.Result.{err_from_is_err_and}
 use Rattle.mcv_blocks.specs.Places.{AreRouteClasses}
-use Rattle.mcv_judge.specs.InMemory.{pairs_of}
+use Rattle.mcv_judge.specs.PairsInMemory.{pairs_of}
 use Rattle.mcv_check.proofs.Classes.{all_classes, class_at, class_stops, end_stops, first_class, next_class, past_classes}
 use Rattle.mcv_check.proofs.judging.judge_routes.Goals as goal
 

@@ -1,6 +1,6 @@
 use Rattle.std.proofs.Common.{drop}
 use Rattle.mcv_cert.specs.Pair.{AreRising}
-use Rattle.mcv_judge.specs.InMemory.{pairs_of}
+use Rattle.mcv_judge.specs.PairsInMemory.{pairs_of}
 use Rattle.mcv_check.proofs.Classes.{IsJudgedBefore}
 use Rattle.mcv_check.proofs.judging.judge_routes.Given as goal
 

@@ -1,6 +1,6 @@
 use Rattle.std.proofs.lemmas.Result.{IfOk-weaker}
-use Rattle.mcv_check.specs.Judged.{AreSetsOf}
-use Rattle.mcv_check.proofs.Found.{sets_made}
+use Rattle.mcv_check.specs.Judgements.{AreSetsOf}
+use Rattle.mcv_check.proofs.JudgedSets.{sets_made}
 use Rattle.mcv_check.proofs.judging.sets_of.Goals as goal
 
 pub returns : goal.returns

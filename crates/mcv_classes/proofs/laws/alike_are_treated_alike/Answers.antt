@@ -1,4 +1,4 @@
-use Rattle.mcv_classes.proofs.Alike.{alike_are_sent, alike_are_replied, alike_are_answered}
+use Rattle.mcv_classes.proofs.AlikeRests.{alike_are_sent, alike_are_replied, alike_are_answered}
 use Rattle.mcv_classes.proofs.laws.alike_are_treated_alike.Goals as goal
 
 pub returns : goal.returns

@@ -3,7 +3,7 @@ use Rattle.std.proofs.lemmas.Option.{IfSome_then}
 use Rattle.std.proofs.lemmas.Result.{IfOk-weaker}
 use Rattle.mcv_classes.specs.Class.{IsClassOf}
 use Rattle.mcv_classes.specs.Words.{class_words}
-use Rattle.mcv_classes.proofs.Shared.{table-class}
+use Rattle.mcv_classes.proofs.TableHasClasses.{table-class}
 use Rattle.mcv_classes.proofs.listing.class_of.Goals as goal
 
 pub returns : goal.returns

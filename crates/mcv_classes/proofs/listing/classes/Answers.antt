@@ -3,7 +3,7 @@ use Rattle.std.proofs.lemmas.Option.{IfSome_then}
 use Rattle.std.proofs.lemmas.Result.{IfOk-weaker}
 use Rattle.mcv_classes.specs.Class.{IsClassList}
 use Rattle.mcv_classes.specs.Words.{class_words}
-use Rattle.mcv_classes.proofs.Shared.{table-classes}
+use Rattle.mcv_classes.proofs.TableHasClasses.{table-classes}
 use Rattle.mcv_classes.proofs.listing.classes.Goals as goal
 
 pub returns : goal.returns

@@ -6,7 +6,7 @@ use Rattle.mcv_route.specs.declared.tree.PrefixPolicy.{out-PrefixPolicy}
 use Rattle.mcv_route.specs.declared.tree.OperationPolicy.{out-OperationPolicy}
 use Rattle.mcv_route.proofs.Views.{operation_view-out, prefix_view-out, shadow_view-out}
 use Rattle.mcv_classes.specs.Table.{bytes_of}
-use Rattle.mcv_classes.proofs.Walked.{words-more, words-more-of, prefixes-of-PrefixSelector, prefixes-of-OperationSelector}
+use Rattle.mcv_classes.proofs.PolicyPrefixes.{words-more, words-more-of, prefixes-of-PrefixSelector, prefixes-of-OperationSelector}
 use Rattle.mcv_classes.proofs.words.+words.Goals as goal
 
 pub push_words-returns-in_ok-push_selected-in-PrefixSelector : goal.push_words-returns-in_ok-push_selected-in-PrefixSelector

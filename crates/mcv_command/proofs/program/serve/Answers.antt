@@ -6,7 +6,7 @@ use Rattle.mcv_verdict.specs.declared.verdict.Verdict.TheVariants as verdicts
 use Rattle.mcv_command.specs.Program.{IsJudgingFault}
 use Rattle.mcv_command.specs.declared.stop.Stop.{Stop}
 use Rattle.mcv_command.specs.declared.stop.Stop.TheVariants.{Run}
-use Rattle.mcv_command.proofs.Finished.{outside_stop}
+use Rattle.mcv_command.proofs.ProgramEnds.{outside_stop}
 use Rattle.mcv_command.proofs.program.serve.Goals as goal
 
 pub returns-in_err-accepted-clause-stop : goal.returns-in_err-accepted-clause-stop

@@ -5,9 +5,9 @@ use Rattle.clap.proofs.WalkLemmas.{first_value-rows, one_text-rows}
 use Rattle.clap.proofs.OnLiterals.{clap_on_literals}
 use Rattle.clap.proofs.ValueTestLemmas.{accepts-Accepts}
 use Rattle.mcv_command.specs.Words.{mcv_app}
-use Rattle.mcv_command.proofs.Given.{at_parser, legs_values, run_values}
+use Rattle.mcv_command.proofs.OptionValues.{at_parser, legs_values, run_values}
 use Rattle.mcv_command.proofs.Matches.{fault_of_kind, named_rows, name_of_rows, no_number, number_of, run_asked, run_spelt}
-use Rattle.mcv_command.proofs.Taken.{taken}
+use Rattle.mcv_command.proofs.CommandIsNamed.{taken}
 use Rattle.mcv_command.proofs.words.read_words.Goals as goal
 
 simple : is_simple mcv_app ≡ true

@@ -1,7 +1,7 @@
 use Rattle.std.proofs.Common.{◌≡◌, ◌+◌, ◌-◌, ℕ, List, ◌∷◌, length, take, drop, ap, sym, subst, arith}
 use Rattle.std.proofs.lemmas.List.{length-drop}
 use Rattle.mcv_comments.specs.Comments.{Begins, block}
-use Rattle.mcv_comments.proofs.Found.{no_end_found, block_found}
+use Rattle.mcv_comments.proofs.CommentEnds.{no_end_found, block_found}
 use Rattle.mcv_comments.proofs.Pieces.{rest_of}
 use Rattle.mcv_comments.proofs.front.behind_block.Goals as goal
 

@@ -1,7 +1,7 @@
 use Rattle.std.proofs.Common.{◌≡◌, ◌-◌, ℕ, List, [], ◌∷◌, length, take, drop, sym, subst, ◌∙◌, arith}
 use Rattle.std.proofs.lemmas.List.{drop_all}
 use Rattle.mcv_comments.specs.Comments.{Begins, line}
-use Rattle.mcv_comments.proofs.Found.{line_found, line_all}
+use Rattle.mcv_comments.proofs.CommentEnds.{line_found, line_all}
 use Rattle.mcv_comments.proofs.Pieces.{rest_of}
 use Rattle.mcv_comments.proofs.front.behind_line.Goals as goal
 

@@ -1,6 +1,6 @@
 use Rattle.std.proofs.Common.{ℕ, List, drop, None, Some, subst}
 use Rattle.memchr.specs.Find.{IsFirstByte, is_byte2}
-use Rattle.mcv_comments.proofs.Found.{run_found, run_none}
+use Rattle.mcv_comments.proofs.CommentEnds.{run_found, run_none}
 use Rattle.mcv_comments.proofs.Pieces.{rest_of, run_front, run_all}
 use Rattle.mcv_comments.proofs.front.run_len.Goals as goal
 

@@ -1,4 +1,4 @@
-use Rattle.mcv_comments.proofs.Unique.{reads_one}
+use Rattle.mcv_comments.proofs.OneReading.{reads_one}
 use Rattle.mcv_comments.proofs.laws.one_reading.Goals as goal
 
 pub returns : goal.returns

@@ -1,4 +1,4 @@
-use Rattle.mcv_comments.proofs.Unique.{strips_one}
+use Rattle.mcv_comments.proofs.OneReading.{strips_one}
 use Rattle.mcv_comments.proofs.laws.one_stripping.Goals as goal
 
 pub returns : goal.returns

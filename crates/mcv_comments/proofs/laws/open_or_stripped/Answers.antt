@@ -1,4 +1,4 @@
-use Rattle.mcv_comments.proofs.Unique.{open_or_strips}
+use Rattle.mcv_comments.proofs.OneReading.{open_or_strips}
 use Rattle.mcv_comments.proofs.laws.open_or_stripped.Goals as goal
 
 pub returns : goal.returns

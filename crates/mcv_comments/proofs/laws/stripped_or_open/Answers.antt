@@ -1,4 +1,4 @@
-use Rattle.mcv_comments.proofs.Every.{each_text}
+use Rattle.mcv_comments.proofs.StrippedOrOpen.{each_text}
 use Rattle.mcv_comments.proofs.laws.stripped_or_open.Goals as goal
 
 pub returns : goal.returns

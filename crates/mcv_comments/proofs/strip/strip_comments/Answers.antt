@@ -1,5 +1,5 @@
 use Rattle.mcv_comments.proofs.Pieces.{strips_push}
-use Rattle.mcv_comments.proofs.Unique.{open_or_strips}
+use Rattle.mcv_comments.proofs.OneReading.{open_or_strips}
 use Rattle.mcv_comments.proofs.strip.strip_comments.Goals as goal
 
 pub returns-in_default-clause-only : goal.returns-in_default-clause-only

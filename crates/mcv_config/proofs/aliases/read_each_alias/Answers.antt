@@ -4,7 +4,7 @@ use Rattle.serde_json.specs.View.{view}
 use Rattle.mcv_names.specs.declared.trail.Trail.{the_lemmas}
 use Rattle.mcv_names.specs.Fault.{good}
 use Rattle.mcv_names.specs.Path.{item_step, path_of}
-use Rattle.mcv_names.proofs.ReadingEach.{each-more}
+use Rattle.mcv_names.proofs.ReadLists.{each-more}
 use Rattle.mcv_config.specs.Aliases.{alias_read}
 use Rattle.mcv_config.proofs.aliases.read_each_alias.Goals as goal
 

@@ -2,7 +2,7 @@ use Rattle.std.proofs.Common.{◌≡◌, map, drop}
 use Rattle.serde_json.specs.View.{view}
 use Rattle.mcv_names.specs.Lists.{each}
 use Rattle.mcv_names.specs.Path.{path_of}
-use Rattle.mcv_names.proofs.ReadingEach.{after}
+use Rattle.mcv_names.proofs.ReadLists.{after}
 use Rattle.mcv_config.specs.Aliases.{alias_read}
 use Rattle.mcv_config.proofs.aliases.read_each_alias.Given as goal
 

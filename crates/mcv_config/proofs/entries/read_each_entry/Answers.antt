@@ -5,9 +5,9 @@ use Rattle.serde_json.specs.View.{view}
 use Rattle.mcv_names.specs.declared.trail.Trail.{the_lemmas}
 use Rattle.mcv_names.specs.Fault.{good}
 use Rattle.mcv_names.specs.Path.{item_step, path_of}
-use Rattle.mcv_names.proofs.ReadingEach.{each-more}
+use Rattle.mcv_names.proofs.ReadLists.{each-more}
 use Rattle.mcv_config.specs.Entries.{Turn, entry_read}
-use Rattle.mcv_config.specs.Plan.{entry_plan}
+use Rattle.mcv_config.specs.ConfigValue.{entry_value}
 use Rattle.mcv_config.specs.View.{so_far_of}
 use Rattle.mcv_config.proofs.entries.read_each_entry.Goals as goal
 
@@ -20,7 +20,7 @@ loop-index-preserved c =
     let entry = c.in_ok-read_entry.field-0 in
     let state : Turn = (c.loop-index.seen, so_far_of c.loop-index.so_far) in
     let left : Turn = (c.read_entry.new.seen, so_far_of c.read_entry.new.so_far) in
-    let pushed : map entry_plan c.push.new.self.items ≡ map entry_plan front ++ entry_plan entry ∷ [] = ap (map entry_plan) c.in_ok-push.ensures.items ∙ map-append entry_plan front (entry ∷ []) in
-    let read : entry_read state (item_step path i) (view item) ≡ good (entry_plan entry, left) = grind (arith, common_steps, the_lemmas) in
+    let pushed : map entry_value c.push.new.self.items ≡ map entry_value front ++ entry_value entry ∷ [] = ap (map entry_value) c.in_ok-push.ensures.items ∙ map-append entry_value front (entry ∷ []) in
+    let read : entry_read state (item_step path i) (view item) ≡ good (entry_value entry, left) = grind (arith, common_steps, the_lemmas) in
     c.loop-index.invariant
-    ∙ each-more entry_read view state path c.args.list.now i item (map entry_plan front) (map entry_plan c.push.new.self.items) (entry_plan entry) left c.loop-index-test.true c.index-list-index.is pushed read
+    ∙ each-more entry_read view state path c.args.list.now i item (map entry_value front) (map entry_value c.push.new.self.items) (entry_value entry) left c.loop-index-test.true c.index-list-index.is pushed read

@@ -6,7 +6,7 @@ use Rattle.mcv_base.specs.declared.request.ServerId.{ServerId}
 use Rattle.mcv_names.specs.declared.trail.Trail.{the_lemmas}
 use Rattle.mcv_names.specs.Fault.{good}
 use Rattle.mcv_names.specs.Path.{item_step, path_of}
-use Rattle.mcv_names.proofs.ReadingEach.{each-more}
+use Rattle.mcv_names.proofs.ReadLists.{each-more}
 use Rattle.mcv_config.specs.Pools.{server_read}
 use Rattle.mcv_config.proofs.pools.read_each_server.Goals as goal
 

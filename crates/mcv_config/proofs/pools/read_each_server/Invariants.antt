@@ -3,7 +3,7 @@ use Rattle.serde_json.specs.View.{view}
 use Rattle.mcv_names.specs.Lists.{each}
 use Rattle.mcv_names.specs.Path.{path_of}
 use Rattle.mcv_config.specs.Pools.{server_read}
-use Rattle.mcv_names.proofs.ReadingEach.{after}
+use Rattle.mcv_names.proofs.ReadLists.{after}
 use Rattle.mcv_config.proofs.pools.read_each_server.Given as goal
 
 abbrev pub invariant-loop-index : goal.invariant-loop-index

@@ -7,12 +7,12 @@ use Rattle.mcv_names.specs.declared.trail.Trail.{the_lemmas}
 use Rattle.mcv_names.specs.Fault.{good}
 use Rattle.mcv_names.specs.Lists.{each_member}
 use Rattle.mcv_names.specs.Path.{item_step, key_step, path_of}
-use Rattle.mcv_config.specs.Plan.{named_of, prefix_of, shadow_of}
+use Rattle.mcv_config.specs.ConfigValue.{named_of, prefix_of, shadow_of}
 use Rattle.mcv_config.specs.Routes.{route}
 use Rattle.mcv_config.specs.Selectors.{policy_read}
 use Rattle.mcv_config.specs.Shadows.{shadow_read}
 use Rattle.mcv_config.specs.View.{so_far_of}
-use Rattle.mcv_names.proofs.ReadingEach.{after, each-more, each_member-more}
+use Rattle.mcv_names.proofs.ReadLists.{after, each-more, each_member-more}
 use Rattle.mcv_config.proofs.routes.+route.Goals as goal
 
 pub read_each_policy-loop-name-preserved : goal.read_each_policy-loop-name-preserved

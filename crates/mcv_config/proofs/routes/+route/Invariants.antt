@@ -2,12 +2,12 @@ use Rattle.std.proofs.Common.{◌≡◌, ◌+◌, ◌*◌, map, drop}
 use Rattle.serde_json.specs.View.{view, members_view}
 use Rattle.mcv_names.specs.Lists.{each, each_member}
 use Rattle.mcv_names.specs.Path.{path_of}
-use Rattle.mcv_config.specs.Plan.{named_of, prefix_of, shadow_of}
+use Rattle.mcv_config.specs.ConfigValue.{named_of, prefix_of, shadow_of}
 use Rattle.mcv_config.specs.Routes.{route}
 use Rattle.mcv_config.specs.Selectors.{policy_read}
 use Rattle.mcv_config.specs.Shadows.{shadow_read}
 use Rattle.mcv_config.specs.View.{so_far_of}
-use Rattle.mcv_names.proofs.ReadingEach.{after}
+use Rattle.mcv_names.proofs.ReadLists.{after}
 use Rattle.mcv_config.proofs.routes.+route.Given as goal
 
 abbrev pub decreases-read_route : goal.decreases-read_route

@@ -1,5 +1,5 @@
 use Rattle.std.proofs.Common.{◌≡◌, map}
-use Rattle.mcv_config.specs.Plan.{policy_of, prefix_of}
+use Rattle.mcv_config.specs.ConfigValue.{policy_of, prefix_of}
 use Rattle.mcv_config.specs.Selectors.{of_operation}
 use Rattle.mcv_config.proofs.selecting.by_operation.Given as goal
 

@@ -1,7 +1,7 @@
 use Rattle.std.proofs.Common.{◌≡◌, ◌∷◌, [], map, ap, ◌∙◌, arith, rules}
 use Rattle.std.proofs.lemmas.List.{map-append}
 use Rattle.std.proofs.lemmas.List.FromFn.{map-range_with_len_more}
-use Rattle.mcv_config.specs.Plan.{named_of, server}
+use Rattle.mcv_config.specs.ConfigValue.{named_of, server}
 use Rattle.mcv_config.specs.declared.config.NamedRoute.{Server, the_lemmas}
 use Rattle.mcv_config.proofs.texts.servers_of.Goals as goal
 

@@ -4,13 +4,13 @@ use Rattle.mcv_pools.specs.Table.{number_in}
 use Rattle.mcv_queues.specs.Queues.{legs}
 use Rattle.mcv_route.specs.Routes.{RoutesValue}
 use Rattle.mcv_core.specs.Opening.{AreOpened, known_numbers, known_records, with_server}
-use Rattle.mcv_core.proofs.Opened
+use Rattle.mcv_core.proofs.OpenedCores
 use Rattle.mcv_core.proofs.opening.opened_legs.Goals as goal
 
 pub loop-record-init : goal.loop-record-init
 loop-record-init c = record {
   table = c.servers-servers.ensures.value ∙ ap (λ (r : RoutesValue). r.servers) c.routes.ensures.value;
-  opened = Opened.none_opened (legs c.reserve.new.self) (λ n. ap (λ g. g n) c.reserve.ensures.legs ∙ c.in_ok-queues.ensures.legs n);
+  opened = OpenedCores.none_opened (legs c.reserve.new.self) (λ n. ap (λ g. g n) c.reserve.ensures.legs ∙ c.in_ok-queues.ensures.legs n);
   flights = λ s. c.reserve.ensures.flights s ∙ c.in_ok-queues.ensures.flights s;
   servers = c.reserve.ensures.servers ∙ c.in_ok-queues.ensures.servers ∙ c.len.ensures.value;
   room = let a = c.in_ok-reserve.ensures.ok in omega (arith, a);
@@ -21,7 +21,7 @@ pub store-requires-clause-room : goal.store-requires-clause-room
 store-requires-clause-room c = let a = c.loop-record.invariant.room in let b = c.loop-record-test.true in omega (arith, a, b)
 
 pub store-requires-clause-free : goal.store-requires-clause-free
-store-requires-clause-free c = Opened.free _ _ _ _ c.loop-record.invariant.opened
+store-requires-clause-free c = OpenedCores.free _ _ _ _ c.loop-record.invariant.opened
 
 pub store-requires-clause-known : goal.store-requires-clause-known
 store-requires-clause-known c = c.loop-record.invariant.servers
@@ -33,8 +33,8 @@ loop-record-preserved c =
     let records = c.args.records.now in
     let before = known_records servers (take i records) in
     let numbers = known_numbers servers (take i records) in
-    let more = Opened.known_more servers records i c.record-item.result c.loop-record-test.true c.record-item.is in
-    let more_numbers = Opened.numbers_more servers records i c.record-item.result c.loop-record-test.true c.record-item.is in
+    let more = OpenedCores.known_more servers records i c.record-item.result c.loop-record-test.true c.record-item.is in
+    let more_numbers = OpenedCores.numbers_more servers records i c.record-item.result c.loop-record-test.true c.record-item.is in
     record {
       table = c.loop-record.invariant.table;
       opened = subst (λ k. AreOpened k (known_numbers servers (take (i + 1) records)) (legs c.store.new.self.queues) c.store.new.self.count) (sym more)
@@ -50,8 +50,8 @@ pub returns-clause-opened : goal.returns-clause-opened
 returns-clause-opened c =
     let records = c.args.records.now in
     let past : c.loop-record.record-index < length records → ⊥ = λ low. let past = c.loop-record-test.false in omega (arith, low, past) in
-    let all = Opened.known_all c.servers-servers.result.now records c.loop-record.record-index past in
-    let all_numbers = Opened.numbers_all c.servers-servers.result.now records c.loop-record.record-index past in
+    let all = OpenedCores.known_all c.servers-servers.result.now records c.loop-record.record-index past in
+    let all_numbers = OpenedCores.numbers_all c.servers-servers.result.now records c.loop-record.record-index past in
     subst (λ k. AreOpened k (known_numbers c.args.accepted.now.servers records) (legs c.loop-record.opened.queues) c.loop-record.opened.count) (all ∙ ap (λ servers. known_records servers records) c.loop-record.invariant.table)
     (subst (λ m. AreOpened (known_records c.servers-servers.result.now (take c.loop-record.record-index records)) m (legs c.loop-record.opened.queues) c.loop-record.opened.count)
     (all_numbers ∙ ap (λ servers. known_numbers servers records) c.loop-record.invariant.table) c.loop-record.invariant.opened)

@@ -1,6 +1,6 @@
 use Rattle.std.proofs.Common.{sym, subst}
 use Rattle.std.specs.Str.{IsUtf8}
-use Rattle.mcv_core.proofs.Opened.{server_utf8}
+use Rattle.mcv_core.proofs.OpenedCores.{server_utf8}
 use Rattle.mcv_core.proofs.opening.server_of.Goals as goal
 
 -- a server's text is ASCII

@@ -1,4 +1,4 @@
-use Rattle.mcv_core.proofs.Tracking.{fresh_on, tracked_on}
+use Rattle.mcv_core.proofs.StateFollowsOutcomes.{fresh_on, tracked_on}
 use Rattle.mcv_core.proofs.progress.advance.Goals as goal
 
 pub returns-clause-tracked : goal.returns-clause-tracked

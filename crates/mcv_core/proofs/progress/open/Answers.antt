@@ -12,9 +12,9 @@ use Rattle.mcv_route.specs.Situation.{Situation, asked}
 use Rattle.mcv_route.specs.Tree.{Tree}
 use Rattle.mcv_route.specs.View.{view}
 use Rattle.mcv_rules.specs.declared.plan.Plan.{Plan}
-use Rattle.mcv_rules.specs.Laid.{Serves}
-use Rattle.mcv_core.specs.Tracked.{HasOpened}
-use Rattle.mcv_core.proofs.Tracking.{opened}
+use Rattle.mcv_rules.specs.PlanInMemory.{Serves}
+use Rattle.mcv_core.specs.CallProgress.{HasOpened}
+use Rattle.mcv_core.proofs.StateFollowsOutcomes.{opened}
 use Rattle.mcv_core.proofs.progress.open.Goals as goal
 
 all_open : {E : Type 0} (r : Result (EvalState × Vec Launch Global) E) (plan : Plan) (t : Tree) (s : Situation) (c : Choice) → Serves plan t s

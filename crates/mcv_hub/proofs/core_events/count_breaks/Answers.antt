@@ -1,5 +1,5 @@
 use Rattle.std.proofs.Common.{◌∙◌, ap}
-use Rattle.mcv_hub.specs.MayWrite.{break_count}
+use Rattle.mcv_hub.specs.RemainingEntries.{break_count}
 use Rattle.mcv_hub.proofs.BreaksLeft.{table_breaks}
 use Rattle.mcv_hub.proofs.core_events.count_breaks.Goals as goal
 

@@ -3,7 +3,7 @@ use Rattle.std.proofs.lemmas.Option.{IfSome_then}
 use Rattle.std.proofs.lemmas.Result.{err_from_is_err_and}
 use Rattle.mcv_input.specs.Fault.{AreNamedBy, IsInputFault}
 use Rattle.mcv_input.specs.declared.fault.RunFault.{RunFault}
-use Rattle.mcv_input.proofs.Whole.{fault_of_known, named_by_all, outside_of_any, read_limit}
+use Rattle.mcv_input.proofs.FirstBytes.{fault_of_known, named_by_all, outside_of_any, read_limit}
 use Rattle.mcv_input.proofs.configuration.read_configuration.Goals as goal
 
 pub returns-in_err-input-clause-fault : goal.returns-in_err-input-clause-fault

@@ -1,5 +1,5 @@
 use Rattle.std.proofs.Common.{ap}
-use Rattle.mcv_input.proofs.Whole.{limited_first}
+use Rattle.mcv_input.proofs.FirstBytes.{limited_first}
 use Rattle.mcv_input.proofs.device.read_at_most.Goals as goal
 
 pub returns-in-Ok-clause-read : goal.returns-in-Ok-clause-read

@@ -1,7 +1,7 @@
 use Rattle.std.proofs.Common.{◌+◌, map, drop, subst}
 use Rattle.std.proofs.lemmas.List.Elements.{All-head}
 use Rattle.std.proofs.lemmas.Result.{err_from_is_err_and}
-use Rattle.mcv_judge.specs.InMemory.{block_of, pairs_of}
+use Rattle.mcv_judge.specs.PairsInMemory.{block_of, pairs_of}
 use Rattle.mcv_judge.specs.Faults.{AreInOrder, IsInOrder}
 use Rattle.mcv_judge.proofs.Bridge.{next_block, next_first, next_same, still_in_order}
 use Rattle.mcv_judge.proofs.judging.judge.Goals as goal

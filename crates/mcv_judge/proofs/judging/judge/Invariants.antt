@@ -1,6 +1,6 @@
 use Rattle.std.proofs.Common.{map, drop}
 use Rattle.mcv_judge.specs.Faults.{HaveSameFaults}
-use Rattle.mcv_judge.specs.InMemory.{block_of, pairs_of}
+use Rattle.mcv_judge.specs.PairsInMemory.{block_of, pairs_of}
 use Rattle.mcv_cert.specs.Pair.{AreRising}
 use Rattle.mcv_judge.proofs.judging.judge.Given as goal
 

@@ -1,4 +1,4 @@
-use Rattle.mcv_judge.specs.InMemory.{block_of, pairs_of}
+use Rattle.mcv_judge.specs.PairsInMemory.{block_of, pairs_of}
 use Rattle.mcv_judge.proofs.Bridge as bridge
 use Rattle.mcv_judge.proofs.judging.judge_block.Goals as goal
 

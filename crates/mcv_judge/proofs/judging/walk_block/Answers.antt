@@ -1,6 +1,6 @@
 use Rattle.std.proofs.Common.{sym, ◌∙◌}
 use Rattle.std.proofs.lemmas.Result.{err_from_is_err_and}
-use Rattle.mcv_judge.specs.InMemory.{block_of, pairs_of}
+use Rattle.mcv_judge.specs.PairsInMemory.{block_of, pairs_of}
 use Rattle.mcv_judge.proofs.Steps.{leaf_passed, leaf_wrong, some_server}
 use Rattle.mcv_judge.proofs.judging.walk_block.Goals as goal
 

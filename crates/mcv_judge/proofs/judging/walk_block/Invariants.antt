@@ -1,6 +1,6 @@
 use Rattle.std.proofs.Common.{◌≡◌, drop, map}
 use Rattle.mcv_judge.specs.Faults.{require, required_by}
-use Rattle.mcv_judge.specs.InMemory.{block_of, legs_of, pairs_of}
+use Rattle.mcv_judge.specs.PairsInMemory.{block_of, legs_of, pairs_of}
 use Rattle.mcv_judge.specs.Walk.{entries, walk}
 use Rattle.mcv_judge.proofs.judging.walk_block.Given as goal
 

@@ -1,6 +1,6 @@
 use Rattle.std.proofs.Common.{◌≡◌}
 use Rattle.mcv_judge.specs.Faults.{require}
-use Rattle.mcv_judge.specs.InMemory.{block_of, leg_of, pairs_of}
+use Rattle.mcv_judge.specs.PairsInMemory.{block_of, leg_of, pairs_of}
 use Rattle.mcv_judge.specs.Walk.{entries_left, walk}
 use Rattle.mcv_judge.proofs.judging.walk_leaf.Given as goal
 

@@ -1,4 +1,4 @@
-use Rattle.mcv_judge.proofs.Answered.{answered_faultless}
+use Rattle.mcv_judge.proofs.AnsweringPairs.{answered_faultless}
 use Rattle.mcv_judge.proofs.laws.answered_is_faultless.Goals as goal
 
 pub returns : goal.returns

@@ -1,6 +1,6 @@
 use Rattle.std.proofs.Common.{◌≡◌, drop}
 use Rattle.std.specs.Option.{option_map}
-use Rattle.mcv_judge.specs.InMemory.{legs_of}
+use Rattle.mcv_judge.specs.PairsInMemory.{legs_of}
 use Rattle.mcv_judge.specs.Reason.{have_server}
 use Rattle.mcv_judge.proofs.reasons.have_server.Given as goal
 

@@ -1,5 +1,5 @@
 use Rattle.std.proofs.Common.{◌≡◌, drop}
-use Rattle.mcv_judge.specs.InMemory.{legs_of}
+use Rattle.mcv_judge.specs.PairsInMemory.{legs_of}
 use Rattle.mcv_judge.specs.Reason.{is_one_missing}
 use Rattle.mcv_judge.proofs.reasons.is_one_missing.Given as goal
 

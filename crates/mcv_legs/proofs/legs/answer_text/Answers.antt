@@ -1,7 +1,7 @@
 use Rattle.std.proofs.Common.{◌≡◌, ◌∙◌, option_map, sym, ap, subst}
 use Rattle.std.proofs.lemmas.Result.{err_from_is_err_and}
 use Rattle.mcv_legs.specs.Fault.{IsRunFault}
-use Rattle.mcv_route.specs.Built.{routes_named}
+use Rattle.mcv_route.specs.NamedRoutes.{routes_named}
 use Rattle.mcv_route.specs.Routes.{RoutesValue}
 use Rattle.mcv_route.specs.View.{view}
 use Rattle.mcv_legs.specs.Answer.{entry_for, shipped_choice, situation_at, text_of}
@@ -24,15 +24,15 @@ returns-clause-ok c =
     text_is_answer c.in_ok-first_text.field-0.items c.servers.result.now c.in_ok-eval.eval c.in_ok-routes.routes found.0
     c.args.moment.0 asked.op asked.rest (view c.in-Some-route_for.route.now) (option_map (λ m. m.0) c.since-since.result) c.in_ok-choice.choice c.symbols.result.now c.hashed_part.result.now
     c.in_ok-first_text.ensures c.servers.ensures.value c.in_ok-eval.ensures found.2 c.since-since.ensures c.in_ok-choice.ensures.value c.symbols.ensures.value c.hashed_part.ensures in
-    let plan = named.0 in
-    let is : c.in_ok-routes.routes ≡ routes_named plan = named.2 in
+    let config = named.0 in
+    let is : c.in_ok-routes.routes ≡ routes_named config = named.2 in
     record {
       op = asked.op;
       prefix = asked.prefix;
       rest = asked.rest;
       configuration = asked.configuration.now;
       asks = c.in-Some.ensures;
-      plan = plan;
+      config = config;
       names = named.1;
       entry = found.0;
       selected = ap (entry_for asked.prefix) (sym is) ∙ found.1;

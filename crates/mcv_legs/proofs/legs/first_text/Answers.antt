@@ -4,7 +4,7 @@ use Rattle.mcv_route.specs.declared.launch.Answered.{Answered}
 use Rattle.mcv_route.specs.Launched.{launched}
 use Rattle.mcv_route.specs.Outcomes.{outcomes}
 use Rattle.mcv_route.specs.Reply.{reply}
-use Rattle.mcv_rules.specs.Called.{situation_of}
+use Rattle.mcv_rules.specs.RouteCall.{situation_of}
 use Rattle.mcv_rules.specs.History.{history_of}
 use Rattle.mcv_rules.specs.Status.{status_outcome}
 use Rattle.mcv_legs.specs.Text.{legs_text}

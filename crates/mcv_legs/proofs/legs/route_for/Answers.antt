@@ -1,7 +1,7 @@
 use Rattle.std.proofs.Common.{◌∙◌, sym, ap, option_map}
 use Rattle.mcv_route.specs.Places.{is_alias}
 use Rattle.mcv_route.specs.Routes.{RouteEntry}
-use Rattle.mcv_legs.proofs.Found.{found_at, not_found}
+use Rattle.mcv_legs.proofs.FirstEntry.{found_at, not_found}
 use Rattle.mcv_legs.proofs.legs.route_for.Goals as goal
 
 pub returns-in_err-route_of : goal.returns-in_err-route_of

@@ -4,7 +4,7 @@ use Rattle.std.proofs.lemmas.Result.{err_from_is_err_and}
 use Rattle.mcv_legs.specs.Answer.{IsAnswer}
 use Rattle.mcv_legs.specs.Fault.{IsRunFault}
 use Rattle.mcv_legs.specs.Limits.{input_limit}
-use Rattle.mcv_input.proofs.Whole.{outside_of_any}
+use Rattle.mcv_input.proofs.FirstBytes.{outside_of_any}
 use Rattle.mcv_legs.proofs.Limits.{answer_of_all, fault_of_all}
 use Rattle.mcv_legs.proofs.legs.run_legs.Goals as goal
 

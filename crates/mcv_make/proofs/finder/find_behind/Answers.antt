@@ -4,9 +4,9 @@ use Rattle.mcv_classes.specs.Class.{IsMember}
 use Rattle.mcv_classes.specs.Words.{class_words}
 use Rattle.mcv_route.specs.View.{pool_view, view}
 use Rattle.mcv_witness.specs.Finding.{outcomes_of}
-use Rattle.mcv_make.specs.Free.{free_indexes}
-use Rattle.mcv_make.specs.Shown.{IsShownWith}
-use Rattle.mcv_make.proofs.Built.{finding_at, reads, is_shown}
+use Rattle.mcv_make.specs.FreeIndexes.{free_indexes}
+use Rattle.mcv_make.specs.ShownFinding.{IsShownWith}
+use Rattle.mcv_make.proofs.BuiltFinding.{finding_at, reads, is_shown}
 use Rattle.mcv_make.proofs.finder.find_behind.Goals as goal
 
 pub reading-requires : goal.reading-requires
@@ -33,6 +33,4 @@ returns-clause-shown c =
     c.in_ok-key_of.field-0.items c.in_ok-choice.field-0 c.in_ok-op.field-0.op (outcomes_of c.in_ok-op.field-0.legs.items) (outcomes_of c.in_ok-deletes.field-0.items) chosen.0
     c.as_bytes.ensures.rest c.in_ok-key_of.ensures chosen.1 (chosen.2 ∙ ap (free_indexes chosen.0 g.server.0 pool.symbol g.at 0) symbols)
     c.in_ok-op.ensures.reading c.in_ok-op.ensures.first c.in_ok-op.ensures.led c.in_ok-deletes.ensures in
-    let class : g.class.items ≡ c.in_ok-copied.field-0.items = sym (c.in_ok-copied.ensures ∙ c.as_slice-2.ensures.value) in
-    let leaf : g.leaf ≡ c.in_ok-copy.field-0 = sym c.in_ok-copy.ensures in
-    subst (IsShownWith r c.args.prefix.now) (λ k. record f { class = class k; leaf = leaf k }) is
+    subst (IsShownWith r c.args.prefix.now) (λ k. record f { place = sym c.in_ok-copy.ensures k }) is

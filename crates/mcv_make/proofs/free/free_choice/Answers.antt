@@ -4,8 +4,8 @@ use Rattle.std.specs.Borrow.{Bor}
 use Rattle.std.proofs.lemmas.List.{take_all, take_more}
 use Rattle.mcv_pools.specs.Symbol.{SymbolValue}
 use Rattle.mcv_rules.specs.declared.plan.PlannedLeg.{PlannedLeg}
-use Rattle.mcv_make.specs.Free.{free_index, free_indexes, least_free}
-use Rattle.mcv_make.proofs.Taken.{indexes-append}
+use Rattle.mcv_make.specs.FreeIndexes.{free_index, free_indexes, least_free}
+use Rattle.mcv_make.proofs.TakenIndexes.{indexes-append}
 use Rattle.mcv_make.proofs.free.free_choice.Goals as goal
 
 pub loop-number-preserved : goal.loop-number-preserved

@@ -1,5 +1,5 @@
 use Rattle.std.proofs.Common.{◌≡◌, map, take}
-use Rattle.mcv_make.specs.Free.{free_indexes}
+use Rattle.mcv_make.specs.FreeIndexes.{free_indexes}
 use Rattle.mcv_make.proofs.free.free_choice.Given as goal
 
 abbrev pub invariant-loop-number : goal.invariant-loop-number

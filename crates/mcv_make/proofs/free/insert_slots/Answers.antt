@@ -5,11 +5,11 @@ use Rattle.std.specs.Option.{option_map}
 use Rattle.std.proofs.lemmas.Bool.{eq-eqb, ne_eqb}
 use Rattle.std.proofs.lemmas.Option.{slice_get-get_or}
 use Rattle.mcv_base.specs.declared.request.ServerId.{ServerId}
-use Rattle.mcv_judge.specs.InMemory.{numbers}
+use Rattle.mcv_judge.specs.PairsInMemory.{numbers}
 use Rattle.mcv_judge.specs.Reason.{LegValue}
 use Rattle.mcv_judge.proofs.Servers.{server_of, servers_counted}
-use Rattle.mcv_make.specs.Free.{slot_cmp}
-use Rattle.mcv_make.proofs.Taken.{all_among, left, none_among, put}
+use Rattle.mcv_make.specs.FreeIndexes.{slot_cmp}
+use Rattle.mcv_make.proofs.TakenIndexes.{all_among, left, none_among, put}
 use Rattle.mcv_make.proofs.free.insert_slots.Goals as goal
 use Rattle.mcv_make.proofs.free.insert_slots.Goals.{then-own-server+in_ok-insert, else-own-server}
 

@@ -1,8 +1,8 @@
 use Rattle.std.proofs.Common.{◌≡◌, ◌||◌, []}
 use Rattle.std.specs.BTreeSet.{contains}
-use Rattle.mcv_judge.specs.InMemory.{numbers}
-use Rattle.mcv_make.specs.Free.{Slot, slot_cmp}
-use Rattle.mcv_make.proofs.Taken.{among}
+use Rattle.mcv_judge.specs.PairsInMemory.{numbers}
+use Rattle.mcv_make.specs.FreeIndexes.{Slot, slot_cmp}
+use Rattle.mcv_make.proofs.TakenIndexes.{among}
 use Rattle.mcv_make.proofs.free.insert_slots.Given as goal
 
 abbrev pub invariant-loop-index : goal.invariant-loop-index

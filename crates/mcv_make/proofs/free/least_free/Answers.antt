@@ -1,7 +1,7 @@
 use Rattle.std.proofs.Common.{◌∙◌, ℕ, Bool, sym}
 use Rattle.std.specs.BTreeSet.{contains}
-use Rattle.mcv_make.specs.Free.{slot_cmp}
-use Rattle.mcv_make.proofs.Taken.{here-free, next-free, none-free}
+use Rattle.mcv_make.specs.FreeIndexes.{slot_cmp}
+use Rattle.mcv_make.proofs.TakenIndexes.{here-free, next-free, none-free}
 use Rattle.mcv_make.proofs.free.least_free.Goals as goal
 
 pub loop-index-preserved : goal.loop-index-preserved

@@ -1,6 +1,6 @@
 use Rattle.std.proofs.Common.{◌≡◌, ◌-◌}
 use Rattle.std.specs.BTreeSet.{contains}
-use Rattle.mcv_make.specs.Free.{least_free, slot_cmp}
+use Rattle.mcv_make.specs.FreeIndexes.{least_free, slot_cmp}
 use Rattle.mcv_make.proofs.free.least_free.Given as goal
 
 abbrev pub invariant-loop-index : goal.invariant-loop-index

@@ -4,12 +4,12 @@ use Rattle.std.specs.BTreeSet.{contains}
 use Rattle.std.specs.declared.alloc.Global.{Global}
 use Rattle.std.specs.declared.vec.Vec.{Vec}
 use Rattle.mcv_base.specs.declared.request.ServerId.{ServerId}
-use Rattle.mcv_judge.specs.InMemory.{numbers}
+use Rattle.mcv_judge.specs.PairsInMemory.{numbers}
 use Rattle.mcv_judge.specs.Reason.{has_server}
 use Rattle.std.proofs.lemmas.List.{map_more}
 use Rattle.mcv_rules.specs.declared.plan.PlannedLeg.{PlannedLeg}
-use Rattle.mcv_make.specs.Free.{is_taken, slot_cmp, takes}
-use Rattle.mcv_make.proofs.Taken.{one_more}
+use Rattle.mcv_make.specs.FreeIndexes.{is_taken, slot_cmp, takes}
+use Rattle.mcv_make.proofs.TakenIndexes.{one_more}
 use Rattle.mcv_make.proofs.free.taken_slots.Goals as goal
 
 pub loop-leg-preserved : goal.loop-leg-preserved

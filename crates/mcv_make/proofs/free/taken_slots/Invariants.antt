@@ -1,6 +1,6 @@
 use Rattle.std.proofs.Common.{◌≡◌, map, take}
 use Rattle.std.specs.BTreeSet.{contains}
-use Rattle.mcv_make.specs.Free.{Slot, is_taken, slot_cmp}
+use Rattle.mcv_make.specs.FreeIndexes.{Slot, is_taken, slot_cmp}
 use Rattle.mcv_make.proofs.free.taken_slots.Given as goal
 
 abbrev pub invariant-loop-leg : goal.invariant-loop-leg

@@ -1,7 +1,7 @@
 use Rattle.std.proofs.Common.{subst}
 use Rattle.mcv_certify.specs.Gap.{IsRightFault}
 use Rattle.mcv_witness.specs.Finding.{finding_of}
-use Rattle.mcv_make.proofs.Earlier.{first_of_gap}
+use Rattle.mcv_make.proofs.FindingsAreGaps.{first_of_gap}
 use Rattle.mcv_make.proofs.making.make.Goals as goal
 
 pub returns-in_ok-find-in-Err-Lost-clause-lost : goal.returns-in_ok-find-in-Err-Lost-clause-lost

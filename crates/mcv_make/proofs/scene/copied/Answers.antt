@@ -3,7 +3,7 @@ use Rattle.std.proofs.lemmas.List.{map-append, map_more}
 use Rattle.mcv_witness.specs.Finding.{outcomes_of}
 use Rattle.mcv_witness.specs.declared.finding.LegOutcome.{LegOutcome}
 use Rattle.mcv_symbolic.specs.declared.shown.LegAnswer.{LegAnswer}
-use Rattle.mcv_symbolic.specs.Shown.{history_of}
+use Rattle.mcv_symbolic.specs.ShownAnswers.{history_of}
 use Rattle.mcv_make.proofs.scene.copied.Goals as goal
 
 pub loop-answer-preserved : goal.loop-answer-preserved

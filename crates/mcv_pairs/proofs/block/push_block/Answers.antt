@@ -4,14 +4,14 @@ use Rattle.std.specs.Prelude.{All, IfNone, IfSome}
 use Rattle.std.proofs.lemmas.List.{map_more, take-map}
 use Rattle.std.proofs.lemmas.Option.{slice_get-get_or, slice_get-map}
 use Rattle.mcv_judge.specs.Answers.{AnswersLeaf, AnswersLeaves}
-use Rattle.mcv_judge.specs.InMemory.{block_of, leg_of, legs_of, pairs_of}
-use Rattle.mcv_pairs.specs.Adds.{Adds}
+use Rattle.mcv_judge.specs.PairsInMemory.{block_of, leg_of, legs_of, pairs_of}
+use Rattle.mcv_pairs.specs.AddedPairs.{Adds}
 use Rattle.mcv_judge.specs.Reason.{HasReasons}
 use Rattle.mcv_pairs.specs.Gaps.{IsFirstGapOf}
 use Rattle.mcv_pairs.specs.Reasons.{IsPickedFor}
-use Rattle.mcv_pairs.proofs.Added.{all_leaf, leg_there}
-use Rattle.mcv_pairs.proofs.Picked.{adds_leaf}
-use Rattle.mcv_pairs.proofs.Reasoned.{leaves_have}
+use Rattle.mcv_pairs.proofs.AddedPairs.{all_leaf, leg_there}
+use Rattle.mcv_pairs.proofs.PickedReasons.{adds_leaf}
+use Rattle.mcv_pairs.proofs.AnsweredHasReasons.{leaves_have}
 use Rattle.mcv_pairs.proofs.block.push_block.Goals as goal
 
 pub returns-in-Some-clause-gap : goal.returns-in-Some-clause-gap

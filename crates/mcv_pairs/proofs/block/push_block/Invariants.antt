@@ -1,8 +1,8 @@
 use Rattle.std.proofs.Common.{take}
 use Rattle.std.specs.Prelude.{All}
 use Rattle.mcv_judge.specs.Answers.{AnswersLeaves}
-use Rattle.mcv_judge.specs.InMemory.{block_of, legs_of, pairs_of}
-use Rattle.mcv_pairs.specs.Adds.{Adds}
+use Rattle.mcv_judge.specs.PairsInMemory.{block_of, legs_of, pairs_of}
+use Rattle.mcv_pairs.specs.AddedPairs.{Adds}
 use Rattle.mcv_pairs.specs.Reasons.{IsPickedIn}
 use Rattle.mcv_pairs.proofs.block.push_block.Given as goal
 

@@ -1,4 +1,4 @@
-use Rattle.mcv_pairs.proofs.Reasoned.{answered_have}
+use Rattle.mcv_pairs.proofs.AnsweredHasReasons.{answered_have}
 use Rattle.mcv_pairs.proofs.laws.answered_has_reasons.Goals as goal
 
 pub returns : goal.returns

@@ -1,4 +1,4 @@
-use Rattle.mcv_pairs.proofs.One.{one_list}
+use Rattle.mcv_pairs.proofs.OneListOfPairs.{one_list}
 use Rattle.mcv_pairs.proofs.laws.one_list_of_pairs.Goals as goal
 
 pub returns : goal.returns

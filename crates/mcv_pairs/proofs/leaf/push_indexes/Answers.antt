@@ -4,15 +4,15 @@ use Rattle.mcv_base.specs.declared.request.ServerId.{ServerId}
 use Rattle.mcv_cert.specs.Pair.{reason_of}
 use Rattle.mcv_cert.specs.declared.pair.Reason.{Reason}
 use Rattle.mcv_judge.specs.Faults.{AreLegsRising}
-use Rattle.mcv_judge.specs.InMemory.{block_of, leg_of, pairs_of}
+use Rattle.mcv_judge.specs.PairsInMemory.{block_of, leg_of, pairs_of}
 use Rattle.mcv_judge.proofs.Servers.{servers_counted}
 use Rattle.mcv_picks.specs.Reasons.{IsReasonAt, whole_reason}
-use Rattle.mcv_pairs.specs.Adds.{pair_with}
+use Rattle.mcv_pairs.specs.AddedPairs.{pair_with}
 use Rattle.mcv_pairs.specs.Gaps.{IsSized}
 use Rattle.mcv_pairs.specs.Reasons.{IsPickedFor}
-use Rattle.mcv_pairs.proofs.Added.{all_next, picked_for_one}
-use Rattle.mcv_pairs.proofs.Picked.{adds_next, grown, no_reason, server_there}
-use Rattle.mcv_pairs.proofs.Reasoned.{each_has}
+use Rattle.mcv_pairs.proofs.AddedPairs.{all_next, picked_for_one}
+use Rattle.mcv_pairs.proofs.PickedReasons.{adds_next, grown, no_reason, server_there}
+use Rattle.mcv_pairs.proofs.AnsweredHasReasons.{each_has}
 use Rattle.mcv_pairs.proofs.leaf.push_indexes.Goals as goal
 
 pub returns-in_default-clause-gap : goal.returns-in_default-clause-gap

@@ -1,7 +1,7 @@
 use Rattle.std.specs.Prelude.{All}
 use Rattle.mcv_judge.specs.Answers.{AnswersEach}
-use Rattle.mcv_judge.specs.InMemory.{block_of, leg_of, pairs_of}
-use Rattle.mcv_pairs.specs.Adds.{Adds}
+use Rattle.mcv_judge.specs.PairsInMemory.{block_of, leg_of, pairs_of}
+use Rattle.mcv_pairs.specs.AddedPairs.{Adds}
 use Rattle.mcv_pairs.specs.Reasons.{IsPickedFor}
 use Rattle.mcv_pairs.proofs.leaf.push_indexes.Given as goal
 

@@ -2,12 +2,12 @@ use Rattle.std.proofs.Common.{◌≡◌, Some, ap, sym, ◌∙◌, subst}
 use Rattle.std.specs.Option.{option_map}
 use Rattle.mcv_cert.specs.Pair.{reason_of}
 use Rattle.mcv_judge.specs.Faults.{AreLegsRising}
-use Rattle.mcv_judge.specs.InMemory.{block_of, leg_of, pairs_of}
+use Rattle.mcv_judge.specs.PairsInMemory.{block_of, leg_of, pairs_of}
 use Rattle.mcv_picks.specs.Reasons.{whole_reason}
-use Rattle.mcv_pairs.specs.Adds.{pair_with}
+use Rattle.mcv_pairs.specs.AddedPairs.{pair_with}
 use Rattle.mcv_pairs.specs.Reasons.{IsPickedFor}
-use Rattle.mcv_pairs.proofs.Added.{all_one, picked_for_all}
-use Rattle.mcv_pairs.proofs.Picked.{adds_whole, grown}
+use Rattle.mcv_pairs.proofs.AddedPairs.{all_one, picked_for_all}
+use Rattle.mcv_pairs.proofs.PickedReasons.{adds_whole, grown}
 use Rattle.mcv_pairs.proofs.leaf.push_leaf.Goals as goal
 
 pub returns-clause-answered : goal.returns-clause-answered

@@ -1,4 +1,4 @@
-use Rattle.mcv_picks.proofs.Hold.{none_holds}
+use Rattle.mcv_picks.proofs.PicksHold.{none_holds}
 use Rattle.mcv_picks.proofs.laws.no_other_reason_holds.Goals as goal
 
 pub returns : goal.returns

@@ -1,4 +1,4 @@
-use Rattle.mcv_picks.proofs.Hold.{picked_hold}
+use Rattle.mcv_picks.proofs.PicksHold.{picked_hold}
 use Rattle.mcv_picks.proofs.laws.picked_reasons_hold.Goals as goal
 
 pub returns : goal.returns

@@ -3,12 +3,12 @@ use Rattle.std.specs.BTreeMap.{get}
 use Rattle.std.specs.Option.{option_map}
 use Rattle.std.specs.Ordering.{nat_cmp}
 use Rattle.std.specs.Prelude.{is_some}
-use Rattle.mcv_judge.specs.InMemory.{leg_of}
+use Rattle.mcv_judge.specs.PairsInMemory.{leg_of}
 use Rattle.mcv_judge.specs.Reason.{server_at}
 use Rattle.mcv_judge.proofs.Servers.{server_of}
 use Rattle.mcv_picks.specs.Picks.{filling}
 use Rattle.mcv_picks.specs.Tables.{is_lesser}
-use Rattle.mcv_picks.proofs.Equal.{nat_level}
+use Rattle.mcv_picks.proofs.TwinsAreEqual.{nat_level}
 use Rattle.mcv_picks.proofs.LeastSymbol.{inserted, left}
 use Rattle.mcv_picks.proofs.least.keep.Goals as goal
 use Rattle.mcv_picks.proofs.least.keep.Goals.{else-is_less-via-then-is_less+else-fills, else-is_less-via-else-is_less}

@@ -2,12 +2,12 @@ use Rattle.std.proofs.Common.{◌≡◌, false, true, get_or, ap, sym, ◌∙◌
 use Rattle.std.specs.BTreeMap.{get}
 use Rattle.std.specs.Option.{option_map, option_or}
 use Rattle.std.specs.Prelude.{is_some}
-use Rattle.mcv_judge.specs.InMemory.{leg_of}
+use Rattle.mcv_judge.specs.PairsInMemory.{leg_of}
 use Rattle.mcv_judge.proofs.Servers.{servers_counted}
 use Rattle.mcv_picks.specs.Picks.{borrowed}
 use Rattle.mcv_picks.specs.Tables.{slot_cmp}
-use Rattle.mcv_picks.proofs.Filled.{all_given, put, server_read, taken}
-use Rattle.mcv_picks.proofs.Found.{mapped_cond, mapped_some}
+use Rattle.mcv_picks.proofs.FilledSlots.{all_given, put, server_read, taken}
+use Rattle.mcv_picks.proofs.SearchResults.{mapped_cond, mapped_some}
 use Rattle.mcv_picks.proofs.slots.insert_servers.Goals as goal
 use Rattle.mcv_picks.proofs.slots.insert_servers.Goals.{then-not-contains_key+in_ok-insert, else-not-contains_key}
 

@@ -4,7 +4,7 @@ use Rattle.std.specs.Prelude.{find}
 use Rattle.std.proofs.lemmas.List.{map_more}
 use Rattle.mcv_picks.specs.Picks.{borrowed}
 use Rattle.mcv_picks.specs.Tables.{is_at}
-use Rattle.mcv_picks.proofs.Found.{last}
+use Rattle.mcv_picks.proofs.SearchResults.{last}
 use Rattle.mcv_picks.proofs.slots.slots.Goals as goal
 
 pub loop-leg-preserved : goal.loop-leg-preserved

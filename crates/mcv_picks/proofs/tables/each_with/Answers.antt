@@ -1,9 +1,9 @@
 use Rattle.std.proofs.Common.{◌+◌, drop, map, sym, ap, ◌∙◌}
 use Rattle.std.specs.Prelude.{is_some}
 use Rattle.std.proofs.lemmas.List.{map-append}
-use Rattle.mcv_judge.specs.InMemory.{numbers}
+use Rattle.mcv_judge.specs.PairsInMemory.{numbers}
 use Rattle.mcv_picks.specs.Picks.{each_with, borrowed}
-use Rattle.mcv_picks.proofs.Each.{behind, gathered, none_there}
+use Rattle.mcv_picks.proofs.GatheredLegs.{behind, gathered, none_there}
 use Rattle.mcv_picks.proofs.tables.each_with.Goals as goal
 
 pub returns-in-None : goal.returns-in-None

@@ -1,7 +1,7 @@
 use Rattle.std.proofs.Common.{◌≡◌, drop, map}
-use Rattle.mcv_judge.specs.InMemory.{numbers}
+use Rattle.mcv_judge.specs.PairsInMemory.{numbers}
 use Rattle.mcv_picks.specs.Picks.{each_with, borrowed}
-use Rattle.mcv_picks.proofs.Each.{behind}
+use Rattle.mcv_picks.proofs.GatheredLegs.{behind}
 use Rattle.mcv_picks.proofs.tables.each_with.Given as goal
 
 abbrev pub invariant-loop-index : goal.invariant-loop-index

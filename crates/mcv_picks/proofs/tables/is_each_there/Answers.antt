@@ -1,8 +1,8 @@
 use Rattle.std.proofs.Common.{not, sym, ap, ◌∙◌}
 use Rattle.std.specs.Prelude.{is_some}
 use Rattle.mcv_picks.specs.Picks.{borrowed}
-use Rattle.mcv_picks.proofs.Each.{none_there, there_still}
-use Rattle.mcv_picks.proofs.Found.{mapped_some}
+use Rattle.mcv_picks.proofs.GatheredLegs.{none_there, there_still}
+use Rattle.mcv_picks.proofs.SearchResults.{mapped_some}
 use Rattle.mcv_picks.proofs.tables.is_each_there.Goals as goal
 
 pub loop-index-preserved : goal.loop-index-preserved

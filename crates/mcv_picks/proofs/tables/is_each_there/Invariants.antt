@@ -1,6 +1,6 @@
 use Rattle.std.proofs.Common.{◌≡◌, drop}
 use Rattle.std.specs.Prelude.{is_some}
-use Rattle.mcv_judge.specs.InMemory.{numbers}
+use Rattle.mcv_judge.specs.PairsInMemory.{numbers}
 use Rattle.mcv_picks.specs.Picks.{each_with}
 use Rattle.mcv_picks.proofs.tables.is_each_there.Given as goal
 

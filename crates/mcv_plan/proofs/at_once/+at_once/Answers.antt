@@ -1,10 +1,10 @@
 use Rattle.std.proofs.Common.{rules, ◌≡◌, ◌∷◌, ◌∙◌, ap, drop, sym, true, false, arith}
 use Rattle.std.proofs.lemmas.List.{drop_all}
-use Rattle.mcv_plan.specs.Reached.{answer_from, goes_on_after, nothing}
+use Rattle.mcv_plan.specs.ReachedAnswers.{answer_from, goes_on_after, nothing}
 use Rattle.mcv_plan.specs.State.{answers_each}
 use Rattle.mcv_plan.specs.View.{seen}
 use Rattle.mcv_plan.proofs.Views.{view-InTurn}
-use Rattle.mcv_plan.proofs.Local.{turn_reflects}
+use Rattle.mcv_plan.proofs.PartsAreLocal.{turn_reflects}
 use Rattle.mcv_plan.proofs.Waves.{answer_on, answer_stops, reflects_next, search_answers, steps_on}
 use Rattle.mcv_plan.proofs.at_once.+at_once.Goals as goal
 

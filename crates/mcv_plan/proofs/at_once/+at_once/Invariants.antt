@@ -1,5 +1,5 @@
 use Rattle.std.proofs.Common.{◌≡◌, ◌+◌, ◌*◌, drop}
-use Rattle.mcv_plan.specs.Reached.{answer_from, nothing, stop_from}
+use Rattle.mcv_plan.specs.ReachedAnswers.{answer_from, nothing, stop_from}
 use Rattle.mcv_plan.specs.State.{ReflectEach, answers_each}
 use Rattle.mcv_plan.specs.View.{seen}
 use Rattle.mcv_plan.proofs.at_once.+at_once.Given as goal

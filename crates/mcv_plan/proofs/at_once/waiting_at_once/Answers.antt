@@ -1,5 +1,5 @@
 use Rattle.std.proofs.Common.{arith}
-use Rattle.mcv_plan.specs.Reached.{nothing}
+use Rattle.mcv_plan.specs.ReachedAnswers.{nothing}
 use Rattle.mcv_plan.proofs.Waves.{reflects_next}
 use Rattle.mcv_plan.proofs.WorstAtOnce.{waits_on}
 use Rattle.mcv_plan.proofs.at_once.waiting_at_once.Goals as goal

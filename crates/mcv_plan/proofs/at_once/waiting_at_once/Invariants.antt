@@ -1,5 +1,5 @@
 use Rattle.std.proofs.Common.{◌≡◌, ◌≤◌, ◌+◌, drop}
-use Rattle.mcv_plan.specs.Reached.{nothing, waits}
+use Rattle.mcv_plan.specs.ReachedAnswers.{nothing, waits}
 use Rattle.mcv_plan.specs.State.{ReflectEach, answered_each}
 use Rattle.mcv_plan.specs.View.{seen}
 use Rattle.mcv_plan.proofs.at_once.waiting_at_once.Given as goal

@@ -1,6 +1,6 @@
 use Rattle.std.proofs.Common.{◌∙◌, ap, sym}
 use Rattle.std.proofs.lemmas.List.{drop_all}
-use Rattle.mcv_plan.specs.Reached.{nothing}
+use Rattle.mcv_plan.specs.ReachedAnswers.{nothing}
 use Rattle.mcv_plan.specs.State.{answered_each}
 use Rattle.mcv_plan.specs.View.{seen}
 use Rattle.mcv_plan.proofs.Waves.{reflects_next}

@@ -1,5 +1,5 @@
 use Rattle.std.proofs.Common.{◌≡◌, None, drop}
-use Rattle.mcv_plan.specs.Reached.{nothing}
+use Rattle.mcv_plan.specs.ReachedAnswers.{nothing}
 use Rattle.mcv_plan.specs.State.{ReflectEach, answered_each}
 use Rattle.mcv_plan.specs.View.{seen}
 use Rattle.mcv_plan.proofs.WorstAtOnce.{worst_from}

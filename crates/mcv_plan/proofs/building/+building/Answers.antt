@@ -2,7 +2,7 @@ use Rattle.std.proofs.Common.{rules, true, false, ◌≡◌, ◌+◌, length, sy
 use Rattle.std.proofs.lemmas.List.{take_all}
 use Rattle.std.proofs.lemmas.Result.{IfOk-weaker}
 use Rattle.mcv_route.specs.Children.{is_within}
-use Rattle.mcv_plan.specs.Built.{IsBuilt}
+use Rattle.mcv_plan.specs.CourseOfPlan.{IsBuilt}
 use Rattle.mcv_plan.specs.Entries.{legs_of}
 use Rattle.mcv_plan.specs.View.{view}
 use Rattle.mcv_plan.proofs.CoursesBuilt.{courses_grow, entries_grow, sent_at, silent_at}

@@ -1,7 +1,7 @@
 use Rattle.std.proofs.Common.{◌≡◌, ◌+◌, ◌*◌, ◌++◌, length, map, max, slice_index, take}
 use Rattle.mcv_route.specs.Children.{joined}
 use Rattle.mcv_rules.specs.declared.plan.Plan.{size-Plan}
-use Rattle.mcv_plan.specs.Built.{BuiltEach}
+use Rattle.mcv_plan.specs.CourseOfPlan.{BuiltEach}
 use Rattle.mcv_plan.specs.Entries.{legs_of}
 use Rattle.mcv_plan.specs.View.{view}
 use Rattle.mcv_plan.proofs.building.+building.Given as goal

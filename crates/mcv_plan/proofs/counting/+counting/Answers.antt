@@ -5,9 +5,9 @@ use Rattle.mcv_route.specs.Children.{policy_of, prefix_policy, to_both, to_from,
 use Rattle.mcv_route.specs.Situation.{shadowed, under}
 use Rattle.mcv_route.specs.Tree.{migrate, warm_up}
 use Rattle.mcv_route.specs.View.{pool_view, view}
-use Rattle.mcv_route.proofs.Views.{shadow_view-out, view-AllAsync, view-AllInitial, view-AllSync, view-Error, view-Failover, view-Migrate, view-MissFailover, view-Null, view-Pool, view-WarmUp}
-use Rattle.mcv_rules.specs.Laid.{children_of, operations_of, prefixes_of, situation_at, way_seen}
-use Rattle.mcv_rules.proofs.Choosing.{migrates_from, migrates_to, warms_not}
+use Rattle.mcv_route.proofs.Views.{shadow_view-out, view-Error, view-Many, view-Migrate, view-Null, view-Pool, view-WarmUp}
+use Rattle.mcv_rules.specs.PlanInMemory.{children_of, operations_of, prefixes_of, situation_at, way_seen}
+use Rattle.mcv_rules.proofs.ChoosingHandles.{migrates_from, migrates_to, warms_not}
 use Rattle.mcv_plan.specs.Counts.{capped}
 use Rattle.mcv_plan.proofs.CountsAdd.{all_async_count, all_sync_count, capped_more, children_more, counts_as, default_count, failover_count, first_child_count, initial_all, initial_first, initial_more, migrate_both_count, miss_count, no_child_count, no_default_count, no_initial, no_wildcard_count, operation_count, pool_count, pool_more, prefix_count, warm_up_count, wildcard_count}
 use Rattle.mcv_plan.proofs.counting.+counting.Goals as goal
@@ -44,6 +44,13 @@ count-returns-in-Null t c = λ position. rw (c.in-Null.is, view-Null) refl
 pub count-returns-in-Error : goal.count-returns-in-Error
 count-returns-in-Error t c = λ position. rw (c.in-Error.is, view-Error) refl
 
+-- ---- children only
+
+pub count-returns-in-Many : goal.count-returns-in-Many
+count-returns-in-Many t c = λ position.
+    let m = c.in-Many in
+    rw (m.is, view-Many m.kind m.children) (rw c.deref-in-Many.ensures.value at (c.count_many.ensures position))
+
 -- ---- children one by one
 
 pub count_each-loop-child-init : goal.count_each-loop-child-init
@@ -59,24 +66,21 @@ count_each-loop-child-preserved t c = λ position.
 pub count_each-returns : goal.count_each-returns
 count_each-returns t c = λ position. rw (take_all c.loop-child.child-index c.args.children.now c.loop-child-test.false) at (c.loop-child.invariant position)
 
-pub count-returns-in-AllSync : goal.count-returns-in-AllSync
-count-returns-in-AllSync t c = λ position.
+pub count_many-returns-in-AllSync : goal.count_many-returns-in-AllSync
+count_many-returns-in-AllSync t c = λ position.
     let s = situation_at c.args.asked.now position in
-    let v = c.in-AllSync.children in
-    rw (c.in-AllSync.is, view-AllSync v) ((rw c.deref-in-AllSync.ensures.value at (c.count_each.ensures position)) ∙ ap capped (sym (all_sync_count (children_of v.items) s)))
+    rw c.in-AllSync.is (c.count_each.ensures position ∙ ap capped (sym (all_sync_count (children_of c.args.children.now) s)))
 
-pub count-returns-in-AllAsync : goal.count-returns-in-AllAsync
-count-returns-in-AllAsync t c = λ position.
+pub count_many-returns-in-AllAsync : goal.count_many-returns-in-AllAsync
+count_many-returns-in-AllAsync t c = λ position.
     let s = situation_at c.args.asked.now position in
-    let v = c.in-AllAsync.children in
-    rw (c.in-AllAsync.is, view-AllAsync v)
-    ((rw (c.deref-in-AllAsync.ensures.value, c.asynchronous-unheard.ensures) at (c.count_each-in-AllAsync.ensures position)) ∙ ap capped (sym (all_async_count (children_of v.items) s)))
+    rw c.in-AllAsync.is
+    ((rw c.asynchronous-unheard.ensures at (c.count_each-in-AllAsync.ensures position)) ∙ ap capped (sym (all_async_count (children_of c.args.children.now) s)))
 
-pub count-returns-in-Failover : goal.count-returns-in-Failover
-count-returns-in-Failover t c = λ position.
+pub count_many-returns-in-Failover : goal.count_many-returns-in-Failover
+count_many-returns-in-Failover t c = λ position.
     let s = situation_at c.args.asked.now position in
-    let v = c.in-Failover.children in
-    rw (c.in-Failover.is, view-Failover v) ((rw c.deref-in-Failover.ensures.value at (c.count_each-in-Failover.ensures position)) ∙ ap capped (sym (failover_count (children_of v.items) s)))
+    rw c.in-Failover.is (c.count_each-in-Failover.ensures position ∙ ap capped (sym (failover_count (children_of c.args.children.now) s)))
 
 -- ---- the first waited for
 
@@ -102,56 +106,46 @@ count_initial-returns t c = λ position.
 pub count_initial-returns-in_default : goal.count_initial-returns-in_default
 count_initial-returns-in_default t c = λ position. no_initial c.args.children.now (situation_at c.args.asked.now position) (search rules)
 
-pub count-returns-in-AllInitial : goal.count-returns-in-AllInitial
-count-returns-in-AllInitial t c = λ position.
-    let v = c.in-AllInitial.children in
-    rw (c.in-AllInitial.is, view-AllInitial v) (rw c.deref-in-AllInitial.ensures.value at (c.count_initial.ensures position))
-
 -- ---- a search for a hit
 
 pub count_misses-returns-in-Some : goal.count_misses-returns-in-Some
 count_misses-returns-in-Some t c = λ position.
     let s = situation_at c.args.asked.now position in
-    let writes : is_reading s.op ≡ false = sym c.is_reading.ensures ∙ c.if-not-is_reading.true in
+    let writes : is_reading s.op ≡ false = sym c.fails_over_on_miss.ensures ∙ c.if-not-fails_over_on_miss.true in
     first_child_count c.args.children.now c.in-Some.first.now s c.count.result writes (search rules) (search rules) (c.count.ensures (position ++ 0 ∷ []))
 
 pub count_misses-returns-in-None : goal.count_misses-returns-in-None
 count_misses-returns-in-None t c = λ position.
     let s = situation_at c.args.asked.now position in
-    let writes : is_reading s.op ≡ false = sym c.is_reading.ensures ∙ c.if-not-is_reading.true in
+    let writes : is_reading s.op ≡ false = sym c.fails_over_on_miss.ensures ∙ c.if-not-fails_over_on_miss.true in
     no_child_count c.args.children.now s writes (search rules)
 
 pub count_misses-returns : goal.count_misses-returns
 count_misses-returns t c = λ position.
     let s = situation_at c.args.asked.now position in
-    let reads : is_reading s.op ≡ true = sym c.is_reading.ensures ∙ c.if-not-is_reading.false in
+    let reads : is_reading s.op ≡ true = sym c.fails_over_on_miss.ensures ∙ c.if-not-fails_over_on_miss.false in
     c.count_each.ensures position ∙ ap capped (sym (miss_count (children_of c.args.children.now) s reads))
-
-pub count-returns-in-MissFailover : goal.count-returns-in-MissFailover
-count-returns-in-MissFailover t c = λ position.
-    let v = c.in-MissFailover.children in
-    rw (c.in-MissFailover.is, view-MissFailover v) (rw c.deref-in-MissFailover.ensures.value at (c.count_misses.ensures position))
 
 -- ---- warm-ups
 
-pub count-returns-then-is_reading : goal.count-returns-then-is_reading
-count-returns-then-is_reading t c = λ position.
+pub count-returns-then-is_warmed_up : goal.count-returns-then-is_warmed_up
+count-returns-then-is_warmed_up t c = λ position.
     let s = situation_at c.args.asked.now position in
     let w = c.in-WarmUp in
-    let reads : is_reading s.op ≡ true = sym c.is_reading.ensures ∙ c.if-is_reading.true in
+    let reads : is_reading s.op ≡ true = sym c.is_warmed_up.ensures ∙ c.if-is_warmed_up.true in
     let first = rw c.deref-in-WarmUp.ensures at (c.count-first.ensures (position ++ 0 ∷ [])) in
-    let second = rw c.deref-then-is_reading.ensures at (c.count-second.ensures (position ++ 1 ∷ [])) in
-    let filling = rw (c.deref-then-is_reading-2.ensures, c.adding-adding.ensures) at (c.count-filling.ensures (position ++ 2 ∷ [])) in
+    let second = rw c.deref-then-is_warmed_up.ensures at (c.count-second.ensures (position ++ 1 ∷ [])) in
+    let filling = rw (c.deref-then-is_warmed_up-2.ensures, c.adding-adding.ensures) at (c.count-filling.ensures (position ++ 2 ∷ [])) in
     rw (w.is, view-WarmUp w.cold w.warm w.exptime)
     (c.saturating_add.ensures
     ∙ capped_more c.saturating_add-both.result c.count-filling.result _ _ (c.saturating_add-both.ensures ∙ capped_more c.count-first.result c.count-second.result _ _ first second) filling
     ∙ ap capped (sym (warm_up_count (view w.cold.value) (view w.warm.value) w.exptime s reads)))
 
-pub count-returns-else-is_reading : goal.count-returns-else-is_reading
-count-returns-else-is_reading t c = λ position.
+pub count-returns-else-is_warmed_up : goal.count-returns-else-is_warmed_up
+count-returns-else-is_warmed_up t c = λ position.
     let s = situation_at c.args.asked.now position in
     let w = c.in-WarmUp in
-    let writes : is_reading s.op ≡ false = sym c.is_reading.ensures ∙ c.if-is_reading.false in
+    let writes : is_reading s.op ≡ false = sym c.is_warmed_up.ensures ∙ c.if-is_warmed_up.false in
     rw (w.is, view-WarmUp w.cold w.warm w.exptime)
     (counts_as (warm_up (view w.cold.value) (view w.warm.value) w.exptime) (view w.cold.value) s (under 0 s) c.count-first.result (warms_not (view w.cold.value) (view w.warm.value) w.exptime s writes)
     (rw c.deref-in-WarmUp.ensures at (c.count-first.ensures (position ++ 0 ∷ []))))

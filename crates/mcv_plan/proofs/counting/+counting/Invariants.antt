@@ -1,6 +1,6 @@
 use Rattle.std.proofs.Common.{◌≡◌, ℕ, suc, List, take}
 use Rattle.mcv_route.specs.Situation.{shadowed}
-use Rattle.mcv_rules.specs.Laid.{children_of, situation_at, targets_of}
+use Rattle.mcv_rules.specs.PlanInMemory.{children_of, situation_at, targets_of}
 use Rattle.mcv_plan.specs.Counts.{capped, legs_each}
 use Rattle.mcv_plan.proofs.CountsAdd.{initial_so_far}
 use Rattle.mcv_plan.proofs.counting.+counting.Given as goal

@@ -2,13 +2,13 @@ use Rattle.std.proofs.Common.{rules, ap, drop, suc, get_or, vec_capacity, None, 
 use Rattle.std.proofs.lemmas.List.{map-set}
 use Rattle.mcv_plan.specs.State.{IsOnlyIn, entries, entries_each, states_of}
 use Rattle.std.specs.Prelude.{◌==◌}
-use Rattle.mcv_plan.specs.Reached.{over}
+use Rattle.mcv_plan.specs.ReachedAnswers.{over}
 use Rattle.mcv_plan.specs.View.{seen, view}
 use Rattle.mcv_plan.specs.declared.course.Course.{the_lemmas}
 use Rattle.mcv_plan.proofs.Views.{in_all, in_beside, in_in_turn, in_on_hit, view-Send}
 use Rattle.mcv_plan.proofs.Children.{behind_old, behind_same, from_not, get_at, heard_as, in_first, in_second, only_bound, placed_at, room_of, same_length, within_at, zero_off, zero_on}
-use Rattle.mcv_plan.proofs.Finding.{only_in, within_not}
-use Rattle.mcv_plan.proofs.Heard.{heard_all_none, heard_all_some, heard_beside, heard_hit_off, heard_hit_on, heard_second, heard_send}
+use Rattle.mcv_plan.proofs.ChildOfLeg.{only_in, within_not}
+use Rattle.mcv_plan.proofs.HeardOutcome.{heard_all_none, heard_all_some, heard_beside, heard_hit_off, heard_hit_on, heard_second, heard_send}
 use Rattle.mcv_plan.proofs.OutcomeInSearch.{heard_turn_none, heard_turn_passed, heard_turn_some}
 use Rattle.mcv_plan.proofs.hearing.+hearing.Goals as goal
 

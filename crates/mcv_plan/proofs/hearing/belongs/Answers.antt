@@ -1,5 +1,5 @@
 use Rattle.std.proofs.Common.{◌≡◌, ◌<◌, ◌≤◌, ◌-◌, length, get_or, subst, arith}
-use Rattle.mcv_plan.proofs.Finding.{found_between}
+use Rattle.mcv_plan.proofs.ChildOfLeg.{found_between}
 use Rattle.mcv_plan.proofs.hearing.belongs.Goals as goal
 
 pub returns-else-child-eq0 : goal.returns-else-child-eq0

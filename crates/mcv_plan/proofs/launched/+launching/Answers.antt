@@ -1,6 +1,6 @@
 use Rattle.std.proofs.Common.{true, false, ◌≡◌, ◌∙◌, nat_eq, sym}
-use Rattle.mcv_plan.specs.Known.{own_in}
-use Rattle.mcv_plan.specs.Reached.{goes_on_after}
+use Rattle.mcv_plan.specs.KnownOutcomes.{own_in}
+use Rattle.mcv_plan.specs.ReachedAnswers.{goes_on_after}
 use Rattle.mcv_plan.specs.View.{view}
 use Rattle.mcv_plan.proofs.KnownOutcomes.{any_found, any_left, hit_found, hit_none, hit_second, or_none, search_ended, search_found, search_left}
 use Rattle.mcv_plan.proofs.Views.{view-Send}

@@ -1,7 +1,7 @@
 use Rattle.std.proofs.Common.{◌≡◌, ◌+◌, ◌*◌, max, drop}
 use Rattle.mcv_route.specs.Children.{joined}
-use Rattle.mcv_plan.specs.Known.{own_in}
-use Rattle.mcv_plan.specs.Reached.{searched}
+use Rattle.mcv_plan.specs.KnownOutcomes.{own_in}
+use Rattle.mcv_plan.specs.ReachedAnswers.{searched}
 use Rattle.mcv_plan.specs.State.{answers_each, holds, sends_each}
 use Rattle.mcv_plan.specs.View.{seen}
 use Rattle.mcv_plan.specs.declared.course.Course.{size-Course}

@@ -1,7 +1,7 @@
 use Rattle.std.proofs.Common.{rules, true, false, None, Some, ◌≡◌, ◌∷◌, ◌∙◌, ap, drop, sym}
 use Rattle.std.proofs.lemmas.List.{drop_all}
-use Rattle.mcv_plan.specs.Known.{own_in}
-use Rattle.mcv_plan.specs.Reached.{answer_from, answer_of, goes_on_after}
+use Rattle.mcv_plan.specs.KnownOutcomes.{own_in}
+use Rattle.mcv_plan.specs.ReachedAnswers.{answer_from, answer_of, goes_on_after}
 use Rattle.mcv_plan.specs.State.{answered, answers_each}
 use Rattle.mcv_plan.specs.View.{seen, view}
 use Rattle.mcv_plan.proofs.KnownOutcomes.{all_in, answer_known, known_before, none_in, search_known, waits_in, worst_in}

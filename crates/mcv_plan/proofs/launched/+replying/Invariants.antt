@@ -1,6 +1,6 @@
 use Rattle.std.proofs.Common.{None, ◌≡◌, ◌+◌, ◌*◌, drop}
-use Rattle.mcv_plan.specs.Known.{own_in}
-use Rattle.mcv_plan.specs.Reached.{answer_from, waits}
+use Rattle.mcv_plan.specs.KnownOutcomes.{own_in}
+use Rattle.mcv_plan.specs.ReachedAnswers.{answer_from, waits}
 use Rattle.mcv_plan.specs.State.{answered_each, answers_each}
 use Rattle.mcv_plan.specs.View.{seen}
 use Rattle.mcv_plan.proofs.WorstAtOnce.{worst_from}

@@ -1,12 +1,12 @@
 use Rattle.std.proofs.Common.{rules, ◌≡◌, ◌∷◌, ◌∙◌, sym, true, arith}
-use Rattle.mcv_plan.specs.Reached.{goes_on_after}
+use Rattle.mcv_plan.specs.ReachedAnswers.{goes_on_after}
 use Rattle.mcv_plan.specs.State.{entries}
 use Rattle.mcv_plan.specs.View.{seen, view}
 use Rattle.mcv_plan.proofs.Views.{view-InTurn}
-use Rattle.mcv_plan.proofs.Local.{turn_reflects}
+use Rattle.mcv_plan.proofs.PartsAreLocal.{turn_reflects}
 use Rattle.mcv_plan.specs.declared.course.Course.{the_lemmas}
 use Rattle.mcv_plan.proofs.Waves.{all_on, answer_on, count_on, room_behind, room_left, search_answers, searched_on, reflects_next, steps_on}
-use Rattle.mcv_plan.specs.Reached.{nothing}
+use Rattle.mcv_plan.specs.ReachedAnswers.{nothing}
 use Rattle.mcv_plan.proofs.opening.+opening.Goals as goal
 
 -- one child more has been opened

@@ -1,6 +1,6 @@
 use Rattle.std.proofs.Common.{◌≡◌, ◌≤◌, ◌+◌, ◌*◌, max, ◌++◌, [], cond, drop, length, vec_capacity}
 use Rattle.mcv_route.specs.Children.{joined}
-use Rattle.mcv_plan.specs.Reached.{answer_from, goes_on_after, nothing, searched, stop_from}
+use Rattle.mcv_plan.specs.ReachedAnswers.{answer_from, goes_on_after, nothing, searched, stop_from}
 use Rattle.mcv_plan.specs.State.{ReflectEach, answers_each, entries_each, sends_each}
 use Rattle.mcv_plan.specs.View.{seen}
 use Rattle.mcv_plan.specs.declared.course.Course.{size-Course}

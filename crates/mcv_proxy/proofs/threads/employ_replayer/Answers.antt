@@ -1,10 +1,9 @@
 use denote.Param.Send.{sendable}
 use Rattle.std.proofs.Crossing.{crosses}
 use Rattle.std.proofs.alloc.Global.TheSendSync as heap
-use Rattle.mcv_spool.proofs.spool.Spool.TheSendSync as spool
 use Rattle.mcv_hub.proofs.pass.Pass.TheSendSync as pass
-use Rattle.mcv_proxy.proofs.Crossing.{ends_shared, hub_shared, lanes_shared}
+use Rattle.mcv_proxy.proofs.Crossing.{shared_shared}
 use Rattle.mcv_proxy.proofs.threads.employ_replayer.Goals as goal
 
 pub spawn-requires-send-F : goal.spawn-requires-send-F
-spawn-requires-send-F g c κs within = search (hub_shared, lanes_shared, ends_shared, spool.the_send, pass.the_send, heap.the_send, sendable, crosses) depth 24
+spawn-requires-send-F g c κs within = search (shared_shared, pass.the_send, heap.the_send, sendable, crosses) depth 24

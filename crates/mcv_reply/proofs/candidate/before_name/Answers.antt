@@ -1,11 +1,11 @@
 use Rattle.std.proofs.Common.{List, ℕ, refl, arith}
 use Rattle.mcv_reply.specs.declared.candidate.Head.{Head}
-use Rattle.mcv_reply.specs.declared.candidate.Place.TheVariants.{BeforeName, InName}
+use Rattle.mcv_reply.specs.declared.candidate.LinePart.TheVariants.{BeforeName, InName}
 use Rattle.mcv_reply.specs.Line.{Writes, word}
-use Rattle.mcv_reply.specs.Place.{behind_name, name_text, Follows, needed}
+use Rattle.mcv_reply.specs.Candidate.{behind_name, name_text, Follows, needed}
 use Rattle.mcv_reply.proofs.Words.{name_clean, word_starts}
 use Rattle.mcv_reply.proofs.Writing.{skip_on, skip_back, word_on, word_back}
-use Rattle.mcv_reply.proofs.Moving.{moves_same}
+use Rattle.mcv_reply.proofs.CandidateSteps.{moves_same}
 use Rattle.mcv_reply.proofs.candidate.before_name.Goals as goal
 
 pub returns-then-byte-eq32 : goal.returns-then-byte-eq32

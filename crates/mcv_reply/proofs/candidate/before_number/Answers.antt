@@ -1,6 +1,6 @@
 use Rattle.std.proofs.Common.{ℕ, refl, arith, sym, subst}
 use Rattle.mcv_reply.specs.Line.{Writes, number}
-use Rattle.mcv_reply.specs.Place.{behind_number, limit_of, number_in, Digits}
+use Rattle.mcv_reply.specs.Candidate.{behind_number, limit_of, number_in, Digits}
 use Rattle.mcv_reply.proofs.Writing.{skip_on, skip_back, number_on, number_back, number_starts, digit_limit}
 use Rattle.mcv_reply.proofs.candidate.before_number.Goals as goal
 

@@ -1,5 +1,5 @@
 use Rattle.std.proofs.Common.{sym}
-use Rattle.mcv_reply.proofs.Behind.{before_key, before_flags}
+use Rattle.mcv_reply.proofs.SpaceBetweenWords.{before_key, before_flags}
 use Rattle.mcv_reply.proofs.candidate.behind_name.Goals as goal
 
 pub returns-in-Value : goal.returns-in-Value

@@ -1,4 +1,4 @@
-use Rattle.mcv_reply.proofs.Behind.{before_size, before_cas}
+use Rattle.mcv_reply.proofs.SpaceBetweenWords.{before_size, before_cas}
 use Rattle.mcv_reply.proofs.candidate.behind_number.Goals as goal
 
 pub returns-in-Flags : goal.returns-in-Flags

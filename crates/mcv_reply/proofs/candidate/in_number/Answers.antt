@@ -1,10 +1,10 @@
 use Rattle.std.proofs.Common.{◌≡◌, ◌+◌, ◌-◌, ◌*◌, List, ℕ, refl, arith, sym, subst}
 use Rattle.mcv_reply.specs.declared.candidate.Head.{Head}
-use Rattle.mcv_reply.specs.declared.candidate.Place.TheVariants.{InNumber}
+use Rattle.mcv_reply.specs.declared.candidate.LinePart.TheVariants.{InNumber}
 use Rattle.mcv_reply.specs.Line.{Writes}
-use Rattle.mcv_reply.specs.Place.{behind_number, limit_of, number_in, Digits, Follows, SoFar}
+use Rattle.mcv_reply.specs.Candidate.{behind_number, limit_of, number_in, Digits, Follows, SoFar}
 use Rattle.mcv_reply.proofs.Writing.{digit_never, digit_on, digit_back, digits_end, digits_none, digits_least}
-use Rattle.mcv_reply.proofs.Moving.{moves_same}
+use Rattle.mcv_reply.proofs.CandidateSteps.{moves_same}
 use Rattle.mcv_reply.proofs.candidate.in_number.Goals as goal
 
 pub returns-in_err-value-in-Some : goal.returns-in_err-value-in-Some

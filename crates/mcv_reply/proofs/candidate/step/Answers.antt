@@ -1,5 +1,5 @@
 use Rattle.std.proofs.Common.{◌≡◌, ◌+◌, arith, subst, cond, Bool}
-use Rattle.mcv_reply.specs.Place.{needed}
+use Rattle.mcv_reply.specs.Candidate.{needed}
 use Rattle.mcv_reply.proofs.Reading.{goes, too_long}
 use Rattle.mcv_reply.proofs.candidate.step.Goals as goal
 
@@ -7,7 +7,7 @@ pub returns-then-not-free : goal.returns-then-not-free
 returns-then-not-free c =
     let m = c.in_ok-next.field-0 in
     let moves = c.in_ok-next.ensures in
-    let needs : needed c.args.candidate.first c.args.cas c.args.key.now c.args.candidate.place + 0 ≡ needed m.next.first c.args.cas c.args.key.now m.next.place + 1 = subst (λ (t : Bool). needed c.args.candidate.first c.args.cas c.args.key.now c.args.candidate.place + cond t 1 0 ≡ needed m.next.first c.args.cas c.args.key.now m.next.place + 1) c.if-not-free.true moves.needs in
+    let needs : needed c.args.candidate.first c.args.cas c.args.key.now c.args.candidate.part + 0 ≡ needed m.next.first c.args.cas c.args.key.now m.next.part + 1 = subst (λ (t : Bool). needed c.args.candidate.first c.args.cas c.args.key.now c.args.candidate.part + cond t 1 0 ≡ needed m.next.first c.args.cas c.args.key.now m.next.part + 1) c.if-not-free.true moves.needs in
     goes c.args.cas c.args.key.now c.args.candidate c.args.byte c.requires.no_end m m.next.spare 0 moves needs (omega (arith, moves.spare))
 
 pub returns-in_err-spare : goal.returns-in_err-spare
@@ -20,5 +20,5 @@ pub returns : goal.returns
 returns c =
     let m = c.in_ok-next.field-0 in
     let moves = c.in_ok-next.ensures in
-    let needs : needed c.args.candidate.first c.args.cas c.args.key.now c.args.candidate.place + 1 ≡ needed m.next.first c.args.cas c.args.key.now m.next.place + 1 = subst (λ (t : Bool). needed c.args.candidate.first c.args.cas c.args.key.now c.args.candidate.place + cond t 1 0 ≡ needed m.next.first c.args.cas c.args.key.now m.next.place + 1) c.if-not-free.false moves.needs in
+    let needs : needed c.args.candidate.first c.args.cas c.args.key.now c.args.candidate.part + 1 ≡ needed m.next.first c.args.cas c.args.key.now m.next.part + 1 = subst (λ (t : Bool). needed c.args.candidate.first c.args.cas c.args.key.now c.args.candidate.part + cond t 1 0 ≡ needed m.next.first c.args.cas c.args.key.now m.next.part + 1) c.if-not-free.false moves.needs in
     goes c.args.cas c.args.key.now c.args.candidate c.args.byte c.requires.no_end m c.in_ok-spare.spare 1 moves needs (omega (arith, moves.spare, c.in_ok-spare.ensures))

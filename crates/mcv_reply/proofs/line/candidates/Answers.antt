@@ -1,7 +1,7 @@
 use Rattle.std.proofs.Common.{length, map, take, ap, arith, ◌∙◌}
 use Rattle.std.proofs.lemmas.List.{length-map, length-take, take_all}
 use Rattle.mcv_reply.specs.Word.{has_cas, words}
-use Rattle.mcv_reply.specs.Place.{new_candidate}
+use Rattle.mcv_reply.specs.Candidate.{new_candidate}
 use Rattle.mcv_reply.proofs.Lines.{new_kept, few_words, pushed}
 use Rattle.mcv_reply.proofs.line.candidates.Goals as goal
 

@@ -1,6 +1,6 @@
 use Rattle.std.proofs.Common.{◌≡◌, map, take}
 use Rattle.mcv_reply.specs.Word.{has_cas, words}
-use Rattle.mcv_reply.specs.Place.{new_candidate}
+use Rattle.mcv_reply.specs.Candidate.{new_candidate}
 use Rattle.mcv_reply.proofs.line.candidates.Given as goal
 
 abbrev pub invariant-loop-first : goal.invariant-loop-first

@@ -1,6 +1,6 @@
 use Rattle.std.proofs.Common.{◌≡◌, ◌++◌, List, ℕ, length, arith, sym, subst, ◌∙◌}
 use Rattle.std.proofs.lemmas.Bool.{eqb-true, eqb-false}
-use Rattle.mcv_reply.specs.Place.{IsKept}
+use Rattle.mcv_reply.specs.Candidate.{IsKept}
 use Rattle.mcv_reply.proofs.Steps.{none_left}
 use Rattle.mcv_reply.proofs.line.go_on.Goals as goal
 

@@ -1,7 +1,7 @@
 use Rattle.std.proofs.Common.{◌≡◌, ◌+◌, Bool, Some, None, List, [], ◌∷◌, ◌++◌, length, get_or, sym, subst, ap, arith, ◌∙◌}
 use Rattle.std.proofs.lemmas.List.{get_or_default, length_push}
 use Rattle.mcv_reply.specs.declared.candidate.Candidate.{Candidate}
-use Rattle.mcv_reply.specs.Place.{IsKept, Reads}
+use Rattle.mcv_reply.specs.Candidate.{IsKept, Reads}
 use Rattle.mcv_reply.proofs.Lines.{any_candidate, IsLeft, left_none, left_some, left_out, left_kept}
 use Rattle.mcv_reply.proofs.line.narrowed.Goals as goal
 use Rattle.mcv_reply.proofs.line.narrowed.Goals.{in-Some, in_default}

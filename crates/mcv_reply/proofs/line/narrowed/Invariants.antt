@@ -1,5 +1,5 @@
 use Rattle.std.proofs.Common.{◌≤◌, ℕ, List, length}
-use Rattle.mcv_reply.specs.Place.{IsKept}
+use Rattle.mcv_reply.specs.Candidate.{IsKept}
 use Rattle.mcv_reply.proofs.Lines.{IsLeft}
 use Rattle.mcv_reply.proofs.line.narrowed.Given as goal
 

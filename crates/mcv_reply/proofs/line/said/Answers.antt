@@ -2,7 +2,7 @@ use Rattle.std.proofs.Common.{Bool, Some, None, List, get_or, sym, subst}
 use Rattle.std.proofs.lemmas.List.{get_or_default}
 use Rattle.mcv_reply.specs.declared.candidate.Candidate.{Candidate}
 use Rattle.mcv_reply.specs.Word.{has_cas}
-use Rattle.mcv_reply.specs.Place.{Ends, IsKept}
+use Rattle.mcv_reply.specs.Candidate.{Ends, IsKept}
 use Rattle.mcv_reply.proofs.Lines.{any_candidate, none_ends_more, says_none, says_some}
 use Rattle.mcv_reply.proofs.line.said.Goals as goal
 

@@ -1,6 +1,6 @@
 use Rattle.std.proofs.Common.{List, ℕ, ap, arith, sym, subst}
 use Rattle.mcv_reply.specs.declared.word.Row.TheVariants.{AfterValue}
-use Rattle.mcv_reply.specs.Place.{IsKept}
+use Rattle.mcv_reply.specs.Candidate.{IsKept}
 use Rattle.mcv_reply.specs.Reader.{Fed}
 use Rattle.mcv_reply.proofs.Stages.{wrong_line_feed}
 use Rattle.mcv_reply.proofs.Steps.{last_some, return_step, first_taken}

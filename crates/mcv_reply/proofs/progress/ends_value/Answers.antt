@@ -1,6 +1,6 @@
 use Rattle.std.proofs.Common.{◌≡◌, ◌-◌, ◌∙◌, length, take, drop, sym, arith, rules}
 use Rattle.std.proofs.lemmas.List.{length-drop, take_all}
-use Rattle.mcv_reply.specs.Plain.{value_end}
+use Rattle.mcv_reply.specs.PlainLine.{value_end}
 use Rattle.mcv_reply.proofs.PlainSteps.{value_ended}
 use Rattle.mcv_reply.proofs.progress.ends_value.Goals as goal
 

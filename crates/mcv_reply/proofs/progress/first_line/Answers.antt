@@ -1,5 +1,5 @@
 use Rattle.std.proofs.Common.{List, ℕ, subst}
-use Rattle.mcv_reply.specs.Plain.{StartsLine}
+use Rattle.mcv_reply.specs.PlainLine.{StartsLine}
 use Rattle.mcv_reply.proofs.progress.first_line.Goals as goal
 
 pub line_whole-requires : goal.line_whole-requires

@@ -2,9 +2,9 @@ use Rattle.std.proofs.Common.{None, map, rules, arith, refl}
 use Rattle.std.proofs.lemmas.List.{length-map}
 use Rattle.mcv_route.specs.View.{view, operation_view, prefix_view, shadow_view}
 use Rattle.mcv_route.specs.Walk.{list_view}
-use Rattle.mcv_route.proofs.Building.{All-at, child-more, item-more, sound-pool, sound-shadows, sound-server, sound-AllSync, sound-AllInitial, sound-AllAsync, sound-Failover, sound-MissFailover, sound-WarmUp, sound-Migrate, sound-prefixes, sound-wildcard, sound-policies, sound-default, sound-last, sound-shadow, sound-prefix, sound-policy, built-Pool, built-Server, built-Null, built-Error, built-AllSync, built-AllInitial, built-AllAsync, built-Failover, built-MissFailover, built-WarmUp, built-Migrate, built-PrefixSelector, built-OperationSelector, built-no_last}
-use Rattle.mcv_route.proofs.Nameds.{shadow_of-out, prefix_of-out, policy_of-out}
-use Rattle.mcv_config.specs.Plan.{named_of, shadow_of, prefix_of, policy_of, IsSoundRoute}
+use Rattle.mcv_route.proofs.Building.{All-at, child-more, item-more, sound-pool, sound-shadows, sound-server, sound-Many, sound-WarmUp, sound-Migrate, sound-prefixes, sound-wildcard, sound-policies, sound-default, sound-last, sound-shadow, sound-prefix, sound-policy, built-Pool, built-Server, built-Null, built-Error, built-Many, built-WarmUp, built-Migrate, built-PrefixSelector, built-OperationSelector, built-no_last}
+use Rattle.mcv_route.proofs.NamedHandles.{shadow_of-out, prefix_of-out, policy_of-out}
+use Rattle.mcv_config.specs.ConfigValue.{named_of, shadow_of, prefix_of, policy_of, IsSoundRoute}
 use Rattle.mcv_config.specs.declared.config.NamedRoute as asked
 use Rattle.mcv_config.specs.declared.config.NamedPolicy.{out-NamedPolicy}
 use Rattle.mcv_config.specs.declared.config.NamedPrefix.{out-NamedPrefix}
@@ -88,23 +88,7 @@ build_route-build_shadows-requires t c = (
 
 pub build_route-build_children-requires : goal.build_route-build_children-requires
 build_route-build_children-requires t c =
-    (search (rules, asked.the_lemmas), (c.requires.filled, rw c.deref-in-AllSync.ensures.value (sound-AllSync (map list_view c.args.lists.now) c.args.route.now c.in-AllSync.children c.in-AllSync.is c.requires.sound)))
-
-pub build_route-build_children-requires-in-AllInitial : goal.build_route-build_children-requires-in-AllInitial
-build_route-build_children-requires-in-AllInitial t c =
-    (search (rules, asked.the_lemmas), (c.requires.filled, rw c.deref-in-AllInitial.ensures.value (sound-AllInitial (map list_view c.args.lists.now) c.args.route.now c.in-AllInitial.children c.in-AllInitial.is c.requires.sound)))
-
-pub build_route-build_children-requires-in-AllAsync : goal.build_route-build_children-requires-in-AllAsync
-build_route-build_children-requires-in-AllAsync t c =
-    (search (rules, asked.the_lemmas), (c.requires.filled, rw c.deref-in-AllAsync.ensures.value (sound-AllAsync (map list_view c.args.lists.now) c.args.route.now c.in-AllAsync.children c.in-AllAsync.is c.requires.sound)))
-
-pub build_route-build_children-requires-in-Failover : goal.build_route-build_children-requires-in-Failover
-build_route-build_children-requires-in-Failover t c =
-    (search (rules, asked.the_lemmas), (c.requires.filled, rw c.deref-in-Failover.ensures.value (sound-Failover (map list_view c.args.lists.now) c.args.route.now c.in-Failover.children c.in-Failover.is c.requires.sound)))
-
-pub build_route-build_children-requires-in-MissFailover : goal.build_route-build_children-requires-in-MissFailover
-build_route-build_children-requires-in-MissFailover t c =
-    (search (rules, asked.the_lemmas), (c.requires.filled, rw c.deref-in-MissFailover.ensures.value (sound-MissFailover (map list_view c.args.lists.now) c.args.route.now c.in-MissFailover.children c.in-MissFailover.is c.requires.sound)))
+    (search (rules, asked.the_lemmas), (c.requires.filled, rw c.deref-in-Many.ensures.value (sound-Many (map list_view c.args.lists.now) c.args.route.now c.in-Many.kind c.in-Many.children c.in-Many.is c.requires.sound)))
 
 pub build_route-build_boxed-requires : goal.build_route-build_boxed-requires
 build_route-build_boxed-requires t c =
@@ -169,30 +153,10 @@ build_route-returns-in_ok-leaf-in-Server t c =
     built-Server (map list_view c.args.lists.now) c.args.route.now c.in-Server.pool c.in-Server.index c.args.symbols.now c.server_leaf.new.symbols c.in_ok-leaf-in-Server.leaf c.new-shadows.result
     c.in-Server.is c.new-shadows.ensures.items c.in_ok-leaf-in-Server.ensures.table c.in_ok-leaf-in-Server.ensures.leaf
 
-pub build_route-returns-in_ok-build_children-in-AllSync : goal.build_route-returns-in_ok-build_children-in-AllSync
-build_route-returns-in_ok-build_children-in-AllSync t c =
-    built-AllSync (map list_view c.args.lists.now) c.args.route.now c.in-AllSync.children c.deref-in-AllSync.result.now c.args.symbols.now c.build_children.new.symbols c.in_ok-build_children-in-AllSync.field-0
-    c.in-AllSync.is c.deref-in-AllSync.ensures.value c.in_ok-build_children-in-AllSync.ensures
-
-pub build_route-returns-in_ok-build_children-in-AllInitial : goal.build_route-returns-in_ok-build_children-in-AllInitial
-build_route-returns-in_ok-build_children-in-AllInitial t c =
-    built-AllInitial (map list_view c.args.lists.now) c.args.route.now c.in-AllInitial.children c.deref-in-AllInitial.result.now c.args.symbols.now c.build_children-in-AllInitial.new.symbols c.in_ok-build_children-in-AllInitial.field-0
-    c.in-AllInitial.is c.deref-in-AllInitial.ensures.value c.in_ok-build_children-in-AllInitial.ensures
-
-pub build_route-returns-in_ok-build_children-in-AllAsync : goal.build_route-returns-in_ok-build_children-in-AllAsync
-build_route-returns-in_ok-build_children-in-AllAsync t c =
-    built-AllAsync (map list_view c.args.lists.now) c.args.route.now c.in-AllAsync.children c.deref-in-AllAsync.result.now c.args.symbols.now c.build_children-in-AllAsync.new.symbols c.in_ok-build_children-in-AllAsync.field-0
-    c.in-AllAsync.is c.deref-in-AllAsync.ensures.value c.in_ok-build_children-in-AllAsync.ensures
-
-pub build_route-returns-in_ok-build_children-in-Failover : goal.build_route-returns-in_ok-build_children-in-Failover
-build_route-returns-in_ok-build_children-in-Failover t c =
-    built-Failover (map list_view c.args.lists.now) c.args.route.now c.in-Failover.children c.deref-in-Failover.result.now c.args.symbols.now c.build_children-in-Failover.new.symbols c.in_ok-build_children-in-Failover.field-0
-    c.in-Failover.is c.deref-in-Failover.ensures.value c.in_ok-build_children-in-Failover.ensures
-
-pub build_route-returns-in_ok-build_children-in-MissFailover : goal.build_route-returns-in_ok-build_children-in-MissFailover
-build_route-returns-in_ok-build_children-in-MissFailover t c =
-    built-MissFailover (map list_view c.args.lists.now) c.args.route.now c.in-MissFailover.children c.deref-in-MissFailover.result.now c.args.symbols.now c.build_children-in-MissFailover.new.symbols c.in_ok-build_children-in-MissFailover.field-0
-    c.in-MissFailover.is c.deref-in-MissFailover.ensures.value c.in_ok-build_children-in-MissFailover.ensures
+pub build_route-returns-in_ok-children-in-Many : goal.build_route-returns-in_ok-children-in-Many
+build_route-returns-in_ok-children-in-Many t c =
+    built-Many (map list_view c.args.lists.now) c.args.route.now c.in-Many.kind c.in-Many.children c.deref-in-Many.result.now c.args.symbols.now c.build_children.new.symbols c.in_ok-children-in-Many.children
+    c.in-Many.is c.deref-in-Many.ensures.value c.in_ok-children-in-Many.ensures
 
 pub build_route-returns-in_ok-warm-in-WarmUp : goal.build_route-returns-in_ok-warm-in-WarmUp
 build_route-returns-in_ok-warm-in-WarmUp t c =

@@ -1,5 +1,5 @@
 use Rattle.std.proofs.Common.{◌≡◌, map, take}
-use Rattle.mcv_config.specs.Plan.{named_of, shadow_of, prefix_of, policy_of}
+use Rattle.mcv_config.specs.ConfigValue.{named_of, shadow_of, prefix_of, policy_of}
 use Rattle.mcv_route.specs.View.{view, operation_view, prefix_view, shadow_view}
 use Rattle.mcv_route.specs.Walk.{IsBuilt, list_view}
 use Rattle.mcv_route.proofs.build.+build.Given as goal

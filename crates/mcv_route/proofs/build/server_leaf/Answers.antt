@@ -3,7 +3,7 @@ use Rattle.std.specs.Prelude.{IfOk}
 use Rattle.mcv_pools.specs.declared.symbol.HashFunc.TheVariants.{Ch3}
 use Rattle.mcv_pools.specs.Symbol.{same_symbol}
 use Rattle.mcv_pools.specs.Table.{with_entry}
-use Rattle.mcv_route.specs.Built.{pool_named, symbol_of}
+use Rattle.mcv_route.specs.NamedRoutes.{pool_named, symbol_of}
 use Rattle.mcv_route.specs.View.{pool_view}
 use Rattle.mcv_route.specs.Walk.{list_view}
 use Rattle.mcv_route.specs.declared.tree.Leaf.{Leaf}

@@ -2,7 +2,7 @@ use Rattle.std.proofs.Common.{◌≡◌, sym, ap, ◌∙◌, arith, get_or, leng
 use Rattle.std.specs.Prelude.{slice_get}
 use Rattle.mcv_route.specs.View.{view, last_view, operation_view}
 use Rattle.mcv_route.proofs.Views.{operation_view-out}
-use Rattle.mcv_route.proofs.Ways.{policy-at, policy-past, policy-last}
+use Rattle.mcv_route.proofs.HandleChildren.{policy-at, policy-past, policy-last}
 use Rattle.mcv_route.proofs.children.policy_route.Goals as goal
 
 pub returns-then-number-policies : goal.returns-then-number-policies

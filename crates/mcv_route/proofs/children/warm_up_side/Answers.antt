@@ -1,6 +1,6 @@
 use Rattle.std.proofs.Common.{arith}
 use Rattle.mcv_route.specs.View.{view}
-use Rattle.mcv_route.proofs.Ways.{past-three}
+use Rattle.mcv_route.proofs.HandleChildren.{past-three}
 use Rattle.mcv_route.proofs.children.warm_up_side.Goals as goal
 
 pub returns-in_default : goal.returns-in_default

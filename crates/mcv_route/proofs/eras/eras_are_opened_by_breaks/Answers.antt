@@ -1,5 +1,5 @@
 use Rattle.mcv_route.proofs.MomentsHaveEras.{moments_have_eras}
-use Rattle.mcv_route.proofs.Passed.{since_is_last, eras_are_opened, eras_say}
+use Rattle.mcv_route.proofs.OpeningBreak.{since_is_last, eras_are_opened, eras_say}
 use Rattle.mcv_route.proofs.eras.eras_are_opened_by_breaks.Goals as goal
 
 pub returns : goal.returns

@@ -5,7 +5,7 @@ use Rattle.mcv_route.specs.declared.tree.Shadow.{out-Shadow}
 use Rattle.mcv_route.specs.declared.tree.PrefixPolicy.{out-PrefixPolicy}
 use Rattle.mcv_route.specs.declared.tree.OperationPolicy.{out-OperationPolicy}
 use Rattle.mcv_route.proofs.Views.{operation_view-out, prefix_view-out, shadow_view-out}
-use Rattle.mcv_route.proofs.Ways.{breaks-more, breaks-Pool, breaks-Null, breaks-Error, breaks-more-of, breaks-AllSync, breaks-AllInitial, breaks-AllAsync, breaks-Failover, breaks-MissFailover, breaks-of-PrefixSelector, breaks-of-OperationSelector}
+use Rattle.mcv_route.proofs.HandleChildren.{breaks-more, breaks-Pool, breaks-Null, breaks-Error, breaks-more-of, breaks-Many, breaks-of-PrefixSelector, breaks-of-OperationSelector}
 use Rattle.mcv_route.proofs.moments.+moments.Goals as goal
 
 pub push_breaks-returns-in-Pool : goal.push_breaks-returns-in-Pool
@@ -17,20 +17,8 @@ push_breaks-returns-in-Null t c = rw (c.in-Null.is, breaks-Null, append-nil) ref
 pub push_breaks-returns-in-Error : goal.push_breaks-returns-in-Error
 push_breaks-returns-in-Error t c = rw (c.in-Error.is, breaks-Error, append-nil) refl
 
-pub push_breaks-returns-in-AllSync : goal.push_breaks-returns-in-AllSync
-push_breaks-returns-in-AllSync t c = rw (c.in-AllSync.is, breaks-AllSync, ← c.deref-in-AllSync.ensures.value) c.push_children.ensures
-
-pub push_breaks-returns-in-AllInitial : goal.push_breaks-returns-in-AllInitial
-push_breaks-returns-in-AllInitial t c = rw (c.in-AllInitial.is, breaks-AllInitial, ← c.deref-in-AllInitial.ensures.value) c.push_children-in-AllInitial.ensures
-
-pub push_breaks-returns-in-AllAsync : goal.push_breaks-returns-in-AllAsync
-push_breaks-returns-in-AllAsync t c = rw (c.in-AllAsync.is, breaks-AllAsync, ← c.deref-in-AllAsync.ensures.value) c.push_children-in-AllAsync.ensures
-
-pub push_breaks-returns-in-Failover : goal.push_breaks-returns-in-Failover
-push_breaks-returns-in-Failover t c = rw (c.in-Failover.is, breaks-Failover, ← c.deref-in-Failover.ensures.value) c.push_children-in-Failover.ensures
-
-pub push_breaks-returns-in-MissFailover : goal.push_breaks-returns-in-MissFailover
-push_breaks-returns-in-MissFailover t c = rw (c.in-MissFailover.is, breaks-MissFailover, ← c.deref-in-MissFailover.ensures.value) c.push_children-in-MissFailover.ensures
+pub push_breaks-returns-in-Many : goal.push_breaks-returns-in-Many
+push_breaks-returns-in-Many t c = rw (c.in-Many.is, breaks-Many, ← c.deref-in-Many.ensures.value) c.push_children.ensures
 
 pub push_breaks-returns-in_ok-push_prefixes-in-PrefixSelector : goal.push_breaks-returns-in_ok-push_prefixes-in-PrefixSelector
 push_breaks-returns-in_ok-push_prefixes-in-PrefixSelector t c =

@@ -1,4 +1,4 @@
-use Rattle.mcv_route.proofs.Ways.{entry-breaks-more}
+use Rattle.mcv_route.proofs.HandleChildren.{entry-breaks-more}
 use Rattle.mcv_route.proofs.routes.all_breaks.Goals as goal
 
 pub loop-entry-preserved : goal.loop-entry-preserved

@@ -1,8 +1,8 @@
 use Rattle.std.proofs.Common.{map}
 use Rattle.std.proofs.lemmas.List.Elements.{All-rest}
-use Rattle.mcv_config.specs.Plan.{IsSoundRoute, named_of}
+use Rattle.mcv_config.specs.ConfigValue.{IsSoundRoute, named_of}
 use Rattle.mcv_route.specs.Walk.{list_view}
-use Rattle.mcv_route.proofs.Whole.{entry-more, aliases-more}
+use Rattle.mcv_route.proofs.BuiltRoutes.{entry-more, aliases-more}
 use Rattle.mcv_route.proofs.routes.build_entries.Goals as goal
 
 pub loop-entry-preserved : goal.loop-entry-preserved

@@ -1,6 +1,6 @@
 use Rattle.std.proofs.Common.{◌≡◌, map}
 use Rattle.std.specs.List.{All}
-use Rattle.mcv_config.specs.Plan.{IsSoundRoute, named_of}
+use Rattle.mcv_config.specs.ConfigValue.{IsSoundRoute, named_of}
 use Rattle.mcv_route.specs.View.{view}
 use Rattle.mcv_route.specs.Walk.{IsBuilt, list_view}
 use Rattle.mcv_route.proofs.routes.build_entries.Given as goal

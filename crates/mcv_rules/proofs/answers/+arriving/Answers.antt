@@ -1,7 +1,7 @@
 use Rattle.std.proofs.Common.{rules, ap, ◌∙◌}
 use Rattle.mcv_rules.specs.Arrivals.{known_at, next_arrived}
-use Rattle.mcv_rules.specs.Laid.{arrived}
-use Rattle.mcv_rules.proofs.Stopping.{answer_stops}
+use Rattle.mcv_rules.specs.PlanInMemory.{arrived}
+use Rattle.mcv_rules.proofs.StoppedSearch.{answer_stops}
 use Rattle.mcv_rules.proofs.SearchGoesOn.{answer_on}
 use Rattle.mcv_rules.proofs.answers.+arriving.Goals as goal
 

@@ -1,7 +1,7 @@
 use Rattle.std.proofs.Common.{◌≡◌, drop, map, max}
 use Rattle.std.specs.Prelude.{fold}
 use Rattle.mcv_rules.specs.Arrivals.{known_at, later, next_arrived}
-use Rattle.mcv_rules.specs.Laid.{arrived}
+use Rattle.mcv_rules.specs.PlanInMemory.{arrived}
 use Rattle.mcv_rules.proofs.answers.+arriving.Given as goal
 
 -- what is left, taken up from what was found, gives what all give

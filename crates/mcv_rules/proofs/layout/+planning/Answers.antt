@@ -3,17 +3,17 @@ use Rattle.std.proofs.lemmas.List.{take_all}
 use Rattle.mcv_base.specs.Operation.{is_reading}
 use Rattle.mcv_route.specs.Children.{policy_of, prefix_policy, to_both, to_from, to_to, way_of}
 use Rattle.mcv_route.specs.Situation.{asynchronous, shadowed, under}
-use Rattle.mcv_route.specs.Tree.{all_initial, all_sync, failover, migrate, miss_failover, none, null, pool, warm_up}
+use Rattle.mcv_route.specs.Tree.{many, AllSync, AllInitial, Failover, MissFailover, migrate, none, null, pool, warm_up}
 use Rattle.mcv_route.specs.View.{pool_view, trees_of, view}
 use Rattle.mcv_route.specs.declared.tree.OperationPolicy.{out-OperationPolicy}
 use Rattle.mcv_route.specs.declared.tree.PrefixPolicy.{out-PrefixPolicy}
 use Rattle.mcv_route.specs.declared.tree.Route.{OperationSelector, PrefixSelector}
-use Rattle.mcv_route.proofs.Views.{shadow_view-out, view-Error, view-AllSync, view-Failover, view-Migrate, view-Null, view-WarmUp}
-use Rattle.mcv_rules.specs.Laid.{Serves, children_of, operations_of, prefixes_of, situation_at, way_seen}
+use Rattle.mcv_route.proofs.Views.{shadow_view-out, view-Error, view-Migrate, view-Null, view-WarmUp}
+use Rattle.mcv_rules.specs.PlanInMemory.{Serves, children_of, operations_of, prefixes_of, situation_at, way_seen}
 use Rattle.mcv_rules.specs.declared.arrival.After.TheVariants as after
 use Rattle.mcv_rules.specs.declared.plan.Plan.{Reply}
-use Rattle.mcv_rules.proofs.Besides.{async_beyond, child-grows, child_legs, first_beyond, first_of, first_served, led_first, no_shadows, serves-beside, shadow-grows, shadows_beyond}
-use Rattle.mcv_rules.proofs.Choosing.{migrates_both, migrates_from, migrates_to, serves-default, serves-first_child, serves-no_child, serves-no_default, serves-no_initial, serves-no_wildcard, serves-operation, serves-prefix, serves-wildcard, warms_not}
+use Rattle.mcv_rules.proofs.BesidePlans.{async_beyond, child-grows, child_legs, first_beyond, first_of, first_served, led_first, no_shadows, serves-beside, shadow-grows, shadows_beyond}
+use Rattle.mcv_rules.proofs.ChoosingHandles.{migrates_both, migrates_from, migrates_to, serves-default, serves-first_child, serves-no_child, serves-no_default, serves-no_initial, serves-no_wildcard, serves-operation, serves-prefix, serves-wildcard, warms_not}
 use Rattle.mcv_rules.proofs.Searching.{failover_searches, miss_searches, serves-search}
 use Rattle.mcv_rules.proofs.Serving.{serve-grows, served, serves-all, serves-does, serves-error, serves-null}
 use Rattle.mcv_rules.proofs.layout.+planning.Goals as goal
@@ -29,20 +29,17 @@ laid_out-returns-in-Error t c = rw (c.in-Error.is, view-Error) (serves-error (si
 
 -- ---- children one by one, all waited for or one after another
 
-pub laid_out-returns-in_ok-each_laid_out-in-AllSync : goal.laid_out-returns-in_ok-each_laid_out-in-AllSync
-laid_out-returns-in_ok-each_laid_out-in-AllSync t c =
+pub many_laid_out-returns-in_ok-each_laid_out-in-AllSync : goal.many_laid_out-returns-in_ok-each_laid_out-in-AllSync
+many_laid_out-returns-in_ok-each_laid_out-in-AllSync t c =
     let s = situation_at c.args.asked.now c.args.position.now in
-    let v = c.in-AllSync.children in
-    rw (c.in-AllSync.is, view-AllSync v)
-    (serves-all _ (map view v.items) s (rw c.deref-in-AllSync.ensures.value at c.in_ok-each_laid_out-in-AllSync.ensures))
+    rw c.in-AllSync.is (serves-all _ (map view c.args.children.now) s c.in_ok-each_laid_out-in-AllSync.ensures)
 
-pub laid_out-returns-in_ok-plans-in-Failover : goal.laid_out-returns-in_ok-plans-in-Failover
-laid_out-returns-in_ok-plans-in-Failover t c =
+pub many_laid_out-returns-in_ok-plans-in-Failover : goal.many_laid_out-returns-in_ok-plans-in-Failover
+many_laid_out-returns-in_ok-plans-in-Failover t c =
     let s = situation_at c.args.asked.now c.args.position.now in
-    let v = c.in-Failover.children in
-    rw (c.in-Failover.is, view-Failover v)
-    (serves-search after.Error _ (failover (trees_of (map view v.items))) (map view v.items) s (failover_searches (trees_of (map view v.items)) s)
-    (rw c.deref-in-Failover.ensures.value at c.in_ok-plans-in-Failover.ensures))
+    let children = c.args.children.now in
+    rw c.in-Failover.is
+    (serves-search after.Error _ (many Failover (trees_of (map view children))) (map view children) s (failover_searches (trees_of (map view children)) s) c.in_ok-plans-in-Failover.ensures)
 
 -- ---- warm-ups
 
@@ -61,7 +58,7 @@ misses_passed_on-returns t c =
     let s = situation_at c.args.asked.now c.args.position.now in
     let children = c.args.children.now in
     let reads : is_reading s.op ≡ true = search rules in
-    serves-search after.Miss _ (miss_failover (trees_of (map view children))) (map view children) s (miss_searches (trees_of (map view children)) s reads) c.in_ok-plans.ensures
+    serves-search after.Miss _ (many MissFailover (trees_of (map view children))) (map view children) s (miss_searches (trees_of (map view children)) s reads) c.in_ok-plans.ensures
 
 pub none_waited_for-returns : goal.none_waited_for-returns
 none_waited_for-returns t c =
@@ -82,7 +79,7 @@ with_shadows-returns t c =
 pub misses_passed_on-returns-in-None : goal.misses_passed_on-returns-in-None
 misses_passed_on-returns-in-None t c =
     let s = situation_at c.args.asked.now c.args.position.now in
-    let writes : is_reading s.op ≡ false = sym c.is_reading.ensures ∙ c.if-not-is_reading.true in
+    let writes : is_reading s.op ≡ false = sym c.fails_over_on_miss.ensures ∙ c.if-not-fails_over_on_miss.true in
     serves-no_child c.args.children.now s writes (search rules)
 
 pub with_shadows-returns-then-is_empty : goal.with_shadows-returns-then-is_empty
@@ -91,11 +88,11 @@ with_shadows-returns-then-is_empty t c =
 
 -- ---- warm-ups
 
-pub laid_out-returns-else-is_reading : goal.laid_out-returns-else-is_reading
-laid_out-returns-else-is_reading t c =
+pub laid_out-returns-else-is_warmed_up : goal.laid_out-returns-else-is_warmed_up
+laid_out-returns-else-is_warmed_up t c =
     let s = situation_at c.args.asked.now c.args.position.now in
     let w = c.in-WarmUp in
-    let writes : is_reading s.op ≡ false = sym c.is_reading.ensures ∙ c.if-is_reading.false in
+    let writes : is_reading s.op ≡ false = sym c.is_warmed_up.ensures ∙ c.if-is_warmed_up.false in
     rw (w.is, view-WarmUp w.cold w.warm w.exptime)
     (serves-does c.in_ok-first-in-WarmUp.first (warm_up (view w.cold.value) (view w.warm.value) w.exptime) (view w.cold.value) s (under 0 s) (warms_not (view w.cold.value) (view w.warm.value) w.exptime s writes)
     (rw c.deref-in-WarmUp.ensures at c.in_ok-first-in-WarmUp.ensures))
@@ -104,12 +101,12 @@ pub laid_out-returns-in_ok-filling-in-WarmUp : goal.laid_out-returns-in_ok-filli
 laid_out-returns-in_ok-filling-in-WarmUp t c =
     let s = situation_at c.args.asked.now c.args.position.now in
     let w = c.in-WarmUp in
-    let reads : is_reading s.op ≡ true = sym c.is_reading.ensures ∙ c.if-is_reading.true in
+    let reads : is_reading s.op ≡ true = sym c.is_warmed_up.ensures ∙ c.if-is_warmed_up.true in
     rw (w.is, view-WarmUp w.cold w.warm w.exptime)
     (c.filled.ensures (view w.cold.value) (view w.warm.value) w.exptime s reads
     (rw c.deref-in-WarmUp.ensures at c.in_ok-first-in-WarmUp.ensures)
-    (rw c.deref-then-is_reading.ensures at c.in_ok-second-in-WarmUp.ensures)
-    (rw (c.deref-then-is_reading-2.ensures, c.adding.ensures) at c.in_ok-filling-in-WarmUp.ensures))
+    (rw c.deref-then-is_warmed_up.ensures at c.in_ok-second-in-WarmUp.ensures)
+    (rw (c.deref-then-is_warmed_up-2.ensures, c.adding.ensures) at c.in_ok-filling-in-WarmUp.ensures))
 
 -- ---- migrations
 
@@ -140,8 +137,8 @@ laid_out-returns-in_ok-second-in-Both t c =
     let m = c.in-Migrate in
     let way : way_of s m.start m.interval ≡ to_both = sym c.way.ensures ∙ ap way_seen c.in-Both.is in
     rw (m.is, view-Migrate m.from m.to m.start m.interval)
-    (served c.both.result (λ p. Serves p (all_sync (trees_of (view m.from.value ∷ view m.to.value ∷ []))) s) (λ p. Serves p (migrate (view m.from.value) (view m.to.value) m.start m.interval) s)
-    (λ p. serves-does p (migrate (view m.from.value) (view m.to.value) m.start m.interval) (all_sync (trees_of (view m.from.value ∷ view m.to.value ∷ []))) s s (migrates_both (view m.from.value) (view m.to.value) m.start m.interval s way))
+    (served c.both.result (λ p. Serves p (many AllSync (trees_of (view m.from.value ∷ view m.to.value ∷ []))) s) (λ p. Serves p (migrate (view m.from.value) (view m.to.value) m.start m.interval) s)
+    (λ p. serves-does p (migrate (view m.from.value) (view m.to.value) m.start m.interval) (many AllSync (trees_of (view m.from.value ∷ view m.to.value ∷ []))) s s (migrates_both (view m.from.value) (view m.to.value) m.start m.interval s way))
     (c.both.ensures (view m.from.value) (view m.to.value) s
     (rw c.deref-in-Both.ensures at c.in_ok-first-in-Both.ensures)
     (rw c.deref-in-Both-2.ensures at c.in_ok-second-in-Both.ensures)))
@@ -248,7 +245,7 @@ first_waited_for-returns t c =
     let children = c.args.children.now in
     let others = c.in-Some.others.now in
     let shape : children ≡ c.in-Some.first.now ∷ others = search rules in
-    serves-beside c.loop-number.plans (all_initial (children_of children)) (first_of (map view children)) s (under 0 s) (child_legs 1 (map view others) (asynchronous s)) (first_beyond children c.in-Some.first.now others s shape)
+    serves-beside c.loop-number.plans (many AllInitial (children_of children)) (first_of (map view children)) s (under 0 s) (child_legs 1 (map view others) (asynchronous s)) (first_beyond children c.in-Some.first.now others s shape)
     (rw (take_all c.loop-number.number others c.loop-number-test.false) at c.loop-number.invariant)
 
 pub first_waited_for-returns-in_default : goal.first_waited_for-returns-in_default
@@ -288,6 +285,6 @@ misses_passed_on-returns-in-Some t c =
     let s = situation_at c.args.asked.now c.args.position.now in
     let children = c.args.children.now in
     let first = c.in-Some.first.now in
-    let writes : is_reading s.op ≡ false = sym c.is_reading.ensures ∙ c.if-not-is_reading.true in
-    served c.child_laid_out.result (λ p. Serves p (view first) (under 0 s)) (λ p. Serves p (miss_failover (children_of children)) s)
+    let writes : is_reading s.op ≡ false = sym c.fails_over_on_miss.ensures ∙ c.if-not-fails_over_on_miss.true in
+    served c.child_laid_out.result (λ p. Serves p (view first) (under 0 s)) (λ p. Serves p (many MissFailover (children_of children)) s)
     (λ p. serves-first_child p children first s writes (search rules) (search rules)) c.child_laid_out.ensures

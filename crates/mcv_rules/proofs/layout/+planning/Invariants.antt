@@ -2,8 +2,8 @@ use Rattle.std.proofs.Common.{[], map, take}
 use Rattle.mcv_route.specs.Situation.{asynchronous, shadowed, under}
 use Rattle.mcv_route.specs.Tree.{none, null, pool}
 use Rattle.mcv_route.specs.View.{pool_view, shadow_view, view}
-use Rattle.mcv_rules.specs.Laid.{ServeEach, Serves, situation_at}
-use Rattle.mcv_rules.proofs.Besides.{LedBy, child_legs, first_of, shadow_legs}
+use Rattle.mcv_rules.specs.PlanInMemory.{ServeEach, Serves, situation_at}
+use Rattle.mcv_rules.proofs.BesidePlans.{LedBy, child_legs, first_of, shadow_legs}
 use Rattle.mcv_rules.proofs.layout.+planning.Given as goal
 
 -- the plans so far serve the children so far

@@ -1,6 +1,6 @@
 use Rattle.std.proofs.Common.{rules, refl}
 use Rattle.mcv_route.specs.View.{pool_view}
-use Rattle.mcv_rules.specs.Laid.{situation_at}
+use Rattle.mcv_rules.specs.PlanInMemory.{situation_at}
 use Rattle.mcv_rules.proofs.Serving.{serves-pool}
 use Rattle.mcv_rules.proofs.layout.leg.Goals as goal
 

@@ -1,6 +1,6 @@
 use Rattle.std.proofs.Common.{◌≡◌, ◌+◌, drop}
 use Rattle.mcv_route.specs.Children.{policy_of}
-use Rattle.mcv_rules.specs.Laid.{operations_of}
+use Rattle.mcv_rules.specs.PlanInMemory.{operations_of}
 use Rattle.mcv_rules.proofs.layout.policy_number.Given as goal
 
 -- no policy so far is the operation's

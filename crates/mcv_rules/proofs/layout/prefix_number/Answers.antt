@@ -1,6 +1,6 @@
 use Rattle.std.proofs.Common.{rules}
 use Rattle.mcv_route.proofs.Views.{prefix_view-out}
-use Rattle.mcv_rules.proofs.Choosing.{prefix-grows}
+use Rattle.mcv_rules.proofs.ChoosingHandles.{prefix-grows}
 use Rattle.mcv_rules.proofs.layout.prefix_number.Goals as goal
 
 -- one policy more, whether or not the rest begins with its prefix

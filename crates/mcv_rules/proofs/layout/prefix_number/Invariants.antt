@@ -1,7 +1,7 @@
 use Rattle.std.proofs.Common.{◌≡◌, drop}
 use Rattle.mcv_route.specs.Children.{longest_from}
-use Rattle.mcv_rules.specs.Laid.{prefixes_of}
-use Rattle.mcv_rules.proofs.Choosing.{merged}
+use Rattle.mcv_rules.specs.PlanInMemory.{prefixes_of}
+use Rattle.mcv_rules.proofs.ChoosingHandles.{merged}
 use Rattle.mcv_rules.proofs.layout.prefix_number.Given as goal
 
 -- the longest so far and those that are left give the longest of all

@@ -1,8 +1,8 @@
 use Rattle.std.proofs.Common.{rules, ◌≡◌, ◌∷◌, true, sym, ◌∙◌}
 use Rattle.std.specs.Prelude.{slice_index}
 use Rattle.mcv_rules.specs.Arrivals.{goes_on_after, known_at, outcome_in}
-use Rattle.mcv_rules.specs.Laid.{sent}
-use Rattle.mcv_rules.proofs.Stopping.{reply_stops}
+use Rattle.mcv_rules.specs.PlanInMemory.{sent}
+use Rattle.mcv_rules.proofs.StoppedSearch.{reply_stops}
 use Rattle.mcv_rules.proofs.SearchGoesOn.{all_end, all_on, legs_end, legs_on, reply_on, worse_on}
 use Rattle.mcv_rules.proofs.legs.+sending.Goals as goal
 

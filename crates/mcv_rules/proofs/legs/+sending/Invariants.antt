@@ -2,7 +2,7 @@ use Rattle.std.proofs.Common.{◌≡◌, ◌++◌, [], cond, drop, map}
 use Rattle.std.specs.Prelude.{fold, slice_index}
 use Rattle.mcv_route.specs.Children.{joined}
 use Rattle.mcv_rules.specs.Arrivals.{goes_on_after, known_at, outcome_in}
-use Rattle.mcv_rules.specs.Laid.{legs_each, next_reply, replies_each, searched, sent}
+use Rattle.mcv_rules.specs.PlanInMemory.{legs_each, next_reply, replies_each, searched, sent}
 use Rattle.mcv_rules.specs.Plan.{both}
 use Rattle.mcv_rules.proofs.legs.+sending.Given as goal
 

@@ -1,6 +1,6 @@
 use Rattle.std.proofs.Common.{◌≡◌, length, false}
 use Rattle.mcv_session.specs.declared.session.Flow.TheVariants.{GoesOn}
-use Rattle.mcv_session.specs.Served.{Served}
+use Rattle.mcv_session.specs.ServedSession.{Served}
 use Rattle.mcv_session.proofs.serve.serve_session.Given as goal
 
 abbrev pub invariant-loop-turn : goal.invariant-loop-turn

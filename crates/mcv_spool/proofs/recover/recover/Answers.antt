@@ -1,10 +1,10 @@
 use Rattle.std.proofs.Common.{◌≡◌, ◌*◌, List, ℕ, Err, length, sym, ap, ◌∙◌, subst}
 use Rattle.std.proofs.lemmas.Result.{err_from_is_err_and}
 use Rattle.mcv_spool.specs.File.{damage, slots}
-use Rattle.mcv_spool.specs.Found.{IsFound}
+use Rattle.mcv_spool.specs.FoundFile.{IsFound}
 use Rattle.mcv_spool.specs.Version.{HasSlotsOf}
 use Rattle.mcv_spool.proofs.Moments.{after_quiet, after_run, started}
-use Rattle.mcv_spool.proofs.Settled.{counted_slots}
+use Rattle.mcv_spool.proofs.SettledSpool.{counted_slots}
 use Rattle.mcv_spool.proofs.recover.recover.Goals as goal
 
 pub returns-in_err-len-clause-any_moment : goal.returns-in_err-len-clause-any_moment

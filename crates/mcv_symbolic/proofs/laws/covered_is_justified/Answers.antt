@@ -1,6 +1,6 @@
-use Rattle.mcv_symbolic.proofs.Alike.{alike_are_covered}
-use Rattle.mcv_symbolic.proofs.Stated.{covered_is_justified}
-use Rattle.mcv_symbolic.proofs.Whole.{covered_by_members}
+use Rattle.mcv_symbolic.proofs.AlikeAreCovered.{alike_are_covered}
+use Rattle.mcv_symbolic.proofs.StructureBySets.{covered_is_justified}
+use Rattle.mcv_symbolic.proofs.CoveredByMembers.{covered_by_members}
 use Rattle.mcv_symbolic.proofs.laws.covered_is_justified.Goals as goal
 
 pub returns : goal.returns

@@ -4,13 +4,13 @@ use Rattle.mcv_base.specs.declared.reply.Outcome.TheVariants.{Good}
 use Rattle.mcv_rules.specs.Arrivals.{goes_on}
 use Rattle.mcv_rules.specs.Plan as whole
 use Rattle.mcv_rules.specs.Plan.{Leg, Plan}
-use Rattle.mcv_rules.specs.Whole.{alone, beside, in_turn, leg_of, part_of, whole_of}
+use Rattle.mcv_rules.specs.NormalForm.{alone, beside, in_turn, leg_of, part_of, whole_of}
 use Rattle.mcv_rules.specs.declared.arrival.After.TheVariants as after
 use Rattle.mcv_rules.specs.declared.plan.PlannedLeg.{PlannedLeg}
-use Rattle.mcv_rules.proofs.Whole.{part-All, part-Beside, part-InTurn}
-use Rattle.mcv_symbolic.specs.Listed.{acknowledged, counted}
+use Rattle.mcv_rules.proofs.NormalForms.{part-All, part-Beside, part-InTurn}
+use Rattle.mcv_symbolic.specs.SetLists.{acknowledged, counted}
 use Rattle.mcv_symbolic.specs.Structure.{if_all, nothing}
-use Rattle.mcv_symbolic.proofs.Walked.{acknowledged_beside, acknowledged_off, acknowledged_on, begun, ended, first_is, first_there, grown, if_all_beside, led_begun, led_ended, led_first, led_more, led_so_far, none_acknowledged, none_grown, one_child, one_more, reply_off, reply_on, so_far, stopped, ungrown}
+use Rattle.mcv_symbolic.proofs.ChildrenWalk.{acknowledged_beside, acknowledged_off, acknowledged_on, begun, ended, first_is, first_there, grown, if_all_beside, led_begun, led_ended, led_first, led_more, led_so_far, none_acknowledged, none_grown, one_child, one_more, reply_off, reply_on, so_far, stopped, ungrown}
 use Rattle.mcv_symbolic.proofs.sets.+acknowledging.Goals as goal
 
 abbrev shown : List (Bor PlannedLeg) → List Leg

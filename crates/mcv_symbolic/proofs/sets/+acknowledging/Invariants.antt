@@ -1,10 +1,10 @@
 use Rattle.std.proofs.Common.{◌≡◌, ◌++◌, ◌+◌, ◌*◌, Bor, List, map, suc, take}
 use Rattle.mcv_base.specs.declared.reply.Outcome.TheVariants.{Good}
 use Rattle.mcv_rules.specs.Plan.{Leg}
-use Rattle.mcv_rules.specs.Whole.{all_of, led_by, leg_of, part_of, turns_of, whole_of}
+use Rattle.mcv_rules.specs.NormalForm.{all_of, led_by, leg_of, part_of, turns_of, whole_of}
 use Rattle.mcv_rules.specs.declared.arrival.After.TheVariants as after
 use Rattle.mcv_rules.specs.declared.plan.PlannedLeg.{PlannedLeg}
-use Rattle.mcv_symbolic.specs.Listed.{acknowledged}
+use Rattle.mcv_symbolic.specs.SetLists.{acknowledged}
 use Rattle.mcv_symbolic.specs.Structure.{if_all}
 use Rattle.mcv_symbolic.proofs.sets.+acknowledging.Given as goal
 

@@ -5,13 +5,13 @@ use Rattle.mcv_base.specs.declared.reply.Outcome.TheVariants.{Error}
 use Rattle.mcv_rules.specs.Arrivals.{goes_on}
 use Rattle.mcv_rules.specs.Plan as whole
 use Rattle.mcv_rules.specs.Plan.{Leg, Plan}
-use Rattle.mcv_rules.specs.Whole.{in_turn, leg_of, whole_of}
+use Rattle.mcv_rules.specs.NormalForm.{in_turn, leg_of, whole_of}
 use Rattle.mcv_rules.specs.declared.arrival.After.TheVariants as after
 use Rattle.mcv_rules.specs.declared.plan.PlannedLeg.{PlannedLeg}
-use Rattle.mcv_rules.proofs.Whole.{part-All, part-Beside, part-InTurn, part-OnHit}
-use Rattle.mcv_symbolic.specs.Listed.{hits}
+use Rattle.mcv_rules.proofs.NormalForms.{part-All, part-Beside, part-InTurn, part-OnHit}
+use Rattle.mcv_symbolic.specs.SetLists.{hits}
 use Rattle.mcv_symbolic.specs.Structure.{after_miss, if_all}
-use Rattle.mcv_symbolic.proofs.Walked.{begun, ended, grown, hits_beside, hits_off, hits_on, if_all_beside, kept_of_both, led_first, led_none, none_grown, one_more, reply_off, reply_on, so_far, stopped, ungrown}
+use Rattle.mcv_symbolic.proofs.ChildrenWalk.{begun, ended, grown, hits_beside, hits_off, hits_on, if_all_beside, kept_of_both, led_first, led_none, none_grown, one_more, reply_off, reply_on, so_far, stopped, ungrown}
 use Rattle.mcv_symbolic.proofs.sets.+hitting.Goals as goal
 
 abbrev shown : List (Bor PlannedLeg) → List Leg

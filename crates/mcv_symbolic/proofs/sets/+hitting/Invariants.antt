@@ -1,10 +1,10 @@
 use Rattle.std.proofs.Common.{◌≡◌, ◌++◌, ◌+◌, ◌*◌, Bor, List, length, map, suc, take}
 use Rattle.mcv_base.specs.declared.reply.Outcome.TheVariants.{Error}
 use Rattle.mcv_rules.specs.Plan.{Leg}
-use Rattle.mcv_rules.specs.Whole.{all_of, leg_of, turns_of, whole_of}
+use Rattle.mcv_rules.specs.NormalForm.{all_of, leg_of, turns_of, whole_of}
 use Rattle.mcv_rules.specs.declared.arrival.After.TheVariants as after
 use Rattle.mcv_rules.specs.declared.plan.PlannedLeg.{PlannedLeg}
-use Rattle.mcv_symbolic.specs.Listed.{hits}
+use Rattle.mcv_symbolic.specs.SetLists.{hits}
 use Rattle.mcv_symbolic.specs.Structure.{if_all}
 use Rattle.mcv_symbolic.proofs.sets.+hitting.Given as goal
 

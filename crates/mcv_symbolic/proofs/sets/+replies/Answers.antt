@@ -2,10 +2,10 @@ use Rattle.std.proofs.Common.{◌≡◌, ◌∷◌, ◌∙◌, ap, ap₂, false,
 use Rattle.mcv_base.specs.Reply.{worse}
 use Rattle.mcv_rules.specs.Arrivals.{goes_on}
 use Rattle.mcv_rules.specs.Plan as whole
-use Rattle.mcv_rules.specs.Whole.{in_turn, whole_of}
-use Rattle.mcv_rules.proofs.Whole.{part-All, part-Beside, part-InTurn, part-OnHit}
+use Rattle.mcv_rules.specs.NormalForm.{in_turn, whole_of}
+use Rattle.mcv_rules.proofs.NormalForms.{part-All, part-Beside, part-InTurn, part-OnHit}
 use Rattle.mcv_symbolic.specs.Structure.{if_all}
-use Rattle.mcv_symbolic.proofs.Walked.{begun, ended, if_all_beside, led_first, led_none, one_more, reply_off, reply_on, so_far, stopped}
+use Rattle.mcv_symbolic.proofs.ChildrenWalk.{begun, ended, if_all_beside, led_first, led_none, one_more, reply_off, reply_on, so_far, stopped}
 use Rattle.mcv_symbolic.proofs.sets.+replies.Goals as goal
 
 -- ---- one part

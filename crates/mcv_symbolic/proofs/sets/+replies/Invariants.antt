@@ -1,5 +1,5 @@
 use Rattle.std.proofs.Common.{◌≡◌, ◌+◌, ◌*◌, map, suc, take}
-use Rattle.mcv_rules.specs.Whole.{all_of, turns_of, whole_of}
+use Rattle.mcv_rules.specs.NormalForm.{all_of, turns_of, whole_of}
 use Rattle.mcv_symbolic.specs.Structure.{if_all}
 use Rattle.mcv_symbolic.proofs.sets.+replies.Given as goal
 

@@ -2,12 +2,12 @@ use Rattle.std.proofs.Common.{◌≡◌, ◌++◌, ◌∷◌, ◌∙◌, ap, ap�
 use Rattle.mcv_rules.specs.Arrivals.{goes_on_after}
 use Rattle.mcv_rules.specs.Plan as whole
 use Rattle.mcv_rules.specs.Plan.{Leg, Plan, both, reply}
-use Rattle.mcv_rules.specs.Whole.{alone, beside, in_turn, leg_of, part_of, whole_of}
+use Rattle.mcv_rules.specs.NormalForm.{alone, beside, in_turn, leg_of, part_of, whole_of}
 use Rattle.mcv_rules.specs.declared.plan.PlannedLeg.{PlannedLeg}
-use Rattle.mcv_rules.proofs.Whole.{part-All, part-Beside, part-InTurn}
-use Rattle.mcv_symbolic.specs.Listed.{counted}
+use Rattle.mcv_rules.proofs.NormalForms.{part-All, part-Beside, part-InTurn}
+use Rattle.mcv_symbolic.specs.SetLists.{counted}
 use Rattle.mcv_symbolic.specs.Structure.{nothing}
-use Rattle.mcv_symbolic.proofs.Walked.{begun, counted_beside, counted_off, counted_on, ended, first_is, first_there, grown, led_begun, led_ended, led_first, led_more, led_so_far, one_more, reply_beside, so_far, stopped, ungrown, wave_off, wave_on}
+use Rattle.mcv_symbolic.proofs.ChildrenWalk.{begun, counted_beside, counted_off, counted_on, ended, first_is, first_there, grown, led_begun, led_ended, led_first, led_more, led_so_far, one_more, reply_beside, so_far, stopped, ungrown, wave_off, wave_on}
 use Rattle.mcv_symbolic.proofs.sets.+wave.Goals as goal
 
 abbrev shown : List (Bor PlannedLeg) → List Leg

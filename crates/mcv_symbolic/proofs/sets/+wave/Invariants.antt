@@ -1,8 +1,8 @@
 use Rattle.std.proofs.Common.{◌≡◌, ◌++◌, ◌+◌, ◌*◌, Bor, List, map, suc, take}
 use Rattle.mcv_rules.specs.Plan.{Leg, reply}
-use Rattle.mcv_rules.specs.Whole.{all_of, led_by, leg_of, part_of, turns_of, whole_of}
+use Rattle.mcv_rules.specs.NormalForm.{all_of, led_by, leg_of, part_of, turns_of, whole_of}
 use Rattle.mcv_rules.specs.declared.plan.PlannedLeg.{PlannedLeg}
-use Rattle.mcv_symbolic.specs.Listed.{counted}
+use Rattle.mcv_symbolic.specs.SetLists.{counted}
 use Rattle.mcv_symbolic.specs.Structure.{nothing}
 use Rattle.mcv_symbolic.proofs.sets.+wave.Given as goal
 

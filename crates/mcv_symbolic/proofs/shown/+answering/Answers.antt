@@ -3,11 +3,11 @@ use Rattle.mcv_base.specs.Reply.{worse}
 use Rattle.mcv_rules.specs.Arrivals.{goes_on}
 use Rattle.mcv_rules.specs.Plan as whole
 use Rattle.mcv_rules.specs.Plan.{Plan}
-use Rattle.mcv_rules.specs.Whole.{in_turn, whole_of}
-use Rattle.mcv_rules.proofs.Whole.{part-All, part-Beside, part-InTurn, part-OnHit}
-use Rattle.mcv_symbolic.specs.Shown.{answers, history_of}
+use Rattle.mcv_rules.specs.NormalForm.{in_turn, whole_of}
+use Rattle.mcv_rules.proofs.NormalForms.{part-All, part-Beside, part-InTurn, part-OnHit}
+use Rattle.mcv_symbolic.specs.ShownAnswers.{answers, history_of}
 use Rattle.mcv_symbolic.specs.Structure.{if_all}
-use Rattle.mcv_symbolic.proofs.Walked.{answers_beside, answers_off, answers_on, begun, ended, grown, if_all_beside, led_first, led_none, none_grown, one_more, reply_off, reply_on, so_far, stopped, ungrown}
+use Rattle.mcv_symbolic.proofs.ChildrenWalk.{answers_beside, answers_off, answers_on, begun, ended, grown, if_all_beside, led_first, led_none, none_grown, one_more, reply_off, reply_on, so_far, stopped, ungrown}
 use Rattle.mcv_symbolic.proofs.shown.+answering.Goals as goal
 
 -- ---- one part

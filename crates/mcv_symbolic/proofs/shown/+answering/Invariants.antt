@@ -1,6 +1,6 @@
 use Rattle.std.proofs.Common.{◌≡◌, ◌++◌, ◌+◌, ◌*◌, map, suc, take}
-use Rattle.mcv_rules.specs.Whole.{all_of, turns_of, whole_of}
-use Rattle.mcv_symbolic.specs.Shown.{answers, history_of}
+use Rattle.mcv_rules.specs.NormalForm.{all_of, turns_of, whole_of}
+use Rattle.mcv_symbolic.specs.ShownAnswers.{answers, history_of}
 use Rattle.mcv_symbolic.specs.Structure.{if_all}
 use Rattle.mcv_symbolic.proofs.shown.+answering.Given as goal
 

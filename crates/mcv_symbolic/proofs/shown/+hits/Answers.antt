@@ -1,13 +1,13 @@
 use Rattle.std.proofs.Common.{◌≡◌, [], ◌∷◌, ◌∙◌, append-nil, arith, false, length, refl, rules, subst, sym, true}
 use Rattle.mcv_base.specs.declared.reply.Outcome.TheVariants.{Error}
 use Rattle.mcv_rules.specs.Plan as whole
-use Rattle.mcv_rules.specs.Whole.{in_turn, whole_of}
-use Rattle.mcv_rules.proofs.Whole.{part-Beside, part-All, part-OnHit}
-use Rattle.mcv_symbolic.specs.Shown.{answers, first_hit, history_of}
+use Rattle.mcv_rules.specs.NormalForm.{in_turn, whole_of}
+use Rattle.mcv_rules.proofs.NormalForms.{part-Beside, part-All, part-OnHit}
+use Rattle.mcv_symbolic.specs.ShownAnswers.{answers, first_hit, history_of}
 use Rattle.mcv_symbolic.specs.Structure.{if_all}
-use Rattle.mcv_symbolic.specs.Tried.{IsTried, goes_on_after, passed_on}
-use Rattle.mcv_symbolic.proofs.Tried.{IsAddedIn, added-hit, added-instead, added-none, history-length, hit-in_turn, tried-added, tried-both, tried-neither, turn-ended, turn-next}
-use Rattle.mcv_symbolic.proofs.Walked.{answers_beside, begun, ended, first_hit_beside, if_all_beside, led_first, led_none, one_more, so_far, stopped, tree-All, tree-InTurn}
+use Rattle.mcv_symbolic.specs.HitSearch.{IsTried, goes_on_after, passed_on}
+use Rattle.mcv_symbolic.proofs.TriedHits.{IsAddedIn, added-hit, added-instead, added-none, history-length, hit-in_turn, tried-added, tried-both, tried-neither, turn-ended, turn-next}
+use Rattle.mcv_symbolic.proofs.ChildrenWalk.{answers_beside, begun, ended, first_hit_beside, if_all_beside, led_first, led_none, one_more, so_far, stopped, tree-All, tree-InTurn}
 use Rattle.mcv_symbolic.proofs.shown.+hits.Goals as goal
 
 -- ---- the first hit

@@ -4,13 +4,13 @@ use Rattle.mcv_base.specs.declared.reply.Outcome.TheVariants.{Error}
 use Rattle.mcv_route.specs.Outcomes.{History}
 use Rattle.mcv_rules.specs.Plan as whole
 use Rattle.mcv_rules.specs.Plan.{Plan}
-use Rattle.mcv_rules.specs.Whole.{in_turn, whole_of}
-use Rattle.mcv_rules.proofs.Whole.{part-All, part-Beside, part-OnHit}
-use Rattle.mcv_symbolic.specs.Shown.{answers, first_hit, history_of, leaf_hit}
+use Rattle.mcv_rules.specs.NormalForm.{in_turn, whole_of}
+use Rattle.mcv_rules.proofs.NormalForms.{part-All, part-Beside, part-OnHit}
+use Rattle.mcv_symbolic.specs.ShownAnswers.{answers, first_hit, history_of, leaf_hit}
 use Rattle.mcv_symbolic.specs.Structure.{if_all}
-use Rattle.mcv_symbolic.specs.Tried.{IsLead, goes_on_after, passed_on}
-use Rattle.mcv_symbolic.proofs.Tried.{IsAddedIn, added-led, added-none, added-unled, both-fail, both-hit, both-led, history-length, lead-none, leaf_hit-in_turn, led-alone, turn-ended, turn-next}
-use Rattle.mcv_symbolic.proofs.Walked.{answers_beside, begun, ended, first_hit_beside, if_all_beside, leaf_hit_beside, led_first, led_none, one_more, so_far, tree-All, tree-InTurn, stopped}
+use Rattle.mcv_symbolic.specs.HitSearch.{IsLead, goes_on_after, passed_on}
+use Rattle.mcv_symbolic.proofs.TriedHits.{IsAddedIn, added-led, added-none, added-unled, both-fail, both-hit, both-led, history-length, lead-none, leaf_hit-in_turn, led-alone, turn-ended, turn-next}
+use Rattle.mcv_symbolic.proofs.ChildrenWalk.{answers_beside, begun, ended, first_hit_beside, if_all_beside, leaf_hit_beside, led_first, led_none, one_more, so_far, tree-All, tree-InTurn, stopped}
 use Rattle.mcv_symbolic.proofs.shown.+leads.Goals as goal
 
 -- ---- the leg, or any

@@ -1,8 +1,8 @@
 use Rattle.std.proofs.Common.{◌+◌, ◌*◌, map, suc, take}
-use Rattle.mcv_rules.specs.Whole.{all_of, turns_of, whole_of}
-use Rattle.mcv_symbolic.specs.Shown.{first_hit, history_of, leaf_hit}
-use Rattle.mcv_symbolic.specs.Tried.{IsLead}
-use Rattle.mcv_symbolic.proofs.Tried.{IsAddedIn}
+use Rattle.mcv_rules.specs.NormalForm.{all_of, turns_of, whole_of}
+use Rattle.mcv_symbolic.specs.ShownAnswers.{first_hit, history_of, leaf_hit}
+use Rattle.mcv_symbolic.specs.HitSearch.{IsLead}
+use Rattle.mcv_symbolic.proofs.TriedHits.{IsAddedIn}
 use Rattle.mcv_symbolic.proofs.shown.+leads.Given as goal
 
 -- the leg's hit, or any, of the children so far

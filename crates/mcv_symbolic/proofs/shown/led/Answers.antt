@@ -1,7 +1,7 @@
 use Rattle.std.proofs.Common.{ap, ◌∙◌}
-use Rattle.mcv_rules.specs.Whole.{whole_of}
-use Rattle.mcv_symbolic.specs.Shown.{first_hit, history_of}
-use Rattle.mcv_symbolic.proofs.Tried.{history-take, lead-hit, lead-neither}
+use Rattle.mcv_rules.specs.NormalForm.{whole_of}
+use Rattle.mcv_symbolic.specs.ShownAnswers.{first_hit, history_of}
+use Rattle.mcv_symbolic.proofs.TriedHits.{history-take, lead-hit, lead-neither}
 use Rattle.mcv_symbolic.proofs.shown.led.Goals as goal
 
 pub returns-then-branch : goal.returns-then-branch

@@ -1,9 +1,9 @@
 use Rattle.std.proofs.Common.{◌≡◌, ◌++◌, ap, subst, ◌∙◌}
 use Rattle.std.specs.Prelude.{OnOk}
 use Rattle.mcv_route.specs.Outcomes.{History}
-use Rattle.mcv_rules.specs.Whole.{whole_of}
-use Rattle.mcv_symbolic.specs.Shown.{answers, history_of}
-use Rattle.mcv_symbolic.proofs.Tried.{history-take}
+use Rattle.mcv_rules.specs.NormalForm.{whole_of}
+use Rattle.mcv_symbolic.specs.ShownAnswers.{answers, history_of}
+use Rattle.mcv_symbolic.proofs.TriedHits.{history-take}
 use Rattle.mcv_symbolic.proofs.shown.push_instead.Goals as goal
 
 pub returns-clause-legs : goal.returns-clause-legs

@@ -1,4 +1,4 @@
-use Rattle.mcv_text.proofs.Fails.{reads_fail}
+use Rattle.mcv_text.proofs.FailingIsRefused.{reads_fail}
 use Rattle.mcv_text.proofs.laws.failing_is_refused.Goals as goal
 
 pub returns : goal.returns

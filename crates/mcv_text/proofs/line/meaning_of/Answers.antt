@@ -1,6 +1,6 @@
 use Rattle.std.proofs.Common.{◌≡◌, ℕ, List, Bor, map, IfOk, ap, subst, ◌∙◌}
 use Rattle.mcv_text.specs.Line.{meaning, said}
-use Rattle.mcv_text.specs.Parsed.{line_value}
+use Rattle.mcv_text.specs.ParsedLine.{line_value}
 use Rattle.mcv_text.proofs.line.meaning_of.Goals as goal
 
 pub returns-clause-means : goal.returns-clause-means

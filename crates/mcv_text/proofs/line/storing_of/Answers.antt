@@ -2,7 +2,7 @@ use Rattle.std.proofs.Common.{◌≡◌, ◌<◌, ◌∙◌, [], IfOk, arith, ma
 use Rattle.std.proofs.lemmas.List.{length-map}
 use Rattle.mcv_text.proofs.Lines.{storing_numberless, storing_optionless, storing_short, storing_whole}
 use Rattle.mcv_text.specs.Line.{LineValue}
-use Rattle.mcv_text.specs.Parsed.{line_value}
+use Rattle.mcv_text.specs.ParsedLine.{line_value}
 use Rattle.mcv_text.proofs.line.storing_of.Goals as goal
 
 pub returns-in_default-clause-means : goal.returns-in_default-clause-means

@@ -1,6 +1,6 @@
 use Rattle.std.proofs.Common.{ℕ, List, ◌∷◌, ◌++◌, length, refl, ap, sym, subst, ◌∙◌, append_assoc, arith, inl}
 use Rattle.mcv_text.specs.Line.{meaning}
-use Rattle.mcv_text.specs.Parsed.{IsSmall, line_value}
+use Rattle.mcv_text.specs.ParsedLine.{IsSmall, line_value}
 use Rattle.mcv_text.specs.Stream.{Held}
 use Rattle.mcv_text.proofs.Ends.{empty_line, line_item, nil_front}
 use Rattle.mcv_text.proofs.reader.after_line.Goals as goal

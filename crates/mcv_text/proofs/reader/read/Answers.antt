@@ -3,7 +3,7 @@ use Rattle.std.proofs.lemmas.List.{append-nil, nil_from_length}
 use Rattle.mcv_text.specs.Request.{ItemValue, item_value}
 use Rattle.mcv_text.specs.Stream.{Reads, followed}
 use Rattle.mcv_text.specs.Reader.{awaits_of}
-use Rattle.mcv_text.proofs.Kept.{kept_rests, rests_here}
+use Rattle.mcv_text.proofs.KeptStates.{kept_rests, rests_here}
 use Rattle.mcv_text.proofs.reader.read.Goals as goal
 
 pub returns-clause-items : goal.returns-clause-items

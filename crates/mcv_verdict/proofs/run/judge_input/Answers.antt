@@ -3,7 +3,7 @@ use Rattle.std.proofs.lemmas.Option.{IfSome_then}
 use Rattle.std.proofs.lemmas.Result.{err_from_is_err_and}
 use Rattle.mcv_input.specs.declared.fault.RunFault.{RunFault}
 use Rattle.mcv_verdict.specs.Fault.{IsRunFault}
-use Rattle.mcv_verdict.proofs.Refused.{input_fault_so}
+use Rattle.mcv_verdict.proofs.PartFaults.{input_fault_so}
 use Rattle.mcv_verdict.proofs.run.judge_input.Goals as goal
 
 pub returns-in_err-read_configuration-clause-fault : goal.returns-in_err-read_configuration-clause-fault

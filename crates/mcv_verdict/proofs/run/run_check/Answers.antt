@@ -4,7 +4,7 @@ use Rattle.std.proofs.lemmas.Result.{err_from_is_err_and}
 use Rattle.mcv_verdict.specs.Fault.{IsRunFault}
 use Rattle.mcv_verdict.specs.Verdict.{IsVerdictFor}
 use Rattle.mcv_input.specs.declared.fault.RunFault.{RunFault}
-use Rattle.mcv_verdict.proofs.Refused.{input_fault_so, refused_for}
+use Rattle.mcv_verdict.proofs.PartFaults.{input_fault_so, refused_for}
 use Rattle.mcv_verdict.proofs.run.run_check.Goals as goal
 
 pub returns-in_err-routes-clause-fault : goal.returns-in_err-routes-clause-fault

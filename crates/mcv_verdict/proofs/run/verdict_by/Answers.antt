@@ -2,7 +2,7 @@ use Rattle.std.proofs.Common.{sym, subst}
 use Rattle.std.proofs.lemmas.Result.{err_from_is_err_and}
 use Rattle.mcv_verdict.specs.Fault.{IsRefusedBy}
 use Rattle.mcv_input.specs.declared.fault.RunFault.{RunFault}
-use Rattle.mcv_verdict.proofs.Refused.{check_refused_so, text_refused_so}
+use Rattle.mcv_verdict.proofs.PartFaults.{check_refused_so, text_refused_so}
 use Rattle.mcv_verdict.proofs.run.verdict_by.Goals as goal
 
 pub returns-in_err-certificate-clause-fault : goal.returns-in_err-certificate-clause-fault

@@ -1,6 +1,6 @@
 use Rattle.std.proofs.Common.{◌≡◌, drop, map}
 use Rattle.mcv_route.specs.View.{operation_view, prefix_view, trees_of}
-use Rattle.mcv_rules.specs.Laid.{children_of, targets_of}
+use Rattle.mcv_rules.specs.PlanInMemory.{children_of, targets_of}
 use Rattle.mcv_witness.specs.LongestWord.{longest_below}
 use Rattle.mcv_witness.proofs.class_word.+longest.Given as goal
 

@@ -1,5 +1,5 @@
 use Rattle.std.proofs.Common.{◌≡◌, drop}
-use Rattle.mcv_rules.specs.Laid.{prefixes_of}
+use Rattle.mcv_rules.specs.PlanInMemory.{prefixes_of}
 use Rattle.mcv_witness.specs.LongestWord.{longest_of}
 use Rattle.mcv_witness.proofs.class_word.longest_prefix.Given as goal
 

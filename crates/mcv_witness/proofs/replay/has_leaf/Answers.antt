@@ -3,7 +3,7 @@ use Rattle.std.specs.Prelude.{IsTrue, slice_get}
 use Rattle.mcv_base.specs.declared.request.ServerId.{ServerId}
 use Rattle.mcv_route.specs.View.{pool_view}
 use Rattle.mcv_witness.specs.Finding.{finding_of}
-use Rattle.mcv_witness.proofs.Decided.{at_leaf, no_pool, other_index}
+use Rattle.mcv_witness.proofs.BreakDecision.{at_leaf, no_pool, other_index}
 use Rattle.mcv_witness.proofs.replay.has_leaf.Goals as goal
 
 pub returns-in_default : goal.returns-in_default

@@ -1,4 +1,4 @@
-use Rattle.mcv_witness.proofs.Decided.{item_past, item_there}
+use Rattle.mcv_witness.proofs.BreakDecision.{item_past, item_there}
 use Rattle.mcv_witness.proofs.replay.holds_at.Goals as goal
 
 pub returns-in-Some : goal.returns-in-Some

@@ -5,27 +5,27 @@ use Rattle.mcv_witness.specs.Breaks.{chosen}
 use Rattle.mcv_witness.specs.Confirm.{are_rising, hit_seen}
 use Rattle.mcv_witness.specs.Finding.{finding_of, outcomes_of}
 use Rattle.mcv_witness.specs.Walk.{pass}
-use Rattle.mcv_witness.proofs.Decided.{no_get, reads, unsorted_gets}
+use Rattle.mcv_witness.proofs.BreakDecision.{no_get, reads, unsorted_gets}
 use Rattle.mcv_witness.proofs.replay.is_read.Goals as goal
 
 pub returns-then-not-is_reading : goal.returns-then-not-is_reading
 returns-then-not-is_reading c =
-    let place = c.args.place.now in
-    no_get (finding_of c.args.finding.now) (view place.route.now) place.rest (option_map (λ m. m.0) place.since) (sym c.is_reading.ensures ∙ c.if-not-is_reading.true)
+    let scene = c.args.scene.now in
+    no_get (finding_of c.args.finding.now) (view scene.route.now) scene.rest (option_map (λ m. m.0) scene.since) (sym c.is_reading.ensures ∙ c.if-not-is_reading.true)
 
 pub returns-then-not-are_rising : goal.returns-then-not-are_rising
 returns-then-not-are_rising c =
-    let place = c.args.place.now in
-    unsorted_gets (finding_of c.args.finding.now) (view place.route.now) place.rest (option_map (λ m. m.0) place.since)
+    let scene = c.args.scene.now in
+    unsorted_gets (finding_of c.args.finding.now) (view scene.route.now) scene.rest (option_map (λ m. m.0) scene.since)
     (sym (c.are_rising.ensures ∙ ap (λ x. are_rising (outcomes_of x)) c.as_slice.ensures.value) ∙ c.if-not-are_rising.true)
 
 pub returns : goal.returns
 returns c =
-    let place = c.args.place.now in
+    let scene = c.args.scene.now in
     let finding = c.args.finding.now in
     let f = finding_of finding in
-    let t = view place.route.now in
-    let since = option_map (λ m. m.0) place.since in
-    reads f t place.rest since c.is_hit.result (sym c.is_reading.ensures ∙ c.if-not-is_reading.false)
+    let t = view scene.route.now in
+    let since = option_map (λ m. m.0) scene.since in
+    reads f t scene.rest since c.is_hit.result (sym c.is_reading.ensures ∙ c.if-not-is_reading.false)
     (sym (c.are_rising.ensures ∙ ap (λ x. are_rising (outcomes_of x)) c.as_slice.ensures.value) ∙ c.if-not-are_rising.false)
-    (c.is_hit.ensures ∙ ap hit_seen (c.seen.ensures ∙ ap (λ x. pass f.leaf f.server (chosen f) t (asked f.op place.rest since) (record { legs = outcomes_of x; depth = 0 })) c.as_slice-2.ensures.value))
+    (c.is_hit.ensures ∙ ap hit_seen (c.seen.ensures ∙ ap (λ x. pass f.place.leaf f.server (chosen f) t (asked f.op scene.rest since) (record { legs = outcomes_of x; depth = 0 })) c.as_slice-2.ensures.value))

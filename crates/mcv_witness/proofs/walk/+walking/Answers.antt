@@ -1,9 +1,9 @@
 use Rattle.std.proofs.Common.{arith, ◌≡◌, ◌<◌, ◌≤◌, length, [], ◌∙◌}
 use Rattle.std.specs.Prelude.{slice_index}
 use Rattle.mcv_route.specs.Children.{policy_of, prefix_policy}
-use Rattle.mcv_rules.specs.Laid.{operations_of, prefixes_of, ranges_of, situation_at, targets_of}
+use Rattle.mcv_rules.specs.PlanInMemory.{operations_of, prefixes_of, ranges_of, situation_at, targets_of}
 use Rattle.mcv_witness.specs.Walk.{known_of, shade, walked_each}
-use Rattle.mcv_witness.proofs.Selected.{default-pass, no_default-pass, no_wildcard-pass, operation-pass, prefix-pass, wildcard-pass}
+use Rattle.mcv_witness.proofs.SelectorWalk.{default-pass, no_default-pass, no_wildcard-pass, operation-pass, prefix-pass, wildcard-pass}
 use Rattle.mcv_witness.proofs.Shades.{shade-goes, shade-skips, shade-stops}
 use Rattle.mcv_witness.proofs.walk.+walking.Goals as goal
 

@@ -1,6 +1,6 @@
 use Rattle.std.proofs.Common.{◌≡◌, suc, [], drop}
 use Rattle.mcv_route.specs.Children.{rest_of}
-use Rattle.mcv_rules.specs.Laid.{children_of, ranges_of, situation_at, targets_of}
+use Rattle.mcv_rules.specs.PlanInMemory.{children_of, ranges_of, situation_at, targets_of}
 use Rattle.mcv_witness.specs.Walk.{gather, known_of, shade, walked_each}
 use Rattle.mcv_witness.specs.declared.seen.Join.TheVariants.{Beside}
 use Rattle.mcv_witness.proofs.walk.+walking.Given as goal

@@ -1,8 +1,8 @@
 use Rattle.std.proofs.Common.{◌≡◌, ap, ◌∙◌}
 use Rattle.std.proofs.lemmas.Result.{IfOk-weaker}
-use Rattle.mcv_judge.specs.InMemory.{legs_of}
+use Rattle.mcv_judge.specs.PairsInMemory.{legs_of}
 use Rattle.mcv_blocks.specs.Blocks.{AreLeavesAt, IsAcknowledgedAt}
-use Rattle.mcv_blocks.specs.Merged.{leaves_of}
+use Rattle.mcv_blocks.specs.MergedLegs.{leaves_of}
 use Rattle.mcv_blocks.proofs.Parts.{acknowledged_legs}
 use Rattle.mcv_blocks.proofs.sets.Sets.acknowledged.Goals as goal
 

@@ -1,9 +1,9 @@
 use Rattle.std.proofs.Common.{◌≡◌, ap, ◌∙◌}
 use Rattle.std.proofs.lemmas.Result.{IfOk-weaker}
-use Rattle.mcv_judge.specs.InMemory.{legs_of}
-use Rattle.mcv_symbolic.specs.Justified.{IsReadableAt}
+use Rattle.mcv_judge.specs.PairsInMemory.{legs_of}
+use Rattle.mcv_symbolic.specs.JustifiedRoutes.{IsReadableAt}
 use Rattle.mcv_blocks.specs.Blocks.{AreLeavesAt}
-use Rattle.mcv_blocks.specs.Merged.{leaves_of, merge}
+use Rattle.mcv_blocks.specs.MergedLegs.{leaves_of, merge}
 use Rattle.mcv_blocks.proofs.Parts.{readable_legs}
 use Rattle.mcv_blocks.proofs.sets.Sets.readable.Goals as goal
 

@@ -1,8 +1,8 @@
 use Rattle.std.proofs.Common.{◌≡◌, ◌+◌, ◌++◌, ◌∷◌, [], Some, arith, length, ap, sym, subst, ◌∙◌}
 use Rattle.std.specs.List.{AllPairs}
 use Rattle.mcv_classes.specs.Class.{ClassValue, IsBefore}
-use Rattle.mcv_classes.proofs.Linked.{item-inside, item-text, length-texts}
-use Rattle.mcv_classes.proofs.Listed.{AreListed, all-listed, listed-next, passed-over}
+use Rattle.mcv_classes.proofs.Links.{item-inside, item-text, length-texts}
+use Rattle.mcv_classes.proofs.ClassLists.{AreListed, all-listed, listed-next, passed-over}
 use Rattle.mcv_classes.proofs.table.ClassTable.classes.Goals as goal
 
 pub loop-word-preserved-in_default : goal.loop-word-preserved-in_default

@@ -1,4 +1,4 @@
-use Rattle.mcv_classes.proofs.Listed.{AreListed}
+use Rattle.mcv_classes.proofs.ClassLists.{AreListed}
 use Rattle.mcv_classes.proofs.table.ClassTable.classes.Given as goal
 
 -- the classes of the words so far are there

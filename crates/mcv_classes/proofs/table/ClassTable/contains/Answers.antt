@@ -1,7 +1,7 @@
 use Rattle.std.proofs.Common.{sym, subst, ◌∙◌}
 use Rattle.std.specs.List.{Contains}
 use Rattle.std.proofs.lemmas.Slice.Eq.{bytes_eq-Decides}
-use Rattle.mcv_classes.proofs.Found.{word-itself}
+use Rattle.mcv_classes.proofs.LastWord.{word-itself}
 use Rattle.mcv_classes.proofs.table.ClassTable.contains.Goals as goal
 
 pub returns : goal.returns

@@ -3,7 +3,7 @@ use Rattle.std.proofs.lemmas.List.{map_push}
 use Rattle.std.proofs.lemmas.Iterator.Consumers.{YieldsList-end}
 use Rattle.std.proofs.lemmas.Iterator.Adapters.{YieldsList-from_vec}
 use Rattle.mcv_classes.specs.Table.{bytes_of}
-use Rattle.mcv_classes.proofs.Built.{IsMade, table-made, word-made}
+use Rattle.mcv_classes.proofs.TableOfWords.{IsMade, table-made, word-made}
 use Rattle.mcv_classes.proofs.table.ClassTable.linked.Goals as goal
 
 pub loop-word-preserved : goal.loop-word-preserved

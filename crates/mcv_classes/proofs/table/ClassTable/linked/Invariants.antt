@@ -1,5 +1,5 @@
 use Rattle.mcv_classes.specs.Table.{bytes_of}
-use Rattle.mcv_classes.proofs.Built.{IsMade}
+use Rattle.mcv_classes.proofs.TableOfWords.{IsMade}
 use Rattle.mcv_classes.proofs.table.ClassTable.linked.Given as goal
 
 -- the words so far are in the table, and those that are left come after them

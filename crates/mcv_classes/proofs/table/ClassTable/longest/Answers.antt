@@ -1,8 +1,8 @@
 use Rattle.std.proofs.Common.{◌<◌, arith, rules, length, ap, sym, subst, ◌∙◌}
 use Rattle.std.proofs.lemmas.List.Sorted.{IsPartitionPoint-from_clause}
 use Rattle.mcv_classes.specs.Table.{IsLinked, texts_of, word_at}
-use Rattle.mcv_classes.proofs.Found.{class-word, passed-below, passed-some, passes, passes-first}
-use Rattle.mcv_classes.proofs.Linked.{length-texts, text-at}
+use Rattle.mcv_classes.proofs.LastWord.{class-word, passed-below, passed-some, passes, passes-first}
+use Rattle.mcv_classes.proofs.Links.{length-texts, text-at}
 use Rattle.mcv_classes.proofs.table.ClassTable.longest.Goals as goal
 
 pub overflow_sub-passed : goal.overflow_sub-passed

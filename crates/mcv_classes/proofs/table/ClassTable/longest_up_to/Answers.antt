@@ -1,6 +1,6 @@
 use Rattle.std.proofs.Common.{arith, sym, ◌∙◌}
 use Rattle.mcv_base.specs.Key.{begins_with}
-use Rattle.mcv_classes.proofs.Linked.{walks-down}
+use Rattle.mcv_classes.proofs.Links.{walks-down}
 use Rattle.mcv_classes.proofs.table.ClassTable.longest_up_to.Goals as goal
 
 pub loop-self-preserved : goal.loop-self-preserved

@@ -1,5 +1,5 @@
 use Rattle.std.proofs.Common.{◌<◌, length}
-use Rattle.mcv_classes.proofs.Linked.{AreBelow}
+use Rattle.mcv_classes.proofs.Links.{AreBelow}
 use Rattle.mcv_classes.proofs.table.ClassTable.longest_up_to.Given as goal
 
 -- the place is one of the table's, and each word with which the bytes begin is one with which the word there begins

@@ -3,7 +3,7 @@ use Rattle.std.proofs.lemmas.Result.{IfOk-weaker}
 use Rattle.mcv_route.specs.View.{view}
 use Rattle.mcv_classes.specs.Table.{IsWordTable, bytes_of}
 use Rattle.mcv_classes.specs.Words.{class_words, prefixes_in}
-use Rattle.mcv_classes.proofs.Built.{in-order, table-of}
+use Rattle.mcv_classes.proofs.TableOfWords.{in-order, table-of}
 use Rattle.mcv_classes.proofs.table.ClassTable.new.Goals as goal
 
 pub linked-requires : goal.linked-requires

@@ -1,6 +1,6 @@
 use Rattle.std.proofs.Common.{arith, sym, subst}
 use Rattle.mcv_classes.specs.Table.{IsLinked}
-use Rattle.mcv_classes.proofs.Linked.{below-last, grown-at}
+use Rattle.mcv_classes.proofs.Links.{below-last, grown-at}
 use Rattle.mcv_classes.proofs.table.ClassTable.push.Goals as goal
 
 pub longest_up_to-shorter-requires-clause-before : goal.longest_up_to-shorter-requires-clause-before

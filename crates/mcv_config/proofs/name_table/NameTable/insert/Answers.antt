@@ -2,7 +2,7 @@ use Rattle.std.proofs.Common.{ap, ◌∙◌, map}
 use Rattle.std.specs.Str.{bytes_eq}
 use Rattle.std.specs.String.{string_bytes}
 use Rattle.mcv_pools.specs.Table.{with_entry}
-use Rattle.mcv_config.proofs.Noted.{noted}
+use Rattle.mcv_config.proofs.NameSets.{noted}
 use Rattle.mcv_config.proofs.name_table.NameTable.insert.Goals as goal
 
 pub returns : goal.returns

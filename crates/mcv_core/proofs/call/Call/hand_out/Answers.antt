@@ -5,13 +5,13 @@ use Rattle.mcv_base.specs.Reply.{part_value}
 use Rattle.mcv_core.specs.Launching.{places_of}
 use Rattle.mcv_core.specs.Rows.{taken_at}
 use Rattle.mcv_core.specs.Taking.{kept_of}
-use Rattle.mcv_core.proofs.HandingOut
+use Rattle.mcv_core.proofs.HandedParts
 use Rattle.mcv_core.proofs.call.Call.hand_out.Goals as goal
 
 pub index_mut-requires : goal.index_mut-requires
 index_mut-requires c =
     let there : is_some (taken_at c.args.self.now.recorded.items c.in-Some.place) ≡ true = search rules in
-    let low = HandingOut.there_low c.args.self.now.recorded.items c.in-Some.place there in
+    let low = HandedParts.there_low c.args.self.now.recorded.items c.in-Some.place there in
     search rules
 
 pub returns-clause-kept : goal.returns-clause-kept
@@ -19,16 +19,16 @@ returns-clause-kept c =
     let xs = c.args.self.now.recorded.items in
     let place = c.in-Some.place in
     let there : is_some (taken_at xs place) ≡ true = search rules in
-    let low = HandingOut.there_low xs place there in
+    let low = HandedParts.there_low xs place there in
     let at : slice_get xs place ≡ Some c.index_mut.result.now = slice_get_read xs (length xs) place c.index_mut.result.now refl low c.index_mut.ensures.value in
-    record { items = HandingOut.kept_set xs place c.index_mut.result.now c.hand_out.new.self at (ap kept_of c.hand_out.ensures.same); capacity = refl }
+    record { items = HandedParts.kept_set xs place c.index_mut.result.now c.hand_out.new.self at (ap kept_of c.hand_out.ensures.same); capacity = refl }
 
 pub returns-clause-value : goal.returns-clause-value
 returns-clause-value c =
     let xs = c.args.self.now.recorded.items in
     let place = c.in-Some.place in
     let there : is_some (taken_at xs place) ≡ true = search rules in
-    let low = HandingOut.there_low xs place there in
+    let low = HandedParts.there_low xs place there in
     let at : slice_get xs place ≡ Some c.index_mut.result.now = slice_get_read xs (length xs) place c.index_mut.result.now refl low c.index_mut.ensures.value in
     let here : places_of c.args.self.now.entries.items c.args.entry ≡ Some place = sym c.place_of.ensures ∙ c.in-Some.is in
     ap (option_map part_value) c.hand_out.ensures.part ∙ sym (ap (option_and_then (taken_at xs)) here ∙ ap (option_and_then (λ h. option_map part_value h.taken)) at)
@@ -38,7 +38,7 @@ returns-clause-none c none =
     let xs = c.args.self.now.recorded.items in
     let place = c.in-Some.place in
     let there : is_some (taken_at xs place) ≡ true = search rules in
-    let low = HandingOut.there_low xs place there in
+    let low = HandedParts.there_low xs place there in
     let at : slice_get xs place ≡ Some c.index_mut.result.now = slice_get_read xs (length xs) place c.index_mut.result.now refl low c.index_mut.ensures.value in
     absurd (true≢false (sym there ∙ ap is_some (ap (option_and_then (λ h. option_map part_value h.taken)) at ∙ ap (option_map part_value) (sym c.hand_out.ensures.part ∙ none))))
 
@@ -48,4 +48,4 @@ returns-then-not-is_there-clause-value c =
     let place = c.in-Some.place in
     let gone : is_some (taken_at xs place) ≡ false = search rules in
     let here : places_of c.args.self.now.entries.items c.args.entry ≡ Some place = sym c.place_of.ensures ∙ c.in-Some.is in
-    sym (ap (option_and_then (taken_at xs)) here ∙ HandingOut.not_there (taken_at xs place) gone)
+    sym (ap (option_and_then (taken_at xs)) here ∙ HandedParts.not_there (taken_at xs place) gone)

@@ -1,5 +1,5 @@
 use Rattle.std.proofs.Common.{◌≡◌, ◌∙◌, ap, refl, arith}
-use Rattle.mcv_core.specs.Tracked.{fresh}
+use Rattle.mcv_core.specs.CallProgress.{fresh}
 use Rattle.mcv_queues.specs.Queues.{legs, room, servers as known}
 use Rattle.mcv_world.specs.World.{tree_of, situation_of, choice_of}
 use Rattle.mcv_core.specs.Rows.{call_of, entries_of, past_of}

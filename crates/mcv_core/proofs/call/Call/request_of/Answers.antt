@@ -10,7 +10,7 @@ use Rattle.mcv_core.specs.Readers.{request_in}
 use Rattle.mcv_core.specs.Requests.{heard_by}
 use Rattle.mcv_core.specs.Rows.{call_of}
 use Rattle.mcv_core.proofs.Requests.{by_parts, no_route, route_there, without_place, without_route}
-use Rattle.mcv_core.proofs.Tracking.{launch_get}
+use Rattle.mcv_core.proofs.StateFollowsOutcomes.{launch_get}
 use Rattle.mcv_core.proofs.call.Call.request_of.Goals as goal
 
 pub returns-in_default : goal.returns-in_default

@@ -2,12 +2,12 @@ use Rattle.std.proofs.Common.{◌≡◌, ◌∙◌, ap, sym, subst, rules}
 use Rattle.std.specs.Option.{option_copied_mut}
 use Rattle.std.proofs.Math.Path.{fun_ext}
 use Rattle.mcv_base.specs.Reply.{part_value}
-use Rattle.mcv_core.specs.Tracked.{launch_at}
+use Rattle.mcv_core.specs.CallProgress.{launch_at}
 use Rattle.mcv_queues.specs.Queues.{legs, room as leg_room, servers as known}
 use Rattle.mcv_route.specs.Routes.{RoutesValue}
 use Rattle.mcv_world.proofs.Numbers.{same_some}
 use Rattle.mcv_events.specs.Rows.{CanRecord, IsCore, Rows}
-use Rattle.mcv_core.specs.Noting.{CanNote, HasRecorded}
+use Rattle.mcv_core.specs.Recordings.{CanNote, HasRecorded}
 use Rattle.mcv_core.specs.Rows.{call_row, entries_of, IsRunning}
 use Rattle.mcv_core.proofs.calls.Calls.hear.Goals as goal
 

@@ -8,31 +8,31 @@ use Rattle.mcv_core.specs.Calls.{calls_at}
 use Rattle.mcv_core.specs.Facts.{records_in}
 use Rattle.mcv_core.specs.CoreView.{Moved}
 use Rattle.mcv_core.specs.Rows.{rows_of, state_of}
-use Rattle.mcv_core.specs.Sound.{IsSound}
-use Rattle.mcv_core.specs.Tracked.{fresh}
+use Rattle.mcv_core.specs.Soundness.{IsSound}
+use Rattle.mcv_core.specs.CallProgress.{fresh}
 use Rattle.mcv_core.specs.View.{core_view, since_of}
-use Rattle.mcv_core.proofs.Begun
+use Rattle.mcv_core.proofs.BegunCalls
 use Rattle.mcv_core.proofs.SpoolNumbers
 use Rattle.mcv_core.proofs.dispatcher.Dispatcher.add.Goals as goal
 
 pub launch-launched-requires-clause-can : goal.launch-launched-requires-clause-can
-launch-launched-requires-clause-can c = Begun.can_launch c.args.self.now c.args.call c.requires
+launch-launched-requires-clause-can c = BegunCalls.can_launch c.args.self.now c.args.call c.requires
 
 pub launch-launched-requires-clause-left : goal.launch-launched-requires-clause-left
-launch-launched-requires-clause-left c = Begun.fresh_within c.args.self.now c.args.call c.requires
+launch-launched-requires-clause-left c = BegunCalls.fresh_within c.args.self.now c.args.call c.requires
 
 pub number_after-self-requires : goal.number_after-self-requires
 number_after-self-requires c =
-    let within = Begun.fresh_within c.args.self.now c.args.call c.requires in
+    let within = BegunCalls.fresh_within c.args.self.now c.args.call c.requires in
     let n = c.launch-launched.ensures.count in
     let fit = c.requires.has_room.legs.leg_numbers in
     omega (arith, within, n, fit)
 
 pub begun-self-requires-clause-within : goal.begun-self-requires-clause-within
-begun-self-requires-clause-within c = let within = Begun.fresh_within c.args.self.now c.args.call c.requires in let n = c.launch-launched.ensures.count in omega (arith, within, n)
+begun-self-requires-clause-within c = let within = BegunCalls.fresh_within c.args.self.now c.args.call c.requires in let n = c.launch-launched.ensures.count in omega (arith, within, n)
 
 pub begun-self-requires-clause-running : goal.begun-self-requires-clause-running
-begun-self-requires-clause-running c = let few = Begun.runs_fit c.args.self.now c.args.call c.requires in let fit = c.requires.has_room.legs.call_numbers in omega (arith, few, fit)
+begun-self-requires-clause-running c = let few = BegunCalls.runs_fit c.args.self.now c.args.call c.requires in let fit = c.requires.has_room.legs.call_numbers in omega (arith, few, fit)
 
 pub invariant_of-self : goal.invariant_of-self
 invariant_of-self c =
@@ -43,7 +43,7 @@ invariant_of-self c =
     c.add.ensures ∙ ap (λ v. put (calls_at d.calls) d.next_call (Some v)) c.launch-launched.ensures.same in
     let reserved = c.begun-self.ensures.reserved in
     let queued = c.begun-self.ensures.queued in
-    let sound = Begun.sound_begun d call c.requires c.launch-launched.new.self.entries c.launch-launched.new.queues c.launch-launched.ensures.launched c.add.new.self calls_are c.begun-self.result (omega (arith, reserved, n)) (omega (arith, queued, n))
+    let sound = BegunCalls.sound_begun d call c.requires c.launch-launched.new.self.entries c.launch-launched.new.queues c.launch-launched.ensures.launched c.add.new.self calls_are c.begun-self.result (omega (arith, reserved, n)) (omega (arith, queued, n))
     c.begun-self.ensures.spooled c.begun-self.ensures.running c.launch-launched.ensures.room c.launch-launched.ensures.servers in
     let next : suc d.next_call ≡ d.next_call + 1 = omega arith in
     let number : d.next_leg + length (fresh call.state) ≡ c.number_after-self.result = let e = c.number_after-self.ensures in omega (arith, e, n) in
@@ -66,16 +66,16 @@ returns-clause-view c =
     let number : c.number_after-self.result ≡ d.next_leg + length (fresh call.state) = let e = c.number_after-self.ensures in omega (arith, e, n) in
     let rows = ap (λ k. rows_of (calls_at c.add.new.self) (legs c.launch-launched.new.queues) (since_of d) k c.number_after-self.result) next
     ∙ ap (λ m. rows_of (calls_at c.add.new.self) (legs c.launch-launched.new.queues) (since_of d) (suc d.next_call) m) number
-    ∙ Begun.rows_are d call c.requires c.launch-launched.new.self.entries c.launch-launched.new.queues c.launch-launched.ensures.launched c.add.new.self calls_are state_of refl in
+    ∙ BegunCalls.rows_are d call c.requires c.launch-launched.new.self.entries c.launch-launched.new.queues c.launch-launched.ensures.launched c.add.new.self calls_are state_of refl in
     let entries = ap (λ m. d.entries + (2 + 3 * m)) c.requires.unlaunched.left in
     let flights = fun_ext c.launch-launched.ensures.flights in
     λ j. record (core_view d) { rows = rows j; flights = flights j; entries = entries j }
 
 pub returns-clause-moves : goal.returns-clause-moves
-returns-clause-moves c = subst (λ v. Moved (core_view c.args.self.now) v (began_by c.args.call)) (sym (returns-clause-view c)) (Begun.moved c.args.self.now c.args.call c.requires)
+returns-clause-moves c = subst (λ v. Moved (core_view c.args.self.now) v (began_by c.args.call)) (sym (returns-clause-view c)) (BegunCalls.moved c.args.self.now c.args.call c.requires)
 
 pub returns-clause-records : goal.returns-clause-records
 returns-clause-records c =
     let d = c.args.self.now in
     ap records_in c.launch-launched.ensures.launched.legs_are
-    ∙ SpoolNumbers.records_launched d.next_leg (fresh c.args.call.state) c.args.call.entries.items (legs d.queues) (Begun.can_launch d c.args.call c.requires).free
+    ∙ SpoolNumbers.records_launched d.next_leg (fresh c.args.call.state) c.args.call.entries.items (legs d.queues) (BegunCalls.can_launch d c.args.call c.requires).free

@@ -7,13 +7,13 @@ use Rattle.mcv_queues.specs.declared.leg.State.TheVariants as states
 use Rattle.mcv_world.specs.Moves.{is_error_reply}
 use Rattle.mcv_events.specs.QueuedLegs.{count_in}
 use Rattle.mcv_events.specs.Rows.{is_unanswered}
-use Rattle.mcv_core.specs.CoreView.{HasDone, at_row, finished, place_after, step_to}
+use Rattle.mcv_core.specs.CoreView.{HasDone, at_row, finished, state_after, step_to}
 use Rattle.mcv_core.specs.Rows.{awaiting_state, row_by, state_of}
 use Rattle.mcv_core.specs.Settling.{settled_row}
 use Rattle.mcv_core.specs.View.{core_view, records_after, records_of}
 use Rattle.mcv_core.specs.declared.settle.Settling.TheVariants as kinds
 use Rattle.mcv_core.specs.declared.step.Change.TheVariants as changes
-use Rattle.mcv_core.specs.declared.step.Place.TheVariants as places
+use Rattle.mcv_core.specs.declared.step.LegState.TheVariants as leg_states
 use Rattle.mcv_core.proofs.Landings
 use Rattle.mcv_core.proofs.LegViews
 use Rattle.mcv_core.proofs.SpoolNumbers
@@ -37,13 +37,13 @@ returns-clause-done c =
     let n = c.args.leg.0 in
     let l = Landings.seen (legs d.queues n) c.args.facts c.requires.at in
     let y = part_value c.args.counted.outcome in
-    let place : c.after-place.result ≡ place_after (row_by state_of l.leg) y =
-    c.after-place.ensures ∙ ap (λ b. cond (is_delete c.args.facts.op && not b) places.Performed places.Gone) c.is_error.ensures
-    ∙ ap (λ o. cond (is_delete o && not (is_error_reply y)) places.Performed places.Gone) (sym (ap (λ f. f.op) l.is)) in
-    subst (λ o. HasDone (at_row (finished (core_view d) n y) o) (core_view c.settle.new.self) (step_to c.after-place.result changes.Answered)) (sym (LegViews.there d n l.leg l.at))
-    (ap (λ p. step_to p changes.Answered) place, c.settle.ensures.view ∙ ap (settled_row (core_view d) n kinds.Gone y) (LegViews.there d n l.leg l.at))
+    let state : c.after-state.result ≡ state_after (row_by state_of l.leg) y =
+    c.after-state.ensures ∙ ap (λ b. cond (is_delete c.args.facts.op && not b) leg_states.Performed leg_states.Gone) c.is_error.ensures
+    ∙ ap (λ o. cond (is_delete o && not (is_error_reply y)) leg_states.Performed leg_states.Gone) (sym (ap (λ f. f.op) l.is)) in
+    subst (λ o. HasDone (at_row (finished (core_view d) n y) o) (core_view c.settle.new.self) (step_to c.after-state.result changes.Answered)) (sym (LegViews.there d n l.leg l.at))
+    (ap (λ p. step_to p changes.Answered) state, c.settle.ensures.view ∙ ap (settled_row (core_view d) n kinds.Gone y) (LegViews.there d n l.leg l.at))
 
 pub returns-clause-records : goal.returns-clause-records
 returns-clause-records c =
     let was = records_of c.args.self.now in
-    c.settle.ensures.records ∙ sym (ap (λ p. records_after p c.args.leg.0 was) c.after-place.ensures ∙ SpoolNumbers.records_gone (is_delete c.args.facts.op && not c.is_error.result) c.args.leg.0 was)
+    c.settle.ensures.records ∙ sym (ap (λ p. records_after p c.args.leg.0 was) c.after-state.ensures ∙ SpoolNumbers.records_gone (is_delete c.args.facts.op && not c.is_error.result) c.args.leg.0 was)

@@ -4,7 +4,7 @@ use Rattle.mcv_queues.specs.Groups.{is_in}
 use Rattle.mcv_queues.specs.Numbers.{IsLeast, leg_number}
 use Rattle.mcv_queues.specs.Queues.{legs}
 use Rattle.mcv_queues.specs.declared.roots.Group.TheVariants.{LegsInReplay}
-use Rattle.mcv_core.proofs.Resting
+use Rattle.mcv_core.proofs.IdleCores
 use Rattle.mcv_core.proofs.dispatcher.Dispatcher.is_at_rest.Goals as goal
 
 none_of : {A : Type 0} (o : Option A) → is_none o ≡ true → o ≡ None
@@ -19,7 +19,7 @@ pub returns-then-not-are_quiet : goal.returns-then-not-are_quiet
 returns-then-not-are_quiet c =
     let d = c.args.self.now in
     let noisy : c.are_quiet.result ≡ false = search rules in
-    (λ t. absurd (true≢false (sym t)), λ h. absurd (true≢false (sym (c.are_quiet.ensures.1 (Resting.rest_runs d h, Resting.rest_queues d h)) ∙ noisy)))
+    (λ t. absurd (true≢false (sym t)), λ h. absurd (true≢false (sym (c.are_quiet.ensures.1 (IdleCores.rest_runs d h, IdleCores.rest_queues d h)) ∙ noisy)))
 
 pub returns : goal.returns
 returns c =
@@ -27,6 +27,6 @@ returns c =
     let quiet : c.are_quiet.result ≡ true = search rules in
     let zeros = c.are_quiet.ensures.0 quiet in
     let test : c.is_none.result ≡ is_none c.in_replay.result = search rules in (
-      λ t. Resting.at_rest d zeros.0 zeros.1 (subst (λ o. IsLeast (is_in (legs d.queues) LegsInReplay) (option_map leg_number o)) (none_of c.in_replay.result (sym test ∙ t)) c.in_replay.ensures),
-      λ h. test ∙ none_from leg_number c.in_replay.result (Resting.rest_replays d h (option_map leg_number c.in_replay.result) c.in_replay.ensures),
+      λ t. IdleCores.at_rest d zeros.0 zeros.1 (subst (λ o. IsLeast (is_in (legs d.queues) LegsInReplay) (option_map leg_number o)) (none_of c.in_replay.result (sym test ∙ t)) c.in_replay.ensures),
+      λ h. test ∙ none_from leg_number c.in_replay.result (IdleCores.rest_replays d h (option_map leg_number c.in_replay.result) c.in_replay.ensures),
     )

@@ -5,10 +5,10 @@ use Rattle.mcv_queues.specs.Marks.{lost_mark, marks}
 use Rattle.mcv_queues.specs.Queues.{legs}
 use Rattle.mcv_core.specs.Errands.{launch_of}
 use Rattle.mcv_core.specs.View.{core_view}
-use Rattle.mcv_core.proofs.Does
+use Rattle.mcv_core.proofs.LegEventsAreMoves
 use Rattle.mcv_core.proofs.Landings
 use Rattle.mcv_core.proofs.LegViews
-use Rattle.mcv_core.proofs.Keeping
+use Rattle.mcv_core.proofs.DeletesStayKept
 use Rattle.mcv_core.specs.CoreView.{change_move}
 use Rattle.mcv_base.specs.declared.reply.FixedReply.TheVariants.{Lost}
 use Rattle.mcv_base.specs.Reply.{fixed_value}
@@ -28,13 +28,13 @@ returns-in-Ok-clause-effect c =
     (core_view c.land.new.self) c.land.result (Landings.marked_view d c.lost.new.self c.in-Ok.facts.server.0 (launch_of l.leg.content).server.0 lost_mark c.lost.ensures.marks server) c.land.ensures.done
 
 pub returns-in-Ok-clause-does : goal.returns-in-Ok-clause-does
-returns-in-Ok-clause-does c = Does.loss_does (core_view c.args.self.now) (core_view c.land.new.self) c.args.leg.0 c.land.result c.args.self.now.sound.core (returns-in-Ok-clause-effect c)
+returns-in-Ok-clause-does c = LegEventsAreMoves.loss_does (core_view c.args.self.now) (core_view c.land.new.self) c.args.leg.0 c.land.result c.args.self.now.sound.core (returns-in-Ok-clause-effect c)
 
 pub returns-in-Err-clause-effect : goal.returns-in-Err-clause-effect
 returns-in-Err-clause-effect c = Landings.loss_refused c.args.self.now c.args.leg.0 c.in-Err.fault c.in-Err.ensures.refused.1 c.in-Err.ensures.refused.0
 
 pub returns-in-Ok-clause-keeps : goal.returns-in-Ok-clause-keeps
-returns-in-Ok-clause-keeps c = Keeping.events_keep_deletes (core_view c.args.self.now) (core_view c.land.new.self) (change_move c.args.leg.0 (fixed_value Lost) c.land.result.change) (returns-in-Ok-clause-does c)
+returns-in-Ok-clause-keeps c = DeletesStayKept.events_keep_deletes (core_view c.args.self.now) (core_view c.land.new.self) (change_move c.args.leg.0 (fixed_value Lost) c.land.result.change) (returns-in-Ok-clause-does c)
 
 pub returns-in-Ok-clause-chapter : goal.returns-in-Ok-clause-chapter
 returns-in-Ok-clause-chapter c = Chapters.loss_chapter (core_view c.args.self.now) (core_view c.land.new.self) c.args.leg.0 (Ok c.land.result) (returns-in-Ok-clause-effect c)

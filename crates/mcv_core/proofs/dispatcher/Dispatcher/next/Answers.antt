@@ -5,7 +5,7 @@ use Rattle.mcv_core.specs.Facts.{records_in}
 use Rattle.mcv_core.proofs.LegViews
 use Rattle.mcv_core.proofs.Sendings
 use Rattle.mcv_core.proofs.SpoolNumbers
-use Rattle.mcv_core.proofs.Keeping
+use Rattle.mcv_core.proofs.DeletesStayKept
 use Rattle.mcv_core.specs.View.{core_view}
 use Rattle.mcv_core.proofs.dispatcher.Dispatcher.next.Goals as goal
 
@@ -41,4 +41,4 @@ pub returns-in-Ok-clause-records : goal.returns-in-Ok-clause-records
 returns-in-Ok-clause-records c = ap records_in c.in-Ok.ensures.legs ∙ SpoolNumbers.records_kept (legs c.args.self.now.queues) c.in-Ok.leg.0 states.Sent
 
 pub returns-in-Ok-clause-keeps : goal.returns-in-Ok-clause-keeps
-returns-in-Ok-clause-keeps c = Keeping.events_keep_deletes (core_view c.args.self.now) _ None (returns-in-Ok-clause-does c)
+returns-in-Ok-clause-keeps c = DeletesStayKept.events_keep_deletes (core_view c.args.self.now) _ None (returns-in-Ok-clause-does c)

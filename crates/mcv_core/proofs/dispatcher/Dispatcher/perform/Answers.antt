@@ -6,7 +6,7 @@ use Rattle.mcv_core.specs.CoreView.{HasDone, at_row, replayed_in, step_to}
 use Rattle.mcv_core.specs.Facts.{records_in}
 use Rattle.mcv_core.specs.View.{core_view}
 use Rattle.mcv_core.specs.declared.step.Change.TheVariants as changes
-use Rattle.mcv_core.specs.declared.step.Place.TheVariants as places
+use Rattle.mcv_core.specs.declared.step.LegState.TheVariants as leg_states
 use Rattle.mcv_core.proofs.Landings.{stated}
 use Rattle.mcv_core.proofs.LegViews
 use Rattle.mcv_core.proofs.SpoolNumbers
@@ -39,7 +39,7 @@ pub returns-clause-done : goal.returns-clause-done
 returns-clause-done c =
     let d = c.args.self.now in
     let l = stated (legs d.queues c.args.leg.0) states.InReplay c.requires in
-    subst (λ o. HasDone (at_row (replayed_in (core_view d) c.args.leg.0 false) o) (LegViews.view_with d c.gone.new.self) (step_to places.Performed changes.Performed)) (sym (LegViews.there d c.args.leg.0 l.leg l.at))
+    subst (λ o. HasDone (at_row (replayed_in (core_view d) c.args.leg.0 false) o) (LegViews.view_with d c.gone.new.self) (step_to leg_states.Performed changes.Performed)) (sym (LegViews.there d c.args.leg.0 l.leg l.at))
     (refl, LegViews.gone_view d c.args.leg.0 l.leg l.at c.gone.new.self c.gone.ensures.legs (ap is_flight l.is) c.gone.ensures.flights)
 
 pub returns-clause-records : goal.returns-clause-records

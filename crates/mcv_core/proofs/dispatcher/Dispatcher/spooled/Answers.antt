@@ -6,9 +6,9 @@ use Rattle.mcv_world.specs.World.{put}
 use Rattle.mcv_core.specs.CoreView.{is_record}
 use Rattle.mcv_core.specs.Rows.{state_of}
 use Rattle.mcv_core.specs.View.{core_view, records_of}
-use Rattle.mcv_core.proofs.Does
+use Rattle.mcv_core.proofs.LegEventsAreMoves
 use Rattle.mcv_core.proofs.Landings
-use Rattle.mcv_core.proofs.Keeping
+use Rattle.mcv_core.proofs.DeletesStayKept
 use Rattle.mcv_core.specs.CoreView.{change_move}
 use Rattle.mcv_base.specs.Reply.{not_found}
 use Rattle.mcv_core.proofs.Chapters
@@ -25,7 +25,7 @@ returns-in-Held-clause-effect c =
 
 pub returns-in-Held-clause-does : goal.returns-in-Held-clause-does
 returns-in-Held-clause-does c =
-    Does.spooling_does (core_view c.args.self.now) (core_view c.store_held.new.self) c.args.leg.0 c.args.stored.«record».server c.args.stored.«record».rest c.store_held.result c.args.self.now.sound.core (returns-in-Held-clause-effect c)
+    LegEventsAreMoves.spooling_does (core_view c.args.self.now) (core_view c.store_held.new.self) c.args.leg.0 c.args.stored.«record».server c.args.stored.«record».rest c.store_held.result c.args.self.now.sound.core (returns-in-Held-clause-effect c)
 
 pub returns-in-Refused-clause-effect : goal.returns-in-Refused-clause-effect
 returns-in-Refused-clause-effect c =
@@ -38,7 +38,7 @@ returns-in-Refused-clause-effect c =
 
 pub returns-in-Refused-clause-does : goal.returns-in-Refused-clause-does
 returns-in-Refused-clause-does c =
-    Does.spooling_does (core_view c.args.self.now) (core_view c.store_refused.new.self) c.args.leg.0 c.args.stored.«record».server c.args.stored.«record».rest c.store_refused.result c.args.self.now.sound.core (returns-in-Refused-clause-effect c)
+    LegEventsAreMoves.spooling_does (core_view c.args.self.now) (core_view c.store_refused.new.self) c.args.leg.0 c.args.stored.«record».server c.args.stored.«record».rest c.store_refused.result c.args.self.now.sound.core (returns-in-Refused-clause-effect c)
 
 pub returns-in-Held-clause-records : goal.returns-in-Held-clause-records
 returns-in-Held-clause-records c =
@@ -49,10 +49,10 @@ returns-in-Refused-clause-records c =
     c.store_refused.ensures.records ∙ ap (λ q. put (records_of c.args.self.now) c.args.leg.0 (Some q)) c.seq-in-Refused.ensures
 
 pub returns-in-Held-clause-keeps : goal.returns-in-Held-clause-keeps
-returns-in-Held-clause-keeps c = Keeping.events_keep_deletes (core_view c.args.self.now) (core_view c.store_held.new.self) (change_move c.args.leg.0 not_found c.store_held.result.change) (returns-in-Held-clause-does c)
+returns-in-Held-clause-keeps c = DeletesStayKept.events_keep_deletes (core_view c.args.self.now) (core_view c.store_held.new.self) (change_move c.args.leg.0 not_found c.store_held.result.change) (returns-in-Held-clause-does c)
 
 pub returns-in-Refused-clause-keeps : goal.returns-in-Refused-clause-keeps
-returns-in-Refused-clause-keeps c = Keeping.events_keep_deletes (core_view c.args.self.now) (core_view c.store_refused.new.self) (change_move c.args.leg.0 not_found c.store_refused.result.change) (returns-in-Refused-clause-does c)
+returns-in-Refused-clause-keeps c = DeletesStayKept.events_keep_deletes (core_view c.args.self.now) (core_view c.store_refused.new.self) (change_move c.args.leg.0 not_found c.store_refused.result.change) (returns-in-Refused-clause-does c)
 
 pub returns-in-Held-clause-chapter : goal.returns-in-Held-clause-chapter
 returns-in-Held-clause-chapter c =

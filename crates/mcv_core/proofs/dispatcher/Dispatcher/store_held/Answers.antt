@@ -11,7 +11,7 @@ use Rattle.mcv_core.specs.Settling.{settled_row}
 use Rattle.mcv_core.specs.View.{core_view}
 use Rattle.mcv_core.specs.declared.settle.Settling.TheVariants as kinds
 use Rattle.mcv_core.specs.declared.step.Change.TheVariants as changes
-use Rattle.mcv_core.specs.declared.step.Place.TheVariants as places
+use Rattle.mcv_core.specs.declared.step.LegState.TheVariants as leg_states
 use Rattle.mcv_core.proofs.Landings
 use Rattle.mcv_core.proofs.LegViews
 use Rattle.mcv_core.proofs.dispatcher.Dispatcher.store_held.Goals as goal
@@ -32,7 +32,7 @@ pub returns-clause-done : goal.returns-clause-done
 returns-clause-done c =
     let d = c.args.self.now in
     let l = Landings.stated (legs d.queues c.args.leg.0) states.Held c.requires in
-    subst (λ o. HasDone (at_row (stores (core_view d) c.args.leg.0) o) (core_view c.settle.new.self) (step_to places.Spooled changes.Spooled)) (sym (LegViews.there d c.args.leg.0 l.leg l.at)) (
+    subst (λ o. HasDone (at_row (stores (core_view d) c.args.leg.0) o) (core_view c.settle.new.self) (step_to leg_states.Spooled changes.Spooled)) (sym (LegViews.there d c.args.leg.0 l.leg l.at)) (
       refl,
       c.settle.ensures.view ∙ ap (settled_row (core_view d) c.args.leg.0 (kinds.InSpool c.args.seq) (part_value c.not_found-reply.result.outcome)) (LegViews.there d c.args.leg.0 l.leg l.at)
           ∙ ap (λ x. settled_row (core_view d) c.args.leg.0 (kinds.InSpool c.args.seq) x (Some (row_by state_of l.leg))) c.not_found-reply.ensures.outcome,

@@ -7,9 +7,9 @@ use Rattle.mcv_core.specs.Facts.{records_in}
 use Rattle.mcv_core.specs.Rows.{state_of}
 use Rattle.mcv_core.specs.View.{core_view}
 use Rattle.mcv_core.specs.declared.step.Change.TheVariants as changes
-use Rattle.mcv_core.specs.declared.step.Place.TheVariants as places
+use Rattle.mcv_core.specs.declared.step.LegState.TheVariants as leg_states
 use Rattle.mcv_events.specs.QueuedLegs.{count_in}
-use Rattle.mcv_core.specs.Sound.{spooled_in}
+use Rattle.mcv_core.specs.Soundness.{spooled_in}
 use Rattle.mcv_core.proofs.Landings
 use Rattle.mcv_core.proofs.Landings.{stated}
 use Rattle.mcv_core.proofs.LegViews
@@ -42,7 +42,7 @@ pub returns-clause-done : goal.returns-clause-done
 returns-clause-done c =
     let d = c.args.self.now in
     let l = stated (legs d.queues c.args.leg.0) states.Refused c.requires in
-    subst (λ o. HasDone (at_row (stores (core_view d) c.args.leg.0) o) (LegViews.view_with d c.spooled.new.self) (step_to places.Spooled changes.Spooled)) (sym (LegViews.there d c.args.leg.0 l.leg l.at))
+    subst (λ o. HasDone (at_row (stores (core_view d) c.args.leg.0) o) (LegViews.view_with d c.spooled.new.self) (step_to leg_states.Spooled changes.Spooled)) (sym (LegViews.there d c.args.leg.0 l.leg l.at))
     (refl, Landings.stored_view d c.args.leg.0 l.leg l.at l.is c.args.seq c.spooled.new.self c.spooled.ensures.legs c.spooled.ensures.flights)
 
 pub returns-clause-records : goal.returns-clause-records

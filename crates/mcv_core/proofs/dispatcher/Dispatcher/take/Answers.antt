@@ -5,11 +5,11 @@ use Rattle.mcv_queues.specs.Queues.{legs, room, servers}
 use Rattle.mcv_world.specs.Moves.{Taken as WasTaken}
 use Rattle.mcv_core.specs.declared.take.Taking.{Taking}
 use Rattle.mcv_core.specs.Calls.{calls_at}
-use Rattle.mcv_core.specs.Sound.{IsSound}
+use Rattle.mcv_core.specs.Soundness.{IsSound}
 use Rattle.mcv_core.specs.View.{core_view, since_of}
-use Rattle.mcv_core.proofs.HandingOut
-use Rattle.mcv_core.proofs.Keeping
-use Rattle.mcv_core.proofs.Taken
+use Rattle.mcv_core.proofs.HandedParts
+use Rattle.mcv_core.proofs.DeletesStayKept
+use Rattle.mcv_core.proofs.TakenReplies
 use Rattle.mcv_core.proofs.dispatcher.Dispatcher.take.Goals as goal
 
 pub taken-self-requires : goal.taken-self-requires
@@ -17,10 +17,10 @@ taken-self-requires c =
     let d = c.args.self.now in
     let k = c.args.call.0 in
     let runs : is_some (calls_at d.calls k) ≡ true = sym c.take.ensures.runs ∙ ap is_some c.in-Some.is in
-    let found = Taken.found_of (calls_at d.calls) k runs in
+    let found = TakenReplies.found_of (calls_at d.calls) k runs in
     record {
-      reserved = Taken.left_fits d k c.take.new.self c.in-Some.taking c.in-Some.ensures.taken found;
-      running = Taken.runs d k c.take.new.self c.in-Some.taking c.in-Some.ensures.taken found;
+      reserved = TakenReplies.left_fits d k c.take.new.self c.in-Some.taking c.in-Some.ensures.taken found;
+      running = TakenReplies.runs d k c.take.new.self c.in-Some.taking c.in-Some.ensures.taken found;
     }
 
 -- no call has the number
@@ -39,9 +39,9 @@ invariant_of-self-2 c =
     let d = c.args.self.now in
     let k = c.args.call.0 in
     let runs : is_some (calls_at d.calls k) ≡ true = sym c.take.ensures.runs ∙ ap is_some c.in-Some.is in
-    let found = Taken.found_of (calls_at d.calls) k runs in
+    let found = TakenReplies.found_of (calls_at d.calls) k runs in
     record {
-      sound = Taken.sound_then d k c.take.new.self c.in-Some.taking c.in-Some.ensures.taken found c.remove_if.new.self c.remove_if.ensures c.taken-self.result c.taken-self.ensures.queued c.taken-self.ensures.spooled
+      sound = TakenReplies.sound_then d k c.take.new.self c.in-Some.taking c.in-Some.ensures.taken found c.remove_if.new.self c.remove_if.ensures c.taken-self.result c.taken-self.ensures.queued c.taken-self.ensures.spooled
           c.taken-self.ensures.reserved c.taken-self.ensures.running;
       table = d.table;
     }
@@ -51,38 +51,38 @@ returns-clause-moves c =
     let d = c.args.self.now in
     let k = c.args.call.0 in
     let runs : is_some (calls_at d.calls k) ≡ true = sym c.take.ensures.runs ∙ ap is_some c.in-Some.is in
-    let found = Taken.found_of (calls_at d.calls) k runs in
-    HandingOut.if_some_by c.in-Some.taking.part (λ p some. Taken.moves_then d k c.take.new.self c.in-Some.taking c.in-Some.ensures.taken found c.remove_if.new.self c.remove_if.ensures p some)
+    let found = TakenReplies.found_of (calls_at d.calls) k runs in
+    HandedParts.if_some_by c.in-Some.taking.part (λ p some. TakenReplies.moves_then d k c.take.new.self c.in-Some.taking c.in-Some.ensures.taken found c.remove_if.new.self c.remove_if.ensures p some)
 
 pub returns-clause-reply : goal.returns-clause-reply
 returns-clause-reply c =
     let d = c.args.self.now in
     let k = c.args.call.0 in
     let runs : is_some (calls_at d.calls k) ≡ true = sym c.take.ensures.runs ∙ ap is_some c.in-Some.is in
-    let found = Taken.found_of (calls_at d.calls) k runs in
-    HandingOut.if_some_by c.in-Some.taking.part (λ p some. Taken.reply_then d k c.take.new.self c.in-Some.taking c.in-Some.ensures.taken found c.remove_if.new.self c.remove_if.ensures p some)
+    let found = TakenReplies.found_of (calls_at d.calls) k runs in
+    HandedParts.if_some_by c.in-Some.taking.part (λ p some. TakenReplies.reply_then d k c.take.new.self c.in-Some.taking c.in-Some.ensures.taken found c.remove_if.new.self c.remove_if.ensures p some)
 
 pub returns-clause-none : goal.returns-clause-none
 returns-clause-none c =
     let d = c.args.self.now in
     let k = c.args.call.0 in
     let runs : is_some (calls_at d.calls k) ≡ true = sym c.take.ensures.runs ∙ ap is_some c.in-Some.is in
-    let found = Taken.found_of (calls_at d.calls) k runs in
-    HandingOut.if_none_by c.in-Some.taking.part (λ none. Taken.none_then d k c.take.new.self c.in-Some.taking c.in-Some.ensures.taken found c.remove_if.new.self c.remove_if.ensures none)
+    let found = TakenReplies.found_of (calls_at d.calls) k runs in
+    HandedParts.if_none_by c.in-Some.taking.part (λ none. TakenReplies.none_then d k c.take.new.self c.in-Some.taking c.in-Some.ensures.taken found c.remove_if.new.self c.remove_if.ensures none)
 
 pub returns-clause-view : goal.returns-clause-view
 returns-clause-view c =
     let d = c.args.self.now in
     let k = c.args.call.0 in
     let runs : is_some (calls_at d.calls k) ≡ true = sym c.take.ensures.runs ∙ ap is_some c.in-Some.is in
-    let found = Taken.found_of (calls_at d.calls) k runs in
-    HandingOut.if_some_by c.in-Some.taking.part (λ p some. Taken.view_then d k c.take.new.self c.in-Some.taking c.in-Some.ensures.taken found c.remove_if.new.self c.remove_if.ensures p some)
+    let found = TakenReplies.found_of (calls_at d.calls) k runs in
+    HandedParts.if_some_by c.in-Some.taking.part (λ p some. TakenReplies.view_then d k c.take.new.self c.in-Some.taking c.in-Some.ensures.taken found c.remove_if.new.self c.remove_if.ensures p some)
 
 pub returns-clause-keeps : goal.returns-clause-keeps
 returns-clause-keeps c =
     let d = c.args.self.now in
     let k = c.args.call.0 in
     let runs : is_some (calls_at d.calls k) ≡ true = sym c.take.ensures.runs ∙ ap is_some c.in-Some.is in
-    let found = Taken.found_of (calls_at d.calls) k runs in
-    HandingOut.if_some_by c.in-Some.taking.part
-    (λ p some. Keeping.events_keep_deletes (core_view d) _ (Some (WasTaken k)) (Taken.moves_then d k c.take.new.self c.in-Some.taking c.in-Some.ensures.taken found c.remove_if.new.self c.remove_if.ensures p some))
+    let found = TakenReplies.found_of (calls_at d.calls) k runs in
+    HandedParts.if_some_by c.in-Some.taking.part
+    (λ p some. DeletesStayKept.events_keep_deletes (core_view d) _ (Some (WasTaken k)) (TakenReplies.moves_then d k c.take.new.self c.in-Some.taking c.in-Some.ensures.taken found c.remove_if.new.self c.remove_if.ensures p some))

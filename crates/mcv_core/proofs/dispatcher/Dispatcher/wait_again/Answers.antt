@@ -7,7 +7,7 @@ use Rattle.mcv_core.specs.Facts.{records_in}
 use Rattle.mcv_core.specs.Rows.{state_of}
 use Rattle.mcv_core.specs.View.{core_view}
 use Rattle.mcv_core.specs.declared.step.Change.TheVariants as changes
-use Rattle.mcv_core.specs.declared.step.Place.TheVariants as places
+use Rattle.mcv_core.specs.declared.step.LegState.TheVariants as leg_states
 use Rattle.mcv_core.proofs.Landings.{stated}
 use Rattle.mcv_core.proofs.LegViews
 use Rattle.mcv_core.proofs.SpoolNumbers
@@ -31,7 +31,7 @@ pub returns-clause-done : goal.returns-clause-done
 returns-clause-done c =
     let d = c.args.self.now in
     let l = stated (legs d.queues c.args.leg.0) states.InReplay c.requires in
-    subst (λ o. HasDone (at_row (replayed_in (core_view d) c.args.leg.0 true) o) (LegViews.view_with d c.replay_failed.new.self) (step_to places.Spooled changes.Nothing)) (sym (LegViews.there d c.args.leg.0 l.leg l.at))
+    subst (λ o. HasDone (at_row (replayed_in (core_view d) c.args.leg.0 true) o) (LegViews.view_with d c.replay_failed.new.self) (step_to leg_states.Spooled changes.Nothing)) (sym (LegViews.there d c.args.leg.0 l.leg l.at))
     (refl, LegViews.waits_view d c.args.leg.0 l.leg l.at (ap state_of l.is) c.replay_failed.new.self c.replay_failed.ensures.legs (ap is_flight l.is) c.replay_failed.ensures.flights)
 
 pub returns-clause-records : goal.returns-clause-records

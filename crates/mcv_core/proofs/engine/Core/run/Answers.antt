@@ -3,7 +3,7 @@ use Rattle.std.proofs.lemmas.List.{length-append}
 use Rattle.std.specs.Prelude.{vec_capacity}
 use Rattle.mcv_core.specs.Steps.{AreAnswered, IsAnswered, none}
 use Rattle.mcv_core.specs.View.{core_view}
-use Rattle.mcv_core.proofs.Keeping
+use Rattle.mcv_core.proofs.DeletesStayKept
 use Rattle.mcv_core.proofs.engine.Core.run.Goals as goal
 
 pub loop-event-init : goal.loop-event-init
@@ -43,6 +43,6 @@ loop-event-preserved g c =
       finite = tt;
       room = omega (arith, room, left, items, more, capacity);
       answered = subst (λ xs. AreAnswered h v (c.loop-event.yielded ++ c.in-Some.event ∷ []) xs w) (sym c.push_reserved.ensures.items)
-          (Keeping.answer_more h v u w c.loop-event.yielded c.loop-event.answers.items c.in-Some.event c.answer.result before.answered step);
+          (DeletesStayKept.answer_more h v u w c.loop-event.yielded c.loop-event.answers.items c.in-Some.event c.answer.result before.answered step);
       hash = c.answer.ensures.hash ∙ same;
     }

@@ -2,7 +2,7 @@ use Rattle.std.proofs.Common.{◌≡◌, ◌∙◌, sym, ap, rules, get_or}
 use Rattle.mcv_base.specs.declared.request.ServerId.{ServerId}
 use Rattle.mcv_plan.specs.Evaluation.{no_leg}
 use Rattle.mcv_core.specs.Errands.{launches_of}
-use Rattle.mcv_core.proofs.Tracking.{launch_get}
+use Rattle.mcv_core.proofs.StateFollowsOutcomes.{launch_get}
 use Rattle.mcv_core.proofs.errand.Errand.server.Goals as goal
 
 pub returns-in-Some : goal.returns-in-Some

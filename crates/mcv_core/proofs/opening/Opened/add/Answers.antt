@@ -5,7 +5,7 @@ use Rattle.mcv_queues.specs.Legs.{is_in_flight, with_stored}
 use Rattle.mcv_queues.specs.Queues.{legs}
 use Rattle.mcv_world.proofs.Numbers.{put_same}
 use Rattle.mcv_core.specs.declared.errand.Errand.{Errand}
-use Rattle.mcv_core.proofs.Opened.{put_spooled}
+use Rattle.mcv_core.proofs.OpenedCores.{put_spooled}
 use Rattle.mcv_core.proofs.opening.Opened.add.Goals as goal
 
 pub spooled-requires : goal.spooled-requires

@@ -3,7 +3,7 @@ use Rattle.std.specs.Str.{bytes_eq}
 use Rattle.mcv_pools.specs.Table.{number_in}
 use Rattle.mcv_queues.specs.Queues.{legs}
 use Rattle.mcv_core.specs.Opening.{IsOpenedErrand}
-use Rattle.mcv_core.proofs.Opened.{stored}
+use Rattle.mcv_core.proofs.OpenedCores.{stored}
 use Rattle.mcv_core.proofs.opening.Opened.store.Goals as goal
 
 pub returns-clause-opened : goal.returns-clause-opened

@@ -1,8 +1,8 @@
 use Rattle.std.proofs.Common.{◌∙◌, ap, subst, arith, vec_len, vec_capacity}
 use Rattle.std.specs.Arc.{arc_value}
 use Rattle.mcv_core.specs.View.{core_view}
-use Rattle.mcv_symbolic.specs.Covered.{AreCovered}
-use Rattle.mcv_hub.specs.MayWrite.{break_count}
+use Rattle.mcv_symbolic.specs.CoveredRoutes.{AreCovered}
+use Rattle.mcv_hub.specs.RemainingEntries.{break_count}
 use Rattle.mcv_hub.proofs.Histories.{opened_holds}
 use Rattle.mcv_hub.proofs.state.HubState.new.Goals as goal
 

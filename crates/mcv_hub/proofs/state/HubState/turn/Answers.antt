@@ -2,7 +2,7 @@ use Rattle.std.proofs.Common.{◌≡◌, ◌∙◌, ◌⊎◌, ◌≤◌, inl, i
 use Rattle.mcv_core.specs.View.{core_view}
 use Rattle.mcv_hub.proofs.Histories.{turn_holds}
 use Rattle.mcv_hub.specs.State.{HubView}
-use Rattle.mcv_hub.specs.MayWrite.{break_count, may_write}
+use Rattle.mcv_hub.specs.RemainingEntries.{break_count, may_write}
 use Rattle.mcv_hub.proofs.state.HubState.turn.Goals as goal
 
 pub invariant_of-self-2 : goal.invariant_of-self-2

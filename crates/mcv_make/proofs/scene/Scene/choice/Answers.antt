@@ -5,7 +5,7 @@ use Rattle.mcv_route.specs.Outcomes.{Choice}
 use Rattle.mcv_rules.specs.declared.plan.PlannedLeg.{PlannedLeg}
 use Rattle.mcv_symbolic.specs.Case.{CaseValue}
 use Rattle.mcv_symbolic.specs.Sets.{AreLegsAt, IsAcknowledged}
-use Rattle.mcv_make.specs.Free.{free_indexes}
+use Rattle.mcv_make.specs.FreeIndexes.{free_indexes}
 use Rattle.mcv_make.proofs.scene.Scene.choice.Goals as goal
 
 pub returns : goal.returns

@@ -6,7 +6,7 @@ use Rattle.mcv_base.specs.declared.request.Moment.{Moment}
 use Rattle.mcv_route.specs.View.{view}
 use Rattle.mcv_witness.specs.Finding.{outcomes_of}
 use Rattle.mcv_witness.specs.declared.finding.LegOutcome.{LegOutcome}
-use Rattle.mcv_make.proofs.Reading.{cannot, one-reads}
+use Rattle.mcv_make.proofs.GetOutcomes.{cannot, one-reads}
 use Rattle.mcv_make.proofs.scene.Scene.reading.Goals as goal
 
 pub unreachable-requires : goal.unreachable-requires

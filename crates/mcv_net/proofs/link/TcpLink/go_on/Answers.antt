@@ -2,7 +2,7 @@ use Rattle.std.proofs.Common.{◌≡◌, true, subst}
 use Rattle.std.specs.Arc.{arc_value}
 use Rattle.mcv_net.specs.Exchange.{SpellsReply}
 use Rattle.mcv_net.specs.Repeat.{may_repeat}
-use Rattle.mcv_net.specs.Sends.{AsksAnew}
+use Rattle.mcv_net.specs.Connections.{AsksAnew}
 use Rattle.mcv_net.proofs.Sending.{goes_on_again}
 use Rattle.mcv_net.proofs.link.TcpLink.go_on.Goals as goal
 

@@ -2,7 +2,7 @@ use Rattle.std.proofs.Common.{ap, map, ◌∙◌}
 use Rattle.std.specs.Prelude.{find}
 use Rattle.mcv_picks.specs.Picks.{borrowed}
 use Rattle.mcv_picks.specs.Tables.{is_at}
-use Rattle.mcv_picks.proofs.Equal.{is_at-twins}
+use Rattle.mcv_picks.proofs.TwinsAreEqual.{is_at-twins}
 use Rattle.mcv_picks.proofs.tables.Tables.new.Goals as goal
 
 pub invariant_of-tables : goal.invariant_of-tables

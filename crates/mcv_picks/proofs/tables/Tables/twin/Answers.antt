@@ -1,7 +1,7 @@
 use Rattle.std.proofs.Common.{ap, ◌∙◌}
 use Rattle.std.specs.Option.{option_map}
 use Rattle.std.specs.Prelude.{find}
-use Rattle.mcv_judge.specs.InMemory.{leg_of}
+use Rattle.mcv_judge.specs.PairsInMemory.{leg_of}
 use Rattle.mcv_judge.specs.Reason.{is_twin}
 use Rattle.mcv_picks.specs.Picks.{borrowed}
 use Rattle.mcv_picks.proofs.tables.Tables.twin.Goals as goal

@@ -1,8 +1,8 @@
 use Rattle.std.proofs.Common.{◌∙◌, ap, sym}
-use Rattle.mcv_plan.specs.Known.{own_in}
+use Rattle.mcv_plan.specs.KnownOutcomes.{own_in}
 use Rattle.mcv_plan.specs.State.{holds}
 use Rattle.mcv_plan.specs.View.{view}
-use Rattle.mcv_plan.proofs.Local.{sends_plan}
+use Rattle.mcv_plan.proofs.PartsAreLocal.{sends_plan}
 use Rattle.mcv_plan.proofs.state.EvalState.is_launched.Goals as goal
 
 pub returns : goal.returns

@@ -1,8 +1,6 @@
-use Rattle.std.proofs.Common.{◌≡◌, ◌+◌, ◌≤◌, None, length, map, take}
-use Rattle.std.specs.List.{All}
-use Rattle.std.specs.Prelude.{vec_len, vec_capacity, IfSome}
-use Rattle.mcv_core.specs.declared.fault.CoreFault.TheVariants.{NoSuchCall}
-use Rattle.mcv_proxy.specs.Desk.{WasTaken}
+use Rattle.std.proofs.Common.{◌≡◌, ◌+◌}
+use Rattle.std.specs.Prelude.{vec_len, vec_capacity}
+use Rattle.mcv_proxy.specs.Desk.{AreTaken}
 use Rattle.mcv_proxy.proofs.desk.Caller.take_all.Given as goal
 
 -- the replies to the calls that are done with were taken, unless one won't come
@@ -10,12 +8,8 @@ abbrev pub invariant-loop-turn : goal.invariant-loop-turn
 invariant-loop-turn g l = record {
   next : (goal.iterator-loop-turn g).can_next l._turn-iterator;
   finite : (goal.iterator-loop-turn g).is_finite l._turn-iterator;
-  within : l.progress.done ≤ length l.calls;
-  most : vec_len l.taken ≤ l.progress.done;
+  so_far : AreTaken l.calls l.progress.done l.progress.missed l.taken.items;
   room : vec_capacity l.taken ≡ vec_capacity l.fn.taken;
-  each : All WasTaken l.taken.items;
-  calls : l.progress.missed ≡ None → map (λ t. t.receipt.call) l.taken.items ≡ take l.progress.done l.calls;
-  missed : IfSome l.progress.missed (λ fault. fault ≡ NoSuchCall);
   counted : l.self.seat.taken.amount + vec_len l.fn.taken ≡ l.fn.self.seat.taken.amount + vec_len l.taken;
   begun : l.self.seat.begun.amount ≡ l.fn.self.seat.begun.amount;
 }

@@ -7,7 +7,7 @@ use Rattle.mcv_core.specs.declared.fault.CoreFault.TheVariants.{Memory}
 use Rattle.mcv_session.specs.Desk.{keys_of}
 use Rattle.mcv_text.specs.Request.{request_value}
 use Rattle.mcv_proxy.specs.Desk.{AreFor, WasTaken, with_receipt}
-use Rattle.mcv_proxy.proofs.Places.{none_is_for}
+use Rattle.mcv_proxy.proofs.Routed.{none_is_for}
 use Rattle.mcv_proxy.proofs.desk.HubDeskDesk.ask.Goals as goal
 
 pub returns-in_default-clause-asks : goal.returns-in_default-clause-asks

@@ -4,7 +4,7 @@ use Rattle.mcv_queues.specs.Legs.{in_state, server_of, is_in_flight_to}
 use Rattle.mcv_queues.specs.Rows.{links, legs}
 use Rattle.mcv_queues.specs.Roots.{root_of, flights, known}
 use Rattle.mcv_queues.proofs.GroupsAreHeaps
-use Rattle.mcv_queues.proofs.InFlight
+use Rattle.mcv_queues.proofs.LegsInFlight
 use Rattle.mcv_queues.proofs.QueuesStaySound
 use Rattle.mcv_queues.proofs.queues.Queues.bring_back.Goals as goal
 
@@ -12,7 +12,7 @@ pub set_flight-requires : goal.set_flight-requires
 set_flight-requires g c =
     let q = c.args.self.now in
     subst (λ j. j < known c.change_state-server.new.roots) (sym c.change_state-server.ensures.server) (subst (λ j. server_of (legs q.rows c.args.number) < j) (sym c.change_state-server.ensures.known)
-    (InFlight.flight_known (known q.roots) (legs q.rows c.args.number) (q.sound.range c.args.number) c.requires.there))
+    (LegsInFlight.flight_known (known q.roots) (legs q.rows c.args.number) (q.sound.range c.args.number) c.requires.there))
 
 pub invariant_of-self : goal.invariant_of-self
 invariant_of-self g c =
@@ -22,10 +22,10 @@ invariant_of-self g c =
     record {
       sound = record {
         trees = QueuesStaySound.rooted (legs c.change_state-server.new.self) (links c.change_state-server.new.self) (root_of c.change_state-server.new.roots) (root_of c.set_flight.new.self) (c.change_state-server.ensures.trees q.sound.trees) c.set_flight.ensures.roots;
-        flying = InFlight.brought_back (legs q.rows) (legs c.change_state-server.new.self) (flights q.roots) (flights c.set_flight.new.self) (server_of (legs q.rows x)) x v q.sound.flying c.change_state-server.ensures.legs
+        flying = LegsInFlight.brought_back (legs q.rows) (legs c.change_state-server.new.self) (flights q.roots) (flights c.set_flight.new.self) (server_of (legs q.rows x)) x v q.sound.flying c.change_state-server.ensures.legs
             (λ t. c.set_flight.ensures.flights t ∙ ap (λ s. cond (nat_eq s t) None (flights c.change_state-server.new.roots t)) c.change_state-server.ensures.server ∙ ap (λ b. cond (nat_eq (server_of (legs q.rows x)) t) None b) (c.change_state-server.ensures.flights t))
-            (InFlight.own_server (legs q.rows x) c.requires.there)
-            (λ t. InFlight.state_in_no_flight c.args.state t (legs q.rows x) c.requires.state);
+            (LegsInFlight.own_server (legs q.rows x) c.requires.there)
+            (λ t. LegsInFlight.state_in_no_flight c.args.state t (legs q.rows x) c.requires.state);
         range = GroupsAreHeaps.range_with_state (legs q.rows) (legs c.change_state-server.new.self) (known q.roots) (known c.set_flight.new.self) x c.args.state q.sound.range c.change_state-server.ensures.legs (c.set_flight.ensures.known ∙ c.change_state-server.ensures.known);
       };
     }
@@ -34,4 +34,4 @@ pub returns-clause-flights : goal.returns-clause-flights
 returns-clause-flights g c = λ s.
     let q = c.args.self.now in
     let x = c.args.number in
-    c.set_flight.ensures.flights s ∙ ap (λ b. cond b None (flights c.change_state-server.new.roots s)) (ap (λ j. nat_eq j s) c.change_state-server.ensures.server ∙ InFlight.own_servers (legs q.rows x) s c.requires.there) ∙ ap (λ b. cond (is_in_flight_to s (legs q.rows x)) None b) (c.change_state-server.ensures.flights s)
+    c.set_flight.ensures.flights s ∙ ap (λ b. cond b None (flights c.change_state-server.new.roots s)) (ap (λ j. nat_eq j s) c.change_state-server.ensures.server ∙ LegsInFlight.own_servers (legs q.rows x) s c.requires.there) ∙ ap (λ b. cond (is_in_flight_to s (legs q.rows x)) None b) (c.change_state-server.ensures.flights s)

@@ -4,7 +4,7 @@ use Rattle.mcv_queues.specs.Numbers.{put}
 use Rattle.mcv_queues.specs.Legs.{server_of, is_in_flight_to, leg_content}
 use Rattle.mcv_queues.specs.Rows.{at, links, legs}
 use Rattle.mcv_queues.specs.Roots.{root_of, flights, known}
-use Rattle.mcv_queues.proofs.InFlight
+use Rattle.mcv_queues.proofs.LegsInFlight
 use Rattle.mcv_queues.proofs.QueuesStaySound
 use Rattle.mcv_queues.proofs.queues.Queues.gone.Goals as goal
 
@@ -13,7 +13,7 @@ set_flight-requires g c =
     let q = c.args.self.now in
     let x = c.args.leg.0 in
     subst (λ j. j < known c.leave-server.new.roots) (sym c.leave-server.ensures.server) (subst (λ j. server_of (legs q.rows x) < j) (sym c.leave-server.ensures.known)
-    (InFlight.flight_known (known q.roots) (legs q.rows x) (q.sound.range x) c.requires.there))
+    (LegsInFlight.flight_known (known q.roots) (legs q.rows x) (q.sound.range x) c.requires.there))
 
 pub invariant_of-self : goal.invariant_of-self
 invariant_of-self g c =
@@ -25,9 +25,9 @@ invariant_of-self g c =
     record {
       sound = record {
         trees = QueuesStaySound.rooted (legs c.remove.new.self) (links c.remove.new.self) (root_of c.leave-server.new.roots) (root_of c.set_flight.new.self) (QueuesStaySound.dropped (legs q.rows) (legs c.remove.new.self) (links c.leave-server.new.self) (links c.remove.new.self) (root_of c.leave-server.new.roots) x (c.leave-server.ensures.trees q.sound.trees) new ef) c.set_flight.ensures.roots;
-        flying = InFlight.brought_back (legs q.rows) (legs c.remove.new.self) (flights q.roots) (flights c.set_flight.new.self) (server_of (legs q.rows x)) x None q.sound.flying new
+        flying = LegsInFlight.brought_back (legs q.rows) (legs c.remove.new.self) (flights q.roots) (flights c.set_flight.new.self) (server_of (legs q.rows x)) x None q.sound.flying new
             (λ t. c.set_flight.ensures.flights t ∙ ap (λ s. cond (nat_eq s t) None (flights c.leave-server.new.roots t)) c.leave-server.ensures.server ∙ ap (λ b. cond (nat_eq (server_of (legs q.rows x)) t) None b) (c.leave-server.ensures.flights t))
-            (InFlight.own_server (legs q.rows x) c.requires.there) (λ t. refl);
+            (LegsInFlight.own_server (legs q.rows x) c.requires.there) (λ t. refl);
         range = QueuesStaySound.range_known (legs c.remove.new.self) (legs c.remove.new.self) (known q.roots) (known c.set_flight.new.self) (QueuesStaySound.range_put (legs q.rows) (legs c.remove.new.self) (known q.roots) x None q.sound.range new (λ l e. absurd (cc))) refl (c.set_flight.ensures.known ∙ c.leave-server.ensures.known);
       };
     }
@@ -39,7 +39,7 @@ pub returns-clause-flights : goal.returns-clause-flights
 returns-clause-flights g c = λ s.
     let q = c.args.self.now in
     let x = c.args.leg.0 in
-    c.set_flight.ensures.flights s ∙ ap (λ b. cond b None (flights c.leave-server.new.roots s)) (ap (λ j. nat_eq j s) c.leave-server.ensures.server ∙ InFlight.own_servers (legs q.rows x) s c.requires.there) ∙ ap (λ b. cond (is_in_flight_to s (legs q.rows x)) None b) (c.leave-server.ensures.flights s)
+    c.set_flight.ensures.flights s ∙ ap (λ b. cond b None (flights c.leave-server.new.roots s)) (ap (λ j. nat_eq j s) c.leave-server.ensures.server ∙ LegsInFlight.own_servers (legs q.rows x) s c.requires.there) ∙ ap (λ b. cond (is_in_flight_to s (legs q.rows x)) None b) (c.leave-server.ensures.flights s)
 
 pub returns-clause-content : goal.returns-clause-content
 returns-clause-content g c = c.remove.ensures.content ∙ QueuesStaySound.content_of_leg (at c.leave-server.new.self c.args.leg.0) ∙ ap (λ f. option_map leg_content (f c.args.leg.0)) c.leave-server.ensures.legs

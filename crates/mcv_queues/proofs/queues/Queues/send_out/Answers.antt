@@ -4,7 +4,7 @@ use Rattle.mcv_queues.specs.Legs.{in_state}
 use Rattle.mcv_queues.specs.Rows.{links, legs}
 use Rattle.mcv_queues.specs.Roots.{root_of, flights, known}
 use Rattle.mcv_queues.proofs.GroupsAreHeaps
-use Rattle.mcv_queues.proofs.InFlight
+use Rattle.mcv_queues.proofs.LegsInFlight
 use Rattle.mcv_queues.proofs.QueuesStaySound
 use Rattle.mcv_queues.proofs.queues.Queues.send_out.Goals as goal
 
@@ -16,9 +16,9 @@ invariant_of-self g c =
     record {
       sound = record {
         trees = QueuesStaySound.rooted (legs c.change_state.new.self) (links c.change_state.new.self) (root_of c.change_state.new.roots) (root_of c.set_flight.new.self) (c.change_state.ensures.trees q.sound.trees) c.set_flight.ensures.roots;
-        flying = InFlight.sent_out (legs q.rows) (legs c.change_state.new.self) (flights q.roots) (flights c.set_flight.new.self) c.args.server x v q.sound.flying c.change_state.ensures.legs
+        flying = LegsInFlight.sent_out (legs q.rows) (legs c.change_state.new.self) (flights q.roots) (flights c.set_flight.new.self) c.args.server x v q.sound.flying c.change_state.ensures.legs
             (λ t. c.set_flight.ensures.flights t ∙ ap (λ b. cond (nat_eq c.args.server t) (Some x) b) (c.change_state.ensures.flights t)) c.requires.free
-            (λ t. InFlight.rests_in_no_flight c.args.server t (legs q.rows x) c.requires.there) (InFlight.state_in_flight c.args.state c.args.server (legs q.rows x) c.requires.there c.requires.state);
+            (λ t. LegsInFlight.rests_in_no_flight c.args.server t (legs q.rows x) c.requires.there) (LegsInFlight.state_in_flight c.args.state c.args.server (legs q.rows x) c.requires.there c.requires.state);
         range = GroupsAreHeaps.range_with_state (legs q.rows) (legs c.change_state.new.self) (known q.roots) (known c.set_flight.new.self) x c.args.state q.sound.range c.change_state.ensures.legs (c.set_flight.ensures.known ∙ c.change_state.ensures.known);
       };
     }

@@ -3,7 +3,7 @@ use Rattle.mcv_queues.specs.Legs.{server_of}
 use Rattle.mcv_queues.specs.Rows.{at, links, legs}
 use Rattle.mcv_queues.specs.Roots.{root_of, flights, known}
 use Rattle.mcv_queues.proofs.GroupsAreHeaps
-use Rattle.mcv_queues.proofs.InFlight
+use Rattle.mcv_queues.proofs.LegsInFlight
 use Rattle.mcv_queues.proofs.QueuesStaySound
 use Rattle.mcv_queues.proofs.queues.Queues.sent_gone.Goals as goal
 
@@ -12,7 +12,7 @@ set_flight-requires g c =
     let q = c.args.self.now in
     let leg = legs q.rows c.args.leg.0 in
     let s = c.args.server.0 in
-    subst (λ j. j < known q.roots) (InFlight.sent_server s leg c.requires) (InFlight.flight_known (known q.roots) leg (q.sound.range c.args.leg.0) (InFlight.sent_flies s leg c.requires))
+    subst (λ j. j < known q.roots) (LegsInFlight.sent_server s leg c.requires) (LegsInFlight.flight_known (known q.roots) leg (q.sound.range c.args.leg.0) (LegsInFlight.sent_flies s leg c.requires))
 
 pub invariant_of-self : goal.invariant_of-self
 invariant_of-self g c =
@@ -20,17 +20,17 @@ invariant_of-self g c =
     let x = c.args.leg.0 in
     let leg = legs q.rows x in
     let s = c.args.server.0 in
-    let server = InFlight.sent_server s leg c.requires in
-    let flies = InFlight.sent_flies s leg c.requires in
+    let server = LegsInFlight.sent_server s leg c.requires in
+    let flies = LegsInFlight.sent_flies s leg c.requires in
     let new = QueuesStaySound.legs_put (at q.rows) (at c.remove.new.self) x None c.remove.ensures.at in
     let ef = QueuesStaySound.links_put (at q.rows) (at c.remove.new.self) x None c.remove.ensures.at in
-    let out = GroupsAreHeaps.left_none (legs q.rows) (links q.rows) (root_of q.roots) x q.sound.trees (InFlight.sent_group s leg c.requires) in
+    let out = GroupsAreHeaps.left_none (legs q.rows) (links q.rows) (root_of q.roots) x q.sound.trees (LegsInFlight.sent_group s leg c.requires) in
     record {
       sound = record {
         trees = QueuesStaySound.rooted (legs c.remove.new.self) (links c.remove.new.self) (root_of q.roots) (root_of c.set_flight.new.self) (QueuesStaySound.dropped (legs q.rows) (legs c.remove.new.self) (links q.rows) (links c.remove.new.self) (root_of q.roots) x out new ef) c.set_flight.ensures.roots;
-        flying = InFlight.brought_back (legs q.rows) (legs c.remove.new.self) (flights q.roots) (flights c.set_flight.new.self) (server_of leg) x None q.sound.flying new
+        flying = LegsInFlight.brought_back (legs q.rows) (legs c.remove.new.self) (flights q.roots) (flights c.set_flight.new.self) (server_of leg) x None q.sound.flying new
             (λ t. c.set_flight.ensures.flights t ∙ ap (λ j. cond (nat_eq j t) None (flights q.roots t)) (sym server))
-            (InFlight.own_server leg flies) (λ t. refl);
+            (LegsInFlight.own_server leg flies) (λ t. refl);
         range = QueuesStaySound.range_known (legs c.remove.new.self) (legs c.remove.new.self) (known q.roots) (known c.set_flight.new.self) (QueuesStaySound.range_put (legs q.rows) (legs c.remove.new.self) (known q.roots) x None q.sound.range new (λ l e. absurd (cc))) refl c.set_flight.ensures.known;
       };
     }
@@ -43,7 +43,7 @@ returns-clause-flights g c = λ t.
     let q = c.args.self.now in
     let leg = legs q.rows c.args.leg.0 in
     let s = c.args.server.0 in
-    c.set_flight.ensures.flights t ∙ ap (λ b. cond b None (flights q.roots t)) (ap (λ j. nat_eq j t) (sym (InFlight.sent_server s leg c.requires)) ∙ InFlight.own_servers leg t (InFlight.sent_flies s leg c.requires))
+    c.set_flight.ensures.flights t ∙ ap (λ b. cond b None (flights q.roots t)) (ap (λ j. nat_eq j t) (sym (LegsInFlight.sent_server s leg c.requires)) ∙ LegsInFlight.own_servers leg t (LegsInFlight.sent_flies s leg c.requires))
 
 pub returns-clause-content : goal.returns-clause-content
 returns-clause-content g c = c.remove.ensures.content ∙ QueuesStaySound.content_of_leg (at c.args.self.now.rows c.args.leg.0)

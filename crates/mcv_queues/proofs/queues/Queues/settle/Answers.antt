@@ -3,7 +3,7 @@ use Rattle.mcv_queues.specs.Legs.{in_state}
 use Rattle.mcv_queues.specs.Rows.{legs}
 use Rattle.mcv_queues.specs.Roots.{flights, known}
 use Rattle.mcv_queues.proofs.GroupsAreHeaps
-use Rattle.mcv_queues.proofs.InFlight
+use Rattle.mcv_queues.proofs.LegsInFlight
 use Rattle.mcv_queues.proofs.queues.Queues.settle.Goals as goal
 
 pub invariant_of-self : goal.invariant_of-self
@@ -14,8 +14,8 @@ invariant_of-self g c =
     record {
       sound = record {
         trees = c.change_state.ensures.trees q.sound.trees;
-        flying = InFlight.stayed (legs q.rows) (legs c.change_state.new.self) (flights q.roots) (flights c.change_state.new.roots) x v q.sound.flying c.change_state.ensures.legs c.change_state.ensures.flights
-            (λ t. InFlight.rests_not_in_flight t (legs q.rows x) c.requires.there) (λ t. InFlight.state_in_no_flight c.args.state t (legs q.rows x) c.requires.state);
+        flying = LegsInFlight.stayed (legs q.rows) (legs c.change_state.new.self) (flights q.roots) (flights c.change_state.new.roots) x v q.sound.flying c.change_state.ensures.legs c.change_state.ensures.flights
+            (λ t. LegsInFlight.rests_not_in_flight t (legs q.rows x) c.requires.there) (λ t. LegsInFlight.state_in_no_flight c.args.state t (legs q.rows x) c.requires.state);
         range = GroupsAreHeaps.range_with_state (legs q.rows) (legs c.change_state.new.self) (known q.roots) (known c.change_state.new.roots) x c.args.state q.sound.range c.change_state.ensures.legs c.change_state.ensures.known;
       };
     }

@@ -2,7 +2,7 @@ use Rattle.std.proofs.Common.{rules, ◌≡◌, ◌<◌, ◌∙◌, is_some, Non
 use Rattle.std.specs.Prelude.{option_map}
 use Rattle.mcv_queues.specs.Groups.{group_of}
 use Rattle.mcv_queues.specs.Legs.{in_state}
-use Rattle.mcv_queues.specs.Sound.{AreTrees}
+use Rattle.mcv_queues.specs.Soundness.{AreTrees}
 use Rattle.mcv_queues.specs.Rows.{at, links, legs}
 use Rattle.mcv_queues.specs.Roots.{root_of, known}
 use Rattle.mcv_queues.proofs.GroupsAreHeaps

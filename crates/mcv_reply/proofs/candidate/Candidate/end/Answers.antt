@@ -1,5 +1,5 @@
 use Rattle.std.proofs.Common.{inl, inr, arith}
-use Rattle.mcv_reply.specs.declared.candidate.Place.TheVariants.{BeforeNumber}
+use Rattle.mcv_reply.specs.declared.candidate.LinePart.TheVariants.{BeforeNumber}
 use Rattle.mcv_reply.proofs.Ending.{ends_not, not_before_name}
 use Rattle.mcv_reply.proofs.candidate.Candidate.end.Goals as goal
 

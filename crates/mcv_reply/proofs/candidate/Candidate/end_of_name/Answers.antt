@@ -1,7 +1,7 @@
 use Rattle.std.proofs.Common.{ap, arith, ◌∙◌}
 use Rattle.mcv_reply.specs.declared.candidate.Name.{Name}
 use Rattle.mcv_reply.specs.declared.candidate.Name.TheVariants.{Key}
-use Rattle.mcv_reply.specs.declared.candidate.Place.TheVariants.{InName}
+use Rattle.mcv_reply.specs.declared.candidate.LinePart.TheVariants.{InName}
 use Rattle.mcv_reply.proofs.Ending.{ends_not}
 use Rattle.mcv_reply.proofs.candidate.Candidate.end_of_name.Goals as goal
 

@@ -2,7 +2,7 @@ use Rattle.std.proofs.Common.{◌≡◌, ◌≤◌, ◌++◌, List, ℕ, length,
 use Rattle.std.specs.Arc.{arc_value}
 use Rattle.mcv_reply.specs.Reader.{Answers, Feeds, Reading}
 use Rattle.mcv_reply.specs.Progress.{IsAt, reader_state_at}
-use Rattle.mcv_reply.specs.Place.{is_clean}
+use Rattle.mcv_reply.specs.Candidate.{is_clean}
 use Rattle.mcv_reply.proofs.Words.{key_clean, key_short}
 use Rattle.mcv_reply.proofs.Steps.{fed_at, feeds_at}
 use Rattle.mcv_reply.proofs.reader.ReplyReader.feed.Goals as goal

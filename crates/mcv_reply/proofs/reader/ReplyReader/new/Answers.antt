@@ -1,7 +1,7 @@
 use Rattle.std.proofs.Common.{◌≡◌, List, ℕ, [], sym, subst, true, ◌∙◌}
 use Rattle.std.specs.Arc.{arc_value}
 use Rattle.mcv_reply.specs.declared.word.Row.TheVariants.{Reply}
-use Rattle.mcv_reply.specs.Place.{IsKept, is_clean}
+use Rattle.mcv_reply.specs.Candidate.{IsKept, is_clean}
 use Rattle.mcv_reply.proofs.Words.{key_clean}
 use Rattle.mcv_reply.proofs.Steps.{first_some}
 use Rattle.mcv_reply.proofs.reader.ReplyReader.new.Goals as goal

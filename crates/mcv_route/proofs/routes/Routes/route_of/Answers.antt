@@ -1,7 +1,7 @@
 use Rattle.std.proofs.Common.{◌∙◌}
 use Rattle.mcv_route.specs.Places.{is_alias}
 use Rattle.mcv_route.specs.RoutesView.{entry_view}
-use Rattle.mcv_route.proofs.Whole.{position-mapped}
+use Rattle.mcv_route.proofs.BuiltRoutes.{position-mapped}
 use Rattle.mcv_route.proofs.routes.Routes.route_of.Goals as goal
 
 pub returns : goal.returns

@@ -2,7 +2,7 @@ use Rattle.std.proofs.Common.{◌++◌, ap, ◌∙◌}
 use Rattle.std.specs.Prelude.{slice_index}
 use Rattle.mcv_route.specs.View.{view}
 use Rattle.mcv_rules.specs.Arrivals.{known_at, outcome_in}
-use Rattle.mcv_rules.specs.Laid.{sent}
+use Rattle.mcv_rules.specs.PlanInMemory.{sent}
 use Rattle.mcv_rules.proofs.StatusOfReply.{launched_called}
 use Rattle.mcv_rules.proofs.eval.Eval.launched.Goals as goal
 

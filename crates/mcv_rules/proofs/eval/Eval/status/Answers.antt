@@ -1,7 +1,7 @@
 use Rattle.std.proofs.Common.{◌≡◌, sym, ap, ◌∙◌}
 use Rattle.mcv_route.specs.Reply.{reply}
 use Rattle.mcv_route.specs.View.{view}
-use Rattle.mcv_rules.specs.Called.{situation_of}
+use Rattle.mcv_rules.specs.RouteCall.{situation_of}
 use Rattle.mcv_rules.specs.History.{history_of}
 use Rattle.mcv_rules.specs.Status.{status_of, status_outcome}
 use Rattle.mcv_rules.specs.declared.status.Status.TheVariants.{Replied, Waits}

@@ -2,9 +2,9 @@ use Rattle.std.proofs.Common.{◌++◌, Bor, map, ap, ◌∙◌, option_map}
 use Rattle.std.proofs.lemmas.Simd.{map-map}
 use Rattle.mcv_rules.specs.declared.plan.PlannedLeg.{PlannedLeg}
 use Rattle.mcv_route.specs.View.{view}
-use Rattle.mcv_rules.specs.Whole.{leg_of, whole_of}
-use Rattle.mcv_symbolic.specs.Listed.{acknowledged}
-use Rattle.mcv_symbolic.proofs.Asked.{acknowledged_of}
+use Rattle.mcv_rules.specs.NormalForm.{leg_of, whole_of}
+use Rattle.mcv_symbolic.specs.SetLists.{acknowledged}
+use Rattle.mcv_symbolic.proofs.CaseSets.{acknowledged_of}
 use Rattle.mcv_symbolic.proofs.case.Case.acknowledged_legs.Goals as goal
 
 pub returns : goal.returns

@@ -1,8 +1,8 @@
 use Rattle.std.proofs.Common.{◌++◌, ap, ◌∙◌, option_map}
 use Rattle.mcv_route.specs.View.{view}
-use Rattle.mcv_rules.specs.Whole.{whole_of}
-use Rattle.mcv_symbolic.specs.Shown.{answers, history_of}
-use Rattle.mcv_symbolic.proofs.Asked.{laid_for}
+use Rattle.mcv_rules.specs.NormalForm.{whole_of}
+use Rattle.mcv_symbolic.specs.ShownAnswers.{answers, history_of}
+use Rattle.mcv_symbolic.proofs.CaseSets.{laid_for}
 use Rattle.mcv_symbolic.proofs.case.Case.answers.Goals as goal
 
 pub returns : goal.returns

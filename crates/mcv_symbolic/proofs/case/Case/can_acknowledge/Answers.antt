@@ -1,7 +1,7 @@
 use Rattle.std.proofs.Common.{option_map}
 use Rattle.mcv_route.specs.View.{view}
-use Rattle.mcv_rules.specs.Whole.{whole_of}
-use Rattle.mcv_symbolic.proofs.Asked.{done_of}
+use Rattle.mcv_rules.specs.NormalForm.{whole_of}
+use Rattle.mcv_symbolic.proofs.CaseSets.{done_of}
 use Rattle.mcv_symbolic.proofs.case.Case.can_acknowledge.Goals as goal
 
 pub returns : goal.returns

@@ -1,11 +1,11 @@
 use Rattle.std.proofs.Common.{ap, ◌∙◌, option_map}
 use Rattle.mcv_base.specs.declared.reply.Outcome.TheVariants.{Error}
 use Rattle.mcv_route.specs.View.{view}
-use Rattle.mcv_rules.specs.Whole.{whole_of}
-use Rattle.mcv_symbolic.specs.Shown.{answers, history_of, leaf_hit}
+use Rattle.mcv_rules.specs.NormalForm.{whole_of}
+use Rattle.mcv_symbolic.specs.ShownAnswers.{answers, history_of, leaf_hit}
 use Rattle.mcv_symbolic.specs.Structure.{if_all}
-use Rattle.mcv_symbolic.proofs.Asked.{laid_for}
-use Rattle.mcv_symbolic.proofs.Tried.{found-none, found-some}
+use Rattle.mcv_symbolic.proofs.CaseSets.{laid_for}
+use Rattle.mcv_symbolic.proofs.TriedHits.{found-none, found-some}
 use Rattle.mcv_symbolic.proofs.case.Case.hit_of.Goals as goal
 
 pub returns-in-Hit : goal.returns-in-Hit

@@ -1,8 +1,8 @@
 use Rattle.std.proofs.Common.{[], ap, option_map, subst}
 use Rattle.mcv_base.specs.declared.operation.Mark.TheVariants.{Plain}
 use Rattle.mcv_route.specs.View.{view}
-use Rattle.mcv_rules.specs.Laid.{Serves}
-use Rattle.mcv_rules.specs.Whole.{alone}
+use Rattle.mcv_rules.specs.PlanInMemory.{Serves}
+use Rattle.mcv_rules.specs.NormalForm.{alone}
 use Rattle.mcv_symbolic.proofs.case.Case.new.Goals as goal
 
 pub invariant_of-result : goal.invariant_of-result

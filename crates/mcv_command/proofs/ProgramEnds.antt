@@ -1,0 +1,79 @@
+-- What the program did, by what the words asked for.
+use Rattle.std.proofs.Common.{◌≡◌, ◌≢◌, ◌∙◌, ap, inl, inr, ◌+◌, ◌<◌, ◌≤◌, ℕ, List, length, take, Option, None, Some, subst, sym, arith}
+use Rattle.std.specs.Prelude.{IfSome, MatchOption}
+use Rattle.std.proofs.lemmas.List.{length-take}
+use Rattle.std.proofs.lemmas.Option.{IfSome_then}
+use Rattle.clap.specs.Words.{Text}
+use Rattle.mcv_cert.specs.Reading.{Reading, Says, headless, over, reads, text_limit}
+use Rattle.mcv_input.proofs.FirstBytes.{whole}
+use Rattle.mcv_input.specs.Fault.{IsOutside}
+use Rattle.mcv_input.specs.declared.fault.RunFault.{RunFault}
+use Rattle.mcv_input.specs.declared.fault.RunFault.TheVariants.{Line, NoRoute, Config, CertificateText, Certificate, Memory, Device}
+use Rattle.mcv_verdict.specs.Fault as check
+use Rattle.mcv_verdict.specs.Verdict.{IsVerdictOn}
+use Rattle.mcv_verdict.specs.declared.verdict.Verdict.{Verdict}
+use Rattle.mcv_verdict.specs.declared.verdict.Verdict.TheVariants.{Covered, Lost}
+use Rattle.mcv_command.specs.declared.stop.Stop.{Stop}
+use Rattle.mcv_command.specs.declared.stop.Stop.TheVariants.{BadLine, Run}
+use Rattle.mcv_command.specs.Program.{AsksAnyRun, Held, IfGiven, IsJudgingFault, IsStop}
+use Rattle.mcv_command.specs.Words.{AsksCheck}
+
+-- ---- the faults of a verdict, as the program's
+
+pub judging_stop : (words : List Text) (held : Held) (input : Option Text) (cert : Option Text) (stop : Stop) → AsksCheck words cert → IsJudgingFault held cert input stop
+    → IsStop words held input stop
+judging_stop words held input cert BadLine asks holds = absurd holds
+judging_stop words held input cert (Run fault) asks holds = inr (inr (inl (cert, asks, holds)))
+
+pub running_stop : (words : List Text) (held : Held) (input : Option Text) (stop : Stop) → AsksAnyRun words → IsJudgingFault held None input stop → IsStop words held input stop
+running_stop words held input BadLine asks holds = absurd holds
+running_stop words held input (Run fault) asks holds = inr (inr (inr (asks, holds)))
+
+-- a fault that is outside is out of memory or a device's
+pub outside_stop : (stop : Stop) (fault : RunFault) → stop ≡ Run fault → IsOutside fault → stop ≢ Run Device → stop ≢ Run Memory → ⊥
+outside_stop stop fault is (inl memory) no_device no_memory = no_memory (is ∙ ap Run memory)
+outside_stop stop fault is (inr device) no_device no_memory = no_device (is ∙ ap Run device)
+
+-- ---- a certificate's text by its first bytes
+
+abbrev pub read_limit : ℕ
+read_limit = text_limit + 1
+
+says_all : (text first : List ℕ) (r : Reading) → first ≡ take read_limit text → Says first r → Says text r
+says_all text first r is (over long) =
+    let cut : length (take read_limit text) ≤ length text = omega (arith, length-take read_limit text) in
+    let more : length first ≤ length text = subst (λ (xs : List ℕ). length xs ≤ length text) (sym is) cut in
+    over (omega arith)
+says_all text first r is (headless short none) =
+    let same : first ≡ text = is ∙ whole read_limit text (subst (λ (xs : List ℕ). length xs < read_limit) is (omega arith)) in
+    subst (λ (xs : List ℕ). Says xs r) same (headless short none)
+says_all text first r is (reads body s short starts behind) =
+    let same : first ≡ text = is ∙ whole read_limit text (subst (λ (xs : List ℕ). length xs < read_limit) is (omega arith)) in
+    subst (λ (xs : List ℕ). Says xs s) same (reads body s short starts behind)
+
+pub verdict_by_all : (input text first : List ℕ) (verdict : Verdict) (written : List ℕ) → first ≡ take read_limit text → IsVerdictOn input (Some first) verdict written
+    → IsVerdictOn input (Some text) verdict written
+verdict_by_all input text first (Covered n) written is on = (on.0, on.1, (on.2.0, says_all text first _ is on.2.1, on.2.2, on.2.3, on.2.4))
+verdict_by_all input text first Lost written is on = absurd on.2
+
+pub fault_by_all : (input text first : List ℕ) (fault : RunFault) → first ≡ take read_limit text → check.IsRunFault input (Some first) fault → check.IsRunFault input (Some text) fault
+fault_by_all input text first Line is holds = holds
+fault_by_all input text first NoRoute is holds = holds
+fault_by_all input text first (Config fault) is holds = holds
+fault_by_all input text first (CertificateText fault) is holds = (holds.0, holds.1, says_all text first _ is holds.2)
+fault_by_all input text first (Certificate fault) is holds = (holds.0, holds.1, (holds.2.0, says_all text first _ is holds.2.1, holds.2.2))
+fault_by_all input text first Memory is holds = tt
+fault_by_all input text first Device is holds = tt
+
+-- what follows from the first bytes of a file follows from what it holds; where that isn't known, these are some bytes
+given_one : (known : Option Text) (first : List ℕ) (P : Option Text → Type 0) → IfSome known (λ all. first ≡ take read_limit all)
+    → ((all : List ℕ) → first ≡ take read_limit all → P (Some first) → P (Some all)) → P (Some first)
+    → MatchOption known ((bytes : Text) × P (Some bytes)) (λ text. P (Some text))
+given_one None first P read more here = (first, here)
+given_one (Some all) first P read more here = more all read here
+
+pub given_all : (held : Held) (name : Text) (first : List ℕ) (input : Option Text) (P : List ℕ → Option Text → Type 0) → IfSome (held name) (λ all. first ≡ take read_limit all)
+    → ((bytes all : List ℕ) → first ≡ take read_limit all → P bytes (Some first) → P bytes (Some all)) → IfSome input (λ bytes. P bytes (Some first))
+    → IfSome input (λ bytes. IfGiven held (Some name) (P bytes))
+given_all held name first input P read more holds =
+    IfSome_then input holds (λ bytes here. given_one (held name) first (P bytes) read (λ all is was. more bytes all is was) here)

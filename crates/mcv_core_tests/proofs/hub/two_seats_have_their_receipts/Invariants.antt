@@ -1,0 +1,8 @@
+use Rattle.mcv_core_tests.proofs.hub.two_seats_have_their_receipts.Given as goal
+
+-- the ledgers are those that the two blanks open
+abbrev pub ghosts-two_seats-B-Ledger : goal.ghosts-two_seats-B-Ledger
+ghosts-two_seats-B-Ledger g a = record { name = a.begun.name; parts = a.begun.parts }
+
+abbrev pub ghosts-two_seats-T-Ledger : goal.ghosts-two_seats-T-Ledger
+ghosts-two_seats-T-Ledger g a = record { name = a.taken.name; parts = a.taken.parts }

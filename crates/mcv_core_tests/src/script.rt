@@ -1,0 +1,178 @@
+//! Scripts of a core. A line is an event and what the core answers to it, or a look at the core and what is seen:
+//! `next 0 = Ok(LegId(0))`, `state 0 = Some(Sent)`.
+
+use crate::setup::{accepted_of, bytes, opened, record, request, shared, stored_after};
+use mcv_base::{CallId, LegId, LegRequest, Moment, Op, Parts, Reply, Request, ServerId};
+use mcv_core::{Core, CoreFault, Dispatcher, LegState, LegView, Step};
+use mcv_pools::Fnv;
+use mcv_spool::SpoolRecord;
+use std::fmt::Debug;
+use std::process::Abort;
+use std::str::from_utf8;
+
+/// A record of a line: its number, its server and its rest.
+fn record_of(rt: &(impl AllocGlobal + Abort), line: &str) -> (u64, SpoolRecord) {
+    let (number, delete) = line.split_once(' ').expect(rt, "a number");
+    let (server, rest) = delete.split_once(' ').expect(rt, "a server");
+    (
+        number_of(rt, number),
+        record(rt, server.as_bytes(), rest.as_bytes()),
+    )
+}
+
+fn number_of(rt: &(impl AllocGlobal + Abort), word: &str) -> u64 {
+    word.parse::<u64>().expect(rt, word)
+}
+
+/// A core over this configuration, opened with a record of each line.
+fn core_with(rt: &(impl AllocGlobal + Abort), config: &str, records: &str) -> Core<Fnv> {
+    let mut list = Vec::new(rt.alloc());
+    for line in records.lines() {
+        list.push(record_of(rt, line)).expect(rt, "memory");
+    }
+    let accepted = accepted_of(rt, config).expect(rt, "covered routes");
+    opened(rt, accepted, list.as_slice())
+}
+
+/// Plays a script on a core over this configuration, opened with a record of each line.
+pub(crate) fn play(rt: &(impl AllocGlobal + Abort), config: &str, records: &str, script: &str) {
+    let mut core = core_with(rt, config, records);
+    for line in script.lines() {
+        play_line(rt, &mut core, line);
+    }
+}
+
+fn play_line(rt: &(impl AllocGlobal + Abort), core: &mut Core<Fnv>, line: &str) {
+    let (event, wanted) = line.split_once(" = ").expect(rt, "an answer");
+    let (word, more) = event.split_once(' ').unwrap_or((event, ""));
+    let found = answer(rt, core, word, more);
+    assert!(rt; found.as_str() == wanted, "{line}, not {found}");
+}
+
+fn answer(rt: &(impl AllocGlobal + Abort), core: &mut Core<Fnv>, word: &str, more: &str) -> String {
+    match word {
+        "begin" => begin(rt, core, more),
+        "answered" => answered(rt, core.events(), more),
+        "spooled" => spooled(rt, core.events(), more),
+        "turn" => shown(rt, core.events().turn()),
+        "held" => shown(rt, core.state().held()),
+        "entries" => shown(rt, core.state().entries()),
+        "era" => shown(rt, core.state().era()),
+        "legs" => shown(rt, core.state().next_leg()),
+        _ => moved(rt, core.events(), word, number_of(rt, more)),
+    }
+}
+
+/// The answer to an event of this number's server, leg, call or moment.
+fn moved(
+    rt: &(impl AllocGlobal + Abort),
+    core: &mut Dispatcher,
+    word: &str,
+    number: u64,
+) -> String {
+    match word {
+        "next" => shown(rt, core.next(server(number))),
+        "replay" => shown(rt, core.replay(server(number))),
+        "lost" => shown(rt, state(core.lost(LegId(number)))),
+        "refused" => shown(rt, state(core.spool_refused(LegId(number)))),
+        "take" => shown(rt, core.take(CallId(number))),
+        "clock" => shown(rt, core.clock(Moment(number))),
+        "mark" => shown(rt, core.mark(server(number))),
+        "unmark" => shown(rt, core.unmark(server(number))),
+        _ => seen(rt, core, word, number),
+    }
+}
+
+/// What is seen of this number's leg, call or server.
+fn seen(rt: &(impl AllocGlobal + Abort), core: &Dispatcher, word: &str, number: u64) -> String {
+    match word {
+        "state" => shown(rt, core.leg_state(LegId(number))),
+        "record" => shown(rt, core.record(LegId(number))),
+        "ready" => shown(rt, core.can_take(CallId(number))),
+        "marked" => shown(rt, core.marked(server(number))),
+        "leg" => leg(rt, core.leg(LegId(number))),
+        "asks" => asks(rt, core, LegId(number)),
+        _ => shown(rt, "no such word"),
+    }
+}
+
+fn shown<T: Debug + Drop>(rt: &(impl AllocGlobal + Abort), value: T) -> String {
+    format!(in rt.alloc(); "{value:?}").expect(rt, "memory")
+}
+
+fn server(number: u64) -> ServerId {
+    ServerId(u32::try_from(number).unwrap_or(u32::MAX))
+}
+
+fn state(step: Result<Step, CoreFault>) -> Result<LegState, CoreFault> {
+    Ok(step?.state)
+}
+
+/// Begins a call for the key `a`.
+fn begin(rt: &(impl AllocGlobal + Abort), core: &mut Core<Fnv>, op: &str) -> String {
+    let op = if op == "Get" { Op::Get } else { Op::Delete };
+    shown(rt, core.begin(rt.alloc(), request(rt, op, b"a"), 0))
+}
+
+/// A reply by its name; any other name is the body of a hit.
+fn reply(rt: &(impl AllocGlobal + Abort), name: &str) -> Reply {
+    match name {
+        "Deleted" => Reply::Deleted,
+        "NotFound" => Reply::NotFound,
+        "Miss" => Reply::Miss,
+        "Fault" => Reply::Fault(bytes(rt, b"SERVER_ERROR busy")),
+        body => Reply::Hit {
+            flags: 7,
+            cas: None,
+            body: shared(rt, body.as_bytes()),
+        },
+    }
+}
+
+/// A leg is answered by the reply of this name.
+fn answered(rt: &(impl AllocGlobal + Abort), core: &mut Dispatcher, more: &str) -> String {
+    let (leg, name) = more.split_once(' ').expect(rt, "a reply");
+    let parts = Parts::new(rt.alloc(), reply(rt, name)).expect(rt, "memory");
+    shown(rt, state(core.answered(LegId(number_of(rt, leg)), parts)))
+}
+
+/// A leg is stored as the record of this number, which is of this rest.
+fn spooled(rt: &(impl AllocGlobal + Abort), core: &mut Dispatcher, more: &str) -> String {
+    let (leg, record) = more.split_once(' ').expect(rt, "a record");
+    let (number, rest) = record.split_once(' ').expect(rt, "a rest");
+    let stored = stored_after(rt, number_of(rt, number), b"a:11211", rest.as_bytes());
+    shown(rt, state(core.spooled(LegId(number_of(rt, leg)), stored)))
+}
+
+/// The operation, the rest, the server, the call and the record of a leg, and what its client asked.
+fn leg(rt: &(impl AllocGlobal + Abort), leg: Option<LegView<'_>>) -> String {
+    let Some(leg) = leg else {
+        return shown(rt, "none");
+    };
+    let rest = from_utf8(leg.rest.as_bytes()).expect(rt, "a text");
+    let asked = matches!(leg.request, Some(Request::Ask(_)));
+    format!(in rt.alloc();
+        "{:?} {rest} {:?} {:?} {:?} {:?} {asked}",
+        leg.op, leg.mark, leg.server, leg.call, leg.record
+    )
+    .expect(rt, "memory")
+}
+
+/// What a leg asks its server.
+fn asks(rt: &(impl AllocGlobal + Abort), core: &Dispatcher, leg: LegId) -> String {
+    match core.to_request(rt.alloc(), leg).expect(rt, "memory") {
+        Some(request) => asked(rt, &request),
+        None => shown(rt, "none"),
+    }
+}
+
+/// The operation, the rest, the flags, the time and the body of a request.
+fn asked(rt: &(impl AllocGlobal + Abort), request: &LegRequest) -> String {
+    let rest = from_utf8(request.rest.as_bytes()).expect(rt, "a text");
+    let body = from_utf8(request.body.as_slice()).expect(rt, "a text");
+    format!(in rt.alloc();
+        "{:?} {rest} {} {} {body:?}",
+        request.op, request.flags, request.exptime
+    )
+    .expect(rt, "memory")
+}

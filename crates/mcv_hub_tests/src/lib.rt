@@ -1,7 +1,0 @@
-//! Tests of `mcv_hub`, apart from it, so that it isn't proved a second time for them.
-#![tactic(auto)]
-
-#[cfg(test)]
-mod rows;
-#[cfg(test)]
-mod setup;

@@ -1,0 +1,8 @@
+use Rattle.mcv_net_tests.proofs.links.legs_that_are_not_begun_are_sent_too.Given as goal
+
+-- the ledgers are those that the two blanks open
+abbrev pub ghosts-pass_of-B-Ledger : goal.ghosts-pass_of-B-Ledger
+ghosts-pass_of-B-Ledger g a = record { name = a.begun.name; parts = a.begun.parts }
+
+abbrev pub ghosts-pass_of-T-Ledger : goal.ghosts-pass_of-T-Ledger
+ghosts-pass_of-T-Ledger g a = record { name = a.taken.name; parts = a.taken.parts }
