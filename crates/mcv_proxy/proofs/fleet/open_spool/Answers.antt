@@ -1,6 +1,6 @@
 use Rattle.std.proofs.Common.{◌∙◌, ap, length}
 use Rattle.mcv_proxy.specs.Pending.{numbered}
-use Rattle.mcv_proxy.proofs.threads.open.Goals as goal
+use Rattle.mcv_proxy.proofs.fleet.open_spool.Goals as goal
 
 pub returns : goal.returns
 returns g c = record {
