@@ -64,12 +64,12 @@ fn open_spool<D: Disk>(alloc: Global, disk: D) -> Result<Store<D>, ProxyFault>
 {
     let spool = Spool::open(alloc, disk)?;
     let records = pending_records(alloc, spool.pending())?;
-    let pending = records.len();
+    let count = records.len();
     let spool = Arc::new(alloc, Mutex::new(spool))?;
     Ok(Store {
         spool,
         records,
-        pending,
+        pending: count,
     })
 }
 
