@@ -1,6 +1,7 @@
 //! What hubs report, added up.
 
-ghost use Rattle.std.specs.Prelude.{◌≡◌, ◌+◌, ◌-◌, ◌^◌, ℕ, IfOk, min, vec_len};
+ghost use Rattle.std.specs.Prelude.{◌≡◌, ◌+◌, ℕ, IfOk, vec_len};
+ghost use Rattle.mcv_plan.specs.Counts.{capped};
 ghost use Rattle.mcv_proxy.specs.Reports.{IsHubReport, IsReportOfHubs};
 
 use crate::fault::ProxyFault;
@@ -32,9 +33,9 @@ const NOTHING: Report = Report {
 
 /// Two reports, added up; a count that is too large for 64 bits is 2^64 - 1.
 fn sum(one: Report, other: Report) -> Report
-    ensures begun { result.begun ≡ min (one.begun + other.begun) (2 ^ 64 - 1) }
-    ensures taken { result.taken ≡ min (one.taken + other.taken) (2 ^ 64 - 1) }
-    ensures older { result.older ≡ min (one.older + other.older) (2 ^ 64 - 1) }
+    ensures begun { result.begun ≡ capped (one.begun + other.begun) }
+    ensures taken { result.taken ≡ capped (one.taken + other.taken) }
+    ensures older { result.older ≡ capped (one.older + other.older) }
 {
     Report {
         begun: one.begun.saturating_add(other.begun),
@@ -50,7 +51,9 @@ fn with_hub(
 ) -> Result<Report, ProxyFault>
     ensures { (count : ℕ) → IfOk total (IsReportOfHubs count) → IfOk result (IsReportOfHubs (count + 1)) }
 {
-    Ok(sum(total?, hub?.report))
+    let total = total?;
+    let hub = hub?;
+    Ok(sum(total, hub.report))
 }
 
 /// Waits until all hubs have ended: the sum of what they report, or the fault of the first that has one.
