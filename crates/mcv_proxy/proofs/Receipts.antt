@@ -33,6 +33,6 @@ all_current c xs =
     All-weaker P Q (λ x t. true_is_le c x.chapter t) (filter (λ r. nat_le c r.chapter) xs) (filter_passes (λ r. nat_le c r.chapter) xs)
 
 -- a report of these receipts is one of a hub
-pub is_report : (receipts : List Receipt) (r : Result Report ProxyFault) → IfOk r (IsReportOf receipts) → IfOk r IsHubReport
-is_report receipts (Ok report) h = record { receipts = receipts; of_them = h }
-is_report receipts (Err fault) h = tt
+pub is_hub_report : (receipts : List Receipt) (r : Result Report ProxyFault) → IfOk r (IsReportOf receipts) → IfOk r IsHubReport
+is_hub_report receipts (Ok report) h = record { receipts = receipts; of_them = h }
+is_hub_report receipts (Err fault) h = tt
