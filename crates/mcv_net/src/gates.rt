@@ -176,8 +176,4 @@ where
             Err(NetFault::Device) => Err(ProxyFault::Device),
         }
     }
-
-    fn note_unserved(&mut self) {
-        self.note(Notice::Unserved);
-    }
 }

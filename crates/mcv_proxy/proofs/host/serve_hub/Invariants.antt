@@ -1,4 +1,4 @@
-use Rattle.mcv_proxy.proofs.threads.start.Given as goal
+use Rattle.mcv_proxy.proofs.host.serve_hub.Given as goal
 
 -- the ledgers are those that the two blanks open
 abbrev pub ghosts-started-B-Ledger : goal.ghosts-started-B-Ledger
