@@ -92,6 +92,11 @@ pub trait Gates: Drop {
     /// A new way to the server of this text. An error is that memory ran out.
     fn link(&mut self, server: &str) -> Result<Self::Link, AllocError>;
 
+    /// How many hubs the clients are dealt out to, one after another.
+    fn hubs(&self) -> usize {
+        1
+    }
+
     /// The spool's disk. It is asked for once; None where it can't be had.
     fn disk(&mut self) -> Option<Self::Disk>;
 
