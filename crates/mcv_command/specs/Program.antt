@@ -76,7 +76,7 @@ IsDone words held serves input old new ending =
     ⊎ (((at : Moment) × IsJobOf words (jobs.Legs at) × (text : Text) × IfSome input (λ bytes. IsAnswer at.0 bytes text) × Appends old new text × (ending ≡ Done))
     ⊎ (((cert : Option Text) × AsksCheck words cert × IsJudged held cert input old new ending)
     ⊎ ((listen : Text) × (spool : Text) × (sessions : ℕ) × (proxies : ℕ) × AsksRun words listen spool sessions proxies
-        × IsServed held serves listen spool sessions proxies input old new ending)))
+    × IsServed held serves listen spool sessions proxies input old new ending)))
 
 -- the words are at fault; or memory ran out, or a device failed; or the words ask for legs, for a verdict or for a run, and the fault is in
 -- what was read

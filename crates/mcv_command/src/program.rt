@@ -123,7 +123,9 @@ pub fn run_words<'a, R: Read, W: Write, F: NamedFiles, P: Proxy>(
                 sessions,
                 proxies,
             },
-        ) => serve(alloc, proxy, listen, spool, sessions, proxies, reader, writer),
+        ) => serve(
+            alloc, proxy, listen, spool, sessions, proxies, reader, writer,
+        ),
         Err(LineFault::Help(text)) => {
             write_text(writer, text.as_bytes())?;
             Ok(Ending::Done)

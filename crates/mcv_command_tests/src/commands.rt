@@ -161,9 +161,8 @@ impl Proxy for Listed {
             return Err(RunFault::Memory);
         }
         let servers = accepted.routes().servers().len();
-        let Ok(line) = format!(in alloc;
-            "{listen} {spool} {sessions} {proxies} of {servers}\n"
-        ) else {
+        let Ok(line) = format!(in alloc; "{listen} {spool} {sessions} {proxies} of {servers}\n")
+        else {
             return Err(RunFault::Memory);
         };
         match out.write_all(line.as_bytes()) {
