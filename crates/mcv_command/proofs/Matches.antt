@@ -85,9 +85,9 @@ in_range option least most rows text n is passes number =
     (rw value takes.2, rw value takes.3)
 
 -- the number that a value of an option spells, which has 64 bits
-pub spelt : (option : Text) (least most : ℕ) (rows : List Row) (text : Text) → one_of option rows ≡ Some text → Passes (parsers.Unsigned least most) text
+pub number_spelt : (option : Text) (least most : ℕ) (rows : List Row) (text : Text) → one_of option rows ≡ Some text → Passes (parsers.Unsigned least most) text
     → (n : ℕ) × IsNumberOf option rows n × (n < 2 ^ 64)
-spelt option least most rows text is passes =
+number_spelt option least most rows text is passes =
     let takes = accepts-Accepts false (parsers.Unsigned least most) text passes in
     (digits_value 10 (without_leading_plus text), (text, is, takes.0, refl), takes.1)
 

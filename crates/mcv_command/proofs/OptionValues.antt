@@ -323,7 +323,8 @@ kept_by_values : (id other : Text) (values : List Text) (missing rows : List Row
     → has_row id (at_row other (more_values DefaultValue values) missing rows) ≡ true
 kept_by_values id other values missing [] has = absurd (true≢false (sym has))
 kept_by_values id other values missing (r ∷ rs) has =
-    go (bytes_eq r.id other) (kept_by_or (bytes_eq r.id id) (has_row id rs) _ has (λ more. kept_by_values id other values missing rs more))
+    let behind : List Row = at_row other (more_values DefaultValue values) missing rs in
+    go (bytes_eq r.id other) (kept_by_or (bytes_eq r.id id) (has_row id rs) (has_row id behind) has (λ more. kept_by_values id other values missing rs more))
   where
     go : (b : Bool) → has_row id (r ∷ at_row other (more_values DefaultValue values) missing rs) ≡ true
         → has_row id (cond b (more_values DefaultValue values r ++ rs) (r ∷ at_row other (more_values DefaultValue values) missing rs)) ≡ true

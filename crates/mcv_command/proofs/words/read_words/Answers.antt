@@ -6,7 +6,7 @@ use Rattle.clap.proofs.OnLiterals.{clap_on_literals}
 use Rattle.clap.proofs.ValueTestLemmas.{accepts-Accepts}
 use Rattle.mcv_command.specs.Words.{mcv_app, proxy_limit, session_limit}
 use Rattle.mcv_command.proofs.OptionValues.{at_parser, legs_values, run_values}
-use Rattle.mcv_command.proofs.Matches.{fault_of_kind, named_rows, name_of_rows, no_number, number_of, run_asked, spelt}
+use Rattle.mcv_command.proofs.Matches.{fault_of_kind, named_rows, name_of_rows, no_number, number_of, number_spelt, run_asked}
 use Rattle.mcv_command.proofs.CommandIsNamed.{taken}
 use Rattle.mcv_command.proofs.words.read_words.Goals as goal
 
@@ -45,8 +45,8 @@ returns-in_default-run_job-clause-fault c =
     let found = found_of c.in-Some-subcommand_matches.found.now in
     let run = sym held ∙ named_rows c.in-Ok.matches (codes "run") (rows_of found) (c.in-Some-subcommand_matches.ensures.found.0 refl) c.in-Some-subcommand_matches.ensures.rows in
     let has = run_values words (rows_of found) none run in
-    let sessions = spelt (codes "sessions") 1 session_limit (rows_of found) has.2 has.6 has.7 in
-    let proxies = spelt (codes "proxies") 1 proxy_limit (rows_of found) has.3 has.8 has.9 in
+    let sessions = number_spelt (codes "sessions") 1 session_limit (rows_of found) has.2 has.6 has.7 in
+    let proxies = number_spelt (codes "proxies") 1 proxy_limit (rows_of found) has.3 has.8 has.9 in
     absurd (true≢false (sym (c.in_default-run_job.ensures.some has.0 has.1 sessions.0 proxies.0 (has.4, has.5, sessions.1, proxies.1) sessions.2 proxies.2)))
 
 pub returns-in-Some-subcommand_matches-clause-job : goal.returns-in-Some-subcommand_matches-clause-job
