@@ -89,13 +89,13 @@ pub trait Gates: Drop {
 
     type Watch: Watch + Send + 'static;
 
-    /// A new way to the server of this text. An error is that memory ran out.
-    fn link(&mut self, server: &str) -> Result<Self::Link, AllocError>;
-
-    /// How many hubs the clients are dealt out to, one after another.
+    /// How many hubs there are, to which clients are dealt out one after another; where this is 0 there is one.
     fn hubs(&self) -> usize {
         1
     }
+
+    /// A new way to the server of this text. An error is that memory ran out.
+    fn link(&mut self, server: &str) -> Result<Self::Link, AllocError>;
 
     /// The spool's disk. It is asked for once; None where it can't be had.
     fn disk(&mut self) -> Option<Self::Disk>;
