@@ -111,16 +111,20 @@ run : faults run_line ≡ []
 unfolding clap_on_literals
 run = refl
 
-abbrev run_of : Option (Text × List Row) → Option (Option Text × Option Text × Option Text)
-run_of = option_map (λ p. (first_of (codes "listen") p.1, first_of (codes "spool") p.1, one_of (codes "sessions") p.1))
+abbrev run_of : Option (Text × List Row) → Option (Option Text × Option Text × Option Text × Option Text)
+run_of = option_map (λ p. (first_of (codes "listen") p.1, first_of (codes "spool") p.1, one_of (codes "sessions") p.1, one_of (codes "proxies") p.1))
 
-run_named : run_of (named run_line) ≡ Some (Some (codes "h:1"), Some (codes "f"), Some (codes "1000000000"))
+run_named : run_of (named run_line) ≡ Some (Some (codes "h:1"), Some (codes "f"), Some (codes "1000000000"), Some (codes "1"))
 unfolding clap_on_literals
 run_named = refl
 
-sessions_named : run_of (named (run_line ++ codes "--sessions" ∷ codes "3" ∷ [])) ≡ Some (Some (codes "h:1"), Some (codes "f"), Some (codes "3"))
+sessions_named : run_of (named (run_line ++ codes "--sessions" ∷ codes "3" ∷ [])) ≡ Some (Some (codes "h:1"), Some (codes "f"), Some (codes "3"), Some (codes "1"))
 unfolding clap_on_literals
 sessions_named = refl
+
+proxies_named : run_of (named (run_line ++ codes "--proxies" ∷ codes "4" ∷ [])) ≡ Some (Some (codes "h:1"), Some (codes "f"), Some (codes "1000000000"), Some (codes "4"))
+unfolding clap_on_literals
+proxies_named = refl
 
 no_spool : faults at_address ≡ MissingRequiredArgument ∷ []
 unfolding clap_on_literals
@@ -129,3 +133,11 @@ no_spool = refl
 no_sessions : faults (run_line ++ codes "--sessions" ∷ codes "0" ∷ []) ≡ ValueValidation ∷ []
 unfolding clap_on_literals
 no_sessions = refl
+
+no_proxies : faults (run_line ++ codes "--proxies" ∷ codes "0" ∷ []) ≡ ValueValidation ∷ []
+unfolding clap_on_literals
+no_proxies = refl
+
+too_many_proxies : faults (run_line ++ codes "--proxies" ∷ codes "65" ∷ []) ≡ ValueValidation ∷ []
+unfolding clap_on_literals
+too_many_proxies = refl

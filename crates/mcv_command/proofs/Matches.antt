@@ -5,16 +5,17 @@ use Rattle.std.specs.Str.Parse.{IsNumeral, ParsesUnsigned, digits_value, without
 use Rattle.std.specs.Box.{box_value}
 use Rattle.clap.specs.Words.{IsAmong, ReadsOne, Row, Text, one_of, subcommand_rows_of, subcommand_name_of}
 use Rattle.clap.proofs.ValueTestLemmas.{accepts-Accepts}
+use Rattle.clap.specs.declared.builder.value_parser.ValueParser.TheVariants as parsers
 use Rattle.clap.specs.declared.error.kind.ErrorKind.{ErrorKind}
 use Rattle.clap.specs.declared.error.kind.ErrorKind.TheVariants.{OutOfMemory}
 use Rattle.clap.specs.declared.parser.matches.ArgMatches.{ArgMatches}
 use Rattle.clap.specs.declared.parser.matches.ArgMatches.TheViews.{out-ArgMatches, out-SubCommand}
 use Rattle.clap.specs.declared.parser.matches.SubCommand.{SubCommand}
 use Rattle.clap.specs.Simple.{subcommand_rows}
-use Rattle.mcv_command.specs.Words.{faults, named, session_limit, IsFaultOfKind, IsJobOf, IsLineFault, IsNumberOf, IsRunOf}
+use Rattle.mcv_command.specs.Words.{faults, named, proxy_limit, session_limit, IsFaultOfKind, IsJobOf, IsLineFault, IsNumberOf, IsRunOf}
 use Rattle.mcv_command.specs.declared.words.Job.{Job}
 use Rattle.mcv_command.specs.declared.words.Job.TheVariants.{Legs, Check, Run}
-use Rattle.mcv_command.proofs.OptionValues.{Passes, sessions_parser}
+use Rattle.mcv_command.proofs.OptionValues.{HasAll, Passes}
 use Rattle.mcv_command.specs.declared.words.LineFault.{LineFault}
 use Rattle.mcv_command.specs.declared.words.LineFault.TheVariants.{BadLine, Memory, Help, Version}
 
@@ -74,27 +75,27 @@ pub number_read : {E : Type 0} (G : List ℕ → Result ℕ E → Type 0) (optio
 number_read G option rows None n only is none read = absurd (let never : Some n ≡ None = none refl in cc)
 number_read G option rows (Some text) n only is none read = number_of G option rows text n only is (read text refl)
 
--- the number of sessions that words give is in its range
-pub in_range : (rows : List Row) (text : Text) (n : ℕ) → one_of (codes "sessions") rows ≡ Some text → Passes sessions_parser text → IsNumberOf (codes "sessions") rows n
-    → (1 ≤ n) × (n ≤ session_limit)
-in_range rows text n is passes number =
+-- the number that words give an option is in the range of its parser
+in_range : (option : Text) (least most : ℕ) (rows : List Row) (text : Text) (n : ℕ) → one_of option rows ≡ Some text → Passes (parsers.Unsigned least most) text
+    → IsNumberOf option rows n → (least ≤ n) × (n ≤ most)
+in_range option least most rows text n is passes number =
     let same : number.0 ≡ text = inside number.0 text (sym number.1 ∙ is) in
-    let takes = accepts-Accepts false sessions_parser text passes in
+    let takes = accepts-Accepts false (parsers.Unsigned least most) text passes in
     let value : n ≡ digits_value 10 (without_leading_plus text) = number.3 ∙ ap (λ (t : Text). digits_value 10 (without_leading_plus t)) same in
     (rw value takes.2, rw value takes.3)
 
--- the number that a value of `--sessions` spells, which has 64 bits
-pub run_spelt : (rows : List Row) (text : Text) → one_of (codes "sessions") rows ≡ Some text → Passes sessions_parser text
-    → (n : ℕ) × IsNumberOf (codes "sessions") rows n × (n < 2 ^ 64)
-run_spelt rows text is passes =
-    let takes = accepts-Accepts false sessions_parser text passes in
+-- the number that a value of an option spells, which has 64 bits
+pub number_spelt : (option : Text) (least most : ℕ) (rows : List Row) (text : Text) → one_of option rows ≡ Some text → Passes (parsers.Unsigned least most) text
+    → (n : ℕ) × IsNumberOf option rows n × (n < 2 ^ 64)
+number_spelt option least most rows text is passes =
+    let takes = accepts-Accepts false (parsers.Unsigned least most) text passes in
     (digits_value 10 (without_leading_plus text), (text, is, takes.0, refl), takes.1)
 
 -- the job of `run` that has the values of the words is what they ask for
-pub run_asked : (words : List Text) (rows : List Row) (text : Text) (job : Job) → faults words ≡ [] → named words ≡ Some (codes "run", rows) → one_of (codes "sessions") rows ≡ Some text
-    → Passes sessions_parser text → IsRunOf rows job → IsJobOf words job
-run_asked words rows text (Legs at) none run is passes of = absurd of
-run_asked words rows text (Check cert) none run is passes of = absurd of
-run_asked words rows text (Run listen spool sessions) none run is passes of =
-    let range = in_range rows text sessions is passes of.2 in
-    (none, rows, run, of, range.0, range.1)
+pub run_asked : (words : List Text) (rows : List Row) (job : Job) → faults words ≡ [] → named words ≡ Some (codes "run", rows) → HasAll rows → IsRunOf rows job → IsJobOf words job
+run_asked words rows (Legs at) none run has of = absurd of
+run_asked words rows (Check cert) none run has of = absurd of
+run_asked words rows (Run listen spool sessions proxies) none run has of =
+    let ended = in_range (codes "sessions") 1 session_limit rows has.2 sessions has.6 has.7 of.2 in
+    let beside = in_range (codes "proxies") 1 proxy_limit rows has.3 proxies has.8 has.9 of.3 in
+    (none, rows, run, of, ended.0, ended.1, beside.0, beside.1)

@@ -58,9 +58,20 @@ sessions_rule = record (option_rule (codes "sessions")) {
   defaults = codes "1000000000" ∷ [];
 }
 
--- `run --listen ADDRESS --spool FILE [--sessions N]`
+-- the most proxies of a run
+abbrev pub proxy_limit : ℕ
+proxy_limit = 64
+
+-- `--proxies N`: a number from 1 to 64, and 1 where it isn't given
+abbrev pub proxies_rule : Rule
+proxies_rule = record (option_rule (codes "proxies")) {
+  parser = Some (parsers.Unsigned 1 proxy_limit);
+  defaults = codes "1" ∷ [];
+}
+
+-- `run --listen ADDRESS --spool FILE [--sessions N] [--proxies N]`
 abbrev pub run_app : App
-run_app = with_rule (with_rule (with_rule (new_app (codes "run")) listen_rule) spool_rule) sessions_rule
+run_app = with_rule (with_rule (with_rule (with_rule (new_app (codes "run")) listen_rule) spool_rule) sessions_rule) proxies_rule
 
 -- a command that shows its version where that is asked for
 abbrev pub with_version : App → App
@@ -70,7 +81,7 @@ with_version app = record app { top = record app.top { has_version = true } }
 abbrev pub wanting_a_command : App → App
 wanting_a_command app = record app { top = record app.top { subcommand_required = true } }
 
--- `mcv check [--cert FILE]`, `mcv legs [--at SECONDS]` and `mcv run --listen ADDRESS --spool FILE [--sessions N]`; `mcv --version`
+-- `mcv check [--cert FILE]`, `mcv legs [--at SECONDS]` and `mcv run --listen ADDRESS --spool FILE [--sessions N] [--proxies N]`; `mcv --version`
 abbrev pub mcv_app : App
 mcv_app = with_subcommand (with_subcommand (with_subcommand (wanting_a_command (with_version (new_app (codes "mcv")))) check_app.top) legs_app.top) run_app.top
 
@@ -93,27 +104,27 @@ IsNumberOf option rows n = (text : Text) × (one_of option rows ≡ Some text) �
 abbrev pub AsksCheck : List Text → Option Text → Type 0
 AsksCheck words cert = (faults words ≡ []) × (rows : List Row) × (named words ≡ Some (codes "check", rows)) × (cert ≡ first_of (codes "cert") rows)
 
--- the values of `--listen`, `--spool` and `--sessions`
-abbrev pub HasRunValues : List Row → (listen spool : Text) → (sessions : ℕ) → Type 0
-HasRunValues rows listen spool sessions = (first_of (codes "listen") rows ≡ Some listen) × (first_of (codes "spool") rows ≡ Some spool)
-    × IsNumberOf (codes "sessions") rows sessions
+-- the values of `--listen`, `--spool`, `--sessions` and `--proxies`
+abbrev pub HasRunValues : List Row → (listen spool : Text) → (sessions proxies : ℕ) → Type 0
+HasRunValues rows listen spool sessions proxies = (first_of (codes "listen") rows ≡ Some listen) × (first_of (codes "spool") rows ≡ Some spool)
+    × IsNumberOf (codes "sessions") rows sessions × IsNumberOf (codes "proxies") rows proxies
 
--- clap takes the words, and they name the command `run` with these values; the number of sessions is in its range
-abbrev pub AsksRun : List Text → (listen spool : Text) → (sessions : ℕ) → Type 0
-AsksRun words listen spool sessions = (faults words ≡ []) × (rows : List Row) × (named words ≡ Some (codes "run", rows))
-    × HasRunValues rows listen spool sessions × (1 ≤ sessions) × (sessions ≤ session_limit)
+-- clap takes the words, and they name the command `run` with these values; the numbers of sessions and of proxies are in their ranges
+abbrev pub AsksRun : List Text → (listen spool : Text) → (sessions proxies : ℕ) → Type 0
+AsksRun words listen spool sessions proxies = (faults words ≡ []) × (rows : List Row) × (named words ≡ Some (codes "run", rows))
+    × HasRunValues rows listen spool sessions proxies × (1 ≤ sessions) × (sessions ≤ session_limit) × (1 ≤ proxies) × (proxies ≤ proxy_limit)
 
 -- the job of `run` with these values
 abbrev pub IsRunOf : List Row → Job → Type 0
 IsRunOf rows (Legs at) = ⊥
 IsRunOf rows (Check cert) = ⊥
-IsRunOf rows (Run listen spool sessions) = HasRunValues rows listen.now spool.now sessions
+IsRunOf rows (Run listen spool sessions proxies) = HasRunValues rows listen.now spool.now sessions proxies
 
 -- clap takes the words, and they name the job's command with the values that the job has
 abbrev pub IsJobOf : List Text → Job → Type 0
 IsJobOf words (Check cert) = AsksCheck words (option_map (λ name. name.now) cert)
 IsJobOf words (Legs at) = (faults words ≡ []) × (rows : List Row) × (named words ≡ Some (codes "legs", rows)) × IsNumberOf (codes "at") rows at.0
-IsJobOf words (Run listen spool sessions) = AsksRun words listen.now spool.now sessions
+IsJobOf words (Run listen spool sessions proxies) = AsksRun words listen.now spool.now sessions proxies
 
 -- why words ask for no job: clap finds a fault with them that isn't the wish for help or for the
 -- version; memory ran out; they ask for help; they ask for the version

@@ -162,6 +162,9 @@ pub(crate) const SPOOL: &str = "The file that keeps deletes which wait for a ser
 pub(crate) const SESSIONS: &str = "After how many sessions the program ends,
 from 1 to 1000000000";
 
+pub(crate) const PROXIES: &str = "How many proxies run side by side,
+from 1 to 64";
+
 pub(crate) const RUN_FORM: &str =
     "Standard input has the configuration as JSON; `mcv legs --help` says which route
 handles are read. It is judged first, as by `mcv check`: where it can lose a
@@ -180,6 +183,11 @@ The first has the address that was bound, and how many deletes are in the spool
 file that weren't done. A session is a client's connection, from when it is
 taken to when it is closed. `calls` is how many calls the sessions began: one
 for each key of a request.
+
+Each proxy has its own connections to every server; clients are dealt out to
+them one after another. Have as many as the machine has processors. With more
+than one, requests of different clients reach a server in no order, as with
+mcrouter's `--num-proxies`.
 
 Exit status:
   0  ended, or help was asked for

@@ -4,12 +4,12 @@
 ghost use Rattle.std.specs.Prelude.{◌≡◌, ◌<◌, ◌^◌, ℕ, false, IfOk, IfErr, IfSome, IsSome, map};
 ghost use Rattle.clap.specs.Words.{Text, app_of, found_of, kind_of, rows_of, rule_of};
 ghost use Rattle.clap.specs.declared.builder.command.Command.TheViews.{out-Command as fields_of};
-ghost use Rattle.mcv_command.specs.Words.{at_rule, cert_rule, check_app, legs_app, listen_rule, mcv_app, run_app, sessions_rule, spool_rule, line_fault_number, HasRunValues, IsFaultOfKind, IsJobOf, IsLineFault, IsRunOf};
+ghost use Rattle.mcv_command.specs.Words.{at_rule, cert_rule, check_app, legs_app, listen_rule, mcv_app, proxies_rule, run_app, sessions_rule, spool_rule, line_fault_number, HasRunValues, IsFaultOfKind, IsJobOf, IsLineFault, IsRunOf};
 ghost use Rattle.mcv_command.specs.declared.words.LineFault.TheVariants.{Memory as out_of_memory};
 
 use crate::help::{
-    ABOUT, AT, CERT, CHECK_ABOUT, CHECK_FORM, EXAMPLE, LEGS_ABOUT, LEGS_FORM, LISTEN, RUN_ABOUT,
-    RUN_FORM, SESSIONS, SPOOL,
+    ABOUT, AT, CERT, CHECK_ABOUT, CHECK_FORM, EXAMPLE, LEGS_ABOUT, LEGS_FORM, LISTEN, PROXIES,
+    RUN_ABOUT, RUN_FORM, SESSIONS, SPOOL,
 };
 use clap::builder::ValueParser;
 use clap::error::ErrorKind;
@@ -29,11 +29,13 @@ pub enum Job<'a> {
     Check {
         cert: Option<&'a str>,
     },
-    /// To serve clients at the address, with the spool in the file of this name, until so many sessions have ended.
+    /// To serve clients at the address, with the spool in the file of this name, until so many sessions have ended, by so
+    /// many proxies side by side.
     Run {
         listen: &'a str,
         spool: &'a str,
         sessions: u64,
+        proxies: u64,
     },
 }
 
@@ -152,17 +154,30 @@ fn sessions_option<'a>(alloc: Global) -> Arg<'a>
         .help(SESSIONS)
 }
 
+fn proxies_option<'a>(alloc: Global) -> Arg<'a>
+    ensures rule { rule_of result ≡ proxies_rule }
+    ensures local { result.global ≡ false }
+{
+    Arg::new(alloc, "proxies")
+        .long("proxies")
+        .value_name("N")
+        .value_parser(ValueParser::unsigned(1, 64))
+        .default_value("1")
+        .help(PROXIES)
+}
+
 fn run_command<'a>(alloc: Global) -> Result<Command<'a>, AllocError>
     ensures app { IfOk result (λ c. app_of c ≡ run_app) }
     ensures local { IfOk result (λ c. (fields_of c).has_globals ≡ false) }
 {
     Command::new(alloc, "run")
         .about(RUN_ABOUT)
-        .override_usage("mcv run --listen ADDRESS --spool FILE [--sessions N] < FILE")
+        .override_usage("mcv run --listen ADDRESS --spool FILE [--sessions N] [--proxies N] < FILE")
         .after_help(RUN_FORM)
         .arg(listen_option(alloc))?
         .arg(spool_option(alloc))?
-        .arg(sessions_option(alloc))
+        .arg(sessions_option(alloc))?
+        .arg(proxies_option(alloc))
 }
 
 fn command<'a>(alloc: Global) -> Result<Command<'a>, AllocError>
@@ -200,15 +215,18 @@ fn line_fault(alloc: Global, error: &ClapError) -> LineFault
 /// The job of `run`, by what clap found for its options.
 fn run_job<'a>(found: &ArgMatches<'a>) -> Option<Job<'a>>
     ensures job { IfSome result (IsRunOf (rows_of (found_of found.now))) }
-    ensures some { (listen spool : Text) (sessions : ℕ) → HasRunValues (rows_of (found_of found.now)) listen spool sessions → sessions < 2 ^ 64 → IsSome result }
+    ensures some { (listen spool : Text) (sessions proxies : ℕ) → HasRunValues (rows_of (found_of found.now)) listen spool sessions proxies
+        → sessions < 2 ^ 64 → proxies < 2 ^ 64 → IsSome result }
 {
     let listen = found.get_str("listen")?;
     let spool = found.get_str("spool")?;
     let sessions = found.get_one::<u64>("sessions")?;
+    let proxies = found.get_one::<u64>("proxies")?;
     Some(Job::Run {
         listen,
         spool,
         sessions,
+        proxies,
     })
 }
 
