@@ -1,6 +1,7 @@
 //! The hubs of a proxy side by side, and the thread that starts them.
 
 ghost use Rattle.std.specs.Prelude.{◌≡◌, ◌+◌, ◌<◌, ◌%◌, IfOk, OnOk, length, map, vec_len};
+ghost use Rattle.std.specs.Thread.{IsSend};
 ghost use Rattle.mcv_spool.specs.File.{slots, waiting};
 ghost use Rattle.mcv_proxy.specs.Pending.{numbered};
 ghost use Rattle.mcv_proxy.specs.Reports.{IsReport, IsReportOfHubs};
@@ -126,7 +127,9 @@ fn launch<
 where
     L::Begun: Send + 'static,
 {
-    let job = move || serve_hub(rt, alloc, stock, outfit, calls);
+    let job = move || -> Result<HubReport, ProxyFault>
+        requires { IsSend D.row × IsSend L.row × IsSend L.Begun.row × IsSend I.row × IsSend O.row × IsSend W.row }
+    { serve_hub(rt, alloc, stock, outfit, calls) };
     thread::spawn(&rt, job).ok()
 }
 
