@@ -112,7 +112,8 @@ fn outfit_of<G: Gates>(
 /// Starts the thread of a hub. None where there is no thread for it.
 fn launch<
     D: Disk + Send + 'static,
-    L: Link + Send + 'static,
+    N: Drop + Send + 'static,
+    L: Link<Begun = N> + Send + 'static,
     I: Read + Drop + Send + 'static,
     O: Write + Drop + Send + 'static,
     W: Watch + Send + 'static,
@@ -123,12 +124,9 @@ fn launch<
     stock: Stock<D>,
     outfit: Outfit<L, W>,
     calls: Calls<I, O, W>,
-) -> Option<JoinHandle<Result<HubReport, ProxyFault>>>
-where
-    L::Begun: Send + 'static,
-{
+) -> Option<JoinHandle<Result<HubReport, ProxyFault>>> {
     let job = move || -> Result<HubReport, ProxyFault>
-        requires { IsSend D.row × IsSend L.row × IsSend L.Begun.row × IsSend I.row × IsSend O.row × IsSend W.row }
+        requires { IsSend D.row × IsSend L.row × IsSend N.row × IsSend I.row × IsSend O.row × IsSend W.row }
     { serve_hub(rt, alloc, stock, outfit, calls) };
     thread::spawn(&rt, job).ok()
 }
