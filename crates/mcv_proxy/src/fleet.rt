@@ -1,6 +1,7 @@
 //! The hubs of a proxy side by side, and the thread that starts them.
 
 ghost use Rattle.std.specs.Prelude.{◌≡◌, ◌+◌, ◌<◌, ◌%◌, IfOk, OnOk, length, map, vec_len};
+ghost use Rattle.std.specs.Thread.{IsSend};
 ghost use Rattle.mcv_spool.specs.File.{slots, waiting};
 ghost use Rattle.mcv_proxy.specs.Pending.{numbered};
 ghost use Rattle.mcv_proxy.specs.Reports.{IsReport, IsReportOfHubs};
@@ -111,7 +112,8 @@ fn outfit_of<G: Gates>(
 /// Starts the thread of a hub. None where there is no thread for it.
 fn launch<
     D: Disk + Send + 'static,
-    L: Link + Send + 'static,
+    N: Drop + Send + 'static,
+    L: Link<Begun = N> + Send + 'static,
     I: Read + Drop + Send + 'static,
     O: Write + Drop + Send + 'static,
     W: Watch + Send + 'static,
@@ -122,11 +124,10 @@ fn launch<
     stock: Stock<D>,
     outfit: Outfit<L, W>,
     calls: Calls<I, O, W>,
-) -> Option<JoinHandle<Result<HubReport, ProxyFault>>>
-where
-    L::Begun: Send + 'static,
-{
-    let job = move || serve_hub(rt, alloc, stock, outfit, calls);
+) -> Option<JoinHandle<Result<HubReport, ProxyFault>>> {
+    let job = move || -> Result<HubReport, ProxyFault>
+        requires { IsSend D.row × IsSend L.row × IsSend N.row × IsSend I.row × IsSend O.row × IsSend W.row }
+    { serve_hub(rt, alloc, stock, outfit, calls) };
     thread::spawn(&rt, job).ok()
 }
 
