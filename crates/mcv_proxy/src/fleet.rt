@@ -1,13 +1,14 @@
 //! The hubs of a proxy side by side, and the thread that starts them.
 
 ghost use Rattle.std.specs.Prelude.{◌≡◌, ◌+◌, ◌<◌, ◌%◌, IfOk, OnOk, length, map, vec_len};
+ghost use Rattle.std.specs.Thread.{IsSend};
 ghost use Rattle.mcv_spool.specs.File.{slots, waiting};
 ghost use Rattle.mcv_proxy.specs.Pending.{numbered};
 ghost use Rattle.mcv_proxy.specs.Reports.{IsReport, IsReportOfHubs};
 
 use crate::fault::ProxyFault;
-use crate::gates::{Gates, Watch};
-use crate::host::{Calls, Outfit, Stock, serve_hub};
+use crate::gates::{Gates, Link, Watch};
+use crate::host::{Calls, HubParts, Outfit, Stock, serve_hub};
 use crate::sums::{HubReport, sum_of_hubs};
 use crate::threads::{Tools, Visitor, server_count};
 use crossbeam_channel::{Receiver, Sender};
@@ -109,14 +110,22 @@ fn outfit_of<G: Gates>(
 }
 
 /// Starts the thread of a hub. None where there is no thread for it.
-fn launch<G: Gates, R: Threads + Wait + Clock + Copy + Send + 'static>(
+fn launch<
+    D: Disk + Send + 'static,
+    N: Drop + Send + 'static,
+    L: Link<Begun = N> + Send + 'static,
+    I: Read + Drop + Send + 'static,
+    O: Write + Drop + Send + 'static,
+    W: Watch + Send + 'static,
+    R: Threads + Wait + Clock + Copy + Send + 'static,
+>(
     rt: R,
     alloc: Global,
-    stock: Stock<G::Disk>,
-    outfit: Outfit<G::Link, G::Watch>,
-    calls: Calls<G::Reader, G::Writer, G::Watch>,
+    parts: HubParts<D, L, I, O, W>,
 ) -> Option<JoinHandle<Result<HubReport, ProxyFault>>> {
-    let job = move || serve_hub::<G, R>(rt, alloc, stock, outfit, calls);
+    let job = move || -> Result<HubReport, ProxyFault>
+        requires { IsSend D.row × IsSend L.row × IsSend N.row × IsSend I.row × IsSend O.row × IsSend W.row }
+    { serve_hub(rt, alloc, parts) };
     thread::spawn(&rt, job).ok()
 }
 
@@ -137,7 +146,13 @@ fn add_hub<G: Gates, R: Threads + Wait + Clock + Copy + Send + 'static>(
     let outfit = outfit_of(alloc, &stock.accepted, gates)?;
     let (door, clients) = crossbeam_channel::unbounded(alloc)?;
     let ready = ready.clone()?;
-    let Some(host) = launch::<G, R>(rt, alloc, stock, outfit, Calls { ready, clients }) else {
+    let calls = Calls { ready, clients };
+    let parts = HubParts {
+        stock,
+        outfit,
+        calls,
+    };
+    let Some(host) = launch(rt, alloc, parts) else {
         return Err(AllocError);
     };
     fleet.hosts.push_reserved(host);

@@ -5,7 +5,7 @@ ghost use Rattle.mcv_proxy.specs.Reports.{IsHubReport, IsReportOf};
 
 use crate::ends::Ends;
 use crate::fault::ProxyFault;
-use crate::gates::{Gates, Link, Watch};
+use crate::gates::{Link, Watch};
 use crate::lanes::{Lanes, Links};
 use crate::sums::HubReport;
 use crate::threads::{Crew, Done, Shared, Tools, Visitor, admit, server_count, staff};
@@ -54,6 +54,14 @@ pub(crate) struct Calls<I: Read + Drop, O: Write + Drop, W: Watch> {
     pub(crate) ready: Sender<()>,
     /// Its clients come here, until no more do.
     pub(crate) clients: Receiver<Visitor<I, O, W>>,
+}
+
+/// What a hub's thread is given.
+#[derive(Drop)]
+pub(crate) struct HubParts<D: Disk, L: Drop, I: Read + Drop, O: Write + Drop, W: Watch> {
+    pub(crate) stock: Stock<D>,
+    pub(crate) outfit: Outfit<L, W>,
+    pub(crate) calls: Calls<I, O, W>,
 }
 
 /// What a hub's threads share, and what makes passes and seats.
@@ -342,16 +350,25 @@ where
 /// Runs a hub: one worker for each server, one for the spool and the replayer, and each session in its thread. Where there
 /// is no thread for a worker the others end, and the answer is `Memory`. Once no more clients come and all sessions have
 /// ended, the workers end when they have nothing in hand, and the answer is what the hub counted.
-pub(crate) fn serve_hub<G: Gates, R: Threads + Wait + Clock + Copy + Send + 'static>(
-    rt: R,
-    alloc: Global,
-    stock: Stock<G::Disk>,
-    outfit: Outfit<G::Link, G::Watch>,
-    calls: Calls<G::Reader, G::Writer, G::Watch>,
-) -> Result<HubReport, ProxyFault> {
+pub(crate) fn serve_hub<
+    D: Disk + Send + 'static,
+    L: Link + Send + 'static,
+    I: Read + Drop + Send + 'static,
+    O: Write + Drop + Send + 'static,
+    W: Watch + Send + 'static,
+    R: Threads + Wait + Clock + Copy + Send + 'static,
+>(rt: R, alloc: Global, parts: HubParts<D, L, I, O, W>) -> Result<HubReport, ProxyFault>
+where
+    L::Begun: Send + 'static,
+{
+    let HubParts {
+        stock,
+        outfit,
+        calls,
+    } = parts;
     let begun = Blank::new(SEATS + 1);
     let taken = Blank::new(SEATS + 1);
-    let report = started::<Brand, Brand, G::Disk, G::Link, G::Reader, G::Writer, G::Watch, R>(
+    let report = started::<Brand, Brand, D, L, I, O, W, R>(
         rt, alloc, stock, outfit, calls, begun, taken,
     )?;
     Ok(HubReport::new(report))
