@@ -50,6 +50,7 @@ use Rattle.mcv_proxy.specs.contracts.threads.Tools as Tools
 use Rattle.mcv_proxy.specs.contracts.host.Stock as Stock
 use Rattle.mcv_proxy.specs.contracts.host.Outfit as Outfit
 use Rattle.mcv_proxy.specs.contracts.host.Calls as HubCalls
+use Rattle.mcv_proxy.specs.contracts.host.HubParts as HubParts
 use Rattle.mcv_spool.proofs.record.SpoolRecord.TheSendSync as stored
 use Rattle.crossbeam_channel.proofs.channel.Sender.TheSendSync as sender
 use Rattle.crossbeam_channel.proofs.channel.Receiver.TheSendSync as receiver
@@ -158,16 +159,20 @@ module _ (B T D L Begun : RattleType) (b : Ghosts B.Denot) (t : Ghosts T.Denot) 
   context_send s l = search (accepted_send, accepted_sync, shared_shared, links.the_send, links.the_sync, sendable, crosses) depth 24
 
 module _ (D : RattleType) (d : disk.Ghosts D.Denot) where
-  pub stock_send : IsSend D → IsSend (Stock.the_row D d)
+  stock_send : IsSend D → IsSend (Stock.the_field D d).row
   stock_send s = search (accepted_send, accepted_sync, spool.the_send, stored.the_send, sendable, crosses) depth 24
 
 module _ (L W : RattleType) where
   tools_send : IsSend L → IsSend W → IsSend (Tools.the_field L W).row
   tools_send l w = search (sendable, crosses) depth 24
 
-  pub outfit_send : IsSend L → IsSend W → IsSend (Outfit.the_row L W)
+  outfit_send : IsSend L → IsSend W → IsSend (Outfit.the_field L W).row
   outfit_send l w = search (tools_send, sendable, crosses) depth 24
 
 module _ (I O W : RattleType) where
-  pub hub_calls_send : IsSend I → IsSend O → IsSend W → IsSend (HubCalls.the_row I O W)
+  hub_calls_send : IsSend I → IsSend O → IsSend W → IsSend (HubCalls.the_field I O W).row
   hub_calls_send i o w = search (visitor_send, sender.the_send, receiver.the_send, sendable, crosses) depth 24
+
+module _ (D L I O W : RattleType) (d : disk.Ghosts D.Denot) where
+  pub parts_send : IsSend D → IsSend L → IsSend I → IsSend O → IsSend W → IsSend (HubParts.the_row D L I O W d)
+  parts_send s l i o w = search (stock_send, outfit_send, hub_calls_send, sendable, crosses) depth 24

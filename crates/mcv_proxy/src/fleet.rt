@@ -8,7 +8,7 @@ ghost use Rattle.mcv_proxy.specs.Reports.{IsReport, IsReportOfHubs};
 
 use crate::fault::ProxyFault;
 use crate::gates::{Gates, Link, Watch};
-use crate::host::{Calls, Outfit, Stock, serve_hub};
+use crate::host::{Calls, HubParts, Outfit, Stock, serve_hub};
 use crate::sums::{HubReport, sum_of_hubs};
 use crate::threads::{Tools, Visitor, server_count};
 use crossbeam_channel::{Receiver, Sender};
@@ -121,13 +121,11 @@ fn launch<
 >(
     rt: R,
     alloc: Global,
-    stock: Stock<D>,
-    outfit: Outfit<L, W>,
-    calls: Calls<I, O, W>,
+    parts: HubParts<D, L, I, O, W>,
 ) -> Option<JoinHandle<Result<HubReport, ProxyFault>>> {
     let job = move || -> Result<HubReport, ProxyFault>
         requires { IsSend D.row × IsSend L.row × IsSend N.row × IsSend I.row × IsSend O.row × IsSend W.row }
-    { serve_hub(rt, alloc, stock, outfit, calls) };
+    { serve_hub(rt, alloc, parts) };
     thread::spawn(&rt, job).ok()
 }
 
@@ -148,7 +146,13 @@ fn add_hub<G: Gates, R: Threads + Wait + Clock + Copy + Send + 'static>(
     let outfit = outfit_of(alloc, &stock.accepted, gates)?;
     let (door, clients) = crossbeam_channel::unbounded(alloc)?;
     let ready = ready.clone()?;
-    let Some(host) = launch(rt, alloc, stock, outfit, Calls { ready, clients }) else {
+    let calls = Calls { ready, clients };
+    let parts = HubParts {
+        stock,
+        outfit,
+        calls,
+    };
+    let Some(host) = launch(rt, alloc, parts) else {
         return Err(AllocError);
     };
     fleet.hosts.push_reserved(host);

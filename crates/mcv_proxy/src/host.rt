@@ -56,6 +56,14 @@ pub(crate) struct Calls<I: Read + Drop, O: Write + Drop, W: Watch> {
     pub(crate) clients: Receiver<Visitor<I, O, W>>,
 }
 
+/// What a hub's thread is given.
+#[derive(Drop)]
+pub(crate) struct HubParts<D: Disk, L: Drop, I: Read + Drop, O: Write + Drop, W: Watch> {
+    pub(crate) stock: Stock<D>,
+    pub(crate) outfit: Outfit<L, W>,
+    pub(crate) calls: Calls<I, O, W>,
+}
+
 /// What a hub's threads share, and what makes passes and seats.
 fn open<B: Ledger, T: Ledger, D: Disk>(
     alloc: Global,
@@ -349,16 +357,15 @@ pub(crate) fn serve_hub<
     O: Write + Drop + Send + 'static,
     W: Watch + Send + 'static,
     R: Threads + Wait + Clock + Copy + Send + 'static,
->(
-    rt: R,
-    alloc: Global,
-    stock: Stock<D>,
-    outfit: Outfit<L, W>,
-    calls: Calls<I, O, W>,
-) -> Result<HubReport, ProxyFault>
+>(rt: R, alloc: Global, parts: HubParts<D, L, I, O, W>) -> Result<HubReport, ProxyFault>
 where
     L::Begun: Send + 'static,
 {
+    let HubParts {
+        stock,
+        outfit,
+        calls,
+    } = parts;
     let begun = Blank::new(SEATS + 1);
     let taken = Blank::new(SEATS + 1);
     let report = started::<Brand, Brand, D, L, I, O, W, R>(
