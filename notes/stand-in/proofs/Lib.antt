@@ -1,0 +1,2 @@
+mod AddedUp
+mod Crossing
