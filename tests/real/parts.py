@@ -227,10 +227,11 @@ class Machine:
         self.ends.append(server.close)
         return server
 
-    def words(self, listen="127.0.0.1:0", spool=None, sessions=None):
+    def words(self, listen="127.0.0.1:0", spool=None, sessions=None, proxies=None):
         spool = spool or self.path("mcv.spool")
         words = [self.program, "run", "--listen", listen, "--spool", spool]
-        return words + (["--sessions", str(sessions)] if sessions else [])
+        words += ["--sessions", str(sessions)] if sessions else []
+        return words + (["--proxies", str(proxies)] if proxies else [])
 
     def config_file(self, config):
         path = self.path("config.json")
