@@ -1,13 +1,12 @@
 """Many clients at once, and clients that do harm."""
 import contextlib
 import random
-import signal
 import socket
 import struct
 import threading
 
 from fakes import Fake
-from parts import Failed, answer, case, deletes_to_all, expect, one_pool, pending, records, stored, value_answer, wait_for
+from parts import Failed, case, deletes_to_all, expect, one_pool, records, replayed, stored, value_answer, wait_for
 
 
 @case(120)
@@ -159,15 +158,7 @@ def a_server_of_four_proxies_is_killed_and_started_again(machine):
         for client, keys in zip(clients, own):
             wanted = b"NOT_FOUND\r\n" * len(keys)
             expect(client.exactly(len(wanted)), wanted, "deletes while the server is away")
-        expect(sorted(pending(spool)), sorted((text.encode(), key) for key in every), "pending in the spool")
-        # mcv is held while the keys are put there, so that only a delete that is sent again takes them away.
-        mcv.process.send_signal(signal.SIGSTOP)
-        machine.memcached(port=int(text.rsplit(":", 1)[1]))
-        for key in every:
-            expect(answer(text, stored(key, b"old")), b"STORED\r\n")
-        mcv.process.send_signal(signal.SIGCONT)
-        wait_for(lambda: answer(text, b"get " + b" ".join(every) + b"\r\n") == b"END\r\n", "each delete is sent again")
-        wait_for(lambda: not pending(spool), "each record is marked as done")
+        replayed(machine, mcv, spool, text, every)
         for client, keys in zip(clients, own):
             def back():
                 client.send(b"get " + keys[0] + b"\r\n")
