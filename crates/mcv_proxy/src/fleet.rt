@@ -24,6 +24,9 @@ use std::sync::{Arc, Mutex, Wait};
 use std::thread;
 use std::thread::{JoinHandle, Threads};
 
+/// From how many entries on the chapters of all hubs end, each once nothing is left of it.
+const MANY_ENTRIES: usize = 500_000;
+
 /// The most sessions.
 const SESSIONS: u64 = 1_000_000_000;
 
@@ -163,6 +166,11 @@ fn add_hub<G: Gates, R: Threads + Wait + Clock + Copy + Send + 'static>(
     Ok(())
 }
 
+/// From how many entries on a hub's chapter ends where there are so many hubs.
+fn share_of_entries(hubs: usize) -> usize {
+    MANY_ENTRIES / hubs.max(1)
+}
+
 /// Starts so many hubs, the first of which sends the records again. An error is that there was no memory or no thread for
 /// one; those that were started are in the fleet.
 fn add_hubs<G: Gates, R: Threads + Wait + Clock + Copy + Send + 'static>(
@@ -187,6 +195,7 @@ fn add_hubs<G: Gates, R: Threads + Wait + Clock + Copy + Send + 'static>(
             accepted: Arc::try_clone(accepted)?,
             spool: Arc::try_clone(spool)?,
             records: replace(&mut records, Vec::new(alloc)),
+            turn_from: share_of_entries(hubs),
         };
         add_hub(rt, alloc, stock, gates, &ready, fleet)?;
     }

@@ -36,6 +36,8 @@ pub(crate) struct Stock<D: Disk> {
     pub(crate) spool: Arc<Mutex<Spool<D>>>,
     /// The records of the spool that this hub sends again, each with its number.
     pub(crate) records: Vec<(u64, SpoolRecord)>,
+    /// From how many entries on its chapter ends once nothing is left of it.
+    pub(crate) turn_from: usize,
 }
 
 /// What is made for a hub by the gates.
@@ -78,6 +80,7 @@ fn open<B: Ledger, T: Ledger, D: Disk>(
         accepted,
         spool,
         records,
+        turn_from,
     } = stock;
     let known = Arc::try_clone(&accepted)?;
     let lanes = Lanes::new(alloc, server_count(&accepted))?;
@@ -90,6 +93,7 @@ fn open<B: Ledger, T: Ledger, D: Disk>(
         hub,
         lanes,
         spool,
+        turn_from,
         work_ends: Ends::new(),
         spool_ends: Ends::new(),
     };
