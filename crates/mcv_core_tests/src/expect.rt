@@ -1,7 +1,7 @@
 //! What the model expects the core to answer.
 
 use crate::draw::{Deed, Say};
-use crate::model::{Call, Model, Stage};
+use crate::model::{Call, IN_FLIGHT, Model, OPEN, Stage};
 use crate::readable::has_outcome;
 use mcv_base::{Moment, Outcome, Part, Reply, ServerId};
 use mcv_core::{Answer, CoreFault, LegState};
@@ -73,26 +73,22 @@ impl Model<'_> {
 
     /// The call's reply was taken, and each of its legs has an outcome.
     fn has_ended(&self, number: usize, call: &Call) -> bool {
+        for leg in &self.legs {
+            if leg.call == Some(number) && !has_outcome(&call.answered, &leg.launch.position) {
+                return false;
+            }
+        }
         call.taken
-            && self
-                .legs
-                .iter()
-                .filter(|leg| leg.call == Some(number))
-                .all(|leg| has_outcome(&call.answered, &leg.launch.position))
     }
 
     /// Each call has ended, and no leg has to be sent or stored.
     fn is_quiet(&self) -> bool {
-        let ended = self
-            .calls
-            .iter()
-            .enumerate()
-            .all(|(number, call)| self.has_ended(number, call));
-        ended
-            && self.legs.iter().all(|leg| matches!(
-                leg.stage,
-                Stage::Spooled | Stage::Performed | Stage::Gone
-            ))
+        for (number, call) in self.calls.iter().enumerate() {
+            if !self.has_ended(number, call) {
+                return false;
+            }
+        }
+        self.first_leg(0, None, OPEN).is_none()
     }
 
     fn of_begin(&self, key: usize) -> Expected {
@@ -107,10 +103,10 @@ impl Model<'_> {
 
     /// The server's first leg at this stage is sent, unless one is in flight.
     fn of_sending(&self, server: ServerId, stage: Stage) -> Expected {
-        if self.flight(server).is_some() {
+        if self.first_leg(0, Some(server), IN_FLIGHT).is_some() {
             return Expected::Refused(CoreFault::Busy);
         }
-        match self.first_at(server, stage) {
+        match self.first_leg(0, Some(server), &[stage]) {
             Some(leg) => Expected::Leg(leg),
             None => Expected::Refused(CoreFault::NothingWaiting),
         }

@@ -30,8 +30,6 @@ pub(crate) const MOVING: &str =
 
 pub(crate) const A: ServerId = ServerId(0);
 
-pub(crate) const B: ServerId = ServerId(1);
-
 /// What the checker accepts of a configuration; None where it can lose a delete.
 pub(crate) fn accepted_of(rt: &(impl AllocGlobal + Abort), text: &str) -> Option<Arc<Accepted>> {
     let judgement = judge_input(rt.alloc(), &mut text.as_bytes());

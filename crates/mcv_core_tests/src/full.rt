@@ -1,35 +1,11 @@
-//! Gets, and how much a core holds.
+//! How much a core holds.
 
-use crate::script::play;
 use crate::setup::{A, ONE, core_of, request};
 use mcv_base::{CallId, FixedReply, Op, Part, Parts, Request};
 use mcv_core::{Core, CoreFault, Dispatcher, LegState};
 use mcv_pools::Fnv;
 use std::process::Abort;
 use std::sync::Arc;
-
-const HIT: &str = "\
-begin Get = Ok(CallId(0))
-state 0 = Some(Waiting)
-next 0 = Ok(LegId(0))
-state 0 = Some(Sent)
-answered 0 v = Ok(Gone)
-take 0 = Ok(Some(Owned(Hit { flags: 7, cas: None, body: [118] })))";
-
-#[test]
-fn a_get_has_its_hit(rt: HostRuntime) {
-    play(&rt, ONE, "", HIT);
-}
-
-const ASKED: &str = "\
-begin Get = Ok(CallId(0))
-leg 0 = Get a Plain ServerId(0) Some(CallId(0)) None true
-leg 1 = \"none\"";
-
-#[test]
-fn a_leg_has_what_its_call_asks(rt: HostRuntime) {
-    play(&rt, ONE, "", ASKED);
-}
 
 /// What a core says to one more call.
 fn begun(
