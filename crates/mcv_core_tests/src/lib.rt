@@ -8,8 +8,6 @@ mod expect;
 #[cfg(test)]
 mod faults;
 #[cfg(test)]
-mod full;
-#[cfg(test)]
 mod ground;
 #[cfg(test)]
 mod hub;

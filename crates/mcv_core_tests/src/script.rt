@@ -4,7 +4,9 @@
 use crate::setup::{
     BOTH, MOVING, ONE, WARMING, accepted_of, bytes, opened, record, request, shared, stored_after,
 };
-use mcv_base::{CallId, LegId, LegRequest, Moment, Op, Parts, Reply, Request, ServerId};
+use mcv_base::{
+    CallId, FixedReply, LegId, LegRequest, Moment, Op, Part, Parts, Reply, Request, ServerId,
+};
 use mcv_core::{Core, CoreFault, Dispatcher, LegState, LegView, Step};
 use mcv_pools::Fnv;
 use mcv_spool::SpoolRecord;
@@ -71,6 +73,8 @@ fn answer(rt: &(impl AllocGlobal + Abort), core: &mut Core<Fnv>, word: &str, mor
         "begin" => begin(rt, core, more),
         "answered" => answered(rt, core.events(), more),
         "spooled" => spooled(rt, core.events(), more),
+        "deletes" => shown(rt, are_begun(rt, core, number_of(rt, more))),
+        "misses" => shown(rt, are_missed(rt, core, number_of(rt, more))),
         "turn" => shown(rt, core.events().turn()),
         "held" => shown(rt, core.state().held()),
         "entries" => shown(rt, core.state().entries()),
@@ -133,6 +137,44 @@ pub(crate) fn op(name: &str) -> Op {
 /// Begins a call for the key `a`.
 fn begin(rt: &(impl AllocGlobal + Abort), core: &mut Core<Fnv>, name: &str) -> String {
     shown(rt, core.begin(rt.alloc(), request(rt, op(name), b"a"), 0))
+}
+
+/// Whether so many deletes begin.
+fn are_begun(rt: &(impl AllocGlobal + Abort), core: &mut Core<Fnv>, count: u64) -> bool {
+    for _ in 0..count {
+        if core
+            .begin(rt.alloc(), request(rt, Op::Delete, b"a"), 0)
+            .is_err()
+        {
+            return false;
+        }
+    }
+    true
+}
+
+/// Whether so many gets begin, have a miss and are taken, one after the other.
+fn are_missed(rt: &(impl AllocGlobal + Abort), core: &mut Core<Fnv>, count: u64) -> bool {
+    for _ in 0..count {
+        if !is_missed(rt, core) {
+            return false;
+        }
+    }
+    true
+}
+
+fn is_missed(rt: &(impl AllocGlobal + Abort), core: &mut Core<Fnv>) -> bool {
+    let Ok(call) = core.begin(rt.alloc(), request(rt, Op::Get, b"a"), 0) else {
+        return false;
+    };
+    let Ok(leg) = core.events().next(ServerId(0)) else {
+        return false;
+    };
+    let step = core.events().answered(leg, Parts::fixed(FixedReply::Miss));
+    matches!(step, Ok(step) if step.state == LegState::Gone)
+        && matches!(
+            core.events().take(call),
+            Ok(Some(Part::Fixed(FixedReply::Miss)))
+        )
 }
 
 /// A reply by its name; any other name is the body of a hit.

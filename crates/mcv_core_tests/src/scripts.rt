@@ -186,3 +186,26 @@ fn cores_answer_as_scripts_say(rt: HostRuntime) {
         play(&rt, script);
     }
 }
+
+const LEGS: &str = "\
+a core holds 65536 legs = ONE
+deletes 65536 = true
+begin Delete = Err(LegsFull)";
+
+#[test]
+fn a_core_holds_65536_legs(rt: HostRuntime) {
+    play(&rt, LEGS);
+}
+
+const GETS: &str = "\
+a chapter holds 200000 gets = ONE
+misses 200000 = true
+entries = 1000000
+begin Get = Err(ChapterFull)
+turn = Ok(())
+misses 1 = true";
+
+#[test]
+fn a_chapter_holds_200000_gets(rt: HostRuntime) {
+    play(&rt, GETS);
+}
