@@ -227,10 +227,11 @@ class Machine:
         self.ends.append(server.close)
         return server
 
-    def words(self, listen="127.0.0.1:0", spool=None, sessions=None):
+    def words(self, listen="127.0.0.1:0", spool=None, sessions=None, proxies=None):
         spool = spool or self.path("mcv.spool")
         words = [self.program, "run", "--listen", listen, "--spool", spool]
-        return words + (["--sessions", str(sessions)] if sessions else [])
+        words += ["--sessions", str(sessions)] if sessions else []
+        return words + (["--proxies", str(proxies)] if proxies else [])
 
     def config_file(self, config):
         path = self.path("config.json")
@@ -317,6 +318,19 @@ def records(path):
 
 def pending(path):
     return [(server, rest) for is_done, server, rest in records(path) if not is_done]
+
+
+def replayed(machine, mcv, spool, text, keys):
+    """Starts the server of this address, with an old value of each key, and waits until the spool's deletes were sent again."""
+    expect(sorted(pending(spool)), sorted((text.encode(), key) for key in keys), "pending in the spool")
+    # mcv is held while the keys are put there, so that only a delete that is sent again takes them away.
+    mcv.process.send_signal(signal.SIGSTOP)
+    machine.memcached(port=address_of(text)[1])
+    for key in keys:
+        expect(answer(text, stored(key, b"old")), b"STORED\r\n")
+    mcv.process.send_signal(signal.SIGCONT)
+    wait_for(lambda: answer(text, b"get " + b" ".join(keys) + b"\r\n") == b"END\r\n", "each delete is sent again")
+    wait_for(lambda: not pending(spool), "each record is marked as done")
 
 
 def case(seconds=60):

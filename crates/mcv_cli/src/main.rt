@@ -25,13 +25,14 @@ fn main(rt: HostRuntime) -> ExitCode {
     ExitCode::from(exit_status(&ended))
 }
 
-/// What is to be served: the routes, the address, the name of the spool's file, and how many sessions.
+/// What is to be served: the routes, the address, the name of the spool's file, how many sessions, and by how many proxies.
 #[derive(Drop)]
 struct Order {
     accepted: Arc<Accepted>,
     listen: String,
     spool: String,
     sessions: u64,
+    proxies: u64,
 }
 
 impl Order {
@@ -41,12 +42,14 @@ impl Order {
         listen: &str,
         spool: &str,
         sessions: u64,
+        proxies: u64,
     ) -> Result<Order, AllocError> {
         Ok(Order {
             accepted,
             listen: String::from_str(alloc, listen)?,
             spool: String::from_str(alloc, spool)?,
             sessions,
+            proxies,
         })
     }
 }
@@ -61,7 +64,7 @@ struct Orders {
 impl Proxy for Orders {
     ghost use Rattle.std.specs.Prelude.{⊤};
 
-    ghost serves = { λ _ _ _ _ _ _ _. ⊤ };
+    ghost serves = { λ _ _ _ _ _ _ _ _. ⊤ };
 
     fn serve<W: Write>(
         &self,
@@ -70,9 +73,10 @@ impl Proxy for Orders {
         listen: &str,
         spool: &str,
         sessions: u64,
+        proxies: u64,
         _out: &mut W,
     ) -> Result<(), RunFault> {
-        match Order::new(alloc, accepted, listen, spool, sessions) {
+        match Order::new(alloc, accepted, listen, spool, sessions, proxies) {
             Ok(order) => {
                 self.order.set(Some(order));
                 Ok(())
@@ -120,9 +124,10 @@ where
         listen,
         spool,
         sessions,
+        proxies,
     } = order;
     let (listen, spool) = (listen.as_str(), spool.as_str());
-    match serve(rt, alloc, accepted, listen, spool, sessions, out) {
+    match serve(rt, alloc, accepted, listen, spool, sessions, proxies, out) {
         Ok(()) => Ok(Ending::Done),
         Err(NetFault::Memory) => Err(Stop::Run(RunFault::Memory)),
         Err(NetFault::Device) => Err(Stop::Run(RunFault::Device)),

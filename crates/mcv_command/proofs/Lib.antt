@@ -1,5 +1,1 @@
-mod Examples
-pub mod CommandIsNamed
-pub mod OptionValues
-pub mod Matches
 pub mod ProgramEnds

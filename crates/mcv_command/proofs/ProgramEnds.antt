@@ -16,7 +16,7 @@ use Rattle.mcv_verdict.specs.declared.verdict.Verdict.TheVariants.{Covered, Lost
 use Rattle.mcv_command.specs.declared.stop.Stop.{Stop}
 use Rattle.mcv_command.specs.declared.stop.Stop.TheVariants.{BadLine, Run}
 use Rattle.mcv_command.specs.Program.{AsksAnyRun, Held, IfGiven, IsJudgingFault, IsStop}
-use Rattle.mcv_command.specs.Words.{AsksCheck}
+use Rattle.mcv_words.specs.Words.{AsksCheck}
 
 -- ---- the faults of a verdict, as the program's
 

@@ -13,9 +13,9 @@ use Rattle.mcv_verdict.specs.Fault as check
 use Rattle.mcv_verdict.specs.Verdict.{IsVerdictOn}
 use Rattle.mcv_verdict.specs.declared.verdict.Verdict.{Verdict}
 use Rattle.mcv_verdict.specs.declared.verdict.Verdict.TheVariants as verdicts
-use Rattle.mcv_command.specs.Words.{AsksCheck, AsksRun, IsJobOf, IsLineFault, faults}
-use Rattle.mcv_command.specs.declared.words.Job.TheVariants as jobs
-use Rattle.mcv_command.specs.declared.words.LineFault.TheVariants as line_fault
+use Rattle.mcv_words.specs.Words.{AsksCheck, AsksRun, IsJobOf, IsLineFault, faults}
+use Rattle.mcv_words.specs.declared.words.Job.TheVariants as jobs
+use Rattle.mcv_words.specs.declared.words.LineFault.TheVariants as line_fault
 use Rattle.mcv_command.specs.declared.stop.Ending.{Ending}
 use Rattle.mcv_command.specs.declared.stop.Ending.TheVariants.{Done, Lost}
 use Rattle.mcv_command.specs.declared.stop.Stop.{Stop}
@@ -45,20 +45,20 @@ abbrev pub IsJudgingFault : Held → Option Text → (input : Option Text) → S
 IsJudgingFault held cert input BadLine = ⊥
 IsJudgingFault held cert input (Run fault) = IsOutside fault ⊎ IfSome input (λ bytes. IfGiven held cert (λ certificate. check.IsRunFault bytes certificate fault))
 
--- what it is that a proxy served routes: at an address, with the spool in the file of this name, until so many sessions had ended, from
--- what the writer held to what it holds
+-- what it is that routes were served: at an address, with the spool in the file of this name, until so many sessions had ended, by so many
+-- proxies side by side, from what the writer held to what it holds
 abbrev pub Serves : Type 1
-Serves = RoutesValue → (listen spool : Text) → (sessions : ℕ) → (old new : Option Text) → Type 0
+Serves = RoutesValue → (listen spool : Text) → (sessions proxies : ℕ) → (old new : Option Text) → Type 0
 
 -- the input names routes, these are covered, and the proxy served them; or the verdict that they aren't was written
-abbrev pub IsServed : Held → Serves → (listen spool : Text) → (sessions : ℕ) → (input old new : Option Text) → Ending → Type 0
-IsServed held serves listen spool sessions input old new ending =
-    ((r : RoutesValue) × IfSome input (λ bytes. AreNamedBy bytes r) × AreCovered r × serves r listen spool sessions old new × (ending ≡ Done))
+abbrev pub IsServed : Held → Serves → (listen spool : Text) → (sessions proxies : ℕ) → (input old new : Option Text) → Ending → Type 0
+IsServed held serves listen spool sessions proxies input old new ending =
+    ((r : RoutesValue) × IfSome input (λ bytes. AreNamedBy bytes r) × AreCovered r × serves r listen spool sessions proxies old new × (ending ≡ Done))
     ⊎ (IsJudged held None input old new Lost × (ending ≡ Lost))
 
 -- the words ask for a run
 abbrev pub AsksAnyRun : List Text → Type 0
-AsksAnyRun words = (listen : Text) × (spool : Text) × (sessions : ℕ) × AsksRun words listen spool sessions
+AsksAnyRun words = (listen : Text) × (spool : Text) × (sessions : ℕ) × (proxies : ℕ) × AsksRun words listen spool sessions proxies
 
 abbrev pub version_line : Text
 version_line = codes "mcv 1\n"
@@ -75,7 +75,8 @@ IsDone words held serves input old new ending =
     ((text : Text) × IsShownFor words text × Appends old new text × (ending ≡ Done))
     ⊎ (((at : Moment) × IsJobOf words (jobs.Legs at) × (text : Text) × IfSome input (λ bytes. IsAnswer at.0 bytes text) × Appends old new text × (ending ≡ Done))
     ⊎ (((cert : Option Text) × AsksCheck words cert × IsJudged held cert input old new ending)
-    ⊎ ((listen : Text) × (spool : Text) × (sessions : ℕ) × AsksRun words listen spool sessions × IsServed held serves listen spool sessions input old new ending)))
+    ⊎ ((listen : Text) × (spool : Text) × (sessions : ℕ) × (proxies : ℕ) × AsksRun words listen spool sessions proxies
+    × IsServed held serves listen spool sessions proxies input old new ending)))
 
 -- the words are at fault; or memory ran out, or a device failed; or the words ask for legs, for a verdict or for a run, and the fault is in
 -- what was read

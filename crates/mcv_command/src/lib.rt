@@ -1,20 +1,17 @@
 //! What the program does with the words of its command line, over any reader, any writer, any files and any proxy.
 //!
-//! `read_words` says what is asked for (`Job`), `run_words` does it and says how the program ends (`Ending`, `Stop`);
-//! `exit_status` is the status that it ends with.
+//! `run_words` does what they ask for and says how the program ends (`Ending`, `Stop`); `exit_status` is the status that
+//! it ends with.
 #![tactic(auto)]
 
 mod files;
-mod help;
 mod program;
 mod proxy;
 mod stop;
 mod system;
-mod words;
 
 pub use files::{NamedFiles, SystemFiles};
 pub use program::run_words;
 pub use proxy::Proxy;
 pub use stop::{Ending, Stop, exit_status};
 pub use system::given_words;
-pub use words::{Job, LineFault, read_words};

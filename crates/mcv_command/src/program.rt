@@ -8,10 +8,10 @@ ghost use Rattle.mcv_input.specs.declared.fault.RunFault.TheVariants.{Device, Me
 use crate::files::NamedFiles;
 use crate::proxy::Proxy;
 use crate::stop::{Ending, Stop};
-use crate::words::{Job, LineFault, read_words};
 use mcv_input::{RunFault, write_text};
 use mcv_legs::run_legs;
 use mcv_verdict::{Judgement, Verdict, judge_input, run_check};
+use mcv_words::{Job, LineFault, read_words};
 use std::alloc::Global;
 use std::io::{Read, Write};
 use std::sync::Arc;
@@ -56,19 +56,22 @@ fn judge_by<R: Read, W: Write, F: NamedFiles>(
     Ok(ending_of(verdict))
 }
 
-/// Judges a configuration, and has the proxy serve it where it is covered; else the verdict is written.
+/// Judges a configuration, and has it served where it is covered; else the verdict is written.
 fn serve<R: Read, W: Write, P: Proxy>(
     alloc: Global,
     proxy: &P,
     listen: &str,
     spool: &str,
     sessions: u64,
+    proxies: u64,
     reader: &mut R,
     writer: &mut W,
 ) -> Result<Ending, Stop>
     requires least { 1 ≤ sessions }
     requires most { sessions ≤ 1000000000 }
-    ensures done { (held : Held) → IfOk result (IsServed held (P.serves proxy.now) listen.now spool.now sessions (R.remaining reader.old)
+    requires least_proxies { 1 ≤ proxies }
+    requires most_proxies { proxies ≤ 64 }
+    ensures done { (held : Held) → IfOk result (IsServed held (P.serves proxy.now) listen.now spool.now sessions proxies (R.remaining reader.old)
         (W.contents writer.old) (W.contents writer.new)) }
     ensures stop { (held : Held) → IfErr result (IsJudgingFault held None (R.remaining reader.old)) }
     ensures silent { IfErr result (λ stop. stop ≢ Run Device → stop ≢ Run Memory → W.contents writer.new ≡ W.contents writer.old) }
@@ -80,7 +83,7 @@ fn serve<R: Read, W: Write, P: Proxy>(
             let Ok(shared) = Arc::new(alloc, accepted) else {
                 return Err(Stop::Run(RunFault::Memory));
             };
-            proxy.serve(alloc, shared, listen, spool, sessions, writer)?;
+            proxy.serve(alloc, shared, listen, spool, sessions, proxies, writer)?;
             Ok(Ending::Done)
         }
         Judgement::Lost { finding } => {
@@ -118,8 +121,11 @@ pub fn run_words<'a, R: Read, W: Write, F: NamedFiles, P: Proxy>(
                 listen,
                 spool,
                 sessions,
+                proxies,
             },
-        ) => serve(alloc, proxy, listen, spool, sessions, reader, writer),
+        ) => serve(
+            alloc, proxy, listen, spool, sessions, proxies, reader, writer,
+        ),
         Err(LineFault::Help(text)) => {
             write_text(writer, text.as_bytes())?;
             Ok(Ending::Done)

@@ -17,7 +17,7 @@ pub trait Proxy {
     ghost serves: { Self → Serves };
 
     /// Serves clients at the address by the routes, with the spool in the file of this name, until so many sessions have
-    /// ended.
+    /// ended, by so many proxies side by side.
     fn serve<W: Write>(
         &self,
         alloc: Global,
@@ -25,10 +25,13 @@ pub trait Proxy {
         listen: &str,
         spool: &str,
         sessions: u64,
+        proxies: u64,
         out: &mut W,
     ) -> Result<(), RunFault>
         requires least { 1 ≤ sessions }
         requires most { sessions ≤ 1000000000 }
-        ensures served { OnOk result (serves self.now (arc_value accepted) listen.now spool.now sessions (W.contents out.old) (W.contents out.new)) }
+        requires least_proxies { 1 ≤ proxies }
+        requires most_proxies { proxies ≤ 64 }
+        ensures served { OnOk result (serves self.now (arc_value accepted) listen.now spool.now sessions proxies (W.contents out.old) (W.contents out.new)) }
         ensures fault { IfErr result IsOutside };
 }

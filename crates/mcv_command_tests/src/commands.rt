@@ -4,8 +4,9 @@ ghost use Rattle.std.specs.Prelude.{None, ⊤};
 
 use crate::devices::is_written;
 use mcv_check::Accepted;
-use mcv_command::{Ending, Job, LineFault, NamedFiles, Proxy, Stop, read_words, run_words};
+use mcv_command::{Ending, NamedFiles, Proxy, Stop, run_words};
 use mcv_input::{RunFault, read_at_most};
+use mcv_words::{Job, LineFault, read_words};
 use std::alloc::Global;
 use std::io::Write;
 use std::process::Abort;
@@ -29,17 +30,24 @@ mcv check --cert a --cert b: bad line
 mcv check a.cert: bad line
 mcv check --at 1: bad line
 mcv legs --cert a: bad line
-mcv run --listen h:1 --spool f: run h:1 f 1000000000
-mcv run --spool=f --listen=h:1 --sessions=+7: run h:1 f 7
-mcv run --listen h:1 --spool f --sessions 1: run h:1 f 1
-mcv run --listen h:1 --spool f --sessions 1000000000: run h:1 f 1000000000
+mcv run --listen h:1 --spool f: run h:1 f 1000000000 1
+mcv run --spool=f --listen=h:1 --sessions=+7: run h:1 f 7 1
+mcv run --listen h:1 --spool f --sessions 1: run h:1 f 1 1
+mcv run --listen h:1 --spool f --sessions 1000000000: run h:1 f 1000000000 1
 mcv run --listen h:1 --spool f --sessions 1000000001: bad line
 mcv run --listen h:1 --spool f --sessions 0: bad line
 mcv run --listen h:1 --spool f --sessions -1: bad line
 mcv run --listen h:1 --spool f --sessions all: bad line
 mcv run --listen h:1 --spool f --sessions: bad line
 mcv run --listen h:1 --spool f --sessions 1 --sessions 2: bad line
-mcv run --listen= --spool=: run   1000000000
+mcv run --listen h:1 --spool f --proxies 1: run h:1 f 1000000000 1
+mcv run --listen h:1 --spool f --proxies=64 --sessions 7: run h:1 f 7 64
+mcv run --listen h:1 --spool f --proxies 65: bad line
+mcv run --listen h:1 --spool f --proxies 0: bad line
+mcv run --listen h:1 --spool f --proxies auto: bad line
+mcv run --listen h:1 --spool f --proxies: bad line
+mcv run --listen h:1 --spool f --proxies 1 --proxies 2: bad line
+mcv run --listen= --spool=: run   1000000000 1
 mcv run: bad line
 mcv run --listen h:1: bad line
 mcv run --spool f: bad line
@@ -79,7 +87,8 @@ fn job_text(rt: &(impl AllocGlobal + Abort), job: Job<'_>) -> String {
             listen,
             spool,
             sessions,
-        } => format!(in rt.alloc(); "run {listen} {spool} {sessions}"),
+            proxies,
+        } => format!(in rt.alloc(); "run {listen} {spool} {sessions} {proxies}"),
     };
     text.expect(rt, "memory")
 }
@@ -137,7 +146,7 @@ impl<'a> NamedFiles for OneFile<'a> {
 struct Listed;
 
 impl Proxy for Listed {
-    ghost serves = { λ _ _ _ _ _ _ _. ⊤ };
+    ghost serves = { λ _ _ _ _ _ _ _ _. ⊤ };
 
     fn serve<W: Write>(
         &self,
@@ -146,13 +155,15 @@ impl Proxy for Listed {
         listen: &str,
         spool: &str,
         sessions: u64,
+        proxies: u64,
         out: &mut W,
     ) -> Result<(), RunFault> {
         if listen == "full:1" {
             return Err(RunFault::Memory);
         }
         let servers = accepted.routes().servers().len();
-        let Ok(line) = format!(in alloc; "{listen} {spool} {sessions} of {servers}\n") else {
+        let Ok(line) = format!(in alloc; "{listen} {spool} {sessions} {proxies} of {servers}\n")
+        else {
             return Err(RunFault::Memory);
         };
         match out.write_all(line.as_bytes()) {
@@ -250,11 +261,14 @@ fn help_names_input_and_exit_statuses(rt: HostRuntime) {
 }
 
 const RUN_PARTS: &[&str] = &[
-    "Usage: mcv run --listen ADDRESS --spool FILE [--sessions N] < FILE",
+    "Usage: mcv run --listen ADDRESS --spool FILE [--sessions N] [--proxies N] < FILE",
     "--listen <ADDRESS>",
     "--spool <FILE>",
     "--sessions <N>",
     "[default: 1000000000]",
+    "--proxies <N>",
+    "[default: 1]",
+    "mcrouter's `--num-proxies`",
     "\n  mcv run --listen 127.0.0.1:5000 --spool mcv.spool < mcrouter.json\n",
     "\n  mcv listening 127.0.0.1:5000 pending 0\n",
     "\n  mcv closed calls 12\n",
@@ -427,7 +441,7 @@ fn configurations_are_judged(rt: HostRuntime) {
     check_said(&rt, &["mcv", "check"], "{", "mcv: configuration 1 at .", 2);
 }
 
-/// What the program says and does where it is to serve three sessions at an address.
+/// What the program says and does where it is to serve three sessions at an address by two proxies.
 fn check_run(
     rt: &(impl AllocGlobal + Abort),
     address: &str,
@@ -444,13 +458,15 @@ fn check_run(
         "f",
         "--sessions",
         "3",
+        "--proxies",
+        "2",
     ];
     check_said(rt, &words, config, expected, status);
 }
 
 #[test]
 fn a_run_serves_what_is_covered(rt: HostRuntime) {
-    check_run(&rt, "h:1", POOL, "h:1 f 3 of 1\n", 0);
+    check_run(&rt, "h:1", POOL, "h:1 f 3 2 of 1\n", 0);
     check_run(&rt, "h:1", WARM_UP, LOST, 3);
     check_run(&rt, "busy:1", WARM_UP, LOST, 3);
     check_run(&rt, "busy:1", "{", "mcv: configuration 1 at .", 2);

@@ -1,4 +1,4 @@
-//! Tests of what the program does short of serving: `mcv_input`, `mcv_legs`, `mcv_verdict` and `mcv_command`, apart from them, so that they aren't proved a second time for them.
+//! Tests of what the program does short of serving: `mcv_words`, `mcv_input`, `mcv_legs`, `mcv_verdict` and `mcv_command`, apart from them, so that they aren't proved a second time for them.
 #![tactic(auto)]
 
 #[cfg(test)]

@@ -1,6 +1,6 @@
 //! Events that are drawn.
 
-use crate::model::{Model, Stage};
+use crate::model::{IN_FLIGHT, Model, Stage};
 use crate::setup::{bytes, shared};
 use mcv_base::{FixedReply, Op, Parts, Reply, ServerId};
 use std::process::Abort;
@@ -160,18 +160,9 @@ fn drawn_leg(dice: &mut Dice, model: &Model<'_>, stages: &[Stage]) -> usize {
     if dice.once_in(10) {
         return start;
     }
-    let after = model
-        .legs
-        .iter()
-        .enumerate()
-        .position(|(at, leg)| at >= start && stages.contains(&leg.stage));
-    match after {
+    match model.first_leg(start, None, stages) {
         Some(leg) => leg,
-        None => model
-            .legs
-            .iter()
-            .position(|leg| stages.contains(&leg.stage))
-            .unwrap_or(start),
+        None => model.first_leg(0, None, stages).unwrap_or(start),
     }
 }
 
@@ -185,7 +176,7 @@ fn drawn_server(dice: &mut Dice, model: &Model<'_>, stages: &[Stage]) -> ServerI
 }
 
 fn drawn_reply(dice: &mut Dice, model: &Model<'_>) -> Deed {
-    let leg = drawn_leg(dice, model, &[Stage::Sent, Stage::Replayed]);
+    let leg = drawn_leg(dice, model, IN_FLIGHT);
     let op = match model.legs.get(leg) {
         Some(leg) => leg.launch.op,
         None => Op::Get,
@@ -208,12 +199,12 @@ fn drawn_moment(dice: &mut Dice, model: &Model<'_>) -> u64 {
 /// A call that wasn't taken, or any, or none.
 fn drawn_call(dice: &mut Dice, model: &Model<'_>) -> usize {
     let start = dice.below(model.calls.len().saturating_add(1));
-    model
-        .calls
-        .iter()
-        .enumerate()
-        .position(|(at, call)| at >= start && !call.taken)
-        .unwrap_or(start)
+    for (number, call) in model.calls.iter().enumerate() {
+        if number >= start && !call.taken {
+            return number;
+        }
+    }
+    start
 }
 
 /// The next event, over what the model has.
@@ -223,7 +214,7 @@ pub(crate) fn drawn(dice: &mut Dice, model: &Model<'_>, calm: bool) -> Deed {
         b'b' => Deed::Begin(drawn_op(dice), dice.below(model.ground.keys.len())),
         b'n' => Deed::Next(drawn_server(dice, model, &[Stage::Waiting])),
         b'a' => drawn_reply(dice, model),
-        b'l' => Deed::Lost(drawn_leg(dice, model, &[Stage::Sent, Stage::Replayed])),
+        b'l' => Deed::Lost(drawn_leg(dice, model, IN_FLIGHT)),
         b's' => Deed::Spooled(
             drawn_leg(dice, model, &[Stage::Held, Stage::Refused]),
             !dice.once_in(8),

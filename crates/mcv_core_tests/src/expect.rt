@@ -1,9 +1,10 @@
 //! What the model expects the core to answer.
 
 use crate::draw::{Deed, Say};
-use crate::model::{Call, Model, Stage};
+use crate::model::{Call, IN_FLIGHT, Model, OPEN, Stage};
 use crate::readable::has_outcome;
-use mcv_base::{Moment, Outcome, Part, Reply, ServerId};
+use crate::script::shown;
+use mcv_base::{Moment, Outcome, Part, ServerId};
 use mcv_core::{Answer, CoreFault, LegState};
 use mcv_route::Answered;
 use mcv_rules::{Source, Status};
@@ -21,33 +22,18 @@ pub(crate) enum Expected {
     Refused(CoreFault),
 }
 
-/// Whether the two are one reply.
-fn is_same(one: &Part, other: &Part) -> bool {
-    match (one, other) {
-        (Part::Fixed(one), Part::Fixed(other)) => one == other,
-        (Part::Owned(one), Part::Owned(other)) => match (&**one, &**other) {
-            (
-                Reply::Hit { cas, body, .. },
-                Reply::Hit {
-                    cas: k,
-                    body: b,
-                    ..
-                },
-            ) => { cas == k && body.as_slice() == b.as_slice() }
-            (Reply::Fault(one), Reply::Fault(other)) => one.as_slice() == other.as_slice(),
-            _ => false,
-        },
-        _ => false,
-    }
-}
-
 /// Whether the part is the reply of this source.
-fn is_reply(answered: &[Answered], source: Option<Source>, part: &Option<Part>) -> bool {
+fn is_reply(
+    rt: &(impl AllocGlobal + Abort),
+    answered: &[Answered],
+    source: Option<Source>,
+    part: &Option<Part>,
+) -> bool {
     match (source, part) {
         (None, None) => true,
         (Some(Source::Fixed(reply)), Some(Part::Fixed(fixed))) => reply == *fixed,
         (Some(Source::Outcome(place)), Some(part)) => match answered.get(place) {
-            Some(answered) => is_same(&answered.reply, part),
+            Some(answered) => shown(rt, &answered.reply) == shown(rt, part),
             None => false,
         },
         _ => false,
@@ -56,13 +42,18 @@ fn is_reply(answered: &[Answered], source: Option<Source>, part: &Option<Part>) 
 
 impl Model<'_> {
     /// Whether the answer is the expected one.
-    pub(crate) fn is_expected(&self, expected: Expected, answer: &Answer) -> bool {
+    pub(crate) fn is_expected(
+        &self,
+        rt: &(impl AllocGlobal + Abort),
+        expected: Expected,
+        answer: &Answer,
+    ) -> bool {
         match (expected, answer) {
             (Expected::Call(call), Answer::Call(number)) => call as u64 == number.0,
             (Expected::Leg(leg), Answer::Leg(number)) => leg as u64 == number.0,
             (Expected::State(state), Answer::State(there)) => state == *there,
             (Expected::Reply(call, source), Answer::Reply(part)) => match self.calls.get(call) {
-                Some(call) => is_reply(&call.answered, source, part),
+                Some(call) => is_reply(rt, &call.answered, source, part),
                 None => false,
             },
             (Expected::Done, Answer::Done) => true,
@@ -73,26 +64,22 @@ impl Model<'_> {
 
     /// The call's reply was taken, and each of its legs has an outcome.
     fn has_ended(&self, number: usize, call: &Call) -> bool {
+        for leg in &self.legs {
+            if leg.call == Some(number) && !has_outcome(&call.answered, &leg.launch.position) {
+                return false;
+            }
+        }
         call.taken
-            && self
-                .legs
-                .iter()
-                .filter(|leg| leg.call == Some(number))
-                .all(|leg| has_outcome(&call.answered, &leg.launch.position))
     }
 
     /// Each call has ended, and no leg has to be sent or stored.
     fn is_quiet(&self) -> bool {
-        let ended = self
-            .calls
-            .iter()
-            .enumerate()
-            .all(|(number, call)| self.has_ended(number, call));
-        ended
-            && self.legs.iter().all(|leg| matches!(
-                leg.stage,
-                Stage::Spooled | Stage::Performed | Stage::Gone
-            ))
+        for (number, call) in self.calls.iter().enumerate() {
+            if !self.has_ended(number, call) {
+                return false;
+            }
+        }
+        self.first_leg(0, None, OPEN).is_none()
     }
 
     fn of_begin(&self, key: usize) -> Expected {
@@ -107,10 +94,10 @@ impl Model<'_> {
 
     /// The server's first leg at this stage is sent, unless one is in flight.
     fn of_sending(&self, server: ServerId, stage: Stage) -> Expected {
-        if self.flight(server).is_some() {
+        if self.first_leg(0, Some(server), IN_FLIGHT).is_some() {
             return Expected::Refused(CoreFault::Busy);
         }
-        match self.first_at(server, stage) {
+        match self.first_leg(0, Some(server), &[stage]) {
             Some(leg) => Expected::Leg(leg),
             None => Expected::Refused(CoreFault::NothingWaiting),
         }

@@ -125,13 +125,11 @@ impl Ground {
 
     /// The servers that can be read of a key in an era.
     pub(crate) fn readable(&self, key: usize, since: Option<Moment>) -> &[ServerId] {
-        match self
-            .readable
-            .iter()
-            .find(|row| row.key == key && row.since == since)
-        {
-            Some(row) => row.servers.as_slice(),
-            None => &[],
+        for row in &self.readable {
+            if row.key == key && row.since == since {
+                return row.servers.as_slice();
+            }
         }
+        &[]
     }
 }

@@ -2,9 +2,10 @@
 
 ghost use Rattle.std.specs.Prelude.{◌≡◌, ◌+◌};
 
-use crate::setup::{A, ONE, accepted_of, request, shared, stored_after};
-use mcv_base::{CallId, FixedReply, LegId, Op, Part, Reply};
-use mcv_core::{CoreFault, LegState, Step};
+use crate::script::{number_of, op, reply, server, shown, state};
+use crate::setup::{ONE, accepted_of, request, stored_after};
+use mcv_base::{CallId, LegId};
+use mcv_core::CoreFault;
 use mcv_hub::{
     Entry, Guard, Hub, LegReply, Passes, Receipt, ReceiptFault, Report, Seat, TakenReply,
 };
@@ -16,117 +17,89 @@ use std::sync::ledger::{Blank, Ledger};
 /// How many seats there are.
 const SEATS: u64 = 2;
 
-/// Whether the event led its leg there.
-fn leads_to(step: Result<Step, CoreFault>, state: LegState) -> bool {
-    matches!(step, Ok(step) if step.state == state)
-}
-
-/// The call of the operation that is begun.
-fn begun<B: Ledger, T: Ledger>(
-    rt: &(impl AllocGlobal + Abort),
-    guard: &mut Guard<'_, B, T>,
-    seat: &mut Seat<B, T>,
-    op: Op,
-) -> CallId {
-    let request = request(rt, op, b"a");
-    guard
-        .begin(rt.alloc(), seat, request, 0)
-        .expect(rt, "a call")
-}
-
-/// The reply that is taken.
-fn taken<B: Ledger, T: Ledger>(
-    rt: &impl Abort,
-    guard: &mut Guard<'_, B, T>,
-    seat: &mut Seat<B, T>,
-    call: CallId,
-) -> TakenReply {
-    let found = guard.take_reply(seat, call).expect(rt, "the call");
-    found.expect(rt, "a reply")
-}
-
-/// The delete's leg is sent, lost and spooled.
-fn is_spooled<B: Ledger, T: Ledger>(
-    rt: &(impl AllocGlobal + Abort),
-    guard: &mut Guard<'_, B, T>,
-) -> bool {
-    guard.next(A) == Ok(LegId(0))
-        && leads_to(guard.lost(LegId(0)), LegState::Held)
-        && leads_to(
-            guard.spooled(LegId(0), stored_after(rt, 0, b"a:11211", b"a")),
-            LegState::Spooled,
-        )
-}
-
-/// The delete's leg is sent again, and performed.
-fn is_performed<B: Ledger, T: Ledger>(guard: &mut Guard<'_, B, T>) -> bool {
-    guard.replay(A) == Ok(LegId(0))
-        && leads_to(
-            guard.answered(LegId(0), LegReply::fixed(FixedReply::Deleted)),
-            LegState::Performed,
-        )
-}
-
 /// A delete is begun, sent, lost and spooled; its reply is taken, and then it is performed when it is sent again.
-fn delete_through_the_spool<B: Ledger, T: Ledger>(
+const DELETE: &str = "\
+begin Delete = Ok(CallId(0))
+next 0 = Ok(LegId(0))
+lost 0 = Ok(Held)
+spooled 0 a = Ok(Spooled)
+take 0 = Fixed(NotFound) Receipt { chapter: 0, entry: 2, call: CallId(0) }
+replay 0 = Ok(LegId(0))
+answered 0 Deleted = Ok(Performed)";
+
+/// A get is begun, sent and answered by a hit, which is taken once.
+const GET: &str = "\
+begin Get = Ok(CallId(1))
+take 1 = none
+next 0 = Ok(LegId(1))
+answered 1 x = Ok(Gone)
+take 1 = Owned(Hit { flags: 7, cas: None, body: [120] }) Receipt { chapter: 0, entry: 6, call: CallId(1) }
+take 1 = NoSuchCall";
+
+/// Plays a script of one seat: a line is an event and what the guard answers to it.
+fn play<B: Ledger, T: Ledger>(
     rt: &(impl AllocGlobal + Abort),
     guard: &mut Guard<'_, B, T>,
     seat: &mut Seat<B, T>,
-) -> Receipt {
-    let call = begun(rt, guard, seat, Op::Delete);
-    assert!(rt; is_spooled(rt, guard), "the delete isn't spooled");
-    let reply = taken(rt, guard, seat, call);
-    assert!(rt; matches!(reply.reply(), Part::Fixed(FixedReply::NotFound)));
-    assert!(rt; is_performed(guard), "the delete isn't performed");
-    reply.receipt()
-}
-
-/// A hit with the value `x`.
-fn hit(rt: &(impl AllocGlobal + Abort)) -> LegReply {
-    let hit = Reply::Hit {
-        flags: 0,
-        cas: None,
-        body: shared(rt, b"x"),
-    };
-    LegReply::new(rt.alloc(), hit).expect(rt, "memory")
-}
-
-/// Whether a reply is a hit with the value `x`.
-fn is_hit(part: &Part) -> bool {
-    match part {
-        Part::Owned(reply) =>
-            matches!(&**reply, Reply::Hit { body, .. } if body.as_slice() == b"x".as_slice()),
-        Part::Fixed(_) => false,
+    script: &str,
+) {
+    for line in script.lines() {
+        let (event, wanted) = line.split_once(" = ").expect(rt, line);
+        let (word, more) = event.split_once(' ').expect(rt, line);
+        let found = answer(rt, guard, seat, word, more);
+        assert!(rt; found.as_str() == wanted, "{line}, not {found}");
     }
 }
 
-/// Whether the call has no reply until its leg is answered by a hit.
-fn is_answered<B: Ledger, T: Ledger>(
+fn answer<B: Ledger, T: Ledger>(
     rt: &(impl AllocGlobal + Abort),
     guard: &mut Guard<'_, B, T>,
     seat: &mut Seat<B, T>,
-    call: CallId,
-) -> bool {
-    matches!(guard.take_reply(seat, call), Ok(None))
-        && guard.next(A) == Ok(LegId(1))
-        && leads_to(guard.answered(LegId(1), hit(rt)), LegState::Gone)
+    word: &str,
+    more: &str,
+) -> String {
+    match word {
+        "begin" => shown(
+            rt,
+            guard.begin(rt.alloc(), seat, request(rt, op(more), b"a"), 0),
+        ),
+        "take" => taken(rt, guard.take_reply(seat, CallId(number_of(rt, more)))),
+        _ => moved(rt, guard, word, more),
+    }
 }
 
-/// A get is begun, sent and answered by a hit, which is taken once.
-fn get_a_hit<B: Ledger, T: Ledger>(
+/// A reply that was taken, and its receipt.
+fn taken(rt: &(impl AllocGlobal + Abort), reply: Result<Option<TakenReply>, CoreFault>) -> String {
+    let text = match reply {
+        Ok(Some(reply)) => format!(in rt.alloc(); "{:?} {:?}", reply.reply(), reply.receipt()),
+        Ok(None) => format!(in rt.alloc(); "none"),
+        Err(fault) => format!(in rt.alloc(); "{fault:?}"),
+    };
+    text.expect(rt, "memory")
+}
+
+/// The answer to an event of a server or a leg.
+fn moved<B: Ledger, T: Ledger>(
     rt: &(impl AllocGlobal + Abort),
     guard: &mut Guard<'_, B, T>,
-    seat: &mut Seat<B, T>,
-) -> Receipt {
-    let call = begun(rt, guard, seat, Op::Get);
-    assert!(rt;
-        is_answered(rt, guard, seat, call),
-        "the get isn't answered"
-    );
-    let reply = taken(rt, guard, seat, call);
-    assert!(rt; is_hit(reply.reply()), "no hit");
-    assert!(rt; matches!(guard.take_reply(seat, call), Err(CoreFault::NoSuchCall)));
-    reply.receipt()
+    word: &str,
+    more: &str,
+) -> String {
+    let (number, name) = more.split_once(' ').unwrap_or((more, ""));
+    let number = number_of(rt, number);
+    match word {
+        "next" => shown(rt, guard.next(server(number))),
+        "replay" => shown(rt, guard.replay(server(number))),
+        "lost" => shown(rt, state(guard.lost(LegId(number)))),
+        "spooled" => {
+            let stored = stored_after(rt, 0, b"a:11211", name.as_bytes());
+            shown(rt, state(guard.spooled(LegId(number), stored)))
+        }
+        _ => {
+            let reply = LegReply::new(rt.alloc(), reply(rt, name)).expect(rt, "memory");
+            shown(rt, state(guard.answered(LegId(number), reply)))
+        }
+    }
 }
 
 fn receipt(entry: usize, call: u64) -> Receipt {
@@ -170,14 +143,13 @@ fn check_closes<B: Ledger, T: Ledger>(
     rt: &(impl AllocGlobal + Abort),
     guard: &mut Guard<'_, B, T>,
     seat: &mut Seat<B, T>,
-    first: Receipt,
-    second: Receipt,
 ) {
     let report = Report {
         begun: 2,
         taken: 2,
         older: 0,
     };
+    let (first, second) = (receipt(2, 0), receipt(6, 1));
     check_close(rt, guard, seat, &[first, second], Ok(report));
     check_close(rt, guard, seat, &[first, first], Err(ReceiptFault::Twice));
     check_close(
@@ -196,12 +168,10 @@ fn check_seats<B: Ledger, T: Ledger>(
     one: &mut Seat<B, T>,
     other: &mut Seat<B, T>,
 ) {
-    let first = delete_through_the_spool(rt, guard, one);
-    let second = get_a_hit(rt, guard, other);
-    assert!(rt; first == receipt(2, 0), "{first:?}");
-    assert!(rt; second == receipt(6, 1), "{second:?}");
+    play(rt, guard, one, DELETE);
+    play(rt, guard, other, GET);
     assert!(rt; is_of_two_calls(guard.history()), "another history");
-    check_closes(rt, guard, one, first, second);
+    check_closes(rt, guard, one);
 }
 
 /// A hub with two seats that are numbered from the ledgers' parts.

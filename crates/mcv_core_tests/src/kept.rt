@@ -1,7 +1,7 @@
 //! Where the core has its legs, and that deletes are kept.
 
 use crate::model::{Call, Leg, Model, Stage};
-use mcv_base::{LegId, Outcome, ServerId};
+use mcv_base::{CallId, LegId, Outcome, ServerId};
 use mcv_core::{Core, LegState};
 use mcv_pools::Fnv;
 use std::process::Abort;
@@ -17,6 +17,15 @@ fn leg_state(stage: Stage) -> Option<LegState> {
     }
 }
 
+/// Whether the call is of this number, or there is neither.
+fn is_call(call: Option<CallId>, number: Option<usize>) -> bool {
+    match (call, number) {
+        (Some(call), Some(number)) => call.0 == number as u64,
+        (None, None) => true,
+        _ => false,
+    }
+}
+
 impl Model<'_> {
     /// Whether the core has the leg where the model has it, and sends of it what the model has.
     fn is_leg(&self, core: &Core<Fnv>, number: usize, leg: &Leg) -> bool {
@@ -28,7 +37,7 @@ impl Model<'_> {
         else {
             return state.is_none();
         };
-        view.call.map(|call| call.0 as usize) == leg.call
+        is_call(view.call, leg.call)
             && view.server.is(leg.launch.server)
             && view.op.is(leg.launch.op)
             && view.mark == leg.launch.mark
@@ -50,11 +59,12 @@ impl Model<'_> {
 
     /// A chapter that began has an entry for each spooled leg.
     pub(crate) fn check_entries(&self, core: &Core<Fnv>) -> Result<(), &'static str> {
-        let spooled = self
-            .legs
-            .iter()
-            .filter(|leg| leg.stage == Stage::Spooled)
-            .count();
+        let mut spooled: usize = 0;
+        for leg in &self.legs {
+            if leg.stage == Stage::Spooled {
+                spooled = spooled.saturating_add(1);
+            }
+        }
         if core.state().entries() == spooled {
             Ok(())
         } else {
@@ -74,13 +84,17 @@ impl Model<'_> {
     /// Whether the call has a counted delete leg to the server that was performed, or that the core has, queued or
     /// spooled.
     fn keeps(&self, core: &Core<Fnv>, call: usize, server: ServerId) -> bool {
-        self.legs.iter().enumerate().any(|(number, leg)| {
-            leg.call == Some(call)
+        for (number, leg) in self.legs.iter().enumerate() {
+            if leg.call == Some(call)
                 && leg.launch.server.is(server)
                 && leg.is_counted_delete()
                 && (leg.stage == Stage::Performed
                     || core.state().leg_state(LegId(number as u64)).is_some())
-        })
+            {
+                return true;
+            }
+        }
+        false
     }
 
     /// Checks that deletes are kept. Gives how many legs they keep.

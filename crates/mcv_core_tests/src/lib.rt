@@ -2,15 +2,11 @@
 #![tactic(auto)]
 
 #[cfg(test)]
-mod asks;
-#[cfg(test)]
 mod draw;
 #[cfg(test)]
 mod expect;
 #[cfg(test)]
 mod faults;
-#[cfg(test)]
-mod gets;
 #[cfg(test)]
 mod ground;
 #[cfg(test)]
@@ -24,10 +20,8 @@ mod random;
 #[cfg(test)]
 mod readable;
 #[cfg(test)]
-mod rows;
-#[cfg(test)]
 mod script;
 #[cfg(test)]
-mod setup;
+mod scripts;
 #[cfg(test)]
-mod spooled;
+mod setup;

@@ -25,6 +25,18 @@ pub(crate) enum Stage {
     Gone,
 }
 
+/// Where a leg is in flight.
+pub(crate) const IN_FLIGHT: &[Stage] = &[Stage::Sent, Stage::Replayed];
+
+/// Where a leg has to be sent or stored, or is in flight.
+pub(crate) const OPEN: &[Stage] = &[
+    Stage::Waiting,
+    Stage::Sent,
+    Stage::Held,
+    Stage::Refused,
+    Stage::Replayed,
+];
+
 #[derive(Drop)]
 pub(crate) struct Leg {
     /// None where the spool held it at the start.
@@ -66,6 +78,14 @@ impl Stage {
 }
 
 impl Leg {
+    /// Whether its server is this one, where one is given.
+    fn is_to(&self, server: Option<ServerId>) -> bool {
+        match server {
+            Some(server) => self.launch.server.is(server),
+            None => true,
+        }
+    }
+
     /// Whether it is a delete that lies under no shadow.
     pub(crate) fn is_counted_delete(&self) -> bool {
         self.launch.op.is_delete() && self.launch.mark.is_counting()
@@ -120,8 +140,12 @@ impl<'a> Model<'a> {
 
     /// The leg of a call at the launch's position is there.
     fn has_leg(&self, call: usize, launch: &Launch) -> bool {
-        self.legs.iter().any(|leg| leg.call == Some(call)
-            && leg.launch.position.is(&launch.position))
+        for leg in &self.legs {
+            if leg.call == Some(call) && leg.launch.position.is(&launch.position) {
+                return true;
+            }
+        }
+        false
     }
 
     /// Numbers a leg of a call, unless it has a number.
@@ -285,15 +309,18 @@ impl<'a> Model<'a> {
         }
     }
 
-    /// The number of the leg that is in flight to a server.
-    pub(crate) fn flight(&self, server: ServerId) -> Option<usize> {
-        self.legs.iter().position(|leg| leg.launch.server.is(server) && leg.stage.is_in_flight())
-    }
-
-    /// The least number of a leg to the server at this stage.
-    pub(crate) fn first_at(&self, server: ServerId, stage: Stage) -> Option<usize> {
-        self.legs
-            .iter()
-            .position(|leg| leg.launch.server.is(server) && leg.stage == stage)
+    /// The least number from this one on of a leg at one of the stages, and to the server where one is given.
+    pub(crate) fn first_leg(
+        &self,
+        from: usize,
+        server: Option<ServerId>,
+        stages: &[Stage],
+    ) -> Option<usize> {
+        for (number, leg) in self.legs.iter().enumerate() {
+            if number >= from && leg.is_to(server) && stages.contains(&leg.stage) {
+                return Some(number);
+            }
+        }
+        None
     }
 }

@@ -230,7 +230,7 @@ impl<'a> Run<'a> {
     ) -> bool {
         let event = event_of(rt, &self.model, deed);
         let answer = self.core.answer(rt.alloc(), event);
-        let agrees = self.model.is_expected(expected, &answer);
+        let agrees = self.model.is_expected(rt, expected, &answer);
         seen.count(deed, &answer);
         self.model.take_in(rt, deed, &answer);
         agrees

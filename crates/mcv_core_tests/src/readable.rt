@@ -15,7 +15,12 @@ const REPLIES: [FixedReply; 3] = [FixedReply::Touched, FixedReply::Miss, FixedRe
 
 /// Whether there is an outcome at the position.
 pub(crate) fn has_outcome(answered: &[Answered], position: &Position) -> bool {
-    answered.iter().any(|there| there.position.is(position))
+    for there in answered {
+        if there.position.is(position) {
+            return true;
+        }
+    }
+    false
 }
 
 fn copy_of(rt: &(impl AllocGlobal + Abort), part: &Part) -> Part {
@@ -76,10 +81,12 @@ fn hit_server(launched: &[Launch], answered: &[Answered], status: Status) -> Opt
     if !matches!(reply.reply, Part::Fixed(FixedReply::Touched)) {
         return None;
     }
-    let leg = launched
-        .iter()
-        .find(|leg| leg.position.is(&reply.position))?;
-    Some(leg.server)
+    for leg in launched {
+        if leg.position.is(&reply.position) {
+            return Some(leg.server);
+        }
+    }
+    None
 }
 
 fn push_server(

@@ -1,8 +1,12 @@
 //! Scripts of a core. A line is an event and what the core answers to it, or a look at the core and what is seen:
 //! `next 0 = Ok(LegId(0))`, `state 0 = Some(Sent)`.
 
-use crate::setup::{accepted_of, bytes, opened, record, request, shared, stored_after};
-use mcv_base::{CallId, LegId, LegRequest, Moment, Op, Parts, Reply, Request, ServerId};
+use crate::setup::{
+    BOTH, MOVING, ONE, WARMING, accepted_of, bytes, opened, record, request, shared, stored_after,
+};
+use mcv_base::{
+    CallId, FixedReply, LegId, LegRequest, Moment, Op, Part, Parts, Reply, Request, ServerId,
+};
 use mcv_core::{Core, CoreFault, Dispatcher, LegState, LegView, Step};
 use mcv_pools::Fnv;
 use mcv_spool::SpoolRecord;
@@ -20,33 +24,48 @@ fn record_of(rt: &(impl AllocGlobal + Abort), line: &str) -> (u64, SpoolRecord) 
     )
 }
 
-fn number_of(rt: &(impl AllocGlobal + Abort), word: &str) -> u64 {
+pub(crate) fn number_of(rt: &(impl AllocGlobal + Abort), word: &str) -> u64 {
     word.parse::<u64>().expect(rt, word)
 }
 
-/// A core over this configuration, opened with a record of each line.
-fn core_with(rt: &(impl AllocGlobal + Abort), config: &str, records: &str) -> Core<Fnv> {
-    let mut list = Vec::new(rt.alloc());
-    for line in records.lines() {
-        list.push(record_of(rt, line)).expect(rt, "memory");
+/// The configuration of this name.
+fn config_of(name: &str) -> &'static str {
+    match name {
+        "ONE" => ONE,
+        "BOTH" => BOTH,
+        "WARMING" => WARMING,
+        "MOVING" => MOVING,
+        _ => "no such configuration",
+    }
+}
+
+/// A core over the configuration of this name, opened with the records behind it.
+fn core_with(rt: &(impl AllocGlobal + Abort), opening: &str) -> Core<Fnv> {
+    let mut words = opening.split(", ");
+    let config = config_of(words.next().unwrap_or(""));
+    let mut records = Vec::new(rt.alloc());
+    for line in words {
+        records.push(record_of(rt, line)).expect(rt, "memory");
     }
     let accepted = accepted_of(rt, config).expect(rt, "covered routes");
-    opened(rt, accepted, list.as_slice())
+    opened(rt, accepted, records.as_slice())
 }
 
-/// Plays a script on a core over this configuration, opened with a record of each line.
-pub(crate) fn play(rt: &(impl AllocGlobal + Abort), config: &str, records: &str, script: &str) {
-    let mut core = core_with(rt, config, records);
-    for line in script.lines() {
-        play_line(rt, &mut core, line);
+/// Plays a script: its first line opens a core, each other one is an event or a look.
+pub(crate) fn play(rt: &(impl AllocGlobal + Abort), script: &str) {
+    let (first, lines) = script.split_once('\n').expect(rt, script);
+    let (name, opening) = first.split_once(" = ").expect(rt, first);
+    let mut core = core_with(rt, opening);
+    for line in lines.lines() {
+        play_line(rt, &mut core, name, line);
     }
 }
 
-fn play_line(rt: &(impl AllocGlobal + Abort), core: &mut Core<Fnv>, line: &str) {
-    let (event, wanted) = line.split_once(" = ").expect(rt, "an answer");
+fn play_line(rt: &(impl AllocGlobal + Abort), core: &mut Core<Fnv>, name: &str, line: &str) {
+    let (event, wanted) = line.split_once(" = ").expect(rt, line);
     let (word, more) = event.split_once(' ').unwrap_or((event, ""));
     let found = answer(rt, core, word, more);
-    assert!(rt; found.as_str() == wanted, "{line}, not {found}");
+    assert!(rt; found.as_str() == wanted, "{name}: {line}, not {found}");
 }
 
 fn answer(rt: &(impl AllocGlobal + Abort), core: &mut Core<Fnv>, word: &str, more: &str) -> String {
@@ -54,6 +73,8 @@ fn answer(rt: &(impl AllocGlobal + Abort), core: &mut Core<Fnv>, word: &str, mor
         "begin" => begin(rt, core, more),
         "answered" => answered(rt, core.events(), more),
         "spooled" => spooled(rt, core.events(), more),
+        "deletes" => shown(rt, are_begun(rt, core, number_of(rt, more))),
+        "misses" => shown(rt, are_missed(rt, core, number_of(rt, more))),
         "turn" => shown(rt, core.events().turn()),
         "held" => shown(rt, core.state().held()),
         "entries" => shown(rt, core.state().entries()),
@@ -96,26 +117,68 @@ fn seen(rt: &(impl AllocGlobal + Abort), core: &Dispatcher, word: &str, number: 
     }
 }
 
-fn shown<T: Debug + Drop>(rt: &(impl AllocGlobal + Abort), value: T) -> String {
+pub(crate) fn shown<T: Debug + Drop>(rt: &(impl AllocGlobal + Abort), value: T) -> String {
     format!(in rt.alloc(); "{value:?}").expect(rt, "memory")
 }
 
-fn server(number: u64) -> ServerId {
+pub(crate) fn server(number: u64) -> ServerId {
     ServerId(u32::try_from(number).unwrap_or(u32::MAX))
 }
 
-fn state(step: Result<Step, CoreFault>) -> Result<LegState, CoreFault> {
+pub(crate) fn state(step: Result<Step, CoreFault>) -> Result<LegState, CoreFault> {
     Ok(step?.state)
 }
 
+/// An operation by its name.
+pub(crate) fn op(name: &str) -> Op {
+    if name == "Get" { Op::Get } else { Op::Delete }
+}
+
 /// Begins a call for the key `a`.
-fn begin(rt: &(impl AllocGlobal + Abort), core: &mut Core<Fnv>, op: &str) -> String {
-    let op = if op == "Get" { Op::Get } else { Op::Delete };
-    shown(rt, core.begin(rt.alloc(), request(rt, op, b"a"), 0))
+fn begin(rt: &(impl AllocGlobal + Abort), core: &mut Core<Fnv>, name: &str) -> String {
+    shown(rt, core.begin(rt.alloc(), request(rt, op(name), b"a"), 0))
+}
+
+/// Whether so many deletes begin.
+fn are_begun(rt: &(impl AllocGlobal + Abort), core: &mut Core<Fnv>, count: u64) -> bool {
+    for _ in 0..count {
+        if core
+            .begin(rt.alloc(), request(rt, Op::Delete, b"a"), 0)
+            .is_err()
+        {
+            return false;
+        }
+    }
+    true
+}
+
+/// Whether so many gets begin, have a miss and are taken, one after the other.
+fn are_missed(rt: &(impl AllocGlobal + Abort), core: &mut Core<Fnv>, count: u64) -> bool {
+    for _ in 0..count {
+        if !is_missed(rt, core) {
+            return false;
+        }
+    }
+    true
+}
+
+fn is_missed(rt: &(impl AllocGlobal + Abort), core: &mut Core<Fnv>) -> bool {
+    let Ok(call) = core.begin(rt.alloc(), request(rt, Op::Get, b"a"), 0) else {
+        return false;
+    };
+    let Ok(leg) = core.events().next(ServerId(0)) else {
+        return false;
+    };
+    let step = core.events().answered(leg, Parts::fixed(FixedReply::Miss));
+    matches!(step, Ok(step) if step.state == LegState::Gone)
+        && matches!(
+            core.events().take(call),
+            Ok(Some(Part::Fixed(FixedReply::Miss)))
+        )
 }
 
 /// A reply by its name; any other name is the body of a hit.
-fn reply(rt: &(impl AllocGlobal + Abort), name: &str) -> Reply {
+pub(crate) fn reply(rt: &(impl AllocGlobal + Abort), name: &str) -> Reply {
     match name {
         "Deleted" => Reply::Deleted,
         "NotFound" => Reply::NotFound,

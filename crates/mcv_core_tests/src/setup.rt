@@ -2,7 +2,7 @@
 
 ghost use Rattle.std.specs.Prelude.{[]};
 
-use mcv_base::{Ask, Op, Request, Rest, ServerId, ServerText};
+use mcv_base::{Ask, Op, Request, Rest, ServerText};
 use mcv_check::Accepted;
 use mcv_core::Core;
 use mcv_pools::Fnv;
@@ -28,10 +28,6 @@ pub(crate) const WARMING: &str =
 pub(crate) const MOVING: &str =
     "{\"pools\":{\"A\":{\"servers\":[\"a:11211\"]},\"B\":{\"servers\":[\"b:11211\"]}},\"route\":{\"type\":\"MigrateRoute\",\"from\":\"PoolRoute|A\",\"to\":\"PoolRoute|B\",\"start_time\":1000,\"interval\":3600}}";
 
-pub(crate) const A: ServerId = ServerId(0);
-
-pub(crate) const B: ServerId = ServerId(1);
-
 /// What the checker accepts of a configuration; None where it can lose a delete.
 pub(crate) fn accepted_of(rt: &(impl AllocGlobal + Abort), text: &str) -> Option<Arc<Accepted>> {
     let judgement = judge_input(rt.alloc(), &mut text.as_bytes());
@@ -50,10 +46,6 @@ pub(crate) fn opened(
     records: &[(u64, SpoolRecord)],
 ) -> Core<Fnv> {
     Core::new(rt.alloc(), accepted, Fnv, records).expect(rt, "a core")
-}
-
-pub(crate) fn core_of(rt: &(impl AllocGlobal + Abort), text: &str) -> Core<Fnv> {
-    opened(rt, accepted_of(rt, text).expect(rt, "covered routes"), &[])
 }
 
 /// The bytes, owned.

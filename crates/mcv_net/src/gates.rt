@@ -32,6 +32,8 @@ pub struct NetGates<'a, D: Disk, W: Write, R: Drop> {
     disk: Option<D>,
     /// How many clients are still to be served.
     sessions: u64,
+    /// How many proxies the clients are dealt out to.
+    proxies: u64,
     out: &'a mut W,
     /// Whether the last try to accept a client failed.
     is_deaf: bool,
@@ -49,6 +51,7 @@ impl<'a, D: Disk, W: Write, R: Clock + Eprint + Copy + Drop> NetGates<'a, D, W, 
         listener: TcpListener,
         disk: D,
         sessions: u64,
+        proxies: u64,
         out: &'a mut W,
     ) -> NetGates<'a, D, W, R> {
         NetGates {
@@ -57,6 +60,7 @@ impl<'a, D: Disk, W: Write, R: Clock + Eprint + Copy + Drop> NetGates<'a, D, W, 
             listener,
             disk: Some(disk),
             sessions,
+            proxies,
             out,
             is_deaf: false,
         }
@@ -143,6 +147,12 @@ where
         TcpLink::new(self.alloc, server, dial, notices)
     }
 
+    fn hubs(&self) -> usize
+        ensures { result ≡ self.now.proxies }
+    {
+        self.proxies as usize
+    }
+
     fn disk(&mut self) -> Option<D> {
         self.disk.take()
     }
@@ -175,9 +185,5 @@ where
             Err(NetFault::Memory) => Err(ProxyFault::Memory),
             Err(NetFault::Device) => Err(ProxyFault::Device),
         }
-    }
-
-    fn note_unserved(&mut self) {
-        self.note(Notice::Unserved);
     }
 }

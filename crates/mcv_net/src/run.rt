@@ -16,8 +16,8 @@ use std::rt::Clock;
 use std::sync::{Arc, Wait};
 use std::thread::Threads;
 
-/// Serves so many clients of a listener, by what the checker accepted and with the spool on a disk. Once the spool is open and
-/// the workers run it prints `mcv listening <address> pending <n>`, where n is the number of records pending in the spool;
+/// Serves so many clients of a listener, by so many proxies side by side, by what the checker accepted and with the spool on a
+/// disk. Once the spool is open and the workers run it prints `mcv listening <address> pending <n>`, where n is the number of records pending in the spool;
 /// once the last session has ended and the workers have nothing in hand, `mcv closed calls <n>`, where n is the number of
 /// calls begun.
 pub fn run_proxy<D, W, R>(
@@ -27,6 +27,7 @@ pub fn run_proxy<D, W, R>(
     listener: TcpListener,
     disk: D,
     sessions: u64,
+    proxies: u64,
     out: &mut W,
 ) -> Result<(), NetFault>
 where
@@ -42,7 +43,7 @@ where
         + Send
         + 'static,
 {
-    let gates = NetGates::new(rt, alloc, listener, disk, sessions, &mut *out);
+    let gates = NetGates::new(rt, alloc, listener, disk, sessions, proxies, &mut *out);
     let report = start(rt, alloc, accepted, gates)?;
     let line = closed_line(alloc, report)?;
     print_line(out, line.as_slice())?;
@@ -78,7 +79,7 @@ impl SpoolFiles for HostRuntime {
     }
 }
 
-/// Listens at an address, opens the spool of a file's name, and serves so many clients (`run_proxy`).
+/// Listens at an address, opens the spool of a file's name, and serves so many clients by so many proxies (`run_proxy`).
 pub fn serve<W, R>(
     rt: R,
     alloc: Global,
@@ -86,6 +87,7 @@ pub fn serve<W, R>(
     address: &str,
     spool: &str,
     sessions: u64,
+    proxies: u64,
     out: &mut W,
 ) -> Result<(), NetFault>
 where
@@ -103,5 +105,5 @@ where
 {
     let listener = listen(&rt, address)?;
     let disk = rt.open_spool(spool)?;
-    run_proxy(rt, alloc, accepted, listener, disk, sessions, out)
+    run_proxy(rt, alloc, accepted, listener, disk, sessions, proxies, out)
 }

@@ -52,4 +52,8 @@ impl<R: Clock + Drop, N: Notices> Watch for SystemWatch<R, N> {
     fn note_taking(&mut self) {
         self.notices.note(Notice::Taking);
     }
+
+    fn note_unserved(&mut self) {
+        self.notices.note(Notice::Unserved);
+    }
 }

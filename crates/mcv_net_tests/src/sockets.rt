@@ -45,23 +45,32 @@ fn serve_a_hit(alloc: Global, listener: &TcpListener) -> bool {
     }
 }
 
-/// Connects to an address, sends a request, and whether it is answered so.
+/// Connects to an address, sends a request, and whether it is answered so; so many times, one after another.
 fn is_answered_at<R: Net<Stream = TcpStream>>(
     rt: &R,
     alloc: Global,
     address: &str,
+    clients: u64,
     request: &str,
     reply: &str,
 ) -> bool {
-    match TcpStream::connect(rt, address) {
-        Ok(stream) => is_answered(alloc, &stream, request, reply),
-        Err(_) => false,
+    for _client in 0..clients {
+        let is_right = match TcpStream::connect(rt, address) {
+            Ok(stream) => is_answered(alloc, &stream, request, reply),
+            Err(_) => false,
+        };
+        if !is_right {
+            return false;
+        }
     }
+    true
 }
 
-/// What a client asks, and what it and the proxy's last line say.
+/// What each client asks, and what it and the proxies' lines say.
 #[derive(Clone, Copy)]
 struct Visit {
+    clients: u64,
+    proxies: u64,
     request: &'static str,
     reply: &'static str,
     pending: usize,
@@ -82,7 +91,7 @@ fn address_of(rt: &impl Abort, alloc: Global, listener: &TcpListener) -> String 
     format!(in alloc; "{address}").expect(rt, "memory")
 }
 
-/// The lines of a proxy that serves such a client.
+/// The lines of proxies that serve such clients.
 fn lines_of(rt: &impl Abort, alloc: Global, address: &str, visit: &Visit) -> String {
     let lines = format!(in alloc;
         "mcv listening {address} pending {}\nmcv closed calls {}\n",
@@ -91,7 +100,7 @@ fn lines_of(rt: &impl Abort, alloc: Global, address: &str, visit: &Visit) -> Str
     lines.expect(rt, "memory")
 }
 
-/// Whether a proxy to one server, with the spool in this file, serves one client so.
+/// Whether proxies to one server, with the spool in this file, serve clients so.
 fn is_served<R>(rt: R, alloc: Global, server: &str, spool: &str, visit: Visit) -> bool
 where
     R: Net<Stream = TcpStream, Listener = TcpListener>
@@ -110,20 +119,30 @@ where
     let listener = listen(&rt, "127.0.0.1:0").expect(&rt, "a listener");
     let address = address_of(&rt, alloc, &listener);
     let lines = lines_of(&rt, alloc, address.as_str(), &visit);
-    let Visit { request, reply, .. } = visit;
+    let Visit {
+        clients,
+        proxies,
+        request,
+        reply,
+        ..
+    } = visit;
     let client = thread::spawn(
         &rt,
-        move || is_answered_at(&rt, alloc, address.as_str(), request, reply),
+        move || is_answered_at(&rt, alloc, address.as_str(), clients, request, reply),
     );
     let client = client.expect(&rt, "a thread");
     let mut out = Vec::new(alloc);
     let disk = rt.open_spool(spool).expect(&rt, "a spool");
-    let ran = run_proxy(rt, alloc, accepted, listener, disk, 1, &mut out);
+    let ran = run_proxy(
+        rt, alloc, accepted, listener, disk, clients, proxies, &mut out,
+    );
     let is_answered = client.join(&rt);
     ran.is_ok() && is_answered && out.as_slice() == lines.as_bytes()
 }
 
 const GET: Visit = Visit {
+    clients: 1,
+    proxies: 1,
     request: "get a\r\n",
     reply: "VALUE a 0 1\r\nx\r\nEND\r\n",
     pending: 0,
@@ -154,20 +173,33 @@ where
 }
 
 const DELETE: Visit = Visit {
+    clients: 1,
+    proxies: 1,
     request: "delete a\r\n",
     reply: "NOT_FOUND\r\n",
     pending: 0,
     calls: 1,
 };
 
+const DELETES: Visit = Visit {
+    clients: 4,
+    proxies: 2,
+    request: "delete a\r\n",
+    reply: "NOT_FOUND\r\n",
+    pending: 1,
+    calls: 4,
+};
+
 const VERSION: Visit = Visit {
+    clients: 1,
+    proxies: 1,
     request: "version\r\n",
     reply: "VERSION mcv 1\r\n",
-    pending: 1,
+    pending: 5,
     calls: 0,
 };
 
-/// Whether a delete to a server that isn't there is in the spool, also for the next proxy.
+/// Whether deletes to a server that isn't there are in the spool, also for the next proxies.
 fn spools<R>(rt: R, alloc: Global, spool: &str) -> bool
 where
     R: Net<Stream = TcpStream, Listener = TcpListener>
@@ -186,11 +218,12 @@ where
     let server = address_of(&rt, alloc, &listener);
     drop(listener);
     is_served(rt, alloc, server.as_str(), spool, DELETE)
+        && is_served(rt, alloc, server.as_str(), spool, DELETES)
         && is_served(rt, alloc, server.as_str(), spool, VERSION)
 }
 
 #[test]
-fn a_get_hits_and_a_delete_is_spooled(rt: HostRuntime) {
+fn a_get_hits_and_deletes_are_spooled(rt: HostRuntime) {
     let alloc = rt.alloc();
     let temporary = env::temp_dir(&rt).expect(&rt, "a folder");
     let folder = temporary.as_str();
@@ -200,5 +233,5 @@ fn a_get_hits_and_a_delete_is_spooled(rt: HostRuntime) {
     let length = fs::read(&rt, spool.as_str()).expect(&rt, "the spool").len();
     fs::remove_file(&rt, spool.as_str()).expect(&rt, "the spool");
     assert!(rt; is_right);
-    assert!(rt; length == 641, "{length} bytes");
+    assert!(rt; length == 3201, "{length} bytes");
 }

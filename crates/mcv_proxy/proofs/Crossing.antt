@@ -46,6 +46,14 @@ use Rattle.mcv_proxy.proofs.lanes.Links.TheSendSync as links
 use Rattle.mcv_proxy.specs.contracts.threads.Shared as Shared
 use Rattle.mcv_proxy.specs.contracts.threads.SessionContext as Context
 use Rattle.mcv_proxy.specs.contracts.threads.Visitor as Visitor
+use Rattle.mcv_proxy.specs.contracts.threads.Tools as Tools
+use Rattle.mcv_proxy.specs.contracts.host.Stock as Stock
+use Rattle.mcv_proxy.specs.contracts.host.Outfit as Outfit
+use Rattle.mcv_proxy.specs.contracts.host.Calls as HubCalls
+use Rattle.mcv_proxy.specs.contracts.host.HubParts as HubParts
+use Rattle.mcv_spool.proofs.record.SpoolRecord.TheSendSync as stored
+use Rattle.crossbeam_channel.proofs.channel.Sender.TheSendSync as sender
+use Rattle.crossbeam_channel.proofs.channel.Receiver.TheSendSync as receiver
 use Rattle.mcv_proxy.proofs.threads.Visitor.TheSendSync as visitor
 use Rattle.mcv_proxy.proofs.lanes.Lane.TheSendSync as lane
 use Rattle.std.specs.contracts.option.Option as Option
@@ -149,3 +157,22 @@ module _ (B T D : RattleType) (b : Ghosts B.Denot) (t : Ghosts T.Denot) (d : dis
 module _ (B T D L Begun : RattleType) (b : Ghosts B.Denot) (t : Ghosts T.Denot) (d : disk.Ghosts D.Denot) where
   pub context_send : IsSend D → IsSend L → IsSend (Context.the_row B T D L Begun d b t)
   context_send s l = search (accepted_send, accepted_sync, shared_shared, links.the_send, links.the_sync, sendable, crosses) depth 24
+
+module _ (D : RattleType) (d : disk.Ghosts D.Denot) where
+  stock_send : IsSend D → IsSend (Stock.the_field D d).row
+  stock_send s = search (accepted_send, accepted_sync, spool.the_send, stored.the_send, sendable, crosses) depth 24
+
+module _ (L W : RattleType) where
+  tools_send : IsSend L → IsSend W → IsSend (Tools.the_field L W).row
+  tools_send l w = search (sendable, crosses) depth 24
+
+  outfit_send : IsSend L → IsSend W → IsSend (Outfit.the_field L W).row
+  outfit_send l w = search (tools_send, sendable, crosses) depth 24
+
+module _ (I O W : RattleType) where
+  hub_calls_send : IsSend I → IsSend O → IsSend W → IsSend (HubCalls.the_field I O W).row
+  hub_calls_send i o w = search (visitor_send, sender.the_send, receiver.the_send, sendable, crosses) depth 24
+
+module _ (D L I O W : RattleType) (d : disk.Ghosts D.Denot) where
+  pub parts_send : IsSend D → IsSend L → IsSend I → IsSend O → IsSend W → IsSend (HubParts.the_row D L I O W d)
+  parts_send s l i o w = search (stock_send, outfit_send, hub_calls_send, sendable, crosses) depth 24

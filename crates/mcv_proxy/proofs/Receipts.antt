@@ -6,7 +6,7 @@ use Rattle.std.proofs.lemmas.Bool.Decides.{nat_tests}
 use Rattle.std.proofs.lemmas.List.Elements.{All-head, All-tail, All-weaker, filter_passes}
 use Rattle.mcv_hub.specs.declared.receipts.Receipt.{Receipt}
 use Rattle.mcv_hub.specs.declared.receipts.Report.{Report}
-use Rattle.mcv_proxy.specs.Reports.{IsReport, IsReportOf}
+use Rattle.mcv_proxy.specs.Reports.{IsHubReport, IsReportOf}
 use Rattle.mcv_proxy.specs.declared.fault.ProxyFault.{ProxyFault}
 
 le_is_true : (a b : ℕ) → a ≤ b → nat_le a b ≡ true
@@ -32,7 +32,7 @@ all_current c xs =
     let Q : Receipt → Type 0 = λ r. c ≤ r.chapter in
     All-weaker P Q (λ x t. true_is_le c x.chapter t) (filter (λ r. nat_le c r.chapter) xs) (filter_passes (λ r. nat_le c r.chapter) xs)
 
--- a report of these receipts is one
-pub is_report : (receipts : List Receipt) (r : Result Report ProxyFault) → IfOk r (IsReportOf receipts) → IfOk r IsReport
-is_report receipts (Ok report) h = record { receipts = receipts; of_them = h }
-is_report receipts (Err fault) h = tt
+-- a report of these receipts is one of a hub
+pub is_hub_report : (receipts : List Receipt) (r : Result Report ProxyFault) → IfOk r (IsReportOf receipts) → IfOk r IsHubReport
+is_hub_report receipts (Ok report) h = record { receipts = receipts; of_them = h }
+is_hub_report receipts (Err fault) h = tt

@@ -381,7 +381,7 @@ fn go_on<B: Ledger, T: Ledger, L: Link, R: Wait>(
         progress = take_ready(&mut guard, seat, calls, progress, taken);
         let Some(call) = calls.get(progress.done) else {
             errands.agenda.leave(guard.core());
-            events::turn_where_full(&mut errands.agenda, &mut guard);
+            events::turn_where_full(&mut errands.agenda, &mut guard, errands.turn_from);
             return progress;
         };
         let has_lost = errands.set_off(rt, alloc, lanes, &mut guard, calls, Some(*call));
@@ -574,7 +574,8 @@ impl<'a, B: Ledger, T: Ledger, L: Link, W: Watch, R: Wait + Clock> Caller<'a, B,
 }
 
 impl<'a, B: Ledger, T: Ledger, L: Link, W: Watch, R: Wait + Clock> HubDesk<'a, B, T, L, W, R> {
-    /// A desk over a hub of these routes that has answered nothing.
+    /// A desk over a hub of these routes that has answered nothing. Once the hub's chapter has `turn_from` entries or more a
+    /// new one begins as soon as no call runs and no leg is queued.
     pub fn new(
         rt: &'a R,
         alloc: Global,
@@ -585,6 +586,7 @@ impl<'a, B: Ledger, T: Ledger, L: Link, W: Watch, R: Wait + Clock> HubDesk<'a, B
         pass: Pass,
         seat: Seat<B, T>,
         watch: W,
+        turn_from: usize,
     ) -> HubDesk<'a, B, T, L, W, R>
         ensures receipts { result.kept.receipts.items ≡ [] }
         ensures routes { result.accepted ≡ accepted }
@@ -600,7 +602,7 @@ impl<'a, B: Ledger, T: Ledger, L: Link, W: Watch, R: Wait + Clock> HubDesk<'a, B
                 pass,
                 seat,
                 watch,
-                errands: Errands::new(alloc, hub),
+                errands: Errands::new(alloc, hub, turn_from),
             },
             kept: Kept::new(alloc),
         }

@@ -42,6 +42,8 @@ pub(crate) struct Errands<'a, B: Ledger, T: Ledger, L: Link> {
     has_lost: bool,
     /// A server that is marked since the last notice.
     marked: Option<ServerId>,
+    /// From how many entries on a chapter ends once nothing is left of it.
+    pub(crate) turn_from: usize,
 }
 
 /// Goes on with a leg in flight that the link of its server began; without a link the flight is given back.
@@ -94,8 +96,8 @@ fn await_turn<B: Ledger, T: Ledger, R: Wait>(
 }
 
 impl<'a, B: Ledger, T: Ledger, L: Link> Errands<'a, B, T, L> {
-    /// Nothing. It takes no memory.
-    pub(crate) fn new(alloc: Global, hub: &'a Hub<B, T>) -> Errands<'a, B, T, L> {
+    /// Nothing to be sent, and chapters that end from so many entries on. It takes no memory.
+    pub(crate) fn new(alloc: Global, hub: &'a Hub<B, T>, turn_from: usize) -> Errands<'a, B, T, L> {
         Errands {
             agenda: Agenda::new(alloc, hub),
             flight: None,
@@ -103,6 +105,7 @@ impl<'a, B: Ledger, T: Ledger, L: Link> Errands<'a, B, T, L> {
             late: Vec::new(alloc),
             has_lost: false,
             marked: None,
+            turn_from,
         }
     }
 

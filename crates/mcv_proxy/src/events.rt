@@ -43,16 +43,16 @@ fn concerned_by(core: &Dispatcher, leg: LegId) -> Concerned {
     }
 }
 
-/// How many entries a chapter has before a new one is begun as soon as nothing is left of it.
+/// How many entries a chapter has, at least, where a call may wait for the next one.
 const MANY_ENTRIES: usize = 500_000;
 
-/// Begins a new chapter where this one has many entries, and no call of it runs and no leg is queued.
+/// Begins a new chapter where this one has so many entries, and no call of it runs and no leg is queued.
 pub(crate) fn turn_where_full<B: Ledger, T: Ledger>(
     agenda: &mut Agenda<'_, B, T>,
     guard: &mut Guard<'_, B, T>,
+    most: usize,
 ) {
-    if guard.core().entries() >= MANY_ENTRIES {
-        let _ = guard.turn();
+    if guard.core().entries() >= most && guard.turn().is_ok() {
         agenda.add(Bell::Chapter);
     }
 }

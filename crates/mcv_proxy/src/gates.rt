@@ -72,6 +72,9 @@ pub trait Watch: Drop {
 
     /// Notes that the spool takes records again.
     fn note_taking(&mut self) {}
+
+    /// Notes that a client isn't served, since there was no thread or no memory for its session.
+    fn note_unserved(&mut self) {}
 }
 
 /// What a proxy talks to: servers, a disk, clients and the clock.
@@ -88,6 +91,11 @@ pub trait Gates: Drop {
     type Writer: Write + Drop + Send + 'static;
 
     type Watch: Watch + Send + 'static;
+
+    /// How many hubs there are, to which clients are dealt out one after another; where this is 0 there is one.
+    fn hubs(&self) -> usize {
+        1
+    }
 
     /// A new way to the server of this text. An error is that memory ran out.
     fn link(&mut self, server: &str) -> Result<Self::Link, AllocError>;
@@ -106,7 +114,4 @@ pub trait Gates: Drop {
     fn opened(&mut self, _pending: usize) -> Result<(), ProxyFault> {
         Ok(())
     }
-
-    /// Notes that the last client isn't served, since there was no thread or no memory for its session.
-    fn note_unserved(&mut self) {}
 }

@@ -546,33 +546,106 @@ const SENT_AGAIN: Row = Row {
     texts: &["delete a\r\n"],
 };
 
-/// Runs a proxy on the disk of an earlier one.
+/// Runs a proxy of so many hubs on the disk of an earlier one.
 fn run_again<R: Threads + Wait + Clock + Abort + Copy + Drop + Send + 'static>(
     rt: R,
     alloc: Global,
+    hubs: usize,
     earlier: &Scene<R>,
 ) -> Scene<R> {
     let mut scene = scene_of(rt, alloc, &SENT_AGAIN);
+    scene.hubs = hubs;
     scene.share_disk(earlier);
     check_scene(rt, alloc, &SENT_AGAIN, scene)
 }
 
+/// Two proxies on one disk, the second with so many hubs.
 fn check_two_runs<R: Threads + Wait + Clock + Abort + Copy + Drop + Send + 'static>(
     rt: R,
     alloc: Global,
+    hubs: usize,
 ) {
     let first = check_scene(rt, alloc, &SPOOLED, scene_of(rt, alloc, &SPOOLED));
     assert!(rt;
         first.disk_size() == 641 && !first.is_first_done(),
         "not in the spool"
     );
-    let second = run_again(rt, alloc, &first);
+    let second = run_again(rt, alloc, hubs, &first);
     assert!(rt; second.is_first_done(), "still in the spool");
 }
 
 #[test]
 fn a_spooled_delete_is_sent_again_after_a_stop(rt: HostRuntime) {
-    check_two_runs(rt, rt.alloc());
+    check_two_runs(rt, rt.alloc(), 1);
+    check_two_runs(rt, rt.alloc(), 3);
+}
+
+const FAILOVER_SESSION: &str = "get a\r\ndelete a\r\nget b\r\n";
+
+const FAILOVER_ANSWERS: &str = "VALUE a 0 1\r\nx\r\nEND\r\nDELETED\r\nEND\r\n";
+
+/// Four clients, whose gets go to the first server and whose deletes go to both.
+const FOUR_CLIENTS: Row = Row {
+    config: FAILOVER,
+    signs: 0,
+    servers: &[(A_HAS_A, NO_DUTIES), (B, NO_DUTIES)],
+    clients: &[
+        (FAILOVER_SESSION, NO_CUES),
+        (FAILOVER_SESSION, NO_CUES),
+        (FAILOVER_SESSION, NO_CUES),
+        (FAILOVER_SESSION, NO_CUES),
+    ],
+    calls: 12,
+    answers: &[
+        FAILOVER_ANSWERS,
+        FAILOVER_ANSWERS,
+        FAILOVER_ANSWERS,
+        FAILOVER_ANSWERS,
+    ],
+    legs: &[12, 4],
+    texts: &[],
+};
+
+const FOUR_GETS: &str = "get a\r\nget a\r\nget a\r\nget a\r\n";
+
+/// Four clients of a server that breaks each leg and doesn't answer probes: each of two hubs sends it three legs.
+const DEAD_FOR_FOUR: Row = Row {
+    config: ONE,
+    signs: 0,
+    servers: &[(A_IS_DEAD, NO_DUTIES)],
+    clients: &[
+        (FOUR_GETS, NO_CUES),
+        (FOUR_GETS, NO_CUES),
+        (FOUR_GETS, NO_CUES),
+        (FOUR_GETS, NO_CUES),
+    ],
+    calls: 16,
+    answers: &[FOUR_FAILED, FOUR_FAILED, FOUR_FAILED, FOUR_FAILED],
+    legs: &[6],
+    texts: &[],
+};
+
+/// Plays a row where the gates ask for so many hubs.
+fn check_hubs<R: Threads + Wait + Clock + Abort + Copy + Drop + Send + 'static>(
+    rt: R,
+    alloc: Global,
+    row: &Row,
+    hubs: usize,
+) {
+    let mut scene = scene_of(rt, alloc, row);
+    scene.hubs = hubs;
+    let _seen = check_scene(rt, alloc, row, scene);
+}
+
+#[test]
+fn two_hubs_serve_four_clients(rt: HostRuntime) {
+    check_hubs(rt, rt.alloc(), &FOUR_CLIENTS, 2);
+    check_hubs(rt, rt.alloc(), &DEAD_FOR_FOUR, 2);
+}
+
+#[test]
+fn one_hub_runs_where_none_is_asked_for(rt: HostRuntime) {
+    check_hubs(rt, rt.alloc(), &GET, 0);
 }
 
 const REFUSED: Row = Row {

@@ -326,6 +326,7 @@ pub(crate) struct Scene<R: Wait + Clock + Copy + Drop + Send + 'static> {
     signs: Vec<Arc<AtomicBool>>,
     /// How many writes of the disk succeed until one fails.
     pub(crate) writes_left: Option<u64>,
+    pub(crate) hubs: usize,
 }
 
 /// A list of zeros.
@@ -341,7 +342,7 @@ fn shared_list<R: Abort>(rt: &R, alloc: Global) -> Arc<Mutex<Vec<u8>>> {
 }
 
 impl<R: Wait + Clock + Abort + Copy + Drop + Send + 'static> Scene<R> {
-    /// So many signs, and an empty disk.
+    /// So many signs, an empty disk and one hub.
     pub(crate) fn new(rt: R, alloc: Global, signs: usize) -> Scene<R> {
         let mut scene = Scene {
             rt,
@@ -352,6 +353,7 @@ impl<R: Wait + Clock + Abort + Copy + Drop + Send + 'static> Scene<R> {
             disk: shared_list(&rt, alloc),
             signs: Vec::new(alloc),
             writes_left: None,
+            hubs: 1,
         };
         for _sign in 0..signs {
             scene.add_sign();
@@ -502,6 +504,10 @@ impl<R: Wait + Clock + Copy + Drop + Send + 'static> Gates for Scene<R> {
     type Writer = Output<R>;
 
     type Watch = Stopped;
+
+    fn hubs(&self) -> usize {
+        self.hubs
+    }
 
     fn link(&mut self, server: &str) -> Result<Wire<R>, AllocError> {
         for known in self.servers.iter() {

@@ -248,35 +248,50 @@ fn look<R: Wait + Clock + Abort + Copy + Drop + Send + 'static>(
     }
 }
 
-/// What comes of sessions with so many requests each, where this server is dead.
+/// What comes of sessions with so many requests each over so many hubs, where this server is dead.
 fn run<R: Threads + Wait + Clock + Abort + Copy + Drop + Send + 'static>(
     rt: R,
     alloc: Global,
     dead: Option<usize>,
+    hubs: usize,
     count: usize,
 ) -> (Report, Seen) {
-    let scene = scene_of(rt, alloc, dead, count);
+    let mut scene = scene_of(rt, alloc, dead, count);
+    scene.hubs = hubs;
     let (report, seen) = play(rt, alloc, ALL, scene);
     (report.expect(&rt, "a report"), look(rt, alloc, &seen))
 }
 
-#[test]
-fn acknowledged_deletes_are_kept(rt: HostRuntime) {
-    let (report, seen) = run(rt, rt.alloc(), None, 12_500);
-    assert_eq!(rt; seen.answers, 200_000);
-    assert_eq!(rt;
-        report.begun,
-        200_000u64.saturating_sub(seen.refused as u64)
-    );
+/// Runs sessions with so many requests each over so many hubs. Each delete that was acknowledged is kept at each server.
+fn check_kept<R: Threads + Wait + Clock + Abort + Copy + Drop + Send + 'static>(
+    rt: R,
+    alloc: Global,
+    hubs: usize,
+    count: usize,
+) {
+    let (report, seen) = run(rt, alloc, None, hubs, count);
+    let all = SESSIONS.saturating_mul(count);
+    assert_eq!(rt; seen.answers, all);
+    assert_eq!(rt; report.begun, all.saturating_sub(seen.refused) as u64);
     assert_eq!(rt; report.taken, report.begun);
-    assert!(rt; seen.acknowledged > 49_000);
+    assert!(rt; seen.acknowledged.saturating_mul(1_000) > all.saturating_mul(245));
     assert_eq!(rt; seen.lacking, 0);
     assert_eq!(rt; seen.kept, seen.acknowledged.saturating_mul(4));
 }
 
 #[test]
+fn acknowledged_deletes_are_kept(rt: HostRuntime) {
+    check_kept(rt, rt.alloc(), 1, 12_500);
+}
+
+#[test]
+fn acknowledged_deletes_are_kept_over_several_hubs(rt: HostRuntime) {
+    check_kept(rt, rt.alloc(), 4, 2_500);
+}
+
+#[test]
 fn deletes_of_a_dead_server_are_pending(rt: HostRuntime) {
-    let (report, seen) = run(rt, rt.alloc(), Some(3), 100);
+    let (report, seen) = run(rt, rt.alloc(), Some(3), 1, 100);
     assert_eq!(rt; report.begun, 1_600);
     assert_eq!(rt; seen.acknowledged, 400);
     assert_eq!(rt; seen.lacking, 0);

@@ -26,7 +26,7 @@ fn main(rt: HostRuntime) -> ExitCode {
 struct NoProxy;
 
 impl Proxy for NoProxy {
-    ghost serves = { λ _ _ _ _ _ _ _. ⊥ };
+    ghost serves = { λ _ _ _ _ _ _ _ _. ⊥ };
 
     fn serve<W: Write>(
         &self,
@@ -35,6 +35,7 @@ impl Proxy for NoProxy {
         _listen: &str,
         _spool: &str,
         _sessions: u64,
+        _proxies: u64,
         _out: &mut W,
     ) -> Result<(), RunFault> {
         Err(RunFault::Device)

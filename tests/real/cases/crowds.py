@@ -5,7 +5,8 @@ import socket
 import struct
 import threading
 
-from parts import Failed, case, deletes_to_all, expect, one_pool, stored, value_answer, wait_for
+from fakes import Fake
+from parts import Failed, case, deletes_to_all, expect, one_pool, records, replayed, stored, value_answer, wait_for
 
 
 @case(120)
@@ -123,3 +124,46 @@ def deletes_without_reply_of_clients_that_go_are_performed(machine):
             return found == b"END\r\n"
 
         wait_for(gone, "each delete is performed")
+
+
+@case()
+def clients_are_dealt_out_to_the_proxies(machine):
+    fake = machine.fake(Fake())
+    mcv = machine.mcv(one_pool([fake.text]), proxies=3)
+    with contextlib.ExitStack() as kept:
+        for n in range(7):
+            kept.enter_context(mcv.client()).ask(b"get a\r\n", b"END\r\n")
+            # Sessions of one proxy share a connection while they ask one after another.
+            expect(len(fake.connections), min(n + 1, 3), "connections to the server")
+
+
+@case(120)
+def a_server_of_four_proxies_is_killed_and_started_again(machine):
+    """Two clients of each proxy delete keys of a server that goes away; others work with servers that stay."""
+    (text, process), stay = machine.memcached(), machine.servers(2)
+    spool = machine.path("mcv.spool")
+    route = {"type": "PrefixSelectorRoute", "policies": {"away": "PoolRoute|A"}, "wildcard": "PoolRoute|B"}
+    mcv = machine.mcv({"pools": {"A": {"servers": [text]}, "B": {"servers": stay}}, "route": route}, proxies=4)
+    own = [[b"away.%d.%d" % (number, n) for n in range(20)] for number in range(8)]
+    every = [key for keys in own for key in keys]
+    with workers(mcv, 8), contextlib.ExitStack() as kept:
+        clients = [kept.enter_context(mcv.client()) for _ in own]
+        for client, keys in zip(clients, own):
+            for key in keys:
+                client.ask(stored(key, b"1") + b"get " + key + b"\r\n", b"STORED\r\n" + value_answer(key, b"1"))
+        process.kill()
+        process.wait()
+        for client, keys in zip(clients, own):
+            client.send(b"".join(b"delete " + key + b"\r\n" for key in keys))
+        for client, keys in zip(clients, own):
+            wanted = b"NOT_FOUND\r\n" * len(keys)
+            expect(client.exactly(len(wanted)), wanted, "deletes while the server is away")
+        replayed(machine, mcv, spool, text, every)
+        for client, keys in zip(clients, own):
+            def back():
+                client.send(b"get " + keys[0] + b"\r\n")
+                return client.line() == b"END\r\n"
+
+            wait_for(back, "gets are answered again")
+            client.ask(stored(keys[0], b"2") + b"delete " + keys[0] + b"\r\n", b"STORED\r\nDELETED\r\n")
+        expect(len(records(spool)), len(every), "records, once the server is back")

@@ -3,8 +3,8 @@ import signal
 import socket
 
 from fakes import DROP, REFUSE, SILENCE, Fake
-from parts import (Client, Failed, answer, case, deletes_to_all, expect, free_port, one_pool, pending, records, stored, value_answer,
-                   wait_for)
+from parts import (Client, Failed, answer, case, deletes_to_all, expect, free_port, one_pool, pending, records, replayed, stored,
+                   value_answer, wait_for)
 
 FAILED = b"SERVER_ERROR destination failed\r\n"
 
@@ -24,15 +24,7 @@ def a_server_killed_and_started_again_takes_its_deletes(machine):
             expect(answer(other, stored(key, b"old")), b"STORED\r\n")
             client.ask(b"delete " + key + b"\r\n", b"NOT_FOUND\r\n")
             expect(answer(other, b"get " + key + b"\r\n"), b"END\r\n", "the server that is up")
-        expect(sorted(pending(spool)), sorted((text.encode(), key) for key in keys), "pending in the spool")
-        # mcv is held while the keys are put there, so that only a delete that is sent again takes them away.
-        mcv.process.send_signal(signal.SIGSTOP)
-        machine.memcached(port=int(text.rsplit(":", 1)[1]))
-        for key in keys:
-            expect(answer(text, stored(key, b"old")), b"STORED\r\n")
-        mcv.process.send_signal(signal.SIGCONT)
-        wait_for(lambda: answer(text, b"get " + b" ".join(keys) + b"\r\n") == b"END\r\n", "each delete is sent again")
-        wait_for(lambda: not pending(spool), "each record is marked as done")
+        replayed(machine, mcv, spool, text, keys)
         expect(len(records(spool)), len(keys), "records")
         client.ask(b"delete behind\r\n", b"NOT_FOUND\r\n")
         expect(len(records(spool)), len(keys), "records, once the server is back")

@@ -1,4 +1,5 @@
 """How `mcv run` starts and ends: what it prints, refuses, and leaves."""
+import contextlib
 import os
 import signal
 import socket
@@ -46,6 +47,23 @@ def two_sessions_and_the_number_of_their_calls(machine):
 
 
 @case()
+def sessions_of_two_proxies_and_the_number_of_their_calls(machine):
+    mcv = machine.mcv(one_pool(machine.servers(2)), sessions=4, proxies=2)
+    with contextlib.ExitStack() as kept:
+        clients = [kept.enter_context(mcv.client()) for _ in range(4)]
+        for n, client in enumerate(clients):
+            client.ask(stored(b"k%d" % n, b"%d" % n), b"STORED\r\n")
+        for n, client in enumerate(clients):
+            # What a client of the other proxy stored.
+            other = b"k%d" % ((n + 1) % 4)
+            client.ask(b"get " + other + b"\r\n", value_answer(other, other[1:]))
+        for n, client in enumerate(clients):
+            client.ask(b"delete k%d\r\n" % n, b"DELETED\r\n")
+    expect(mcv.last_lines(), (b"mcv closed calls 12\n", 0))
+    expect(mcv.error_text(), b"", "standard error")
+
+
+@case()
 def what_check_refuses_isnt_served_and_nothing_is_bound(machine):
     spool = machine.path("mcv.spool")
     # The address is in use, so a program that binds it first ends with another status.
@@ -72,7 +90,8 @@ def a_bad_command_line(machine):
     spool = ["--spool", machine.path("mcv.spool")]
     listen = ["--listen", "127.0.0.1:0"]
     for words in (run, run + spool, run + listen, run + listen + spool + ["--sessions", "0"], run + listen + spool + ["--sessions", "1000000001"],
-                  run + listen + spool + ["--sessions", "x"], run + listen + spool + ["more"], run + listen + listen + spool):
+                  run + listen + spool + ["--sessions", "x"], run + listen + spool + ["--proxies", "0"], run + listen + spool + ["--proxies", "65"],
+                  run + listen + spool + ["more"], run + listen + listen + spool):
         expect(machine.refused(one_pool(["127.0.0.1:1"]), words=words), BAD_LINE, " ".join(words[1:]))
 
 

@@ -60,11 +60,16 @@ serve-requires-clause-most g c =
     let asks = rw c.in-Ok-Run.field-0-is at c.in-Ok-Run.ensures.job in
     asks.5
 
+pub serve-requires-clause-most_proxies : goal.serve-requires-clause-most_proxies
+serve-requires-clause-most_proxies g c =
+    let asks = rw c.in-Ok-Run.field-0-is at c.in-Ok-Run.ensures.job in
+    asks.7
+
 pub returns-in-Ok-Run-clause-done : goal.returns-in-Ok-Run-clause-done
 returns-in-Ok-Run-clause-done g c =
     let held = g.F.NamedFiles.held c.args.files.now in
     let asks = rw c.in-Ok-Run.field-0-is at c.in-Ok-Run.ensures.job in
-    IfOk-weaker c.serve.result _ _ (λ ending served. inr (inr (inr (c.in-Ok-Run.listen.now, c.in-Ok-Run.spool.now, c.in-Ok-Run.sessions, asks, served)))) (c.serve.ensures.done held)
+    IfOk-weaker c.serve.result _ _ (λ ending served. inr (inr (inr (c.in-Ok-Run.listen.now, c.in-Ok-Run.spool.now, c.in-Ok-Run.sessions, c.in-Ok-Run.proxies, asks, served)))) (c.serve.ensures.done held)
 
 pub returns-in-Ok-Run-clause-stop : goal.returns-in-Ok-Run-clause-stop
 returns-in-Ok-Run-clause-stop g c =
@@ -72,12 +77,12 @@ returns-in-Ok-Run-clause-stop g c =
     let held = g.F.NamedFiles.held c.args.files.now in
     let known = g.R.Read.remaining c.args.reader.now in
     let asks = rw c.in-Ok-Run.field-0-is at c.in-Ok-Run.ensures.job in
-    IfErr-weaker c.serve.result _ _ (λ stop holds. running_stop words held known stop (c.in-Ok-Run.listen.now, c.in-Ok-Run.spool.now, c.in-Ok-Run.sessions, asks) holds)
+    IfErr-weaker c.serve.result _ _ (λ stop holds. running_stop words held known stop (c.in-Ok-Run.listen.now, c.in-Ok-Run.spool.now, c.in-Ok-Run.sessions, c.in-Ok-Run.proxies, asks) holds)
     (c.serve.ensures.stop held)
 
 pub returns-in-Ok-Run-clause-silent : goal.returns-in-Ok-Run-clause-silent
 returns-in-Ok-Run-clause-silent g c =
     let asks = rw c.in-Ok-Run.field-0-is at c.in-Ok-Run.ensures.job in
     IfErr-weaker c.serve.result _ _
-    (λ stop silent no_device unasked. silent no_device (λ memory. unasked memory (c.in-Ok-Run.listen.now, c.in-Ok-Run.spool.now, c.in-Ok-Run.sessions, asks)))
+    (λ stop silent no_device unasked. silent no_device (λ memory. unasked memory (c.in-Ok-Run.listen.now, c.in-Ok-Run.spool.now, c.in-Ok-Run.sessions, c.in-Ok-Run.proxies, asks)))
     c.serve.ensures.silent

@@ -1,0 +1,143 @@
+-- What clap makes of short command lines.
+use Rattle.std.proofs.Common.{◌≡◌, [], ◌∷◌, ◌++◌, List, Option, Some, None, refl, codes, option_map}
+use Rattle.clap.specs.Words.{Row, Text, first_of, one_of}
+use Rattle.clap.specs.declared.error.kind.ErrorKind.TheVariants.{ArgumentConflict, DisplayHelp, DisplayVersion, InvalidSubcommand, MissingRequiredArgument, MissingSubcommand, UnknownArgument, ValueValidation}
+use Rattle.clap.proofs.OnLiterals.{clap_on_literals}
+use Rattle.mcv_words.specs.Words.{faults, named}
+
+legs : faults (codes "mcv" ∷ codes "legs" ∷ []) ≡ []
+unfolding clap_on_literals
+legs = refl
+
+abbrev at_of : Option (Text × List Row) → Option (Option Text)
+at_of = option_map (λ p. one_of (codes "at") p.1)
+
+legs_named : at_of (named (codes "mcv" ∷ codes "legs" ∷ [])) ≡ Some (Some (codes "0"))
+unfolding clap_on_literals
+legs_named = refl
+
+at : faults (codes "mcv" ∷ codes "legs" ∷ codes "--at" ∷ codes "8199" ∷ []) ≡ []
+unfolding clap_on_literals
+at = refl
+
+at_named : at_of (named (codes "mcv" ∷ codes "legs" ∷ codes "--at" ∷ codes "8199" ∷ [])) ≡ Some (Some (codes "8199"))
+unfolding clap_on_literals
+at_named = refl
+
+at_joined : at_of (named (codes "mcv" ∷ codes "legs" ∷ codes "--at=18446744073709551615" ∷ [])) ≡ Some (Some (codes "18446744073709551615"))
+unfolding clap_on_literals
+at_joined = refl
+
+no_number : faults (codes "mcv" ∷ codes "legs" ∷ codes "--at" ∷ codes "soon" ∷ []) ≡ ValueValidation ∷ []
+unfolding clap_on_literals
+no_number = refl
+
+at_twice : faults (codes "mcv" ∷ codes "legs" ∷ codes "--at" ∷ codes "1" ∷ codes "--at" ∷ codes "2" ∷ []) ≡ ArgumentConflict ∷ []
+unfolding clap_on_literals
+at_twice = refl
+
+no_command : faults (codes "mcv" ∷ []) ≡ MissingSubcommand ∷ []
+unfolding clap_on_literals
+no_command = refl
+
+no_words : faults [] ≡ MissingSubcommand ∷ []
+unfolding clap_on_literals
+no_words = refl
+
+unknown_command : faults (codes "mcv" ∷ codes "serve" ∷ []) ≡ UnknownArgument ∷ InvalidSubcommand ∷ []
+unfolding clap_on_literals
+unknown_command = refl
+
+word_after_the_command : faults (codes "mcv" ∷ codes "legs" ∷ codes "x" ∷ []) ≡ UnknownArgument ∷ []
+unfolding clap_on_literals
+word_after_the_command = refl
+
+long_help : faults (codes "mcv" ∷ codes "--help" ∷ []) ≡ DisplayHelp ∷ []
+unfolding clap_on_literals
+long_help = refl
+
+short_help : faults (codes "mcv" ∷ codes "-h" ∷ []) ≡ DisplayHelp ∷ []
+unfolding clap_on_literals
+short_help = refl
+
+help_of_a_command : faults (codes "mcv" ∷ codes "legs" ∷ codes "--help" ∷ []) ≡ DisplayHelp ∷ []
+unfolding clap_on_literals
+help_of_a_command = refl
+
+long_version : faults (codes "mcv" ∷ codes "--version" ∷ []) ≡ DisplayVersion ∷ []
+unfolding clap_on_literals
+long_version = refl
+
+short_version : faults (codes "mcv" ∷ codes "-V" ∷ []) ≡ DisplayVersion ∷ []
+unfolding clap_on_literals
+short_version = refl
+
+-- a command has no version of its own
+version_of_a_command : faults (codes "mcv" ∷ codes "legs" ∷ codes "--version" ∷ []) ≡ UnknownArgument ∷ []
+unfolding clap_on_literals
+version_of_a_command = refl
+
+-- clap leaves open here whether a further word is the name of a command
+help_command : faults (codes "mcv" ∷ codes "help" ∷ []) ≡ DisplayHelp ∷ InvalidSubcommand ∷ []
+unfolding clap_on_literals
+help_command = refl
+
+check : faults (codes "mcv" ∷ codes "check" ∷ []) ≡ []
+unfolding clap_on_literals
+check = refl
+
+abbrev cert_of : Option (Text × List Row) → Option (Option Text)
+cert_of = option_map (λ p. first_of (codes "cert") p.1)
+
+check_named : cert_of (named (codes "mcv" ∷ codes "check" ∷ [])) ≡ Some None
+unfolding clap_on_literals
+check_named = refl
+
+cert_named : cert_of (named (codes "mcv" ∷ codes "check" ∷ codes "--cert" ∷ codes "a.cert" ∷ [])) ≡ Some (Some (codes "a.cert"))
+unfolding clap_on_literals
+cert_named = refl
+
+cert_twice : faults (codes "mcv" ∷ codes "check" ∷ codes "--cert" ∷ codes "a" ∷ codes "--cert" ∷ codes "b" ∷ []) ≡ ArgumentConflict ∷ []
+unfolding clap_on_literals
+cert_twice = refl
+
+abbrev at_address : List Text
+at_address = codes "mcv" ∷ codes "run" ∷ codes "--listen" ∷ codes "h:1" ∷ []
+
+abbrev run_line : List Text
+run_line = at_address ++ codes "--spool" ∷ codes "f" ∷ []
+
+run : faults run_line ≡ []
+unfolding clap_on_literals
+run = refl
+
+abbrev run_of : Option (Text × List Row) → Option (Option Text × Option Text × Option Text × Option Text)
+run_of = option_map (λ p. (first_of (codes "listen") p.1, first_of (codes "spool") p.1, one_of (codes "sessions") p.1, one_of (codes "proxies") p.1))
+
+run_named : run_of (named run_line) ≡ Some (Some (codes "h:1"), Some (codes "f"), Some (codes "1000000000"), Some (codes "1"))
+unfolding clap_on_literals
+run_named = refl
+
+sessions_named : run_of (named (run_line ++ codes "--sessions" ∷ codes "3" ∷ [])) ≡ Some (Some (codes "h:1"), Some (codes "f"), Some (codes "3"), Some (codes "1"))
+unfolding clap_on_literals
+sessions_named = refl
+
+proxies_named : run_of (named (run_line ++ codes "--proxies" ∷ codes "4" ∷ [])) ≡ Some (Some (codes "h:1"), Some (codes "f"), Some (codes "1000000000"), Some (codes "4"))
+unfolding clap_on_literals
+proxies_named = refl
+
+no_spool : faults at_address ≡ MissingRequiredArgument ∷ []
+unfolding clap_on_literals
+no_spool = refl
+
+no_sessions : faults (run_line ++ codes "--sessions" ∷ codes "0" ∷ []) ≡ ValueValidation ∷ []
+unfolding clap_on_literals
+no_sessions = refl
+
+no_proxies : faults (run_line ++ codes "--proxies" ∷ codes "0" ∷ []) ≡ ValueValidation ∷ []
+unfolding clap_on_literals
+no_proxies = refl
+
+too_many_proxies : faults (run_line ++ codes "--proxies" ∷ codes "65" ∷ []) ≡ ValueValidation ∷ []
+unfolding clap_on_literals
+too_many_proxies = refl

@@ -1,0 +1,4 @@
+mod Examples
+pub mod CommandIsNamed
+pub mod OptionValues
+pub mod Matches

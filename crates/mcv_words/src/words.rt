@@ -1,0 +1,260 @@
+//! The command line: its commands, as clap reads them. What words ask for is `IsJobOf`, and why they ask for nothing
+//! `IsLineFault`.
+
+ghost use Rattle.std.specs.Prelude.{◌≡◌, ◌<◌, ◌^◌, ℕ, false, IfOk, IfErr, IfSome, IsSome, map};
+ghost use Rattle.clap.specs.Words.{Text, app_of, found_of, kind_of, rows_of, rule_of};
+ghost use Rattle.clap.specs.declared.builder.command.Command.TheViews.{out-Command as fields_of};
+ghost use Rattle.mcv_words.specs.Words.{at_rule, cert_rule, check_app, legs_app, listen_rule, mcv_app, proxies_rule, run_app, sessions_rule, spool_rule, line_fault_number, HasRunValues, IsFaultOfKind, IsJobOf, IsLineFault, IsRunOf};
+ghost use Rattle.mcv_words.specs.declared.words.LineFault.TheVariants.{Memory as out_of_memory};
+
+use crate::help::{
+    ABOUT, AT, CERT, CHECK_ABOUT, CHECK_FORM, EXAMPLE, LEGS_ABOUT, LEGS_FORM, LISTEN, PROXIES,
+    RUN_ABOUT, RUN_FORM, SESSIONS, SPOOL,
+};
+use clap::builder::ValueParser;
+use clap::error::ErrorKind;
+use clap::{Arg, ArgMatches, Command, Error as ClapError, value_parser};
+use mcv_base::Moment;
+use std::alloc::{AllocError, Global};
+use thiserror::Error;
+
+/// What the program is asked to do.
+#[derive(Clone, Copy, Debug, PartialEq, Eq)]
+pub enum Job<'a> {
+    /// To show the legs of a request that comes at a moment.
+    Legs {
+        at: Moment,
+    },
+    /// To judge a configuration, by the certificate in the file of this name where one is given.
+    Check {
+        cert: Option<&'a str>,
+    },
+    /// To serve clients at the address, with the spool in the file of this name, until so many sessions have ended, by so
+    /// many proxies side by side.
+    Run {
+        listen: &'a str,
+        spool: &'a str,
+        sessions: u64,
+        proxies: u64,
+    },
+}
+
+/// Why there is nothing to do.
+#[derive(Debug, Drop, Error)]
+pub enum LineFault {
+    #[error("bad command line")]
+    BadLine,
+    #[error("out of memory")]
+    Memory,
+    /// Help was asked for: its text.
+    #[error("{0}")]
+    Help(String),
+    /// The version was asked for.
+    #[error("mcv 1")]
+    Version,
+}
+
+impl LineFault {
+    /// The number of the fault, from 1.
+    pub fn number(&self) -> u8
+        ensures { result ≡ line_fault_number self.now }
+    {
+        match self {
+            LineFault::BadLine => 1,
+            LineFault::Memory => 2,
+            LineFault::Help(_) => 3,
+            LineFault::Version => 4,
+        }
+    }
+}
+
+impl From<AllocError> for LineFault {
+    ghost from_gives = { λ _ e. e ≡ out_of_memory };
+
+    fn from(_error: AllocError) -> LineFault {
+        LineFault::Memory
+    }
+}
+
+fn at_option<'a>(alloc: Global) -> Arg<'a>
+    ensures rule { rule_of result ≡ at_rule }
+    ensures local { result.global ≡ false }
+{
+    Arg::new(alloc, "at")
+        .long("at")
+        .value_name("SECONDS")
+        .value_parser(value_parser!(u64))
+        .default_value("0")
+        .help(AT)
+}
+
+fn legs_command<'a>(alloc: Global) -> Result<Command<'a>, AllocError>
+    ensures app { IfOk result (λ c. app_of c ≡ legs_app) }
+    ensures local { IfOk result (λ c. (fields_of c).has_globals ≡ false) }
+{
+    Command::new(alloc, "legs")
+        .about(LEGS_ABOUT)
+        .override_usage("mcv legs [--at SECONDS] < FILE")
+        .after_help(LEGS_FORM)
+        .arg(at_option(alloc))
+}
+
+fn cert_option<'a>(alloc: Global) -> Arg<'a>
+    ensures rule { rule_of result ≡ cert_rule }
+    ensures local { result.global ≡ false }
+{
+    Arg::new(alloc, "cert")
+        .long("cert")
+        .value_name("FILE")
+        .help(CERT)
+}
+
+fn check_command<'a>(alloc: Global) -> Result<Command<'a>, AllocError>
+    ensures app { IfOk result (λ c. app_of c ≡ check_app) }
+    ensures local { IfOk result (λ c. (fields_of c).has_globals ≡ false) }
+{
+    Command::new(alloc, "check")
+        .about(CHECK_ABOUT)
+        .override_usage("mcv check [--cert FILE] < FILE")
+        .after_help(CHECK_FORM)
+        .arg(cert_option(alloc))
+}
+
+fn listen_option<'a>(alloc: Global) -> Arg<'a>
+    ensures rule { rule_of result ≡ listen_rule }
+    ensures local { result.global ≡ false }
+{
+    Arg::new(alloc, "listen")
+        .long("listen")
+        .value_name("ADDRESS")
+        .required(true)
+        .help(LISTEN)
+}
+
+fn spool_option<'a>(alloc: Global) -> Arg<'a>
+    ensures rule { rule_of result ≡ spool_rule }
+    ensures local { result.global ≡ false }
+{
+    Arg::new(alloc, "spool")
+        .long("spool")
+        .value_name("FILE")
+        .required(true)
+        .help(SPOOL)
+}
+
+fn sessions_option<'a>(alloc: Global) -> Arg<'a>
+    ensures rule { rule_of result ≡ sessions_rule }
+    ensures local { result.global ≡ false }
+{
+    Arg::new(alloc, "sessions")
+        .long("sessions")
+        .value_name("N")
+        .value_parser(ValueParser::unsigned(1, 1_000_000_000))
+        .default_value("1000000000")
+        .help(SESSIONS)
+}
+
+fn proxies_option<'a>(alloc: Global) -> Arg<'a>
+    ensures rule { rule_of result ≡ proxies_rule }
+    ensures local { result.global ≡ false }
+{
+    Arg::new(alloc, "proxies")
+        .long("proxies")
+        .value_name("N")
+        .value_parser(ValueParser::unsigned(1, 64))
+        .default_value("1")
+        .help(PROXIES)
+}
+
+fn run_command<'a>(alloc: Global) -> Result<Command<'a>, AllocError>
+    ensures app { IfOk result (λ c. app_of c ≡ run_app) }
+    ensures local { IfOk result (λ c. (fields_of c).has_globals ≡ false) }
+{
+    Command::new(alloc, "run")
+        .about(RUN_ABOUT)
+        .override_usage("mcv run --listen ADDRESS --spool FILE [--sessions N] [--proxies N] < FILE")
+        .after_help(RUN_FORM)
+        .arg(listen_option(alloc))?
+        .arg(spool_option(alloc))?
+        .arg(sessions_option(alloc))?
+        .arg(proxies_option(alloc))
+}
+
+fn command<'a>(alloc: Global) -> Result<Command<'a>, AllocError>
+    ensures { IfOk result (λ c. app_of c ≡ mcv_app) }
+{
+    let check = check_command(alloc)?;
+    let legs = legs_command(alloc)?;
+    let run = run_command(alloc)?;
+    Command::new(alloc, "mcv")
+        .version("1")
+        .about(ABOUT)
+        .after_help(EXAMPLE)
+        .subcommand_required(true)
+        .bin_name("mcv")?
+        .subcommand(check)?
+        .subcommand(legs)?
+        .subcommand(run)
+}
+
+/// What clap's error says of the words.
+fn line_fault(alloc: Global, error: &ClapError) -> LineFault
+    ensures { IsFaultOfKind (kind_of error.now) result }
+{
+    match error.kind() {
+        ErrorKind::OutOfMemory => LineFault::Memory,
+        ErrorKind::DisplayHelp => match format!(in alloc; "{error}") {
+            Ok(text) => LineFault::Help(text),
+            Err(_) => LineFault::Memory,
+        },
+        ErrorKind::DisplayVersion => LineFault::Version,
+        _ => LineFault::BadLine,
+    }
+}
+
+/// The job of `run`, by what clap found for its options.
+fn run_job<'a>(found: &ArgMatches<'a>) -> Option<Job<'a>>
+    ensures job { IfSome result (IsRunOf (rows_of (found_of found.now))) }
+    ensures some { (listen spool : Text) (sessions proxies : ℕ) → HasRunValues (rows_of (found_of found.now)) listen spool sessions proxies
+        → sessions < 2 ^ 64 → proxies < 2 ^ 64 → IsSome result }
+{
+    let listen = found.get_str("listen")?;
+    let spool = found.get_str("spool")?;
+    let sessions = found.get_one::<u64>("sessions")?;
+    let proxies = found.get_one::<u64>("proxies")?;
+    Some(Job::Run {
+        listen,
+        spool,
+        sessions,
+        proxies,
+    })
+}
+
+/// Reads the words of a command line, of which the first is the program's name.
+pub fn read_words<'a>(alloc: Global, words: &'a [&'a str]) -> Result<Job<'a>, LineFault>
+    ensures job { IfOk result (IsJobOf (map (λ w. w.now) words.entry.now)) }
+    ensures fault { IfErr result (IsLineFault (map (λ w. w.now) words.entry.now)) }
+{
+    let command = command(alloc)?;
+    let matches = match command.try_get_matches_from(words) {
+        Ok(matches) => matches,
+        Err(error) => return Err(line_fault(alloc, &error)),
+    };
+    if let Some(found) = matches.subcommand_matches("check") {
+        let cert = found.get_str("cert");
+        return Ok(Job::Check { cert });
+    }
+    if let Some(found) = matches.subcommand_matches("run") {
+        let Some(job) = run_job(found) else {
+            return Err(LineFault::BadLine);
+        };
+        return Ok(job);
+    }
+    let Some(found) = matches.subcommand_matches("legs") else {
+        return Err(LineFault::BadLine);
+    };
+    let Some(at) = found.get_one::<u64>("at") else {
+        return Err(LineFault::BadLine);
+    };
+    Ok(Job::Legs { at: Moment(at) })
+}
