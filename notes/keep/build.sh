@@ -1,0 +1,10 @@
+#!/bin/sh
+# build.sh CLONE TO
+N="nice -n 10"
+$N python3 /work/notes/notes/fast-tools/trybuild.py $1 $1/bench/time_hub.rattle $2 mcv_base mcv_check mcv_config mcv_hub mcv_make mcv_proxy mcv_route mcv_spool
+cd $2 || exit 1
+[ -f module.bc ] || { echo "no module"; exit 1; }
+$N /opt/rattle/toolchain/bin/clang --target=x86_64-unknown-linux-gnu --sysroot=/opt/rattle/toolchain -march=x86-64 -mllvm -no-trap-after-noreturn -ffunction-sections -fdata-sections -mllvm -trap-unreachable -mllvm -no-x86-call-frame-opt -mllvm -disable-machine-licm -mllvm -disable-postra-machine-licm -mllvm -sink-common-insts=false --no-default-config -no-canonical-prefixes -fintegrated-cc1 -fno-crash-diagnostics -c -x ir module.bc -o module.o -fPIE -O2
+$N /opt/rattle/bin/rattle-link --target x86_64-unknown-linux-gnu --toolchain /opt/rattle/toolchain -o program module.o /opt/rattle/c/libos_c.a /opt/rattle/c/liblibc_c.a
+ls -la program
+date

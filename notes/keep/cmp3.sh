@@ -1,0 +1,1 @@
+for r in 1 2 3 4; do for h in 4 8 16 32 64; do for s in 1 8 32; do for v in spin2; do n=$((400000/s)); t=$(chrt -r 5 /tmp/$v/one/program $s $n /tmp/spin/f.$v $h 2>/dev/null); echo "$v $h $s $(( 400000*1000000/ (t/1000) ))"; done; done; done; done

@@ -1,0 +1,1 @@
+while :; do a=($(head -1 /proc/stat)); sleep 30; b=($(head -1 /proc/stat)); echo "$(date +%T) user $(( (b[1]-a[1])/30 )) nice $(( (b[2]-a[2])/30 )) sys $(( (b[3]-a[3])/30 )) idle $(( (b[4]-a[4])/30 )) steal $(( (b[8]-a[8])/30 ))"; done
