@@ -3,7 +3,6 @@
 //! A leg has the client's request, but for the add that a WarmUpRoute sends: it stores what `warm` replied.
 #![tactic(auto)]
 
-mod children;
 mod hit;
 mod request;
 mod warm_up;

@@ -4,8 +4,7 @@ ghost use Rattle.std.specs.Prelude.{◌≡◌, option_map};
 ghost use Rattle.mcv_route.specs.View.{view};
 ghost use Rattle.mcv_asks.specs.WarmUps.{adding_at, warm_up_of, warming};
 
-use crate::children::child_of;
-use mcv_route::Route;
+use mcv_route::{Route, child_of};
 
 /// The WarmUpRoute that sends an add.
 #[derive(Clone, Copy)]

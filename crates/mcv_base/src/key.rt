@@ -41,7 +41,7 @@ impl KeyFault {
 }
 
 /// A routing prefix, `/x/y/`, held in place. Clauses see its bytes.
-#[derive(Debug, Drop)]
+#[derive(Drop)]
 pub struct Prefix {
     bytes: ArrayVec<u8, 250>,
 }

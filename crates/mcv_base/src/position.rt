@@ -5,15 +5,13 @@ ghost use Rattle.std.specs.Str.{bytes_eq};
 ghost use Rattle.mcv_base.specs.Position.{position_text};
 
 use itoa::Buffer;
-use smallvec::SmallVec;
 use std::alloc::{AllocError, Global};
 use std::marker::Model;
 
-/// A place in the tree of a route: the child numbers from the root, held in place where they are at most six. Clauses see
-/// the list of them.
+/// A place in the tree of a route: the child numbers from the root. Clauses see the list of them.
 #[derive(Drop)]
 pub struct Position {
-    steps: SmallVec<usize, 6>,
+    steps: Vec<usize>,
 }
 
 impl Model for Position {
@@ -33,7 +31,7 @@ impl Position {
         ensures { result ≡ [] }
     {
         Position {
-            steps: SmallVec::new(alloc),
+            steps: Vec::new(alloc),
         }
     }
 
@@ -42,7 +40,7 @@ impl Position {
         ensures { IfOk result (λ p. p ≡ steps.now) }
     {
         Ok(Position {
-            steps: SmallVec::from_slice(alloc, steps)?,
+            steps: Vec::from_slice(alloc, steps)?,
         })
     }
 
@@ -57,7 +55,8 @@ impl Position {
     pub fn child(&self, alloc: Global, number: usize) -> Result<Position, AllocError>
         ensures { IfOk result (λ p. p ≡ self.now ++ number ∷ []) }
     {
-        let mut steps = SmallVec::from_slice(alloc, self.steps.as_slice())?;
+        let mut steps = Vec::with_capacity(alloc, self.steps.len() + 1)?;
+        steps.extend_from_slice(self.steps.as_slice())?;
         steps.push(number)?;
         Ok(Position { steps })
     }

@@ -93,7 +93,7 @@ pub enum Part {
 }
 
 /// One reply three times over: for a call's outcomes, for who takes it, and for the history. Clauses see the reply.
-#[derive(Debug, Drop)]
+#[derive(Drop)]
 pub struct Parts {
     outcome: Part,
     taken: Part,

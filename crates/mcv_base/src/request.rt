@@ -50,7 +50,7 @@ impl ServerId {
 pub struct Moment(pub u64);
 
 /// What a client asks servers. Fields that the operation hasn't are 0, empty or None.
-#[derive(Debug, Drop)]
+#[derive(Drop)]
 pub struct Ask {
     pub op: Op,
     /// The key words, as the client wrote them: one, or for get and gets one or more.
@@ -64,7 +64,7 @@ pub struct Ask {
 }
 
 /// A request of a client.
-#[derive(Debug, Drop)]
+#[derive(Drop)]
 pub enum Request {
     Ask(Ask),
     Version,
@@ -72,7 +72,7 @@ pub enum Request {
 }
 
 /// What one leg asks its server. Fields that the operation hasn't are 0, empty or None.
-#[derive(Debug, Drop)]
+#[derive(Drop)]
 pub struct LegRequest {
     pub op: Op,
     pub rest: Arc<Rest>,

@@ -32,7 +32,7 @@ impl Ending {
 }
 
 /// Why the program stops before its work is done.
-#[derive(Debug, Drop)]
+#[derive(Drop)]
 pub enum Stop {
     /// The words of the command line ask for nothing.
     BadLine,

@@ -14,7 +14,7 @@ pub struct Front<'a> {
 }
 
 /// What a text begins with.
-#[derive(Clone, Copy, Debug, PartialEq, Eq)]
+#[derive(Clone, Copy, PartialEq, Eq)]
 pub enum Kind {
     Quote,
     Block,

@@ -34,9 +34,6 @@ rows_put f calls legs legs2 since next_call next_leg n o is =
 pub state_put : (legs : ℕ → Option (Leg Errand)) (n : ℕ) (l : Leg Errand) (t : State) → legs n ≡ Some l → with_state legs n t ≡ put legs n (Some (put_state t l))
 state_put legs n l t at = ap (λ o. put legs n (option_map (put_state t) o)) at
 
-pub stored_put : (legs : ℕ → Option (Leg Errand)) (n seq : ℕ) (l : Leg Errand) → legs n ≡ Some l → with_stored legs n seq ≡ put legs n (Some (stored_as seq l))
-stored_put legs n seq l at = ap (λ o. put legs n (option_map (stored_as seq) o)) at
-
 -- the leg in this state, with this number of its record
 abbrev pub stays_as : State → Option ℕ → Leg Errand → Leg Errand
 stays_as t seq l = record { server = l.server; state = t; «record» = seq; content = l.content }
@@ -192,3 +189,6 @@ module _ (r : RoutesValue) (calls : ℕ → Option Call) (legs : ℕ → Option 
         known = let a = i.known in omega (arith, a, known);
         era = i.era;
       }
+
+pub stored_put : (legs : ℕ → Option (Leg Errand)) (n seq : ℕ) (l : Leg Errand) → legs n ≡ Some l → with_stored legs n seq ≡ put legs n (Some (stored_as seq l))
+stored_put legs n seq l at = ap (λ o. put legs n (option_map (stored_as seq) o)) at

@@ -35,7 +35,7 @@ pub struct Recorded {
 }
 
 /// What came of a reply that a call recorded.
-#[derive(Clone, Copy, Debug, PartialEq, Eq)]
+#[derive(Clone, Copy, PartialEq, Eq)]
 pub struct Recording {
     /// How many entries it launched.
     pub launched: usize,

@@ -7,7 +7,7 @@ use crate::call::Recording;
 use crate::settle::Settling;
 
 /// How many legs there are, and how many calls.
-#[derive(Clone, Copy, Debug, PartialEq, Eq)]
+#[derive(Clone, Copy, PartialEq, Eq)]
 pub struct Counts {
     /// Legs that the running calls may still launch.
     pub reserved: usize,

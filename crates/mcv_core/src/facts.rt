@@ -12,7 +12,7 @@ use mcv_base::{Mark, Op, ServerId};
 use mcv_queues::{Leg, State};
 
 /// What the core looks at of a leg.
-#[derive(Clone, Copy, Debug, PartialEq, Eq)]
+#[derive(Clone, Copy, PartialEq, Eq)]
 pub struct LegFacts {
     pub server: ServerId,
     pub state: State,

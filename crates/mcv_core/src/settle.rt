@@ -16,7 +16,7 @@ use mcv_base::{LegId, Part, ServerId};
 use mcv_queues::Queues;
 
 /// What becomes of a leg whose call records a reply of it.
-#[derive(Clone, Copy, Debug, PartialEq, Eq)]
+#[derive(Clone, Copy, PartialEq, Eq)]
 pub enum Settling {
     /// It was answered, and is done with.
     Gone,

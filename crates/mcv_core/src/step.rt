@@ -31,7 +31,7 @@ pub enum Change {
 }
 
 /// What an event did to its leg: the state that the leg has then, and the move.
-#[derive(Clone, Copy, Debug, PartialEq, Eq)]
+#[derive(Clone, Copy, PartialEq, Eq)]
 pub struct Step {
     pub state: LegState,
     pub change: Change,

@@ -23,7 +23,7 @@ const TRIES: u32 = 400;
 /// What a thread waits for: a leg for a server's worker, the reply to a call for a session, a record for the spool's
 /// worker, a leg in the spool for the replayer, the end of all calls and legs for a session whose call found no place
 /// in the chapter.
-#[derive(Clone, Copy, Debug, PartialEq, Eq)]
+#[derive(Clone, Copy, PartialEq, Eq)]
 pub enum Bell {
     Server(ServerId),
     Call(CallId),

@@ -11,7 +11,7 @@ pub enum Many {
 }
 
 /// A handle that selects one of its policies.
-#[derive(Clone, Copy, Debug, PartialEq, Eq)]
+#[derive(Clone, Copy, PartialEq, Eq)]
 pub enum Selector {
     /// By what the rest begins with.
     Prefix,
@@ -20,7 +20,7 @@ pub enum Selector {
 }
 
 /// A handle, in the order of the table of handles.
-#[derive(Clone, Copy, Debug, PartialEq, Eq)]
+#[derive(Clone, Copy, PartialEq, Eq)]
 pub enum Handle {
     Pool,
     Null,
@@ -32,7 +32,7 @@ pub enum Handle {
 }
 
 /// An object of the configuration, by what it is.
-#[derive(Clone, Copy, Debug, PartialEq, Eq)]
+#[derive(Clone, Copy, PartialEq, Eq)]
 pub enum Object {
     Root,
     /// One of `routes`.

@@ -6,7 +6,7 @@ ghost use Rattle.mcv_net.specs.Repeat.{may_repeat};
 use mcv_base::Op;
 
 /// Why a text that was sent over a connection has no reply.
-#[derive(Clone, Copy, Debug, PartialEq, Eq)]
+#[derive(Clone, Copy, PartialEq, Eq)]
 pub enum Loss {
     /// Nothing of the text was written.
     Unwritten,

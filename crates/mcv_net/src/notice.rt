@@ -4,7 +4,7 @@ use std::fmt;
 use std::io::Eprint;
 
 /// What an operator sees: a line where something changes, and none for a request.
-#[derive(Clone, Copy, Debug, PartialEq, Eq)]
+#[derive(Clone, Copy, PartialEq, Eq)]
 pub enum Notice<'a> {
     /// The server of this text has failed too often: it is sent nothing until it answers a probe.
     Marked(&'a str),

@@ -78,8 +78,4 @@ module _ (e : ℕ) (x : Outcome) (r : Option Answer) (b a : List ℕ) (s : EvalS
       ∙ ap₂ new_of (sym (sends_plan own (view s.course))) (sym (sends_plan q (view s.course)))
 
 pub kept_next : (c d : Course) (v w : Vec ℕ Global) → plan (view d) ≡ plan (view c) → IsKept c v → vec_capacity w ≡ vec_capacity v → IsKept d w
-kept_next c d v w same k e = let is = entries_same (view c) (view d) same in record {
-  placed = placed_same (view c) (view d) same ∙ k.placed;
-  numbered = rw is k.numbered;
-  room = rw (e, is) k.room;
-}
+kept_next c d v w same k e = let is = entries_same (view c) (view d) same in record { placed = placed_same (view c) (view d) same ∙ k.placed; numbered = rw is k.numbered; room = rw (e, is) k.room }

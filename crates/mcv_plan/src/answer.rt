@@ -7,7 +7,7 @@ use mcv_base::{FixedReply, Outcome};
 use mcv_rules::After;
 
 /// Whose reply it is.
-#[derive(Clone, Copy, Debug, PartialEq, Eq)]
+#[derive(Clone, Copy, PartialEq, Eq)]
 pub enum Source {
     /// That of the leg with this number.
     Entry(usize),
@@ -16,7 +16,7 @@ pub enum Source {
 }
 
 /// What a part of the plan replies.
-#[derive(Clone, Copy, Debug, PartialEq, Eq)]
+#[derive(Clone, Copy, PartialEq, Eq)]
 pub struct Answer {
     pub outcome: Outcome,
     pub source: Source,

@@ -27,7 +27,7 @@ pub trait KeyHash {
 }
 
 /// FNV-1a in 64 bits over the hashed part and the salt behind it, modulo the number of servers.
-#[derive(Clone, Copy, Debug)]
+#[derive(Clone, Copy)]
 pub struct Fnv;
 
 impl KeyHash for Fnv {
@@ -56,7 +56,7 @@ fn fnv_step(hash: u64, byte: &u8) -> u64
 
 /// The index of each listed part, for tests. A part that isn't listed has index 0, and an index counts modulo the
 /// number of servers. Clauses see the list.
-#[derive(Debug, Drop)]
+#[derive(Drop)]
 pub struct TableHash {
     rows: Vec<(Vec<u8>, usize)>,
 }

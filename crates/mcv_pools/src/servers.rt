@@ -42,7 +42,7 @@ impl<T: Drop> From<AllocFailed<T>> for ServersFault {
 }
 
 /// Servers' texts, none twice, at most 65,536. Clauses see the list of them, in the order of their numbers.
-#[derive(Debug, Drop)]
+#[derive(Drop)]
 pub struct Servers {
     texts: IndexSet<String>,
 }

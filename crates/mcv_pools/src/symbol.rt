@@ -11,7 +11,7 @@ use std::hash::{Hash, Hasher};
 use std::marker::Model;
 
 /// A hash function of mcrouter's, by its label.
-#[derive(Clone, Copy, Debug, PartialEq, Eq)]
+#[derive(Clone, Copy, PartialEq, Eq)]
 pub enum HashFunc {
     Ch3,
     Crc32,
@@ -26,7 +26,7 @@ impl HashFunc {
 }
 
 /// A hash function and its salt over `n` servers, at least one. Clauses see a `SymbolValue`.
-#[derive(Debug, Drop)]
+#[derive(Drop)]
 pub struct Symbol {
     func: HashFunc,
     salt: Vec<u8>,

@@ -10,7 +10,7 @@ use std::alloc::{AllocError, Global};
 use std::marker::Model;
 
 /// Symbols, none twice, each over at least one server. Clauses see the list of them, in the order of their numbers.
-#[derive(Debug, Drop)]
+#[derive(Drop)]
 pub struct Symbols {
     symbols: IndexSet<Symbol>,
 }

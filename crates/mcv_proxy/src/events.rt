@@ -43,8 +43,8 @@ fn concerned_by(core: &Dispatcher, leg: LegId) -> Concerned {
     }
 }
 
-/// How many entries a chapter has, at least, where a call may wait for the next one.
-const MANY_ENTRIES: usize = 500_000;
+/// From how many entries on the chapters of all hubs end, each once nothing is left of it, and a call may wait for the next one.
+pub(crate) const MANY_ENTRIES: usize = 500_000;
 
 /// Begins a new chapter where this one has so many entries, and no call of it runs and no leg is queued.
 pub(crate) fn turn_where_full<B: Ledger, T: Ledger>(

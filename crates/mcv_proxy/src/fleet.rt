@@ -6,6 +6,7 @@ ghost use Rattle.mcv_proxy.specs.Hubs.{MayCross};
 ghost use Rattle.mcv_proxy.specs.Pending.{numbered};
 ghost use Rattle.mcv_proxy.specs.Reports.{IsReport, IsReportOfHubs};
 
+use crate::events::MANY_ENTRIES;
 use crate::fault::ProxyFault;
 use crate::gates::{Gates, Link, Watch};
 use crate::host::{Calls, HubParts, Outfit, Stock, serve_hub};
@@ -23,9 +24,6 @@ use std::rt::Clock;
 use std::sync::{Arc, Mutex, Wait};
 use std::thread;
 use std::thread::{JoinHandle, Threads};
-
-/// From how many entries on the chapters of all hubs end, each once nothing is left of it.
-const MANY_ENTRIES: usize = 500_000;
 
 /// The most sessions.
 const SESSIONS: u64 = 1_000_000_000;

@@ -97,8 +97,8 @@ greatest_stays : (lost_mark (record { failures = 2 ^ 32 - 1; marked = false })).
 greatest_stays = refl
 
 -- a server that isn't in a table of two stays without a mark
-unknown_server : put_mark 2 (λ s. no_mark) 2 lost_mark 2 ≡ no_mark
-unknown_server = refl
-
 known_server : put_mark 2 (λ s. no_mark) 1 lost_mark 1 ≡ record { failures = 1; marked = false }
 known_server = refl
+
+unknown_server : put_mark 2 (λ s. no_mark) 2 lost_mark 2 ≡ no_mark
+unknown_server = refl

@@ -142,9 +142,6 @@ beside legs legs2 f f2 roots x t el ef = λ h. carried (without (is_in legs h) x
     (λ n. elim (cases_eq x n) [ inl q ↦ without_here (is_in legs2 h) x n q ∙ sym (without_here (is_in legs h) x n q) | inr ne ↦ ap (λ o. is_group (group_of o) h && not (nat_eq x n)) (el n ne) ])
     (λ n q. ef n (without_parts (is_in legs h) x n q).1)
 
-pub beside_with_state : {T : Type 0} (legs legs2 : ℕ → Option (Leg T)) (f f2 : ℕ → Option Link) (roots : Group → Option ℕ) (x : ℕ) (st : State) → AreTreesBut x legs f roots → legs2 ≡ with_state legs x st → f2 ≡ f → AreTreesBut x legs2 f2 roots
-beside_with_state legs legs2 f f2 roots x st t el ef = beside legs legs2 f f2 roots x t (λ n ne. ap (λ u. u n) el ∙ put_there legs x n (option_map (in_state st) (legs x)) ne) (λ n ne. ap (λ u. u n) ef)
-
 pub inner_leg : {T : Type 0} (a b : Leg T) → Some a ≡ Some b → a ≡ b
 inner_leg a b e = cc
 
@@ -160,3 +157,6 @@ range_with_state legs legs2 k k2 x st r el ek = λ n l e. subst (λ j. l.server.
   | inl q ↦ state_server st (legs x) k (r x) l (sym (put_here legs x (option_map (in_state st) (legs x))) ∙ ap (λ j. with_state legs x st j) q ∙ sym (ap (λ u. u n) el) ∙ e)
   | inr ne ↦ r n l (sym (put_there legs x n (option_map (in_state st) (legs x)) ne) ∙ sym (ap (λ u. u n) el) ∙ e)
 ])
+
+pub beside_with_state : {T : Type 0} (legs legs2 : ℕ → Option (Leg T)) (f f2 : ℕ → Option Link) (roots : Group → Option ℕ) (x : ℕ) (st : State) → AreTreesBut x legs f roots → legs2 ≡ with_state legs x st → f2 ≡ f → AreTreesBut x legs2 f2 roots
+beside_with_state legs legs2 f f2 roots x st t el ef = beside legs legs2 f f2 roots x t (λ n ne. ap (λ u. u n) el ∙ put_there legs x n (option_map (in_state st) (legs x)) ne) (λ n ne. ap (λ u. u n) ef)

@@ -60,5 +60,5 @@ pub record IsMelding (w : ℕ → Bool) (f g : ℕ → Option Link) (top upper l
   pub member : w upper ≡ true
   pub low : top ≤ upper
   pub above : upper < lower
-  pub before : (n : ℕ) → c ≡ Some n → n < upper
   pub same : SameBeyond w f g
+  pub before : (n : ℕ) → c ≡ Some n → n < upper

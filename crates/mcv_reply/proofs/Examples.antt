@@ -31,9 +31,6 @@ end_of_get = record {
   short = omega arith;
 }
 
-pub a_miss : Spells Get (codes "a") (codes "END" ++ 13 ∷ 10 ∷ []) miss
-a_miss = alone (record { first = End; line = end_text; other = zero_head; line_is = end_of_get; parts = refl; says = refl })
-
 -- the Fault keeps its line without CR LF, a space at its front too
 pub a_fault : Spells Delete (codes "a") (codes " SERVER_ERROR no" ++ 13 ∷ 10 ∷ []) (fault (codes " SERVER_ERROR no"))
 a_fault = alone (record {
@@ -102,3 +99,6 @@ a_hit = with_value (record {
   parts = refl;
   says = refl;
 })
+
+pub a_miss : Spells Get (codes "a") (codes "END" ++ 13 ∷ 10 ∷ []) miss
+a_miss = alone (record { first = End; line = end_text; other = zero_head; line_is = end_of_get; parts = refl; says = refl })

@@ -66,12 +66,6 @@ no_number cas bytes off is = subst (λ (h : Bool). Writes (cas_forms h 0) 1 byte
 pub last_number : (cas : Bool) (n : ℕ) (bytes left : List ℕ) → cas ≡ true → SpacedNumber 18446744073709551615 n bytes left → left ≡ 13 ∷ [] → Writes (cas_forms cas n) 1 bytes
 last_number cas n bytes left on s is = subst (λ (h : Bool). Writes (cas_forms h n) 1 bytes) (sym on) (number_next 18446744073709551615 n (Writes [] 1) bytes left s (blank_return left is))
 
-pub numbers_read : (cas : Bool) (flags size n : ℕ) (bytes sized left : List ℕ) → SpacedNumber 4294967295 flags bytes sized → SpacedNumber 1048576 size sized left → Writes (cas_forms cas n) 1 left
-    → Writes (flags_forms cas (record { flags = flags; size = size; cas = n })) 1 bytes
-numbers_read cas flags size n bytes sized left s t last =
-    number_next 4294967295 flags (Writes (size_forms cas (record { flags = flags; size = size; cas = n })) 1) bytes sized s
-    (number_next 1048576 size (Writes (cas_forms cas n) 1) sized left t last)
-
 pub value_written : (cas : Bool) (key line named left : List ℕ) (r : Option Head) → line ≡ codes "VALUE " ++ named → named ≡ key ++ left → IfSome r (λ head. Writes (flags_forms cas head) 1 left)
     → IfSome r (λ head. Writes (word (codes "VALUE") ∷ (word key ∷ flags_forms cas head)) 0 line)
 value_written cas key line named left None e f h = h
@@ -128,3 +122,9 @@ line_starts op key text piece end said none found is = record {
   taken = end_taken piece end found;
   line = is;
 }
+
+pub numbers_read : (cas : Bool) (flags size n : ℕ) (bytes sized left : List ℕ) → SpacedNumber 4294967295 flags bytes sized → SpacedNumber 1048576 size sized left → Writes (cas_forms cas n) 1 left
+    → Writes (flags_forms cas (record { flags = flags; size = size; cas = n })) 1 bytes
+numbers_read cas flags size n bytes sized left s t last =
+    number_next 4294967295 flags (Writes (size_forms cas (record { flags = flags; size = size; cas = n })) 1) bytes sized s
+    (number_next 1048576 size (Writes (cas_forms cas n) 1) sized left t last)

@@ -60,9 +60,4 @@ module _ (has : Bool) (key : List ℕ) (c : Candidate) (bytes : List ℕ) (k : �
   pub reads_all : length bytes ≤ k → Reads has key c bytes (Some at)
   reads_all l =
       let none : drop k bytes ≡ [] = drop_all k bytes l in
-      record {
-        on = λ head more o. subst (λ (t : List ℕ). Open has key at head (t ++ more)) none (so_far.on head more o);
-        back = λ head more o. so_far.back head more (subst (λ (t : List ℕ). Open has key at head (t ++ more)) (sym none) o);
-        first = so_far.first;
-        valid = so_far.valid;
-      }
+      record { on = λ head more o. subst (λ (t : List ℕ). Open has key at head (t ++ more)) none (so_far.on head more o); back = λ head more o. so_far.back head more (subst (λ (t : List ℕ). Open has key at head (t ++ more)) (sym none) o); first = so_far.first; valid = so_far.valid }

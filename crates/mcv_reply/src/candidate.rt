@@ -12,7 +12,7 @@ use crate::word::{Tail, Word};
 pub const LINE_LIMIT: usize = 2048;
 
 /// The numbers of a value's line: 32 bits, at most 1,048,576, and 64 bits.
-#[derive(Clone, Copy, Debug, Default, PartialEq, Eq)]
+#[derive(Clone, Copy, Default, PartialEq, Eq)]
 pub struct Head {
     pub flags: u64,
     pub size: u64,
@@ -20,14 +20,14 @@ pub struct Head {
 }
 
 /// A word of a line that is known beforehand.
-#[derive(Clone, Copy, Debug, PartialEq, Eq)]
+#[derive(Clone, Copy, PartialEq, Eq)]
 pub enum Name {
     First,
     Key,
 }
 
 /// A number of a line.
-#[derive(Clone, Copy, Debug, PartialEq, Eq)]
+#[derive(Clone, Copy, PartialEq, Eq)]
 pub enum Number {
     Flags,
     Size,
@@ -35,7 +35,7 @@ pub enum Number {
 }
 
 /// The part of a line that has been reached.
-#[derive(Clone, Copy, Debug, Default, PartialEq, Eq)]
+#[derive(Clone, Copy, Default, PartialEq, Eq)]
 pub enum LinePart {
     /// In the spaces before a word.
     BeforeName(Name),
@@ -54,7 +54,7 @@ pub enum LinePart {
 }
 
 /// A line that has come in part, taken for one of this first word.
-#[derive(Clone, Copy, Debug, Default, PartialEq, Eq)]
+#[derive(Clone, Copy, Default, PartialEq, Eq)]
 pub struct Candidate {
     pub first: Word,
     pub part: LinePart,
@@ -65,7 +65,7 @@ pub struct Candidate {
 }
 
 /// A candidate one byte on, and whether the line could have done without that byte.
-#[derive(Clone, Copy, Debug, PartialEq, Eq)]
+#[derive(Clone, Copy, PartialEq, Eq)]
 struct Advance {
     next: Candidate,
     free: bool,

@@ -67,7 +67,7 @@ pub fn go_on(
 }
 
 /// What a line says.
-#[derive(Clone, Copy, Debug, PartialEq, Eq)]
+#[derive(Clone, Copy, PartialEq, Eq)]
 pub struct Meaning {
     pub first: Word,
     /// The numbers, where it is the line of a value.

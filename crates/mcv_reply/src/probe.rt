@@ -14,7 +14,7 @@ use std::marker::Model;
 use std::mem;
 
 /// What of the answer is being read.
-#[derive(Clone, Copy, Debug, PartialEq, Eq)]
+#[derive(Clone, Copy, PartialEq, Eq)]
 pub enum ProbeStage {
     Line,
     /// Nothing: the answer has been given.

@@ -27,7 +27,7 @@ use std::sync::Arc;
 const VALUE_END: &[u8] = b"\r\nEND\r\n";
 
 /// What of a reply is being read.
-#[derive(Clone, Copy, Debug, PartialEq, Eq)]
+#[derive(Clone, Copy, PartialEq, Eq)]
 pub enum Stage {
     /// The first line.
     Line,
@@ -44,7 +44,7 @@ pub enum Stage {
 }
 
 /// A reply that has come in part.
-#[derive(Debug, Drop)]
+#[derive(Drop)]
 pub struct Progress {
     pub stage: Stage,
     /// The line that is being read.
@@ -57,7 +57,7 @@ pub struct Progress {
 }
 
 /// What one step made of a piece: the bytes used, and the reply where it has come whole.
-#[derive(Debug, Drop)]
+#[derive(Drop)]
 pub struct Step {
     pub used: usize,
     pub reply: Option<Reply>,

@@ -8,7 +8,7 @@ ghost use Rattle.mcv_reply.specs.Word.{answers, has_cas, tail_of, word_text, wor
 use mcv_base::Op;
 
 /// The first word of a server's line.
-#[derive(Clone, Copy, Debug, Default, PartialEq, Eq)]
+#[derive(Clone, Copy, Default, PartialEq, Eq)]
 pub enum Word {
     #[default]
     End,
@@ -26,7 +26,7 @@ pub enum Word {
 }
 
 /// What comes behind a first word.
-#[derive(Clone, Copy, Debug, PartialEq, Eq)]
+#[derive(Clone, Copy, PartialEq, Eq)]
 pub enum Tail {
     /// Nothing.
     Nothing,
@@ -37,7 +37,7 @@ pub enum Tail {
 }
 
 /// The place of a line among what a server says.
-#[derive(Clone, Copy, Debug, PartialEq, Eq)]
+#[derive(Clone, Copy, PartialEq, Eq)]
 pub enum Row {
     /// The first line of a reply.
     Reply(Op),

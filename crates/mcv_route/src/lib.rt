@@ -11,6 +11,7 @@ mod moments;
 mod routes;
 mod tree;
 
+pub use children::child_of;
 pub use eras::{era_count, eras_are_opened_by_breaks, opened};
 pub use launch::{Answered, Launch};
 pub use mcv_names::Many;

@@ -7,14 +7,14 @@ use crate::status::Source;
 use mcv_base::{FixedReply, Outcome};
 
 /// An answer of a route.
-#[derive(Clone, Copy, Debug, PartialEq, Eq)]
+#[derive(Clone, Copy, PartialEq, Eq)]
 pub struct Answer {
     pub outcome: Outcome,
     pub source: Source,
 }
 
 /// A route's answer, if it has one.
-#[derive(Clone, Copy, Debug, PartialEq, Eq)]
+#[derive(Clone, Copy, PartialEq, Eq)]
 pub struct Arrival {
     pub answer: Option<Answer>,
     /// How many outcomes had come when the route first had an answer; all of them while it has none.
@@ -22,7 +22,7 @@ pub struct Arrival {
 }
 
 /// After which replies a search goes on.
-#[derive(Clone, Copy, Debug, PartialEq, Eq)]
+#[derive(Clone, Copy, PartialEq, Eq)]
 pub enum After {
     Error,
     /// All that aren't hits, errors too.

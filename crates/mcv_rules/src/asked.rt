@@ -22,7 +22,7 @@ pub struct Asked<'a> {
 }
 
 /// Where a migration sends.
-#[derive(Clone, Copy, Debug, PartialEq, Eq)]
+#[derive(Clone, Copy, PartialEq, Eq)]
 pub enum Way {
     From,
     To,

@@ -80,10 +80,6 @@ says_get : meaning (codes "get a\r") ≡ whole (asking get_a)
 unfolding meaning
 says_get = refl
 
-says_quit : meaning (codes "quit") ≡ whole quit
-unfolding meaning
-says_quit = refl
-
 -- a miss, and then quit: the desk was asked once
 get_and_quit : Serves counts 0 1 (Held []) (codes "get a\r\nquit\n") (codes "END\r\n") Ends (Held [])
 unfolding meaning
@@ -102,3 +98,7 @@ get_and_quit = record {
     flow_is = refl;
   };
 }
+
+says_quit : meaning (codes "quit") ≡ whole quit
+unfolding meaning
+says_quit = refl

@@ -10,10 +10,6 @@ use Rattle.mcv_session.specs.Exchange.{Exchange, item_of, text_of, texts_of, end
 use Rattle.mcv_session.specs.Session.{Answers, Chain, CutShort, Goes, taken, flow_after}
 use Rattle.mcv_session.specs.Step.{Exchanged, Lost}
 
-pub on_err_always : {T E P : Type 0} (r : Result T E) → P → OnErr r P
-on_err_always (Ok x) p = tt
-on_err_always (Err e) p = p
-
 texts_push : (log : List Exchange) (x : Exchange) → texts_of (log ++ x ∷ []) ≡ texts_of log ++ text_of x
 texts_push [] x = append-nil (text_of x)
 texts_push (y ∷ log) x = ap (λ t. text_of y ++ t) (texts_push log x) ∙ sym (append_assoc (text_of y) (texts_of log) (text_of x))
@@ -94,3 +90,7 @@ module _ {D : Type 0} (asks : D → RequestValue → Result (List ReplyValue) De
     chain = chain_push old mid new s.log x s.chain goes;
     writes = same ∙ s.writes;
   }
+
+pub on_err_always : {T E P : Type 0} (r : Result T E) → P → OnErr r P
+on_err_always (Ok x) p = tt
+on_err_always (Err e) p = p

@@ -89,8 +89,4 @@ module _ {D : Type 0} (asks : D → RequestValue → Result (List ReplyValue) De
 
   -- memory ran out before a byte was read
   pub breaks_unread : (desk : D) (from : Awaits) (piece text : List ℕ) → text ≡ [] → Breaks asks desk desk from piece text
-  breaks_unread desk from piece text none = record {
-    items = [];
-    reads = inl refl;
-    answers = record { log = []; lost = []; few = omega arith; more = []; takes = refl; chain = refl; writes = none };
-  }
+  breaks_unread desk from piece text none = record { items = []; reads = inl refl; answers = record { log = []; lost = []; few = omega arith; more = []; takes = refl; chain = refl; writes = none } }

@@ -14,7 +14,7 @@ use std::marker::Model;
 use thiserror::Error;
 
 /// Whether a session goes on.
-#[derive(Clone, Copy, Debug, PartialEq, Eq)]
+#[derive(Clone, Copy, PartialEq, Eq)]
 pub enum Flow {
     /// It waits for more bytes.
     GoesOn,

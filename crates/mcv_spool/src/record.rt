@@ -26,7 +26,7 @@ pub struct SpoolRecord {
 }
 
 /// A record that is on the disk. `append` alone makes one, and it can't be copied.
-#[derive(Debug, Drop)]
+#[derive(Drop)]
 pub struct Stored {
     seq: u64,
     record: SpoolRecord,

@@ -123,7 +123,7 @@ fn push_instead<'a>(
 }
 
 /// What a walk that looks for a hit has added.
-#[derive(Clone, Copy, Debug, PartialEq, Eq)]
+#[derive(Clone, Copy, PartialEq, Eq)]
 pub enum Added {
     /// The answers by which the hit is the reply.
     Hit,
@@ -325,7 +325,7 @@ fn goes_on_after(after: After, added: Added) -> bool
 // ---- a hit of the leg at a position
 
 /// What a walk that looks for a hit of a leg, and else for any, has added.
-#[derive(Clone, Copy, Debug, PartialEq, Eq)]
+#[derive(Clone, Copy, PartialEq, Eq)]
 pub enum Lead {
     /// The answers by which the leg hits, and its hit is the reply.
     Led,

@@ -7,7 +7,7 @@ use mcv_base::Request;
 use thiserror::Error;
 
 /// One item of a stream.
-#[derive(Debug, Drop)]
+#[derive(Drop)]
 pub enum Item {
     /// A request, whole.
     Asked(Request),

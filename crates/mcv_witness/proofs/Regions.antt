@@ -216,8 +216,4 @@ pub fits_below : (base : List ℕ) (n d : ℕ) (es : History) → Fits base (rec
 fits_below base n d [] h = record { at = tt; deep = tt; rises = tt }
 fits_below base n d (e ∷ es) h =
     let under : Each (λ x. Below base n x.0) (front d n (e ∷ es)) = subst (λ i. Each (λ x. Below base n x.0) (front i n (e ∷ es))) (sym h.deep) (front_below base n (e ∷ es) h.at) in
-    record {
-      at = at_each base n (front d n (e ∷ es)) under;
-      deep = deep_below base n d (front d n (e ∷ es)) h.deep;
-      rises = rises_left (front d n (e ∷ es)) (behind d n (e ∷ es)) (subst Rises (sym (parts d n (e ∷ es))) h.rises);
-    }
+    record { at = at_each base n (front d n (e ∷ es)) under; deep = deep_below base n d (front d n (e ∷ es)) h.deep; rises = rises_left (front d n (e ∷ es)) (behind d n (e ∷ es)) (subst Rises (sym (parts d n (e ∷ es))) h.rises) }

@@ -21,7 +21,7 @@ pub struct Seen {
 }
 
 /// How a child that is asked next changes the reply, and when it is asked.
-#[derive(Clone, Copy, Debug, PartialEq, Eq)]
+#[derive(Clone, Copy, PartialEq, Eq)]
 pub enum Join {
     /// At once; the worse reply.
     Both,
