@@ -70,8 +70,9 @@ fn servers_of(
 ) -> Vec<ServerId> {
     let mut servers = Vec::new(rt.alloc());
     if let Some(route) = route_of(routes, key) {
-        push_readable(rt, route, Op::Get, key, since, &mut servers);
-        push_readable(rt, route, Op::Gets, key, since, &mut servers);
+        for op in [Op::Get, Op::Gets, Op::Incr, Op::Decr] {
+            push_readable(rt, route, op, key, since, &mut servers);
+        }
     }
     servers
 }

@@ -199,7 +199,7 @@ fn is_other_operation(name: &str) -> bool
 {
     matches!(
         name,
-        "incr" | "decr" | "lease-get" | "lease-set" | "metaget"
+        "lease-get" | "lease-set" | "metaget"
     )
 }
 

@@ -27,7 +27,7 @@ pub fn may_ask_again(op: Op, loss: Loss) -> bool
 {
     match loss {
         Loss::Unwritten => true,
-        Loss::Unread => !op.is_storing(),
+        Loss::Unread => !(op.is_storing() || op.is_adjusting()),
         Loss::Broken | Loss::Memory => false,
     }
 }

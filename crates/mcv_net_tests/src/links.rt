@@ -49,6 +49,7 @@ fn leg_of(rt: &impl Abort, alloc: Global, op: Op) -> LegRequest {
         exptime: 0,
         body: Arc::new(alloc, body).expect(rt, "memory"),
         cas: None,
+        delta: 0,
     }
 }
 

@@ -34,6 +34,7 @@ fn client(rt: &(impl AllocGlobal + Abort), op: Op) -> Request {
         exptime: 9,
         body: shared(rt, b"mine"),
         cas: None,
+        delta: 7,
         noreply: false,
     })
 }

@@ -24,7 +24,7 @@ pub struct Finding {
     pub key: Vec<u8>,
     /// The index of each symbol.
     pub choice: Choice,
-    /// How the key is read: `Get` or `Gets`.
+    /// How the key is read: `Get`, `Gets`, `Incr` or `Decr`.
     pub op: Op,
     /// What the legs of the get answered, rising by position.
     pub gets: Vec<LegOutcome>,
