@@ -19,7 +19,7 @@ pub(crate) struct Key {
     pub(crate) choice: Choice,
 }
 
-/// The servers that a get or gets of the key could be answered by, in one era.
+/// The servers that a get, gets, incr or decr of the key could be answered by, in one era.
 #[derive(Drop)]
 struct Readable {
     key: usize,

@@ -1,4 +1,4 @@
--- When a finding breaks coverage: a get can be answered by a server to which an acknowledged delete of the same key was never sent (own).
+-- When a finding breaks coverage: a get, gets, incr or decr can be answered by a server to which an acknowledged delete of the same key was never sent (own).
 use Rattle.std.specs.Prelude.{◌≡◌, ℕ, true, List, Option, Some, map, option_map, slice_get, slice_index}
 use Rattle.std.specs.List.{AllPairs}
 use Rattle.mcv_base.specs.declared.operation.Op.TheVariants.{Delete}
@@ -42,7 +42,7 @@ pub record IsLeafOf (f : FindingValue) (t : Tree) : Type 0 where
 abbrev pub AreRising : History → Type 0
 AreRising es = AllPairs IsBefore (map (λ e. e.0) es)
 
--- the outcomes of the get can come about, and a hit of the leaf is among its replies
+-- the outcomes of the read can come about, and a hit of the leaf is among its replies
 pub record IsRead (f : FindingValue) (t : Tree) (rest : List ℕ) (since : Option ℕ) : Type 0 where
   pub reading : shows_value f.op ≡ true
   pub rising : AreRising f.gets

@@ -1,11 +1,11 @@
 //! The text of a finding.
 
-ghost use Rattle.std.specs.Prelude.{◌≡◌, ◌++◌, [], codes, decimal, if◌then◌else◌, slice_get, unwrap_or, IfOk, OnOk};
+ghost use Rattle.std.specs.Prelude.{◌≡◌, ◌++◌, [], codes, decimal, slice_get, unwrap_or, IfOk, OnOk};
 ghost use Rattle.std.specs.List.{flat_map};
 ghost use Rattle.mcv_base.specs.Operation.{op_name};
 ghost use Rattle.mcv_cert.specs.Escape.{escaped};
 ghost use Rattle.mcv_witness.specs.Finding.{finding_of, outcomes_of};
-ghost use Rattle.mcv_witness.specs.Text.{answer_text, answers_text, done_word, finding_text, func_name, index_line, index_lines, index_text, line, lost_line, read_word, salt_byte};
+ghost use Rattle.mcv_witness.specs.Text.{answer_text, answers_text, done_word, finding_text, func_name, index_line, index_lines, index_text, line, lost_line, number_word, outcome_word, read_word, salt_byte};
 
 use crate::finding::{Finding, LegOutcome};
 use mcv_base::{Op, Outcome, ServerId, push_number};
