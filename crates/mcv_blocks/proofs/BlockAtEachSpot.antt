@@ -1,5 +1,5 @@
 -- There is a block at each spot.
-use Rattle.std.proofs.Common.{◌≡◌, ◌⊎◌, ◌↔◌, inl, inr, ⊎_elim, ℕ, Bool, true, false, List, [], ◌∷◌, map, Option, Some, None, refl, sym, ap, ◌∙◌, subst, arith}
+use Rattle.std.proofs.Common.{◌≡◌, ◌⊎◌, ◌↔◌, inl, inr, ℕ, Bool, true, false, List, [], ◌∷◌, map, Option, Some, None, refl, sym, ap, ◌∙◌, subst, arith}
 use Rattle.std.specs.List.{All, AllZip, Contains}
 use Rattle.std.specs.Option.{IsSome}
 use Rattle.std.specs.declared.cmp.Ordering.TheVariants.{Less}
@@ -100,6 +100,14 @@ acknowledged-leaves t rest since =
     (λ l i. let h = marks.acknowledged_is (plan t s) l i in (acknowledged_are_there t s l refl h, λ c. (acknowledged_is_exact t rest since c l.position).1 (l, h, refl)))
     (λ p h. let k = (acknowledged_is_exact t rest since any p).0 (h any) in (k.0, marks.is_acknowledged (plan t s) k.0 k.1, k.2))
 
+by-reading : (t : Tree) (rest : List ℕ) (since : Option ℕ) (p : List ℕ) → CanHit t Get rest since p ⊎ CanHit t Gets rest since p → IsReadableAt t rest since p
+by-reading t rest since p (inl h) = (Get, refl, h.0, h.1)
+by-reading t rest since p (inr h) = (Gets, refl, h.0, h.1)
+
+by-adjusting : (t : Tree) (rest : List ℕ) (since : Option ℕ) (p : List ℕ) → CanHit t Incr rest since p ⊎ CanHit t Decr rest since p → IsReadableAt t rest since p
+by-adjusting t rest since p (inl h) = (Incr, refl, h.0, h.1)
+by-adjusting t rest since p (inr h) = (Decr, refl, h.0, h.1)
+
 -- the leaves from which get, gets, incr and decr can be answered, merged
 pub readable_by_four : (t : Tree) (rest : List ℕ) (since : Option ℕ) (get gets incr decr : List LegValue) → AreLeavesAt t (CanHit t Get rest since) get → AreLeavesAt t (CanHit t Gets rest since) gets → AreLeavesAt t (CanHit t Incr rest since) incr
     → AreLeavesAt t (CanHit t Decr rest since) decr → AreLeavesAt t (IsReadableAt t rest since) (merge (merge get gets) (merge incr decr))
@@ -107,7 +115,7 @@ readable_by_four t rest since get gets incr decr a b d e =
     let H : Op → List ℕ → Type 0 = λ op. CanHit t op rest since in
     let Read : List ℕ → Type 0 = λ p. H Get p ⊎ H Gets p in
     let Adjusted : List ℕ → Type 0 = λ p. H Incr p ⊎ H Decr p in
-    merged_leaves t Read Adjusted (IsReadableAt t rest since) (λ p h. ⊎_elim (λ g. (Get, refl, g.0, g.1)) (λ g. (Gets, refl, g.0, g.1)) h) (λ p h. ⊎_elim (λ g. (Incr, refl, g.0, g.1)) (λ g. (Decr, refl, g.0, g.1)) h)
+    merged_leaves t Read Adjusted (IsReadableAt t rest since) (by-reading t rest since) (by-adjusting t rest since)
     (λ p h. one_of_four (λ op. H op p) h.0 h.1 (h.2, h.3)) (merge get gets) (merge incr decr)
     (merged_leaves t (H Get) (H Gets) Read (λ p h. inl h) (λ p h. inr h) (λ p h. h) get gets a b)
     (merged_leaves t (H Incr) (H Decr) Adjusted (λ p h. inl h) (λ p h. inr h) (λ p h. h) incr decr d e)
