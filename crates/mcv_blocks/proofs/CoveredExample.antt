@@ -55,7 +55,7 @@ abbrev entry : RouteEntry
 entry = record { aliases = []; tree = tree }
 
 abbrev routes : RoutesValue
-routes = record { servers = (97 ∷ []) ∷ (98 ∷ []) ∷ []; symbols = record { func = Ch3; salt = []; n = 2 } ∷ record { func = Ch3; salt = []; n = 1 } ∷ []; entries = entry ∷ [] }
+routes = record { servers = (97 ∷ []) ∷ (98 ∷ []) ∷ []; symbols = record { func = Ch3; salt = []; n = 2 } ∷ record { func = Ch3; salt = []; n = 1 } ∷ []; entries = entry ∷ []; window = 0 }
 
 one_server : (k : ℕ) → k < 2 → All (λ s. s < 2) (k ∷ [])
 one_server k low = All-cons (λ s. s < 2) k [] low (All-nil (λ s. s < 2))

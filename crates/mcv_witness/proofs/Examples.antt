@@ -31,6 +31,7 @@ routes = record {
   servers = codes "a:11211" ∷ codes "b:11211" ∷ [];
   symbols = record { func = Ch3; salt = []; n = 1 } ∷ [];
   entries = record { aliases = codes "/././" ∷ []; tree = tree } ∷ [];
+  window = 0;
 }
 
 abbrev finding : FindingValue
