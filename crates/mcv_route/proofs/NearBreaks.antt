@@ -9,7 +9,7 @@ use Rattle.std.proofs.lemmas.List.Kept.{AllPairs-from_increasing}
 use Rattle.std.proofs.lemmas.Option.{slice_get-get_or, slice_get_past}
 use Rattle.mcv_route.specs.Eras.{HasEra, HaveMomentsWithin, IsBreakTable, IsEraOf, IsNear, IsNearEra, IsSince, MomentsAreNear, NearByBreaks, NearGrows, NearIsSymmetric, breaks_of, since_at}
 use Rattle.mcv_route.specs.Routes.{RoutesValue}
-use Rattle.mcv_route.proofs.BreakTables.{Up, one_era, one_table}
+use Rattle.mcv_route.proofs.BreakTables.{Up, one_era, one_table, table_exists}
 use Rattle.mcv_route.proofs.Breaks.{only-since}
 use Rattle.mcv_route.proofs.OpeningBreak.{since_is_last}
 
@@ -227,3 +227,24 @@ module _ (r : RoutesValue) (ns : List ℕ) (t : IsBreakTable (breaks_of r) ns) (
                   (one, (h.0, n.1, h.1, n.3, numbers_near r ns t w (suc g) f h.0 n.1 (omega (arith, under)) h.1 n.3 (omega (arith, some, from), omega (arith, from, reach))))
             ]
       ]
+
+-- ---- an era has one number
+
+not_later : (r : RoutesValue) (e f : ℕ) (since : Option ℕ) → e < f → IsEraOf r e since → IsEraOf r f since → ⊥
+not_later r e zero since low o p = omega (arith, low)
+not_later r e (suc f) since low o p =
+    let t = table_exists (breaks_of r) in
+    let le : e ≤ f = omega (arith, low) in
+    let less = ((near_by_breaks r t.0 0 e f since since t.1 le o p).0 (inl refl)).1 in
+    let up : get_or t.0 e 0 ≤ get_or t.0 f 0 = level r t.0 t.1 e f le (opened r t.0 t.1 f since p).0 in
+    omega (arith, up, less)
+
+pub one_number : (r : RoutesValue) (e f : ℕ) (since : Option ℕ) → IsEraOf r e since → IsEraOf r f since → e ≡ f
+one_number r e f since o p =
+    elim (cases_lt e f) [
+      | inl low ↦ absurd (not_later r e f since low o p)
+      | inr high ↦ elim (cases_lt f e) [
+        | inl low ↦ absurd (not_later r f e since low p o)
+        | inr over ↦ omega (arith, high, over)
+      ]
+    ]
