@@ -1,5 +1,5 @@
 -- The words of a line, by their places.
-use Rattle.std.proofs.Common.{◌≡◌, ◌∙◌, ℕ, suc, ◌-◌, ◌<◌, List, [], ◌∷◌, ◌++◌, length, get_or, take, drop, map, Bor, Some, refl, sym, ap, arith, length-drop}
+use Rattle.std.proofs.Common.{◌≡◌, ◌≢◌, ◌∙◌, ℕ, zero, suc, true, eqb-true, true-eqb, ◌-◌, ◌<◌, List, [], ◌∷◌, ◌++◌, length, get_or, take, drop, map, Bor, Some, refl, sym, ap, arith, length-drop}
 use Rattle.std.specs.Prelude.{codes, decimal}
 use Rattle.std.proofs.lemmas.List.{drop-map, get_or-map, length-map, take_all}
 use Rattle.mcv_base.specs.Position.{position_text}
@@ -7,7 +7,7 @@ use Rattle.mcv_cert.specs.Escape.{escaped}
 use Rattle.mcv_cert.specs.declared.pair.Pair.{Pair}
 use Rattle.mcv_cert.specs.declared.pair.Reason.{Reason}
 use Rattle.mcv_cert.specs.declared.place.Place.{Place}
-use Rattle.mcv_cert.specs.Pair.{PairValue, ReasonValue, pair_of, place_of, reason_of}
+use Rattle.mcv_cert.specs.Pair.{PairValue, ReasonValue, SpotValue, has_eras, pair_of, place_of, reason_of}
 use Rattle.mcv_cert.specs.Text.{era_words, pair_words, reason_words}
 
 abbrev pub texts : List (Bor (List ℕ)) → List (List ℕ)
@@ -76,3 +76,30 @@ pair_is p route class era get_era leaf reason r c e g l s =
 -- what a pair made of a place and a reason means
 pub pair_made : (x : Pair) (place : Place) (reason : Reason) → x.place ≡ place → x.reason ≡ reason → pair_of x ≡ record { place = place_of place; reason = reason_of reason }
 pair_made x place reason p r = λ i. record { place = place_of (p i); reason = reason_of (r i) }
+
+-- ---- the words of eras
+
+-- what follows the first of them
+abbrev pub past_first : ℕ → SpotValue → List (List ℕ) → List (List ℕ)
+past_first zero s more = more
+past_first (suc w) s more = decimal s.get_era ∷ more
+
+pub era_words_are : (w : ℕ) (s : SpotValue) (more : List (List ℕ)) → era_words w s more ≡ decimal s.era ∷ past_first w s more
+era_words_are zero s more = refl
+era_words_are (suc w) s more = refl
+
+pub past_one_era : (w : ℕ) (s : SpotValue) (more : List (List ℕ)) → w ≡ 0 → past_first w s more ≡ more
+past_one_era zero s more none = refl
+past_one_era (suc w) s more none = absurd (let h : ⊥ = omega (arith, none) in h)
+
+pub past_two_eras : (w : ℕ) (s : SpotValue) (more : List (List ℕ)) → w ≢ 0 → past_first w s more ≡ decimal s.get_era ∷ more
+past_two_eras zero s more some = absurd (some refl)
+past_two_eras (suc w) s more some = refl
+
+pub one_era : (w : ℕ) (s : SpotValue) → has_eras w s ≡ true → w ≡ 0 → s.era ≡ s.get_era
+one_era zero s are none = sym (eqb-true s.get_era s.era are)
+one_era (suc w) s are none = absurd (let h : ⊥ = omega (arith, none) in h)
+
+pub eras_of_window : (w : ℕ) (s : SpotValue) → (w ≡ 0 → s.get_era ≡ s.era) → has_eras w s ≡ true
+eras_of_window zero s one = true-eqb s.get_era s.era (one refl)
+eras_of_window (suc w) s one = refl

@@ -161,7 +161,7 @@ first_lacks (suc w) small = lacks-append 10 (codes "mcv-cert 2 ") (decimal (suc 
 pub first_cut : (w : ℕ) (more : List ℕ) → first_line w ++ more ≡ first_text w ++ 10 ∷ more
 first_cut w more = append_assoc (first_text w) (10 ∷ []) more
 
-first_one : (w v : ℕ) → w < 2 ^ 64 → v < 2 ^ 64 → first_text w ≡ first_text v → w ≡ v
+pub first_one : (w v : ℕ) → w < 2 ^ 64 → v < 2 ^ 64 → first_text w ≡ first_text v → w ≡ v
 first_one zero zero f g e = refl
 first_one zero (suc v) f g e = apart 49 50 (ap (λ xs. get_or xs 9 0) e) (λ h. omega (arith, h))
 first_one (suc w) zero f g e = apart 50 49 (ap (λ xs. get_or xs 9 0) e) (λ h. omega (arith, h))
@@ -172,3 +172,8 @@ pub head_one : (w v : ℕ) (xs ys : List ℕ) → w < 2 ^ 64 → v < 2 ^ 64 → 
 head_one w v xs ys f g e =
     let cut = one_cut 10 (first_text w) xs (first_text v) ys (first_lacks w f) (first_lacks v g) (sym (first_cut w xs) ∙ e ∙ first_cut v ys) in
     (first_one w v f g cut.0, cut.1)
+
+-- a first line that isn't the one of no window has a number at its end
+pub first_digits : (w : ℕ) → first_text w ≢ codes "mcv-cert 1" → first_text w ≡ codes "mcv-cert 2 " ++ decimal w
+first_digits zero other = absurd (other refl)
+first_digits (suc w) other = refl
