@@ -4,7 +4,6 @@ ghost use Rattle.std.specs.Prelude.{◌≡◌, IfErr, IfOk};
 ghost use Rattle.mcv_blocks.specs.Blocks.{IsJustifiedBy};
 ghost use Rattle.mcv_check.specs.Fault.{IsFaultOfCertificate};
 ghost use Rattle.mcv_check.specs.declared.fault.CheckFault.TheVariants.{Memory as OutOfMemory};
-ghost use Rattle.mcv_route.specs.Routes.{within};
 
 use crate::fault::CheckFault;
 use crate::judging::judge_routes;
@@ -53,26 +52,24 @@ impl Accepted {
     }
 }
 
-/// Judges the certificate against the routes, looked at within the window: accepts it exactly when it is justified, or
-/// else reports that it is for another window, and then the first fault in it.
+/// Judges the certificate against the routes, looked at within their window: accepts it exactly when it is justified,
+/// or else reports that it is for another window, and then the first fault in it.
 ///
 /// An error drops the routes. `Memory` may come for any certificate that is for the window.
 pub fn check(
     alloc: Global,
     routes: Routes,
     certificate: &Certificate,
-    window: u64,
 ) -> Result<Accepted, CheckFault>
-    ensures accepted { IfOk result (λ a. (a ≡ within window routes) × IsJustifiedBy (within window routes) certificate.now) }
-    ensures fault { IfErr result (IsFaultOfCertificate (within window routes) certificate.now) }
-    ensures justified { IsJustifiedBy (within window routes) certificate.now → IfErr result (λ f. f ≡ OutOfMemory) }
+    ensures accepted { IfOk result (λ a. (a ≡ routes) × IsJustifiedBy routes certificate.now) }
+    ensures fault { IfErr result (IsFaultOfCertificate routes certificate.now) }
+    ensures justified { IsJustifiedBy routes certificate.now → IfErr result (λ f. f ≡ OutOfMemory) }
 {
-    if certificate.window() != window {
+    if certificate.window() != routes.window() {
         return Err(CheckFault::Window);
     }
     one_list_of_blocks();
     justified_is_covered();
-    let routes = routes.within(window);
     // Routes are sound.
     let _servers = routes.servers();
     judge_routes(alloc, &routes, certificate.pairs())?;

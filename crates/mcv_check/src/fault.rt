@@ -16,7 +16,7 @@ pub enum CheckFault {
     Pair(PairFault),
     #[error("out of memory")]
     Memory,
-    /// It isn't for the window that is asked for.
+    /// It isn't for the window of the routes.
     #[error("the certificate is for another window")]
     Window,
 }
