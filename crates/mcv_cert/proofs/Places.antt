@@ -1,5 +1,5 @@
 -- The words of a line, by their places.
-use Rattle.std.proofs.Common.{◌≡◌, ◌≢◌, ◌∙◌, ℕ, zero, suc, true, eqb-true, true-eqb, ◌-◌, ◌<◌, List, [], ◌∷◌, ◌++◌, length, get_or, take, drop, map, Bor, Some, refl, sym, ap, arith, length-drop}
+use Rattle.std.proofs.Common.{◌≡◌, ◌≢◌, ◌∙◌, ℕ, zero, suc, true, eqb-true, eq-eqb, ◌-◌, ◌<◌, List, [], ◌∷◌, ◌++◌, length, get_or, take, drop, map, Bor, Some, refl, sym, ap, arith, length-drop}
 use Rattle.std.specs.Prelude.{codes, decimal}
 use Rattle.std.proofs.lemmas.List.{drop-map, get_or-map, length-map, take_all}
 use Rattle.mcv_base.specs.Position.{position_text}
@@ -101,5 +101,5 @@ one_era zero s are none = sym (eqb-true s.get_era s.era are)
 one_era (suc w) s are none = absurd (let h : ⊥ = omega (arith, none) in h)
 
 pub eras_of_window : (w : ℕ) (s : SpotValue) → (w ≡ 0 → s.get_era ≡ s.era) → has_eras w s ≡ true
-eras_of_window zero s one = true-eqb s.get_era s.era (one refl)
+eras_of_window zero s one = eq-eqb s.get_era s.era (one refl)
 eras_of_window (suc w) s one = refl

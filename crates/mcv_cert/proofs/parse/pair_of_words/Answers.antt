@@ -18,27 +18,27 @@ returns-in_default-read_eras-clause-meant c = λ p is e.
     let some = c.read_eras.ensures.meant p.place.spot (behind_eras p) is.fits.spot is.eras (eras_are c.args.words.now c.args.window p e) in
     let none = rw c.in_default-read_eras.is at some in none
 
+pub returns-in_default-behind-clause-meant : goal.returns-in_default-behind-clause-meant
+returns-in_default-behind-clause-meant c = λ p is e.
+    let eras = c.in-Some-read_eras.ensures.meant p.place.spot (behind_eras p) is.fits.spot is.eras (eras_are c.args.words.now c.args.window p e) in
+    not_empty c.in-Some-read_eras.eras.behind.now (position_text p.place.leaf) (reason_words p.reason) eras.2 c.in_default-behind.len_below
+
 pub returns-in_default-2-clause-meant : goal.returns-in_default-2-clause-meant
 returns-in_default-2-clause-meant c = λ p is e.
-    let eras = c.in-Some-read_eras.ensures.meant p.place.spot (behind_eras p) is.fits.spot is.eras (eras_are c.args.words.now c.args.window p e) in
-    not_empty c.in-Some-read_eras.eras.behind.now (position_text p.place.leaf) (reason_words p.reason) eras.2 c.in_default-2.len_below
+    let some = c.in_ok-class.ensures p.place.spot.class is.fits.spot.class (class_word c.args.words.now c.args.window p e) in
+    let none = rw c.in_default-2.is at some in absurd (cc)
 
 pub returns-in_default-3-clause-meant : goal.returns-in_default-3-clause-meant
 returns-in_default-3-clause-meant c = λ p is e.
-    let some = c.in_ok-class.ensures p.place.spot.class is.fits.spot.class (class_word c.args.words.now c.args.window p e) in
-    let none = rw c.in_default-3.is at some in absurd (cc)
+    let eras = c.in-Some-read_eras.ensures.meant p.place.spot (behind_eras p) is.fits.spot is.eras (eras_are c.args.words.now c.args.window p e) in
+    let some = c.in_ok-leaf.ensures p.place.leaf is.fits.leaf (first_word c.in-Some-read_eras.eras.behind.now (position_text p.place.leaf) (reason_words p.reason) eras.2) in
+    let none = rw c.in_default-3.is at some in none
 
 pub returns-in_default-4-clause-meant : goal.returns-in_default-4-clause-meant
 returns-in_default-4-clause-meant c = λ p is e.
     let eras = c.in-Some-read_eras.ensures.meant p.place.spot (behind_eras p) is.fits.spot is.eras (eras_are c.args.words.now c.args.window p e) in
-    let some = c.in_ok-leaf.ensures p.place.leaf is.fits.leaf (first_word c.in-Some-read_eras.eras.behind.now (position_text p.place.leaf) (reason_words p.reason) eras.2) in
-    let none = rw c.in_default-4.is at some in none
-
-pub returns-in_default-5-clause-meant : goal.returns-in_default-5-clause-meant
-returns-in_default-5-clause-meant c = λ p is e.
-    let eras = c.in-Some-read_eras.ensures.meant p.place.spot (behind_eras p) is.fits.spot is.eras (eras_are c.args.words.now c.args.window p e) in
     let some = c.in_ok-reason.ensures.meant p.reason is.fits.reason is.legs (other_words c.in-Some-read_eras.eras.behind.now (position_text p.place.leaf) (reason_words p.reason) eras.2) in
-    let none = rw c.in_default-5.is at some in none
+    let none = rw c.in_default-4.is at some in none
 
 pub returns-clause-meant : goal.returns-clause-meant
 returns-clause-meant c = λ p is e.

@@ -16,12 +16,16 @@ returns-then-not-takes-clause-faulty c =
     subst (λ n. Reads w c.args.body.now (unordered (n + 2))) (sym c.len.ensures.value)
     (stopped w c.args.body.now c.loop-buffers.rest.now c.loop-buffers.certificate.pairs _ c.loop-buffers.invariant.so_far (falls (pair_of c.in-Line.pair) c.in-Line.later.now front.0 front.1 low))
 
-pub loop-buffers-preserved-clause-so_far : goal.loop-buffers-preserved-clause-so_far
-loop-buffers-preserved-clause-so_far c =
+pub loop-buffers-preserved : goal.loop-buffers-preserved
+loop-buffers-preserved c =
     let front = rw c.in-Line.is at c.in_ok-pair.ensures in
     let high = high_is _ _ _ c.takes.result c.takes.ensures c.if-not-takes.false in
-    subst (λ (x : CertificateValue). IsSoFar c.args.window c.args.body.now x.pairs c.in-Line.later.now) (sym c.in_ok-push-in-Line.ensures.added)
-    (so_far_more c.args.window c.args.body.now c.loop-buffers.rest.now c.in-Line.later.now c.loop-buffers.certificate.pairs (pair_of c.in-Line.pair) c.loop-buffers.invariant.so_far front.0 front.1 high)
+    record {
+      so_far =
+          subst (λ (x : CertificateValue). IsSoFar c.args.window c.args.body.now x.pairs c.in-Line.later.now) (sym c.in_ok-push-in-Line.ensures.added)
+          (so_far_more c.args.window c.args.body.now c.loop-buffers.rest.now c.in-Line.later.now c.loop-buffers.certificate.pairs (pair_of c.in-Line.pair) c.loop-buffers.invariant.so_far front.0 front.1 high);
+      window = ap (λ (x : CertificateValue). x.window) c.in_ok-push-in-Line.ensures.added ∙ c.loop-buffers.invariant.window;
+    }
 
 pub returns-in-Last-clause-read : goal.returns-in-Last-clause-read
 returns-in-Last-clause-read c =

@@ -17,7 +17,7 @@ returns-in_err-read_body-clause-faulty c =
     let head = c.in-Some.head in
     let cut = rw c.in-Some.is at c.in_ok-head.ensures in
     let reported = fault_weaker c.in_err-read_body.field-0.0 (Reads head.window head.body.now) (Says c.args.text.now) (λ r read. reads head.window head.body.now r cut.0 c.if-text-gt-TEXT_LIMIT.false cut.1 read) c.in_err-read_body.ensures.faulty in
-    let err = err_from_is_err_and c.from_residual.result c.from_residual.ensures.1 in
+    let err = err_from_is_err_and c.from_residual-in_err-read_body.result c.from_residual-in_err-read_body.ensures.1 in
     rw (err.1, err.2) reported
 
 pub returns-clause-read : goal.returns-clause-read

@@ -1,5 +1,4 @@
-use Rattle.std.proofs.Common.{◌∙◌, sym}
-use Rattle.mcv_cert.proofs.Lines.{head_cut, no_head, other_head}
+use Rattle.mcv_cert.proofs.Lines.{no_head, other_head}
 use Rattle.mcv_cert.proofs.read.read_head.Goals as goal
 
 pub returns-in_default : goal.returns-in_default
@@ -9,8 +8,3 @@ pub returns-in_default-2 : goal.returns-in_default-2
 returns-in_default-2 c =
     let none = rw c.in_default-2.is at c.in_ok-window.ensures in
     other_head c.args.text.now c.in-Some.end c.in-Some.ensures none
-
-pub returns : goal.returns
-returns c =
-    let some = rw c.in-Some-2.is at c.in_ok-window.ensures in
-    (some.0, head_cut c.args.text.now c.in-Some.end c.in-Some-2.window _ _ some.1)
