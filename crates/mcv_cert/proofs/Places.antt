@@ -1,6 +1,7 @@
 -- The words of a line, by their places.
-use Rattle.std.proofs.Common.{◌≡◌, ◌≢◌, ◌∙◌, ℕ, zero, suc, true, eqb-true, eq-eqb, ◌-◌, ◌<◌, List, [], ◌∷◌, ◌++◌, length, get_or, take, drop, map, Bor, Some, refl, sym, ap, arith, length-drop}
+use Rattle.std.proofs.Common.{◌≡◌, ◌≢◌, ◌∙◌, ◌==◌, ◌||◌, not, Bool, ℕ, zero, suc, true, eqb-true, eq-eqb, ◌-◌, ◌<◌, List, [], ◌∷◌, ◌++◌, length, get_or, take, drop, map, Bor, Some, refl, sym, ap, arith, length-drop}
 use Rattle.std.specs.Prelude.{codes, decimal}
+use Rattle.std.proofs.lemmas.Bool.{ne_eqb}
 use Rattle.std.proofs.lemmas.List.{drop-map, get_or-map, length-map, take_all}
 use Rattle.mcv_base.specs.Position.{position_text}
 use Rattle.mcv_cert.specs.Escape.{escaped}
@@ -102,4 +103,4 @@ one_era (suc w) s are none = absurd (let h : ⊥ = omega (arith, none) in h)
 
 pub eras_of_window : (w : ℕ) (s : SpotValue) → (w ≡ 0 → s.get_era ≡ s.era) → has_eras w s ≡ true
 eras_of_window zero s one = eq-eqb s.get_era s.era (one refl)
-eras_of_window (suc w) s one = refl
+eras_of_window (suc w) s one = ap (λ (b : Bool). not b || (s.get_era == s.era)) (ne_eqb (suc w) 0 (λ e. omega (arith, e)))

@@ -18,7 +18,8 @@ pub fn push_first(text: &mut Vec<u8>, window: u64) -> Result<(), AllocError>
     ensures { OnOk result (text.new.items ≡ text.old.items ++ first_text window) }
 {
     if window == 0 {
-        return text.extend_from_slice(b"mcv-cert 1");
+        text.extend_from_slice(b"mcv-cert 1")?;
+        return Ok(());
     }
     text.extend_from_slice(b"mcv-cert 2 ")?;
     push_number(text, window as usize)?;

@@ -4,7 +4,7 @@ use Rattle.mcv_cert.proofs.parse.read_eras.Goals as goal
 
 pub returns-in_err-era-clause-meant : goal.returns-in_err-era-clause-meant
 returns-in_err-era-clause-meant c = λ s more fits are e.
-    c.in_err-era.ensures s.era (past_first c.args.window s more) fits.era (e ∙ era_words_are c.args.window s more)
+    absurd (c.in_err-era.ensures s.era (past_first c.args.window s more) fits.era (e ∙ era_words_are c.args.window s more))
 
 pub returns-then-window-eq0-clause-meant : goal.returns-then-window-eq0-clause-meant
 returns-then-window-eq0-clause-meant c = λ s more fits are e.
@@ -14,7 +14,7 @@ returns-then-window-eq0-clause-meant c = λ s more fits are e.
 pub returns-in_err-get_era-clause-meant : goal.returns-in_err-get_era-clause-meant
 returns-in_err-get_era-clause-meant c = λ s more fits are e.
     let some = c.in_ok-era.ensures s.era (past_first c.args.window s more) fits.era (e ∙ era_words_are c.args.window s more) in
-    c.in_err-get_era.ensures s.get_era more fits.get_era (some.1 ∙ past_two_eras c.args.window s more c.if-window-eq0.false)
+    absurd (c.in_err-get_era.ensures s.get_era more fits.get_era (some.1 ∙ past_two_eras c.args.window s more c.if-window-eq0.false))
 
 pub returns-clause-meant : goal.returns-clause-meant
 returns-clause-meant c = λ s more fits are e.

@@ -1,7 +1,7 @@
 use Rattle.std.proofs.Common.{◌≡◌, ◌∙◌, ◌+◌, ◌&&◌, refl, ap, sym, subst}
 use Rattle.std.proofs.lemmas.List.Elements.{All-nil}
 use Rattle.std.proofs.lemmas.Result.{MatchResult-weaker}
-use Rattle.mcv_cert.specs.Pair.{CertificateValue, HasEras, IsPair, has_eras, pair_of}
+use Rattle.mcv_cert.specs.Pair.{CertificateValue, has_eras, names_legs, pair_of, reason_of}
 use Rattle.mcv_cert.specs.Place.{place_of}
 use Rattle.mcv_cert.specs.Reading.{Reads, at_end, breaks, broken, ended, falls, pairs, unordered}
 use Rattle.mcv_cert.proofs.Lines.{IsSoFar, high_is, low_is, so_far_more, stopped, fault_of_reading}
@@ -19,7 +19,7 @@ returns-then-not-takes-clause-faulty c =
 pub loop-buffers-preserved : goal.loop-buffers-preserved
 loop-buffers-preserved c =
     let front = rw c.in-Line.is at c.in_ok-pair.ensures in
-    let high = high_is _ _ _ c.takes.result c.takes.ensures c.if-not-takes.false in
+    let high = high_is (has_eras c.loop-buffers.certificate.window (place_of c.in-Line.pair.place).spot) (names_legs (reason_of c.in-Line.pair.reason)) _ c.takes.result c.takes.ensures c.if-not-takes.false in
     record {
       so_far =
           subst (λ (x : CertificateValue). IsSoFar c.args.window c.args.body.now x.pairs c.in-Line.later.now) (sym c.in_ok-push-in-Line.ensures.added)
