@@ -372,8 +372,8 @@ abbrev pub Passes : ValueParser → Text → Type 0
 Passes parser text = accepts false parser text ≡ true
 
 -- the value of an option, one that its parser takes
-abbrev pub HasPassing : ValueParser → (option : Text) → List Row → Type 0
-HasPassing parser option rows = (text : Text) × (one_of option rows ≡ Some text) × Passes parser text
+abbrev pub HasPassing : ValueParser → (name : Text) → List Row → Type 0
+HasPassing parser name rows = (text : Text) × (one_of name rows ≡ Some text) × Passes parser text
 
 abbrev pub HasAt : List Row → Type 0
 HasAt = HasPassing at_parser (codes "at")
