@@ -16,7 +16,7 @@ use Rattle.mcv_route.specs.Eras.{IsEra, breaks_of, since_at}
 use Rattle.mcv_route.specs.Routes.{RoutesValue}
 use Rattle.mcv_world.specs.Moves.{EraBegan}
 use Rattle.mcv_world.proofs.Choices.{moments_have_eras}
-use Rattle.mcv_world.proofs.Numbers.{no_some}
+use Rattle.mcv_world.proofs.Numbers.{no_some, same_some}
 use Rattle.mcv_events.specs.Rows as rows
 use Rattle.mcv_events.specs.Rows.{CallRow, IsCore, LegRow, Rows, world_of}
 use Rattle.mcv_events.specs.QueuedLegs.{count_in, count_of}
@@ -32,6 +32,7 @@ use Rattle.mcv_core.specs.CoreView.{Does, IsQuiet}
 use Rattle.mcv_core.specs.Rows.{awaiting_rows, call_rows, row_by, rows_of, state_of}
 use Rattle.mcv_core.specs.Soundness.{one, IsSound}
 use Rattle.mcv_core.specs.Chapters.{IsAtRest, era_move, in_era}
+use Rattle.mcv_core.specs.Events.{IsNewEra}
 use Rattle.mcv_core.specs.View.{core_view}
 
 -- ---- the clock
@@ -71,6 +72,17 @@ era_does d since moment is (Some era) changed same =
       moves = era_moves (arc_value d.accepted) (core_view d).rows (option_map (λ m. m.0) since) d.sound.core;
       routes = refl;
     })
+
+same_moment : (a b : Option Moment) → option_map (λ m. m.0) a ≡ option_map (λ m. m.0) b → a ≡ b
+same_moment None None e = refl
+same_moment None (Some b) e = no_some e
+same_moment (Some a) None e = no_some (sym e)
+same_moment (Some a) (Some b) e = λ j. Some (record { 0 = same_some e j })
+
+-- the era that is answered is another one than before
+pub new_era : (old since : Option Moment) (era : Option Era) → IfSome era (λ e. e.since ≡ since) → IfSome era (λ e. since ≡ old → ⊥) → (era ≡ None → since ≡ old) → IsNewEra (option_map (λ m. m.0) old) (option_map (λ m. m.0) since) era
+new_era old since None changed other same = ap (option_map (λ (m : Moment). m.0)) (same refl)
+new_era old since (Some era) changed other same = (ap (option_map (λ (m : Moment). m.0)) changed, λ e. other (same_moment since old e))
 
 -- ---- sums that are 0
 

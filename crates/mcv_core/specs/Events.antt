@@ -29,6 +29,11 @@ use Rattle.mcv_core.specs.declared.fault.CoreFault.TheVariants.{UnknownPrefix, B
 use Rattle.mcv_core.specs.declared.step.Step.{Step}
 use Rattle.mcv_core.specs.declared.turn.Era.{Era}
 
+-- the event is this move, or none, and leads to the view
+pub record IsEvent (Event : Option Move → CoreView → Type 0) (w : CoreView) : Type 0 where
+  pub move : Option Move
+  pub event : Event move w
+
 -- refused: its cause is there, it is no move, and nothing changes
 pub record IsRefused (Cause : Type 0) (v : CoreView) (m : Option Move) (w : CoreView) : Type 0 where
   pub cause : Cause
