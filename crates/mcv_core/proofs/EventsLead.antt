@@ -28,10 +28,10 @@ pub effect_same : (e : Effect) (v w : CoreView) (fault : CoreFault) → HasEffec
 effect_same (refuses f) v w fault h = h.1
 effect_same (does s u) v w fault h = absurd (let k = h.0 in cc)
 
-nothing_leads : (v w : CoreView) (m : Option Move) → m ≡ None → w ≡ v → Leads v w m
+pub nothing_leads : (v w : CoreView) (m : Option Move) → m ≡ None → w ≡ v → Leads v w m
 nothing_leads v w m none same = subst (Leads v w) (sym none) (stays (ap (λ z. z.rows) same) (ap (λ z. z.routes) same))
 
-move_leads : (v w : CoreView) (m n : Option Move) → m ≡ n → Does v w n → Leads v w m
+pub move_leads : (v w : CoreView) (m n : Option Move) → m ≡ n → Does v w n → Leads v w m
 move_leads v w m n is d = subst (Leads v w) (sym is) (goes n d)
 
 pub begun_leads : (v : CoreView) (chosen : SymbolValue → List ℕ → ℕ) (request : Request) (key : ℕ) (r : Result CallId CoreFault) (m : Option Move) (w : CoreView) → IsBegun v chosen request key r m w → Leads v w m

@@ -17,7 +17,9 @@ use Rattle.mcv_rules.specs.declared.arrival.After.{After}
 use Rattle.mcv_rules.specs.declared.arrival.After.TheVariants as after
 use Rattle.mcv_rules.specs.declared.plan.Plan.{Plan, Send, Reply, All, Beside, InTurn, OnHit, Shadowed}
 use Rattle.mcv_rules.specs.declared.plan.Plan.TheOpen.{Plan-F}
-use Rattle.mcv_rules.specs.declared.plan.Plan.TheFolds.{ind-Plan}
+use Rattle.mcv_rules.specs.declared.plan.Plan.TheFolds.{ind-Plan, map-Plan}
+use Rattle.mcv_rules.specs.declared.plan.Plan.TheVariants.{rolls-Send, rolls-Reply, rolls-All, rolls-Beside, rolls-InTurn, rolls-OnHit, rolls-Shadowed}
+use Rattle.mcv_rules.specs.declared.plan.Plan.TheViews.{roll-Plan}
 use Rattle.mcv_rules.specs.declared.plan.PlannedLeg.{PlannedLeg}
 use Rattle.mcv_rules.proofs.NormalForms.{part-All, part-Beside, part-InTurn, part-OnHit, part-Reply, part-Send, part-Shadowed}
 use Rattle.mcv_plan.specs.Entries.{legs_of}
@@ -105,8 +107,19 @@ module _ (c : Choice) where
       ap (λ z. launches (alone z)) (part-Shadowed s a b p) ∙ if_launches (nat_le a (c s) && nat_le (c s) b) (whole_of p.value)
       ∙ ap (λ ls. cond (nat_le a (c s) && nat_le (c s) b) ls []) h ∙ sym (built.legs-Shadowed c s a b p)
 
+  -- a layer whose parts agree
+  layer : (y : Plan-F Both) → Agrees (roll-Plan (map-Plan Both Plan (λ e. e.0) y))
+  layer (Plan-F.Send l) = subst Agrees (sym (rolls-Send l)) (agrees-Send l)
+  layer (Plan-F.Reply f) = subst Agrees (sym (rolls-Reply f)) (agrees-Reply f)
+  layer (Plan-F.All es) = subst Agrees (sym (rolls-All _)) (agrees-All _ es.items refl)
+  layer (Plan-F.Beside es) = subst Agrees (sym (rolls-Beside _)) (agrees-Beside _ es.items refl)
+  layer (Plan-F.InTurn w es) = subst Agrees (sym (rolls-InTurn w _)) (agrees-InTurn w _ es.items refl)
+  layer (Plan-F.OnHit e f) = subst Agrees (sym (rolls-OnHit _ _)) (agrees-OnHit _ _ e.value.1 f.value.1)
+  layer (Plan-F.Shadowed s a b e) = subst Agrees (sym (rolls-Shadowed s a b _)) (agrees-Shadowed s a b _ e.value.1)
+
+  -- an induction over plans: y is x with a proof beside each part
   agrees : (p : Plan) → Agrees p
-  agrees = ind-Plan Agrees (λ x y is. ?)
+  agrees = ind-Plan Agrees (λ x y is. subst (λ z. Agrees (roll-Plan z)) is (layer y))
 
 -- what a plan that serves the route lays out is what the call can launch
 pub legs_are_planned : (c : Choice) (p : Plan) (t : Tree) (s : Situation) → Serves p t s → legs_of c p ≡ planned_legs t s c

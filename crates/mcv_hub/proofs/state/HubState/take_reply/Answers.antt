@@ -1,16 +1,45 @@
-use Rattle.std.proofs.Common.{◌∙◌, ap, vec_len, vec_capacity}
+use Rattle.std.proofs.Common.{◌≡◌, ◌∙◌, Ok, Err, Some, None, ap, refl, subst, arith, vec_len, vec_capacity}
 use Rattle.mcv_base.specs.Reply.{part_value}
 use Rattle.mcv_events.specs.Rows.{world_of}
+use Rattle.mcv_world.specs.Moves.{Taken as taken_move}
+use Rattle.mcv_core.specs.Events.{IsEvent, IsTaken}
 use Rattle.mcv_core.specs.View.{core_view}
-use Rattle.mcv_hub.proofs.Histories.{reply_of_world, take_holds}
+use Rattle.mcv_hub.specs.declared.entry.Entry.TheVariants.{Taken}
+use Rattle.mcv_hub.proofs.EventsMayWrite.{take_goes}
+use Rattle.mcv_hub.proofs.Histories.{goes_holds, hub_event, none_begins, none_longer, none_takes, none_writes, one_writes, reply_of_world, taken_begins, taken_longer, taken_takes, uncalled_event}
 use Rattle.mcv_hub.proofs.state.HubState.take_reply.Goals as goal
 
 pub invariant_of-self-2 : goal.invariant_of-self-2
 invariant_of-self-2 g c =
-    take_holds (core_view c.self.inside.core.dispatcher) (core_view c.take.new.core.dispatcher) c.self.inside.history.items c.self.inside.chapter c.self.inside.begun.total c.self.inside.taken.total c.self.inside.begun_before c.self.inside.taken_before (vec_len c.self.inside.history)
-    (vec_capacity c.self.inside.history) c.self.inside.places c.self.inside.breaks c.self.invariant c.args.call _ _ _ _
-    (rw c.in-Some.is at c.in_ok-found.ensures.moves) c.take.ensures.chapter (rw c.in-Some.is at c.in_ok-found.ensures.may_write) c.push_reserved.ensures.items c.add.ensures.total c.push_reserved.ensures.len c.push_reserved.ensures.capacity
+    let s = c.self.inside in
+    let d = s.core.dispatcher in
+    let w = core_view c.take.new.self in
+    let h : IsEvent (IsTaken (core_view d) c.args.call (Ok (Some c.in-Some.reply))) w = subst (λ o. IsEvent (IsTaken (core_view d) c.args.call (Ok o)) w) c.in-Some.is (subst (λ d. IsEvent (IsTaken (core_view d) c.args.call (Ok c.in_ok-found.found)) w) c.events.ensures.value c.in_ok-found.ensures) in
+    let goes = take_goes d w c.args.call (Ok (Some c.in-Some.reply)) h.move h.event in
+    goes_holds (core_view d) w s.history.items s.chapter s.begun.total s.taken.total s.begun_before s.taken_before (vec_len s.history) (vec_capacity s.history) s.places s.breaks c.self.invariant h.move goes _ _ _ _ _
+    (one_writes _ _ _ (Taken c.args.call) h.move (taken_move c.args.call.0) h.event.move refl c.push_reserved.ensures.items) (taken_begins h.move c.args.call.0 _ h.event.move) (taken_takes h.move c.args.call.0 _ _ h.event.move c.add.ensures.total)
+    (taken_longer h.move c.args.call.0 _ _ h.event.move c.push_reserved.ensures.len) c.push_reserved.ensures.capacity
 
-pub returns-clause-reply : goal.returns-clause-reply
-returns-clause-reply g c w is left =
-    reply_of_world (core_view c.args.self.now.core).routes (world_of (core_view c.args.self.now.core).rows) w c.args.call.0 (part_value c.in-Some.reply) left (rw (← c.self.view_is) (rw c.in-Some.is at c.in_ok-found.ensures.reply))
+pub returns-clause-event : goal.returns-clause-event
+returns-clause-event g c =
+    let s = c.self.inside in
+    let d = s.core.dispatcher in
+    let w = core_view c.take.new.self in
+    let h : IsEvent (IsTaken (core_view d) c.args.call (Ok (Some c.in-Some.reply))) w = subst (λ o. IsEvent (IsTaken (core_view d) c.args.call (Ok o)) w) c.in-Some.is (subst (λ d. IsEvent (IsTaken (core_view d) c.args.call (Ok c.in_ok-found.found)) w) c.events.ensures.value c.in_ok-found.ensures) in
+    let goes = take_goes d w c.args.call (Ok (Some c.in-Some.reply)) h.move h.event in
+    rw (← c.self.view_is)
+    (hub_event _ _ _ h.move h.event goes.leads (one_writes _ _ _ (Taken c.args.call) h.move (taken_move c.args.call.0) h.event.move refl c.push_reserved.ensures.items) (taken_begins h.move c.args.call.0 _ h.event.move)
+    (taken_takes h.move c.args.call.0 _ _ h.event.move c.add.ensures.total) (record { chapter = refl; begun_before = refl; taken_before = refl }))
+
+pub returns-clause-receipt : goal.returns-clause-receipt
+returns-clause-receipt g c =
+    let d = c.self.inside.core.dispatcher in
+    let w = core_view c.take.new.self in
+    let h : IsEvent (IsTaken (core_view d) c.args.call (Ok (Some c.in-Some.reply))) w = subst (λ o. IsEvent (IsTaken (core_view d) c.args.call (Ok o)) w) c.in-Some.is (subst (λ d. IsEvent (IsTaken (core_view d) c.args.call (Ok c.in_ok-found.found)) w) c.events.ensures.value c.in_ok-found.ensures) in
+    record {
+      chapter = rw (← c.self.view_is) refl;
+      entry = rw (← c.self.view_is) c.len.ensures;
+      call_is = refl;
+      asked = c.in_ok-asked.ensures.ok;
+      reply = λ world is left. reply_of_world (core_view c.args.self.now.core).routes (world_of (core_view c.args.self.now.core).rows) world c.args.call.0 (part_value c.in-Some.reply) left (rw (← c.self.view_is) h.event.reply);
+    }
