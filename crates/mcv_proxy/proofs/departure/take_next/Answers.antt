@@ -5,17 +5,7 @@ use Rattle.mcv_proxy.specs.Flights.{IsNext}
 use Rattle.mcv_proxy.proofs.departure.take_next.Goals as goal
 
 pub flight_of-requires : goal.flight_of-requires
-flight_of-requires g c = record {
-  before = c.args.guard.now;
-  keeps = c.deletes_are_kept.ensures;
-  next = record {
-    free = c.in_ok-leg.ensures.free;
-    first = c.in_ok-leg.ensures.first;
-    view = c.in_ok-leg.ensures.view;
-    history = c.in_ok-leg.ensures.history;
-    books = c.in_ok-leg.ensures.books;
-  };
-}
+flight_of-requires g c = record { before = c.args.guard.now; keeps = c.deletes_are_kept.ensures; next = c.in-Ok.ensures }
 
 pub returns-in-Some-clause-departs : goal.returns-in-Some-clause-departs
 returns-in-Some-clause-departs g c =
@@ -23,27 +13,10 @@ returns-in-Some-clause-departs g c =
     let Q : LegId → Type 0 = λ n. asked_at c.next.new.self.core n.0 ≡ Some (asked_by c.in-Some.flight.request) in
     record {
       server_is = c.in-Some.ensures.its.0;
-      next = subst P (sym c.in-Some.ensures.its.1) (record {
-        free = c.in_ok-leg.ensures.free;
-        first = c.in_ok-leg.ensures.first;
-        view = c.in_ok-leg.ensures.view;
-        history = c.in_ok-leg.ensures.history;
-        books = c.in_ok-leg.ensures.books;
-      });
+      next = subst P (sym c.in-Some.ensures.its.1) c.in-Ok.ensures;
       unmarked = c.in-Some.ensures.unmarked;
       asks = subst Q (sym c.in-Some.ensures.its.1) c.in-Some.ensures.asks;
     }
 
 pub returns-in-None-clause-departs : goal.returns-in-None-clause-departs
-returns-in-None-clause-departs g c = record {
-  mid = c.next.new.self;
-  next = record {
-    free = c.in_ok-leg.ensures.free;
-    first = c.in_ok-leg.ensures.first;
-    view = c.in_ok-leg.ensures.view;
-    history = c.in_ok-leg.ensures.history;
-    books = c.in_ok-leg.ensures.books;
-  };
-  result = c.lost.result;
-  loss = c.lost.ensures;
-}
+returns-in-None-clause-departs g c = record { mid = c.next.new.self; next = c.in-Ok.ensures; result = c.lost.result; loss = c.lost.ensures }

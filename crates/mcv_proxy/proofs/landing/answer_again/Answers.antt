@@ -15,7 +15,7 @@ invariant_of-performed g c =
         stored = subst P c.core.ensures (sym c.record-number.ensures);
         reply = c.args.reply;
         step = c.in-Ok.step;
-        event = c.in-Ok.ensures.event;
+        event = c.in-Ok.ensures;
         performed = c.in-Performed.is;
       } ∣₁;
     }
