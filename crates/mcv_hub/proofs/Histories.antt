@@ -174,6 +174,10 @@ pub room_stays : (len len' capacity capacity' places may_write may_write' writte
 room_stays len len' capacity capacity' places may_write may_write' written h spent longer same =
     record { within = omega (arith, h.within, spent, longer); kept = omega (arith, h.kept, same); small = h.small }
 
+-- what is written has its place
+pub write_fits : (len capacity places before after n : ℕ) → HasRoom len capacity places before → after + n ≤ before → len + n ≤ capacity
+write_fits len capacity places before after n h spent = let within = h.within in let kept = h.kept in omega (arith, within, kept, spent)
+
 -- ---- what a legal history says
 
 -- a call that is left is the world's

@@ -1,9 +1,19 @@
-use Rattle.std.proofs.Common.{refl, subst, vec_len, vec_capacity}
+use Rattle.std.proofs.Common.{◌≡◌, ◌+◌, ◌≤◌, arith, refl, subst, sym, vec_len, vec_capacity}
 use Rattle.mcv_core.specs.Events.{IsClocked, IsEvent}
 use Rattle.mcv_core.specs.View.{core_view}
+use Rattle.mcv_hub.specs.History.{entries_in, written}
+use Rattle.mcv_hub.specs.RemainingEntries.{may_write}
 use Rattle.mcv_hub.proofs.EventsMayWrite.{clock_goes}
-use Rattle.mcv_hub.proofs.Histories.{clock_move, era_begins, era_longer, era_takes, era_writes, goes_holds, hub_event}
+use Rattle.mcv_hub.proofs.Histories.{clock_move, era_begins, era_longer, era_takes, era_writes, goes_holds, hub_event, write_fits}
 use Rattle.mcv_hub.proofs.state.HubState.clock.Goals as goal
+
+pub write-requires : goal.write-requires
+write-requires g c =
+    let h : IsEvent (IsClocked (core_view c.self.inside.core.dispatcher) c.args.moment c.clock-answer.result) (core_view c.clock-answer.new.self) = subst (λ d. IsEvent (IsClocked (core_view d) c.args.moment c.clock-answer.result) (core_view c.clock-answer.new.self)) c.events.ensures.value c.clock-answer.ensures in
+    let goes = clock_goes c.self.inside.core.dispatcher (core_view c.clock-answer.new.self) c.args.moment c.clock-answer.result h.move h.event in
+    let is = clock_move (core_view c.self.inside.core.dispatcher) c.args.moment c.clock-answer.result h.move (core_view c.clock-answer.new.self) h.event in
+    let longer : entries_in c.era_entry.result ≡ written h.move = let k = era_longer c.clock-answer.result h.move is 0 (entries_in c.era_entry.result) c.era_entry.result c.era_entry.ensures (omega arith) in omega (arith, k) in
+    subst (λ n. vec_len c.self.inside.history + n ≤ vec_capacity c.self.inside.history) (sym longer) (write_fits (vec_len c.self.inside.history) (vec_capacity c.self.inside.history) c.self.inside.places (may_write (core_view c.self.inside.core.dispatcher)) (may_write (core_view c.clock-answer.new.self)) (written h.move) c.self.invariant.1 goes.spent)
 
 pub invariant_of-self : goal.invariant_of-self
 invariant_of-self g c =

@@ -1,13 +1,22 @@
-use Rattle.std.proofs.Common.{◌≡◌, ◌∙◌, ap, refl, subst, vec_len, vec_capacity}
+use Rattle.std.proofs.Common.{◌≡◌, ◌∙◌, ◌+◌, ◌≤◌, ap, arith, refl, subst, sym, vec_len, vec_capacity}
 use Rattle.mcv_base.specs.Reply.{fixed_value}
 use Rattle.mcv_base.specs.declared.reply.FixedReply.TheVariants as replies
 use Rattle.mcv_base.specs.declared.reply.Part.TheVariants as parts
 use Rattle.mcv_core.specs.Events.{IsEvent, IsLostLeg}
 use Rattle.mcv_core.specs.View.{core_view}
-use Rattle.mcv_hub.specs.History.{answer_change, leg_entry}
+use Rattle.mcv_hub.specs.History.{answer_change, entries_in, leg_entry, written}
+use Rattle.mcv_hub.specs.RemainingEntries.{may_write}
 use Rattle.mcv_hub.proofs.EventsMayWrite.{loss_goes}
-use Rattle.mcv_hub.proofs.Histories.{goes_holds, hub_event, leg_begins, leg_longer, leg_takes, leg_writes}
+use Rattle.mcv_hub.proofs.Histories.{goes_holds, hub_event, leg_begins, leg_longer, leg_takes, leg_writes, write_fits}
 use Rattle.mcv_hub.proofs.state.HubState.lost.Goals as goal
+
+pub write-requires : goal.write-requires
+write-requires g c =
+    let h : IsEvent (IsLostLeg (core_view c.self.inside.core.dispatcher) c.args.leg c.lost-answer.result) (core_view c.lost-answer.new.self) = subst (λ d. IsEvent (IsLostLeg (core_view d) c.args.leg c.lost-answer.result) (core_view c.lost-answer.new.self)) c.events.ensures.value c.lost-answer.ensures in
+    let goes = loss_goes c.self.inside.core.dispatcher (core_view c.lost-answer.new.self) c.args.leg c.lost-answer.result h.move h.event in
+    let entry : c.leg_entry.result ≡ leg_entry c.args.leg (parts.Fixed replies.Lost) (answer_change c.lost-answer.result) = c.leg_entry.ensures ∙ ap (leg_entry c.args.leg (parts.Fixed replies.Lost)) c.change_of.ensures in
+    let longer : entries_in c.leg_entry.result ≡ written h.move = let k = leg_longer c.args.leg (parts.Fixed replies.Lost) (fixed_value replies.Lost) c.lost-answer.result h.move h.event.move 0 (entries_in c.leg_entry.result) c.leg_entry.result entry (omega arith) in omega (arith, k) in
+    subst (λ n. vec_len c.self.inside.history + n ≤ vec_capacity c.self.inside.history) (sym longer) (write_fits (vec_len c.self.inside.history) (vec_capacity c.self.inside.history) c.self.inside.places (may_write (core_view c.self.inside.core.dispatcher)) (may_write (core_view c.lost-answer.new.self)) (written h.move) c.self.invariant.1 goes.spent)
 
 pub invariant_of-self : goal.invariant_of-self
 invariant_of-self g c =
