@@ -52,6 +52,10 @@ pub seen : (o : Option (Leg Errand)) (facts : LegFacts) → option_map facts_of 
 seen None facts e = no_some e
 seen (Some l) facts e = record { leg = l; at = refl; is = same_some e }
 
+pub unseen : (o : Option (Leg Errand)) → option_map facts_of o ≡ None → o ≡ None
+unseen None e = refl
+unseen (Some l) e = no_some (sym e)
+
 -- the leg in this state
 pub record IsStated (o : Option (Leg Errand)) (t : State) : Type 0 where
   pub leg : Leg Errand
@@ -251,6 +255,23 @@ loss_refused d n fault f is = refusal (loss_at (core_view d) n) (core_view d) fa
     by_leg : (o : Option (Leg Errand)) → legs d.queues n ≡ o → is_in_flight o ≡ false → loss_at (core_view d) n ≡ refuses NoSuchLeg
     by_leg None at g = ap (at_row (λ z. loss_in (core_view d) n z z.state)) (ap (option_map (row_by state_of)) at)
     by_leg (Some l) at g = at_its_row d n l at (λ z. loss_in (core_view d) n z z.state) ∙ loss_grounded d n l at l.state refl g
+
+-- whether it is held, refused or not
+abbrev pub holds : State → Bool
+holds states.Waiting = false
+holds states.Sent = false
+holds states.Held = true
+holds states.Refused = true
+holds states.InSpool = false
+holds states.InReplay = false
+
+pub unheld : (t : State) → holds t ≡ false → state_of t ≡ rows.Held → ⊥
+unheld states.Waiting f e = cc
+unheld states.Sent f e = cc
+unheld states.Held f e = true≢false f
+unheld states.Refused f e = true≢false f
+unheld states.InSpool f e = cc
+unheld states.InReplay f e = cc
 
 -- the spool's events on a leg that is there
 module _ (d : Dispatcher) (n : ℕ) (l : Leg Errand) (at : legs d.queues n ≡ Some l) where

@@ -1,5 +1,5 @@
 -- A call's reply is taken.
-use Rattle.std.proofs.Common.{◌≡◌, ◌&&◌, ◌||◌, not, cond, inl, inr, ℕ, suc, ◌+◌, ◌-◌, ◌<◌, ◌≤◌, Bool, true, false, nat_eq, List, [], ◌∷◌, fold, length, map, Option, Some, None, Ok, option_map, refl, sym, ap, ◌∙◌, subst, arith, true≢false}
+use Rattle.std.proofs.Common.{◌≡◌, ◌&&◌, ◌||◌, not, cond, inl, inr, ℕ, suc, ◌+◌, ◌-◌, ◌<◌, ◌≤◌, Bool, true, false, nat_eq, List, [], ◌∷◌, fold, length, map, Option, Some, None, Ok, Err, option_map, refl, sym, ap, ◌∙◌, subst, arith, true≢false}
 use Rattle.std.specs.Arc.{arc_value}
 use Rattle.std.specs.Prelude.{IsSome, filter, is_some, option_and_then}
 use Rattle.std.proofs.Math.Logic.{∥∥₁_elim}
@@ -51,6 +51,7 @@ use Rattle.mcv_core.specs.declared.calls.Calls.{Calls}
 use Rattle.mcv_core.specs.declared.counts.Counts.{Counts}
 use Rattle.mcv_core.specs.declared.dispatcher.Dispatcher.{Dispatcher}
 use Rattle.mcv_core.specs.declared.errand.Errand.{Errand}
+use Rattle.mcv_core.specs.declared.fault.CoreFault.TheVariants.{NoSuchCall}
 use Rattle.mcv_core.specs.declared.take.Taking.{Taking}
 use Rattle.mcv_core.specs.Calls.{calls_at}
 use Rattle.mcv_core.specs.CoreView.{Moved, taken_row as taken_row_of, taken_view}
@@ -489,6 +490,22 @@ taken_event d call calls2 result there found calls3 calls3_is (Some p) some = re
     view = view_then d call.0 calls2 result there found calls3 calls3_is p some;
     move = refl;
     does = moves_then d call.0 calls2 result there found calls3 calls3_is p some;
+  };
+}
+
+idle_row : (o : Option Call) → is_some o ≡ false → option_map call_row o ≡ None
+idle_row None e = refl
+idle_row (Some c) e = absurd (true≢false e)
+
+-- no such call runs
+pub untaken_event : (d : Dispatcher) (call : CallId) (calls2 : Calls) → calls_at calls2 ≡ calls_at d.calls → is_some (calls_at d.calls call.0) ≡ false
+    → IsEvent (IsTaken (core_view d) call (Err NoSuchCall)) (record (core_view d) { rows = rows_of (calls_at calls2) (legs d.queues) (since_of d) d.next_call d.next_leg })
+untaken_event d call calls2 same idle = record {
+  move = None;
+  event = record {
+    cause = (refl, idle_row (calls_at d.calls call.0) idle);
+    none = refl;
+    same = ap (λ f. record (core_view d) { rows = rows_of f (legs d.queues) (since_of d) d.next_call d.next_leg }) same;
   };
 }
 

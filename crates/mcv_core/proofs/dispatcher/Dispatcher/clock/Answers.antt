@@ -1,4 +1,4 @@
-use Rattle.std.proofs.Common.{◌≡◌, rules, option_map, refl, ap, arith}
+use Rattle.std.proofs.Common.{◌≡◌, rules, option_map, refl, ap, arith, None}
 use Rattle.std.specs.Arc.{arc_value}
 use Rattle.mcv_route.specs.Eras.{breaks_of, since_at}
 use Rattle.mcv_core.proofs.IdleCores
@@ -20,3 +20,7 @@ returns c =
         does = IdleCores.era_does d c.since-since.result c.args.moment.0 is c.after-era.result c.after-era.ensures.changed c.after-era.ensures.same;
       };
     }
+
+-- the moment is earlier
+pub returns-then-moment-lt-moment : goal.returns-then-moment-lt-moment
+returns-then-moment-lt-moment c = record { move = None; event = record { cause = (refl, omega arith); none = refl; same = refl } }

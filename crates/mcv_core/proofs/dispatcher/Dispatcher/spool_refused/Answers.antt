@@ -1,9 +1,13 @@
-use Rattle.std.proofs.Common.{◌∙◌, sym, ap, refl, None}
+use Rattle.std.proofs.Common.{◌≡◌, ◌∙◌, sym, ap, refl, None, option_map}
 use Rattle.mcv_base.specs.declared.reply.FixedReply.TheVariants.{Lost}
 use Rattle.mcv_base.specs.Reply.{fixed_value}
 use Rattle.mcv_queues.specs.Queues.{legs}
+use Rattle.mcv_queues.specs.declared.leg.State.TheVariants as states
 use Rattle.mcv_core.specs.CoreView.{change_move}
+use Rattle.mcv_core.specs.Facts.{facts_of}
+use Rattle.mcv_core.specs.Rows.{state_of}
 use Rattle.mcv_core.specs.View.{core_view}
+use Rattle.mcv_core.specs.declared.fault.CoreFault.TheVariants.{NoSuchLeg}
 use Rattle.mcv_core.proofs.LegEventsAreMoves
 use Rattle.mcv_core.proofs.Landings
 use Rattle.mcv_core.proofs.dispatcher.Dispatcher.spool_refused.Goals as goal
@@ -25,3 +29,42 @@ returns-in-Refused c =
     let n = c.args.leg.0 in
     let l = Landings.seen (legs d.queues n) c.in-Some.facts (sym c.facts.ensures ∙ c.in-Some.is) in
     record { move = None; event = record { effect = Landings.refusing_again d n l.leg l.at (ap (λ f. f.state) l.is ∙ c.in-Refused.is); move = refl; does = record { world = refl; core = d.sound.core; routes = refl } } }
+
+pub returns-in_default : goal.returns-in_default
+returns-in_default c =
+    let d = c.args.self.now in
+    let n = c.args.leg.0 in
+    let none : option_map facts_of (legs d.queues n) ≡ None = sym c.facts.ensures ∙ c.in_default.is in
+    record { move = None; event = record { effect = Landings.refusing_absent d n NoSuchLeg (Landings.unseen (legs d.queues n) none) refl; move = refl; does = tt } }
+
+pub returns-in-Waiting : goal.returns-in-Waiting
+returns-in-Waiting c =
+    let d = c.args.self.now in
+    let n = c.args.leg.0 in
+    let l = Landings.seen (legs d.queues n) c.in-Some.facts (sym c.facts.ensures ∙ c.in-Some.is) in
+    let state : l.leg.state ≡ states.Waiting = ap (λ f. f.state) l.is ∙ c.in-Waiting.is in
+    record { move = None; event = record { effect = Landings.refusing_not_held d n l.leg l.at (λ e. Landings.unheld states.Waiting refl (sym (ap state_of state) ∙ e)) NoSuchLeg refl; move = refl; does = tt } }
+
+pub returns-in-Sent : goal.returns-in-Sent
+returns-in-Sent c =
+    let d = c.args.self.now in
+    let n = c.args.leg.0 in
+    let l = Landings.seen (legs d.queues n) c.in-Some.facts (sym c.facts.ensures ∙ c.in-Some.is) in
+    let state : l.leg.state ≡ states.Sent = ap (λ f. f.state) l.is ∙ c.in-Sent.is in
+    record { move = None; event = record { effect = Landings.refusing_not_held d n l.leg l.at (λ e. Landings.unheld states.Sent refl (sym (ap state_of state) ∙ e)) NoSuchLeg refl; move = refl; does = tt } }
+
+pub returns-in-InSpool : goal.returns-in-InSpool
+returns-in-InSpool c =
+    let d = c.args.self.now in
+    let n = c.args.leg.0 in
+    let l = Landings.seen (legs d.queues n) c.in-Some.facts (sym c.facts.ensures ∙ c.in-Some.is) in
+    let state : l.leg.state ≡ states.InSpool = ap (λ f. f.state) l.is ∙ c.in-InSpool.is in
+    record { move = None; event = record { effect = Landings.refusing_not_held d n l.leg l.at (λ e. Landings.unheld states.InSpool refl (sym (ap state_of state) ∙ e)) NoSuchLeg refl; move = refl; does = tt } }
+
+pub returns-in-InReplay : goal.returns-in-InReplay
+returns-in-InReplay c =
+    let d = c.args.self.now in
+    let n = c.args.leg.0 in
+    let l = Landings.seen (legs d.queues n) c.in-Some.facts (sym c.facts.ensures ∙ c.in-Some.is) in
+    let state : l.leg.state ≡ states.InReplay = ap (λ f. f.state) l.is ∙ c.in-InReplay.is in
+    record { move = None; event = record { effect = Landings.refusing_not_held d n l.leg l.at (λ e. Landings.unheld states.InReplay refl (sym (ap state_of state) ∙ e)) NoSuchLeg refl; move = refl; does = tt } }

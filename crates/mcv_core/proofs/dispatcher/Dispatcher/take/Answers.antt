@@ -1,4 +1,4 @@
-use Rattle.std.proofs.Common.{◌≡◌, ◌∙◌, ap, refl, rules, subst, sym, true, Option, None}
+use Rattle.std.proofs.Common.{◌≡◌, ◌∙◌, ap, refl, rules, subst, sym, true, false, Option, None}
 use Rattle.std.specs.Arc.{arc_value}
 use Rattle.std.specs.Prelude.{IfNone, is_some}
 use Rattle.mcv_queues.specs.Queues.{legs, room, servers}
@@ -50,3 +50,13 @@ returns c =
     let runs : is_some (calls_at d.calls k) ≡ true = sym c.take.ensures.runs ∙ ap is_some c.in-Some.is in
     let found = TakenReplies.found_of (calls_at d.calls) k runs in
     TakenReplies.taken_event d c.args.call c.take.new.self c.in-Some.taking c.in-Some.ensures.taken found c.remove_if.new.self c.remove_if.ensures c.in-Some.taking.part refl
+
+-- no such call runs
+pub returns-in_default : goal.returns-in_default
+returns-in_default c =
+    let d = c.args.self.now in
+    let k = c.args.call.0 in
+    let none : c.take.result ≡ None = search rules in
+    let same : calls_at c.take.new.self ≡ calls_at d.calls = subst (λ (o : Option Taking). IfNone o (calls_at c.take.new.self ≡ calls_at d.calls)) none c.take.ensures.none in
+    let idle : is_some (calls_at d.calls k) ≡ false = sym c.take.ensures.runs ∙ ap is_some none in
+    TakenReplies.untaken_event d c.args.call c.take.new.self same idle
