@@ -296,9 +296,9 @@ module _ (r : RoutesValue) (chosen : SymbolValue → List ℕ → ℕ) where
 
   pub answered_calls_are_kept : (start u : CoreView) (o : World) (events : List Event) (answers : List Answer) (ms : List Move) → AreCovered r → IsWorld r o → live_of r o ≡ world_of start.rows → start.routes ≡ r → Steps chosen start events answers ms u
       → AnsweredCallsAreKept r chosen events answers (run r o ms)
-  answered_calls_are_kept start u o events answers ms covered is live routes steps k request key x begun took =
+  answered_calls_are_kept start u o events answers ms covered is live routes steps k request key x began took =
       let h = steps_hold start u o events answers ms (opened_holds start o is live routes) steps in
-      let b = h.begun k request key begun in
+      let b = h.begun k request key began in
       let t = h.took k x took in
       let same : t.call ≡ b.call = same_some (sym t.is ∙ b.there) in
       let reply : reply_of r b.call ≡ Some x = ap (reply_of r) (sym same) ∙ t.reply in

@@ -482,7 +482,7 @@ pub taken_event : (d : Dispatcher) (call : CallId) (calls2 : Calls) (result : Ta
     → IsEvent (IsTaken (core_view d) call (Ok o)) (record (core_view d) { rows = rows_of (calls_at calls3) (legs d.queues) (since_of d) d.next_call d.next_leg })
 taken_event d call calls2 result there found calls3 calls3_is None none =
     let h = none_then d call.0 calls2 result there found calls3 calls3_is none in
-    record { move = None; event = record { runs = subst (λ o. IsSome (option_map call_row o)) (sym found.1) tt; nothing = h.1; none = refl; same = h.0 } }
+    record { move = None; event = record { runs = subst (λ o. IsSome (option_map call_row o)) (sym found.1) refl; nothing = h.1; none = refl; same = h.0 } }
 taken_event d call calls2 result there found calls3 calls3_is (Some p) some = record {
   move = Some (Taken call.0);
   event = record {

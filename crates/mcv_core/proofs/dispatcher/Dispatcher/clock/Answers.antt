@@ -20,7 +20,3 @@ returns c =
         does = IdleCores.era_does d c.since-since.result c.args.moment.0 is c.after-era.result c.after-era.ensures.changed c.after-era.ensures.same;
       };
     }
-
--- the moment is earlier
-pub returns-then-moment-lt-moment : goal.returns-then-moment-lt-moment
-returns-then-moment-lt-moment c = record { move = None; event = record { cause = (refl, omega arith); none = refl; same = refl } }

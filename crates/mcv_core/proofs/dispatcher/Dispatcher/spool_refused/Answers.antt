@@ -36,35 +36,3 @@ returns-in_default c =
     let n = c.args.leg.0 in
     let none : option_map facts_of (legs d.queues n) ≡ None = sym c.facts.ensures ∙ c.in_default.is in
     record { move = None; event = record { effect = Landings.refusing_absent d n NoSuchLeg (Landings.unseen (legs d.queues n) none) refl; move = refl; does = tt } }
-
-pub returns-in-Waiting : goal.returns-in-Waiting
-returns-in-Waiting c =
-    let d = c.args.self.now in
-    let n = c.args.leg.0 in
-    let l = Landings.seen (legs d.queues n) c.in-Some.facts (sym c.facts.ensures ∙ c.in-Some.is) in
-    let state : l.leg.state ≡ states.Waiting = ap (λ f. f.state) l.is ∙ c.in-Waiting.is in
-    record { move = None; event = record { effect = Landings.refusing_not_held d n l.leg l.at (λ e. Landings.unheld states.Waiting refl (sym (ap state_of state) ∙ e)) NoSuchLeg refl; move = refl; does = tt } }
-
-pub returns-in-Sent : goal.returns-in-Sent
-returns-in-Sent c =
-    let d = c.args.self.now in
-    let n = c.args.leg.0 in
-    let l = Landings.seen (legs d.queues n) c.in-Some.facts (sym c.facts.ensures ∙ c.in-Some.is) in
-    let state : l.leg.state ≡ states.Sent = ap (λ f. f.state) l.is ∙ c.in-Sent.is in
-    record { move = None; event = record { effect = Landings.refusing_not_held d n l.leg l.at (λ e. Landings.unheld states.Sent refl (sym (ap state_of state) ∙ e)) NoSuchLeg refl; move = refl; does = tt } }
-
-pub returns-in-InSpool : goal.returns-in-InSpool
-returns-in-InSpool c =
-    let d = c.args.self.now in
-    let n = c.args.leg.0 in
-    let l = Landings.seen (legs d.queues n) c.in-Some.facts (sym c.facts.ensures ∙ c.in-Some.is) in
-    let state : l.leg.state ≡ states.InSpool = ap (λ f. f.state) l.is ∙ c.in-InSpool.is in
-    record { move = None; event = record { effect = Landings.refusing_not_held d n l.leg l.at (λ e. Landings.unheld states.InSpool refl (sym (ap state_of state) ∙ e)) NoSuchLeg refl; move = refl; does = tt } }
-
-pub returns-in-InReplay : goal.returns-in-InReplay
-returns-in-InReplay c =
-    let d = c.args.self.now in
-    let n = c.args.leg.0 in
-    let l = Landings.seen (legs d.queues n) c.in-Some.facts (sym c.facts.ensures ∙ c.in-Some.is) in
-    let state : l.leg.state ≡ states.InReplay = ap (λ f. f.state) l.is ∙ c.in-InReplay.is in
-    record { move = None; event = record { effect = Landings.refusing_not_held d n l.leg l.at (λ e. Landings.unheld states.InReplay refl (sym (ap state_of state) ∙ e)) NoSuchLeg refl; move = refl; does = tt } }
