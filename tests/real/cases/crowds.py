@@ -6,7 +6,8 @@ import struct
 import threading
 
 from fakes import Fake
-from parts import Failed, case, deletes_to_all, expect, one_pool, records, replayed, stored, value_answer, wait_for
+from parts import Failed, case, deletes_to_all, expect, one_pool, replayed, stored, value_answer, wait_for
+from spool import records
 
 
 @case(120)
