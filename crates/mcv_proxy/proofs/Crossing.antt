@@ -156,7 +156,7 @@ module _ (B T D : RattleType) (b : Ghosts B.Denot) (t : Ghosts T.Denot) (d : dis
 
 module _ (B T D L Begun : RattleType) (b : Ghosts B.Denot) (t : Ghosts T.Denot) (d : disk.Ghosts D.Denot) where
   pub context_send : IsSend D → IsSend L → IsSend (Context.the_row B T D L Begun d b t)
-  context_send s l = search (accepted_send, accepted_sync, shared_shared, links.the_send, links.the_sync, sendable, crosses) depth 24
+  context_send s l = search (accepted_send, accepted_sync, shared_shared, links.the_send, links.the_sync, flag.the_send, flag.the_sync, sendable, crosses) depth 24
 
 module _ (D : RattleType) (d : disk.Ghosts D.Denot) where
   stock_send : IsSend D → IsSend (Stock.the_field D d).row

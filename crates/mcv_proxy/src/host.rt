@@ -7,8 +7,9 @@ use crate::ends::Ends;
 use crate::fault::ProxyFault;
 use crate::gates::{Link, Watch};
 use crate::lanes::{Lanes, Links};
+use crate::sessions::Sessions;
 use crate::sums::HubReport;
-use crate::threads::{Crew, Done, Shared, Tools, Visitor, admit, server_count, staff};
+use crate::threads::{Crew, Shared, Tools, Visitor, admit, server_count, staff};
 use crossbeam_channel::{Receiver, Sender};
 use mcv_base::ServerId;
 use mcv_check::Accepted;
@@ -20,7 +21,7 @@ use std::marker::Brand;
 use std::rt::Clock;
 use std::sync::ledger::{Blank, Ledger};
 use std::sync::{Arc, Mutex, Wait};
-use std::thread::{JoinHandle, Threads};
+use std::thread::Threads;
 
 /// How many sessions there are seats for.
 const SEATS: u64 = 1 << 40;
@@ -126,51 +127,23 @@ fn accept<
     passes: &mut Passes<B, T>,
     clients: &Receiver<Visitor<I, O, W>>,
     watch: &mut W,
-) -> Vec<JoinHandle<Done<B, T>>>
-where
+    sessions: &mut Sessions<'_, B, T>,
+) where
     L::Begun: Send + 'static,
 {
-    let mut sessions = Vec::new(alloc);
     for visitor in clients.iter(&rt) {
         let Some(seat) = passes.seat() else {
-            return sessions;
+            return;
         };
-        let Ok(()) = sessions.reserve(1) else {
+        let Ok(()) = sessions.reserve(&rt) else {
             watch.note_unserved();
             continue;
         };
         match admit(rt, alloc, shared, links, passes.pass(), seat, visitor) {
-            Some(session) => sessions.push_reserved(session),
+            Some(session) => sessions.add(&rt, session),
             None => watch.note_unserved(),
         }
     }
-    sessions
-}
-
-/// Waits for the sessions to end, adds their shares to this seat's, and gives the receipts of all. An error is `Memory`.
-fn gather<B: Ledger + Send, T: Ledger + Send, R: Threads>(
-    rt: &R,
-    alloc: Global,
-    sessions: Vec<JoinHandle<Done<B, T>>>,
-    seat: &mut Seat<B, T>,
-) -> Result<Vec<Receipt>, ProxyFault> {
-    let mut receipts = Vec::new(alloc);
-    let mut is_short = false;
-    for session in sessions {
-        let done = session.join(rt);
-        seat.begun.merge(done.seat.begun);
-        seat.taken.merge(done.seat.taken);
-        if receipts
-            .extend_from_slice(done.receipts.as_slice())
-            .is_err()
-        {
-            is_short = true;
-        }
-    }
-    if is_short {
-        return Err(ProxyFault::Memory);
-    }
-    Ok(receipts)
 }
 
 /// Asks the servers' workers and the replayer to end, waits until they have, and then does so with the spool's worker.
@@ -229,8 +202,11 @@ where
     let links = Arc::new(alloc, Links::new(alloc, links)?)?;
     staff(rt, alloc, shared, passes, tools, crew)?;
     say_ready(&rt, ready)?;
-    let sessions = accept(rt, alloc, shared, &links, passes, &clients, &mut watch);
-    gather(&rt, alloc, sessions, seat)
+    let mut sessions = Sessions::new(alloc, seat);
+    accept(
+        rt, alloc, shared, &links, passes, &clients, &mut watch, &mut sessions,
+    );
+    Ok(sessions.finish(&rt)?)
 }
 
 /// Serves all clients, and gives the receipts of their sessions; their shares are added to the seat's.

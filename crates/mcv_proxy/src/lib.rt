@@ -22,6 +22,7 @@ mod landing;
 mod lanes;
 mod replay;
 mod seen;
+mod sessions;
 mod spooling;
 mod sums;
 mod threads;

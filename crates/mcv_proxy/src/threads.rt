@@ -6,6 +6,7 @@ use crate::ends::Ends;
 use crate::gates::{Link, Watch};
 use crate::lanes::{Lanes, Links};
 use crate::replay::serve_replay;
+use crate::sessions::Session;
 use crate::spooling::serve_spool;
 use mcv_base::{ServerId, ServerText};
 use mcv_check::Accepted;
@@ -15,6 +16,7 @@ use mcv_spool::{Disk, Spool};
 use std::alloc::{AllocError, Global};
 use std::io::{Read, Write};
 use std::rt::Clock;
+use std::sync::atomic::{AtomicBool, Ordering};
 use std::sync::ledger::Ledger;
 use std::sync::{Arc, Mutex, Wait};
 use std::thread;
@@ -202,6 +204,8 @@ struct SessionContext<B: Ledger, T: Ledger, D: Disk, L: Link> {
     accepted: Arc<Accepted>,
     shared: Arc<Shared<B, T, D>>,
     links: Arc<Links<L>>,
+    /// It is set once the session has ended.
+    ended: Arc<AtomicBool>,
 }
 
 impl<B: Ledger, T: Ledger, D: Disk, L: Link> SessionContext<B, T, D, L> {
@@ -209,11 +213,13 @@ impl<B: Ledger, T: Ledger, D: Disk, L: Link> SessionContext<B, T, D, L> {
     fn new(
         shared: &Arc<Shared<B, T, D>>,
         links: &Arc<Links<L>>,
+        ended: &Arc<AtomicBool>,
     ) -> Result<SessionContext<B, T, D, L>, AllocError> {
         Ok(SessionContext {
             accepted: Arc::try_clone(&shared.accepted)?,
             shared: Arc::try_clone(shared)?,
             links: Arc::try_clone(links)?,
+            ended: Arc::try_clone(ended)?,
         })
     }
 }
@@ -248,6 +254,7 @@ fn serve<
         accepted,
         shared,
         links,
+        ended,
     } = context;
     let Visitor {
         mut reader,
@@ -261,6 +268,7 @@ fn serve<
     );
     let _ = serve_session(alloc, &mut reader, &mut writer, &mut desk);
     let (seat, receipts) = desk.into_parts();
+    ended.store(true, Ordering::SeqCst);
     Done { seat, receipts }
 }
 
@@ -307,14 +315,18 @@ pub(crate) fn admit<
     pass: Pass,
     seat: Seat<B, T>,
     visitor: Visitor<I, O, W>,
-) -> Option<JoinHandle<Done<B, T>>>
+) -> Option<Session<B, T>>
 where
     L::Begun: Send + 'static,
 {
-    let Ok(context) = SessionContext::new(shared, links) else {
+    let Ok(ended) = Arc::new(alloc, AtomicBool::new(false)) else {
         return None;
     };
-    host(rt, alloc, context, pass, seat, visitor)
+    let Ok(context) = SessionContext::new(shared, links, &ended) else {
+        return None;
+    };
+    let thread = host(rt, alloc, context, pass, seat, visitor)?;
+    Some(Session { thread, ended })
 }
 
 /// How many servers there are.
