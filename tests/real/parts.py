@@ -158,6 +158,16 @@ class Mcv:
         with open(self.errors, "rb") as file:
             return file.read()
 
+    def resident(self):
+        """How many bytes of memory the program has."""
+        with open("/proc/%d/status" % self.process.pid) as status:
+            return next(int(line.split()[1]) * 1024 for line in status if line.startswith("VmRSS:"))
+
+    def mappings(self):
+        """How many pieces its address space has; the system gives it some 65,000 at most."""
+        with open("/proc/%d/maps" % self.process.pid) as maps:
+            return sum(1 for _ in maps)
+
     def kill(self):
         self.process.kill()
         self.process.wait(LIMIT)

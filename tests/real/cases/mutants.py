@@ -35,12 +35,6 @@ REQUESTS = [
 ]
 
 
-def resident(mcv):
-    """How many bytes of memory the program has."""
-    with open("/proc/%d/status" % mcv.process.pid) as status:
-        return next(int(line.split()[1]) * 1024 for line in status if line.startswith("VmRSS:"))
-
-
 def answer_in_pieces(text, pieces):
     """All that is answered to bytes that are sent piece by piece."""
     with Client(text) as client:
@@ -85,11 +79,11 @@ def two_thousand_mutants_of_requests_are_answered_alike_however_cut(machine):
         for text in (first, second):
             expect(answer(text, b"get later\r\n"), value_answer(b"later", b"1"), "behind %s (seed %d)" % (shown(sent), seed))
         if number == FIRST:
-            before = [resident(mcv) for mcv in proxies]
+            before = [mcv.resident() for mcv in proxies]
     for mcv, was in zip(proxies, before):
         expect(mcv.process.poll(), None)
-        if resident(mcv) > was + MORE:
-            raise Failed("the memory grew from %d to %d (seed %d)" % (was, resident(mcv), seed))
+        if mcv.resident() > was + MORE:
+            raise Failed("the memory grew from %d to %d (seed %d)" % (was, mcv.resident(), seed))
 
 
 class Mangler(Listening):
@@ -170,9 +164,9 @@ def two_thousand_mutants_of_replies_are_taken_as_the_page_says(machine):
         expect(answer(mcv.address, b"get later\r\n"), value_answer(b"later", b"1"), "behind %r (seed %d)" % (mangler.replies.get(key), seed))
         number += 1
         if before is None and mangler.count >= FIRST:
-            before = resident(mcv)
+            before = mcv.resident()
     expect(mcv.process.poll(), None)
     if not taken:
         raise Failed("no reply was taken")
-    if resident(mcv) > before + MORE:
-        raise Failed("the memory grew from %d to %d (seed %d)" % (before, resident(mcv), seed))
+    if mcv.resident() > before + MORE:
+        raise Failed("the memory grew from %d to %d (seed %d)" % (before, mcv.resident(), seed))
