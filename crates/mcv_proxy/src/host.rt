@@ -128,7 +128,8 @@ fn accept<
     clients: &Receiver<Visitor<I, O, W>>,
     watch: &mut W,
     sessions: &mut Sessions<'_, B, T>,
-) where
+)
+where
     L::Begun: Send + 'static,
 {
     for visitor in clients.iter(&rt) {
@@ -204,7 +205,14 @@ where
     say_ready(&rt, ready)?;
     let mut sessions = Sessions::new(alloc, seat);
     accept(
-        rt, alloc, shared, &links, passes, &clients, &mut watch, &mut sessions,
+        rt,
+        alloc,
+        shared,
+        &links,
+        passes,
+        &clients,
+        &mut watch,
+        &mut sessions,
     );
     Ok(sessions.finish(&rt)?)
 }

@@ -110,7 +110,9 @@ impl<'a, B: Ledger + Send, T: Ledger + Send> Sessions<'a, B, T> {
             }
         }
         let Sessions {
-            receipts, is_short, ..
+            receipts,
+            is_short,
+            ..
         } = sessions;
         if is_short {
             return Err(AllocError);

@@ -86,9 +86,15 @@ impl Run {
         let (start, trouble) = (self.start, self.trouble);
         let (count, sure) = (slots.len(), self.sure);
         let is_known = sure <= count && count <= self.rests.len();
-        assert!(rt; is_known, "{start:?}, {trouble:?}: {count} slots, {sure} are sure");
+        assert!(rt;
+            is_known,
+            "{start:?}, {trouble:?}: {count} slots, {sure} are sure"
+        );
         for (number, slot) in slots.iter().enumerate() {
-            assert!(rt; self.may_have(number, slot), "{start:?}, {trouble:?}: slot {number}");
+            assert!(rt;
+                self.may_have(number, slot),
+                "{start:?}, {trouble:?}: slot {number}"
+            );
         }
     }
 
@@ -200,7 +206,10 @@ fn played(rt: &(impl AllocGlobal + Abort), start: Start, trouble: Trouble) -> (T
 /// The calls of a run without trouble.
 fn calls_of(rt: &(impl AllocGlobal + Abort), start: Start) -> Vec<Call> {
     let (disk, run) = played(rt, start, Trouble::None);
-    assert!(rt; run.devices == 0 && run.sure == run.rests.len(), "{start:?}");
+    assert!(rt;
+        run.devices == 0 && run.sure == run.rests.len(),
+        "{start:?}"
+    );
     disk.calls.to_vec(rt.alloc()).expect(rt, "memory")
 }
 
@@ -231,13 +240,21 @@ fn check_stop(rt: &(impl AllocGlobal + Abort), start: Start, call: usize, bytes:
     }
 }
 
-/// A stop at each call, and in each write behind each of its bytes. A cut was made or wasn't.
+/// Whether a stop behind so many bytes of a write is looked at: behind each one in a file that was empty, and in others behind
+/// those of a record's head and some more.
+fn is_tried(start: Start, bytes: usize) -> bool {
+    start == Start::Empty || bytes < 16 || bytes % 64 == 0
+}
+
+/// A stop at each call, and in a write behind its bytes, none of them and all. A cut was made or wasn't.
 #[test]
 fn records_outlive_a_stop_at_each_call(rt: HostRuntime) {
     for start in STARTS {
         for (call, made) in calls_of(&rt, start).iter().enumerate() {
             for bytes in 0..=made.size().max(1) {
-                check_stop(&rt, start, call, bytes);
+                if is_tried(start, bytes) {
+                    check_stop(&rt, start, call, bytes);
+                }
             }
         }
     }
@@ -246,7 +263,12 @@ fn records_outlive_a_stop_at_each_call(rt: HostRuntime) {
 /// One call fails: the call of the spool that made it answers Device, and all is well after a reopening.
 fn check_failure(rt: &(impl AllocGlobal + Abort), start: Start, call: usize, bytes: usize) {
     let (disk, run) = played(rt, start, Trouble::Fails { call, bytes });
-    assert!(rt; run.devices == 1, "{start:?}, {:?}: {} times Device", run.trouble, run.devices);
+    assert!(rt;
+        run.devices == 1,
+        "{start:?}, {:?}: {} times Device",
+        run.trouble,
+        run.devices
+    );
     check_file(rt, &run, disk.left(Left::Seen).expect(rt, "memory"));
     check_file(rt, &run, disk.left(Left::Synced).expect(rt, "memory"));
 }
@@ -275,7 +297,11 @@ fn check_left(
     let mut after = TestDisk::new(rt.alloc(), bytes).expect(rt, "memory");
     let spool = open(rt.alloc(), &mut after).expect(rt, "a spool");
     let found = spool.pending().len();
-    assert!(rt; found == slots, "{:?}, {left:?}: {found} slots", run.trouble);
+    assert!(rt;
+        found == slots,
+        "{:?}, {left:?}: {found} slots",
+        run.trouble
+    );
 }
 
 /// An opening of an empty file makes eight calls. The second append makes the calls 12 to 15: the record, a sync, its gate, a
