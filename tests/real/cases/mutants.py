@@ -10,8 +10,9 @@ from mutations import in_pieces, mutant
 from parts import Client, Failed, answer, case, expect, one_pool, shown, stored, value_answer
 
 STREAMS, REPLIES = 2000, 2000
-# The streams behind which the program has the memory that it works with, and how much more it may have in the end.
-FIRST, MORE = 400, 10_000_000
+# The streams behind which the program has the memory that it works with, and how much more it may have in the end. (The history
+# keeps the calls of a chapter: some 1,500 bytes each, which are given back where the chapter turns.)
+FIRST, MORE = 1200, 10_000_000
 FAILED = b"SERVER_ERROR destination failed\r\n"
 
 # What streams are made of; `#####` is the number of the stream, so that each has keys of its own.
