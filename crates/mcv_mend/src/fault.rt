@@ -1,0 +1,37 @@
+//! What became of a configuration, and why nothing was written.
+
+use mcv_config::ConfigFault;
+use mcv_input::RunFault;
+use std::alloc::AllocError;
+
+/// What became of a configuration.
+#[derive(Clone, Copy, Debug, PartialEq, Eq)]
+pub enum Mending {
+    /// It is covered, and was written as it is.
+    Unchanged,
+    /// It wasn't covered, and one that is was written.
+    Mended,
+}
+
+/// Why nothing is written.
+#[derive(Drop)]
+pub enum MendFault {
+    /// A run can't be done.
+    Run(RunFault),
+    /// The mended configuration is over a limit.
+    Limit(ConfigFault),
+    /// No change was found.
+    GaveUp,
+}
+
+impl From<AllocError> for MendFault {
+    fn from(_error: AllocError) -> MendFault {
+        MendFault::Run(RunFault::Memory)
+    }
+}
+
+impl From<RunFault> for MendFault {
+    fn from(fault: RunFault) -> MendFault {
+        MendFault::Run(fault)
+    }
+}
