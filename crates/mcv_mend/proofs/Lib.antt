@@ -1,0 +1,5 @@
+pub mod Answers
+pub mod Moves
+pub mod MoveExists
+pub mod Alike
+pub mod PartsAlike

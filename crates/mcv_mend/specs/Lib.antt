@@ -1,0 +1,5 @@
+pub mod Needs
+pub mod Mend
+pub mod Mending
+pub mod Plans
+pub mod InMemory
