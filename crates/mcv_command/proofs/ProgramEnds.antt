@@ -14,20 +14,38 @@ use Rattle.mcv_verdict.specs.Verdict.{IsVerdictOn}
 use Rattle.mcv_verdict.specs.declared.verdict.Verdict.{Verdict}
 use Rattle.mcv_verdict.specs.declared.verdict.Verdict.TheVariants.{Covered, Lost}
 use Rattle.mcv_command.specs.declared.stop.Stop.{Stop}
-use Rattle.mcv_command.specs.declared.stop.Stop.TheVariants.{BadLine, Run}
-use Rattle.mcv_command.specs.Program.{AsksAnyRun, Held, IfGiven, IsJudgingFault, IsStop}
-use Rattle.mcv_words.specs.Words.{AsksCheck}
+use Rattle.mcv_command.specs.declared.stop.Stop.TheVariants.{BadLine, NoChange, OverLimit, Run}
+use Rattle.mcv_command.specs.Program.{AsksAnyRun, Held, IfGiven, IsJudgingFault, IsMendingFault, IsStop}
+use Rattle.mcv_command.specs.Stop.{of_mending}
+use Rattle.mcv_mend.specs.declared.fault.MendFault.{MendFault}
+use Rattle.mcv_mend.specs.declared.fault.MendFault.TheVariants as mend_faults
+use Rattle.mcv_words.specs.Words.{AsksCheck, AsksMend}
 
 -- ---- the faults of a verdict, as the program's
 
 pub judging_stop : (words : List Text) (held : Held) (input : Option Text) (cert : Option Text) (stop : Stop) → AsksCheck words cert → IsJudgingFault held cert input stop
     → IsStop words held input stop
 judging_stop words held input cert BadLine asks holds = absurd holds
+judging_stop words held input cert (OverLimit fault) asks holds = absurd holds
+judging_stop words held input cert NoChange asks holds = absurd holds
 judging_stop words held input cert (Run fault) asks holds = inr (inr (inl (cert, asks, holds)))
 
 pub running_stop : (words : List Text) (held : Held) (input : Option Text) (stop : Stop) → AsksAnyRun words → IsJudgingFault held None input stop → IsStop words held input stop
 running_stop words held input BadLine asks holds = absurd holds
-running_stop words held input (Run fault) asks holds = inr (inr (inr (asks, holds)))
+running_stop words held input (OverLimit fault) asks holds = absurd holds
+running_stop words held input NoChange asks holds = absurd holds
+running_stop words held input (Run fault) asks holds = inr (inr (inr (inl (asks, holds))))
+
+pub mending_stop : (words : List Text) (held : Held) (input : Option Text) (stop : Stop) → AsksMend words → IsMendingFault input stop → IsStop words held input stop
+mending_stop words held input BadLine asks holds = absurd (no_line holds.0 holds.1)
+  where
+    no_line : (fault : MendFault) → BadLine ≡ of_mending fault → ⊥
+    no_line (mend_faults.Run fault) is = absurd (cc)
+    no_line (mend_faults.Limit fault) is = absurd (cc)
+    no_line mend_faults.GaveUp is = absurd (cc)
+mending_stop words held input (OverLimit fault) asks holds = (asks, holds)
+mending_stop words held input NoChange asks holds = (asks, holds)
+mending_stop words held input (Run fault) asks holds = inr (inr (inr (inr (asks, holds))))
 
 -- a fault that is outside is out of memory or a device's
 pub outside_stop : (stop : Stop) (fault : RunFault) → stop ≡ Run fault → IsOutside fault → stop ≢ Run Device → stop ≢ Run Memory → ⊥

@@ -10,6 +10,7 @@ use crate::proxy::Proxy;
 use crate::stop::{Ending, Stop};
 use mcv_input::{RunFault, write_text};
 use mcv_legs::run_legs;
+use mcv_mend::run_mend;
 use mcv_verdict::{Judgement, Verdict, judge_input, run_check};
 use mcv_words::{Job, LineFault, read_words};
 use std::alloc::Global;
@@ -112,6 +113,10 @@ pub fn run_words<'a, R: Read, W: Write, F: NamedFiles, P: Proxy>(
     match read_words(alloc, words) {
         Ok(Job::Legs { at }) => {
             run_legs(alloc, reader, writer, at)?;
+            Ok(Ending::Done)
+        }
+        Ok(Job::Mend) => {
+            run_mend(alloc, reader, writer)?;
             Ok(Ending::Done)
         }
         Ok(Job::Check { cert: None }) => judge(alloc, reader, writer),

@@ -3,3 +3,4 @@ pub mod Moves
 pub mod MoveExists
 pub mod Alike
 pub mod PartsAlike
+pub mod ClassMended

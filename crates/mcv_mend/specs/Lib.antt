@@ -3,3 +3,5 @@ pub mod Mend
 pub mod Mending
 pub mod Plans
 pub mod InMemory
+pub mod Members
+pub mod Classes

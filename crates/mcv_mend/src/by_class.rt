@@ -68,7 +68,7 @@ pub fn branches<'t, 'n>(
     selector: &'t Located,
     classes: &[&'n Need],
 ) -> Result<Vec<Branch<'t, 'n>>, MendFault> {
-    let policies = match selector.get("policies") {
+    let policies: &[Member] = match selector.get("policies") {
         Some(policies) => policies.members().ok_or(MendFault::GaveUp)?,
         None => &[],
     };
@@ -104,7 +104,7 @@ pub struct Split<'n> {
 }
 
 /// Which of the classes, in the order of their words, need policies of their own.
-pub fn split<'n>(alloc: Global, classes: &[&'n Need]) -> Result<Split<'n>, AllocError> {
+pub fn split_by_word<'n>(alloc: Global, classes: &[&'n Need]) -> Result<Split<'n>, AllocError> {
     let others = base_of(classes);
     let mut own: Classes<'n> = Vec::new(alloc);
     let mut above: Classes<'n> = Vec::new(alloc);

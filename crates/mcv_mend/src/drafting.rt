@@ -136,7 +136,7 @@ fn push_policy<'t>(
     text.extend_from_slice(b"\"delete\": ")?;
     push_widened(alloc, source, peeled, classes, LEVEL_LIMIT, &mut text)?;
     match policies {
-        Some(policies) => push_first(alloc, policies, text, edits),
+        Some(policies) => push_first(policies, text, edits),
         None => push_behind_type(alloc, selector, text, edits),
     }
 }
@@ -154,7 +154,6 @@ fn insertion(place: usize, text: Vec<u8>) -> Edit {
 
 /// Puts a member before the others of an object.
 fn push_first(
-    _alloc: Global,
     object: &Located,
     member: Vec<u8>,
     edits: &mut Vec<Edit>,

@@ -2,7 +2,7 @@
 
 use mcv_config::ConfigFault;
 use mcv_input::RunFault;
-use std::alloc::AllocError;
+use std::alloc::{AllocError, AllocFailed};
 
 /// What became of a configuration.
 #[derive(Clone, Copy, Debug, PartialEq, Eq)]
@@ -26,6 +26,12 @@ pub enum MendFault {
 
 impl From<AllocError> for MendFault {
     fn from(_error: AllocError) -> MendFault {
+        MendFault::Run(RunFault::Memory)
+    }
+}
+
+impl<T: Drop> From<AllocFailed<T>> for MendFault {
+    fn from(_error: AllocFailed<T>) -> MendFault {
         MendFault::Run(RunFault::Memory)
     }
 }

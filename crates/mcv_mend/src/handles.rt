@@ -3,7 +3,7 @@
 use crate::fault::MendFault;
 use crate::splice::at_span;
 use mcv_names::{Handle, Many, Selector, default_key, handle_named, policies_key};
-use mcv_spans::{Located, push_quoted};
+use mcv_spans::{Located, Member, push_quoted};
 
 /// The most steps that a walk goes down.
 const STEP_LIMIT: usize = 64;
@@ -69,7 +69,7 @@ fn child_of_children(children: &Located, number: usize) -> Option<Place<'_>> {
 
 /// The route of a selector's policy with this number, by the names' order; that for all else behind them.
 fn policy(value: &Located, selector: Selector, number: usize) -> Option<&Located> {
-    let policies = match value.get(policies_key(selector)) {
+    let policies: &[Member] = match value.get(policies_key(selector)) {
         Some(policies) => policies.members()?,
         None => &[],
     };

@@ -117,7 +117,7 @@ fn others<'s>(
 /// servers are left out first.
 pub fn least_legs<'s>(alloc: Global, blocks: &[Wanted<'s>]) -> Result<Vec<Leg<'s>>, AllocError> {
     let mut missing = missing_in(alloc, blocks)?;
-    missing.sort_by(|one, other| other.leg.servers.len().cmp(&one.leg.servers.len()))?;
+    missing.sort_by_key(|one| usize::MAX - one.leg.servers.len())?;
     let mut counts = counts_of(alloc, missing.as_slice())?;
     let mut kept = Vec::new(alloc);
     for (number, one) in missing.iter().enumerate() {

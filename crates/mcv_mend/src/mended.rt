@@ -1,9 +1,20 @@
 //! Routes beside those that they were mended from.
 
-use crate::needs::Need;
-use crate::numbering::{Numbering, numbering};
+ghost use Rattle.std.specs.Prelude.{◌≡◌, ℕ, IfOk, IsTrue, Some, map, option_map, slice_get};
+ghost use Rattle.mcv_base.specs.declared.operation.Op.{Op as Operation};
+ghost use Rattle.mcv_blocks.specs.Places.{AreRouteClasses, IsRouteClass};
+ghost use Rattle.mcv_route.specs.Eras.{IsEraOf};
+ghost use Rattle.mcv_route.specs.Routes.{RouteEntry, RoutesValue};
+ghost use Rattle.mcv_route.specs.View.{view};
+ghost use Rattle.mcv_mend.specs.Classes.{HaveSameClasses, class_of_need, places_of};
+ghost use Rattle.mcv_mend.specs.InMemory.{IsNumbering, legs_value, need_value, needs_value};
+ghost use Rattle.mcv_mend.specs.Members.{IsAskedWell, IsMemberMended};
+ghost use Rattle.mcv_mend.specs.Mend.{IsMendOf, IsMendedBy};
+
+use crate::needs::{Need, NeededLeg};
+use crate::numbering::{Numbering, numbered};
 use crate::same::{is_same_plan, is_widened};
-use mcv_base::{Mark, Op, Position};
+use mcv_base::{Mark, Moment, Op, Position, Rest};
 use mcv_blocks::{RouteClass, route_classes};
 use mcv_route::{Route, Routes, era_count, opened};
 use mcv_rules::{Asked, laid_out};
@@ -23,6 +34,14 @@ const OPERATIONS: [Op; 10] = [
     Op::Touch,
 ];
 
+/// A route before and after, and the numbers that the servers and symbols of the one have in the other.
+#[derive(Clone, Copy)]
+struct Sides<'a> {
+    numbering: &'a Numbering,
+    before: &'a Route,
+    after: &'a Route,
+}
+
 /// Whether the new routes are the old ones, mended: for each class of keys, in each era, deletes send the legs that the
 /// class needs at once beside their own, and every other operation does what it did.
 pub fn is_mended(
@@ -30,7 +49,11 @@ pub fn is_mended(
     old: &Routes,
     new: &Routes,
     needs: &[Need],
-) -> Result<bool, AllocError> {
+) -> Result<bool, AllocError>
+    requires aliases { map (λ e. e.aliases) new.now.entries ≡ map (λ e. e.aliases) old.now.entries }
+    requires classes { AreRouteClasses old.now (map class_of_need needs.now) }
+    ensures { IfOk result (λ fine. IsTrue fine → IsMendOf old.now new.now (needs_value needs.now)) }
+{
     if old.breaks() != new.breaks() {
         return Ok(false);
     }
@@ -38,19 +61,21 @@ pub fn is_mended(
     if !are_classes(needs, classes.as_slice()) {
         return Ok(false);
     }
-    let Some(numbering) = numbering(alloc, old, new)? else {
+    let Some(numbering) = numbered(alloc, old, new)? else {
         return Ok(false);
     };
     for need in needs {
-        if !is_class_mended(alloc, &numbering, old, new, need)? {
+        if !is_need_met(alloc, &numbering, old, new, need)? {
             return Ok(false);
         }
     }
     Ok(true)
 }
 
-/// Whether the needs are those of these classes.
-fn are_classes(needs: &[Need], classes: &[RouteClass]) -> bool {
+/// Whether the needs are those of these classes, in their order.
+fn are_classes(needs: &[Need], classes: &[RouteClass]) -> bool
+    ensures { IsTrue result → places_of (map class_of_need needs.now) ≡ places_of classes.now }
+{
     if needs.len() != classes.len() {
         return false;
     }
@@ -62,18 +87,27 @@ fn are_classes(needs: &[Need], classes: &[RouteClass]) -> bool {
     true
 }
 
-fn is_same_class(one: &RouteClass, other: &RouteClass) -> bool {
+/// Whether both are of one route and word.
+fn is_same_class(one: &RouteClass, other: &RouteClass) -> bool
+    ensures route { IsTrue result → one.now.route ≡ other.now.route }
+    ensures word { IsTrue result → one.now.class.word ≡ other.now.class.word }
+{
     one.route == other.route && one.class.word() == other.class.word()
 }
 
-/// Whether a class is mended, in all eras.
-fn is_class_mended(
+/// Whether a class is mended by its need.
+fn is_need_met(
     alloc: Global,
     numbering: &Numbering,
     old: &Routes,
     new: &Routes,
     need: &Need,
-) -> Result<bool, AllocError> {
+) -> Result<bool, AllocError>
+    requires numbering { IsNumbering old.now new.now numbering.now }
+    requires class { IsRouteClass old.now (class_of_need need.now) }
+    requires classes { HaveSameClasses old.now new.now }
+    ensures { IfOk result (λ met. IsTrue met → IsMendedBy old.now new.now (need_value need.now)) }
+{
     let Some(member) = need.class.class.member() else {
         return Ok(false);
     };
@@ -81,37 +115,76 @@ fn is_class_mended(
     else {
         return Ok(false);
     };
-    for era in 0..era_count(old) {
-        let since = opened(old, era);
-        for op in OPERATIONS {
-            let asked = Asked {
-                op,
-                rest: &member,
-                since,
-                mark: Mark::Plain,
-            };
-            if !is_asked_alike(alloc, numbering, before, after, &asked, need)? {
-                return Ok(false);
-            }
+    let sides = Sides {
+        numbering,
+        before,
+        after,
+    };
+    is_member_mended(alloc, &sides, old, &member, need.legs.as_slice())
+}
+
+/// Whether both routes do what they should for a rest in all eras.
+fn is_member_mended(
+    alloc: Global,
+    sides: &Sides,
+    routes: &Routes,
+    rest: &Rest,
+    legs: &[NeededLeg],
+) -> Result<bool, AllocError>
+    ensures { IfOk result (λ fine. (n : RoutesValue) → IsNumbering routes.now n sides.now.numbering.now → IsTrue fine
+        → IsMemberMended routes.now n (view sides.now.before.now) (view sides.now.after.now) rest.now (legs_value legs.now)) }
+{
+    for era in 0..era_count(routes) {
+        if !is_era_mended(alloc, sides, rest, opened(routes, era), legs)? {
+            return Ok(false);
         }
     }
     Ok(true)
 }
 
-/// Whether the new route does what it should when it is asked so.
-fn is_asked_alike(
+/// The same in one era.
+fn is_era_mended(
     alloc: Global,
-    numbering: &Numbering,
-    before: &Route,
-    after: &Route,
-    asked: &Asked,
-    need: &Need,
-) -> Result<bool, AllocError> {
-    let old = laid_out(alloc, before, asked, &Position::root(alloc))?;
-    let new = laid_out(alloc, after, asked, &Position::root(alloc))?;
-    if asked.op == Op::Delete {
-        Ok(is_widened(numbering, &old, &new, need.legs.as_slice()))
+    sides: &Sides,
+    rest: &Rest,
+    since: Option<Moment>,
+    legs: &[NeededLeg],
+) -> Result<bool, AllocError>
+    ensures { IfOk result (λ fine. (r n : RoutesValue) → IsNumbering r n sides.now.numbering.now → IsTrue fine
+        → (op : Operation) → IsAskedWell r n (view sides.now.before.now) (view sides.now.after.now) rest.now (option_map (λ m. m.0) since) (legs_value legs.now) op) }
+{
+    for op in &OPERATIONS {
+        if !is_asked_well(alloc, sides, *op, rest, since, legs)? {
+            return Ok(false);
+        }
+    }
+    Ok(true)
+}
+
+/// Whether the new route does what it should when it is asked for an operation.
+fn is_asked_well(
+    alloc: Global,
+    sides: &Sides,
+    op: Op,
+    rest: &Rest,
+    since: Option<Moment>,
+    legs: &[NeededLeg],
+) -> Result<bool, AllocError>
+    ensures { IfOk result (λ fine. (r n : RoutesValue) → IsNumbering r n sides.now.numbering.now → IsTrue fine
+        → IsAskedWell r n (view sides.now.before.now) (view sides.now.after.now) rest.now (option_map (λ m. m.0) since) (legs_value legs.now) op) }
+{
+    let asked = Asked {
+        op,
+        rest,
+        since,
+        mark: Mark::Plain,
+    };
+    let root = Position::root(alloc);
+    let old = laid_out(alloc, sides.before, &asked, &root)?;
+    let new = laid_out(alloc, sides.after, &asked, &root)?;
+    if op == Op::Delete {
+        Ok(is_widened(sides.numbering, &old, &new, legs))
     } else {
-        Ok(is_same_plan(numbering, &old, &new))
+        Ok(is_same_plan(sides.numbering, &old, &new))
     }
 }

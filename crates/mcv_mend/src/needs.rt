@@ -1,6 +1,6 @@
 //! Which legs the deletes of each class need beside their own.
 
-use crate::gaps::{sets_in_eras, wanted};
+use crate::gaps::{sets_in_eras, wanted_blocks};
 use crate::least::least_legs;
 use mcv_base::{Position, ServerId};
 use mcv_blocks::{RouteClass, route_classes};
@@ -25,7 +25,7 @@ pub struct Need {
 }
 
 /// What each class of the routes needs, by route and then by word (bytes).
-pub fn needs(alloc: Global, routes: &Routes) -> Result<Vec<Need>, AllocError> {
+pub fn class_needs(alloc: Global, routes: &Routes) -> Result<Vec<Need>, AllocError> {
     let mut needs = Vec::new(alloc);
     for class in route_classes(alloc, routes)? {
         let legs = needed_legs(alloc, routes, &class)?;
@@ -44,7 +44,7 @@ fn needed_legs(
         return Ok(Vec::new(alloc));
     };
     let sets = sets_in_eras(alloc, routes, class, &member)?;
-    let blocks = wanted(alloc, sets.as_slice())?;
+    let blocks = wanted_blocks(alloc, sets.as_slice())?;
     let legs = least_legs(alloc, blocks.as_slice())?;
     owned(alloc, legs.as_slice())
 }

@@ -20,7 +20,7 @@ pub struct Numbering {
 }
 
 /// The numbers that the servers and symbols of the old routes have in the new ones; None where one of them isn't there.
-pub fn numbering(
+pub fn numbered(
     alloc: Global,
     old: &Routes,
     new: &Routes,

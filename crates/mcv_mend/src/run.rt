@@ -3,7 +3,7 @@
 use crate::drafting::draft;
 use crate::fault::{MendFault, Mending};
 use crate::mended::is_mended;
-use crate::needs::needs;
+use crate::needs::class_needs;
 use crate::reading::{Reading, read_named};
 use mcv_check::{Accepted, CheckFault, check};
 use mcv_config::{ReadFault, SIZE_LIMIT};
@@ -84,7 +84,7 @@ fn accepted(alloc: Global, routes: Routes) -> Result<Option<Accepted>, RunFault>
 
 /// The text of a configuration that isn't covered, mended.
 fn mended_text(alloc: Global, input: &[u8], old: &Reading) -> Result<Vec<u8>, MendFault> {
-    let needs = needs(alloc, &old.routes)?;
+    let needs = class_needs(alloc, &old.routes)?;
     let text = draft(alloc, input, needs.as_slice())?;
     let Reading { routes, aliases } = read_again(alloc, text.as_slice())?;
     if aliases != old.aliases {

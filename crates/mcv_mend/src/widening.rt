@@ -1,6 +1,6 @@
 //! The text of a route with legs beside it.
 
-use crate::by_class::{are_same_needs, branches, is_any_needed, split};
+use crate::by_class::{are_same_needs, branches, is_any_needed, split_by_word};
 use crate::fault::MendFault;
 use crate::handles::{Place, Source};
 use crate::needs::Need;
@@ -13,6 +13,7 @@ use std::alloc::Global;
 pub const LEVEL_LIMIT: usize = 64;
 
 /// Adds the text of a route that sends beside its own what each of the classes needs that come to it.
+#[cycle(widening)]
 pub fn push_widened<'t>(
     alloc: Global,
     source: Source<'t>,
@@ -39,6 +40,7 @@ pub fn push_widened<'t>(
 }
 
 /// The same of a selector by prefix: each of its routes for its classes.
+#[cycle(widening)]
 fn push_widened_below<'t>(
     alloc: Global,
     source: Source<'t>,
@@ -70,7 +72,7 @@ fn push_by_class<'t>(
     classes: &[&Need],
     out: &mut Vec<u8>,
 ) -> Result<(), MendFault> {
-    let split = split(alloc, classes)?;
+    let split = split_by_word(alloc, classes)?;
     out.extend_from_slice(b"{\"type\": \"PrefixSelectorRoute\", \"policies\": {")?;
     for (number, need) in split.own.iter().enumerate() {
         if number > 0 {

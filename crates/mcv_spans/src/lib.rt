@@ -6,10 +6,10 @@
 #![tactic(auto)]
 
 mod blanks;
-mod locate;
+mod locating;
 mod quoted;
 mod value;
 
-pub use locate::locate;
+pub use locating::locate;
 pub use quoted::push_quoted;
 pub use value::{Located, Member, Span};

@@ -95,6 +95,7 @@ number_spelt option least most rows text is passes =
 pub run_asked : (words : List Text) (rows : List Row) (job : Job) → faults words ≡ [] → named words ≡ Some (codes "run", rows) → HasAll rows → IsRunOf rows job → IsJobOf words job
 run_asked words rows (Legs at) none run has of = absurd of
 run_asked words rows (Check cert) none run has of = absurd of
+run_asked words rows Mend none run has of = absurd of
 run_asked words rows (Run listen spool sessions proxies) none run has of =
     let ended = in_range (codes "sessions") 1 session_limit rows has.2 sessions has.6 has.7 of.2 in
     let beside = in_range (codes "proxies") 1 proxy_limit rows has.3 proxies has.8 has.9 of.3 in

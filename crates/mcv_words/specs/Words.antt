@@ -8,7 +8,7 @@ use Rattle.clap.specs.declared.builder.value_parser.ValueParser.TheVariants as p
 use Rattle.clap.specs.declared.error.kind.ErrorKind.{ErrorKind}
 use Rattle.clap.specs.declared.error.kind.ErrorKind.TheVariants.{DisplayHelp, DisplayVersion, OutOfMemory}
 use Rattle.mcv_words.specs.declared.words.Job.{Job}
-use Rattle.mcv_words.specs.declared.words.Job.TheVariants.{Legs, Check, Run}
+use Rattle.mcv_words.specs.declared.words.Job.TheVariants.{Legs, Check, Mend, Run}
 use Rattle.mcv_words.specs.declared.words.LineFault.{LineFault}
 use Rattle.mcv_words.specs.declared.words.LineFault.TheVariants.{BadLine, Memory, Help, Version}
 
@@ -39,6 +39,10 @@ cert_rule = option_rule (codes "cert")
 -- `check [--cert FILE]`
 abbrev pub check_app : App
 check_app = with_rule (new_app (codes "check")) cert_rule
+
+-- `mend`
+abbrev pub mend_app : App
+mend_app = new_app (codes "mend")
 
 -- `--listen ADDRESS`, `--spool FILE`: wanted
 abbrev pub listen_rule : Rule
@@ -81,9 +85,9 @@ with_version app = record app { top = record app.top { has_version = true } }
 abbrev pub wanting_a_command : App → App
 wanting_a_command app = record app { top = record app.top { subcommand_required = true } }
 
--- `mcv check [--cert FILE]`, `mcv legs [--at SECONDS]` and `mcv run --listen ADDRESS --spool FILE [--sessions N] [--proxies N]`; `mcv --version`
+-- `mcv check [--cert FILE]`, `mcv legs [--at SECONDS]`, `mcv mend` and `mcv run --listen ADDRESS --spool FILE [--sessions N] [--proxies N]`; `mcv --version`
 abbrev pub mcv_app : App
-mcv_app = with_subcommand (with_subcommand (with_subcommand (wanting_a_command (with_version (new_app (codes "mcv")))) check_app.top) legs_app.top) run_app.top
+mcv_app = with_subcommand (with_subcommand (with_subcommand (with_subcommand (wanting_a_command (with_version (new_app (codes "mcv")))) check_app.top) legs_app.top) mend_app.top) run_app.top
 
 -- ---- what words ask for
 
@@ -104,6 +108,10 @@ IsNumberOf option rows n = (text : Text) × (one_of option rows ≡ Some text) �
 abbrev pub AsksCheck : List Text → Option Text → Type 0
 AsksCheck words cert = (faults words ≡ []) × (rows : List Row) × (named words ≡ Some (codes "check", rows)) × (cert ≡ first_of (codes "cert") rows)
 
+-- clap takes the words, and they name the command `mend`
+abbrev pub AsksMend : List Text → Type 0
+AsksMend words = (faults words ≡ []) × (rows : List Row) × (named words ≡ Some (codes "mend", rows))
+
 -- the values of `--listen`, `--spool`, `--sessions` and `--proxies`
 abbrev pub HasRunValues : List Row → (listen spool : Text) → (sessions proxies : ℕ) → Type 0
 HasRunValues rows listen spool sessions proxies = (first_of (codes "listen") rows ≡ Some listen) × (first_of (codes "spool") rows ≡ Some spool)
@@ -118,12 +126,14 @@ AsksRun words listen spool sessions proxies = (faults words ≡ []) × (rows : L
 abbrev pub IsRunOf : List Row → Job → Type 0
 IsRunOf rows (Legs at) = ⊥
 IsRunOf rows (Check cert) = ⊥
+IsRunOf rows Mend = ⊥
 IsRunOf rows (Run listen spool sessions proxies) = HasRunValues rows listen.now spool.now sessions proxies
 
 -- clap takes the words, and they name the job's command with the values that the job has
 abbrev pub IsJobOf : List Text → Job → Type 0
 IsJobOf words (Check cert) = AsksCheck words (option_map (λ name. name.now) cert)
 IsJobOf words (Legs at) = (faults words ≡ []) × (rows : List Row) × (named words ≡ Some (codes "legs", rows)) × IsNumberOf (codes "at") rows at.0
+IsJobOf words Mend = AsksMend words
 IsJobOf words (Run listen spool sessions proxies) = AsksRun words listen.now spool.now sessions proxies
 
 -- why words ask for no job: clap finds a fault with them that isn't the wish for help or for the

@@ -4,11 +4,12 @@
 ghost use Rattle.std.specs.Prelude.{◌≡◌, ◌<◌, ◌^◌, ℕ, false, IfOk, IfErr, IfSome, IsSome, map};
 ghost use Rattle.clap.specs.Words.{Text, app_of, found_of, kind_of, rows_of, rule_of};
 ghost use Rattle.clap.specs.declared.builder.command.Command.TheViews.{out-Command as fields_of};
-ghost use Rattle.mcv_words.specs.Words.{at_rule, cert_rule, check_app, legs_app, listen_rule, mcv_app, proxies_rule, run_app, sessions_rule, spool_rule, line_fault_number, HasRunValues, IsFaultOfKind, IsJobOf, IsLineFault, IsRunOf};
+ghost use Rattle.mcv_words.specs.Words.{at_rule, cert_rule, check_app, legs_app, listen_rule, mcv_app, mend_app, proxies_rule, run_app, sessions_rule, spool_rule, line_fault_number, HasRunValues, IsFaultOfKind, IsJobOf, IsLineFault, IsRunOf};
 ghost use Rattle.mcv_words.specs.declared.words.LineFault.TheVariants.{Memory as out_of_memory};
 
 use crate::help::{
-    ABOUT, AT, CERT, CHECK_ABOUT, CHECK_FORM, EXAMPLE, LEGS_ABOUT, LEGS_FORM, LISTEN, PROXIES,
+    ABOUT, AT, CERT, CHECK_ABOUT, CHECK_FORM, EXAMPLE, LEGS_ABOUT, LEGS_FORM, LISTEN, MEND_ABOUT, MEND_FORM,
+    PROXIES,
     RUN_ABOUT, RUN_FORM, SESSIONS, SPOOL,
 };
 use clap::builder::ValueParser;
@@ -29,6 +30,8 @@ pub enum Job<'a> {
     Check {
         cert: Option<&'a str>,
     },
+    /// To write a configuration with the smallest change to its delete policies that covers it.
+    Mend,
     /// To serve clients at the address, with the spool in the file of this name, until so many sessions have ended, by so
     /// many proxies side by side.
     Run {
@@ -120,6 +123,16 @@ fn check_command<'a>(alloc: Global) -> Result<Command<'a>, AllocError>
         .arg(cert_option(alloc))
 }
 
+fn mend_command<'a>(alloc: Global) -> Result<Command<'a>, AllocError>
+    ensures app { IfOk result (λ c. app_of c ≡ mend_app) }
+    ensures local { IfOk result (λ c. (fields_of c).has_globals ≡ false) }
+{
+    Ok(Command::new(alloc, "mend")
+        .about(MEND_ABOUT)
+        .override_usage("mcv mend < FILE")
+        .after_help(MEND_FORM))
+}
+
 fn listen_option<'a>(alloc: Global) -> Arg<'a>
     ensures rule { rule_of result ≡ listen_rule }
     ensures local { result.global ≡ false }
@@ -185,6 +198,7 @@ fn command<'a>(alloc: Global) -> Result<Command<'a>, AllocError>
 {
     let check = check_command(alloc)?;
     let legs = legs_command(alloc)?;
+    let mend = mend_command(alloc)?;
     let run = run_command(alloc)?;
     Command::new(alloc, "mcv")
         .version("1")
@@ -194,6 +208,7 @@ fn command<'a>(alloc: Global) -> Result<Command<'a>, AllocError>
         .bin_name("mcv")?
         .subcommand(check)?
         .subcommand(legs)?
+        .subcommand(mend)?
         .subcommand(run)
 }
 
@@ -249,6 +264,10 @@ pub fn read_words<'a>(alloc: Global, words: &'a [&'a str]) -> Result<Job<'a>, Li
             return Err(LineFault::BadLine);
         };
         return Ok(job);
+    }
+    if let Some(asked) = matches.subcommand_matches("mend") {
+        let _asked = asked;
+        return Ok(Job::Mend);
     }
     let Some(found) = matches.subcommand_matches("legs") else {
         return Err(LineFault::BadLine);

@@ -69,7 +69,7 @@ pub returns-in-Ok-Run-clause-done : goal.returns-in-Ok-Run-clause-done
 returns-in-Ok-Run-clause-done g c =
     let held = g.F.NamedFiles.held c.args.files.now in
     let asks = rw c.in-Ok-Run.field-0-is at c.in-Ok-Run.ensures.job in
-    IfOk-weaker c.serve.result _ _ (λ ending served. inr (inr (inr (c.in-Ok-Run.listen.now, c.in-Ok-Run.spool.now, c.in-Ok-Run.sessions, c.in-Ok-Run.proxies, asks, served)))) (c.serve.ensures.done held)
+    IfOk-weaker c.serve.result _ _ (λ ending served. inr (inr (inr (inl (c.in-Ok-Run.listen.now, c.in-Ok-Run.spool.now, c.in-Ok-Run.sessions, c.in-Ok-Run.proxies, asks, served))))) (c.serve.ensures.done held)
 
 pub returns-in-Ok-Run-clause-stop : goal.returns-in-Ok-Run-clause-stop
 returns-in-Ok-Run-clause-stop g c =
