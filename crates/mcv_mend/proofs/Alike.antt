@@ -58,7 +58,7 @@ more_beside : (t : Plan) (ls : List Leg) (h : ℕ → ℕ) (o : Outcomes) → pl
 more_beside t [] h o = sym (append-nil (planned.launched t h o))
 more_beside t (l ∷ ls) h o = more_beside (Beside t (Send l)) ls h o ∙ append_assoc (planned.launched t h o) (l ∷ []) ls
 
-place_of : Leg → Place
+abbrev place_of : Leg → Place
 place_of l = (l.position, l.mark)
 
 module _ (r n : RoutesValue) where
@@ -77,8 +77,8 @@ module _ (r n : RoutesValue) where
   module _ (h : SymbolValue → ℕ) (is : IsHash h) where
     one_added : (k : LegValue) (l : Leg) → IsAddedLeg r n k l → seen_leg n stay h l ≡ added r h (k, place_of l)
     one_added k l one =
-        let server = one_server r n h is k.symbol k.servers l.symbol l.servers one.pool in
-        λ i. record { position = l.position; server = sym server i; op = one.op i; mark = l.mark }
+        let same = one_server r n h is k.symbol k.servers l.symbol l.servers one.pool in
+        λ i. record { position = l.position; server = sym same i; op = one.op i; mark = l.mark }
 
     all_added : (ks : List LegValue) (ls : List Leg) → AreAddedLegs r n ks ls → map (seen_leg n stay h) ls ≡ map (added r h) (zip ks (map place_of ls))
     all_added [] [] are = refl
@@ -88,7 +88,7 @@ module _ (r n : RoutesValue) where
 
   launched_more : (ks : List LegValue) (t u : Plan) (w : IsWidened r n ks t u) (h : ℕ → ℕ) (o : Outcomes) → planned.launched u h o ≡ planned.launched w.own h o ++ w.legs
   launched_more ks t u w h o =
-      ⊎_elim (λ e. ap (λ x. planned.launched x h o) e ∙ more_both w.own w.legs h o) (λ e. ap (λ x. planned.launched x h o) e ∙ more_beside w.own w.legs h o) w.joined
+      ⊎_elim (λ e. ap (λ (x : Plan). planned.launched x h o) e ∙ more_both w.own w.legs h o) (λ e. ap (λ (x : Plan). planned.launched x h o) e ∙ more_beside w.own w.legs h o) w.joined
 
 -- ---- done
 
@@ -101,14 +101,14 @@ done_both t [] o d = d
 done_both t (l ∷ ls) o d =
     let e = done_both (Both t (Send l)) ls o d in
     let parts = both_some (reply t o) (o l.position) e.0 e.1 in
-    (parts.0, parts.2, λ is. e.2 (sym parts.4 ∙ ap (λ y. worse y parts.1) is))
+    (parts.0, parts.2, λ is. e.2 (sym parts.4 ∙ ap (λ (y : Outcome). worse y parts.1) is))
 
 done_beside : (t : Plan) (ls : List Leg) (o : Outcomes) → Done (sends_more Beside t ls) o → Done t o
 done_beside t [] o d = d
 done_beside t (l ∷ ls) o d = done_beside (Beside t (Send l)) ls o d
 
 done_more : (r n : RoutesValue) (ks : List LegValue) (t u : Plan) (w : IsWidened r n ks t u) (o : Outcomes) → Done u o → Done w.own o
-done_more r n ks t u w o d = ⊎_elim (λ e. done_both w.own w.legs o (subst (λ x. Done x o) e d)) (λ e. done_beside w.own w.legs o (subst (λ x. Done x o) e d)) w.joined
+done_more r n ks t u w o d = ⊎_elim (λ e. done_both w.own w.legs o (subst (λ (x : Plan). Done x o) e d)) (λ e. done_beside w.own w.legs o (subst (λ (x : Plan). Done x o) e d)) w.joined
 
 one_of : (as : List Answer) → Has as (λ a. a.outcome ≢ Error) → (a : Answer) × Among as a × (a.outcome ≢ Error)
 one_of [] h = absurd h

@@ -4,3 +4,4 @@ pub mod MoveExists
 pub mod Alike
 pub mod PartsAlike
 pub mod ClassMended
+pub mod LeastLegs

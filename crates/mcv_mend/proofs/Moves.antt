@@ -123,8 +123,8 @@ module _ (r n : RoutesValue) (h : SymbolValue → ℕ) (is : IsHash h) where
 
   same_seen : (m : Move) (k l : Leg) → AreOneLeg r n k l → m k.position ≡ l.position → seen_leg n (λ p. p) h l ≡ seen_leg r m h k
   same_seen m k l one e =
-      let server = one_server k.symbol k.servers l.symbol l.servers one.pool in
-      λ i. record { position = sym e i; server = sym server i; op = sym one.op i; mark = sym one.mark i }
+      let same = one_server k.symbol k.servers l.symbol l.servers one.pool in
+      λ i. record { position = sym e i; server = sym same i; op = sym one.op i; mark = sym one.mark i }
 
 -- what is sent once a reply passes the test
 abbrev when : (Outcome → Bool) → Option Outcome → List Seen → List Seen
@@ -182,6 +182,6 @@ module _ (r n : RoutesValue) (m : Move) (h : SymbolValue → ℕ) (is : IsHash h
       seen-after n stay h is_good v w o ∙ afterwards is_good t u v w one.0 e.0 (sends t v one.0 e.0) (sends u w one.1 e.1) ∙ sym (seen-after r m h is_good t u (brought m o))
   sends (Shadowed s a b t u) (Shadowed z c d v w) one e =
       seen-shadow n stay h z c d v w o
-      ∙ ap₂ ◌++◌ (sends t v one.3 e.0) (ap₂ (λ x ls. cond x ls []) (within s z a b c d one.0 one.1 one.2) (sends u w one.4 e.1))
+      ∙ ap₂ ◌++◌ (sends t v one.3 e.0) (ap₂ (λ (x : Bool) (ls : List Seen). cond x ls []) (within s z a b c d one.0 one.1 one.2) (sends u w one.4 e.1))
       ∙ sym (seen-shadow r m h s a b t u (brought m o))
   sends t u one e = absurd one

@@ -5,3 +5,4 @@ pub mod Plans
 pub mod InMemory
 pub mod Members
 pub mod Classes
+pub mod Aliases

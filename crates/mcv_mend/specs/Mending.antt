@@ -1,6 +1,7 @@
 -- What is written of a configuration (own).
-use Rattle.std.specs.Prelude.{◌≡◌, ℕ, List, All}
+use Rattle.std.specs.Prelude.{◌≡◌, ⊤, ℕ, List, All}
 use Rattle.mcv_input.specs.Fault.{AreNamedBy, IsInputFault}
+use Rattle.mcv_input.specs.declared.fault.RunFault.TheVariants.{Memory}
 use Rattle.mcv_route.specs.Routes.{RoutesValue}
 use Rattle.mcv_symbolic.specs.CoveredRoutes.{AreCovered}
 use Rattle.mcv_mend.specs.Mend.{IsMendOf}
@@ -34,3 +35,9 @@ abbrev pub IsMendFault : (input : List ℕ) → MendFault → Type 0
 IsMendFault input (Run fault) = IsInputFault input fault
 IsMendFault input (Limit fault) = (r : RoutesValue) × AreNamedBy input r × (AreCovered r → ⊥)
 IsMendFault input GaveUp = (r : RoutesValue) × AreNamedBy input r × (AreCovered r → ⊥)
+
+-- memory ran out, or the configuration isn't mended
+abbrev pub IsNotDone : MendFault → Type 0
+IsNotDone (Run fault) = fault ≡ Memory
+IsNotDone (Limit fault) = ⊤
+IsNotDone GaveUp = ⊤

@@ -1,5 +1,12 @@
 //! Which legs the deletes of each class need beside their own.
 
+ghost use Rattle.std.specs.Prelude.{◌≡◌, All, IfOk, map};
+ghost use Rattle.mcv_blocks.specs.Places.{AreRouteClasses, IsRouteClass};
+ghost use Rattle.mcv_judge.specs.PairsInMemory.{legs_of};
+ghost use Rattle.mcv_mend.specs.Classes.{class_of_need};
+ghost use Rattle.mcv_mend.specs.InMemory.{legs_value, needs_value};
+ghost use Rattle.mcv_mend.specs.Needs.{AreLeast, IsLeastNeed};
+
 use crate::gaps::{sets_in_eras, wanted_blocks};
 use crate::least::least_legs;
 use mcv_base::{Position, ServerId};
@@ -25,7 +32,10 @@ pub struct Need {
 }
 
 /// What each class of the routes needs, by route and then by word (bytes).
-pub fn class_needs(alloc: Global, routes: &Routes) -> Result<Vec<Need>, AllocError> {
+pub fn class_needs(alloc: Global, routes: &Routes) -> Result<Vec<Need>, AllocError>
+    ensures classes { IfOk result (λ needs. AreRouteClasses routes.now (map class_of_need needs.items)) }
+    ensures least { IfOk result (λ needs. All (IsLeastNeed routes.now) (needs_value needs.items)) }
+{
     let mut needs = Vec::new(alloc);
     for class in route_classes(alloc, routes)? {
         let legs = needed_legs(alloc, routes, &class)?;
@@ -39,7 +49,10 @@ fn needed_legs(
     alloc: Global,
     routes: &Routes,
     class: &RouteClass,
-) -> Result<Vec<NeededLeg>, AllocError> {
+) -> Result<Vec<NeededLeg>, AllocError>
+    requires { IsRouteClass routes.now class.now }
+    ensures { IfOk result (λ legs. AreLeast routes.now class.now.route class.now.class.word (legs_value legs.items)) }
+{
     let Some(member) = class.class.member() else {
         return Ok(Vec::new(alloc));
     };
@@ -50,7 +63,9 @@ fn needed_legs(
 }
 
 /// The legs, in memory of their own.
-fn owned(alloc: Global, legs: &[Leg]) -> Result<Vec<NeededLeg>, AllocError> {
+fn owned(alloc: Global, legs: &[Leg]) -> Result<Vec<NeededLeg>, AllocError>
+    ensures { IfOk result (λ all. legs_value all.items ≡ legs_of legs.now) }
+{
     let mut all = Vec::with_capacity(alloc, legs.len())?;
     for leg in legs {
         all.push(NeededLeg {

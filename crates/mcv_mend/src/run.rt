@@ -1,5 +1,15 @@
 //! The path from the bytes read to the bytes written.
 
+ghost use Rattle.std.specs.Prelude.{◌≡◌, ◌≢◌, ℕ, List, IfErr, IfOk, IfSome, IsTrue};
+ghost use Rattle.std.specs.Io.KnownBytes.{Appends};
+ghost use Rattle.mcv_input.specs.Fault.{AreNamedBy};
+ghost use Rattle.mcv_input.specs.declared.fault.RunFault.TheVariants.{Device};
+ghost use Rattle.mcv_route.specs.Routes.{RoutesValue};
+ghost use Rattle.mcv_symbolic.specs.CoveredRoutes.{AreCovered};
+ghost use Rattle.mcv_mend.specs.Aliases.{aliases_value, route_aliases};
+ghost use Rattle.mcv_mend.specs.Mending.{IsMendFault, IsMendedText, IsMendingOn, IsNotDone};
+ghost use Rattle.mcv_mend.specs.declared.fault.MendFault.TheVariants.{Run};
+
 use crate::drafting::draft;
 use crate::fault::{MendFault, Mending};
 use crate::mended::is_mended;
@@ -29,7 +39,12 @@ pub fn run_mend<R: Read, W: Write>(
     alloc: Global,
     reader: &mut R,
     writer: &mut W,
-) -> Result<Mending, MendFault> {
+) -> Result<Mending, MendFault>
+    ensures ok { IfOk result (λ mending. (text : List ℕ) × IfSome (R.remaining reader.old) (λ input. IsMendingOn input mending text)
+        × Appends (W.contents writer.old) (W.contents writer.new) text) }
+    ensures fault { IfErr result (λ fault. IfSome (R.remaining reader.old) (λ input. IsMendFault input fault)) }
+    ensures silent { IfErr result (λ fault. fault ≢ Run Device → W.contents writer.new ≡ W.contents writer.old) }
+{
     let input = read_at_most(alloc, reader, READ_LIMIT)?;
     let output = mend_text(alloc, input)?;
     write_text(writer, output.text.as_slice())?;
@@ -38,7 +53,10 @@ pub fn run_mend<R: Read, W: Write>(
 
 /// The configuration that a text has, with the smallest change to its delete policies that covers it; a covered one as
 /// it is.
-pub fn mend_text(alloc: Global, input: Vec<u8>) -> Result<Output, MendFault> {
+pub fn mend_text(alloc: Global, input: Vec<u8>) -> Result<Output, MendFault>
+    ensures ok { IfOk result (λ output. IsMendingOn input.items output.mending output.text.items) }
+    ensures fault { IfErr result (IsMendFault input.items) }
+{
     let old = match read_named(alloc, input.as_slice()) {
         Ok(old) => old,
         Err(fault) => return Err(MendFault::Run(RunFault::from(fault))),
@@ -60,7 +78,10 @@ pub fn mend_text(alloc: Global, input: Vec<u8>) -> Result<Output, MendFault> {
 }
 
 /// Whether a delete can be lost by routes.
-fn is_lost(alloc: Global, routes: &Routes) -> Result<bool, RunFault> {
+fn is_lost(alloc: Global, routes: &Routes) -> Result<bool, RunFault>
+    ensures lost { IfOk result (λ lost. IsTrue lost → AreCovered routes.now → ⊥) }
+    ensures fault { IfErr result (λ fault. fault ≡ RunFault.Memory) }
+{
     match make(alloc, routes) {
         Ok(_) => Ok(false),
         Err(MakeFault::Lost(_)) => Ok(true),
@@ -69,7 +90,11 @@ fn is_lost(alloc: Global, routes: &Routes) -> Result<bool, RunFault> {
 }
 
 /// The routes, if they are covered. Who made the certificate isn't trusted: it is checked like any other.
-fn accepted(alloc: Global, routes: Routes) -> Result<Option<Accepted>, RunFault> {
+fn accepted(alloc: Global, routes: Routes) -> Result<Option<Accepted>, RunFault>
+    ensures same { IfOk result (λ found. IfSome found (λ accepted. accepted ≡ routes)) }
+    ensures covered { IfOk result (λ found. IfSome found (λ _. AreCovered routes)) }
+    ensures fault { IfErr result (λ fault. fault ≡ RunFault.Memory) }
+{
     let certificate = match make(alloc, &routes) {
         Ok(certificate) => certificate,
         Err(MakeFault::Lost(_)) => return Ok(None),
@@ -83,7 +108,12 @@ fn accepted(alloc: Global, routes: Routes) -> Result<Option<Accepted>, RunFault>
 }
 
 /// The text of a configuration that isn't covered, mended.
-fn mended_text(alloc: Global, input: &[u8], old: &Reading) -> Result<Vec<u8>, MendFault> {
+fn mended_text(alloc: Global, input: &[u8], old: &Reading) -> Result<Vec<u8>, MendFault>
+    requires lost { AreCovered old.now.routes → ⊥ }
+    requires aliases { aliases_value old.now.aliases.items ≡ route_aliases old.now.routes }
+    ensures ok { IfOk result (λ text. IsMendedText old.now.routes text.items) }
+    ensures fault { IfErr result IsNotDone }
+{
     let needs = class_needs(alloc, &old.routes)?;
     let text = draft(alloc, input, needs.as_slice())?;
     let Reading { routes, aliases } = read_again(alloc, text.as_slice())?;
@@ -100,7 +130,11 @@ fn mended_text(alloc: Global, input: &[u8], old: &Reading) -> Result<Vec<u8>, Me
 }
 
 /// What a drafted text names.
-fn read_again(alloc: Global, text: &[u8]) -> Result<Reading, MendFault> {
+fn read_again(alloc: Global, text: &[u8]) -> Result<Reading, MendFault>
+    ensures named { IfOk result (λ reading. AreNamedBy text.now reading.routes) }
+    ensures aliases { IfOk result (λ reading. aliases_value reading.aliases.items ≡ route_aliases reading.routes) }
+    ensures fault { IfErr result IsNotDone }
+{
     match read_named(alloc, text) {
         Ok(reading) => Ok(reading),
         Err(ReadFault::Config(fault)) => Err(MendFault::Limit(fault)),

@@ -30,7 +30,7 @@ pub fn push_widened<'t>(
     }
     if let Place::Value(value) = place {
         if place.kind() == Some(Handle::Selector(Selector::Prefix)) {
-            return push_widened_below(alloc, source, value, classes, level, out);
+            return push_widened_below(alloc, source, value, classes, level - 1, out);
         }
     }
     match classes.first() {
@@ -54,7 +54,7 @@ fn push_widened_below<'t>(
         if is_any_needed(branch.classes.as_slice()) {
             let mut text = Vec::new(alloc);
             let place = Place::Value(branch.route);
-            push_widened(alloc, source, place, branch.classes.as_slice(), level - 1, &mut text)?;
+            push_widened(alloc, source, place, branch.classes.as_slice(), level, &mut text)?;
             edits.push(Edit {
                 span: branch.route.span(),
                 text,
