@@ -5,3 +5,5 @@ pub mod Alike
 pub mod PartsAlike
 pub mod ClassMended
 pub mod LeastLegs
+pub mod SamePlans
+pub mod Growing
