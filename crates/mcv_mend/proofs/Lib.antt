@@ -7,3 +7,5 @@ pub mod ClassMended
 pub mod LeastLegs
 pub mod SamePlans
 pub mod Growing
+pub mod Numbers
+pub mod SameClasses

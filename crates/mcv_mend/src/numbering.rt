@@ -45,18 +45,22 @@ fn server_numbers(
 {
     let mut table = Vec::new(alloc);
     for number in 0..old.servers().len() {
-        let Ok(number) = u32::try_from(number) else {
+        let Some(found) = server_number(old, new, number) else {
             return Ok(None);
         };
-        let Some(text) = old.servers().text(ServerId(number)) else {
-            return Ok(None);
-        };
-        let Some(id) = new.servers().find(text) else {
-            return Ok(None);
-        };
-        table.push(id.0)?;
+        table.push(found)?;
     }
     Ok(Some(table))
+}
+
+/// The number that a server of the old routes has in the new ones.
+fn server_number(old: &Routes, new: &Routes, number: usize) -> Option<u32>
+    ensures { IfSome result (λ found. server_text old.now number ≡ server_text new.now found) }
+{
+    let id = ServerId(u32::try_from(number).ok()?);
+    let text = old.servers().text(id)?;
+    let found = new.servers().find(text)?;
+    Some(found.0)
 }
 
 fn symbol_numbers(

@@ -2,4 +2,6 @@
 #![tactic(auto)]
 
 #[cfg(test)]
+mod drawn;
+#[cfg(test)]
 mod rows;

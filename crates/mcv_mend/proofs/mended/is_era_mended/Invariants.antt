@@ -1,0 +1,12 @@
+use Rattle.std.proofs.Common.{take, option_map}
+use Rattle.std.specs.List.{AllByRecursion}
+use Rattle.mcv_route.specs.Routes.{RoutesValue}
+use Rattle.mcv_route.specs.View.{view}
+use Rattle.mcv_mend.specs.InMemory.{IsNumbering, legs_value}
+use Rattle.mcv_mend.specs.Members.{IsAskedWell}
+use Rattle.mcv_mend.proofs.mended.is_era_mended.Given as goal
+
+-- it is so for the operations so far
+abbrev pub invariant-loop-op : goal.invariant-loop-op
+invariant-loop-op l = (r n : RoutesValue) → IsNumbering r n l.sides.numbering.now
+    → AllByRecursion (IsAskedWell r n (view l.sides.before.now) (view l.sides.after.now) l.rest (option_map (λ m. m.0) l.since) (legs_value l.legs)) (take l.op-index l.op-items)
