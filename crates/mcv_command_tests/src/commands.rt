@@ -30,6 +30,9 @@ mcv check --cert a --cert b: bad line
 mcv check a.cert: bad line
 mcv check --at 1: bad line
 mcv legs --cert a: bad line
+mcv mend: mend
+mcv mend x: bad line
+mcv mend --cert a: bad line
 mcv run --listen h:1 --spool f: run h:1 f 1000000000 1
 mcv run --spool=f --listen=h:1 --sessions=+7: run h:1 f 7 1
 mcv run --listen h:1 --spool f --sessions 1: run h:1 f 1 1
@@ -69,6 +72,8 @@ mcv help legs: help
 mcv check --help: help
 mcv help check: help
 mcv legs --help: help
+mcv mend --help: help
+mcv help mend: help
 mcv run --help: help
 mcv run -h: help
 mcv help run: help
@@ -83,6 +88,7 @@ fn job_text(rt: &(impl AllocGlobal + Abort), job: Job<'_>) -> String {
         Job::Legs { at } => format!(in rt.alloc(); "legs at {}", at.0),
         Job::Check { cert: None } => format!(in rt.alloc(); "check"),
         Job::Check { cert: Some(name) } => format!(in rt.alloc(); "check by {name}"),
+        Job::Mend => format!(in rt.alloc(); "mend"),
         Job::Run {
             listen,
             spool,
@@ -222,6 +228,7 @@ const MAIN_PARTS: &[&str] = &[
     "mcrouter",
     "  check  ",
     "  legs  ",
+    "  mend  ",
     "  run  ",
     "\n  mcv check < mcrouter.json\n",
     "\n  (echo 'delete a'; cat mcrouter.json) | mcv legs\n",
@@ -276,6 +283,19 @@ const RUN_PARTS: &[&str] = &[
     "\n  2  the configuration is refused\n  3  the configuration can lose a delete\n  4  ",
     "mcv: configuration NUMBER at PATH",
 ];
+
+const MEND_PARTS: &[&str] = &[
+    "Usage: mcv mend < FILE",
+    "\n  mcv mend < mcrouter.json | diff mcrouter.json -\n",
+    "\n  mcv: mended configuration 7 at PATH\n  mcv: no change found\n",
+    "mcv: configuration NUMBER at PATH",
+];
+
+#[test]
+fn help_of_mend_names_its_lines(rt: HostRuntime) {
+    check_parts(&rt, &["mcv", "mend", "--help"], MEND_PARTS);
+    check_columns(&rt, &["mcv", "mend", "--help"]);
+}
 
 #[test]
 fn help_of_run_names_its_options_lines_and_statuses(rt: HostRuntime) {

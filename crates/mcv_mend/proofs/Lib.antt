@@ -9,3 +9,6 @@ pub mod SamePlans
 pub mod Growing
 pub mod Numbers
 pub mod SameClasses
+pub mod EachOperation
+pub mod AskedWell
+pub mod WholeInput

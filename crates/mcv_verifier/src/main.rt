@@ -1,4 +1,4 @@
-//! The program `mcv` without its proxy, for who only judges configurations: `legs` and `check` as in the whole program.
+//! The program `mcv` without its proxy, for who only judges configurations: `legs`, `check` and `mend` as in the whole program.
 //! `run` is a bad command line here.
 #![tactic(auto)]
 

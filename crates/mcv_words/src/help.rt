@@ -25,7 +25,8 @@ Exit status:
   4  out of memory, or a device failed: reading, writing, the address, the spool
   5  the certificate is refused
 
-Where the status is neither 0 nor 3, one line on standard error says why.";
+Where the status is neither 0 nor 3, or nothing is mended, one line on standard
+error says why.";
 
 pub(crate) const LEGS_ABOUT: &str = "Shows to which servers a request is sent at once";
 
