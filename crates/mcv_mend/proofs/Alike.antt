@@ -110,17 +110,17 @@ done_beside t (l ∷ ls) o d = done_beside (Beside t (Send l)) ls o d
 done_more : (r n : RoutesValue) (ks : List LegValue) (t u : Plan) (w : IsWidened r n ks t u) (o : Outcomes) → Done u o → Done w.own o
 done_more r n ks t u w o d = ⊎_elim (λ e. done_both w.own w.legs o (subst (λ (x : Plan). Done x o) e d)) (λ e. done_beside w.own w.legs o (subst (λ (x : Plan). Done x o) e d)) w.joined
 
-one_of : (as : List Answer) → Has as (λ a. a.outcome ≢ Error) → (a : Answer) × Among as a × (a.outcome ≢ Error)
+one_of : (qs : List Answer) → Has qs (λ a. a.outcome ≢ Error) → (a : Answer) × Among qs a × (a.outcome ≢ Error)
 one_of [] h = absurd h
-one_of (a ∷ as) (inl no) = (a, inl refl, no)
-one_of (a ∷ as) (inr h) = let b = one_of as h in (b.0, inr b.1, b.2)
+one_of (a ∷ qs) (inl fine) = (a, inl refl, fine)
+one_of (a ∷ qs) (inr h) = let b = one_of qs h in (b.0, inr b.1, b.2)
 
-first_of : (as : List Answer) (x : Outcome) → outcome_of as ≡ Some x → x ≢ Error → Has as (λ a. a.outcome ≢ Error)
-first_of [] x e no = absurd cc
-first_of (a ∷ as) x e no = inl (λ is. no (same e ∙ is))
+first_of : (qs : List Answer) (x : Outcome) → outcome_of qs ≡ Some x → x ≢ Error → Has qs (λ a. a.outcome ≢ Error)
+first_of [] x e fine = absurd (cc)
+first_of (a ∷ qs) x e fine = inl (λ is. fine (same e ∙ is))
   where
     same : Some a.outcome ≡ Some x → x ≡ a.outcome
-    same f = cc
+    same f = (cc)
 
 tree_done : (t : Tree) (s : Situation) (o : Outcomes) → Has (replies t s o) (λ a. a.outcome ≢ Error) → Done (plan t s) o
 tree_done t s o h = let a = one_of (replies t s o) h in (a.0.outcome, (AnswersOfPlan.replied t s o).same a.0 a.1, a.2)

@@ -35,12 +35,12 @@ module _ (t u : Tree) (there : AreListedToo t u) (back : AreListedToo u t) where
           let own = rests_have_classes t rest is.key is.bytes in
           let same = one_class (class_words t) rest own.0 word own.2 h in
           there (record { word = word; member = Some own.1 })
-          (record { word = h.listed; member = subst (λ w. IsMember (class_words t) w (Some own.1)) same own.3; some = tt })
+          (record { word = h.listed; member = subst (λ w. IsMember (class_words t) w (Some own.1)) same own.3; some = refl })
 
       longest : (v : List ℕ) → Contains (class_words u) v → begins_with rest v ≡ true → length v ≤ length word
       longest v at begins =
           let own = rests_have_classes u rest is.key is.bytes in
-          let first = back (record { word = own.0; member = Some own.1 }) (record { word = own.2.listed; member = own.3; some = tt }) in
+          let first = back (record { word = own.0; member = Some own.1 }) (record { word = own.2.listed; member = own.3; some = refl }) in
           let low : length v ≤ length own.0 = own.2.longest v at begins in
           let high : length own.0 ≤ length word = h.longest own.0 first own.2.begins in
           omega (arith, low, high)
@@ -75,17 +75,17 @@ module _ (r n : RoutesValue) (t u : Tree) (rest member : List ℕ) (since : Opti
       ∙ d.sends h o is
       ∙ ap (λ ls. map (seen r d.move) ls ++ map (added r h) (zip legs d.places)) (sym (alike_are_sent t rest member a Delete since (chosen_by h r) (λ p. o (d.move p))));
     done = λ o h.
-      let Done : List Answer → Type 0 = λ as. Has as (λ x. x.outcome ≢ Error) in
+      let Done : List Answer → Type 0 = λ qs. Has qs (λ x. x.outcome ≢ Error) in
       subst Done (sym (alike_are_replied t rest member a Delete since (λ p. o (d.move p)))) (d.done o (subst Done (alike_are_replied u rest member b Delete since o) h));
   }
 
 pub class_mended : (r n : RoutesValue) (t u : Tree) (word member : List ℕ) (legs : List LegValue) → AreListedToo t u → AreListedToo u t → IsRest member → IsMember (class_words t) word (Some member)
     → IsMemberMended r n t u member legs → IsClassMended r n t u word legs
 class_mended r n t u word member legs there back own inside mended = record {
-  alike = λ op rest since no is h era.
+  alike = λ op rest since other is h era.
     let e = era_numbered r since era in
     let both = both_alike t u there back rest word member is own h inside in
-    alike_at r n t u rest member since both.0 both.1 op (alike r n t u (asked op member since) ((mended e.0 since e.1 op).alike no));
+    alike_at r n t u rest member since both.0 both.1 op (alike r n t u (asked op member since) ((mended e.0 since e.1 op).alike other));
   deletes = λ rest since is h era.
     let e = era_numbered r since era in
     let both = both_alike t u there back rest word member is own h inside in

@@ -100,9 +100,9 @@ seen_by r m h t o = map (seen_leg r m h) (launched t (chosen_by h r) o)
 
 one_text : (f g : ℕ → List ℕ) (xs ys : List ℕ) (i : ℕ) → map f xs ≡ map g ys → i < length xs → f (slice_index xs i) ≡ g (slice_index ys i)
 one_text f g [] ys i e lt = absurd (omega arith)
-one_text f g (x ∷ xs) [] i e lt = absurd cc
-one_text f g (x ∷ xs) (y ∷ ys) zero e lt = cc
-one_text f g (x ∷ xs) (y ∷ ys) (suc i) e lt = one_text f g xs ys i cc (omega arith)
+one_text f g (x ∷ xs) [] i e lt = absurd (cc)
+one_text f g (x ∷ xs) (y ∷ ys) zero e lt = (cc)
+one_text f g (x ∷ xs) (y ∷ ys) (suc i) e lt = one_text f g xs ys i (cc) (omega arith)
 
 pub chosen : (r : RoutesValue) (h : SymbolValue → ℕ) (s : ℕ) (v : SymbolValue) → slice_get r.symbols s ≡ Some v → chosen_by h r s ≡ h v
 chosen r h s v e = ap (λ x. unwrap_or (option_map h x) 0) e
@@ -152,7 +152,7 @@ module _ (q : RoutesValue) (m : Move) (h : SymbolValue → ℕ) where
       seen-both t u o (cond (nat_le a (chosen_by h q s) && nat_le (chosen_by h q s) b) (launched u (chosen_by h q) o) [])
       ∙ ap (λ ls. seen_by q m h t o ++ ls) (sym (if-map (seen_leg q m h) (nat_le a (chosen_by h q s) && nat_le (chosen_by h q s) b) (launched u (chosen_by h q) o) []))
 
-abbrev stay : Move
+abbrev pub stay : Move
 stay p = p
 
 module _ (r n : RoutesValue) (m : Move) (h : SymbolValue → ℕ) (is : IsHash h) (o : Outcomes) where
