@@ -142,7 +142,6 @@ fn push_policy<'t>(
 }
 
 /// An edit that puts a text at a place.
-#[tactic(auto, using(crate::proofs::ClassMended::class_mended, crate::proofs::SameClasses::same_classes, crate::proofs::WholeInput::mending_by_all, crate::proofs::Numbers::grown, crate::proofs::Growing::servers_grow, crate::proofs::EachOperation::each_operation, crate::proofs::LeastLegs::keeps))]
 fn insertion(place: usize, text: Vec<u8>) -> Edit {
     Edit {
         span: Span {

@@ -57,8 +57,10 @@ fn server_numbers(
 fn server_number(old: &Routes, new: &Routes, number: usize) -> Option<u32>
     ensures { IfSome result (λ found. server_text old.now number ≡ server_text new.now found) }
 {
-    let id = ServerId(u32::try_from(number).ok()?);
-    let text = old.servers().text(id)?;
+    if number > u32::MAX as usize {
+        return None;
+    }
+    let text = old.servers().text(ServerId(number as u32))?;
     let found = new.servers().find(text)?;
     Some(found.0)
 }

@@ -5,6 +5,7 @@ use std::alloc::AllocError;
 use std::process::Abort;
 
 /// Numbers drawn one after another, the same in each run.
+#[derive(Drop)]
 struct Lots {
     state: u64,
 }
