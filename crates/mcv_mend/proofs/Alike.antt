@@ -137,11 +137,11 @@ deletes_more r n t u s ks w =
       own = as_many r n ks w.legs w.added;
       counted = All-from_recursion (λ (p : Place). is_counting p.1 ≡ true) (map place_of w.legs) (all_counted r n ks w.legs w.added);
       sends = λ h o is.
-        seen_tree n u s stay h o
-        ∙ ap (map (seen_leg n stay h)) (launched_more r n ks (plan t s) (plan u s) w (chosen_by h n) o)
-        ∙ map-append (seen_leg n stay h) (planned.launched w.own (chosen_by h n) o) w.legs
-        ∙ ap₂ ◌++◌ (moves.sends r n m.0 h is o (plan t s) w.own w.same m.1 ∙ sym (seen_tree r t s m.0 h o)) (all_added r n h is ks w.legs w.added);
+          seen_tree n u s stay h o
+          ∙ ap (map (seen_leg n stay h)) (launched_more r n ks (plan t s) (plan u s) w (chosen_by h n) o)
+          ∙ map-append (seen_leg n stay h) (planned.launched w.own (chosen_by h n) o) w.legs
+          ∙ ap₂ ◌++◌ (moves.sends r n m.0 h is o (plan t s) w.own w.same m.1 ∙ sym (seen_tree r t s m.0 h o)) (all_added r n h is ks w.legs w.added);
       done = λ o d.
-        let e = done_more r n ks (plan t s) (plan u s) w o (tree_done u s o d) in
-        done_tree t s (brought m.0 o) (e.0, sym (moves.replied r n m.0 o (plan t s) w.own w.same m.1) ∙ e.1, e.2);
+          let e = done_more r n ks (plan t s) (plan u s) w o (tree_done u s o d) in
+          done_tree t s (brought m.0 o) (e.0, sym (moves.replied r n m.0 o (plan t s) w.own w.same m.1) ∙ e.1, e.2);
     }

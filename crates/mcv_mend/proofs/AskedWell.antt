@@ -25,7 +25,7 @@ module _ (r n : RoutesValue) (t u : Tree) (rest : List ℕ) (since : Option ℕ)
   asked_delete is one = record {
     alike = λ no. absurd (no is);
     deletes = λ _.
-      let wide : IsWidened r n legs (plan t (asked op rest since)) (plan u (asked op rest since)) =
-      subst (λ x. IsWidened r n legs x (plan u (asked op rest since))) (ap alone old.whole) (subst (IsWidened r n legs (whole_of p)) (ap alone new.whole) one) in
-      subst (λ o. IsWidened r n legs (plan t (asked o rest since)) (plan u (asked o rest since))) is wide;
+        let wide : IsWidened r n legs (plan t (asked op rest since)) (plan u (asked op rest since)) =
+        subst (λ x. IsWidened r n legs x (plan u (asked op rest since))) (ap alone old.whole) (subst (IsWidened r n legs (whole_of p)) (ap alone new.whole) one) in
+        subst (λ o. IsWidened r n legs (plan t (asked o rest since)) (plan u (asked o rest since))) is wide;
   }

@@ -55,13 +55,13 @@ module _ (r n : RoutesValue) (t u : Tree) (rest member : List ℕ) (since : Opti
   alike_at op d = record {
     move = d.move;
     sends = λ h o is.
-      ap (map (seen n (λ p. p))) (alike_are_sent u rest member b op since (chosen_by h n) o)
-      ∙ d.sends h o is
-      ∙ ap (map (seen r d.move)) (sym (alike_are_sent t rest member a op since (chosen_by h r) (λ p. o (d.move p))));
+        ap (map (seen n (λ p. p))) (alike_are_sent u rest member b op since (chosen_by h n) o)
+        ∙ d.sends h o is
+        ∙ ap (map (seen r d.move)) (sym (alike_are_sent t rest member a op since (chosen_by h r) (λ p. o (d.move p))));
     replies = λ o.
-      alike_are_replied u rest member b op since o
-      ∙ d.replies o
-      ∙ ap (map (moved d.move)) (sym (alike_are_replied t rest member a op since (λ p. o (d.move p))));
+        alike_are_replied u rest member b op since o
+        ∙ d.replies o
+        ∙ ap (map (moved d.move)) (sym (alike_are_replied t rest member a op since (λ p. o (d.move p))));
   }
 
   more_at : (legs : List LegValue) → DeletesMore r n t u (asked Delete member since) legs → DeletesMore r n t u (asked Delete rest since) legs
@@ -71,23 +71,23 @@ module _ (r n : RoutesValue) (t u : Tree) (rest member : List ℕ) (since : Opti
     own = d.own;
     counted = d.counted;
     sends = λ h o is.
-      ap (map (seen n (λ p. p))) (alike_are_sent u rest member b Delete since (chosen_by h n) o)
-      ∙ d.sends h o is
-      ∙ ap (λ ls. map (seen r d.move) ls ++ map (added r h) (zip legs d.places)) (sym (alike_are_sent t rest member a Delete since (chosen_by h r) (λ p. o (d.move p))));
+        ap (map (seen n (λ p. p))) (alike_are_sent u rest member b Delete since (chosen_by h n) o)
+        ∙ d.sends h o is
+        ∙ ap (λ ls. map (seen r d.move) ls ++ map (added r h) (zip legs d.places)) (sym (alike_are_sent t rest member a Delete since (chosen_by h r) (λ p. o (d.move p))));
     done = λ o h.
-      let Done : List Answer → Type 0 = λ qs. Has qs (λ x. x.outcome ≢ Error) in
-      subst Done (sym (alike_are_replied t rest member a Delete since (λ p. o (d.move p)))) (d.done o (subst Done (alike_are_replied u rest member b Delete since o) h));
+        let Done : List Answer → Type 0 = λ qs. Has qs (λ x. x.outcome ≢ Error) in
+        subst Done (sym (alike_are_replied t rest member a Delete since (λ p. o (d.move p)))) (d.done o (subst Done (alike_are_replied u rest member b Delete since o) h));
   }
 
 pub class_mended : (r n : RoutesValue) (t u : Tree) (word member : List ℕ) (legs : List LegValue) → AreListedToo t u → AreListedToo u t → IsRest member → IsMember (class_words t) word (Some member)
     → IsMemberMended r n t u member legs → IsClassMended r n t u word legs
 class_mended r n t u word member legs there back own inside mended = record {
   alike = λ op rest since other is h era.
-    let e = era_numbered r since era in
-    let both = both_alike t u there back rest word member is own h inside in
-    alike_at r n t u rest member since both.0 both.1 op (alike r n t u (asked op member since) ((mended e.0 since e.1 op).alike other));
+      let e = era_numbered r since era in
+      let both = both_alike t u there back rest word member is own h inside in
+      alike_at r n t u rest member since both.0 both.1 op (alike r n t u (asked op member since) ((mended e.0 since e.1 op).alike other));
   deletes = λ rest since is h era.
-    let e = era_numbered r since era in
-    let both = both_alike t u there back rest word member is own h inside in
-    more_at r n t u rest member since both.0 both.1 legs (deletes_more r n t u (asked Delete member since) legs ((mended e.0 since e.1 Delete).deletes refl));
+      let e = era_numbered r since era in
+      let both = both_alike t u there back rest word member is own h inside in
+      more_at r n t u rest member since both.0 both.1 legs (deletes_more r n t u (asked Delete member since) legs ((mended e.0 since e.1 Delete).deletes refl));
 }

@@ -75,9 +75,10 @@ in_parts : (t u v w : Plan) → AreApart t u → ((p : List ℕ) → (In (positi
     → IsMoved (move_by (before ++ ((steps t v ++ steps u w) ++ behind))) t v × IsMoved (move_by (before ++ ((steps t v ++ steps u w) ++ behind))) u w
 in_parts t u v w apart un f g before behind free =
     let first = f before (steps u w ++ behind) (λ p i. free p (in_left (positions t) (positions u) p i)) in
-    let second = g (before ++ steps t v) behind (λ p i. free_both before (steps t v) p (free p (in_right (positions t) (positions u) p i)) (un p (λ j. apart p j i))) in
-    (subst (λ es. IsMoved (move_by (before ++ es)) t v) (sym (append_assoc (steps t v) (steps u w) behind)) first,
-    subst (λ es. IsMoved (move_by es) u w) (append_assoc before (steps t v) (steps u w ++ behind) ∙ ap (λ es. before ++ es) (sym (append_assoc (steps t v) (steps u w) behind))) second)
+    let second = g (before ++ steps t v) behind (λ p i. free_both before (steps t v) p (free p (in_right (positions t) (positions u) p i)) (un p (λ j. apart p j i))) in (
+      subst (λ es. IsMoved (move_by (before ++ es)) t v) (sym (append_assoc (steps t v) (steps u w) behind)) first,
+      subst (λ es. IsMoved (move_by es) u w) (append_assoc before (steps t v) (steps u w ++ behind) ∙ ap (λ es. before ++ es) (sym (append_assoc (steps t v) (steps u w) behind))) second,
+    )
 
 module _ (r n : RoutesValue) where
   finds : (t u : Plan) → AreOnePlan r n t u → IsApart t → Finds t u

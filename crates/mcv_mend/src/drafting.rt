@@ -153,11 +153,7 @@ fn insertion(place: usize, text: Vec<u8>) -> Edit {
 }
 
 /// Puts a member before the others of an object.
-fn push_first(
-    object: &Located,
-    member: Vec<u8>,
-    edits: &mut Vec<Edit>,
-) -> Result<(), MendFault> {
+fn push_first(object: &Located, member: Vec<u8>, edits: &mut Vec<Edit>) -> Result<(), MendFault> {
     let mut text = member;
     let members = object.members().ok_or(MendFault::GaveUp)?;
     if !members.is_empty() {
@@ -196,7 +192,14 @@ fn push_selector<'t>(
     text.extend_from_slice(
         b"{\"type\": \"OperationSelectorRoute\", \"operation_policies\": {\"delete\": ",
     )?;
-    push_widened(alloc, source, place.peeled(), classes, LEVEL_LIMIT, &mut text)?;
+    push_widened(
+        alloc,
+        source,
+        place.peeled(),
+        classes,
+        LEVEL_LIMIT,
+        &mut text,
+    )?;
     text.extend_from_slice(b"}, \"default_policy\": ")?;
     source.push_value(&mut text, route)?;
     text.extend_from_slice(b"}")?;

@@ -33,7 +33,10 @@ pub struct Wanted<'s> {
 }
 
 /// The blocks of sets.
-pub fn wanted_blocks<'s>(alloc: Global, sets: &'s [Sets<'s>]) -> Result<Vec<Wanted<'s>>, AllocError> {
+pub fn wanted_blocks<'s>(
+    alloc: Global,
+    sets: &'s [Sets<'s>],
+) -> Result<Vec<Wanted<'s>>, AllocError> {
     let mut blocks = Vec::with_capacity(alloc, sets.len())?;
     for set in sets {
         blocks.push(wanted_of(alloc, set)?)?;

@@ -121,10 +121,11 @@ pub fn least_legs<'s>(alloc: Global, blocks: &[Wanted<'s>]) -> Result<Vec<Leg<'s
     let mut counts = counts_of(alloc, missing.as_slice())?;
     let mut kept = Vec::new(alloc);
     for (number, one) in missing.iter().enumerate() {
-        let is_needed = is_sole(alloc, one, &counts)? || {
-            let others = others(alloc, kept.as_slice(), &missing[number + 1..])?;
-            have_gap(alloc, blocks, others.as_slice())?
-        };
+        let is_needed = is_sole(alloc, one, &counts)?
+            || {
+                let others = others(alloc, kept.as_slice(), &missing[number + 1..])?;
+                have_gap(alloc, blocks, others.as_slice())?
+            };
         if is_needed {
             kept.push(one.leg)?;
         } else {

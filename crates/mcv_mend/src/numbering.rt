@@ -20,11 +20,7 @@ pub struct Numbering {
 }
 
 /// The numbers that the servers and symbols of the old routes have in the new ones; None where one of them isn't there.
-pub fn numbered(
-    alloc: Global,
-    old: &Routes,
-    new: &Routes,
-) -> Result<Option<Numbering>, AllocError>
+pub fn numbered(alloc: Global, old: &Routes, new: &Routes) -> Result<Option<Numbering>, AllocError>
     ensures { IfOk result (λ found. IfSome found (IsNumbering old.now new.now)) }
 {
     let Some(servers) = server_numbers(alloc, old, new)? else {
@@ -36,11 +32,7 @@ pub fn numbered(
     Ok(Some(Numbering { servers, symbols }))
 }
 
-fn server_numbers(
-    alloc: Global,
-    old: &Routes,
-    new: &Routes,
-) -> Result<Option<Vec<u32>>, AllocError>
+fn server_numbers(alloc: Global, old: &Routes, new: &Routes) -> Result<Option<Vec<u32>>, AllocError>
     ensures { IfOk result (λ found. IfSome found (λ table. AreServerNumbers old.now new.now table.items)) }
 {
     let mut table = Vec::new(alloc);

@@ -122,12 +122,7 @@ fn are_needed_legs(numbering: &Numbering, needed: &[NeededLeg], plans: &[Plan]) 
 }
 
 /// Whether the new plan does what the old one does, and sends the legs that are needed beside it, or waits for them too.
-pub fn is_widened(
-    numbering: &Numbering,
-    old: &Plan,
-    new: &Plan,
-    needed: &[NeededLeg],
-) -> bool
+pub fn is_widened(numbering: &Numbering, old: &Plan, new: &Plan, needed: &[NeededLeg]) -> bool
     ensures { (r n : RoutesValue) → IsNumbering r n numbering.now → IsTrue result → IsWidened r n (legs_value needed.now) (whole_of old.now) (whole_of new.now) }
 {
     if needed.is_empty() {
@@ -141,12 +136,7 @@ pub fn is_widened(
 }
 
 /// The same of a new plan that waits for all of these.
-fn is_all_widened(
-    numbering: &Numbering,
-    old: &Plan,
-    news: &[Plan],
-    needed: &[NeededLeg],
-) -> bool
+fn is_all_widened(numbering: &Numbering, old: &Plan, news: &[Plan], needed: &[NeededLeg]) -> bool
     ensures { (r n : RoutesValue) → IsNumbering r n numbering.now → IsTrue result → IsWidened r n (legs_value needed.now) (whole_of old.now) (all_of (map whole_of news.now)) }
 {
     if needed.len() >= news.len() {
@@ -172,12 +162,7 @@ fn is_all_of(numbering: &Numbering, old: &Plan, news: &[Plan]) -> bool
 }
 
 /// The same of a new plan that sends all of these at once.
-fn is_beside_widened(
-    numbering: &Numbering,
-    old: &Plan,
-    news: &[Plan],
-    needed: &[NeededLeg],
-) -> bool
+fn is_beside_widened(numbering: &Numbering, old: &Plan, news: &[Plan], needed: &[NeededLeg]) -> bool
     ensures { (r n : RoutesValue) → IsNumbering r n numbering.now → IsTrue result → IsWidened r n (legs_value needed.now) (whole_of old.now) (led_by (map part_of news.now)) }
 {
     if needed.len() >= news.len() {

@@ -25,10 +25,22 @@ pub fn push_edited(
     edits.sort_by_key(|edit| edit.span.start)?;
     let mut at = span.start;
     for edit in &edits {
-        out.extend_from_slice(at_span(text, Span { start: at, end: edit.span.start })?)?;
+        out.extend_from_slice(at_span(
+            text,
+            Span {
+                start: at,
+                end: edit.span.start,
+            },
+        )?)?;
         out.extend_from_slice(edit.text.as_slice())?;
         at = edit.span.end;
     }
-    out.extend_from_slice(at_span(text, Span { start: at, end: span.end })?)?;
+    out.extend_from_slice(at_span(
+        text,
+        Span {
+            start: at,
+            end: span.end,
+        },
+    )?)?;
     Ok(())
 }

@@ -54,7 +54,14 @@ fn push_widened_below<'t>(
         if is_any_needed(branch.classes.as_slice()) {
             let mut text = Vec::new(alloc);
             let place = Place::Value(branch.route);
-            push_widened(alloc, source, place, branch.classes.as_slice(), level, &mut text)?;
+            push_widened(
+                alloc,
+                source,
+                place,
+                branch.classes.as_slice(),
+                level,
+                &mut text,
+            )?;
             edits.push(Edit {
                 span: branch.route.span(),
                 text,

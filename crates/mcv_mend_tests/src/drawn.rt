@@ -43,7 +43,9 @@ fn push_pool(lots: &mut Lots, text: &mut String) -> Result<(), AllocError> {
         1 => {
             text.push_str("{\"pool\":\"")?;
             text.push_str(name)?;
-            text.push_str("\",\"shadows\":[{\"target\":\"PoolRoute|B\",\"index_range\":[0,0]}],\"type\":\"PoolRoute\"}")?;
+            text.push_str(
+                "\",\"shadows\":[{\"target\":\"PoolRoute|B\",\"index_range\":[0,0]}],\"type\":\"PoolRoute\"}",
+            )?;
         }
         _ => {
             text.push_str("\"PoolRoute|")?;
@@ -192,7 +194,10 @@ fn each_is_mended_once(rt: HostRuntime) {
         if mending == Some(Mending::Mended) {
             changed = changed.saturating_add(1);
             let (again, same) = mended(&rt, output.as_slice());
-            assert!(rt; again == Some(Mending::Unchanged), "lost once mended: {text}");
+            assert!(rt;
+                again == Some(Mending::Unchanged),
+                "lost once mended: {text}"
+            );
             assert!(rt; same.as_slice() == output.as_slice(), "changed again");
         }
     }

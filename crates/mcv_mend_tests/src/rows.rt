@@ -66,7 +66,10 @@ fn written(rt: &(impl AllocGlobal + Abort), configuration: &str) -> String {
     let mending = run_mend(rt.alloc(), &mut configuration.as_bytes(), &mut output);
     match mending {
         Ok(Mending::Unchanged) => {
-            assert!(rt; output.as_slice() == configuration.as_bytes(), "a covered one changed");
+            assert!(rt;
+                output.as_slice() == configuration.as_bytes(),
+                "a covered one changed"
+            );
             String::from_str(rt.alloc(), "same").expect(rt, "memory")
         }
         Ok(Mending::Mended) => String::from_utf8(output).expect(rt, "a text"),
@@ -93,9 +96,11 @@ fn fault_text(rt: &(impl AllocGlobal + Abort), fault: &MendFault) -> String {
 fn configurations_are_mended(rt: HostRuntime) {
     let mut lines = ROWS.lines();
     for _ in 0..1000 {
-        let (Some(name), Some(configuration), Some(wanted)) =
-            (lines.next(), lines.next(), lines.next())
-        else {
+        let (Some(name), Some(configuration), Some(wanted)) = (
+            lines.next(),
+            lines.next(),
+            lines.next(),
+        ) else {
             return;
         };
         let found = written(&rt, configuration);

@@ -8,9 +8,8 @@ ghost use Rattle.mcv_words.specs.Words.{at_rule, cert_rule, check_app, legs_app,
 ghost use Rattle.mcv_words.specs.declared.words.LineFault.TheVariants.{Memory as out_of_memory};
 
 use crate::help::{
-    ABOUT, AT, CERT, CHECK_ABOUT, CHECK_FORM, EXAMPLE, LEGS_ABOUT, LEGS_FORM, LISTEN, MEND_ABOUT, MEND_FORM,
-    PROXIES,
-    RUN_ABOUT, RUN_FORM, SESSIONS, SPOOL,
+    ABOUT, AT, CERT, CHECK_ABOUT, CHECK_FORM, EXAMPLE, LEGS_ABOUT, LEGS_FORM, LISTEN, MEND_ABOUT,
+    MEND_FORM, PROXIES, RUN_ABOUT, RUN_FORM, SESSIONS, SPOOL,
 };
 use clap::builder::ValueParser;
 use clap::error::ErrorKind;
@@ -127,10 +126,12 @@ fn mend_command<'a>(alloc: Global) -> Result<Command<'a>, AllocError>
     ensures app { IfOk result (λ c. app_of c ≡ mend_app) }
     ensures local { IfOk result (λ c. (fields_of c).has_globals ≡ false) }
 {
-    Ok(Command::new(alloc, "mend")
-        .about(MEND_ABOUT)
-        .override_usage("mcv mend < FILE")
-        .after_help(MEND_FORM))
+    Ok(
+        Command::new(alloc, "mend")
+            .about(MEND_ABOUT)
+            .override_usage("mcv mend < FILE")
+            .after_help(MEND_FORM),
+    )
 }
 
 fn listen_option<'a>(alloc: Global) -> Arg<'a>
