@@ -4,9 +4,9 @@ use Rattle.std.specs.Str.Parse.{ParsesUnsigned, ExplainsUnsignedError, HasUnsign
 use Rattle.clap.proofs.WalkLemmas.{first_value-rows, one_text-rows}
 use Rattle.clap.proofs.OnLiterals.{clap_on_literals}
 use Rattle.clap.proofs.ValueTestLemmas.{accepts-Accepts}
-use Rattle.mcv_words.specs.Words.{mcv_app, proxy_limit, session_limit}
+use Rattle.mcv_words.specs.Words.{mcv_app}
 use Rattle.mcv_words.proofs.OptionValues.{at_parser, legs_values, run_values}
-use Rattle.mcv_words.proofs.Matches.{fault_of_kind, named_rows, name_of_rows, no_number, number_of, number_spelt, run_asked}
+use Rattle.mcv_words.proofs.Matches.{can_run, fault_of_kind, named_rows, name_of_rows, no_number, number_of, run_asked}
 use Rattle.mcv_words.proofs.CommandIsNamed.{taken}
 use Rattle.mcv_words.proofs.words.read_words.Goals as goal
 
@@ -44,19 +44,16 @@ returns-in_default-run_job-clause-fault c =
     let none = sym (ap (λ (a : App). fault_of a words) c.in_ok-command.ensures) ∙ c.in-Ok.ensures.kinds (ap is_simple_and_free c.in_ok-command.ensures ∙ free) in
     let found = found_of c.in-Some-subcommand_matches.found.now in
     let run = sym held ∙ named_rows c.in-Ok.matches (codes "run") (rows_of found) (c.in-Some-subcommand_matches.ensures.found.0 refl) c.in-Some-subcommand_matches.ensures.rows in
-    let has = run_values words (rows_of found) none run in
-    let sessions = number_spelt (codes "sessions") 1 session_limit (rows_of found) has.2 has.6 has.7 in
-    let proxies = number_spelt (codes "proxies") 1 proxy_limit (rows_of found) has.3 has.8 has.9 in
-    absurd (true≢false (sym (c.in_default-run_job.ensures.some has.0 has.1 sessions.0 proxies.0 (has.4, has.5, sessions.1, proxies.1) sessions.2 proxies.2)))
+    absurd (c.in_default-run_job.ensures.ok (can_run (rows_of found) (run_values words (rows_of found) none run)))
 
-pub returns-in-Some-subcommand_matches-clause-job : goal.returns-in-Some-subcommand_matches-clause-job
-returns-in-Some-subcommand_matches-clause-job c =
+pub returns-in-Ok-run_job-clause-job : goal.returns-in-Ok-run_job-clause-job
+returns-in-Ok-run_job-clause-job c =
     let words : List Text = map (λ w. w.now) c.args.words.now in
     let held = (c.in-Ok.ensures.matches (ap is_simple c.in_ok-command.ensures ∙ simple)).1 ∙ ap (λ (a : App). subcommand_of a words) c.in_ok-command.ensures in
     let none = sym (ap (λ (a : App). fault_of a words) c.in_ok-command.ensures) ∙ c.in-Ok.ensures.kinds (ap is_simple_and_free c.in_ok-command.ensures ∙ free) in
     let found = found_of c.in-Some-subcommand_matches.found.now in
     let run = sym held ∙ named_rows c.in-Ok.matches (codes "run") (rows_of found) (c.in-Some-subcommand_matches.ensures.found.0 refl) c.in-Some-subcommand_matches.ensures.rows in
-    run_asked words (rows_of found) c.in-Some-run_job.job none run (run_values words (rows_of found) none run) c.in-Some-run_job.ensures.job
+    run_asked words (rows_of found) c.in-Ok-run_job.job none run c.in-Ok-run_job.ensures.job
 
 pub returns-in_default-subcommand_matches-2-clause-fault : goal.returns-in_default-subcommand_matches-2-clause-fault
 returns-in_default-subcommand_matches-2-clause-fault c =
