@@ -1,5 +1,5 @@
 -- What the program does for the words of a command line.
-use Rattle.std.specs.Prelude.{◌≡◌, ◌⊎◌, ℕ, List, Option, Some, None, IfSome, MatchOption, codes}
+use Rattle.std.specs.Prelude.{◌≡◌, ◌⊎◌, List, Option, Some, None, IfSome, MatchOption, codes}
 use Rattle.std.specs.Io.KnownBytes.{Appends}
 use Rattle.clap.specs.Words.{IsAmong, Text}
 use Rattle.clap.specs.declared.error.kind.ErrorKind.TheVariants.{DisplayHelp, DisplayVersion}
@@ -13,7 +13,7 @@ use Rattle.mcv_verdict.specs.Fault as check
 use Rattle.mcv_verdict.specs.Verdict.{IsVerdictOn}
 use Rattle.mcv_verdict.specs.declared.verdict.Verdict.{Verdict}
 use Rattle.mcv_verdict.specs.declared.verdict.Verdict.TheVariants as verdicts
-use Rattle.mcv_words.specs.Words.{AsksCheck, AsksRun, IsJobOf, IsLineFault, faults}
+use Rattle.mcv_words.specs.Words.{AsksCheck, AsksRun, IsJobOf, IsLineFault, RunOrder, faults}
 use Rattle.mcv_words.specs.declared.words.Job.TheVariants as jobs
 use Rattle.mcv_words.specs.declared.words.LineFault.TheVariants as line_fault
 use Rattle.mcv_command.specs.declared.stop.Ending.{Ending}
@@ -45,20 +45,19 @@ abbrev pub IsJudgingFault : Held → Option Text → (input : Option Text) → S
 IsJudgingFault held cert input BadLine = ⊥
 IsJudgingFault held cert input (Run fault) = IsOutside fault ⊎ IfSome input (λ bytes. IfGiven held cert (λ certificate. check.IsRunFault bytes certificate fault))
 
--- what it is that routes were served: at an address, with the spool in the file of this name, until so many sessions had ended, by so many
--- proxies side by side, from what the writer held to what it holds
+-- what it is that routes were served as `run` was asked for, from what the writer held to what it holds
 abbrev pub Serves : Type 1
-Serves = RoutesValue → (listen spool : Text) → (sessions proxies : ℕ) → (old new : Option Text) → Type 0
+Serves = RoutesValue → RunOrder → (old new : Option Text) → Type 0
 
 -- the input names routes, these are covered, and the proxy served them; or the verdict that they aren't was written
-abbrev pub IsServed : Held → Serves → (listen spool : Text) → (sessions proxies : ℕ) → (input old new : Option Text) → Ending → Type 0
-IsServed held serves listen spool sessions proxies input old new ending =
-    ((r : RoutesValue) × IfSome input (λ bytes. AreNamedBy bytes r) × AreCovered r × serves r listen spool sessions proxies old new × (ending ≡ Done))
+abbrev pub IsServed : Held → Serves → RunOrder → (input old new : Option Text) → Ending → Type 0
+IsServed held serves order input old new ending =
+    ((r : RoutesValue) × IfSome input (λ bytes. AreNamedBy bytes r) × AreCovered r × serves r order old new × (ending ≡ Done))
     ⊎ (IsJudged held None input old new Lost × (ending ≡ Lost))
 
 -- the words ask for a run
 abbrev pub AsksAnyRun : List Text → Type 0
-AsksAnyRun words = (listen : Text) × (spool : Text) × (sessions : ℕ) × (proxies : ℕ) × AsksRun words listen spool sessions proxies
+AsksAnyRun words = (order : RunOrder) × AsksRun words order
 
 abbrev pub version_line : Text
 version_line = codes "mcv 1\n"
@@ -75,8 +74,7 @@ IsDone words held serves input old new ending =
     ((text : Text) × IsShownFor words text × Appends old new text × (ending ≡ Done))
     ⊎ (((at : Moment) × IsJobOf words (jobs.Legs at) × (text : Text) × IfSome input (λ bytes. IsAnswer at.0 bytes text) × Appends old new text × (ending ≡ Done))
     ⊎ (((cert : Option Text) × AsksCheck words cert × IsJudged held cert input old new ending)
-    ⊎ ((listen : Text) × (spool : Text) × (sessions : ℕ) × (proxies : ℕ) × AsksRun words listen spool sessions proxies
-    × IsServed held serves listen spool sessions proxies input old new ending)))
+    ⊎ ((order : RunOrder) × AsksRun words order × IsServed held serves order input old new ending)))
 
 -- the words are at fault; or memory ran out, or a device failed; or the words ask for legs, for a verdict or for a run, and the fault is in
 -- what was read

@@ -1,9 +1,10 @@
 -- A reply that is given was read from a connection.
 use Rattle.std.proofs.Common.{◌≡◌, ◌∙◌, ◌⊎◌, ℕ, Bool, true, false, List, Option, None, Some, Ok, Err, refl, sym, subst, inl, inr, Result, MatchResult}
 use Rattle.std.specs.Prelude.{IfNone, IfSome}
+use Rattle.std.specs.Io.KnownBytes.{Appends}
 use Rattle.mcv_base.specs.declared.operation.Op.{Op}
 use Rattle.mcv_net.specs.declared.loss.Loss.{Loss}
-use Rattle.mcv_net.specs.declared.loss.Loss.TheVariants.{Unwritten, Unread, Broken, Memory}
+use Rattle.mcv_net.specs.declared.loss.Loss.TheVariants.{Unwritten, Unread, Broken, Memory, Late}
 use Rattle.mcv_net.specs.declared.link.Written.{Written}
 use Rattle.mcv_net.specs.Exchange.{Asks, Reads, Writes}
 use Rattle.mcv_net.specs.Repeat.{may_repeat}
@@ -63,6 +64,17 @@ module _ {S X : Type 0} (contents remaining : S → Option (List ℕ)) (spells :
   lost_writing a b Unread w = w
   lost_writing a b Broken w = w
   lost_writing a b Memory w = w
+  lost_writing a b Late w = w
+
+  -- .. of a connection that had been written as much
+  pub asks_bound : (old bound new : S) (result : Result X Loss) → contents bound ≡ contents old → Asks contents remaining spells text bound new result
+      → Asks contents remaining spells text old new result
+  asks_bound old bound new result same (inl l) = inl (l.0, l.1, subst (λ a. Writes {X = X} a (contents new) text (Err l.0)) same l.2)
+  asks_bound old bound new result same (inr r) = inr (r.0, subst (λ a. Appends a (contents r.0) text) same r.1, r.2)
+
+  pub over_bound : (old bound : S) (result : Result X Loss) (kept : Option S) → contents bound ≡ contents old → AsksOver contents remaining spells text bound result kept
+      → AsksOver contents remaining spells text old result kept
+  over_bound old bound result kept same (to, asks, is) = (to, asks_bound old bound to result same asks, is)
 
   over_by : (from stream : S) (outcome : Result (Unit {0}) Loss) (result : Result X Loss) (kept : Option S) (to : S)
       → Writes (contents from) (contents stream) text outcome

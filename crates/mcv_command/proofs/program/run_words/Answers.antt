@@ -5,6 +5,7 @@ use Rattle.mcv_command.specs.Program.{IsStop}
 use Rattle.mcv_command.specs.declared.stop.Stop.{Stop}
 use Rattle.mcv_command.specs.declared.stop.Stop.TheVariants.{Run}
 use Rattle.mcv_command.proofs.ProgramEnds.{judging_stop, running_stop}
+use Rattle.mcv_words.specs.Words.{order_of}
 use Rattle.mcv_command.proofs.program.run_words.Goals as goal
 
 pub returns-in_err-run_legs-in-Ok-Legs-clause-stop : goal.returns-in_err-run_legs-in-Ok-Legs-clause-stop
@@ -55,21 +56,11 @@ returns-in-Ok-Check-None-clause-stop g c =
     let asks = rw (c.in-Ok-Check-None.field-0-is, c.in-Ok-Check-None.field-0-0-is) at c.in-Ok-Check-None.ensures.job in
     IfErr-weaker c.judge.result _ _ (λ stop holds. judging_stop words held known None stop asks holds) (c.judge.ensures.stop held)
 
-pub serve-requires-clause-most : goal.serve-requires-clause-most
-serve-requires-clause-most g c =
-    let asks = rw c.in-Ok-Run.field-0-is at c.in-Ok-Run.ensures.job in
-    asks.5
-
-pub serve-requires-clause-most_proxies : goal.serve-requires-clause-most_proxies
-serve-requires-clause-most_proxies g c =
-    let asks = rw c.in-Ok-Run.field-0-is at c.in-Ok-Run.ensures.job in
-    asks.7
-
 pub returns-in-Ok-Run-clause-done : goal.returns-in-Ok-Run-clause-done
 returns-in-Ok-Run-clause-done g c =
     let held = g.F.NamedFiles.held c.args.files.now in
     let asks = rw c.in-Ok-Run.field-0-is at c.in-Ok-Run.ensures.job in
-    IfOk-weaker c.serve.result _ _ (λ ending served. inr (inr (inr (c.in-Ok-Run.listen.now, c.in-Ok-Run.spool.now, c.in-Ok-Run.sessions, c.in-Ok-Run.proxies, asks, served)))) (c.serve.ensures.done held)
+    IfOk-weaker c.serve.result _ _ (λ ending served. inr (inr (inr (order_of c.in-Ok-Run.options, asks, served)))) (c.serve.ensures.done held)
 
 pub returns-in-Ok-Run-clause-stop : goal.returns-in-Ok-Run-clause-stop
 returns-in-Ok-Run-clause-stop g c =
@@ -77,12 +68,9 @@ returns-in-Ok-Run-clause-stop g c =
     let held = g.F.NamedFiles.held c.args.files.now in
     let known = g.R.Read.remaining c.args.reader.now in
     let asks = rw c.in-Ok-Run.field-0-is at c.in-Ok-Run.ensures.job in
-    IfErr-weaker c.serve.result _ _ (λ stop holds. running_stop words held known stop (c.in-Ok-Run.listen.now, c.in-Ok-Run.spool.now, c.in-Ok-Run.sessions, c.in-Ok-Run.proxies, asks) holds)
-    (c.serve.ensures.stop held)
+    IfErr-weaker c.serve.result _ _ (λ stop holds. running_stop words held known stop (order_of c.in-Ok-Run.options, asks) holds) (c.serve.ensures.stop held)
 
 pub returns-in-Ok-Run-clause-silent : goal.returns-in-Ok-Run-clause-silent
 returns-in-Ok-Run-clause-silent g c =
     let asks = rw c.in-Ok-Run.field-0-is at c.in-Ok-Run.ensures.job in
-    IfErr-weaker c.serve.result _ _
-    (λ stop silent no_device unasked. silent no_device (λ memory. unasked memory (c.in-Ok-Run.listen.now, c.in-Ok-Run.spool.now, c.in-Ok-Run.sessions, c.in-Ok-Run.proxies, asks)))
-    c.serve.ensures.silent
+    IfErr-weaker c.serve.result _ _ (λ stop silent no_device unasked. silent no_device (λ memory. unasked memory (order_of c.in-Ok-Run.options, asks))) c.serve.ensures.silent
