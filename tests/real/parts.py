@@ -11,6 +11,8 @@ import time
 
 # Seconds that any wait may take. What is awaited comes in milliseconds; the rest is for a machine that is busy.
 LIMIT = 30.0
+# What a run says on standard error where it has no limit for servers.
+UNLIMITED = b"mcv: no --server-timeout: a server that never answers will stop all clients\n"
 # Servers take values of 1 MiB; without this memcached's own limit counts the key and the item's head too.
 ITEM_LIMIT = "2m"
 
@@ -227,11 +229,12 @@ class Machine:
         self.ends.append(server.close)
         return server
 
-    def words(self, listen="127.0.0.1:0", spool=None, sessions=None, proxies=None):
-        spool = spool or self.path("mcv.spool")
-        words = [self.program, "run", "--listen", listen, "--spool", spool]
-        words += ["--sessions", str(sessions)] if sessions else []
-        return words + (["--proxies", str(proxies)] if proxies else [])
+    def words(self, listen="127.0.0.1:0", spool=None, **numbers):
+        """The words of a run. A number is an option's, as server_timeout=200."""
+        words = [self.program, "run", "--listen", listen, "--spool", spool or self.path("mcv.spool")]
+        for name, number in numbers.items():
+            words += ["--" + name.replace("_", "-"), str(number)]
+        return words
 
     def config_file(self, config):
         path = self.path("config.json")
