@@ -98,7 +98,7 @@ read_in_range option least most rows n number (inr given) =
 pub not_unread : {E : Type 0} (G : List ℕ → Result ℕ E → Type 0) (option : Text) (least most : ℕ) (rows : List Row) (e : E) → ReadsNumbers G
     → (one_of option rows ≡ None → ◌≡◌ {A = Result (Option ℕ) E} (Err e) (Ok None)) → ((t : List ℕ) → one_of option rows ≡ Some t → TriesOne G t (Err e))
     → MayBeGivenIn option least most rows → ⊥
-not_unread {E} G option least most rows e only none read (inl no) = let never : ◌≡◌ {A = Result (Option ℕ) E} (Err e) (Ok None) = none no in cc
+not_unread {E} G option least most rows e only none read (inl left_out) = let never : ◌≡◌ {A = Result (Option ℕ) E} (Err e) (Ok None) = none left_out in cc
 not_unread G option least most rows e only none read (inr given) =
     let number = given.1 in
     only number.0 (Err e) (read number.0 number.1) (number.2, subst (λ (n : ℕ). n < 2 ^ 64) number.3 given.4)
@@ -115,8 +115,8 @@ may_be_given_in option least most rows (inr has) = inr (given_in option least mo
 
 pub can_run : (rows : List Row) → HasAll rows → CanRun rows
 can_run rows has = record {
-  listen = subst (λ (o : Option Text). IsSome o) (sym has.listen.1) tt;
-  spool = subst (λ (o : Option Text). IsSome o) (sym has.spool.1) tt;
+  listen = subst (λ (o : Option Text). IsSome o) (sym has.listen.1) refl;
+  spool = subst (λ (o : Option Text). IsSome o) (sym has.spool.1) refl;
   sessions = may_be_given_in (codes "sessions") 1 session_limit rows has.sessions;
   proxies = given_in (codes "proxies") 1 proxy_limit rows has.proxies;
   server_timeout = may_be_given_in (codes "server-timeout") 1 timeout_limit rows has.server_timeout;

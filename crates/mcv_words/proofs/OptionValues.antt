@@ -423,12 +423,12 @@ run_help : IsTame run (with_index 1 (filled help_rule))
 run_help values rows none good = absurd (no_help values rows none)
 
 -- the option has a value that the parser of such numbers takes
-abbrev pub HasNumber : (option : Text) → (least most : ℕ) → List Row → Type 0
-HasNumber option least most rows = (text : Text) × (one_of option rows ≡ Some text) × Passes (parsers.Unsigned least most) text
+abbrev pub HasNumber : (name : Text) → (least most : ℕ) → List Row → Type 0
+HasNumber name least most rows = (text : Text) × (one_of name rows ≡ Some text) × Passes (parsers.Unsigned least most) text
 
 -- it has none, or one of these
-abbrev pub MayHaveNumber : (option : Text) → (least most : ℕ) → List Row → Type 0
-MayHaveNumber option least most rows = (one_of option rows ≡ None) ⊎ HasNumber option least most rows
+abbrev pub MayHaveNumber : (name : Text) → (least most : ℕ) → List Row → Type 0
+MayHaveNumber name least most rows = (one_of name rows ≡ None) ⊎ HasNumber name least most rows
 
 -- the values of the options of `run`
 pub record HasAll (rows : List Row) : Type 0 where

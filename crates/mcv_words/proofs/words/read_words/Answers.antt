@@ -44,10 +44,10 @@ returns-in_default-run_job-clause-fault c =
     let none = sym (ap (λ (a : App). fault_of a words) c.in_ok-command.ensures) ∙ c.in-Ok.ensures.kinds (ap is_simple_and_free c.in_ok-command.ensures ∙ free) in
     let found = found_of c.in-Some-subcommand_matches.found.now in
     let run = sym held ∙ named_rows c.in-Ok.matches (codes "run") (rows_of found) (c.in-Some-subcommand_matches.ensures.found.0 refl) c.in-Some-subcommand_matches.ensures.rows in
-    absurd (c.in_default-run_job.ensures.ok (can_run (rows_of found) (run_values words (rows_of found) none run)))
+    absurd (true≢false (sym (c.in_default-run_job.ensures.ok (can_run (rows_of found) (run_values words (rows_of found) none run)))))
 
-pub returns-in-Ok-run_job-clause-job : goal.returns-in-Ok-run_job-clause-job
-returns-in-Ok-run_job-clause-job c =
+pub returns-in-Some-subcommand_matches-clause-job : goal.returns-in-Some-subcommand_matches-clause-job
+returns-in-Some-subcommand_matches-clause-job c =
     let words : List Text = map (λ w. w.now) c.args.words.now in
     let held = (c.in-Ok.ensures.matches (ap is_simple c.in_ok-command.ensures ∙ simple)).1 ∙ ap (λ (a : App). subcommand_of a words) c.in_ok-command.ensures in
     let none = sym (ap (λ (a : App). fault_of a words) c.in_ok-command.ensures) ∙ c.in-Ok.ensures.kinds (ap is_simple_and_free c.in_ok-command.ensures ∙ free) in

@@ -1,0 +1,31 @@
+use Rattle.std.proofs.Common.{◌≡◌, ◌∙◌, None, Option, codes, subst, sym}
+use Rattle.std.specs.Prelude.{IsSome}
+use Rattle.clap.specs.Words.{Text, first_of, found_of, rows_of}
+use Rattle.clap.proofs.WalkLemmas.{first_value-rows}
+use Rattle.mcv_words.proofs.words.run_job.Goals as goal
+
+pub returns-in_default-clause-ok : goal.returns-in_default-clause-ok
+returns-in_default-clause-ok c can =
+    let found = found_of c.args.found.now in
+    let none : None ≡ first_of (codes "listen") (rows_of found) = c.in_default.ensures ∙ first_value-rows found (codes "listen") in
+    subst (λ (o : Option Text). IsSome o) (sym none) can.listen
+
+pub returns-in_default-get_str-clause-ok : goal.returns-in_default-get_str-clause-ok
+returns-in_default-get_str-clause-ok c can =
+    let found = found_of c.args.found.now in
+    let none : None ≡ first_of (codes "spool") (rows_of found) = c.in_default-get_str.ensures ∙ first_value-rows found (codes "spool") in
+    subst (λ (o : Option Text). IsSome o) (sym none) can.spool
+
+pub returns-clause-job : goal.returns-clause-job
+returns-clause-job c =
+    let found = found_of c.args.found.now in
+    record {
+      listen = sym (c.in-Some.ensures ∙ first_value-rows found (codes "listen"));
+      spool = sym (c.in-Some-get_str.ensures ∙ first_value-rows found (codes "spool"));
+      settings = record {
+        sessions = c.in_ok-sessions.ensures.number;
+        proxies = rw c.in-Some-2.is at c.in_ok-proxies.ensures.number;
+        server_timeout = c.in_ok-server_timeout.ensures.number;
+        client_timeout = c.in_ok-client_timeout.ensures.number;
+      };
+    }
