@@ -169,8 +169,7 @@ impl<D: Dial, N: Notices> TcpLink<D, N> {
             return self.ask_anew(leg, text.as_slice(), until);
         };
         match self.finish(written, leg) {
-            Err(loss) if may_ask_again(leg.op, loss) =>
-                self.ask_anew(leg, text.as_slice(), until),
+            Err(loss) if may_ask_again(leg.op, loss) => self.ask_anew(leg, text.as_slice(), until),
             outcome => outcome,
         }
     }

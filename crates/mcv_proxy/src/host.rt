@@ -236,7 +236,14 @@ where
     say_ready(&rt, ready)?;
     let mut running = running;
     accept(
-        rt, alloc, shared, &links, passes, &clients, &mut watch, &mut running,
+        rt,
+        alloc,
+        shared,
+        &links,
+        passes,
+        &clients,
+        &mut watch,
+        &mut running,
     );
     running.gather(&rt)
 }

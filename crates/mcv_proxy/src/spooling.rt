@@ -244,7 +244,11 @@ pub fn serve_spool<B: Ledger, T: Ledger, D: Disk, W: Watch, R: Wait + Clock>(
                 if refused && ends.are_asked() {
                     return;
                 }
-                until = if refused { asked_again(rt, watch) } else { None };
+                until = if refused {
+                    asked_again(rt, watch)
+                } else {
+                    None
+                };
             }
             Task::Ring => agenda.ring_all(),
             Task::End => return,

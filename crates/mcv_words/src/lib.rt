@@ -6,7 +6,5 @@ mod help;
 mod options;
 mod words;
 
-pub use options::{
-    ClientTimeout, InRange, Proxies, RunOptions, ServerTimeout, Sessions, Settings,
-};
+pub use options::{ClientTimeout, InRange, Proxies, RunOptions, ServerTimeout, Sessions, Settings};
 pub use words::{Job, LineFault, read_words};

@@ -6,7 +6,9 @@ ghost use Rattle.mcv_words.specs.Ranges.{proxy_limit, session_limit, timeout_lim
 /// A number that an option takes.
 pub trait InRange: Drop + Sized {
     ghost least: { ℕ };
+
     ghost most: { ℕ };
+
     ghost value: { Self → ℕ };
 
     /// This number; None where it is out of range.
@@ -24,7 +26,9 @@ pub struct Sessions {
 
 impl InRange for Sessions {
     ghost least = { 1 };
+
     ghost most = { session_limit };
+
     ghost value = { λ sessions. sessions.count };
 
     fn new(number: u64) -> Option<Sessions> {
@@ -44,7 +48,9 @@ pub struct Proxies {
 
 impl InRange for Proxies {
     ghost least = { 1 };
+
     ghost most = { proxy_limit };
+
     ghost value = { λ proxies. proxies.count };
 
     fn new(number: u64) -> Option<Proxies> {
@@ -64,7 +70,9 @@ pub struct ServerTimeout {
 
 impl InRange for ServerTimeout {
     ghost least = { 1 };
+
     ghost most = { timeout_limit };
+
     ghost value = { λ timeout. timeout.millis };
 
     fn new(number: u64) -> Option<ServerTimeout> {
@@ -84,7 +92,9 @@ pub struct ClientTimeout {
 
 impl InRange for ClientTimeout {
     ghost least = { 1 };
+
     ghost most = { timeout_limit };
+
     ghost value = { λ timeout. timeout.millis };
 
     fn new(number: u64) -> Option<ClientTimeout> {

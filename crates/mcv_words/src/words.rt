@@ -25,13 +25,9 @@ use thiserror::Error;
 #[derive(Clone, Copy, Debug, PartialEq, Eq)]
 pub enum Job<'a> {
     /// To show the legs of a request that comes at a moment.
-    Legs {
-        at: Moment,
-    },
+    Legs { at: Moment },
     /// To judge a configuration, by the certificate in the file of this name where one is given.
-    Check {
-        cert: Option<&'a str>,
-    },
+    Check { cert: Option<&'a str> },
     /// To serve clients.
     Run(RunOptions<'a>),
 }
