@@ -1,0 +1,84 @@
+//! What a certificate compared, in numbers.
+
+ghost use Rattle.std.specs.Prelude.{◌≡◌, ◌++◌, ℕ, List, None, OnOk, map, option_map};
+ghost use Rattle.mcv_cert.specs.Pair.{pair_of};
+ghost use Rattle.mcv_cert.specs.Place.{place_of};
+ghost use Rattle.mcv_explain.specs.Compared.{class_count, compared, is_as_before, is_same_class, is_same_leaf, leaf_count};
+ghost use Rattle.mcv_route.specs.Eras.{IsBreakTable, breaks_of};
+
+use mcv_base::push_number;
+use mcv_cert::{Certificate, Pair, Place};
+use mcv_route::Routes;
+use std::alloc::AllocError;
+
+/// Adds the sentence that says what a certificate compared. On an error part of it may be there.
+pub fn push_compared(
+    text: &mut Vec<u8>,
+    routes: &Routes,
+    certificate: &Certificate,
+) -> Result<(), AllocError>
+    ensures { OnOk result ((table : List ℕ) × IsBreakTable (breaks_of routes.now) table
+        × (text.new.items ≡ text.old.items ++ compared certificate.now table)) }
+{
+    let pairs = certificate.pairs();
+    let breaks = routes.breaks();
+    text.extend_from_slice(b"\nCompared: ")?;
+    push_number(text, leaf_count(pairs))?;
+    text.extend_from_slice(b" readable leaves, in ")?;
+    push_number(text, class_count(pairs))?;
+    text.extend_from_slice(b" classes and ")?;
+    push_number(text, breaks.len() + 1)?;
+    text.extend_from_slice(b" eras, a leaf counted once for each class and era.\n")
+}
+
+/// Whether the two places are of one route and class.
+fn is_same_class(place: &Place, other: &Place) -> bool
+    ensures { result ≡ is_same_class (place_of place.now).spot (place_of other.now).spot }
+{
+    place.route == other.route && place.class.as_slice() == other.class.as_slice()
+}
+
+/// Whether the two are one place.
+fn is_same_leaf(place: &Place, other: &Place) -> bool
+    ensures { result ≡ is_same_leaf (place_of place.now) (place_of other.now) }
+{
+    is_same_class(place, other) && place.era == other.era && place.leaf.is(&other.leaf)
+}
+
+/// How many leaves there are, each counted once for each class and era; the pairs are sorted.
+fn leaf_count(pairs: &[Pair]) -> usize
+    ensures { result ≡ leaf_count (map pair_of pairs.now) }
+{
+    let mut count = 0;
+    let mut before: Option<&Place> = None;
+    for pair in pairs {
+        let is_new = match before {
+            Some(place) => !is_same_leaf(place, &pair.place),
+            None => true,
+        };
+        if is_new {
+            count += 1;
+        }
+        before = Some(&pair.place);
+    }
+    count
+}
+
+/// How many classes there are, those of each route; the pairs are sorted.
+fn class_count(pairs: &[Pair]) -> usize
+    ensures { result ≡ class_count (map pair_of pairs.now) }
+{
+    let mut count = 0;
+    let mut before: Option<&Place> = None;
+    for pair in pairs {
+        let is_new = match before {
+            Some(place) => !is_same_class(place, &pair.place),
+            None => true,
+        };
+        if is_new {
+            count += 1;
+        }
+        before = Some(&pair.place);
+    }
+    count
+}
