@@ -13,3 +13,4 @@ mod sentences;
 pub use compared::push_compared;
 pub use explanation::push_explanation;
 pub use scene::Scene;
+pub use sentences::outcome_word;

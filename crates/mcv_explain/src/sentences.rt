@@ -110,7 +110,8 @@ pub(crate) fn push_era(text: &mut Vec<u8>, table: &[Moment], era: usize) -> Resu
 
 // ---- the legs
 
-fn outcome_word(op: Op, outcome: Outcome) -> &'static [u8]
+/// What a leg of an operation answers, in a word.
+pub fn outcome_word(op: Op, outcome: Outcome) -> &'static [u8]
     ensures { result.now ≡ outcome_word op outcome }
 {
     match outcome {

@@ -42,7 +42,7 @@ fn push_steps(pointer: &mut Vec<u8>, path: &[u8]) -> Result<(), AllocError>
 pub(crate) fn escaped_byte(high: u8, low: u8) -> u8
     ensures { result ≡ (digit_value high * 16 + digit_value low) % 256 }
 {
-    digit_value(high).wrapping_mul(16).wrapping_add(digit_value(low))
+    ((digit_value(high) as u16 * 16 + digit_value(low) as u16) % 256) as u8
 }
 
 fn digit_value(digit: u8) -> u8

@@ -1,0 +1,5 @@
+pub mod Drawn
+pub mod Markup
+pub mod Element
+pub mod Svg
+pub mod Dot

@@ -1,0 +1,21 @@
+//! A route's tree as a picture: SVG, or a graph for Graphviz.
+//!
+//! `elements` lists what is drawn, a box for each handle at its position (specs/Drawn.antt), with what the verdict marks.
+//! `svg` and `dot` are functions of that list (specs/Svg.antt, Dot.antt). What comes from the configuration is escaped
+//! (specs/Markup.antt).
+#![tactic(auto)]
+
+mod dot;
+mod element;
+mod elements;
+mod label;
+mod marks;
+mod markup;
+mod svg;
+
+pub use dot::dot;
+pub use element::Element;
+pub use elements::{Drawing, elements};
+pub use marks::Marks;
+pub use markup::texts_are_escaped;
+pub use svg::svg;

@@ -1,0 +1,14 @@
+//! A verdict as one JSON value.
+//!
+//! What it is of a finding, a certificate and a fault is in specs/, a file each; `docs/report.schema.json` is its schema.
+#![tactic(auto)]
+
+mod certificate;
+mod fault;
+mod finding;
+mod text;
+
+pub use certificate::covered_report;
+pub use fault::refused_report;
+pub use finding::lost_report;
+pub use text::report_text;
