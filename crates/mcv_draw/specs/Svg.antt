@@ -60,8 +60,8 @@ edge e row =
 abbrev pub edge_of : ElementValue → (row : ℕ) → List ℕ
 edge_of e row = if e.depth == 0 then [] else edge e row
 
-abbrev pub box : ElementValue → (row : ℕ) → List ℕ
-box e row =
+abbrev pub box_shape : ElementValue → (row : ℕ) → List ℕ
+box_shape e row =
     codes "<rect" ++ attribute (codes "x") (left_of e.depth) ++ attribute (codes "y") (top_of row) ++ attribute (codes "width") (text_width (box_text e))
     ++ codes " height=\"26\" rx=\"4\"" ++ fill e ++ stroke e ++ codes "/>\n"
 
@@ -73,10 +73,10 @@ caption e row =
 -- a folded element has its place in the text, and no box
 abbrev pub inside : ElementValue → Option ℕ → List ℕ
 inside e None = []
-inside e (Some row) = edge_of e row ++ box e row ++ caption e row
+inside e (Some row) = edge_of e row ++ box_shape e row ++ caption e row
 
-abbrev pub element : ElementValue → List ℕ
-element e = codes "<g id=\"" ++ identifier e ++ codes "\">\n" ++ inside e e.row ++ codes "</g>\n"
+abbrev pub element_text : ElementValue → List ℕ
+element_text e = codes "<g id=\"" ++ identifier e ++ codes "\">\n" ++ inside e e.row ++ codes "</g>\n"
 
 -- ---- the lines below the trees
 
@@ -109,4 +109,4 @@ head es rows notes =
 
 -- the trees have `rows` rows, and below them are the notes
 abbrev pub svg : List ElementValue → (rows : ℕ) → (notes : List (List ℕ)) → List ℕ
-svg es rows notes = head es rows notes ++ flat_map element es ++ notes_from rows notes ++ codes "</svg>\n"
+svg es rows notes = head es rows notes ++ flat_map element_text es ++ notes_from rows notes ++ codes "</svg>\n"

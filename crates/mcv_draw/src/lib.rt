@@ -5,17 +5,17 @@
 //! (specs/Markup.antt).
 #![tactic(auto)]
 
-mod dot;
 mod element;
-mod elements;
+mod graph;
 mod label;
+mod listing;
 mod marks;
 mod markup;
-mod svg;
+mod picture;
 
-pub use dot::dot;
 pub use element::Element;
-pub use elements::{Drawing, elements};
+pub use graph::dot;
+pub use listing::{Drawing, elements};
 pub use marks::Marks;
 pub use markup::texts_are_escaped;
-pub use svg::svg;
+pub use picture::svg;

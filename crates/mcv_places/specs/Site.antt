@@ -54,13 +54,16 @@ abbrev pub text_child : List ℕ → ℕ → Option Name
 text_child t k = option_map (λ x. named_child x.1 k) (cut t)
 
 -- child k where the value under `children` is a list, a text, or one route
+abbrev pub listed_in : ℕ → (pointer : List ℕ) → Data → Option Site
+listed_in k pointer null = Some (site_of (pointer, null))
+listed_in k pointer (boolean b) = Some (site_of (pointer, boolean b))
+listed_in k pointer (number n) = Some (site_of (pointer, number n))
+listed_in k pointer (string t) = Some (record { pointer = pointer; name = named_child t k })
+listed_in k pointer (array ds) = option_map (λ d. site_of (item_pointer pointer k, d)) (get_item k ds)
+listed_in k pointer (object ms) = Some (site_of (pointer, object ms))
+
 abbrev pub listed : ℕ → Found → Option Site
-listed k (pointer, null) = Some (site_of (pointer, null))
-listed k (pointer, boolean b) = Some (site_of (pointer, boolean b))
-listed k (pointer, number n) = Some (site_of (pointer, number n))
-listed k (pointer, string t) = Some (record { pointer = pointer; name = named_child t k })
-listed k (pointer, array ds) = option_map (λ d. site_of (item_pointer pointer k, d)) (get_item k ds)
-listed k (pointer, object ms) = Some (site_of (pointer, object ms))
+listed k f = listed_in k f.0 f.1
 
 -- the target of shadow k
 abbrev pub shadow_target : ℕ → Found → Option Site

@@ -7,7 +7,7 @@ ghost use Rattle.mcv_draw.specs.Svg.{identifier};
 
 use crate::element::Element;
 use crate::markup::push_dot;
-use crate::svg::{push_identifier, push_label};
+use crate::picture::{push_identifier, push_label};
 use mcv_base::{Position, push_number};
 use std::alloc::{AllocError, Global};
 

@@ -2,7 +2,7 @@ use Rattle.std.proofs.Common.{◌≡◌, ◌++◌, codes, map, take}
 use Rattle.std.specs.List.{flat_map}
 use Rattle.mcv_draw.specs.Dot.{dot_element}
 use Rattle.mcv_draw.specs.Element.{ElementValue, element_of}
-use Rattle.mcv_draw.proofs.dot.dot.Given as goal
+use Rattle.mcv_draw.proofs.graph.dot.Given as goal
 
 abbrev pub invariant-loop-element : goal.invariant-loop-element
 invariant-loop-element l =

@@ -2,7 +2,7 @@
 
 ghost use Rattle.std.specs.Prelude.{◌≡◌, ◌++◌, ◌<◌, ◌^◌, ◌+◌, IfOk, OnOk, length, map};
 ghost use Rattle.mcv_draw.specs.Element.{element_of};
-ghost use Rattle.mcv_draw.specs.Svg.{attribute, box, box_text, caption, edge_of, edge_word, element, fill, head, identifier, inside, left_of, note, notes_from, right_of, stroke, svg, tags, text_width, top_of, widest, widest_note};
+ghost use Rattle.mcv_draw.specs.Svg.{attribute, box_shape, box_text, caption, edge_of, edge_word, element_text, fill, head, identifier, inside, left_of, note, notes_from, right_of, stroke, svg, tags, text_width, top_of, widest, widest_note};
 
 use crate::element::Element;
 use crate::markup::push_xml;
@@ -221,7 +221,7 @@ fn push_edge(text: &mut Vec<u8>, element: &Element, row: u32) -> Result<(), Allo
 
 fn push_box(text: &mut Vec<u8>, element: &Element, row: u32, width: usize) -> Result<(), AllocError>
     requires { width ≡ text_width (box_text (element_of element.now)) }
-    ensures { OnOk result (text.new.items ≡ text.old.items ++ box (element_of element.now) row) }
+    ensures { OnOk result (text.new.items ≡ text.old.items ++ box_shape (element_of element.now) row) }
 {
     text.extend_from_slice(b"<rect")?;
     push_attribute(text, b"x", left_of(element.depth))?;
@@ -259,7 +259,7 @@ fn push_inside(alloc: Global, text: &mut Vec<u8>, element: &Element) -> Result<(
 }
 
 fn push_element(alloc: Global, text: &mut Vec<u8>, element: &Element) -> Result<(), AllocError>
-    ensures { OnOk result (text.new.items ≡ text.old.items ++ element (element_of element.now)) }
+    ensures { OnOk result (text.new.items ≡ text.old.items ++ element_text (element_of element.now)) }
 {
     text.extend_from_slice(b"<g id=\"")?;
     push_identifier(text, element)?;

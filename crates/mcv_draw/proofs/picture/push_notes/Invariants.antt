@@ -1,6 +1,6 @@
 use Rattle.std.proofs.Common.{◌≡◌, ◌++◌, ◌+◌, drop, map}
 use Rattle.mcv_draw.specs.Svg.{notes_from}
-use Rattle.mcv_draw.proofs.svg.push_notes.Given as goal
+use Rattle.mcv_draw.proofs.picture.push_notes.Given as goal
 
 -- what is written, and the notes that are left, are the whole
 abbrev pub invariant-loop-note : goal.invariant-loop-note
