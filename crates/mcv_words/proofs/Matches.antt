@@ -12,9 +12,9 @@ use Rattle.clap.specs.declared.parser.matches.ArgMatches.{ArgMatches}
 use Rattle.clap.specs.declared.parser.matches.ArgMatches.TheViews.{out-ArgMatches, out-SubCommand}
 use Rattle.clap.specs.declared.parser.matches.SubCommand.{SubCommand}
 use Rattle.clap.specs.Simple.{subcommand_rows}
-use Rattle.mcv_words.specs.Words.{faults, named, proxy_limit, session_limit, IsFaultOfKind, IsJobOf, IsLineFault, IsNumberOf, IsRunOf}
+use Rattle.mcv_words.specs.Words.{faults, named, proxy_limit, session_limit, IsCheckOf, IsDrawOf, IsFaultOfKind, IsJobOf, IsLineFault, IsNumberOf, IsRunOf}
 use Rattle.mcv_words.specs.declared.words.Job.{Job}
-use Rattle.mcv_words.specs.declared.words.Job.TheVariants.{Legs, Check, Run}
+use Rattle.mcv_words.specs.declared.words.Job.TheVariants.{Legs, Check, Draw, Run}
 use Rattle.mcv_words.proofs.OptionValues.{HasAll, Passes}
 use Rattle.mcv_words.specs.declared.words.LineFault.{LineFault}
 use Rattle.mcv_words.specs.declared.words.LineFault.TheVariants.{BadLine, Memory, Help, Version}
@@ -94,8 +94,23 @@ number_spelt option least most rows text is passes =
 -- the job of `run` that has the values of the words is what they ask for
 pub run_asked : (words : List Text) (rows : List Row) (job : Job) → faults words ≡ [] → named words ≡ Some (codes "run", rows) → HasAll rows → IsRunOf rows job → IsJobOf words job
 run_asked words rows (Legs at) none run has of = absurd of
-run_asked words rows (Check cert) none run has of = absurd of
+run_asked words rows (Check cert options) none run has of = absurd of
+run_asked words rows (Draw dot) none run has of = absurd of
 run_asked words rows (Run listen spool sessions proxies) none run has of =
     let ended = in_range (codes "sessions") 1 session_limit rows has.2 sessions has.6 has.7 of.2 in
     let beside = in_range (codes "proxies") 1 proxy_limit rows has.3 proxies has.8 has.9 of.3 in
     (none, rows, run, of, ended.0, ended.1, beside.0, beside.1)
+
+-- the job of `check` that has the values of the words is what they ask for
+pub check_asked : (words : List Text) (rows : List Row) (job : Job) → faults words ≡ [] → named words ≡ Some (codes "check", rows) → IsCheckOf rows job → IsJobOf words job
+check_asked words rows (Legs at) none check of = absurd of
+check_asked words rows (Check cert options) none check of = (none, rows, check, of)
+check_asked words rows (Draw dot) none check of = absurd of
+check_asked words rows (Run listen spool sessions proxies) none check of = absurd of
+
+-- the job of `draw` that has the values of the words is what they ask for
+pub draw_asked : (words : List Text) (rows : List Row) (job : Job) → faults words ≡ [] → named words ≡ Some (codes "draw", rows) → IsDrawOf rows job → IsJobOf words job
+draw_asked words rows (Legs at) none draw of = absurd of
+draw_asked words rows (Check cert options) none draw of = absurd of
+draw_asked words rows (Draw dot) none draw of = (none, rows, draw, of)
+draw_asked words rows (Run listen spool sessions proxies) none draw of = absurd of

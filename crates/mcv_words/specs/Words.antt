@@ -1,14 +1,16 @@
 -- What the words of a command line ask for. The words are those of the shell, the program's name
 -- first; how they are read is clap's: `fault_of` lists the kinds of fault that it finds with words,
 -- and `subcommand_of` the subcommand that they name.
-use Rattle.std.specs.Prelude.{◌≡◌, ◌≢◌, ◌≤◌, ◌⊎◌, ⊤, ℕ, true, List, [], ◌∷◌, Option, Some, codes, option_map}
+use Rattle.std.specs.Prelude.{◌≡◌, ◌≢◌, ◌≤◌, ◌⊎◌, ⊤, ℕ, Bool, true, false, List, [], ◌∷◌, Option, Some, None, codes, option_map}
 use Rattle.std.specs.Str.Parse.{IsNumeral, digits_value, without_leading_plus}
 use Rattle.clap.specs.Words.{App, IsAmong, Kinds, Row, Rule, Text, fault_of, first_of, new_app, new_rule, one_of, subcommand_of, with_rule, with_subcommand}
 use Rattle.clap.specs.declared.builder.value_parser.ValueParser.TheVariants as parsers
 use Rattle.clap.specs.declared.error.kind.ErrorKind.{ErrorKind}
 use Rattle.clap.specs.declared.error.kind.ErrorKind.TheVariants.{DisplayHelp, DisplayVersion, OutOfMemory}
+use Rattle.clap.specs.declared.builder.action.ArgAction.TheVariants.{SetTrue}
+use Rattle.mcv_words.specs.declared.words.CheckOptions.{CheckOptions}
 use Rattle.mcv_words.specs.declared.words.Job.{Job}
-use Rattle.mcv_words.specs.declared.words.Job.TheVariants.{Legs, Check, Run}
+use Rattle.mcv_words.specs.declared.words.Job.TheVariants.{Legs, Check, Draw, Run}
 use Rattle.mcv_words.specs.declared.words.LineFault.{LineFault}
 use Rattle.mcv_words.specs.declared.words.LineFault.TheVariants.{BadLine, Memory, Help, Version}
 
@@ -36,9 +38,24 @@ legs_app = with_rule (new_app (codes "legs")) at_rule
 abbrev pub cert_rule : Rule
 cert_rule = option_rule (codes "cert")
 
--- `check [--cert FILE]`
+-- a flag, which takes no value
+abbrev pub flag_rule : Text → Rule
+flag_rule name = record (new_rule name) {
+  long = Some name;
+  action = Some SetTrue;
+}
+
+-- `-q`, `--quiet`
+abbrev pub quiet_rule : Rule
+quiet_rule = record (flag_rule (codes "quiet")) { short = Some 113 }
+
+-- `check [--cert FILE] [--explain] [--json] [-q]`
 abbrev pub check_app : App
-check_app = with_rule (new_app (codes "check")) cert_rule
+check_app = with_rule (with_rule (with_rule (with_rule (new_app (codes "check")) cert_rule) (flag_rule (codes "explain"))) (flag_rule (codes "json"))) quiet_rule
+
+-- `draw [--dot] [-q]`
+abbrev pub draw_app : App
+draw_app = with_rule (with_rule (new_app (codes "draw")) (flag_rule (codes "dot"))) quiet_rule
 
 -- `--listen ADDRESS`, `--spool FILE`: wanted
 abbrev pub listen_rule : Rule
@@ -81,9 +98,9 @@ with_version app = record app { top = record app.top { has_version = true } }
 abbrev pub wanting_a_command : App → App
 wanting_a_command app = record app { top = record app.top { subcommand_required = true } }
 
--- `mcv check [--cert FILE]`, `mcv legs [--at SECONDS]` and `mcv run --listen ADDRESS --spool FILE [--sessions N] [--proxies N]`; `mcv --version`
+-- `mcv check [--cert FILE] [--explain] [--json] [-q]`, `mcv draw [--dot] [-q]`, `mcv legs [--at SECONDS]` and `mcv run --listen ADDRESS --spool FILE [--sessions N] [--proxies N]`; `mcv --version`
 abbrev pub mcv_app : App
-mcv_app = with_subcommand (with_subcommand (with_subcommand (wanting_a_command (with_version (new_app (codes "mcv")))) check_app.top) legs_app.top) run_app.top
+mcv_app = with_subcommand (with_subcommand (with_subcommand (with_subcommand (wanting_a_command (with_version (new_app (codes "mcv")))) check_app.top) draw_app.top) legs_app.top) run_app.top
 
 -- ---- what words ask for
 
@@ -100,9 +117,23 @@ abbrev pub IsNumberOf : (option : Text) → List Row → ℕ → Type 0
 IsNumberOf option rows n = (text : Text) × (one_of option rows ≡ Some text) × IsNumeral 10 (without_leading_plus text)
     × (n ≡ digits_value 10 (without_leading_plus text))
 
--- clap takes the words, and they name the command `check` with this value of `--cert`, or none
-abbrev pub AsksCheck : List Text → Option Text → Type 0
-AsksCheck words cert = (faults words ≡ []) × (rows : List Row) × (named words ≡ Some (codes "check", rows)) × (cert ≡ first_of (codes "cert") rows)
+-- whether a flag is given: clap reads it as `true`, and as `false` where it isn't
+abbrev pub IsFlag : (flag : Text) → List Row → Bool → Type 0
+IsFlag flag rows b =
+    (one_of flag rows ≡ Some (codes "true") → b ≡ true) × (one_of flag rows ≡ Some (codes "false") → b ≡ false) × (one_of flag rows ≡ None → b ≡ false)
+
+-- the value of `--cert`, or none, and whether `--explain`, `--json` and `-q` are given
+abbrev pub HasCheckValues : List Row → Option Text → CheckOptions → Type 0
+HasCheckValues rows cert options = (cert ≡ first_of (codes "cert") rows) × IsFlag (codes "explain") rows options.explain
+    × IsFlag (codes "json") rows options.json × IsFlag (codes "quiet") rows options.quiet
+
+-- clap takes the words, and they name the command `check` with these values
+abbrev pub AsksCheck : List Text → Option Text → CheckOptions → Type 0
+AsksCheck words cert options = (faults words ≡ []) × (rows : List Row) × (named words ≡ Some (codes "check", rows)) × HasCheckValues rows cert options
+
+-- clap takes the words, and they name the command `draw`, with `--dot` or without
+abbrev pub AsksDraw : List Text → Bool → Type 0
+AsksDraw words dot = (faults words ≡ []) × (rows : List Row) × (named words ≡ Some (codes "draw", rows)) × IsFlag (codes "dot") rows dot
 
 -- the values of `--listen`, `--spool`, `--sessions` and `--proxies`
 abbrev pub HasRunValues : List Row → (listen spool : Text) → (sessions proxies : ℕ) → Type 0
@@ -114,15 +145,31 @@ abbrev pub AsksRun : List Text → (listen spool : Text) → (sessions proxies :
 AsksRun words listen spool sessions proxies = (faults words ≡ []) × (rows : List Row) × (named words ≡ Some (codes "run", rows))
     × HasRunValues rows listen spool sessions proxies × (1 ≤ sessions) × (sessions ≤ session_limit) × (1 ≤ proxies) × (proxies ≤ proxy_limit)
 
+-- the job of `check` with these values
+abbrev pub IsCheckOf : List Row → Job → Type 0
+IsCheckOf rows (Legs at) = ⊥
+IsCheckOf rows (Check cert options) = HasCheckValues rows (option_map (λ name. name.now) cert) options
+IsCheckOf rows (Draw dot) = ⊥
+IsCheckOf rows (Run listen spool sessions proxies) = ⊥
+
+-- the job of `draw` with these values
+abbrev pub IsDrawOf : List Row → Job → Type 0
+IsDrawOf rows (Legs at) = ⊥
+IsDrawOf rows (Check cert options) = ⊥
+IsDrawOf rows (Draw dot) = IsFlag (codes "dot") rows dot
+IsDrawOf rows (Run listen spool sessions proxies) = ⊥
+
 -- the job of `run` with these values
 abbrev pub IsRunOf : List Row → Job → Type 0
 IsRunOf rows (Legs at) = ⊥
-IsRunOf rows (Check cert) = ⊥
+IsRunOf rows (Check cert options) = ⊥
+IsRunOf rows (Draw dot) = ⊥
 IsRunOf rows (Run listen spool sessions proxies) = HasRunValues rows listen.now spool.now sessions proxies
 
 -- clap takes the words, and they name the job's command with the values that the job has
 abbrev pub IsJobOf : List Text → Job → Type 0
-IsJobOf words (Check cert) = AsksCheck words (option_map (λ name. name.now) cert)
+IsJobOf words (Check cert options) = AsksCheck words (option_map (λ name. name.now) cert) options
+IsJobOf words (Draw dot) = AsksDraw words dot
 IsJobOf words (Legs at) = (faults words ≡ []) × (rows : List Row) × (named words ≡ Some (codes "legs", rows)) × IsNumberOf (codes "at") rows at.0
 IsJobOf words (Run listen spool sessions proxies) = AsksRun words listen.now spool.now sessions proxies
 

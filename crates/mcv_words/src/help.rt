@@ -72,6 +72,28 @@ pub(crate) const CHECK_ABOUT: &str = "Decides whether a configuration can lose a
 
 pub(crate) const CERT: &str = "A certificate in place of one that mcv makes";
 
+pub(crate) const EXPLAIN: &str = "The finding in sentences behind its text";
+
+pub(crate) const JSON: &str = "The verdict as JSON, a fault of the configuration too";
+
+pub(crate) const QUIET: &str = "One line on standard error for a fault, in place of two";
+
+pub(crate) const DOT: &str = "A graph for Graphviz in place of SVG";
+
+pub(crate) const DRAW_ABOUT: &str = "Draws the routes of a configuration, with what `check` finds";
+
+pub(crate) const DRAW_FORM: &str =
+    "Standard input has the configuration as JSON. Standard output has its routes as
+one picture, SVG by itself: a box for each handle, with the servers of a pool.
+
+  mcv draw < mcrouter.json > mcrouter.svg
+
+Of a configuration that can lose a delete the legs of the finding's get and
+delete are drawn thick, the leaf whose server is lost is marked, and the finding
+stands below. Of a covered one the leaves that can be read are marked, and the
+legs of deletes that its certificate names. Handles with more than 60 children
+are folded. The exit status is 0 in both cases.";
+
 pub(crate) const CHECK_FORM: &str =
     "Standard input has the configuration as JSON; `mcv legs --help` says which route
 handles are read. A configuration is covered if at each moment at which a delete

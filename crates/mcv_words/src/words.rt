@@ -4,19 +4,30 @@
 ghost use Rattle.std.specs.Prelude.{◌≡◌, ◌<◌, ◌^◌, ℕ, false, IfOk, IfErr, IfSome, IsSome, map};
 ghost use Rattle.clap.specs.Words.{Text, app_of, found_of, kind_of, rows_of, rule_of};
 ghost use Rattle.clap.specs.declared.builder.command.Command.TheViews.{out-Command as fields_of};
-ghost use Rattle.mcv_words.specs.Words.{at_rule, cert_rule, check_app, legs_app, listen_rule, mcv_app, proxies_rule, run_app, sessions_rule, spool_rule, line_fault_number, HasRunValues, IsFaultOfKind, IsJobOf, IsLineFault, IsRunOf};
+ghost use Rattle.mcv_words.specs.Words.{at_rule, cert_rule, check_app, draw_app, flag_rule, legs_app, listen_rule, mcv_app, proxies_rule, quiet_rule, run_app, sessions_rule, spool_rule, line_fault_number, HasRunValues, IsCheckOf, IsDrawOf, IsFaultOfKind, IsJobOf, IsLineFault, IsRunOf};
 ghost use Rattle.mcv_words.specs.declared.words.LineFault.TheVariants.{Memory as out_of_memory};
 
 use crate::help::{
-    ABOUT, AT, CERT, CHECK_ABOUT, CHECK_FORM, EXAMPLE, LEGS_ABOUT, LEGS_FORM, LISTEN, PROXIES,
-    RUN_ABOUT, RUN_FORM, SESSIONS, SPOOL,
+    ABOUT, AT, CERT, CHECK_ABOUT, CHECK_FORM, DOT, DRAW_ABOUT, DRAW_FORM, EXAMPLE, EXPLAIN, JSON,
+    LEGS_ABOUT, LEGS_FORM, LISTEN, PROXIES, QUIET, RUN_ABOUT, RUN_FORM, SESSIONS, SPOOL,
 };
 use clap::builder::ValueParser;
 use clap::error::ErrorKind;
-use clap::{Arg, ArgMatches, Command, Error as ClapError, value_parser};
+use clap::{Arg, ArgAction, ArgMatches, Command, Error as ClapError, value_parser};
 use mcv_base::Moment;
 use std::alloc::{AllocError, Global};
 use thiserror::Error;
+
+/// How a verdict is to be shown.
+#[derive(Clone, Copy, Debug, PartialEq, Eq)]
+pub struct CheckOptions {
+    /// With an explanation behind it.
+    pub explain: bool,
+    /// As a report in JSON in place of its text.
+    pub json: bool,
+    /// Without the second line that says more of a fault.
+    pub quiet: bool,
+}
 
 /// What the program is asked to do.
 #[derive(Clone, Copy, Debug, PartialEq, Eq)]
@@ -25,9 +36,14 @@ pub enum Job<'a> {
     Legs {
         at: Moment,
     },
-    /// To judge a configuration, by the certificate in the file of this name where one is given.
+    /// To judge a configuration, by the certificate in the file of this name where one is given, and to show the verdict so.
     Check {
         cert: Option<&'a str>,
+        options: CheckOptions,
+    },
+    /// To draw the routes of a configuration, for Graphviz or as SVG.
+    Draw {
+        dot: bool,
     },
     /// To serve clients at the address, with the spool in the file of this name, until so many sessions have ended, by so
     /// many proxies side by side.
@@ -109,15 +125,48 @@ fn cert_option<'a>(alloc: Global) -> Arg<'a>
         .help(CERT)
 }
 
+/// A flag by its name.
+fn flag<'a>(alloc: Global, name: &'static str, help: &'static str) -> Arg<'a>
+    ensures rule { rule_of result ≡ flag_rule name.now }
+    ensures local { result.global ≡ false }
+{
+    Arg::new(alloc, name)
+        .long(name)
+        .action(ArgAction::SetTrue)
+        .help(help)
+}
+
+fn quiet_flag<'a>(alloc: Global) -> Arg<'a>
+    ensures rule { rule_of result ≡ quiet_rule }
+    ensures local { result.global ≡ false }
+{
+    flag(alloc, "quiet", QUIET).short('q')
+}
+
 fn check_command<'a>(alloc: Global) -> Result<Command<'a>, AllocError>
     ensures app { IfOk result (λ c. app_of c ≡ check_app) }
     ensures local { IfOk result (λ c. (fields_of c).has_globals ≡ false) }
 {
     Command::new(alloc, "check")
         .about(CHECK_ABOUT)
-        .override_usage("mcv check [--cert FILE] < FILE")
+        .override_usage("mcv check [--cert FILE] [--explain] [--json] [-q] < FILE")
         .after_help(CHECK_FORM)
-        .arg(cert_option(alloc))
+        .arg(cert_option(alloc))?
+        .arg(flag(alloc, "explain", EXPLAIN))?
+        .arg(flag(alloc, "json", JSON))?
+        .arg(quiet_flag(alloc))
+}
+
+fn draw_command<'a>(alloc: Global) -> Result<Command<'a>, AllocError>
+    ensures app { IfOk result (λ c. app_of c ≡ draw_app) }
+    ensures local { IfOk result (λ c. (fields_of c).has_globals ≡ false) }
+{
+    Command::new(alloc, "draw")
+        .about(DRAW_ABOUT)
+        .override_usage("mcv draw [--dot] [-q] < FILE")
+        .after_help(DRAW_FORM)
+        .arg(flag(alloc, "dot", DOT))?
+        .arg(quiet_flag(alloc))
 }
 
 fn listen_option<'a>(alloc: Global) -> Arg<'a>
@@ -184,6 +233,7 @@ fn command<'a>(alloc: Global) -> Result<Command<'a>, AllocError>
     ensures { IfOk result (λ c. app_of c ≡ mcv_app) }
 {
     let check = check_command(alloc)?;
+    let draw = draw_command(alloc)?;
     let legs = legs_command(alloc)?;
     let run = run_command(alloc)?;
     Command::new(alloc, "mcv")
@@ -193,6 +243,7 @@ fn command<'a>(alloc: Global) -> Result<Command<'a>, AllocError>
         .subcommand_required(true)
         .bin_name("mcv")?
         .subcommand(check)?
+        .subcommand(draw)?
         .subcommand(legs)?
         .subcommand(run)
 }
@@ -210,6 +261,32 @@ fn line_fault(alloc: Global, error: &ClapError) -> LineFault
         ErrorKind::DisplayVersion => LineFault::Version,
         _ => LineFault::BadLine,
     }
+}
+
+/// The job of `check`, by what clap found for its options.
+fn check_job<'a>(found: &ArgMatches<'a>) -> Job<'a>
+    ensures { IsCheckOf (rows_of (found_of found.now)) result }
+{
+    let cert = found.get_str("cert");
+    let explain = found.get_flag("explain");
+    let json = found.get_flag("json");
+    let quiet = found.get_flag("quiet");
+    Job::Check {
+        cert,
+        options: CheckOptions {
+            explain,
+            json,
+            quiet,
+        },
+    }
+}
+
+/// The job of `draw`, by what clap found for its options.
+fn draw_job<'a>(found: &ArgMatches<'a>) -> Job<'a>
+    ensures { IsDrawOf (rows_of (found_of found.now)) result }
+{
+    let dot = found.get_flag("dot");
+    Job::Draw { dot }
 }
 
 /// The job of `run`, by what clap found for its options.
@@ -241,8 +318,10 @@ pub fn read_words<'a>(alloc: Global, words: &'a [&'a str]) -> Result<Job<'a>, Li
         Err(error) => return Err(line_fault(alloc, &error)),
     };
     if let Some(found) = matches.subcommand_matches("check") {
-        let cert = found.get_str("cert");
-        return Ok(Job::Check { cert });
+        return Ok(check_job(found));
+    }
+    if let Some(drawing) = matches.subcommand_matches("draw") {
+        return Ok(draw_job(drawing));
     }
     if let Some(found) = matches.subcommand_matches("run") {
         let Some(job) = run_job(found) else {
