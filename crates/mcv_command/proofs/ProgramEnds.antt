@@ -1,5 +1,5 @@
 -- What the program did, by what the words asked for.
-use Rattle.std.proofs.Common.{◌≡◌, ◌≢◌, ◌∙◌, ap, inl, inr, ◌+◌, ◌<◌, ◌≤◌, ℕ, List, length, take, Option, None, Some, subst, sym, arith}
+use Rattle.std.proofs.Common.{◌≡◌, ◌≢◌, ◌∙◌, ap, inl, inr, ◌+◌, ◌<◌, ◌≤◌, ℕ, Bool, true, false, List, length, take, Option, None, Some, subst, sym, arith}
 use Rattle.std.specs.Prelude.{IfSome, MatchOption}
 use Rattle.std.proofs.lemmas.List.{length-take}
 use Rattle.std.proofs.lemmas.Option.{IfSome_then}
@@ -16,18 +16,25 @@ use Rattle.mcv_verdict.specs.declared.verdict.Verdict.TheVariants.{Covered, Lost
 use Rattle.mcv_command.specs.declared.stop.Stop.{Stop}
 use Rattle.mcv_command.specs.declared.stop.Stop.TheVariants.{BadLine, Run}
 use Rattle.mcv_command.specs.Program.{AsksAnyRun, Held, IfGiven, IsJudgingFault, IsStop}
-use Rattle.mcv_words.specs.Words.{AsksCheck}
+use Rattle.mcv_show.specs.Shown.{IsShownOn, IsVerdictAs, IsVerdictIf, is_plain}
+use Rattle.mcv_words.specs.Words.{AsksCheck, AsksDraw}
+use Rattle.mcv_words.specs.declared.words.CheckOptions.{CheckOptions}
 
 -- ---- the faults of a verdict, as the program's
 
-pub judging_stop : (words : List Text) (held : Held) (input : Option Text) (cert : Option Text) (stop : Stop) → AsksCheck words cert → IsJudgingFault held cert input stop
+pub judging_stop : (words : List Text) (held : Held) (input : Option Text) (cert : Option Text) (options : CheckOptions) (stop : Stop) → AsksCheck words cert options
+    → IsJudgingFault held cert input stop → IsStop words held input stop
+judging_stop words held input cert options BadLine asks holds = absurd holds
+judging_stop words held input cert options (Run fault) asks holds = inr (inr (inl (cert, options, asks, holds)))
+
+pub drawing_stop : (words : List Text) (held : Held) (input : Option Text) (dot : Bool) (stop : Stop) → AsksDraw words dot → IsJudgingFault held None input stop
     → IsStop words held input stop
-judging_stop words held input cert BadLine asks holds = absurd holds
-judging_stop words held input cert (Run fault) asks holds = inr (inr (inl (cert, asks, holds)))
+drawing_stop words held input dot BadLine asks holds = absurd holds
+drawing_stop words held input dot (Run fault) asks holds = inr (inr (inr (inl (dot, asks, holds))))
 
 pub running_stop : (words : List Text) (held : Held) (input : Option Text) (stop : Stop) → AsksAnyRun words → IsJudgingFault held None input stop → IsStop words held input stop
 running_stop words held input BadLine asks holds = absurd holds
-running_stop words held input (Run fault) asks holds = inr (inr (inr (asks, holds)))
+running_stop words held input (Run fault) asks holds = inr (inr (inr (inr (asks, holds))))
 
 -- a fault that is outside is out of memory or a device's
 pub outside_stop : (stop : Stop) (fault : RunFault) → stop ≡ Run fault → IsOutside fault → stop ≢ Run Device → stop ≢ Run Memory → ⊥
@@ -55,6 +62,22 @@ pub verdict_by_all : (input text first : List ℕ) (verdict : Verdict) (written 
     → IsVerdictOn input (Some text) verdict written
 verdict_by_all input text first (Covered n) written is on = (on.0, on.1, (on.2.0, says_all text first _ is on.2.1, on.2.2, on.2.3, on.2.4))
 verdict_by_all input text first Lost written is on = absurd on.2
+
+shown_by_all : (o : CheckOptions) (input text first : List ℕ) (verdict : Verdict) (written : List ℕ) → first ≡ take read_limit text → IsShownOn o input (Some first) verdict written
+    → IsShownOn o input (Some text) verdict written
+shown_by_all o input text first (Covered n) written is on =
+    let shown = on.6 in
+    (on.0, on.1, on.2, on.3, on.4, on.5, (shown.0, shown.1, says_all text first _ is shown.2, shown.3, shown.4))
+shown_by_all o input text first Lost written is on = absurd on.6
+
+-- the same as the options ask
+pub verdict_as_by_all : (o : CheckOptions) (input text first : List ℕ) (verdict : Verdict) (written : List ℕ) → first ≡ take read_limit text
+    → IsVerdictAs o input (Some first) verdict written → IsVerdictAs o input (Some text) verdict written
+verdict_as_by_all o input text first verdict written is on = go (is_plain o) on
+  where
+    go : (plain : Bool) → IsVerdictIf plain o input (Some first) verdict written → IsVerdictIf plain o input (Some text) verdict written
+    go true here = verdict_by_all input text first verdict written is here
+    go false here = shown_by_all o input text first verdict written is here
 
 pub fault_by_all : (input text first : List ℕ) (fault : RunFault) → first ≡ take read_limit text → check.IsRunFault input (Some first) fault → check.IsRunFault input (Some text) fault
 fault_by_all input text first Line is holds = holds

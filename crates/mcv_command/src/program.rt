@@ -1,7 +1,7 @@
 //! The program, over any reader and writer in place of standard input and output, any files and any proxy.
 
-ghost use Rattle.std.specs.Prelude.{◌≡◌, ◌≢◌, ◌≤◌, None, Some, IfErr, IfOk, map};
-ghost use Rattle.mcv_command.specs.Program.{AsksAnyRun, Held, IsDone, IsJudged, IsJudgingFault, IsServed, IsStop, ending_of};
+ghost use Rattle.std.specs.Prelude.{◌≡◌, ◌≢◌, ◌≤◌, None, Some, false, IfErr, IfOk, map};
+ghost use Rattle.mcv_command.specs.Program.{AsksAnyRun, AsksReport, Held, IsDone, IsDrawn, IsJudgedAs, IsJudgingFault, IsServed, IsStop, ending_of};
 ghost use Rattle.mcv_command.specs.declared.stop.Stop.TheVariants.{Run};
 ghost use Rattle.mcv_input.specs.declared.fault.RunFault.TheVariants.{Device, Memory};
 
@@ -10,8 +10,9 @@ use crate::proxy::Proxy;
 use crate::stop::{Ending, Stop};
 use mcv_input::{RunFault, write_text};
 use mcv_legs::run_legs;
-use mcv_verdict::{Judgement, Verdict, judge_input, run_check};
-use mcv_words::{Job, LineFault, read_words};
+use mcv_show::{run_check_as, run_draw};
+use mcv_verdict::{Judgement, Verdict, judge_input};
+use mcv_words::{CheckOptions, Job, LineFault, read_words};
 use std::alloc::Global;
 use std::io::{Read, Write};
 use std::sync::Arc;
@@ -29,31 +30,53 @@ fn ending_of(verdict: Verdict) -> Ending
     }
 }
 
-/// Judges a configuration by a certificate that is made here.
-fn judge<R: Read, W: Write>(alloc: Global, reader: &mut R, writer: &mut W) -> Result<Ending, Stop>
-    ensures done { (held : Held) → IfOk result (IsJudged held None (R.remaining reader.old) (W.contents writer.old) (W.contents writer.new)) }
+/// Judges a configuration by a certificate that is made here, and shows the verdict as the options ask.
+fn judge<R: Read, W: Write>(
+    alloc: Global,
+    options: CheckOptions,
+    reader: &mut R,
+    writer: &mut W,
+) -> Result<Ending, Stop>
+    ensures done { (held : Held) → IfOk result (IsJudgedAs options held None (R.remaining reader.old) (W.contents writer.old) (W.contents writer.new)) }
     ensures stop { (held : Held) → IfErr result (IsJudgingFault held None (R.remaining reader.old)) }
-    ensures silent { IfErr result (λ stop. stop ≢ Run Device → W.contents writer.new ≡ W.contents writer.old) }
+    ensures silent { options.json ≡ false → IfErr result (λ stop. stop ≢ Run Device → W.contents writer.new ≡ W.contents writer.old) }
 {
-    let verdict = run_check(alloc, reader, writer, None)?;
+    let verdict = run_check_as(alloc, reader, writer, None, options)?;
     Ok(ending_of(verdict))
 }
 
-/// Judges a configuration by the certificate in the file of this name, which is read first.
+/// Judges a configuration by the certificate in the file of this name, which is read first, and shows the verdict as the
+/// options ask.
 fn judge_by<R: Read, W: Write, F: NamedFiles>(
     alloc: Global,
     name: &str,
     files: &F,
+    options: CheckOptions,
     reader: &mut R,
     writer: &mut W,
 ) -> Result<Ending, Stop>
-    ensures done { IfOk result (IsJudged (F.held files.now) (Some name.now) (R.remaining reader.old) (W.contents writer.old) (W.contents writer.new)) }
+    ensures done { IfOk result (IsJudgedAs options (F.held files.now) (Some name.now) (R.remaining reader.old) (W.contents writer.old) (W.contents writer.new)) }
     ensures stop { IfErr result (IsJudgingFault (F.held files.now) (Some name.now) (R.remaining reader.old)) }
-    ensures silent { IfErr result (λ stop. stop ≢ Run Device → W.contents writer.new ≡ W.contents writer.old) }
+    ensures silent { options.json ≡ false → IfErr result (λ stop. stop ≢ Run Device → W.contents writer.new ≡ W.contents writer.old) }
 {
     let text = files.read_named(alloc, name, CERTIFICATE_LIMIT)?;
-    let verdict = run_check(alloc, reader, writer, Some(text.as_slice()))?;
+    let verdict = run_check_as(alloc, reader, writer, Some(text.as_slice()), options)?;
     Ok(ending_of(verdict))
+}
+
+/// Draws the routes of a configuration.
+fn draw<R: Read, W: Write>(
+    alloc: Global,
+    dot: bool,
+    reader: &mut R,
+    writer: &mut W,
+) -> Result<Ending, Stop>
+    ensures done { IfOk result (IsDrawn dot (R.remaining reader.old) (W.contents writer.old) (W.contents writer.new)) }
+    ensures stop { (held : Held) → IfErr result (IsJudgingFault held None (R.remaining reader.old)) }
+    ensures silent { IfErr result (λ stop. stop ≢ Run Device → W.contents writer.new ≡ W.contents writer.old) }
+{
+    let _verdict = run_draw(alloc, reader, writer, dot)?;
+    Ok(Ending::Done)
 }
 
 /// Judges a configuration, and has it served where it is covered; else the verdict is written.
@@ -94,7 +117,7 @@ fn serve<R: Read, W: Write, P: Proxy>(
 }
 
 /// Does what the words of a command line ask for, of which the first is the program's name: help,
-/// legs and verdicts are written to the writer, and so is what the proxy says of itself.
+/// legs, verdicts and pictures are written to the writer, and so is what the proxy says of itself.
 pub fn run_words<'a, R: Read, W: Write, F: NamedFiles, P: Proxy>(
     alloc: Global,
     words: &'a [&'a str],
@@ -107,15 +130,18 @@ pub fn run_words<'a, R: Read, W: Write, F: NamedFiles, P: Proxy>(
         (W.contents writer.old) (W.contents writer.new)) }
     ensures stop { IfErr result (IsStop (map (λ w. w.now) words.entry.now) (F.held files.now) (R.remaining reader.old)) }
     ensures silent { IfErr result (λ stop. stop ≢ Run Device → (stop ≡ Run Memory → ¬ AsksAnyRun (map (λ w. w.now) words.entry.now))
-        → W.contents writer.new ≡ W.contents writer.old) }
+        → ¬ AsksReport (map (λ w. w.now) words.entry.now) → W.contents writer.new ≡ W.contents writer.old) }
 {
     match read_words(alloc, words) {
         Ok(Job::Legs { at }) => {
             run_legs(alloc, reader, writer, at)?;
             Ok(Ending::Done)
         }
-        Ok(Job::Check { cert: None }) => judge(alloc, reader, writer),
-        Ok(Job::Check { cert: Some(name) }) => judge_by(alloc, name, files, reader, writer),
+        Ok(Job::Check { cert: None, options }) => judge(alloc, options, reader, writer),
+        Ok(Job::Check { cert: Some(name), options }) => {
+            judge_by(alloc, name, files, options, reader, writer)
+        }
+        Ok(Job::Draw { dot }) => draw(alloc, dot, reader, writer),
         Ok(
             Job::Run {
                 listen,

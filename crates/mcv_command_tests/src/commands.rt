@@ -6,7 +6,7 @@ use crate::devices::is_written;
 use mcv_check::Accepted;
 use mcv_command::{Ending, NamedFiles, Proxy, Stop, run_words};
 use mcv_input::{RunFault, read_at_most};
-use mcv_words::{Job, LineFault, read_words};
+use mcv_words::{CheckOptions, Job, LineFault, read_words};
 use std::alloc::Global;
 use std::io::Write;
 use std::process::Abort;
@@ -28,6 +28,15 @@ mcv check --cert=: check by
 mcv check --cert: bad line
 mcv check --cert a --cert b: bad line
 mcv check a.cert: bad line
+mcv check --explain: check, explained
+mcv check --json -q: check, as JSON, quietly
+mcv check --explain --cert a.cert: check by a.cert, explained
+mcv check --json --json: bad line
+mcv check --explain=yes: bad line
+mcv draw: draw
+mcv draw --dot: draw for Graphviz
+mcv draw --dot -q: draw for Graphviz
+mcv draw --svg: bad line
 mcv check --at 1: bad line
 mcv legs --cert a: bad line
 mcv run --listen h:1 --spool f: run h:1 f 1000000000 1
@@ -81,8 +90,12 @@ mcv version: bad line";
 fn job_text(rt: &(impl AllocGlobal + Abort), job: Job<'_>) -> String {
     let text = match job {
         Job::Legs { at } => format!(in rt.alloc(); "legs at {}", at.0),
-        Job::Check { cert: None } => format!(in rt.alloc(); "check"),
-        Job::Check { cert: Some(name) } => format!(in rt.alloc(); "check by {name}"),
+        Job::Check { cert: None, options } => format!(in rt.alloc(); "check{}", options_text(options)),
+        Job::Check { cert: Some(name), options } => {
+            format!(in rt.alloc(); "check by {name}{}", options_text(options))
+        }
+        Job::Draw { dot: true } => format!(in rt.alloc(); "draw for Graphviz"),
+        Job::Draw { dot: false } => format!(in rt.alloc(); "draw"),
         Job::Run {
             listen,
             spool,
@@ -91,6 +104,15 @@ fn job_text(rt: &(impl AllocGlobal + Abort), job: Job<'_>) -> String {
         } => format!(in rt.alloc(); "run {listen} {spool} {sessions} {proxies}"),
     };
     text.expect(rt, "memory")
+}
+
+fn options_text(options: CheckOptions) -> &'static str {
+    match (options.explain, options.json, options.quiet) {
+        (false, false, false) => "",
+        (true, false, false) => ", explained",
+        (false, true, true) => ", as JSON, quietly",
+        _ => ", otherwise",
+    }
 }
 
 fn fault_text(fault: &LineFault) -> &'static str {
@@ -230,7 +252,7 @@ const MAIN_PARTS: &[&str] = &[
 ];
 
 const CHECK_PARTS: &[&str] = &[
-    "Usage: mcv check [--cert FILE] < FILE",
+    "Usage: mcv check [--cert FILE] [--explain] [--json] [-q] < FILE",
     "--cert <FILE>",
     "\n  covered 1\n",
     "\n  lost b:11211\n",

@@ -1,5 +1,5 @@
 -- What is written of a verdict where options ask for more than its text: the explanation behind it, or the report in its place (own).
-use Rattle.std.specs.Prelude.{◌≡◌, ◌++◌, ℕ, Bool, true, false, List, [], Option, Some, None, codes, length}
+use Rattle.std.specs.Prelude.{◌≡◌, ◌++◌, ℕ, Bool, true, false, List, [], Option, Some, None, codes, length, not, ◌||◌}
 use Rattle.std.specs.List.{All}
 use Rattle.serde_json.specs.Data.{Data}
 use Rattle.serde_json.specs.Read.{read}
@@ -17,7 +17,7 @@ use Rattle.mcv_report.specs.FindingReport.{lost_report}
 use Rattle.mcv_route.specs.Eras.{IsBreakTable, breaks_of}
 use Rattle.mcv_route.specs.Routes.{RoutesValue}
 use Rattle.mcv_verdict.specs.Text.{covered_line}
-use Rattle.mcv_verdict.specs.Verdict.{AreCoveredBy, IsLossBy}
+use Rattle.mcv_verdict.specs.Verdict.{AreCoveredBy, IsLossBy, IsVerdictOn}
 use Rattle.mcv_verdict.specs.declared.verdict.Verdict.{Verdict}
 use Rattle.mcv_verdict.specs.declared.verdict.Verdict.TheVariants.{Covered, Lost}
 use Rattle.mcv_witness.specs.Finding.{FindingValue}
@@ -71,3 +71,17 @@ abbrev pub IsShownOn : CheckOptions → (input : List ℕ) → (certificate : Op
 IsShownOn o input certificate verdict text =
     (r : RoutesValue) × AreNamedBy input r × (d : Data) × IsDocument input d × (table : List ℕ) × IsBreakTable (breaks_of r) table
     × IsShownVerdict o d r certificate table verdict text
+
+-- ---- by the options
+
+-- the verdict's own text where neither an explanation nor the report is asked for
+abbrev pub is_plain : CheckOptions → Bool
+is_plain o = not (o.explain || o.json)
+
+abbrev pub IsVerdictIf : (plain : Bool) → CheckOptions → (input : List ℕ) → (certificate : Option (List ℕ)) → Verdict → (text : List ℕ) → Type 0
+IsVerdictIf true o input certificate verdict text = IsVerdictOn input certificate verdict text
+IsVerdictIf false o input certificate verdict text = IsShownOn o input certificate verdict text
+
+-- the text says the verdict on the input as the options ask
+abbrev pub IsVerdictAs : CheckOptions → (input : List ℕ) → (certificate : Option (List ℕ)) → Verdict → (text : List ℕ) → Type 0
+IsVerdictAs o input certificate verdict text = IsVerdictIf (is_plain o) o input certificate verdict text

@@ -1,5 +1,10 @@
 //! The picture of a configuration's routes, with what the verdict marks.
 
+ghost use Rattle.std.specs.Prelude.{◌≡◌, ◌≢◌, ℕ, List, None, IfErr, IfOk, IfSome};
+ghost use Rattle.std.specs.Io.KnownBytes.{Appends};
+ghost use Rattle.mcv_show.specs.Drawing.{IsDrawnOn};
+ghost use Rattle.mcv_verdict.specs.Fault.{IsRunFault};
+
 use crate::input::{Configuration, configuration_of, read_text};
 use mcv_base::{Position, push_number};
 use mcv_cert::{Certificate, Pair, Reason};
@@ -32,7 +37,12 @@ pub fn run_draw<R: Read, W: Write>(
     reader: &mut R,
     writer: &mut W,
     is_dot: bool,
-) -> Result<Verdict, RunFault> {
+) -> Result<Verdict, RunFault>
+    ensures ok { IfOk result (λ verdict. (text : List ℕ)
+        × IfSome (R.remaining reader.old) (λ input. IsDrawnOn is_dot input text) × Appends (W.contents writer.old) (W.contents writer.new) text) }
+    ensures fault { IfErr result (λ fault. IfSome (R.remaining reader.old) (λ input. IsRunFault input None fault)) }
+    ensures silent { IfErr result (λ fault. fault ≢ RunFault.Device → W.contents writer.new ≡ W.contents writer.old) }
+{
     let input = read_text(alloc, reader)?;
     let Configuration { document: _, routes } = configuration_of(alloc, input.as_slice())?;
     match judge(alloc, routes, None)? {

@@ -1,6 +1,6 @@
 //! A configuration in, the verdict on it out, in the form that options ask for: explained, as JSON, or drawn.
 //!
-//! `run_shown` writes the verdict (specs/Shown.antt), `run_draw` the picture of the routes with what the verdict marks.
+//! `run_check_as` writes the verdict (specs/Shown.antt), `run_draw` the picture of the routes with what the verdict marks.
 //! `fault_detail` is the second line of a fault of the configuration.
 #![tactic(auto)]
 
@@ -12,4 +12,4 @@ mod shown;
 
 pub use detail::fault_detail;
 pub use drawing::run_draw;
-pub use shown::run_shown;
+pub use shown::run_check_as;

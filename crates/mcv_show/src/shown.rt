@@ -1,8 +1,8 @@
 //! A verdict in the form that options ask for.
 
-ghost use Rattle.std.specs.Prelude.{◌≡◌, ◌≢◌, ℕ, List, IfErr, IfOk, IfSome, option_map};
+ghost use Rattle.std.specs.Prelude.{◌≡◌, ◌≢◌, ℕ, List, false, IfErr, IfOk, IfSome, option_map};
 ghost use Rattle.std.specs.Io.KnownBytes.{Appends};
-ghost use Rattle.mcv_show.specs.Shown.{IsShownOn};
+ghost use Rattle.mcv_show.specs.Shown.{IsShownOn, IsVerdictAs};
 ghost use Rattle.mcv_verdict.specs.Fault.{IsRunFault};
 
 use crate::fault::fault_report;
@@ -13,7 +13,7 @@ use mcv_explain::{Scene, push_compared, push_explanation};
 use mcv_input::{RunFault, write_text};
 use mcv_report::{covered_report, lost_report, report_text};
 use mcv_route::Routes;
-use mcv_verdict::{Judged, Verdict, judge};
+use mcv_verdict::{Judged, Verdict, judge, run_check};
 use mcv_witness::finding_text;
 use mcv_words::CheckOptions;
 use serde_json::Value;
@@ -28,9 +28,31 @@ struct Shown {
 }
 
 /// Reads a configuration and writes the verdict on it as the options ask, by the certificate whose text is given, or else
-/// by one made here. Where the report is asked for and the configuration is refused, the report on its fault is written;
+/// by one made here: the verdict's own text, as `run_check` does, where they ask for no more.
+pub fn run_check_as<R: Read, W: Write>(
+    alloc: Global,
+    reader: &mut R,
+    writer: &mut W,
+    certificate: Option<&[u8]>,
+    options: CheckOptions,
+) -> Result<Verdict, RunFault>
+    ensures ok { IfOk result (λ verdict. (text : List ℕ)
+        × IfSome (R.remaining reader.old) (λ input. IsVerdictAs options input (option_map (λ given. given.now) certificate.entry) verdict text)
+        × Appends (W.contents writer.old) (W.contents writer.new) text) }
+    ensures fault { IfErr result (λ fault.
+        IfSome (R.remaining reader.old) (λ input. IsRunFault input (option_map (λ given. given.now) certificate.entry) fault)) }
+    ensures silent { options.json ≡ false → IfErr result (λ fault. fault ≢ RunFault.Device → W.contents writer.new ≡ W.contents writer.old) }
+{
+    if options.explain || options.json {
+        run_shown(alloc, reader, writer, certificate, options)
+    } else {
+        run_check(alloc, reader, writer, certificate)
+    }
+}
+
+/// The same where an explanation or the report is asked for. Where the report is asked for and the configuration is refused, the report on its fault is written;
 /// where anything else is at fault, nothing is.
-pub fn run_shown<R: Read, W: Write>(
+fn run_shown<R: Read, W: Write>(
     alloc: Global,
     reader: &mut R,
     writer: &mut W,

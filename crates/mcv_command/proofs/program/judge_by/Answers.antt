@@ -3,9 +3,9 @@ use Rattle.std.specs.Prelude.{IfSome}
 use Rattle.std.proofs.lemmas.Result.{err_from_is_err_and}
 use Rattle.mcv_command.specs.Program.{Held, IsJudgingFault}
 use Rattle.mcv_command.specs.declared.stop.Stop.{Stop}
-use Rattle.mcv_command.proofs.ProgramEnds.{fault_by_all, given_all, read_limit, verdict_by_all}
+use Rattle.mcv_command.proofs.ProgramEnds.{fault_by_all, given_all, read_limit, verdict_as_by_all}
 use Rattle.mcv_verdict.specs.Fault as check
-use Rattle.mcv_verdict.specs.Verdict.{IsVerdictOn}
+use Rattle.mcv_show.specs.Shown.{IsVerdictAs}
 use Rattle.mcv_command.proofs.program.judge_by.Goals as goal
 
 pub returns-in_err-text-clause-stop : goal.returns-in_err-text-clause-stop
@@ -42,7 +42,7 @@ returns-clause-done g c =
     let verdict = c.in_ok-verdict.verdict in (
       verdict,
       ok.0,
-      given_all held name first known (λ bytes certificate. IsVerdictOn bytes certificate verdict ok.0) read (λ bytes all is here. verdict_by_all bytes all first verdict ok.0 is here) ok.1,
+      given_all held name first known (λ bytes certificate. IsVerdictAs c.args.options bytes certificate verdict ok.0) read (λ bytes all is here. verdict_as_by_all c.args.options bytes all first verdict ok.0 is here) ok.1,
       ok.2,
       c.ending_of.ensures,
     )

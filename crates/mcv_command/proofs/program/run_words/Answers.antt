@@ -20,7 +20,7 @@ returns-in_err-run_legs-in-Ok-Legs-clause-stop g c =
 pub returns-in_err-run_legs-in-Ok-Legs-clause-silent : goal.returns-in_err-run_legs-in-Ok-Legs-clause-silent
 returns-in_err-run_legs-in-Ok-Legs-clause-silent g c =
     let gone = err_from_is_err_and c.from_residual.result c.from_residual.ensures.1 in
-    rw (gone.1) (λ no_device unasked. c.in_err-run_legs-in-Ok-Legs.ensures.silent (λ device. no_device (gone.2 ∙ ap Run device)))
+    rw (gone.1) (λ no_device unasked unreported. c.in_err-run_legs-in-Ok-Legs.ensures.silent (λ device. no_device (gone.2 ∙ ap Run device)))
 
 pub returns-in_err-write_text-in-Err-Help-clause-stop : goal.returns-in_err-write_text-in-Err-Help-clause-stop
 returns-in_err-write_text-in-Err-Help-clause-stop g c =
@@ -45,7 +45,7 @@ pub returns-in-Ok-Check-None-clause-done : goal.returns-in-Ok-Check-None-clause-
 returns-in-Ok-Check-None-clause-done g c =
     let held = g.F.NamedFiles.held c.args.files.now in
     let asks = rw (c.in-Ok-Check-None.field-0-is, c.in-Ok-Check-None.field-0-0-is) at c.in-Ok-Check-None.ensures.job in
-    IfOk-weaker c.judge.result _ _ (λ ending judged. inr (inr (inl (None, asks, judged)))) (c.judge.ensures.done held)
+    IfOk-weaker c.judge.result _ _ (λ ending judged. inr (inr (inl (None, c.in-Ok-Check-None.options, asks, judged)))) (c.judge.ensures.done held)
 
 pub returns-in-Ok-Check-None-clause-stop : goal.returns-in-Ok-Check-None-clause-stop
 returns-in-Ok-Check-None-clause-stop g c =
@@ -53,7 +53,7 @@ returns-in-Ok-Check-None-clause-stop g c =
     let held = g.F.NamedFiles.held c.args.files.now in
     let known = g.R.Read.remaining c.args.reader.now in
     let asks = rw (c.in-Ok-Check-None.field-0-is, c.in-Ok-Check-None.field-0-0-is) at c.in-Ok-Check-None.ensures.job in
-    IfErr-weaker c.judge.result _ _ (λ stop holds. judging_stop words held known None stop asks holds) (c.judge.ensures.stop held)
+    IfErr-weaker c.judge.result _ _ (λ stop holds. judging_stop words held known None c.in-Ok-Check-None.options stop asks holds) (c.judge.ensures.stop held)
 
 pub serve-requires-clause-most : goal.serve-requires-clause-most
 serve-requires-clause-most g c =
@@ -69,7 +69,7 @@ pub returns-in-Ok-Run-clause-done : goal.returns-in-Ok-Run-clause-done
 returns-in-Ok-Run-clause-done g c =
     let held = g.F.NamedFiles.held c.args.files.now in
     let asks = rw c.in-Ok-Run.field-0-is at c.in-Ok-Run.ensures.job in
-    IfOk-weaker c.serve.result _ _ (λ ending served. inr (inr (inr (c.in-Ok-Run.listen.now, c.in-Ok-Run.spool.now, c.in-Ok-Run.sessions, c.in-Ok-Run.proxies, asks, served)))) (c.serve.ensures.done held)
+    IfOk-weaker c.serve.result _ _ (λ ending served. inr (inr (inr (inr (c.in-Ok-Run.listen.now, c.in-Ok-Run.spool.now, c.in-Ok-Run.sessions, c.in-Ok-Run.proxies, asks, served))))) (c.serve.ensures.done held)
 
 pub returns-in-Ok-Run-clause-stop : goal.returns-in-Ok-Run-clause-stop
 returns-in-Ok-Run-clause-stop g c =
@@ -84,5 +84,5 @@ pub returns-in-Ok-Run-clause-silent : goal.returns-in-Ok-Run-clause-silent
 returns-in-Ok-Run-clause-silent g c =
     let asks = rw c.in-Ok-Run.field-0-is at c.in-Ok-Run.ensures.job in
     IfErr-weaker c.serve.result _ _
-    (λ stop silent no_device unasked. silent no_device (λ memory. unasked memory (c.in-Ok-Run.listen.now, c.in-Ok-Run.spool.now, c.in-Ok-Run.sessions, c.in-Ok-Run.proxies, asks)))
+    (λ stop silent no_device unasked unreported. silent no_device (λ memory. unasked memory (c.in-Ok-Run.listen.now, c.in-Ok-Run.spool.now, c.in-Ok-Run.sessions, c.in-Ok-Run.proxies, asks)))
     c.serve.ensures.silent
