@@ -1,0 +1,127 @@
+//! Verdicts explained, as JSON and drawn.
+
+use mcv_show::{run_check_as, run_draw};
+use mcv_verdict::Verdict;
+use mcv_words::CheckOptions;
+use serde_json::Value;
+use std::process::Abort;
+
+/// Deletes have the failover of gets.
+const LOST: &str = r#"{"pools": {"east": {"servers": ["10.0.1.1:11211"]}, "west": {"servers": ["10.0.2.1:11211"]}},
+ "route": {"type": "FailoverRoute", "children": ["PoolRoute|east", "PoolRoute|west"]}}"#;
+
+const LOST_TEXT: &str = "lost 10.0.2.1:11211
+route 0
+class =
+era 0
+key /././!
+get 0=error 1=hit
+delete 0=deleted
+
+After a delete of the key /././! is acknowledged, a get of it can be answered by 10.0.2.1:11211, to which the delete was never sent.
+So it is with each key of route 0 (/route) whose rest begins with none of its policy prefixes.
+The delete is acknowledged once it is answered so:
+  0 at /route/children/0: 10.0.1.1:11211 (/pools/east/servers/0) answers deleted
+By then it was not sent to 10.0.2.1:11211.
+The get has a reply once it is answered so:
+  0 at /route/children/0: 10.0.1.1:11211 (/pools/east/servers/0) answers error
+  1 at /route/children/1: 10.0.2.1:11211 (/pools/west/servers/0) answers hit
+The hit at 1 can be that reply: what 10.0.2.1:11211 still has from before the delete.
+";
+
+/// Gets of one pool, whose name and policy could be taken for markup.
+const COVERED: &str = r#"{"pools": {"A": {"servers": ["a:1", "<b>:1"]}},
+ "route": {"type": "PrefixSelectorRoute", "policies": {"\"><script>": "PoolRoute|A"}, "wildcard": "PoolRoute|A"}}"#;
+
+const COVERED_TEXT: &str = "covered 2
+mcv-cert 1
+0 = 0 1 twin 1
+0 =\"><script> 0 0 twin 0
+end
+
+Compared: 2 readable leaves, in 2 classes and 1 eras, a leaf counted once for each class and era.
+";
+
+/// The options of these words.
+fn options_of(words: &str) -> CheckOptions {
+    CheckOptions {
+        explain: words == "explain",
+        json: words == "json",
+        quiet: false,
+    }
+}
+
+/// What is written of a configuration, whatever the verdict.
+fn written(rt: &(impl AllocGlobal + Abort), config: &str, options: &str) -> Vec<u8> {
+    let mut text = Vec::new(rt.alloc());
+    let mut input = config.as_bytes();
+    let _ended = run_check_as(rt.alloc(), &mut input, &mut text, None, options_of(options));
+    text
+}
+
+fn drawn(rt: &(impl AllocGlobal + Abort), config: &str, is_dot: bool) -> Vec<u8> {
+    let mut text = Vec::new(rt.alloc());
+    let mut input = config.as_bytes();
+    let ended = run_draw(rt.alloc(), &mut input, &mut text, is_dot);
+    assert!(rt; ended.is_ok());
+    text
+}
+
+#[test]
+fn verdicts_are_explained(rt: HostRuntime) {
+    assert!(rt; written(&rt, LOST, "explain").as_slice() == LOST_TEXT.as_bytes());
+    assert!(rt; written(&rt, COVERED, "explain").as_slice() == COVERED_TEXT.as_bytes());
+}
+
+/// Whether the report has this text at a pointer.
+fn check_report(rt: &(impl AllocGlobal + Abort), config: &str, pointer: &str, wanted: &str) {
+    let text = written(rt, config, "json");
+    let report = Value::from_slice(rt.alloc(), text.as_slice()).ok().expect(rt, "JSON");
+    let found = report.pointer(pointer).and_then(Value::as_str);
+    assert!(rt; found == Some(wanted), "{pointer}");
+}
+
+#[test]
+fn verdicts_are_reported(rt: HostRuntime) {
+    check_report(&rt, LOST, "/verdict", "lost");
+    check_report(&rt, LOST, "/finding/gets/1/handle", "/route/children/1");
+    check_report(&rt, LOST, "/finding/gets/1/server_pointer", "/pools/west/servers/0");
+    check_report(&rt, LOST, "/finding/deletes/0/outcome", "deleted");
+    check_report(&rt, COVERED, "/verdict", "covered");
+    check_report(&rt, COVERED, "/certificate/0/reason", "twin");
+    check_report(&rt, COVERED, "/certificate/1/leaf_pointer", "/route/policies/\"><script>");
+    check_report(&rt, "{\"pools\": {\"a/b\": 1}}", "/fault/pointer", "/pools/a~1b");
+    check_report(&rt, "{\"pools\": {\"a/b\": 1}}", "/fault/name", "wrong kind of value, or missing key");
+}
+
+/// How often a text has a part.
+fn count(text: &[u8], part: &str) -> usize {
+    let mut found = 0;
+    for window in text.windows(part.len()) {
+        if window == part.as_bytes() {
+            found += 1;
+        }
+    }
+    found
+}
+
+#[test]
+fn each_leaf_is_drawn_once_and_no_markup_is_let_in(rt: HostRuntime) {
+    let text = drawn(&rt, COVERED, false);
+    assert!(rt; count(text.as_slice(), "id=\"r0p0\"") == 1);
+    assert!(rt; count(text.as_slice(), "id=\"r0p1\"") == 1);
+    assert!(rt; count(text.as_slice(), "<script") == 0);
+    assert!(rt; count(text.as_slice(), "&lt;b&gt;:1") == 2);
+    let text = drawn(&rt, LOST, false);
+    assert!(rt; count(text.as_slice(), "[LOST]") == 1);
+    let text = drawn(&rt, LOST, true);
+    assert!(rt; count(text.as_slice(), "\"r0p-\" -> \"r0p1\"") == 1);
+}
+
+#[test]
+fn options_change_no_verdict(rt: HostRuntime) {
+    let mut input = LOST.as_bytes();
+    let mut text = Vec::new(rt.alloc());
+    let ended = run_check_as(rt.alloc(), &mut input, &mut text, None, options_of("json"));
+    assert!(rt; matches!(ended, Ok(Verdict::Lost)));
+}
