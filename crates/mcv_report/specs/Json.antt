@@ -1,7 +1,8 @@
 -- JSON values of a report (own).
-use Rattle.std.specs.Prelude.{ℕ, List, [], ◌∷◌, Option, Some, None}
+use Rattle.std.specs.Prelude.{◌≡◌, ℕ, List, [], ◌∷◌, ◌++◌, Option, Some, None, codes}
 use Rattle.std.specs.Str.Lossy.{utf8_lossy}
 use Rattle.serde_json.specs.Data.{Data, null, number, unsigned, string, array, object, Members, no_members, member}
+use Rattle.serde_json.specs.Read.{read}
 use Rattle.serde_json.specs.View.{items_of}
 
 -- the members in this order, which has to be the byte order of their keys
@@ -30,3 +31,7 @@ list_from ds = array (items_of ds)
 -- the version of the schema
 abbrev pub schema_version : ℕ
 schema_version = 1
+
+-- the text is JSON that reads as the value, and a line feed
+abbrev pub IsJsonOf : (text : List ℕ) → Data → Type 0
+IsJsonOf text d = (json : List ℕ) × (text ≡ json ++ codes "\n") × (read json ≡ Some d)

@@ -1,15 +1,15 @@
 //! The report on a certificate.
 
-ghost use Rattle.std.specs.Prelude.{◌≡◌, ℕ, List, [], IfOk, map, unwrap_or};
+ghost use Rattle.std.specs.Prelude.{◌≡◌, [], IfOk, map, unwrap_or};
 ghost use Rattle.serde_json.specs.View.{view};
 ghost use Rattle.mcv_base.specs.Position.{position_text};
 ghost use Rattle.mcv_cert.specs.Pair.{pair_of};
 ghost use Rattle.mcv_cert.specs.Reason.{reason_of};
 ghost use Rattle.mcv_places.specs.Pools.{handle_at};
 ghost use Rattle.mcv_report.specs.CertificateReport.{covered_report, pair_report, reason_index, reason_legs, reason_name};
-ghost use Rattle.mcv_report.specs.Json.{list_from, text_from};
+ghost use Rattle.mcv_report.specs.Json.{IsJsonOf, list_from, text_from};
 
-use crate::text::{escaped_text, number_or_null, position_text, text_of};
+use crate::text::{escaped_text, number_or_null, position_text, report_text, text_of};
 use mcv_base::Position;
 use mcv_cert::{Certificate, Pair, Reason};
 use mcv_places::handle_at;
@@ -17,8 +17,20 @@ use serde_json::{Value, json};
 use std::alloc::{AllocError, Global};
 use std::slice;
 
-/// The report on a certificate by which a configuration is covered.
-pub fn covered_report(
+/// The text of the report on a certificate by which a configuration is covered.
+pub fn covered_text(
+    alloc: Global,
+    document: &Value,
+    certificate: &Certificate,
+) -> Result<Vec<u8>, AllocError>
+    ensures { IfOk result (λ text. IsJsonOf text.items (covered_report (view document.now) certificate.now)) }
+{
+    let report = covered_report(alloc, document, certificate)?;
+    report_text(alloc, &report)
+}
+
+/// The report on a certificate.
+fn covered_report(
     alloc: Global,
     document: &Value,
     certificate: &Certificate,

@@ -2,16 +2,29 @@
 
 ghost use Rattle.std.specs.Prelude.{◌≡◌, IfOk, option_map};
 ghost use Rattle.serde_json.specs.View.{view};
+ghost use Rattle.mcv_report.specs.Json.{IsJsonOf};
 ghost use Rattle.mcv_report.specs.FaultReport.{config_fault_report, refused_report};
 
-use crate::text::{number_or_null, text_of};
+use crate::text::{number_or_null, report_text, text_of};
 use mcv_faults::{TextPlace, fault_name, fault_pointer};
 use mcv_names::ConfigFault;
 use serde_json::{Value, json};
 use std::alloc::{AllocError, Global};
 
-/// The report on a fault of a configuration, with its line and its column where they are known.
-pub fn refused_report(
+/// The text of the report on a fault of a configuration, with its line and its column where they are known.
+pub fn refused_text(
+    alloc: Global,
+    fault: &ConfigFault,
+    place: Option<TextPlace>,
+) -> Result<Vec<u8>, AllocError>
+    ensures { IfOk result (λ text. IsJsonOf text.items (refused_report (config_fault_report fault.now (option_map (λ p. (p.line, p.column)) place)))) }
+{
+    let report = refused_report(alloc, fault, place)?;
+    report_text(alloc, &report)
+}
+
+/// The report on a fault of a configuration.
+fn refused_report(
     alloc: Global,
     fault: &ConfigFault,
     place: Option<TextPlace>,

@@ -4,12 +4,12 @@ ghost use Rattle.std.specs.Prelude.{◌≡◌, ℕ, List, IfOk, map, slice_get};
 ghost use Rattle.serde_json.specs.View.{view};
 ghost use Rattle.mcv_explain.specs.Scene.{scene_of};
 ghost use Rattle.mcv_report.specs.FindingReport.{finding_report, index_list, index_report, leg_report, leg_reports, lost_report, opened_at};
-ghost use Rattle.mcv_report.specs.Json.{list_from};
+ghost use Rattle.mcv_report.specs.Json.{IsJsonOf, list_from};
 ghost use Rattle.mcv_route.specs.Eras.{IsBreakTable, breaks_of};
 ghost use Rattle.mcv_witness.specs.Finding.{outcomes_of};
 ghost use Rattle.mcv_witness.specs.Text.{func_name};
 
-use crate::text::{escaped_text, number_or_null, position_text, text_of};
+use crate::text::{escaped_text, number_or_null, position_text, report_text, text_of};
 use mcv_base::{Moment, Op, Position};
 use mcv_explain::{Scene, outcome_word};
 use mcv_pools::{Choice, HashFunc, Symbol};
@@ -17,8 +17,17 @@ use mcv_witness::LegOutcome;
 use serde_json::{Value, json};
 use std::alloc::{AllocError, Global};
 
-/// The report on a finding: that the configuration can lose a delete, and how.
-pub fn lost_report(alloc: Global, scene: &Scene<'_>) -> Result<Value, AllocError>
+/// The text of the report on a finding: that the configuration can lose a delete, and how.
+pub fn lost_text(alloc: Global, scene: &Scene<'_>) -> Result<Vec<u8>, AllocError>
+    ensures { IfOk result (λ text. (table : List ℕ) × IsBreakTable (breaks_of scene.now.routes.now) table
+        × IsJsonOf text.items (lost_report (scene_of scene.now) table)) }
+{
+    let report = lost_report(alloc, scene)?;
+    report_text(alloc, &report)
+}
+
+/// The report on a finding.
+fn lost_report(alloc: Global, scene: &Scene<'_>) -> Result<Value, AllocError>
     ensures { IfOk result (λ v. (table : List ℕ) × IsBreakTable (breaks_of scene.now.routes.now) table
         × (view v ≡ lost_report (scene_of scene.now) table)) }
 {

@@ -8,7 +8,6 @@ mod fault;
 mod finding;
 mod text;
 
-pub use certificate::covered_report;
-pub use fault::refused_report;
-pub use finding::lost_report;
-pub use text::report_text;
+pub use certificate::covered_text;
+pub use fault::refused_text;
+pub use finding::lost_text;

@@ -48,10 +48,10 @@ pub(crate) fn number_or_null(number: Option<usize>) -> Value
     }
 }
 
-/// The text of a report, which ends with a line feed: JSON that reads as the report.
-pub fn report_text(alloc: Global, report: &Value) -> Result<Vec<u8>, AllocError>
-    requires { depth (view report.now) ≤ max_depth }
-    ensures { IfOk result (λ text. (json : List ℕ) × (text.items ≡ json ++ codes "\n") × (read json ≡ Some (view report.now))) }
+/// The text of a report, which ends with a line feed: JSON that reads as the report, where it nests no deeper than is read.
+pub(crate) fn report_text(alloc: Global, report: &Value) -> Result<Vec<u8>, AllocError>
+    ensures { IfOk result (λ text. (json : List ℕ) × (text.items ≡ json ++ codes "\n")
+        × (depth (view report.now) ≤ max_depth → read json ≡ Some (view report.now))) }
 {
     let mut text = report.to_vec(alloc)?;
     text.extend_from_slice(b"\n")?;

@@ -2,7 +2,6 @@
 use Rattle.std.specs.Prelude.{◌≡◌, ◌++◌, ℕ, Bool, true, false, List, [], Option, Some, None, codes, length, not, ◌||◌}
 use Rattle.std.specs.List.{All}
 use Rattle.serde_json.specs.Data.{Data}
-use Rattle.serde_json.specs.Read.{read}
 use Rattle.mcv_cert.specs.Pair.{PairValue}
 use Rattle.mcv_cert.specs.Reading.{Says, pairs}
 use Rattle.mcv_cert.specs.Text.{certificate_text}
@@ -14,6 +13,7 @@ use Rattle.mcv_input.specs.Fault.{AreNamedBy}
 use Rattle.mcv_places.specs.Document.{IsDocument}
 use Rattle.mcv_report.specs.CertificateReport.{covered_report}
 use Rattle.mcv_report.specs.FindingReport.{lost_report}
+use Rattle.mcv_report.specs.Json.{IsJsonOf}
 use Rattle.mcv_route.specs.Eras.{IsBreakTable, breaks_of}
 use Rattle.mcv_route.specs.Routes.{RoutesValue}
 use Rattle.mcv_verdict.specs.Text.{covered_line}
@@ -23,10 +23,6 @@ use Rattle.mcv_verdict.specs.declared.verdict.Verdict.TheVariants.{Covered, Lost
 use Rattle.mcv_witness.specs.Finding.{FindingValue}
 use Rattle.mcv_witness.specs.Text.{finding_text}
 use Rattle.mcv_words.specs.declared.words.CheckOptions.{CheckOptions}
-
--- the text is JSON that reads as the value, and a line feed
-abbrev pub IsJsonOf : (text : List ℕ) → Data → Type 0
-IsJsonOf text d = (json : List ℕ) × (text ≡ json ++ codes "\n") × (read json ≡ Some d)
 
 abbrev pub scene : Data → RoutesValue → FindingValue → SceneValue
 scene d r f = record { document = d; routes = r; finding = f }

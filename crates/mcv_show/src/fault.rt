@@ -2,11 +2,11 @@
 
 use mcv_faults::standing_of;
 use mcv_input::RunFault;
-use mcv_report::{refused_report, report_text};
+use mcv_report::refused_text;
 use std::alloc::{AllocError, Global};
 
 /// The text of the report on a fault of the configuration; of another fault, none.
-pub(crate) fn fault_report(
+pub(crate) fn fault_text(
     alloc: Global,
     input: &[u8],
     fault: &RunFault,
@@ -19,5 +19,5 @@ pub(crate) fn fault_report(
         Some(standing) => Some(standing.place),
         None => None,
     };
-    report_text(alloc, &refused_report(alloc, fault, place)?)
+    refused_text(alloc, fault, place)
 }

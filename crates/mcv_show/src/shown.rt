@@ -5,13 +5,13 @@ ghost use Rattle.std.specs.Io.KnownBytes.{Appends};
 ghost use Rattle.mcv_show.specs.Shown.{IsShownOn, IsVerdictAs};
 ghost use Rattle.mcv_verdict.specs.Fault.{IsRunFault};
 
-use crate::fault::fault_report;
+use crate::fault::fault_text;
 use crate::input::{Configuration, configuration_of, read_text};
 use mcv_base::push_number;
 use mcv_cert::Certificate;
 use mcv_explain::{Scene, push_compared, push_explanation};
 use mcv_input::{RunFault, write_text};
-use mcv_report::{covered_report, lost_report, report_text};
+use mcv_report as report;
 use mcv_route::Routes;
 use mcv_verdict::{Judged, Verdict, judge, run_check};
 use mcv_witness::finding_text;
@@ -74,8 +74,8 @@ fn run_shown<R: Read, W: Write>(
         }
         Err(fault) => {
             if options.json {
-                let report = fault_report(alloc, input.as_slice(), &fault)?;
-                write_text(writer, report.as_slice())?;
+                let text = fault_text(alloc, input.as_slice(), &fault)?;
+                write_text(writer, text.as_slice())?;
             }
             Err(fault)
         }
@@ -97,7 +97,7 @@ fn shown(
         } => {
             let verdict = Verdict::Covered(found.len() as u64);
             let text = if options.json {
-                report_text(alloc, &covered_report(alloc, &document, &found)?)?
+                report::covered_text(alloc, &document, &found)?
             } else {
                 let written = certificate.is_none();
                 covered_text(alloc, accepted.routes(), &found, written, options.explain)?
@@ -122,7 +122,7 @@ fn shown(
 /// The text on what is lost.
 fn lost_text(alloc: Global, scene: &Scene<'_>, options: CheckOptions) -> Result<Vec<u8>, AllocError> {
     if options.json {
-        return report_text(alloc, &lost_report(alloc, scene)?);
+        return report::lost_text(alloc, scene);
     }
     let mut text = finding_text(alloc, scene.finding, scene.routes)?;
     if options.explain {
