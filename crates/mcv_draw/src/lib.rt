@@ -17,5 +17,5 @@ pub use element::Element;
 pub use graph::dot;
 pub use listing::{Drawing, elements};
 pub use marks::Marks;
-pub use markup::texts_are_escaped;
+pub use markup::{positions_are_drawn_once, texts_are_escaped};
 pub use picture::svg;

@@ -1,6 +1,7 @@
 //! Texts in SVG and in Graphviz's language.
 
 ghost use Rattle.std.specs.Prelude.{◌≡◌, ◌++◌, OnOk};
+ghost use Rattle.mcv_draw.specs.Drawn.{DrawnOnce};
 ghost use Rattle.mcv_draw.specs.Markup.{TextsAreEscaped, dot_byte, dot_text, xml_byte, xml_text};
 
 use std::alloc::AllocError;
@@ -51,4 +52,9 @@ pub(crate) fn push_dot(text: &mut Vec<u8>, bytes: &[u8]) -> Result<(), AllocErro
 /// No text that is written as a text of XML opens or closes anything.
 pub fn texts_are_escaped()
     ensures { TextsAreEscaped }
+{}
+
+/// No position of a tree is drawn twice.
+pub fn positions_are_drawn_once()
+    ensures { DrawnOnce }
 {}

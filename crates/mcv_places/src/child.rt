@@ -6,7 +6,7 @@ ghost use Rattle.mcv_places.specs.Site.{child_under, handle_of, listed, member_a
 ghost use Rattle.mcv_places.specs.View.{found_site};
 
 use crate::name::Named;
-use crate::pointer::{item_under, push_item, push_key, under};
+use crate::pointer::{item_under, push_key, under};
 use crate::text::named_child;
 use mcv_names::{Handle, Selector, default_key, handle_named, policies_key};
 use serde_json::{Map, Value};
@@ -87,13 +87,10 @@ fn listed<'a>(
     ensures { IfOk result (λ found. found_site pointer.new.items found ≡ listed number (pointer.old.items, view value.now)) }
 {
     match value {
-        Value::Array(items) => {
-            let Some(item) = items.get(number) else {
-                return Ok(None);
-            };
-            push_item(pointer, number)?;
-            Ok(Some(Named::Value(item)))
-        }
+        Value::Array(_) => match item_under(pointer, value, number)? {
+            Some(item) => Ok(Some(Named::Value(item))),
+            None => Ok(None),
+        },
         Value::String(text) => Ok(Some(named_child(text.as_str(), number))),
         _ => Ok(Some(Named::Value(value))),
     }

@@ -1,6 +1,6 @@
 //! Pointers, step by step.
 
-ghost use Rattle.std.specs.Prelude.{◌≡◌, ◌++◌, IfOk, OnOk, codes, decimal, option_map, string_bytes};
+ghost use Rattle.std.specs.Prelude.{◌≡◌, ◌++◌, IfNone, IfOk, OnOk, codes, decimal, option_map, string_bytes};
 ghost use Rattle.std.specs.List.{flat_map};
 ghost use Rattle.serde_json.specs.View.{view};
 ghost use Rattle.mcv_places.specs.Pointer.{item_pointer, key_pointer, pointer_byte};
@@ -52,7 +52,8 @@ pub(crate) fn under<'a>(
     value: &'a Value,
     key: &str,
 ) -> Result<Option<&'a Value>, AllocError>
-    ensures { IfOk result (λ found. option_map (λ v. (pointer.new.items, view v.now)) found ≡ under key.now (pointer.old.items, view value.now)) }
+    ensures stays { IfOk result (λ found. IfNone found (pointer.new.items ≡ pointer.old.items)) }
+    ensures found { IfOk result (λ found. option_map (λ v. (pointer.new.items, view v.now)) found ≡ under key.now (pointer.old.items, view value.now)) }
 {
     let Some(found) = value.get(key) else {
         return Ok(None);

@@ -18,7 +18,7 @@ pub(crate) fn pool_pointer(
     pointer: Vec<u8>,
     named: Named<'_>,
 ) -> Result<Option<Vec<u8>>, AllocError>
-    ensures { IfOk result (λ pool. option_map (λ p. p.items) pool ≡ pool_pointer pointer.items (name_of named)) }
+    ensures { IfOk result (λ pool. option_map (λ p. p.items) pool ≡ pool_pointer pointer.items (name_of named.entry)) }
 {
     match named {
         Named::Value(value) => match value.as_str() {
@@ -70,7 +70,7 @@ fn object_pool(
 
 /// The number of the server in the list of its pool, of the one at an index of the PoolRoute.
 pub(crate) fn server_number(named: Named<'_>, index: usize) -> usize
-    ensures { result ≡ server_number (name_of named) index }
+    ensures { result ≡ server_number (name_of named.entry) index }
 {
     match named {
         Named::Server(_, number) => number,

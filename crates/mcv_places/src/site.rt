@@ -60,7 +60,7 @@ fn child_of<'a>(
     named: Named<'a>,
     number: usize,
 ) -> Result<Option<Named<'a>>, AllocError>
-    ensures { IfOk result (λ found. found_site pointer.new.items found ≡ child_of number pointer.old.items (name_of named)) }
+    ensures { IfOk result (λ found. found_site pointer.new.items found ≡ child_of number pointer.old.items (name_of named.entry)) }
 {
     match named {
         Named::Value(value) => value_child(pointer, value, number),
