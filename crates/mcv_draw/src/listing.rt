@@ -24,6 +24,7 @@ struct Pending<'a> {
 }
 
 /// What is drawn beside a route itself.
+#[derive(Clone, Copy)]
 pub struct Drawing<'a> {
     pub servers: &'a Servers,
     pub marks: &'a Marks,

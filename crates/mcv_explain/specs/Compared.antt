@@ -1,7 +1,8 @@
 -- What a certificate compared, in numbers, as a sentence (own).
-use Rattle.std.specs.Prelude.{ℕ, ◌+◌, ◌==◌, ◌&&◌, Bool, true, false, List, [], ◌∷◌, ◌++◌, Option, Some, None, bytes_eq, codes, decimal, if◌then◌else◌, length}
+use Rattle.std.specs.Prelude.{ℕ, ◌+◌, ◌==◌, ◌&&◌, Bool, true, false, List, [], ◌∷◌, Option, Some, None, bytes_eq, codes, decimal, if◌then◌else◌, length}
 use Rattle.mcv_cert.specs.Pair.{PairValue}
 use Rattle.mcv_cert.specs.Place.{PlaceValue, SpotValue}
+use Rattle.mcv_route.specs.Children.{joined}
 
 -- of one route and class
 abbrev pub is_same_class : SpotValue → SpotValue → Bool
@@ -29,6 +30,6 @@ class_count ps = places (λ p q. is_same_class p.spot q.spot) None ps
 
 -- the table has the moments at which what migrations do changes: there is one era more
 abbrev pub compared : List PairValue → (table : List ℕ) → List ℕ
-compared ps table =
-    codes "\nCompared: " ++ decimal (leaf_count ps) ++ codes " readable leaves, in " ++ decimal (class_count ps) ++ codes " classes and "
-    ++ decimal (length table + 1) ++ codes " eras, a leaf counted once for each class and era.\n"
+compared ps table = joined (
+    codes "\nCompared: " ∷ decimal (leaf_count ps) ∷ codes " readable leaves, in " ∷ decimal (class_count ps) ∷ codes " classes and "
+    ∷ decimal (length table + 1) ∷ codes " eras, a leaf counted once for each class and era.\n" ∷ [])

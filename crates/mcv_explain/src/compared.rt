@@ -6,13 +6,14 @@ ghost use Rattle.mcv_cert.specs.Place.{place_of};
 ghost use Rattle.mcv_explain.specs.Compared.{class_count, compared, is_as_before, is_same_class, is_same_leaf, leaf_count};
 ghost use Rattle.mcv_route.specs.Eras.{IsBreakTable, breaks_of};
 
-use mcv_base::push_number;
+use crate::pieces::{number_text, push_pieces};
 use mcv_cert::{Certificate, Pair, Place};
 use mcv_route::Routes;
-use std::alloc::AllocError;
+use std::alloc::{AllocError, Global};
 
 /// Adds the sentence that says what a certificate compared. On an error part of it may be there.
 pub fn push_compared(
+    alloc: Global,
     text: &mut Vec<u8>,
     routes: &Routes,
     certificate: &Certificate,
@@ -21,14 +22,21 @@ pub fn push_compared(
         × (text.new.items ≡ text.old.items ++ compared certificate.now table)) }
 {
     let pairs = certificate.pairs();
-    let breaks = routes.breaks();
-    text.extend_from_slice(b"\nCompared: ")?;
-    push_number(text, leaf_count(pairs))?;
-    text.extend_from_slice(b" readable leaves, in ")?;
-    push_number(text, class_count(pairs))?;
-    text.extend_from_slice(b" classes and ")?;
-    push_number(text, breaks.len() + 1)?;
-    text.extend_from_slice(b" eras, a leaf counted once for each class and era.\n")
+    let leaves = number_text(alloc, leaf_count(pairs))?;
+    let classes = number_text(alloc, class_count(pairs))?;
+    let eras = number_text(alloc, routes.breaks().len() + 1)?;
+    push_pieces(
+        text,
+        &[
+            b"\nCompared: ",
+            leaves.as_slice(),
+            b" readable leaves, in ",
+            classes.as_slice(),
+            b" classes and ",
+            eras.as_slice(),
+            b" eras, a leaf counted once for each class and era.\n",
+        ],
+    )
 }
 
 /// Whether the two places are of one route and class.

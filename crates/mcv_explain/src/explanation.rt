@@ -23,13 +23,13 @@ pub fn push_explanation(
 {
     let finding = scene.finding;
     text.extend_from_slice(b"\n")?;
-    push_lost(text, scene)?;
+    push_lost(alloc, text, scene)?;
     push_alike(alloc, text, scene)?;
-    push_era(text, scene.routes.breaks(), finding.place.era)?;
+    push_era(alloc, text, scene.routes.breaks(), finding.place.era)?;
     text.extend_from_slice(delete_sentence(finding.deletes.as_slice()))?;
     push_legs(alloc, text, scene, Op::Delete, finding.deletes.as_slice())?;
     push_unsent(text, scene)?;
     push_get(text, scene)?;
     push_legs(alloc, text, scene, finding.op, finding.gets.as_slice())?;
-    push_hit(text, scene)
+    push_hit(alloc, text, scene)
 }

@@ -7,6 +7,7 @@
 
 mod compared;
 mod explanation;
+mod pieces;
 mod scene;
 mod sentences;
 

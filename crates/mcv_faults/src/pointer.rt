@@ -11,7 +11,7 @@ pub fn fault_pointer(alloc: Global, path: &[u8]) -> Result<Vec<u8>, AllocError>
     ensures { IfOk result (λ pointer. pointer.items ≡ fault_pointer path.now) }
 {
     let mut pointer = Vec::new(alloc);
-    if path == b"." {
+    if path == b".".as_slice() {
         return Ok(pointer);
     }
     push_steps(&mut pointer, path)?;

@@ -39,7 +39,7 @@ fn value_at<'a>(
     root: &'a Located,
     path: &[u8],
 ) -> Result<Option<&'a Located>, AllocError> {
-    if path == b"." {
+    if path == b".".as_slice() {
         return Ok(Some(root));
     }
     let mut here = root;

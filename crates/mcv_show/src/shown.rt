@@ -22,7 +22,7 @@ use std::io::{Read, Write};
 
 /// A verdict, and the text that says it.
 #[derive(Drop)]
-struct Shown {
+struct Output {
     verdict: Verdict,
     text: Vec<u8>,
 }
@@ -88,7 +88,7 @@ fn shown(
     input: &[u8],
     certificate: Option<&[u8]>,
     options: CheckOptions,
-) -> Result<Shown, RunFault> {
+) -> Result<Output, RunFault> {
     let Configuration { document, routes } = configuration_of(alloc, input)?;
     match judge(alloc, routes, certificate)? {
         Judged::Covered {
@@ -102,7 +102,7 @@ fn shown(
                 let written = certificate.is_none();
                 covered_text(alloc, accepted.routes(), &found, written, options.explain)?
             };
-            Ok(Shown { verdict, text })
+            Ok(Output { verdict, text })
         }
         Judged::Lost { routes, finding } => {
             let scene = Scene {
@@ -111,7 +111,7 @@ fn shown(
                 finding: &finding,
             };
             let text = lost_text(alloc, &scene, options)?;
-            Ok(Shown {
+            Ok(Output {
                 verdict: Verdict::Lost,
                 text,
             })
@@ -148,7 +148,7 @@ fn covered_text(
         text.extend_from_slice(written.as_slice())?;
     }
     if is_explained {
-        push_compared(&mut text, routes, certificate)?;
+        push_compared(alloc, &mut text, routes, certificate)?;
     }
     Ok(text)
 }
