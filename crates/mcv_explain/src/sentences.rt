@@ -23,6 +23,7 @@ pub(crate) fn push_lost(
     ensures { OnOk result (text.new.items ≡ text.old.items ++ lost_sentence (scene_of scene.now)) }
 {
     let key = escaped_text(alloc, scene.finding.key.as_slice())?;
+    let server = Vec::from_slice(alloc, scene.lost_server())?;
     push_pieces(
         text,
         &[
@@ -31,7 +32,7 @@ pub(crate) fn push_lost(
             b" is acknowledged, a ",
             scene.finding.op.name().as_bytes(),
             b" of it can be answered by ",
-            scene.lost_server(),
+            server.as_slice(),
             b", to which the delete was never sent.\n",
         ],
     )
@@ -191,6 +192,7 @@ fn push_leg(
     let position = position_text(alloc, &leg.position)?;
     let handle = scene.handle_pointer(alloc, &leg.position)?;
     let handle = escaped_text(alloc, handle.as_slice())?;
+    let name = Vec::from_slice(alloc, scene.leg_server(&leg.position))?;
     let server = scene.server_pointer(alloc, &leg.position)?;
     let server = escaped_text(alloc, server.as_slice())?;
     push_pieces(
@@ -201,7 +203,7 @@ fn push_leg(
             b" at ",
             handle.as_slice(),
             b": ",
-            scene.leg_server(&leg.position),
+            name.as_slice(),
             b" (",
             server.as_slice(),
             b") answers ",
