@@ -1,6 +1,7 @@
 //! The sentences of an explanation, one by one.
 
-ghost use Rattle.std.specs.Prelude.{◌≡◌, ◌++◌, IfOk, OnOk, list_any, map, nat_lt, slice_get};
+ghost use Rattle.std.specs.Prelude.{◌≡◌, ◌++◌, IfOk, OnOk, map, nat_lt, slice_get};
+ghost use Rattle.std.specs.List.{list_any};
 ghost use Rattle.mcv_pools.specs.Symbol.{SymbolValue};
 ghost use Rattle.mcv_explain.specs.Explanation.{alike_sentence, class_words, delete_sentence, end_words, era_sentence, get_sentence, hash_words, hit_sentence, leg_line, leg_lines, lost_sentence, opening_words, outcome_word, unsent_sentence};
 ghost use Rattle.mcv_explain.specs.Scene.{scene_of};

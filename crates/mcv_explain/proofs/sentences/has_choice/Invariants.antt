@@ -1,5 +1,6 @@
 use Rattle.std.proofs.Common.{◌≡◌, drop}
-use Rattle.std.specs.Prelude.{list_any, nat_lt}
+use Rattle.std.specs.List.{list_any}
+use Rattle.std.specs.Prelude.{nat_lt}
 use Rattle.mcv_pools.specs.Symbol.{SymbolValue}
 use Rattle.mcv_explain.proofs.sentences.has_choice.Given as goal
 
