@@ -1,5 +1,5 @@
 -- Legs in flight that are answered or lost, and held legs that the spool stores or refuses.
-use Rattle.std.proofs.Common.{◌≡◌, cond, ℕ, Bool, true, false, length, List, Option, Some, None, Ok, Err, option_map, refl, sym, ap, ◌∙◌, subst, true≢false}
+use Rattle.std.proofs.Common.{◌≡◌, ◌⊎◌, inl, inr, cond, ℕ, Bool, true, false, length, List, Option, Some, None, Ok, Err, option_map, refl, sym, ap, ◌∙◌, subst, true≢false}
 use Rattle.std.specs.Arc.{arc_value}
 use Rattle.std.proofs.Math.Path.{fun_ext}
 use Rattle.mcv_base.specs.declared.reply.FixedReply.TheVariants.{Lost}
@@ -272,6 +272,13 @@ unheld states.Held f e = true≢false f
 unheld states.Refused f e = true≢false f
 unheld states.InSpool f e = cc
 unheld states.InReplay f e = cc
+
+-- none of these four is
+pub not_holding : (t : State) → (t ≡ states.Waiting) ⊎ ((t ≡ states.Sent) ⊎ ((t ≡ states.InSpool) ⊎ (t ≡ states.InReplay))) → holds t ≡ false
+not_holding t (inl e) = ap holds e
+not_holding t (inr (inl e)) = ap holds e
+not_holding t (inr (inr (inl e))) = ap holds e
+not_holding t (inr (inr (inr e))) = ap holds e
 
 -- the spool's events on a leg that is there
 module _ (d : Dispatcher) (n : ℕ) (l : Leg Errand) (at : legs d.queues n ≡ Some l) where

@@ -20,3 +20,7 @@ returns c =
         does = IdleCores.era_does d c.since-since.result c.args.moment.0 is c.after-era.result c.after-era.ensures.changed c.after-era.ensures.same;
       };
     }
+
+-- the moment is earlier
+pub returns-then-moment-self : goal.returns-then-moment-self
+returns-then-moment-self c = record { move = None; event = record { cause = (refl, omega arith); none = refl; same = refl } }

@@ -61,3 +61,13 @@ returns-in_default c =
     let n = c.args.leg.0 in
     let none : option_map facts_of (legs d.queues n) ≡ None = sym c.facts.ensures ∙ c.in_default.is in
     record { move = None; event = record { effect = Landings.spooling_absent d n c.args.stored.seq c.args.stored.«record».server c.args.stored.«record».rest NoSuchLeg (Landings.unseen (legs d.queues n) none) refl; move = refl; does = tt } }
+
+-- it isn't held
+pub returns-in-Waiting : goal.returns-in-Waiting
+returns-in-Waiting c =
+    let d = c.args.self.now in
+    let n = c.args.leg.0 in
+    let l = Landings.seen (legs d.queues n) c.in-Some.facts (sym c.facts.ensures ∙ c.in-Some.is) in
+    let idle = ap (λ f. Landings.holds f.state) l.is ∙ Landings.not_holding c.in-Some.facts.state c.in-Waiting.is in
+    let effect = Landings.spooling_not_held d n l.leg l.at (Landings.unheld l.leg.state idle) c.args.stored.seq c.args.stored.«record».server c.args.stored.«record».rest NoSuchLeg refl in
+    record { move = None; event = record { effect = effect; move = refl; does = tt } }
