@@ -229,6 +229,17 @@ module _ (v w : CoreView) (es : List Entry) (c b t bb tb len capacity places bre
     h.2 ∙ ap break_count (sym (leads_routes v w m g.leads)),
   )
 
+  -- a call that was refused, when the history had more room
+  pub refused_holds : w ≡ v → (es2 : List Entry) (len2 capacity2 : ℕ) → es2 ≡ es → len2 ≡ len → capacity ≤ capacity2 → Holds w es2 c b t bb tb len2 capacity2 places breaks
+  refused_holds same es2 len2 capacity2 items longer grown = (
+    subst (λ z. IsHub z es2 c b t bb tb) (sym same) (subst (λ z. IsHub v z c b t bb tb) (sym items) h.0),
+    let room = room_same v w len capacity places same h.1 in
+        let within = room.within in
+        let kept = room.kept in
+        record { within = omega (arith, within, longer); kept = omega (arith, kept, grown); small = room.small },
+    h.2 ∙ ap (λ z. break_count z.routes) (sym same),
+  )
+
   -- a chapter that began
   pub turn_holds : (es' : List Entry) (c' places' bb' tb' len' capacity' : ℕ) → w.routes ≡ v.routes → IsQuiet w → c' ≡ w.chapter → bb' ≡ b → tb' ≡ t → bb' < 2 ^ 63 → tb' < 2 ^ 63 → may_write w ≤ may_write v → places' ≤ places
       → (places' ≡ places) ⊎ (may_write w ≤ places') → es' ≡ [] → len' ≡ 0 → capacity' ≡ capacity → Holds w es' c' b t bb' tb' len' capacity' places' breaks

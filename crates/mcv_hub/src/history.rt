@@ -36,7 +36,8 @@ pub(crate) fn era_entry(answer: &Result<Option<Era>, CoreFault>) -> Option<Entry
 {
     match answer {
         Ok(Some(era)) => Some(Entry::EraBegan(*era)),
-        Ok(None) | Err(_) => None,
+        Ok(None) => None,
+        Err(_) => None,
     }
 }
 

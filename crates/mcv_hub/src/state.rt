@@ -197,7 +197,8 @@ impl<B: Ledger, T: Ledger> HubState<B, T> {
             request: shared,
             key,
         });
-        self.places += self.core.state().entries() - entries;
+        let reserved = self.core.state().entries() - entries;
+        self.places += reserved;
         self.begun.add(&mut seat.begun, 1);
         Ok(call)
     }

@@ -1,11 +1,60 @@
-use Rattle.std.proofs.Common.{◌≡◌, ◌∙◌, ◌⊎◌, ◌≤◌, Ok, inl, inr, ap, refl, subst, sym, arith, vec_len, vec_capacity}
+use Rattle.std.proofs.Common.{◌≡◌, ◌∙◌, ◌⊎◌, ◌≤◌, Ok, Err, false, inl, inr, ap, refl, rules, subst, sym, arith, true≢false, vec_len, vec_capacity}
+use Rattle.std.proofs.lemmas.Result.{err_from_is_err_and}
+use Rattle.mcv_core.specs.Chapters.{IsAtRest}
 use Rattle.mcv_core.specs.Events.{IsEvent, IsTurned}
 use Rattle.mcv_core.specs.View.{core_view}
 use Rattle.mcv_hub.proofs.EventsMayWrite.{turn_opens, turn_spends}
-use Rattle.mcv_hub.proofs.Histories.{chapter_begins, turn_holds}
+use Rattle.mcv_hub.proofs.Histories.{chapter_begins, refused_holds, turn_holds}
 use Rattle.mcv_hub.specs.State.{HubView}
 use Rattle.mcv_hub.specs.RemainingEntries.{break_count, may_write}
 use Rattle.mcv_hub.proofs.state.HubState.turn.Goals as goal
+
+-- something runs, or is queued or in flight
+pub returns-then-not-is_at_rest : goal.returns-then-not-is_at_rest
+returns-then-not-is_at_rest g c =
+    let busy : c.is_at_rest.result ≡ false = search rules in
+    rw (← c.self.view_is)
+    (record {
+      busy = refl;
+      cause = λ can. absurd (true≢false (sym (c.is_at_rest.ensures.1 (subst (λ d. IsAtRest (core_view d)) (sym c.state.ensures) can.rests)) ∙ busy));
+      same = record { core = refl; history = refl; books = record { begun = refl; taken = refl; same = record { chapter = refl; begun_before = refl; taken_before = refl } } };
+    })
+
+-- no chapter has a greater number
+pub returns-in_default : goal.returns-in_default
+returns-in_default g c =
+    let last = c.in_default.ensures in
+    let chapter = c.self.invariant.0.chapter_is in
+    rw (← c.self.view_is)
+    (record {
+      busy = refl;
+      cause = λ can. let number = can.number in absurd (omega (arith, last, chapter, number));
+      same = record { core = refl; history = refl; books = record { begun = refl; taken = refl; same = record { chapter = refl; begun_before = refl; taken_before = refl } } };
+    })
+
+-- the core says so
+pub invariant_of-self : goal.invariant_of-self
+invariant_of-self g c =
+    let s = c.self.inside in
+    let v = core_view s.core.dispatcher in
+    let w = core_view c.turn.new.self in
+    let h : IsEvent (IsTurned v (Err c.in_err-turn.field-0.0)) w = subst (λ d. IsEvent (IsTurned (core_view d) (Err c.in_err-turn.field-0.0)) w) c.events.ensures.value c.in_err-turn.ensures in
+    refused_holds v w s.history.items s.chapter s.begun.total s.taken.total s.begun_before s.taken_before (vec_len s.history) (vec_capacity s.history) s.places s.breaks c.self.invariant h.event.same s.history.items (vec_len s.history)
+    (vec_capacity s.history) refl refl (omega arith)
+
+pub returns-in_err-turn : goal.returns-in_err-turn
+returns-in_err-turn g c =
+    let v = core_view c.self.inside.core.dispatcher in
+    let w = core_view c.turn.new.self in
+    let h : IsEvent (IsTurned v (Err c.in_err-turn.field-0.0)) w = subst (λ d. IsEvent (IsTurned (core_view d) (Err c.in_err-turn.field-0.0)) w) c.events.ensures.value c.in_err-turn.ensures in
+    let p = err_from_is_err_and c.from_residual.result c.from_residual.ensures.1 in
+    rw (p.1, p.2)
+    (rw (← c.self.view_is)
+    (record {
+      busy = h.event.cause.0;
+      cause = λ can. absurd (h.event.cause.1 can);
+      same = record { core = h.event.same; history = refl; books = record { begun = refl; taken = refl; same = record { chapter = refl; begun_before = refl; taken_before = refl } } };
+    }))
 
 pub invariant_of-self-2 : goal.invariant_of-self-2
 invariant_of-self-2 g c =
