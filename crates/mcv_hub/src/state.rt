@@ -39,7 +39,7 @@ const MOST_COUNTED: u64 = (1 << 63) - 1;
 
 /// The core, with the history of the chapter and the two books.
 #[derive(Drop)]
-pub(crate) struct HubState<B: Ledger, T: Ledger> {
+pub struct HubState<B: Ledger, T: Ledger> {
     core: Core<Fnv>,
     history: Vec<Entry>,
     /// How many entries the chapter has at most, of those that began.
