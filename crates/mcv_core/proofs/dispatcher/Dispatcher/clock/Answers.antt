@@ -17,7 +17,7 @@ returns c =
         view = ap (λ since. record (in_era (core_view d) since) { moment = c.args.moment.0 }) is;
         era_is = IdleCores.new_era d.since c.since-since.result c.after-era.result c.after-era.ensures.changed c.after-era.ensures.other c.after-era.ensures.same;
         move = refl;
-        does = IdleCores.era_does d c.since-since.result c.args.moment.0 is c.after-era.result c.after-era.ensures.changed c.after-era.ensures.same;
+        does = IdleCores.era_does d c.since-since.result c.args.moment.0 is c.after-era.result c.after-era.ensures.changed c.after-era.ensures.other c.after-era.ensures.same;
       };
     }
 
