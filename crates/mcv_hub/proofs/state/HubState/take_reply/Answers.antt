@@ -1,4 +1,4 @@
-use Rattle.std.proofs.Common.{◌≡◌, ◌∙◌, Ok, Err, Some, None, Option, ap, refl, subst, sym, arith, vec_len, vec_capacity}
+use Rattle.std.proofs.Common.{◌≡◌, ◌∙◌, Ok, Err, Some, None, Option, length, ap, refl, rules, subst, sym, arith, vec_len, vec_capacity}
 use Rattle.std.proofs.lemmas.Result.{err_from_is_err_and}
 use Rattle.mcv_base.specs.Reply.{part_value}
 use Rattle.mcv_base.specs.declared.reply.Part.{Part}
@@ -106,9 +106,10 @@ returns-clause-receipt g c =
     let d = c.self.inside.core.dispatcher in
     let w = core_view c.take.new.self in
     let h : IsEvent (IsTaken (core_view d) c.args.call (Ok (Some c.in-Some.reply))) w = subst (λ o. IsEvent (IsTaken (core_view d) c.args.call (Ok o)) w) c.in-Some.is (subst (λ d. IsEvent (IsTaken (core_view d) c.args.call (Ok c.in_ok-found.found)) w) c.events.ensures.value c.in_ok-found.ensures) in
+    let entry : c.len.result ≡ length c.self.inside.history.items = search rules in
     record {
       chapter = rw (← c.self.view_is) refl;
-      entry = rw (← c.self.view_is) c.len.ensures;
+      entry = rw (← c.self.view_is) entry;
       call_is = refl;
       asked = c.in_ok-asked.ensures.ok;
       reply = λ world is left. reply_of_world (core_view c.args.self.now.core).routes (world_of (core_view c.args.self.now.core).rows) world c.args.call.0 (part_value c.in-Some.reply) left (rw (← c.self.view_is) h.event.reply);
