@@ -95,13 +95,15 @@ fn job_text(rt: &(impl AllocGlobal + Abort), job: Job<'_>) -> String {
             cert: Some(name),
             window,
         } => format!(in rt.alloc(); "check {window} by {name}"),
-        Job::Run(RunOptions {
-            listen,
-            spool,
-            sessions,
-            proxies,
-            window,
-        }) => format!(in rt.alloc(); "run {listen} {spool} {sessions} {proxies} {window}"),
+        Job::Run(
+            RunOptions {
+                listen,
+                spool,
+                sessions,
+                proxies,
+                window,
+            },
+        ) => format!(in rt.alloc(); "run {listen} {spool} {sessions} {proxies} {window}"),
     };
     text.expect(rt, "memory")
 }
