@@ -1,4 +1,4 @@
-use Rattle.std.proofs.Common.{◌≡◌, ◌∙◌, ◌++◌, [], ◌∷◌, Ok, Err, ap, refl, subst, sym, arith, vec_len, vec_capacity}
+use Rattle.std.proofs.Common.{◌∙◌, ◌++◌, [], ◌∷◌, Ok, ap, refl, subst, sym, arith, vec_len, vec_capacity}
 use Rattle.std.proofs.lemmas.Result.{err_from_is_err_and}
 use Rattle.std.specs.Arc.{arc_value}
 use Rattle.mcv_pools.specs.Hash.{fnv_index}

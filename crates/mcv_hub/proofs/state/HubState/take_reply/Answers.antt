@@ -1,4 +1,4 @@
-use Rattle.std.proofs.Common.{◌≡◌, ◌∙◌, Ok, Err, Some, None, Option, length, ap, refl, rules, subst, sym, arith, vec_len, vec_capacity}
+use Rattle.std.proofs.Common.{◌≡◌, ◌∙◌, Ok, Err, Some, None, Option, length, ap, refl, rules, subst, arith, vec_len, vec_capacity}
 use Rattle.std.proofs.lemmas.Result.{err_from_is_err_and}
 use Rattle.mcv_base.specs.Reply.{part_value}
 use Rattle.mcv_base.specs.declared.reply.Part.{Part}
