@@ -11,7 +11,7 @@ use Rattle.mcv_base.specs.Reply.{ReplyValue}
 use Rattle.mcv_pools.specs.Symbol.{SymbolValue}
 use Rattle.mcv_world.specs.Moves.{Began, Move, Taken}
 use Rattle.mcv_core.specs.CoreView.{CoreView, Does, Effect, HasEffect, does, refuses}
-use Rattle.mcv_core.specs.Events.{Happens, IsBegun, IsClocked, IsMarked, IsNext, IsRefused, IsReplay, IsTaken, IsTurned, IsUnmarked}
+use Rattle.mcv_core.specs.Events.{Happens, IsBegun, IsClocked, IsNext, IsReplay, IsTaken, IsTurned}
 use Rattle.mcv_core.specs.Steps.{Step, begun, sent, replayed, answered, lost, spooled, refused, marked, unmarked, clocked, turned, taken}
 use Rattle.mcv_core.specs.declared.fault.CoreFault.{CoreFault}
 use Rattle.mcv_core.specs.declared.run.Answer.{Answer}

@@ -9,10 +9,10 @@ use Rattle.mcv_route.specs.Outcomes.{Choice}
 use Rattle.mcv_route.specs.Situation.{Situation}
 use Rattle.mcv_route.specs.Tree.{Tree}
 use Rattle.mcv_base.specs.declared.reply.Outcome.TheVariants.{Error}
-use Rattle.mcv_rules.specs.NormalForm.{Part, all_of, alone, beside, in_turn, led_by, part, part_of, shade, turns_of, whole_of}
+use Rattle.mcv_rules.specs.NormalForm.{Part, alone, beside, in_turn, led_by, part, part_of, shade, whole_of}
 use Rattle.mcv_rules.specs.Plan as whole
 use Rattle.mcv_rules.specs.PlanInMemory.{Serves}
-use Rattle.mcv_rules.specs.Plans.{launch_of, plan}
+use Rattle.mcv_rules.specs.Plans.{launch_of}
 use Rattle.mcv_rules.specs.declared.arrival.After.{After}
 use Rattle.mcv_rules.specs.declared.arrival.After.TheVariants as after
 use Rattle.mcv_rules.specs.declared.plan.Plan.{Plan, Send, Reply, All, Beside, InTurn, OnHit, Shadowed}

@@ -1,7 +1,6 @@
 -- A call begins (own).
 use Rattle.std.specs.Arc.{arc_value}
 use Rattle.std.specs.Prelude.{◌≡◌, ◌<◌, ◌≤◌, ◌+◌, ◌*◌, ◌^◌, ℕ, false, List, [], Option, Some, None, ⊤, length, option_map, slice_get, slice_index, vec_capacity}
-use Rattle.mcv_base.specs.declared.operation.Op.{Op}
 use Rattle.mcv_base.specs.declared.request.Moment.{Moment}
 use Rattle.mcv_plan.specs.declared.state.EvalState.{EvalState}
 use Rattle.mcv_queues.specs.Queues.{room as leg_room}

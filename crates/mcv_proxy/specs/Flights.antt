@@ -1,5 +1,5 @@
 -- What is known of legs that threads have in hand: what was seen under the lock, and what links answered (own).
-use Rattle.std.specs.Prelude.{◌≡◌, ℕ, Bool, false, List, Option, Some, None, Result, Ok, Err, ⊤, slice_get}
+use Rattle.std.specs.Prelude.{◌≡◌, ℕ, Bool, false, List, Option, Some, Result, Ok, Err, ⊤, slice_get}
 use Rattle.mcv_base.specs.Reply.{ReplyValue, reply_value}
 use Rattle.mcv_base.specs.declared.reply.Reply.{Reply}
 use Rattle.mcv_base.specs.declared.request.LegId.{LegId}

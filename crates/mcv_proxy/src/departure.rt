@@ -66,10 +66,7 @@ pub(crate) fn take_next<B: Ledger, T: Ledger>(
     ensures refused { IfErr result (λ fault. IsHubEvent (IsNext (core_view guard.old.core) server (Err fault)) guard.old guard.new) }
 {
     guard.deletes_are_kept();
-    let leg = match guard.next(server) {
-        Ok(leg) => leg,
-        Err(fault) => return Err(fault),
-    };
+    let leg = guard.next(server)?;
     match flight_of(alloc, guard, server, leg) {
         Some(flight) => Ok(Departure::Sent(flight)),
         None => {

@@ -80,6 +80,18 @@ fn note_after<B: Ledger, T: Ledger>(
     }
 }
 
+/// Notes who is to send the legs that a call launched when it began; the first of them would have this number.
+fn note_begun<B: Ledger, T: Ledger>(
+    agenda: &mut Agenda<'_, B, T>,
+    core: &Dispatcher,
+    first: u64,
+    begun: &Result<CallId, CoreFault>,
+) {
+    if let Ok(call) = begun {
+        agenda.note_launched(core, first, &[*call]);
+    }
+}
+
 /// Begins a call for one key of the request.
 pub(crate) fn begin<B: Ledger, T: Ledger>(
     alloc: Global,
@@ -97,9 +109,7 @@ pub(crate) fn begin<B: Ledger, T: Ledger>(
 {
     let first = guard.core().next_leg();
     let begun = guard.begin(alloc, seat, request, key);
-    if let Ok(call) = &begun {
-        agenda.note_launched(guard.core(), first, &[*call]);
-    }
+    note_begun(agenda, guard.core(), first, &begun);
     begun
 }
 

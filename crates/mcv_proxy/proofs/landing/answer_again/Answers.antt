@@ -19,3 +19,12 @@ invariant_of-performed g c =
         performed = c.in-Performed.is;
       } ∣₁;
     }
+
+pub returns-in-Performed : goal.returns-in-Performed
+returns-in-Performed g c = record { result = c.answered.result; event = c.answered.ensures }
+
+pub returns-in-Waiting : goal.returns-in-Waiting
+returns-in-Waiting g c = record { result = c.answered.result; event = c.answered.ensures }
+
+pub returns-in_default : goal.returns-in_default
+returns-in_default g c = record { result = c.answered.result; event = c.answered.ensures }

@@ -1,4 +1,4 @@
-use Rattle.std.proofs.Common.{◌≡◌, ◌∙◌, ◌+◌, ◌-◌, refl, sym, ap, subst, false, arith, None}
+use Rattle.std.proofs.Common.{◌≡◌, ◌∙◌, ◌+◌, ◌-◌, refl, sym, ap, subst, false, arith}
 use Rattle.mcv_queues.specs.Legs.{is_flight, is_in_flight}
 use Rattle.mcv_queues.specs.Queues.{legs}
 use Rattle.mcv_queues.specs.declared.leg.State.TheVariants as states

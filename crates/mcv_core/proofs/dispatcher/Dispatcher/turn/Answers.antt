@@ -1,4 +1,4 @@
-use Rattle.std.proofs.Common.{◌≡◌, ◌+◌, ◌<◌, ◌^◌, rules, true, false, refl, sym, ap, ◌∙◌, None, arith, true≢false}
+use Rattle.std.proofs.Common.{◌≡◌, ◌+◌, ◌<◌, ◌^◌, rules, true, false, refl, sym, ◌∙◌, None, arith, true≢false}
 use Rattle.mcv_core.specs.View.{core_view}
 use Rattle.mcv_core.proofs.IdleCores
 use Rattle.mcv_core.proofs.dispatcher.Dispatcher.turn.Goals as goal

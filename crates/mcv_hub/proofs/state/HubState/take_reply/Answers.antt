@@ -1,4 +1,4 @@
-use Rattle.std.proofs.Common.{◌≡◌, ◌∙◌, Ok, Err, Some, None, Option, length, ap, refl, rules, subst, sym, arith, vec_len, vec_capacity}
+use Rattle.std.proofs.Common.{◌≡◌, ◌∙◌, Ok, Err, Some, None, Option, length, ap, refl, rules, subst, arith, vec_len, vec_capacity}
 use Rattle.std.proofs.lemmas.Result.{err_from_is_err_and}
 use Rattle.mcv_base.specs.Reply.{part_value}
 use Rattle.mcv_base.specs.declared.reply.Part.{Part}
@@ -29,7 +29,7 @@ invariant_of-self g c =
     let h : IsEvent (IsTaken (core_view d) c.args.call (Err fault)) w = subst (λ d. IsEvent (IsTaken (core_view d) c.args.call (Err fault)) w) c.events.ensures.value c.in_err-found.ensures in
     let goes = take_goes d w c.args.call (Err fault) h.move h.event in
     goes_holds (core_view d) w s.history.items s.chapter s.begun.total s.taken.total s.begun_before s.taken_before (vec_len s.history) (vec_capacity s.history) s.places s.breaks c.self.invariant h.move goes s.history.items s.begun.total s.taken.total
-    (vec_len s.history) (vec_capacity s.history) (none_writes _ _ _ h.move h.event.none refl) (none_begins _ h.move h.event.none) (none_takes _ h.move h.event.none) (none_longer _ h.move h.event.none) refl
+    (vec_len s.history) (vec_capacity s.history) (none_writes (core_view c.self.inside.core.dispatcher).routes c.self.inside.history.items c.self.inside.history.items h.move h.event.none refl) (none_begins _ h.move h.event.none) (none_takes _ h.move h.event.none) (none_longer _ h.move h.event.none) refl
 
 pub returns-in_err-found-clause-event : goal.returns-in_err-found-clause-event
 returns-in_err-found-clause-event g c =
@@ -41,7 +41,7 @@ returns-in_err-found-clause-event g c =
     let goes = take_goes d w c.args.call (Err fault) h.move h.event in
     rw (p.1, p.2)
     (rw (← c.self.view_is)
-    (hub_event _ _ _ h.move h.event goes.leads (none_writes _ _ _ h.move h.event.none refl) (none_begins _ h.move h.event.none) (none_takes _ h.move h.event.none) (record { chapter = refl; begun_before = refl; taken_before = refl })))
+    (hub_event _ _ _ h.move h.event goes.leads (none_writes (core_view c.self.inside.core.dispatcher).routes c.self.inside.history.items c.self.inside.history.items h.move h.event.none refl) (none_begins _ h.move h.event.none) (none_takes _ h.move h.event.none) (record { chapter = refl; begun_before = refl; taken_before = refl })))
 
 -- it has no reply, or it was taken
 pub invariant_of-self-in_default : goal.invariant_of-self-in_default
@@ -54,7 +54,7 @@ invariant_of-self-in_default g c =
     let none = untaken_none (core_view d) c.args.call h.move w h.event in
     let goes = take_goes d w c.args.call (Ok None) h.move h.event in
     goes_holds (core_view d) w s.history.items s.chapter s.begun.total s.taken.total s.begun_before s.taken_before (vec_len s.history) (vec_capacity s.history) s.places s.breaks c.self.invariant h.move goes s.history.items s.begun.total s.taken.total
-    (vec_len s.history) (vec_capacity s.history) (none_writes _ _ _ h.move none refl) (none_begins _ h.move none) (none_takes _ h.move none) (none_longer _ h.move none) refl
+    (vec_len s.history) (vec_capacity s.history) (none_writes (core_view c.self.inside.core.dispatcher).routes c.self.inside.history.items c.self.inside.history.items h.move none refl) (none_begins _ h.move none) (none_takes _ h.move none) (none_longer _ h.move none) refl
 
 pub returns-in_default-clause-event : goal.returns-in_default-clause-event
 returns-in_default-clause-event g c =
@@ -65,7 +65,7 @@ returns-in_default-clause-event g c =
     let none = untaken_none (core_view d) c.args.call h.move w h.event in
     let goes = take_goes d w c.args.call (Ok None) h.move h.event in
     rw (← c.self.view_is)
-    (hub_event _ _ _ h.move h.event goes.leads (none_writes _ _ _ h.move none refl) (none_begins _ h.move none) (none_takes _ h.move none) (record { chapter = refl; begun_before = refl; taken_before = refl }))
+    (hub_event _ _ _ h.move h.event goes.leads (none_writes (core_view c.self.inside.core.dispatcher).routes c.self.inside.history.items c.self.inside.history.items h.move none refl) (none_begins _ h.move none) (none_takes _ h.move none) (record { chapter = refl; begun_before = refl; taken_before = refl }))
 
 -- its entry has its place
 pub push_reserved-requires : goal.push_reserved-requires
@@ -86,8 +86,8 @@ invariant_of-self-2 g c =
     let w = core_view c.take.new.self in
     let h : IsEvent (IsTaken (core_view d) c.args.call (Ok (Some c.in-Some.reply))) w = subst (λ o. IsEvent (IsTaken (core_view d) c.args.call (Ok o)) w) c.in-Some.is (subst (λ d. IsEvent (IsTaken (core_view d) c.args.call (Ok c.in_ok-found.found)) w) c.events.ensures.value c.in_ok-found.ensures) in
     let goes = take_goes d w c.args.call (Ok (Some c.in-Some.reply)) h.move h.event in
-    goes_holds (core_view d) w s.history.items s.chapter s.begun.total s.taken.total s.begun_before s.taken_before (vec_len s.history) (vec_capacity s.history) s.places s.breaks c.self.invariant h.move goes _ _ _ _ _
-    (one_writes _ _ _ (Taken c.args.call) h.move (taken_move c.args.call.0) h.event.move refl c.push_reserved.ensures.items) (taken_begins h.move c.args.call.0 _ h.event.move) (taken_takes h.move c.args.call.0 _ _ h.event.move c.add.ensures.total)
+    goes_holds (core_view d) w s.history.items s.chapter s.begun.total s.taken.total s.begun_before s.taken_before (vec_len s.history) (vec_capacity s.history) s.places s.breaks c.self.invariant h.move goes c.push_reserved.new.self.items _ _ _ _
+    (one_writes (core_view c.self.inside.core.dispatcher).routes c.self.inside.history.items c.push_reserved.new.self.items (Taken c.args.call) h.move (taken_move c.args.call.0) h.event.move refl c.push_reserved.ensures.items) (taken_begins h.move c.args.call.0 _ h.event.move) (taken_takes h.move c.args.call.0 _ _ h.event.move c.add.ensures.total)
     (taken_longer h.move c.args.call.0 _ _ h.event.move c.push_reserved.ensures.len) c.push_reserved.ensures.capacity
 
 pub returns-clause-event : goal.returns-clause-event
@@ -98,7 +98,7 @@ returns-clause-event g c =
     let h : IsEvent (IsTaken (core_view d) c.args.call (Ok (Some c.in-Some.reply))) w = subst (λ o. IsEvent (IsTaken (core_view d) c.args.call (Ok o)) w) c.in-Some.is (subst (λ d. IsEvent (IsTaken (core_view d) c.args.call (Ok c.in_ok-found.found)) w) c.events.ensures.value c.in_ok-found.ensures) in
     let goes = take_goes d w c.args.call (Ok (Some c.in-Some.reply)) h.move h.event in
     rw (← c.self.view_is)
-    (hub_event _ _ _ h.move h.event goes.leads (one_writes _ _ _ (Taken c.args.call) h.move (taken_move c.args.call.0) h.event.move refl c.push_reserved.ensures.items) (taken_begins h.move c.args.call.0 _ h.event.move)
+    (hub_event _ _ _ h.move h.event goes.leads (one_writes (core_view c.self.inside.core.dispatcher).routes c.self.inside.history.items c.push_reserved.new.self.items (Taken c.args.call) h.move (taken_move c.args.call.0) h.event.move refl c.push_reserved.ensures.items) (taken_begins h.move c.args.call.0 _ h.event.move)
     (taken_takes h.move c.args.call.0 _ _ h.event.move c.add.ensures.total) (record { chapter = refl; begun_before = refl; taken_before = refl }))
 
 pub returns-clause-receipt : goal.returns-clause-receipt
