@@ -297,16 +297,16 @@ hub_event Event old new m event leads writes more_begun more_taken chapter = rec
 
 -- one that is no move
 pub none_writes : (r : RoutesValue) (es es2 : List Entry) (m : Option Move) → m ≡ None → es2 ≡ es → Writes r es m es2
-none_writes r es es2 m none same = subst (λ k. Writes r es k es2) (sym none) same
+none_writes r es es2 m is same = subst (λ k. Writes r es k es2) (sym is) same
 
 pub none_begins : (b : ℕ) (m : Option Move) → m ≡ None → b ≡ b + begun_by m
-none_begins b m none = let e = ap begun_by none in omega (arith, e)
+none_begins b m is = let e = ap begun_by is in omega (arith, e)
 
 pub none_takes : (t : ℕ) (m : Option Move) → m ≡ None → t ≡ t + taken_by m
-none_takes t m none = let e = ap taken_by none in omega (arith, e)
+none_takes t m is = let e = ap taken_by is in omega (arith, e)
 
 pub none_longer : (n : ℕ) (m : Option Move) → m ≡ None → n ≡ n + written m
-none_longer n m none = let e = ap written none in omega (arith, e)
+none_longer n m is = let e = ap written is in omega (arith, e)
 
 -- one on a leg
 pub change_writes : (r : RoutesValue) (es : List Entry) (leg : LegId) (p : Part) (x : ReplyValue) (change : Change) → part_value p ≡ x → Writes r es (change_move leg.0 x change) (with_entry es (leg_entry leg p change))

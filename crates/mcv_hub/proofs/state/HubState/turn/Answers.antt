@@ -1,4 +1,4 @@
-use Rattle.std.proofs.Common.{◌≡◌, ◌∙◌, ◌⊎◌, ◌≤◌, Ok, Err, false, inl, inr, ap, refl, rules, subst, sym, arith, true≢false, vec_len, vec_capacity}
+use Rattle.std.proofs.Common.{◌≡◌, ◌∙◌, ◌⊎◌, ◌≤◌, ◌^◌, Ok, Err, false, inl, inr, ap, refl, rules, subst, sym, arith, true≢false, vec_len, vec_capacity}
 use Rattle.std.proofs.lemmas.Result.{err_from_is_err_and}
 use Rattle.mcv_core.specs.Chapters.{IsAtRest}
 use Rattle.mcv_core.specs.Events.{IsEvent, IsTurned}
@@ -29,6 +29,20 @@ returns-in_default g c =
     (record {
       busy = refl;
       cause = λ can. let number = can.number in absurd (omega (arith, last, chapter, number));
+      same = record { core = refl; history = refl; books = record { begun = refl; taken = refl; same = record { chapter = refl; begun_before = refl; taken_before = refl } } };
+    })
+
+-- a book has counted as many as it may
+pub returns-then-begun-gt-MOST_COUNTED : goal.returns-then-begun-gt-MOST_COUNTED
+returns-then-begun-gt-MOST_COUNTED g c =
+    let begun = c.totals-begun.ensures.begun ∙ sym (ap (λ (z : HubView). z.begun) c.self.view_is) in
+    let taken = c.totals-begun.ensures.taken ∙ sym (ap (λ (z : HubView). z.taken) c.self.view_is) in
+    let full : (2 ^ 63 ≤ c.self.inside.begun.total) ⊎ (2 ^ 63 ≤ c.self.inside.taken.total) =
+    elim c.then-begun-gt-MOST_COUNTED.either [ inl e ↦ inl (omega (arith, e, begun)) | inr e ↦ inr (let k = e.1 in omega (arith, k, taken)) ] in
+    rw (← c.self.view_is)
+    (record {
+      busy = refl;
+      cause = λ can. full;
       same = record { core = refl; history = refl; books = record { begun = refl; taken = refl; same = record { chapter = refl; begun_before = refl; taken_before = refl } } };
     })
 
