@@ -12,7 +12,7 @@ use crate::stop::{Ending, Stop};
 use mcv_input::{RunFault, write_text};
 use mcv_legs::run_legs;
 use mcv_verdict::{Judgement, Verdict, judge_input, run_check};
-use mcv_words::{Job, LineFault, RunOptions, read_words};
+use mcv_words::{Job, LineFault, RunOptions, Window, read_words};
 use std::alloc::Global;
 use std::io::{Read, Write};
 use std::sync::Arc;
@@ -30,30 +30,42 @@ fn ending_of(verdict: Verdict) -> Ending
     }
 }
 
-/// Judges a configuration by a certificate that is made here.
-fn judge<R: Read, W: Write>(alloc: Global, reader: &mut R, writer: &mut W) -> Result<Ending, Stop>
-    ensures done { (held : Held) → IfOk result (IsJudged held None (R.remaining reader.old) (W.contents writer.old) (W.contents writer.new)) }
-    ensures stop { (held : Held) → IfErr result (IsJudgingFault held None (R.remaining reader.old)) }
+/// Judges a configuration within the window by a certificate that is made here.
+fn judge<R: Read, W: Write>(
+    alloc: Global,
+    window: Window,
+    reader: &mut R,
+    writer: &mut W,
+) -> Result<Ending, Stop>
+    ensures done { (held : Held) → IfOk result (IsJudged held None window.seconds (R.remaining reader.old) (W.contents writer.old) (W.contents writer.new)) }
+    ensures stop { (held : Held) → IfErr result (IsJudgingFault held None window.seconds (R.remaining reader.old)) }
     ensures silent { IfErr result (λ stop. stop ≢ Run Device → W.contents writer.new ≡ W.contents writer.old) }
 {
-    let verdict = run_check(alloc, reader, writer, None)?;
+    let verdict = run_check(alloc, reader, writer, None, window.seconds)?;
     Ok(ending_of(verdict))
 }
 
-/// Judges a configuration by the certificate in the file of this name, which is read first.
+/// Judges a configuration within the window by the certificate in the file of this name, which is read first.
 fn judge_by<R: Read, W: Write, F: NamedFiles>(
     alloc: Global,
     name: &str,
+    window: Window,
     files: &F,
     reader: &mut R,
     writer: &mut W,
 ) -> Result<Ending, Stop>
-    ensures done { IfOk result (IsJudged (F.held files.now) (Some name.now) (R.remaining reader.old) (W.contents writer.old) (W.contents writer.new)) }
-    ensures stop { IfErr result (IsJudgingFault (F.held files.now) (Some name.now) (R.remaining reader.old)) }
+    ensures done { IfOk result (IsJudged (F.held files.now) (Some name.now) window.seconds (R.remaining reader.old) (W.contents writer.old) (W.contents writer.new)) }
+    ensures stop { IfErr result (IsJudgingFault (F.held files.now) (Some name.now) window.seconds (R.remaining reader.old)) }
     ensures silent { IfErr result (λ stop. stop ≢ Run Device → W.contents writer.new ≡ W.contents writer.old) }
 {
     let text = files.read_named(alloc, name, CERTIFICATE_LIMIT)?;
-    let verdict = run_check(alloc, reader, writer, Some(text.as_slice()))?;
+    let verdict = run_check(
+        alloc,
+        reader,
+        writer,
+        Some(text.as_slice()),
+        window.seconds,
+    )?;
     Ok(ending_of(verdict))
 }
 
@@ -66,10 +78,10 @@ fn serve<R: Read, W: Write, P: Proxy>(
     writer: &mut W,
 ) -> Result<Ending, Stop>
     ensures done { (held : Held) → IfOk result (IsServed held (P.serves proxy.now) (order_of options.entry) (R.remaining reader.old) (W.contents writer.old) (W.contents writer.new)) }
-    ensures stop { (held : Held) → IfErr result (IsJudgingFault held None (R.remaining reader.old)) }
+    ensures stop { (held : Held) → IfErr result (IsJudgingFault held None options.entry.settings.window.seconds (R.remaining reader.old)) }
     ensures silent { IfErr result (λ stop. stop ≢ Run Device → stop ≢ Run Memory → W.contents writer.new ≡ W.contents writer.old) }
 {
-    match judge_input(alloc, reader)? {
+    match judge_input(alloc, reader, options.settings.window.seconds)? {
         Judgement::Covered { accepted, .. } => {
             // The routes are covered.
             let _ = accepted.routes();
@@ -107,8 +119,11 @@ pub fn run_words<'a, R: Read, W: Write, F: NamedFiles, P: Proxy>(
             run_legs(alloc, reader, writer, at)?;
             Ok(Ending::Done)
         }
-        Ok(Job::Check { cert: None }) => judge(alloc, reader, writer),
-        Ok(Job::Check { cert: Some(name) }) => judge_by(alloc, name, files, reader, writer),
+        Ok(Job::Check { cert: None, window }) => judge(alloc, window, reader, writer),
+        Ok(Job::Check {
+            cert: Some(name),
+            window,
+        }) => judge_by(alloc, name, window, files, reader, writer),
         Ok(Job::Run(options)) => serve(alloc, proxy, options, reader, writer),
         Err(LineFault::Help(text)) => {
             write_text(writer, text.as_bytes())?;

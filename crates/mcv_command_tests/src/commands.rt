@@ -22,34 +22,41 @@ mcv legs --at soon: bad line
 mcv legs --at: bad line
 mcv legs --at 1 --at 1: bad line
 mcv --at 1 legs: bad line
-mcv check: check
-mcv check --cert a.cert: check by a.cert
-mcv check --cert=: check by 
+mcv check: check 0
+mcv check --cert a.cert: check 0 by a.cert
+mcv check --window 604800: check 604800
+mcv check --window=4294967295 --cert a.cert: check 4294967295 by a.cert
+mcv check --window 4294967296: bad line
+mcv check --window -1: bad line
+mcv check --window: bad line
+mcv check --window 1 --window 1: bad line
+mcv legs --window 1: bad line
+mcv check --cert=: check 0 by 
 mcv check --cert: bad line
 mcv check --cert a --cert b: bad line
 mcv check a.cert: bad line
 mcv check --at 1: bad line
 mcv legs --cert a: bad line
-mcv run --listen h:1 --spool f: run h:1 f - 1 - -
-mcv run --spool=f --listen=h:1 --sessions=+7: run h:1 f 7 1 - -
-mcv run --listen h:1 --spool f --sessions 1: run h:1 f 1 1 - -
-mcv run --listen h:1 --spool f --sessions 1000000000: run h:1 f 1000000000 1 - -
+mcv run --listen h:1 --spool f: run h:1 f - 1 0 - -
+mcv run --spool=f --listen=h:1 --sessions=+7: run h:1 f 7 1 0 - -
+mcv run --listen h:1 --spool f --sessions 1: run h:1 f 1 1 0 - -
+mcv run --listen h:1 --spool f --sessions 1000000000: run h:1 f 1000000000 1 0 - -
 mcv run --listen h:1 --spool f --sessions 1000000001: bad line
 mcv run --listen h:1 --spool f --sessions 0: bad line
 mcv run --listen h:1 --spool f --sessions -1: bad line
 mcv run --listen h:1 --spool f --sessions all: bad line
 mcv run --listen h:1 --spool f --sessions: bad line
 mcv run --listen h:1 --spool f --sessions 1 --sessions 2: bad line
-mcv run --listen h:1 --spool f --proxies 1: run h:1 f - 1 - -
-mcv run --listen h:1 --spool f --proxies=64 --sessions 7: run h:1 f 7 64 - -
+mcv run --listen h:1 --spool f --proxies 1: run h:1 f - 1 0 - -
+mcv run --listen h:1 --spool f --proxies=64 --sessions 7: run h:1 f 7 64 0 - -
 mcv run --listen h:1 --spool f --proxies 65: bad line
 mcv run --listen h:1 --spool f --proxies 0: bad line
 mcv run --listen h:1 --spool f --proxies auto: bad line
 mcv run --listen h:1 --spool f --proxies: bad line
 mcv run --listen h:1 --spool f --proxies 1 --proxies 2: bad line
-mcv run --listen h:1 --spool f --server-timeout 200: run h:1 f - 1 200 -
-mcv run --listen h:1 --spool f --server-timeout=1 --client-timeout=3600000: run h:1 f - 1 1 3600000
-mcv run --listen h:1 --spool f --client-timeout 200: run h:1 f - 1 - 200
+mcv run --listen h:1 --spool f --server-timeout 200: run h:1 f - 1 0 200 -
+mcv run --listen h:1 --spool f --server-timeout=1 --client-timeout=3600000: run h:1 f - 1 0 1 3600000
+mcv run --listen h:1 --spool f --client-timeout 200: run h:1 f - 1 0 - 200
 mcv run --listen h:1 --spool f --server-timeout 0: bad line
 mcv run --listen h:1 --spool f --server-timeout 3600001: bad line
 mcv run --listen h:1 --spool f --server-timeout 1s: bad line
@@ -57,7 +64,9 @@ mcv run --listen h:1 --spool f --server-timeout: bad line
 mcv run --listen h:1 --spool f --client-timeout 0: bad line
 mcv run --listen h:1 --spool f --client-timeout 3600001: bad line
 mcv run --listen h:1 --spool f --client-timeout 1 --client-timeout 1: bad line
-mcv run --listen= --spool=: run   - 1 - -
+mcv run --listen= --spool=: run   - 1 0 - -
+mcv run --listen h:1 --spool f --window 60: run h:1 f - 1 60 - -
+mcv run --listen h:1 --spool f --window 4294967296: bad line
 mcv run: bad line
 mcv run --listen h:1: bad line
 mcv run --spool f: bad line
@@ -106,17 +115,23 @@ fn order_text(rt: &(impl AllocGlobal + Abort), options: RunOptions<'_>) -> Strin
     } = options;
     let sessions = number_text(rt, settings.sessions.map(|sessions| sessions.count));
     let proxies = settings.proxies.count;
+    let window = settings.window.seconds;
     let server = number_text(rt, settings.server_timeout.map(|timeout| timeout.millis));
     let client = number_text(rt, settings.client_timeout.map(|timeout| timeout.millis));
-    let text = format!(in rt.alloc(); "{listen} {spool} {sessions} {proxies} {server} {client}");
+    let text = format!(in rt.alloc(); "{listen} {spool} {sessions} {proxies} {window} {server} {client}");
     text.expect(rt, "memory")
 }
 
 fn job_text(rt: &(impl AllocGlobal + Abort), job: Job<'_>) -> String {
     let text = match job {
         Job::Legs { at } => format!(in rt.alloc(); "legs at {}", at.0),
-        Job::Check { cert: None } => format!(in rt.alloc(); "check"),
-        Job::Check { cert: Some(name) } => format!(in rt.alloc(); "check by {name}"),
+        Job::Check { cert: None, window } => {
+            format!(in rt.alloc(); "check {}", window.seconds)
+        }
+        Job::Check {
+            cert: Some(name),
+            window,
+        } => format!(in rt.alloc(); "check {} by {name}", window.seconds),
         Job::Run(options) => {
             let order = order_text(rt, options);
             format!(in rt.alloc(); "run {order}")

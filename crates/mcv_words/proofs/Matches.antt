@@ -12,8 +12,8 @@ use Rattle.clap.specs.declared.parser.matches.ArgMatches.{ArgMatches}
 use Rattle.clap.specs.declared.parser.matches.ArgMatches.TheViews.{out-ArgMatches, out-SubCommand}
 use Rattle.clap.specs.declared.parser.matches.SubCommand.{SubCommand}
 use Rattle.clap.specs.Simple.{subcommand_rows}
-use Rattle.mcv_words.specs.Ranges.{proxy_limit, session_limit, timeout_limit}
-use Rattle.mcv_words.specs.Words.{faults, named, CanRun, IsFaultOfKind, IsGivenIn, IsJobOf, IsLineFault, IsNumberOf, IsRunOf, MayBeGivenIn}
+use Rattle.mcv_words.specs.Ranges.{proxy_limit, session_limit, timeout_limit, window_limit}
+use Rattle.mcv_words.specs.Words.{faults, named, CanRun, IsCheckOf, IsFaultOfKind, IsGivenIn, IsJobOf, IsLineFault, IsNumberOf, IsRunOf, MayBeGivenIn}
 use Rattle.mcv_words.specs.declared.words.Job.{Job}
 use Rattle.mcv_words.specs.declared.words.Job.TheVariants.{Legs, Check, Run}
 use Rattle.mcv_words.proofs.OptionValues.{HasAll, HasNumber, MayHaveNumber}
@@ -104,7 +104,7 @@ not_unread G option least most rows e only none read (inr given) =
     only number.0 (Err e) (read number.0 number.1) (number.2, subst (λ (n : ℕ). n < 2 ^ 64) number.3 given.4)
 
 -- the value of an option is a number of the range of its parser
-given_in : (option : Text) (least most : ℕ) (rows : List Row) → HasNumber option least most rows → IsGivenIn option least most rows
+pub given_in : (option : Text) (least most : ℕ) (rows : List Row) → HasNumber option least most rows → IsGivenIn option least most rows
 given_in option least most rows has =
     let takes = accepts-Accepts false (parsers.Unsigned least most) has.0 has.2 in
     (digits_value 10 (without_leading_plus has.0), (has.0, has.1, takes.0, refl), takes.2, takes.3, takes.1)
@@ -119,12 +119,19 @@ can_run rows has = record {
   spool = subst (λ (o : Option Text). IsSome o) (sym has.spool.1) refl;
   sessions = may_be_given_in (codes "sessions") 1 session_limit rows has.sessions;
   proxies = given_in (codes "proxies") 1 proxy_limit rows has.proxies;
+  window = given_in (codes "window") 0 window_limit rows has.window;
   server_timeout = may_be_given_in (codes "server-timeout") 1 timeout_limit rows has.server_timeout;
   client_timeout = may_be_given_in (codes "client-timeout") 1 timeout_limit rows has.client_timeout;
 }
 
+-- the job of `check` that has the values of the words is what they ask for
+pub check_asked : (words : List Text) (rows : List Row) (job : Job) → faults words ≡ [] → named words ≡ Some (codes "check", rows) → IsCheckOf rows job → IsJobOf words job
+check_asked words rows (Legs at) none check of = absurd of
+check_asked words rows (Check cert window) none check of = (none, rows, check, of)
+check_asked words rows (Run options) none check of = absurd of
+
 -- the job of `run` that has the values of the words is what they ask for
 pub run_asked : (words : List Text) (rows : List Row) (job : Job) → faults words ≡ [] → named words ≡ Some (codes "run", rows) → IsRunOf rows job → IsJobOf words job
 run_asked words rows (Legs at) none run of = absurd of
-run_asked words rows (Check cert) none run of = absurd of
+run_asked words rows (Check cert window) none run of = absurd of
 run_asked words rows (Run options) none run of = (none, rows, run, of)

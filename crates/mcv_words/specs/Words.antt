@@ -7,12 +7,13 @@ use Rattle.clap.specs.Words.{App, IsAmong, Kinds, Row, Rule, Text, fault_of, fir
 use Rattle.clap.specs.declared.builder.value_parser.ValueParser.TheVariants as parsers
 use Rattle.clap.specs.declared.error.kind.ErrorKind.{ErrorKind}
 use Rattle.clap.specs.declared.error.kind.ErrorKind.TheVariants.{DisplayHelp, DisplayVersion, OutOfMemory}
-use Rattle.mcv_words.specs.Ranges.{proxy_limit, session_limit, timeout_limit}
+use Rattle.mcv_words.specs.Ranges.{proxy_limit, session_limit, timeout_limit, window_limit}
 use Rattle.mcv_words.specs.declared.options.ClientTimeout.{ClientTimeout}
 use Rattle.mcv_words.specs.declared.options.RunOptions.{RunOptions}
 use Rattle.mcv_words.specs.declared.options.ServerTimeout.{ServerTimeout}
 use Rattle.mcv_words.specs.declared.options.Sessions.{Sessions}
 use Rattle.mcv_words.specs.declared.options.Settings.{Settings}
+use Rattle.mcv_words.specs.declared.options.Window.{Window}
 use Rattle.mcv_words.specs.declared.words.Job.{Job}
 use Rattle.mcv_words.specs.declared.words.Job.TheVariants.{Legs, Check, Run}
 use Rattle.mcv_words.specs.declared.words.LineFault.{LineFault}
@@ -42,9 +43,17 @@ legs_app = with_rule (new_app (codes "legs")) at_rule
 abbrev pub cert_rule : Rule
 cert_rule = option_rule (codes "cert")
 
--- `check [--cert FILE]`
+-- `--NAME N`: a number in a range
+abbrev pub number_rule : Text → (least most : ℕ) → Rule
+number_rule name least most = record (option_rule name) { parser = Some (parsers.Unsigned least most) }
+
+-- `--window SECONDS`: a number from 0 to 4294967295, and 0 where it isn't given
+abbrev pub window_rule : Rule
+window_rule = record (number_rule (codes "window") 0 window_limit) { defaults = codes "0" ∷ [] }
+
+-- `check [--cert FILE] [--window SECONDS]`
 abbrev pub check_app : App
-check_app = with_rule (new_app (codes "check")) cert_rule
+check_app = with_rule (with_rule (new_app (codes "check")) cert_rule) window_rule
 
 -- `--listen ADDRESS`, `--spool FILE`: wanted
 abbrev pub listen_rule : Rule
@@ -52,10 +61,6 @@ listen_rule = record (option_rule (codes "listen")) { required = true }
 
 abbrev pub spool_rule : Rule
 spool_rule = record (option_rule (codes "spool")) { required = true }
-
--- `--NAME N`: a number in a range
-abbrev pub number_rule : Text → (least most : ℕ) → Rule
-number_rule name least most = record (option_rule name) { parser = Some (parsers.Unsigned least most) }
 
 -- `--sessions N`: a number from 1 to 1000000000
 abbrev pub sessions_rule : Rule
@@ -74,9 +79,9 @@ client_timeout_rule = number_rule (codes "client-timeout") 1 timeout_limit
 
 -- the options of `run`, in the order of its help
 abbrev pub run_rules : List Rule
-run_rules = listen_rule ∷ spool_rule ∷ sessions_rule ∷ proxies_rule ∷ server_timeout_rule ∷ client_timeout_rule ∷ []
+run_rules = listen_rule ∷ spool_rule ∷ sessions_rule ∷ proxies_rule ∷ window_rule ∷ server_timeout_rule ∷ client_timeout_rule ∷ []
 
--- `run --listen ADDRESS --spool FILE [--sessions N] [--proxies N] [--server-timeout MS] [--client-timeout MS]`
+-- `run --listen ADDRESS --spool FILE` with the options whose rules stand above
 abbrev pub run_app : App
 run_app = fold with_rule (new_app (codes "run")) run_rules
 
@@ -88,7 +93,7 @@ with_version app = record app { top = record app.top { has_version = true } }
 abbrev pub wanting_a_command : App → App
 wanting_a_command app = record app { top = record app.top { subcommand_required = true } }
 
--- `mcv check ..`, `mcv legs ..` and `mcv run ..`; `mcv --version`
+-- `mcv check`, `mcv legs` and `mcv run` with their options; `mcv --version`
 abbrev pub mcv_app : App
 mcv_app = with_subcommand (with_subcommand (with_subcommand (wanting_a_command (with_version (new_app (codes "mcv")))) check_app.top) legs_app.top) run_app.top
 
@@ -107,9 +112,13 @@ abbrev pub IsNumberOf : (option : Text) → List Row → ℕ → Type 0
 IsNumberOf option rows n = (text : Text) × (one_of option rows ≡ Some text) × IsNumeral 10 (without_leading_plus text)
     × (n ≡ digits_value 10 (without_leading_plus text))
 
--- clap takes the words, and they name the command `check` with this value of `--cert`, or none
-abbrev pub AsksCheck : List Text → Option Text → Type 0
-AsksCheck words cert = (faults words ≡ []) × (rows : List Row) × (named words ≡ Some (codes "check", rows)) × (cert ≡ first_of (codes "cert") rows)
+-- the value of `--cert`, or none, and that of `--window`
+abbrev pub HasCheckValues : List Row → (cert : Option Text) → Window → Type 0
+HasCheckValues rows cert window = (cert ≡ first_of (codes "cert") rows) × IsNumberOf (codes "window") rows window.seconds
+
+-- clap takes the words, and they name the command `check` with these values
+abbrev pub AsksCheck : List Text → (cert : Option Text) → Window → Type 0
+AsksCheck words cert window = (faults words ≡ []) × (rows : List Row) × (named words ≡ Some (codes "check", rows)) × HasCheckValues rows cert window
 
 -- the value of an option that may be left out: none, or a number
 abbrev pub IsNumberIfGiven : (option : Text) → List Row → Option ℕ → Type 0
@@ -120,6 +129,7 @@ IsNumberIfGiven option rows (Some n) = IsNumberOf option rows n
 pub record HasSettings (rows : List Row) (s : Settings) : Type 0 where
   pub sessions : IsNumberIfGiven (codes "sessions") rows (option_map (λ (n : Sessions). n.count) s.sessions)
   pub proxies : IsNumberOf (codes "proxies") rows s.proxies.count
+  pub window : IsNumberOf (codes "window") rows s.window.seconds
   pub server_timeout : IsNumberIfGiven (codes "server-timeout") rows (option_map (λ (t : ServerTimeout). t.millis) s.server_timeout)
   pub client_timeout : IsNumberIfGiven (codes "client-timeout") rows (option_map (λ (t : ClientTimeout). t.millis) s.client_timeout)
 
@@ -142,10 +152,16 @@ pub record HasRunValues (rows : List Row) (order : RunOrder) : Type 0 where
 abbrev pub AsksRun : List Text → RunOrder → Type 0
 AsksRun words order = (faults words ≡ []) × (rows : List Row) × (named words ≡ Some (codes "run", rows)) × HasRunValues rows order
 
+-- the job of `check` with these values
+abbrev pub IsCheckOf : List Row → Job → Type 0
+IsCheckOf rows (Legs at) = ⊥
+IsCheckOf rows (Check cert window) = HasCheckValues rows (option_map (λ name. name.now) cert) window
+IsCheckOf rows (Run options) = ⊥
+
 -- the job of `run` with these values
 abbrev pub IsRunOf : List Row → Job → Type 0
 IsRunOf rows (Legs at) = ⊥
-IsRunOf rows (Check cert) = ⊥
+IsRunOf rows (Check cert window) = ⊥
 IsRunOf rows (Run options) = HasRunValues rows (order_of options)
 
 -- the option is given a number of this range
@@ -162,12 +178,13 @@ pub record CanRun (rows : List Row) : Type 0 where
   pub spool : IsSome (first_of (codes "spool") rows)
   pub sessions : MayBeGivenIn (codes "sessions") 1 session_limit rows
   pub proxies : IsGivenIn (codes "proxies") 1 proxy_limit rows
+  pub window : IsGivenIn (codes "window") 0 window_limit rows
   pub server_timeout : MayBeGivenIn (codes "server-timeout") 1 timeout_limit rows
   pub client_timeout : MayBeGivenIn (codes "client-timeout") 1 timeout_limit rows
 
 -- clap takes the words, and they name the job's command with the values that the job has
 abbrev pub IsJobOf : List Text → Job → Type 0
-IsJobOf words (Check cert) = AsksCheck words (option_map (λ name. name.now) cert)
+IsJobOf words (Check cert window) = AsksCheck words (option_map (λ name. name.now) cert) window
 IsJobOf words (Legs at) = (faults words ≡ []) × (rows : List Row) × (named words ≡ Some (codes "legs", rows)) × IsNumberOf (codes "at") rows at.0
 IsJobOf words (Run options) = AsksRun words (order_of options)
 

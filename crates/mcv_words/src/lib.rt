@@ -6,5 +6,7 @@ mod help;
 mod options;
 mod words;
 
-pub use options::{ClientTimeout, InRange, Proxies, RunOptions, ServerTimeout, Sessions, Settings};
+pub use options::{
+    ClientTimeout, InRange, Proxies, RunOptions, ServerTimeout, Sessions, Settings, Window,
+};
 pub use words::{Job, LineFault, read_words};

@@ -1,7 +1,7 @@
-//! What `run` is asked for. Each number has a type of its own, which keeps it in its range.
+//! What `check` and `run` are asked for. Each number has a type of its own, which keeps it in its range.
 
 ghost use Rattle.std.specs.Prelude.{◌≡◌, ◌↔◌, ◌≤◌, ℕ, IfSome, IsSome};
-ghost use Rattle.mcv_words.specs.Ranges.{proxy_limit, session_limit, timeout_limit};
+ghost use Rattle.mcv_words.specs.Ranges.{proxy_limit, session_limit, timeout_limit, window_limit};
 
 /// A number that an option takes.
 pub trait InRange: Drop + Sized {
@@ -61,6 +61,28 @@ impl InRange for Proxies {
     }
 }
 
+/// How far apart, in seconds, a delete and a get are looked at, from 0 to 4,294,967,295; 0: in one era alone.
+#[derive(Clone, Copy, Debug, PartialEq, Eq)]
+pub struct Window {
+    pub seconds: u64,
+    pub ghost in_range: { seconds ≤ window_limit },
+}
+
+impl InRange for Window {
+    ghost least = { 0 };
+
+    ghost most = { window_limit };
+
+    ghost value = { λ window. window.seconds };
+
+    fn new(number: u64) -> Option<Window> {
+        if number > 4_294_967_295 {
+            return None;
+        }
+        Some(Window { seconds: number })
+    }
+}
+
 /// How long a server may take for a reply, a connection or a probe, from 1 ms to an hour.
 #[derive(Clone, Copy, Debug, PartialEq, Eq)]
 pub struct ServerTimeout {
@@ -111,6 +133,8 @@ pub struct Settings {
     /// None where the run doesn't end by itself.
     pub sessions: Option<Sessions>,
     pub proxies: Proxies,
+    /// Within what the configuration is judged.
+    pub window: Window,
     /// None where a server may take any time.
     pub server_timeout: Option<ServerTimeout>,
     /// None where a client may take any time.

@@ -1,18 +1,19 @@
 //! The command line: its commands, as clap reads them. What words ask for is `IsJobOf`, and why they ask for nothing
 //! `IsLineFault`.
 
-ghost use Rattle.std.specs.Prelude.{◌≡◌, false, option_map, IfOk, IfErr, IsOk, map};
+ghost use Rattle.std.specs.Prelude.{◌≡◌, codes, false, option_map, IfOk, IfErr, IsOk, map};
 ghost use Rattle.clap.specs.Words.{Text, app_of, found_of, kind_of, rows_of, rule_of};
 ghost use Rattle.clap.specs.declared.builder.command.Command.TheViews.{out-Command as fields_of};
-ghost use Rattle.mcv_words.specs.Words.{at_rule, cert_rule, check_app, client_timeout_rule, legs_app, listen_rule, mcv_app, proxies_rule, run_app, server_timeout_rule, sessions_rule, spool_rule, line_fault_number, CanRun, IsFaultOfKind, IsJobOf, IsLineFault, IsNumberIfGiven, IsRunOf, MayBeGivenIn};
+ghost use Rattle.mcv_words.specs.Ranges.{window_limit};
+ghost use Rattle.mcv_words.specs.Words.{at_rule, cert_rule, check_app, client_timeout_rule, legs_app, listen_rule, mcv_app, proxies_rule, run_app, server_timeout_rule, sessions_rule, spool_rule, window_rule, line_fault_number, CanRun, IsCheckOf, IsFaultOfKind, IsGivenIn, IsJobOf, IsLineFault, IsNumberIfGiven, IsRunOf, MayBeGivenIn};
 ghost use Rattle.mcv_words.specs.declared.words.LineFault.TheVariants.{Memory as out_of_memory};
 
 use crate::help::{
     ABOUT, AT, CERT, CHECK_ABOUT, CHECK_FORM, CLIENT_TIMEOUT, EXAMPLE, LEGS_ABOUT, LEGS_FORM,
-    LISTEN, PROXIES, RUN_ABOUT, RUN_FORM, SERVER_TIMEOUT, SESSIONS, SPOOL,
+    LISTEN, PROXIES, RUN_ABOUT, RUN_FORM, SERVER_TIMEOUT, SESSIONS, SPOOL, WINDOW,
 };
 use crate::options::{
-    ClientTimeout, InRange, Proxies, RunOptions, ServerTimeout, Sessions, Settings,
+    ClientTimeout, InRange, Proxies, RunOptions, ServerTimeout, Sessions, Settings, Window,
 };
 use clap::builder::ValueParser;
 use clap::error::ErrorKind;
@@ -25,9 +26,14 @@ use thiserror::Error;
 #[derive(Clone, Copy, Debug, PartialEq, Eq)]
 pub enum Job<'a> {
     /// To show the legs of a request that comes at a moment.
-    Legs { at: Moment },
-    /// To judge a configuration, by the certificate in the file of this name where one is given.
-    Check { cert: Option<&'a str> },
+    Legs {
+        at: Moment,
+    },
+    /// To judge a configuration within this window, by the certificate in the file of this name where one is given.
+    Check {
+        cert: Option<&'a str>,
+        window: Window,
+    },
     /// To serve clients.
     Run(RunOptions<'a>),
 }
@@ -102,15 +108,28 @@ fn cert_option<'a>(alloc: Global) -> Arg<'a>
         .help(CERT)
 }
 
+fn window_option<'a>(alloc: Global) -> Arg<'a>
+    ensures rule { rule_of result ≡ window_rule }
+    ensures local { result.global ≡ false }
+{
+    Arg::new(alloc, "window")
+        .long("window")
+        .value_name("SECONDS")
+        .value_parser(ValueParser::unsigned(0, 4_294_967_295))
+        .default_value("0")
+        .help(WINDOW)
+}
+
 fn check_command<'a>(alloc: Global) -> Result<Command<'a>, AllocError>
     ensures app { IfOk result (λ c. app_of c ≡ check_app) }
     ensures local { IfOk result (λ c. (fields_of c).has_globals ≡ false) }
 {
     Command::new(alloc, "check")
         .about(CHECK_ABOUT)
-        .override_usage("mcv check [--cert FILE] < FILE")
+        .override_usage("mcv check [--cert FILE] [--window SECONDS] < FILE")
         .after_help(CHECK_FORM)
-        .arg(cert_option(alloc))
+        .arg(cert_option(alloc))?
+        .arg(window_option(alloc))
 }
 
 fn listen_option<'a>(alloc: Global) -> Arg<'a>
@@ -192,6 +211,7 @@ fn run_command<'a>(alloc: Global) -> Result<Command<'a>, AllocError>
         .arg(spool_option(alloc))?
         .arg(sessions_option(alloc))?
         .arg(proxies_option(alloc))?
+        .arg(window_option(alloc))?
         .arg(server_timeout_option(alloc))?
         .arg(client_timeout_option(alloc))
 }
@@ -244,6 +264,18 @@ fn number_of<T: InRange>(found: &ArgMatches<'_>, option: &str) -> Result<Option<
     }
 }
 
+/// The job of `check`, by what clap found for its options.
+fn check_job<'a>(found: &ArgMatches<'a>) -> Result<Job<'a>, LineFault>
+    ensures job { IfOk result (IsCheckOf (rows_of (found_of found.now))) }
+    ensures ok { IsGivenIn (codes "window") 0 window_limit (rows_of (found_of found.now)) → IsOk result }
+{
+    let cert = found.get_str("cert");
+    let Some(window) = number_of::<Window>(found, "window")? else {
+        return Err(LineFault::BadLine);
+    };
+    Ok(Job::Check { cert, window })
+}
+
 /// The job of `run`, by what clap found for its options.
 fn run_job<'a>(found: &ArgMatches<'a>) -> Result<Job<'a>, LineFault>
     ensures job { IfOk result (IsRunOf (rows_of (found_of found.now))) }
@@ -259,6 +291,9 @@ fn run_job<'a>(found: &ArgMatches<'a>) -> Result<Job<'a>, LineFault>
     let Some(proxies) = number_of::<Proxies>(found, "proxies")? else {
         return Err(LineFault::BadLine);
     };
+    let Some(window) = number_of::<Window>(found, "window")? else {
+        return Err(LineFault::BadLine);
+    };
     let server_timeout = number_of::<ServerTimeout>(found, "server-timeout")?;
     let client_timeout = number_of::<ClientTimeout>(found, "client-timeout")?;
     Ok(Job::Run(RunOptions {
@@ -267,6 +302,7 @@ fn run_job<'a>(found: &ArgMatches<'a>) -> Result<Job<'a>, LineFault>
         settings: Settings {
             sessions,
             proxies,
+            window,
             server_timeout,
             client_timeout,
         },
@@ -284,8 +320,10 @@ pub fn read_words<'a>(alloc: Global, words: &'a [&'a str]) -> Result<Job<'a>, Li
         Err(error) => return Err(line_fault(alloc, &error)),
     };
     if let Some(found) = matches.subcommand_matches("check") {
-        let cert = found.get_str("cert");
-        return Ok(Job::Check { cert });
+        let Ok(job) = check_job(found) else {
+            return Err(LineFault::BadLine);
+        };
+        return Ok(job);
     }
     if let Some(found) = matches.subcommand_matches("run") {
         let Ok(job) = run_job(found) else {

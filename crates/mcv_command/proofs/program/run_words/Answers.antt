@@ -46,7 +46,7 @@ pub returns-in-Ok-Check-None-clause-done : goal.returns-in-Ok-Check-None-clause-
 returns-in-Ok-Check-None-clause-done g c =
     let held = g.F.NamedFiles.held c.args.files.now in
     let asks = rw (c.in-Ok-Check-None.field-0-is, c.in-Ok-Check-None.field-0-0-is) at c.in-Ok-Check-None.ensures.job in
-    IfOk-weaker c.judge.result _ _ (λ ending judged. inr (inr (inl (None, asks, judged)))) (c.judge.ensures.done held)
+    IfOk-weaker c.judge.result _ _ (λ ending judged. inr (inr (inl (None, c.in-Ok-Check-None.window, asks, judged)))) (c.judge.ensures.done held)
 
 pub returns-in-Ok-Check-None-clause-stop : goal.returns-in-Ok-Check-None-clause-stop
 returns-in-Ok-Check-None-clause-stop g c =
@@ -54,7 +54,7 @@ returns-in-Ok-Check-None-clause-stop g c =
     let held = g.F.NamedFiles.held c.args.files.now in
     let known = g.R.Read.remaining c.args.reader.now in
     let asks = rw (c.in-Ok-Check-None.field-0-is, c.in-Ok-Check-None.field-0-0-is) at c.in-Ok-Check-None.ensures.job in
-    IfErr-weaker c.judge.result _ _ (λ stop holds. judging_stop words held known None stop asks holds) (c.judge.ensures.stop held)
+    IfErr-weaker c.judge.result _ _ (λ stop holds. judging_stop words held known None c.in-Ok-Check-None.window stop asks holds) (c.judge.ensures.stop held)
 
 pub returns-in-Ok-Run-clause-done : goal.returns-in-Ok-Run-clause-done
 returns-in-Ok-Run-clause-done g c =
@@ -68,7 +68,7 @@ returns-in-Ok-Run-clause-stop g c =
     let held = g.F.NamedFiles.held c.args.files.now in
     let known = g.R.Read.remaining c.args.reader.now in
     let asks = rw c.in-Ok-Run.field-0-is at c.in-Ok-Run.ensures.job in
-    IfErr-weaker c.serve.result _ _ (λ stop holds. running_stop words held known stop (order_of c.in-Ok-Run.options, asks) holds) (c.serve.ensures.stop held)
+    IfErr-weaker c.serve.result _ _ (λ stop holds. running_stop words held known (order_of c.in-Ok-Run.options) stop asks holds) (c.serve.ensures.stop held)
 
 pub returns-in-Ok-Run-clause-silent : goal.returns-in-Ok-Run-clause-silent
 returns-in-Ok-Run-clause-silent g c =

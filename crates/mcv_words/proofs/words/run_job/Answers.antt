@@ -25,6 +25,7 @@ returns-clause-job c =
       settings = record {
         sessions = c.in_ok-sessions.ensures.number;
         proxies = rw c.in-Some-2.is at c.in_ok-proxies.ensures.number;
+        window = rw c.in-Some-3.is at c.in_ok-window.ensures.number;
         server_timeout = c.in_ok-server_timeout.ensures.number;
         client_timeout = c.in_ok-client_timeout.ensures.number;
       };
