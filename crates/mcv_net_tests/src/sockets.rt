@@ -3,7 +3,7 @@
 use crate::links::accepted_of;
 use mcv_check::Accepted;
 use mcv_net::{SpoolFiles, listen, run_proxy};
-use mcv_words::{InRange, Proxies, ServerTimeout, Sessions, Settings};
+use mcv_words::{InRange, Proxies, ServerTimeout, Sessions, Settings, Window};
 use std::alloc::Global;
 use std::io::{Eprint, Read, Write};
 use std::net::{Net, TcpListener, TcpStream};
@@ -106,6 +106,7 @@ fn settings_of(rt: &impl Abort, visit: &Visit) -> Settings {
     Settings {
         sessions: Some(Sessions::new(visit.clients).expect(rt, "some clients")),
         proxies: Proxies::new(visit.proxies).expect(rt, "some proxies"),
+        window: Window::new(0).expect(rt, "a window"),
         server_timeout: ServerTimeout::new(30_000),
         client_timeout: None,
     }

@@ -1,14 +1,12 @@
 //! The worker of the spool.
 
-ghost use Rattle.std.specs.Prelude.{◌≡◌, false, None, Result, Some, IfErr, IfNone, IfOk, IfSome, OnErr, OnOk, is_some};
+ghost use Rattle.std.specs.Prelude.{◌≡◌, ◌↔◌, false, None, Some, IfErr, IfNone, IfOk, IfSome, IsTrue, OnErr, OnOk, is_some};
 ghost use Rattle.mcv_base.specs.Reply.{fixed_value, not_found};
 ghost use Rattle.mcv_base.specs.declared.reply.FixedReply.TheVariants.{Lost as lost_reply};
 ghost use Rattle.mcv_core.specs.CoreView.{refusing_at, spooling_at};
 ghost use Rattle.mcv_core.specs.Readers.{IsFirstHeld};
 ghost use Rattle.mcv_core.specs.View.{core_view};
 ghost use Rattle.mcv_hub.specs.State.{IsLegEvent};
-ghost use Rattle.mcv_core.specs.declared.fault.CoreFault.{CoreFault};
-ghost use Rattle.mcv_core.specs.declared.step.Step.{Step};
 ghost use Rattle.mcv_spool.specs.FoundFile.{IsFound};
 ghost use Rattle.mcv_proxy.specs.Flights.{IsRecordOf};
 ghost use Rattle.mcv_proxy.specs.Steps.{breaks_spool};
@@ -79,16 +77,12 @@ fn respite_left<R: Clock>(rt: &R, until: Option<Instant>) -> Option<Duration> {
     if left.is_zero() { None } else { Some(left) }
 }
 
-/// Reports a held leg as refused, without asking the spool. Whether its call had no outcome of it before: then its session
-/// goes on.
-fn refuse<B: Ledger, T: Ledger>(
-    agenda: &mut Agenda<'_, B, T>,
-    guard: &mut Guard<'_, B, T>,
-    leg: LegId,
-) -> bool
-    ensures { (refused : Result Step CoreFault) × IsLegEvent (refusing_at (core_view guard.old.core) leg.0) (fixed_value lost_reply) leg guard.old guard.new refused }
+/// Whether a leg was refused of which its call had no outcome before: then its session goes on.
+fn is_first_refusal(refused: Result<Step, CoreFault>) -> bool
+    ensures ok { IfOk refused (λ step. IsTrue result ↔ (step.change ≡ Change.Refused)) }
+    ensures err { OnErr refused (result ≡ false) }
 {
-    match spool_refused(agenda, guard, leg) {
+    match refused {
         Ok(step) => step.change == Change::Refused,
         Err(_) => false,
     }
@@ -116,7 +110,8 @@ fn next_task<B: Ledger, T: Ledger, R: Wait + Clock>(
                 if is_last {
                     return Task::Write(held);
                 }
-                if refuse(agenda, &mut guard, held.leg) {
+                let refused = spool_refused(agenda, &mut guard, held.leg);
+                if is_first_refusal(refused) {
                     return Task::Ring;
                 }
                 agenda.ring_all();
