@@ -35,8 +35,8 @@ returns-in_default-check_job-clause-fault c =
     let check = sym held ∙ named_rows c.in-Ok.matches (codes "check") (rows_of found) (c.in-Some.ensures.found.0 refl) c.in-Some.ensures.rows in
     absurd (true≢false (sym (c.in_default-check_job.ensures.ok (given_in (codes "window") 0 window_limit (rows_of found) (check_values words (rows_of found) none check)))))
 
-pub returns-in-Ok-check_job-clause-job : goal.returns-in-Ok-check_job-clause-job
-returns-in-Ok-check_job-clause-job c =
+pub returns-in-Some-clause-job : goal.returns-in-Some-clause-job
+returns-in-Some-clause-job c =
     let words : List Text = map (λ w. w.now) c.args.words.now in
     let held = (c.in-Ok.ensures.matches (ap is_simple c.in_ok-command.ensures ∙ simple)).1 ∙ ap (λ (a : App). subcommand_of a words) c.in_ok-command.ensures in
     let none = sym (ap (λ (a : App). fault_of a words) c.in_ok-command.ensures) ∙ c.in-Ok.ensures.kinds (ap is_simple_and_free c.in_ok-command.ensures ∙ free) in
