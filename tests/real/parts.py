@@ -230,11 +230,10 @@ class Machine:
         return server
 
     def words(self, listen="127.0.0.1:0", spool=None, **numbers):
-        """The words of a run. A number is an option's, as server_timeout=200."""
-        words = [self.program, "run", "--listen", listen, "--spool", spool or self.path("mcv.spool")]
-        for name, number in numbers.items():
-            words += ["--" + name.replace("_", "-"), str(number)]
-        return words
+        """The words of `mcv run`; more options by their names, as server_timeout=200."""
+        spool = spool or self.path("mcv.spool")
+        words = [self.program, "run", "--listen", listen, "--spool", spool]
+        return words + [word for name, number in numbers.items() for word in ("--" + name.replace("_", "-"), str(number))]
 
     def config_file(self, config):
         path = self.path("config.json")

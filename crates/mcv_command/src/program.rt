@@ -120,10 +120,12 @@ pub fn run_words<'a, R: Read, W: Write, F: NamedFiles, P: Proxy>(
             Ok(Ending::Done)
         }
         Ok(Job::Check { cert: None, window }) => judge(alloc, window, reader, writer),
-        Ok(Job::Check {
-            cert: Some(name),
-            window,
-        }) => judge_by(alloc, name, window, files, reader, writer),
+        Ok(
+            Job::Check {
+                cert: Some(name),
+                window,
+            },
+        ) => judge_by(alloc, name, window, files, reader, writer),
         Ok(Job::Run(options)) => serve(alloc, proxy, options, reader, writer),
         Err(LineFault::Help(text)) => {
             write_text(writer, text.as_bytes())?;
