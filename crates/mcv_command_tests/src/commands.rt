@@ -283,8 +283,10 @@ const MAIN_PARTS: &[&str] = &[
 ];
 
 const CHECK_PARTS: &[&str] = &[
-    "Usage: mcv check [--cert FILE] < FILE",
+    "Usage: mcv check [--cert FILE] [--window SECONDS] < FILE",
     "--cert <FILE>",
+    "--window <SECONDS>",
+    "from 0 to 4294967295 [default: 0]",
     "\n  covered 1\n",
     "\n  lost b:11211\n",
     "\n  key /././!\n",
@@ -315,6 +317,7 @@ fn help_names_input_and_exit_statuses(rt: HostRuntime) {
 
 const RUN_PARTS: &[&str] = &[
     "Usage: mcv run --listen ADDRESS --spool FILE [OPTIONS] < FILE",
+    "--window <SECONDS>",
     "--listen <ADDRESS>",
     "--spool <FILE>",
     "--sessions <N>",

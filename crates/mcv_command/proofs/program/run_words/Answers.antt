@@ -42,19 +42,19 @@ returns-in_err-write_text-in-Err-Version-clause-stop g c =
 pub returns-in-Err-Memory-clause-stop : goal.returns-in-Err-Memory-clause-stop
 returns-in-Err-Memory-clause-stop g c = inl (inl refl)
 
-pub returns-in-Ok-Check-None-clause-done : goal.returns-in-Ok-Check-None-clause-done
-returns-in-Ok-Check-None-clause-done g c =
+pub returns-in-Ok-Check-None-default-clause-done : goal.returns-in-Ok-Check-None-default-clause-done
+returns-in-Ok-Check-None-default-clause-done g c =
     let held = g.F.NamedFiles.held c.args.files.now in
-    let asks = rw (c.in-Ok-Check-None.field-0-is, c.in-Ok-Check-None.field-0-0-is) at c.in-Ok-Check-None.ensures.job in
-    IfOk-weaker c.judge.result _ _ (λ ending judged. inr (inr (inl (None, c.in-Ok-Check-None.window, asks, judged)))) (c.judge.ensures.done held)
+    let asks = rw (c.in-Ok-Check-None-default.field-0-is, c.in-Ok-Check-None-default.field-0-0-is) at c.in-Ok-Check-None-default.ensures.job in
+    IfOk-weaker c.judge.result _ _ (λ ending judged. inr (inr (inl (None, c.in-Ok-Check-None-default.window, asks, judged)))) (c.judge.ensures.done held)
 
-pub returns-in-Ok-Check-None-clause-stop : goal.returns-in-Ok-Check-None-clause-stop
-returns-in-Ok-Check-None-clause-stop g c =
+pub returns-in-Ok-Check-None-default-clause-stop : goal.returns-in-Ok-Check-None-default-clause-stop
+returns-in-Ok-Check-None-default-clause-stop g c =
     let words : List Text = map (λ w. w.now) c.args.words.now in
     let held = g.F.NamedFiles.held c.args.files.now in
     let known = g.R.Read.remaining c.args.reader.now in
-    let asks = rw (c.in-Ok-Check-None.field-0-is, c.in-Ok-Check-None.field-0-0-is) at c.in-Ok-Check-None.ensures.job in
-    IfErr-weaker c.judge.result _ _ (λ stop holds. judging_stop words held known None c.in-Ok-Check-None.window stop asks holds) (c.judge.ensures.stop held)
+    let asks = rw (c.in-Ok-Check-None-default.field-0-is, c.in-Ok-Check-None-default.field-0-0-is) at c.in-Ok-Check-None-default.ensures.job in
+    IfErr-weaker c.judge.result _ _ (λ stop holds. judging_stop words held known None c.in-Ok-Check-None-default.window stop asks holds) (c.judge.ensures.stop held)
 
 pub returns-in-Ok-Run-clause-done : goal.returns-in-Ok-Run-clause-done
 returns-in-Ok-Run-clause-done g c =
