@@ -1,6 +1,6 @@
 -- Histories that are one entry longer, and what holds of each.
-use Rattle.std.proofs.Common.{◌≡◌, ◌∙◌, ◌⊎◌, inl, inr, ℕ, ◌+◌, ◌<◌, ◌≤◌, ◌^◌, Bool, true, false, List, [], ◌∷◌, ◌++◌, Option, Some, None, Result, Ok, Err, count_by, cond, refl, ap, sym, subst, arith}
-use Rattle.std.specs.Prelude.{IfOk, OnErr, OnOk, option_and_then, option_map, slice_get}
+use Rattle.std.proofs.Common.{◌≡◌, ◌∙◌, ◌⊎◌, inl, inr, ℕ, ◌+◌, ◌<◌, ◌≤◌, ◌^◌, Bool, true, false, List, [], ◌∷◌, ◌++◌, Option, Some, None, Ok, Err, count_by, cond, refl, ap, sym, subst, arith}
+use Rattle.std.specs.Prelude.{option_and_then, option_map, slice_get}
 use Rattle.std.specs.Arc.{arc_value}
 use Rattle.std.specs.declared.alloc.Global.{Global}
 use Rattle.std.specs.declared.sync.Arc.{Arc}
@@ -208,36 +208,6 @@ module _ (v w : CoreView) (es : List Entry) (c b t bb tb len capacity places bre
   -- nothing
   pub same_holds : w ≡ v → Holds w es c b t bb tb len capacity places breaks
   same_holds same = subst (λ z. Holds z es c b t bb tb len capacity places breaks) (sym same) h
-
-  -- an event that is no move
-  pub unmoved_holds : Unmoved v w → w.chapter ≡ v.chapter → may_write w ≤ may_write v → Holds w es c b t bb tb len capacity places breaks
-  unmoved_holds u same spent = (
-    hub_stays v w es c b t bb tb h.0 u same,
-    room_stays len len capacity capacity places (may_write v) (may_write w) 0 h.1 (omega (arith, spent)) (omega arith) refl,
-    h.2 ∙ ap break_count (sym u.routes),
-  )
-
-  -- a leg that was sent, or none
-  pub sent_holds : (r : Result LegId CoreFault) (f : LegId → CoreView) → IfOk r (λ leg. w ≡ f leg) → ((leg : LegId) → (f leg).chapter ≡ v.chapter) → OnOk r (Unmoved v w) → OnOk r (may_write w ≤ may_write v) → OnErr r (w ≡ v)
-      → Holds w es c b t bb tb len capacity places breaks
-  sent_holds (Ok leg) f view same u spent err = unmoved_holds u (ap (λ z. z.chapter) view ∙ same leg) spent
-  sent_holds (Err fault) f view same u spent err = same_holds err
-
-  -- other marks
-  pub marked_holds : w.routes ≡ v.routes → w.rows ≡ v.rows → w.chapter ≡ v.chapter → may_write w ≤ may_write v → Holds w es c b t bb tb len capacity places breaks
-  marked_holds routes rows chapter spent = (
-    record {
-      covered = subst AreCovered (sym routes) h.0.covered;
-      legal = subst (λ r. IsHistory r (world_of w.rows) es) (sym routes) (subst (λ z. IsHistory v.routes (world_of z) es) (sym rows) h.0.legal);
-      chapter_is = h.0.chapter_is ∙ sym chapter;
-      begun_is = h.0.begun_is;
-      taken_is = h.0.taken_is;
-      begun_small = h.0.begun_small;
-      taken_small = h.0.taken_small;
-    },
-    room_stays len len capacity capacity places (may_write v) (may_write w) 0 h.1 (omega (arith, spent)) (omega arith) refl,
-    h.2 ∙ ap break_count (sym routes),
-  )
 
   -- an event on a leg
   pub leg_holds : (leg : LegId) (p : Part) (x : ReplyValue) (change : Change) (e : Option Entry) (es' : List Entry) (len' capacity' : ℕ) → part_value p ≡ x → Does v w (change_move leg.0 x change) → w.chapter ≡ v.chapter
