@@ -1,4 +1,4 @@
-use Rattle.std.proofs.Common.{◌∙◌, List, None, ap, inl, inr, map, refl, sym, subst}
+use Rattle.std.proofs.Common.{◌∙◌, List, None, Some, ap, inl, inr, map, refl, sym, subst}
 use Rattle.std.proofs.lemmas.Result.{IfErr-weaker, IfOk-weaker, err_from_is_err_and}
 use Rattle.clap.specs.Words.{Text}
 use Rattle.mcv_command.specs.Program.{IsStop}
@@ -74,3 +74,16 @@ pub returns-in-Ok-Run-clause-silent : goal.returns-in-Ok-Run-clause-silent
 returns-in-Ok-Run-clause-silent g c =
     let asks = rw c.in-Ok-Run.field-0-is at c.in-Ok-Run.ensures.job in
     IfErr-weaker c.serve.result _ _ (λ stop silent no_device unasked. silent no_device (λ memory. unasked memory (order_of c.in-Ok-Run.options, asks))) c.serve.ensures.silent
+
+pub returns-in-Ok-Check-Some-default-clause-done : goal.returns-in-Ok-Check-Some-default-clause-done
+returns-in-Ok-Check-Some-default-clause-done g c =
+    let asks = rw (c.in-Ok-Check-Some-default.field-0-is, c.in-Ok-Check-Some-default.field-0-0-is) at c.in-Ok-Check-Some-default.ensures.job in
+    IfOk-weaker c.judge_by.result _ _ (λ ending judged. inr (inr (inl (Some c.in-Ok-Check-Some-default.name.now, c.in-Ok-Check-Some-default.window, asks, judged)))) c.judge_by.ensures.done
+
+pub returns-in-Ok-Check-Some-default-clause-stop : goal.returns-in-Ok-Check-Some-default-clause-stop
+returns-in-Ok-Check-Some-default-clause-stop g c =
+    let words : List Text = map (λ w. w.now) c.args.words.now in
+    let held = g.F.NamedFiles.held c.args.files.now in
+    let known = g.R.Read.remaining c.args.reader.now in
+    let asks = rw (c.in-Ok-Check-Some-default.field-0-is, c.in-Ok-Check-Some-default.field-0-0-is) at c.in-Ok-Check-Some-default.ensures.job in
+    IfErr-weaker c.judge_by.result _ _ (λ stop holds. judging_stop words held known (Some c.in-Ok-Check-Some-default.name.now) c.in-Ok-Check-Some-default.window stop asks holds) c.judge_by.ensures.stop
