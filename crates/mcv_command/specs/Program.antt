@@ -53,9 +53,9 @@ Serves = RoutesValue → RunOrder → (old new : Option Text) → Type 0
 -- the input names routes, these are covered within the window, and the proxy served them; or the verdict that they aren't was written
 abbrev pub IsServed : Held → Serves → RunOrder → (input old new : Option Text) → Ending → Type 0
 IsServed held serves order input old new ending =
-    let window = order.settings.window.seconds in
-    ((r : RoutesValue) × IfSome input (λ bytes. AreNamedBy bytes r) × AreCovered (within window r) × serves (within window r) order old new × (ending ≡ Done))
-    ⊎ (IsJudged held None window input old new Lost × (ending ≡ Lost))
+    ((r : RoutesValue) × IfSome input (λ bytes. AreNamedBy bytes r) × AreCovered (within order.settings.window.seconds r)
+    × serves (within order.settings.window.seconds r) order old new × (ending ≡ Done))
+    ⊎ (IsJudged held None order.settings.window.seconds input old new Lost × (ending ≡ Lost))
 
 -- the words ask for a run
 abbrev pub AsksAnyRun : List Text → Type 0

@@ -66,15 +66,11 @@ module _ {S X : Type 0} (contents remaining : S → Option (List ℕ)) (spells :
   lost_writing a b Memory w = w
   lost_writing a b Late w = w
 
-  -- .. of a connection that had been written as much
+  -- what was asked over a connection from some moment on
   pub asks_bound : (old bound new : S) (result : Result X Loss) → contents bound ≡ contents old → Asks contents remaining spells text bound new result
       → Asks contents remaining spells text old new result
   asks_bound old bound new result same (inl l) = inl (l.0, l.1, subst (λ a. Writes {X = X} a (contents new) text (Err l.0)) same l.2)
   asks_bound old bound new result same (inr r) = inr (r.0, subst (λ a. Appends a (contents r.0) text) same r.1, r.2)
-
-  pub over_bound : (old bound : S) (result : Result X Loss) (kept : Option S) → contents bound ≡ contents old → AsksOver contents remaining spells text bound result kept
-      → AsksOver contents remaining spells text old result kept
-  over_bound old bound result kept same (to, asks, is) = (to, asks_bound old bound to result same asks, is)
 
   over_by : (from stream : S) (outcome : Result (Unit {0}) Loss) (result : Result X Loss) (kept : Option S) (to : S)
       → Writes (contents from) (contents stream) text outcome
@@ -113,3 +109,9 @@ sends_by contents remaining spells text other op old over result kept e b g =
 pub either_way : {B : Type 0} (begun : Option B) (P : B → Type 0) (Q G : Type 0) → IfSome begun P → IfNone begun Q → ((b : B) → P b → G) → (Q → G) → G
 either_way None P Q G p q f h = h q
 either_way (Some b) P Q G p q f h = f b p
+
+-- a text that was written to the kept connection, once that had got a bound
+pub begins_bound : {S : Type 0} (contents : S → Option (List ℕ)) (text : List ℕ) (kept : Option S) (from bound : S) (written : Written S) → Some from ≡ kept → contents bound ≡ contents from
+    → Writes {X = Unit {0}} (contents bound) (contents written.stream) text written.outcome → Begins contents text kept (Some written)
+begins_bound contents text kept from bound written is same w =
+    subst (λ k. Begins contents text k (Some written)) is (subst (λ a. Writes {X = Unit {0}} a (contents written.stream) text written.outcome) same w)

@@ -1,4 +1,5 @@
 use Rattle.std.proofs.Common.{◌≡◌, ◌++◌, Ok, None, arith, subst, sym, take}
+use Rattle.std.proofs.lemmas.Result.{err_from_is_err_and}
 use Rattle.std.specs.Arc.{arc_value}
 use Rattle.std.specs.Io.KnownBytes.{Consumes}
 use Rattle.mcv_reply.specs.Reader.{Feeds}
@@ -16,10 +17,11 @@ returns-in-Err g c =
 
 pub returns-in_err-count : goal.returns-in_err-count
 returns-in_err-count g c =
+    let p = err_from_is_err_and c.from_residual.result c.from_residual.ensures.1 in
     let was = c.loop-read.invariant in
     let lost = c.in_err-count.ensures.lost in
     let still = come_still (SpellsReply c.args.leg.now.op (arc_value c.args.leg.now.rest)) _ _ _ _ was.0 was.2 c.in_err-count.ensures.unread in
-    come_late (SpellsReply c.args.leg.now.op (arc_value c.args.leg.now.rest)) _ _ _ was.0 lost.0 _ still lost.1
+    rw (p.1, p.2) (come_late (SpellsReply c.args.leg.now.op (arc_value c.args.leg.now.rest)) _ _ _ was.0 lost.0 _ still lost.1)
 
 pub loop-read-preserved : goal.loop-read-preserved
 loop-read-preserved g c =
