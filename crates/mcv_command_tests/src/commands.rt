@@ -118,16 +118,16 @@ fn order_text(rt: &(impl AllocGlobal + Abort), options: RunOptions<'_>) -> Strin
     let window = settings.window.seconds;
     let server = number_text(rt, settings.server_timeout.map(|timeout| timeout.millis));
     let client = number_text(rt, settings.client_timeout.map(|timeout| timeout.millis));
-    let text = format!(in rt.alloc(); "{listen} {spool} {sessions} {proxies} {window} {server} {client}");
+    let text = format!(in rt.alloc();
+        "{listen} {spool} {sessions} {proxies} {window} {server} {client}"
+    );
     text.expect(rt, "memory")
 }
 
 fn job_text(rt: &(impl AllocGlobal + Abort), job: Job<'_>) -> String {
     let text = match job {
         Job::Legs { at } => format!(in rt.alloc(); "legs at {}", at.0),
-        Job::Check { cert: None, window } => {
-            format!(in rt.alloc(); "check {}", window.seconds)
-        }
+        Job::Check { cert: None, window } => format!(in rt.alloc(); "check {}", window.seconds),
         Job::Check {
             cert: Some(name),
             window,
