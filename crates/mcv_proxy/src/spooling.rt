@@ -1,6 +1,6 @@
 //! The worker of the spool.
 
-ghost use Rattle.std.specs.Prelude.{◌≡◌, ◌↔◌, false, None, Some, IfErr, IfNone, IfOk, IfSome, IsTrue, OnErr, OnOk, is_some};
+ghost use Rattle.std.specs.Prelude.{◌≡◌, false, None, Some, IfErr, IfNone, IfOk, IfSome, OnErr, OnOk, is_some};
 ghost use Rattle.mcv_base.specs.Reply.{fixed_value, not_found};
 ghost use Rattle.mcv_base.specs.declared.reply.FixedReply.TheVariants.{Lost as lost_reply};
 ghost use Rattle.mcv_core.specs.CoreView.{refusing_at, spooling_at};
@@ -10,6 +10,7 @@ ghost use Rattle.mcv_hub.specs.State.{IsLegEvent};
 ghost use Rattle.mcv_spool.specs.FoundFile.{IsFound};
 ghost use Rattle.mcv_proxy.specs.Flights.{IsRecordOf};
 ghost use Rattle.mcv_proxy.specs.Steps.{breaks_spool};
+ghost use Rattle.std.specs.Prelude.{◌↔◌, IsTrue};
 
 use crate::agenda::Agenda;
 use crate::ends::Ends;
