@@ -34,7 +34,6 @@ fn loss_at(written: usize) -> Loss
 }
 
 /// Writes a text, with one write where the connection takes all of it at once.
-#[tactic(auto, using(crate::proofs::Writing::late_front))]
 pub(crate) fn write_text<S: Write>(stream: &mut S, text: &[u8]) -> Result<(), Loss>
     ensures { Writes (S.contents stream.old) (S.contents stream.new) text.now result }
 {
