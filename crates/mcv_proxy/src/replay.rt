@@ -205,8 +205,8 @@ fn go_round<B: Ledger, T: Ledger, L: Link, D: Disk, R: Wait>(
     unreachable!()
 }
 
-/// Goes round the servers and sends the legs again that are in the spool, until it is to end. After each round it waits for a second. A server that is marked is probed first. The record of a leg is done once its
-/// server has performed it.
+/// Goes round the servers and sends the legs again that are in the spool, until it is to end. After each round it waits for
+/// a second. A server that is marked is probed first. The record of a leg is done once its server has performed it.
 pub fn serve_replay<B: Ledger, T: Ledger, L: Link, D: Disk, W: Watch, R: Wait>(
     rt: &R,
     alloc: Global,
