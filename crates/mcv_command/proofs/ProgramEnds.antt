@@ -1,6 +1,6 @@
 -- What the program did, by what the words asked for.
-use Rattle.std.proofs.Common.{◌≡◌, ◌≢◌, ◌∙◌, ap, inl, inr, ◌+◌, ◌<◌, ◌≤◌, ℕ, Bool, true, false, List, length, take, Option, None, Some, subst, sym, arith}
-use Rattle.std.specs.Prelude.{IfSome, MatchOption}
+use Rattle.std.proofs.Common.{◌≡◌, ◌≢◌, ◌∙◌, ap, inl, inr, ◌+◌, ◌<◌, ◌≤◌, ℕ, Bool, true, false, List, length, take, Option, None, Some, refl, subst, sym, arith}
+use Rattle.std.specs.Prelude.{IfErr, IfSome, MatchOption, Ok, Err, Result}
 use Rattle.std.proofs.lemmas.List.{length-take}
 use Rattle.std.proofs.lemmas.Option.{IfSome_then}
 use Rattle.clap.specs.Words.{Text}
@@ -8,33 +8,41 @@ use Rattle.mcv_cert.specs.Reading.{Reading, Says, headless, over, reads, text_li
 use Rattle.mcv_input.proofs.FirstBytes.{whole}
 use Rattle.mcv_input.specs.Fault.{IsOutside}
 use Rattle.mcv_input.specs.declared.fault.RunFault.{RunFault}
-use Rattle.mcv_input.specs.declared.fault.RunFault.TheVariants.{Line, NoRoute, Config, CertificateText, Certificate, Memory, Device}
+use Rattle.mcv_input.specs.declared.fault.RunFault.TheVariants.{Line, NoRoute, Config, CertificateText, Certificate, Window, Memory, Device}
 use Rattle.mcv_verdict.specs.Fault as check
 use Rattle.mcv_verdict.specs.Verdict.{IsVerdictOn}
 use Rattle.mcv_verdict.specs.declared.verdict.Verdict.{Verdict}
 use Rattle.mcv_verdict.specs.declared.verdict.Verdict.TheVariants.{Covered, Lost}
 use Rattle.mcv_command.specs.declared.stop.Stop.{Stop}
 use Rattle.mcv_command.specs.declared.stop.Stop.TheVariants.{BadLine, Run}
-use Rattle.mcv_command.specs.Program.{AsksAnyRun, Held, IfGiven, IsJudgingFault, IsStop}
+use Rattle.mcv_command.specs.Program.{Held, IfGiven, IsJudgingFault, IsStop}
 use Rattle.mcv_show.specs.Shown.{IsShownOn, IsVerdictAs, IsVerdictIf, is_plain}
-use Rattle.mcv_words.specs.Words.{AsksCheck, AsksDraw}
+use Rattle.mcv_words.specs.Words.{AsksCheck, AsksDraw, AsksRun, RunValue}
 use Rattle.mcv_words.specs.declared.words.CheckOptions.{CheckOptions}
 
 -- ---- the faults of a verdict, as the program's
 
 pub judging_stop : (words : List Text) (held : Held) (input : Option Text) (cert : Option Text) (options : CheckOptions) (stop : Stop) → AsksCheck words cert options
-    → IsJudgingFault held cert input stop → IsStop words held input stop
+    → IsJudgingFault held cert options.window input stop → IsStop words held input stop
 judging_stop words held input cert options BadLine asks holds = absurd holds
 judging_stop words held input cert options (Run fault) asks holds = inr (inr (inl (cert, options, asks, holds)))
 
-pub drawing_stop : (words : List Text) (held : Held) (input : Option Text) (dot : Bool) (stop : Stop) → AsksDraw words dot → IsJudgingFault held None input stop
+pub drawing_stop : (words : List Text) (held : Held) (input : Option Text) (dot : Bool) (stop : Stop) → AsksDraw words dot → IsJudgingFault held None 0 input stop
     → IsStop words held input stop
 drawing_stop words held input dot BadLine asks holds = absurd holds
 drawing_stop words held input dot (Run fault) asks holds = inr (inr (inr (inl (dot, asks, holds))))
 
-pub running_stop : (words : List Text) (held : Held) (input : Option Text) (stop : Stop) → AsksAnyRun words → IsJudgingFault held None input stop → IsStop words held input stop
-running_stop words held input BadLine asks holds = absurd holds
-running_stop words held input (Run fault) asks holds = inr (inr (inr (inr (asks, holds))))
+pub running_stop : (words : List Text) (held : Held) (input : Option Text) (v : RunValue) (stop : Stop) → AsksRun words v → IsJudgingFault held None v.window input stop
+    → IsStop words held input stop
+running_stop words held input v BadLine asks holds = absurd holds
+running_stop words held input v (Run fault) asks holds = inr (inr (inr (inr (v, asks, holds))))
+
+-- a call that writes nothing on a fault where no report is asked for writes nothing where the words ask for none
+pub silent_unless_json : {T : Type 0} (json : Bool) (r : Result T Stop) (Same : Type 0) {NoDevice : Stop → Type 0} {Unasked : Stop → Type 0} {Report : Type 0} → (json ≡ true → Report)
+    → (json ≡ false → IfErr r (λ stop. NoDevice stop → Same)) → IfErr r (λ stop. NoDevice stop → Unasked stop → ¬ Report → Same)
+silent_unless_json json (Ok x) Same asks silent = tt
+silent_unless_json true (Err stop) Same asks silent = λ no_device unasked unreported. absurd (unreported (asks refl))
+silent_unless_json false (Err stop) Same asks silent = λ no_device unasked unreported. silent refl no_device
 
 -- a fault that is outside is out of memory or a device's
 pub outside_stop : (stop : Stop) (fault : RunFault) → stop ≡ Run fault → IsOutside fault → stop ≢ Run Device → stop ≢ Run Memory → ⊥
@@ -54,14 +62,14 @@ says_all text first r is (over long) =
 says_all text first r is (headless short none) =
     let same : first ≡ text = is ∙ whole read_limit text (subst (λ (xs : List ℕ). length xs < read_limit) is (omega arith)) in
     subst (λ (xs : List ℕ). Says xs r) same (headless short none)
-says_all text first r is (reads body s short starts behind) =
+says_all text first r is (reads w body s small short starts behind) =
     let same : first ≡ text = is ∙ whole read_limit text (subst (λ (xs : List ℕ). length xs < read_limit) is (omega arith)) in
-    subst (λ (xs : List ℕ). Says xs s) same (reads body s short starts behind)
+    subst (λ (xs : List ℕ). Says xs s) same (reads w body s small short starts behind)
 
-pub verdict_by_all : (input text first : List ℕ) (verdict : Verdict) (written : List ℕ) → first ≡ take read_limit text → IsVerdictOn input (Some first) verdict written
-    → IsVerdictOn input (Some text) verdict written
-verdict_by_all input text first (Covered n) written is on = (on.0, on.1, (on.2.0, says_all text first _ is on.2.1, on.2.2, on.2.3, on.2.4))
-verdict_by_all input text first Lost written is on = absurd on.2
+pub verdict_by_all : (input : List ℕ) (window : ℕ) (text first : List ℕ) (verdict : Verdict) (written : List ℕ) → first ≡ take read_limit text
+    → IsVerdictOn input window (Some first) verdict written → IsVerdictOn input window (Some text) verdict written
+verdict_by_all input window text first (Covered n) written is on = (on.0, on.1, (on.2.0, says_all text first _ is on.2.1, on.2.2, on.2.3, on.2.4))
+verdict_by_all input window text first Lost written is on = absurd on.2
 
 shown_by_all : (o : CheckOptions) (input text first : List ℕ) (verdict : Verdict) (written : List ℕ) → first ≡ take read_limit text → IsShownOn o input (Some first) verdict written
     → IsShownOn o input (Some text) verdict written
@@ -76,17 +84,19 @@ pub verdict_as_by_all : (o : CheckOptions) (input text first : List ℕ) (verdic
 verdict_as_by_all o input text first verdict written is on = go (is_plain o) on
   where
     go : (plain : Bool) → IsVerdictIf plain o input (Some first) verdict written → IsVerdictIf plain o input (Some text) verdict written
-    go true here = verdict_by_all input text first verdict written is here
+    go true here = verdict_by_all input o.window text first verdict written is here
     go false here = shown_by_all o input text first verdict written is here
 
-pub fault_by_all : (input text first : List ℕ) (fault : RunFault) → first ≡ take read_limit text → check.IsRunFault input (Some first) fault → check.IsRunFault input (Some text) fault
-fault_by_all input text first Line is holds = holds
-fault_by_all input text first NoRoute is holds = holds
-fault_by_all input text first (Config fault) is holds = holds
-fault_by_all input text first (CertificateText fault) is holds = (holds.0, holds.1, says_all text first _ is holds.2)
-fault_by_all input text first (Certificate fault) is holds = (holds.0, holds.1, (holds.2.0, says_all text first _ is holds.2.1, holds.2.2))
-fault_by_all input text first Memory is holds = tt
-fault_by_all input text first Device is holds = tt
+pub fault_by_all : (input : List ℕ) (window : ℕ) (text first : List ℕ) (fault : RunFault) → first ≡ take read_limit text → check.IsRunFault input window (Some first) fault
+    → check.IsRunFault input window (Some text) fault
+fault_by_all input window text first Line is holds = holds
+fault_by_all input window text first NoRoute is holds = holds
+fault_by_all input window text first (Config fault) is holds = holds
+fault_by_all input window text first (CertificateText fault) is holds = (holds.0, holds.1, says_all text first _ is holds.2)
+fault_by_all input window text first (Certificate fault) is holds = (holds.0, holds.1, (holds.2.0, says_all text first _ is holds.2.1, holds.2.2))
+fault_by_all input window text first Window is holds = (holds.0, holds.1, (holds.2.0, holds.2.1, says_all text first _ is holds.2.2, holds.2.3))
+fault_by_all input window text first Memory is holds = tt
+fault_by_all input window text first Device is holds = tt
 
 -- what follows from the first bytes of a file follows from what it holds; where that isn't known, these are some bytes
 given_one : (known : Option Text) (first : List ℕ) (P : Option Text → Type 0) → IfSome known (λ all. first ≡ take read_limit all)

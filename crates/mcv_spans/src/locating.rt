@@ -142,10 +142,10 @@ fn read_member<'t>(
     let [b':', behind @ ..] = behind_blanks(behind) else {
         return Ok(None);
     };
-    let Some((value, behind)) = read_value(alloc, total, behind_blanks(behind), depth)? else {
+    let Some(name) = unquoted(alloc, quoted)? else {
         return Ok(None);
     };
-    let Some(name) = unquoted(alloc, quoted)? else {
+    let Some((value, behind)) = read_value(alloc, total, behind_blanks(behind), depth)? else {
         return Ok(None);
     };
     Ok(Some((Member { name, value }, behind)))

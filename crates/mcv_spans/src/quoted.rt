@@ -1,5 +1,7 @@
 //! Texts between quotes.
 
+ghost use Rattle.std.specs.Prelude.{◌<◌};
+
 use memchr::memchr;
 use serde_json::Value;
 use std::alloc::{AllocError, Global};

@@ -12,6 +12,7 @@ use Rattle.mcv_words.specs.declared.words.CheckOptions.{CheckOptions}
 use Rattle.mcv_words.specs.declared.words.Job.{Job}
 use Rattle.mcv_words.specs.declared.words.Job.TheVariants.{Legs, Check, Draw, Run}
 use Rattle.mcv_words.specs.declared.words.LineFault.{LineFault}
+use Rattle.mcv_words.specs.declared.words.RunOptions.{RunOptions}
 use Rattle.mcv_words.specs.declared.words.LineFault.TheVariants.{BadLine, Memory, Help, Version}
 
 -- ---- the commands
@@ -38,6 +39,17 @@ legs_app = with_rule (new_app (codes "legs")) at_rule
 abbrev pub cert_rule : Rule
 cert_rule = option_rule (codes "cert")
 
+-- the most seconds of a window
+abbrev pub window_limit : ℕ
+window_limit = 4294967295
+
+-- `--window SECONDS`: a number from 0 to 4294967295, and 0 where it isn't given
+abbrev pub window_rule : Rule
+window_rule = record (option_rule (codes "window")) {
+  parser = Some (parsers.Unsigned 0 window_limit);
+  defaults = codes "0" ∷ [];
+}
+
 -- a flag, which takes no value
 abbrev pub flag_rule : Text → Rule
 flag_rule name = record (new_rule name) {
@@ -49,9 +61,10 @@ flag_rule name = record (new_rule name) {
 abbrev pub quiet_rule : Rule
 quiet_rule = record (flag_rule (codes "quiet")) { short = Some 113 }
 
--- `check [--cert FILE] [--explain] [--json] [-q]`
+-- `check [--cert FILE] [--window SECONDS] [--explain] [--json] [-q]`
 abbrev pub check_app : App
-check_app = with_rule (with_rule (with_rule (with_rule (new_app (codes "check")) cert_rule) (flag_rule (codes "explain"))) (flag_rule (codes "json"))) quiet_rule
+check_app =
+    with_rule (with_rule (with_rule (with_rule (with_rule (new_app (codes "check")) cert_rule) window_rule) (flag_rule (codes "explain"))) (flag_rule (codes "json"))) quiet_rule
 
 -- `draw [--dot] [-q]`
 abbrev pub draw_app : App
@@ -86,9 +99,9 @@ proxies_rule = record (option_rule (codes "proxies")) {
   defaults = codes "1" ∷ [];
 }
 
--- `run --listen ADDRESS --spool FILE [--sessions N] [--proxies N]`
+-- `run --listen ADDRESS --spool FILE [--sessions N] [--proxies N] [--window SECONDS]`
 abbrev pub run_app : App
-run_app = with_rule (with_rule (with_rule (with_rule (new_app (codes "run")) listen_rule) spool_rule) sessions_rule) proxies_rule
+run_app = with_rule (with_rule (with_rule (with_rule (with_rule (new_app (codes "run")) listen_rule) spool_rule) sessions_rule) proxies_rule) window_rule
 
 -- a command that shows its version where that is asked for
 abbrev pub with_version : App → App
@@ -98,7 +111,7 @@ with_version app = record app { top = record app.top { has_version = true } }
 abbrev pub wanting_a_command : App → App
 wanting_a_command app = record app { top = record app.top { subcommand_required = true } }
 
--- `mcv check [--cert FILE] [--explain] [--json] [-q]`, `mcv draw [--dot] [-q]`, `mcv legs [--at SECONDS]` and `mcv run --listen ADDRESS --spool FILE [--sessions N] [--proxies N]`; `mcv --version`
+-- `mcv check`, `mcv draw`, `mcv legs` and `mcv run` with their options; `mcv --version`
 abbrev pub mcv_app : App
 mcv_app = with_subcommand (with_subcommand (with_subcommand (with_subcommand (wanting_a_command (with_version (new_app (codes "mcv")))) check_app.top) draw_app.top) legs_app.top) run_app.top
 
@@ -122,56 +135,79 @@ abbrev pub IsFlag : (flag : Text) → List Row → Bool → Type 0
 IsFlag flag rows b =
     (one_of flag rows ≡ Some (codes "true") → b ≡ true) × (one_of flag rows ≡ Some (codes "false") → b ≡ false) × (one_of flag rows ≡ None → b ≡ false)
 
--- the value of `--cert`, or none, and whether `--explain`, `--json` and `-q` are given
-abbrev pub HasCheckValues : List Row → Option Text → CheckOptions → Type 0
-HasCheckValues rows cert options = (cert ≡ first_of (codes "cert") rows) × IsFlag (codes "explain") rows options.explain
-    × IsFlag (codes "json") rows options.json × IsFlag (codes "quiet") rows options.quiet
+-- the value of `--cert`, or none, that of `--window`, and whether `--explain`, `--json` and `-q` are given
+abbrev pub HasCheckValues : List Row → (cert : Option Text) → CheckOptions → Type 0
+HasCheckValues rows cert options = (cert ≡ first_of (codes "cert") rows) × IsNumberOf (codes "window") rows options.window
+    × IsFlag (codes "explain") rows options.explain × IsFlag (codes "json") rows options.json × IsFlag (codes "quiet") rows options.quiet
 
--- clap takes the words, and they name the command `check` with these values
-abbrev pub AsksCheck : List Text → Option Text → CheckOptions → Type 0
-AsksCheck words cert options = (faults words ≡ []) × (rows : List Row) × (named words ≡ Some (codes "check", rows)) × HasCheckValues rows cert options
+-- clap takes the words, and they name the command `check` with these values; the window is in its range
+abbrev pub AsksCheck : List Text → (cert : Option Text) → CheckOptions → Type 0
+AsksCheck words cert options = (faults words ≡ []) × (rows : List Row) × (named words ≡ Some (codes "check", rows))
+    × HasCheckValues rows cert options × (options.window ≤ window_limit)
 
 -- clap takes the words, and they name the command `draw`, with `--dot` or without
 abbrev pub AsksDraw : List Text → Bool → Type 0
 AsksDraw words dot = (faults words ≡ []) × (rows : List Row) × (named words ≡ Some (codes "draw", rows)) × IsFlag (codes "dot") rows dot
 
--- the values of `--listen`, `--spool`, `--sessions` and `--proxies`
-abbrev pub HasRunValues : List Row → (listen spool : Text) → (sessions proxies : ℕ) → Type 0
-HasRunValues rows listen spool sessions proxies = (first_of (codes "listen") rows ≡ Some listen) × (first_of (codes "spool") rows ≡ Some spool)
-    × IsNumberOf (codes "sessions") rows sessions × IsNumberOf (codes "proxies") rows proxies
+-- what a run is asked for: an address, the name of the spool's file, how many sessions, how many proxies, and a window in seconds
+pub record RunValue : Type 0 where
+  pub listen : Text
+  pub spool : Text
+  pub sessions : ℕ
+  pub proxies : ℕ
+  pub window : ℕ
 
--- clap takes the words, and they name the command `run` with these values; the numbers of sessions and of proxies are in their ranges
-abbrev pub AsksRun : List Text → (listen spool : Text) → (sessions proxies : ℕ) → Type 0
-AsksRun words listen spool sessions proxies = (faults words ≡ []) × (rows : List Row) × (named words ≡ Some (codes "run", rows))
-    × HasRunValues rows listen spool sessions proxies × (1 ≤ sessions) × (sessions ≤ session_limit) × (1 ≤ proxies) × (proxies ≤ proxy_limit)
+-- what the code's value means
+abbrev pub run_of : RunOptions → RunValue
+run_of o = record { listen = o.listen.now; spool = o.spool.now; sessions = o.sessions; proxies = o.proxies; window = o.window }
+
+-- the values of the options of `run`
+pub record HasRunValues (rows : List Row) (v : RunValue) : Type 0 where
+  pub listen : first_of (codes "listen") rows ≡ Some v.listen
+  pub spool : first_of (codes "spool") rows ≡ Some v.spool
+  pub sessions : IsNumberOf (codes "sessions") rows v.sessions
+  pub proxies : IsNumberOf (codes "proxies") rows v.proxies
+  pub window : IsNumberOf (codes "window") rows v.window
+
+-- clap takes the words, and they name the command `run` with these values; the numbers are in their ranges
+pub record AsksRun (words : List Text) (v : RunValue) : Type 0 where
+  pub none : faults words ≡ []
+  pub rows : List Row
+  pub names : named words ≡ Some (codes "run", rows)
+  pub has : HasRunValues rows v
+  pub least : 1 ≤ v.sessions
+  pub most : v.sessions ≤ session_limit
+  pub least_proxies : 1 ≤ v.proxies
+  pub most_proxies : v.proxies ≤ proxy_limit
+  pub most_window : v.window ≤ window_limit
 
 -- the job of `check` with these values
 abbrev pub IsCheckOf : List Row → Job → Type 0
 IsCheckOf rows (Legs at) = ⊥
 IsCheckOf rows (Check cert options) = HasCheckValues rows (option_map (λ name. name.now) cert) options
 IsCheckOf rows (Draw dot) = ⊥
-IsCheckOf rows (Run listen spool sessions proxies) = ⊥
+IsCheckOf rows (Run options) = ⊥
 
 -- the job of `draw` with these values
 abbrev pub IsDrawOf : List Row → Job → Type 0
 IsDrawOf rows (Legs at) = ⊥
 IsDrawOf rows (Check cert options) = ⊥
 IsDrawOf rows (Draw dot) = IsFlag (codes "dot") rows dot
-IsDrawOf rows (Run listen spool sessions proxies) = ⊥
+IsDrawOf rows (Run options) = ⊥
 
 -- the job of `run` with these values
 abbrev pub IsRunOf : List Row → Job → Type 0
 IsRunOf rows (Legs at) = ⊥
 IsRunOf rows (Check cert options) = ⊥
 IsRunOf rows (Draw dot) = ⊥
-IsRunOf rows (Run listen spool sessions proxies) = HasRunValues rows listen.now spool.now sessions proxies
+IsRunOf rows (Run options) = HasRunValues rows (run_of options)
 
 -- clap takes the words, and they name the job's command with the values that the job has
 abbrev pub IsJobOf : List Text → Job → Type 0
 IsJobOf words (Check cert options) = AsksCheck words (option_map (λ name. name.now) cert) options
 IsJobOf words (Draw dot) = AsksDraw words dot
 IsJobOf words (Legs at) = (faults words ≡ []) × (rows : List Row) × (named words ≡ Some (codes "legs", rows)) × IsNumberOf (codes "at") rows at.0
-IsJobOf words (Run listen spool sessions proxies) = AsksRun words listen.now spool.now sessions proxies
+IsJobOf words (Run options) = AsksRun words (run_of options)
 
 -- why words ask for no job: clap finds a fault with them that isn't the wish for help or for the
 -- version; memory ran out; they ask for help; they ask for the version
