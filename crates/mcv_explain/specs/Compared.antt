@@ -1,6 +1,6 @@
 -- What a certificate compared, in numbers, as a sentence (own).
 use Rattle.std.specs.Prelude.{ℕ, ◌+◌, ◌==◌, ◌&&◌, Bool, true, false, List, [], ◌∷◌, Option, Some, None, bytes_eq, codes, decimal, if◌then◌else◌, length}
-use Rattle.mcv_cert.specs.Pair.{PairValue}
+use Rattle.mcv_cert.specs.Pair.{CertificateValue, PairValue}
 use Rattle.mcv_cert.specs.Place.{PlaceValue, SpotValue}
 use Rattle.mcv_route.specs.Children.{joined}
 
@@ -8,9 +8,9 @@ use Rattle.mcv_route.specs.Children.{joined}
 abbrev pub is_same_class : SpotValue → SpotValue → Bool
 is_same_class s t = s.route == t.route && bytes_eq s.class t.class
 
--- of one leaf of one route, class and era
+-- of one leaf of one route, class, era of the delete and era of the get
 abbrev pub is_same_leaf : PlaceValue → PlaceValue → Bool
-is_same_leaf p q = is_same_class p.spot q.spot && p.spot.era == q.spot.era && bytes_eq p.leaf q.leaf
+is_same_leaf p q = is_same_class p.spot q.spot && p.spot.era == q.spot.era && p.spot.get_era == q.spot.get_era && bytes_eq p.leaf q.leaf
 
 -- the place is the same as the one before in this sense
 abbrev pub is_as_before : (PlaceValue → PlaceValue → Bool) → Option PlaceValue → PlaceValue → Bool
@@ -28,8 +28,13 @@ leaf_count ps = places is_same_leaf None ps
 abbrev pub class_count : List PairValue → ℕ
 class_count ps = places (λ p q. is_same_class p.spot q.spot) None ps
 
+-- in what a leaf is counted once: the delete and the get have an era each where there is a window
+unfoldable pub counted_words : (window : ℕ) → List ℕ
+counted_words window = if window == 0 then codes " eras, a leaf counted once for each class and era.\n" else codes " eras, a leaf counted once for each class, era of the delete and era of the get.\n"
+
+unfoldable pub compared_words : (leaves classes eras counted : List ℕ) → List ℕ
+compared_words leaves classes eras counted = joined (codes "\nCompared: " ∷ leaves ∷ codes " readable leaves, in " ∷ classes ∷ codes " classes and " ∷ eras ∷ counted ∷ [])
+
 -- the table has the moments at which what migrations do changes: there is one era more
-abbrev pub compared : List PairValue → (table : List ℕ) → List ℕ
-compared ps table = joined (
-    codes "\nCompared: " ∷ decimal (leaf_count ps) ∷ codes " readable leaves, in " ∷ decimal (class_count ps) ∷ codes " classes and "
-    ∷ decimal (length table + 1) ∷ codes " eras, a leaf counted once for each class and era.\n" ∷ [])
+abbrev pub compared : CertificateValue → (table : List ℕ) → List ℕ
+compared c table = compared_words (decimal (leaf_count c.pairs)) (decimal (class_count c.pairs)) (decimal (length table + 1)) (counted_words c.window)

@@ -6,12 +6,14 @@
 #![tactic(auto)]
 
 mod compared;
+mod eras;
 mod explanation;
 mod pieces;
 mod scene;
 mod sentences;
+mod words;
 
 pub use compared::push_compared;
 pub use explanation::push_explanation;
 pub use scene::Scene;
-pub use sentences::outcome_word;
+pub use words::outcome_word;

@@ -1,20 +1,44 @@
 //! The sentences of an explanation, one by one.
 
-ghost use Rattle.std.specs.Prelude.{◌≡◌, ◌++◌, IfOk, OnOk, map, nat_lt, slice_get};
+ghost use Rattle.std.specs.Prelude.{◌≡◌, ◌++◌, IfOk, OnOk, nat_lt};
 ghost use Rattle.std.specs.List.{list_any};
 ghost use Rattle.mcv_pools.specs.Symbol.{SymbolValue};
-ghost use Rattle.mcv_explain.specs.Explanation.{alike_sentence, class_words, delete_sentence, end_words, era_sentence, get_sentence, hash_words, hit_sentence, leg_line, leg_lines, lost_sentence, opening_words, outcome_word, unsent_sentence};
+ghost use Rattle.mcv_explain.specs.Explanation.{alike_sentence, alike_words, class_words, delete_sentence, get_words, hash_words, hit_words, leg_line, leg_lines, leg_words, lost_sentence, lost_words, unsent_words};
 ghost use Rattle.mcv_explain.specs.Scene.{scene_of};
 ghost use Rattle.mcv_witness.specs.Finding.{outcomes_of};
 
 use crate::pieces::{escaped_text, number_text, position_text, push_pieces};
 use crate::scene::Scene;
-use mcv_base::{Moment, Op, Outcome, Position};
+use crate::words::outcome_word;
+use mcv_base::{Op, Position};
 use mcv_pools::Symbol;
 use mcv_witness::LegOutcome;
 use std::alloc::{AllocError, Global};
 
 // ---- what is lost, and for which keys
+
+#[tactic(auto, unfolding(crate::specs::Explanation::lost_words))]
+fn push_lost_words(
+    text: &mut Vec<u8>,
+    key: &[u8],
+    op: &[u8],
+    server: &[u8],
+) -> Result<(), AllocError>
+    ensures { OnOk result (text.new.items ≡ text.old.items ++ lost_words key.now op.now server.now) }
+{
+    push_pieces(
+        text,
+        &[
+            b"After a delete of the key ",
+            key,
+            b" is acknowledged, a later ",
+            op,
+            b" of it can be answered by ",
+            server,
+            b", to which the delete was never sent.\n",
+        ],
+    )
+}
 
 pub(crate) fn push_lost(
     alloc: Global,
@@ -24,22 +48,12 @@ pub(crate) fn push_lost(
     ensures { OnOk result (text.new.items ≡ text.old.items ++ lost_sentence (scene_of scene.now)) }
 {
     let key = escaped_text(alloc, scene.finding.key.as_slice())?;
-    let server = Vec::from_slice(alloc, scene.lost_server())?;
-    push_pieces(
-        text,
-        &[
-            b"After a delete of the key ",
-            key.as_slice(),
-            b" is acknowledged, a ",
-            scene.finding.op.name().as_bytes(),
-            b" of it can be answered by ",
-            server.as_slice(),
-            b", to which the delete was never sent.\n",
-        ],
-    )
+    let op = scene.finding.op.name().as_bytes();
+    push_lost_words(text, key.as_slice(), op, scene.lost_server())
 }
 
 /// Which keys of a route a class has.
+#[tactic(auto, unfolding(crate::specs::Explanation::class_words))]
 fn class_words(alloc: Global, class: &[u8]) -> Result<Vec<u8>, AllocError>
     ensures { IfOk result (λ text. text.items ≡ class_words class.now) }
 {
@@ -67,6 +81,7 @@ fn has_choice(symbols: &[Symbol]) -> bool
     false
 }
 
+#[tactic(auto, unfolding(crate::specs::Explanation::hash_words))]
 fn hash_words(symbols: &[Symbol]) -> &'static [u8]
     ensures { result.now ≡ hash_words symbols.now }
 {
@@ -75,6 +90,31 @@ fn hash_words(symbols: &[Symbol]) -> &'static [u8]
     } else {
         b""
     }
+}
+
+#[tactic(auto, unfolding(crate::specs::Explanation::alike_words))]
+fn push_alike_words(
+    text: &mut Vec<u8>,
+    number: &[u8],
+    route: &[u8],
+    class: &[u8],
+    hashes: &[u8],
+) -> Result<(), AllocError>
+    ensures { OnOk result (text.new.items ≡ text.old.items ++ alike_words number.now route.now class.now hashes.now) }
+{
+    push_pieces(
+        text,
+        &[
+            b"So it is with each key of route ",
+            number,
+            b" (",
+            route,
+            b") whose rest ",
+            class,
+            hashes,
+            b".\n",
+        ],
+    )
 }
 
 pub(crate) fn push_alike(
@@ -89,98 +129,48 @@ pub(crate) fn push_alike(
     let route = scene.handle_pointer(alloc, &Position::root(alloc))?;
     let route = escaped_text(alloc, route.as_slice())?;
     let class = class_words(alloc, place.class.as_slice())?;
-    push_pieces(
+    let hashes = hash_words(scene.routes.symbols().as_slice());
+    push_alike_words(
         text,
-        &[
-            b"So it is with each key of route ",
-            number.as_slice(),
-            b" (",
-            route.as_slice(),
-            b") whose rest ",
-            class.as_slice(),
-            hash_words(scene.routes.symbols().as_slice()),
-            b".\n",
-        ],
-    )
-}
-
-// ---- the era
-
-/// From when on the era is.
-fn opening_words(alloc: Global, table: &[Moment], era: usize) -> Result<Vec<u8>, AllocError>
-    ensures { IfOk result (λ text. text.items ≡ opening_words (map (λ m. m.0) table.now) era) }
-{
-    let mut text = Vec::new(alloc);
-    if era == 0 {
-        return Ok(text);
-    }
-    let opened = match table.get(era - 1) {
-        Some(moment) => moment.0,
-        None => 0,
-    };
-    let moment = number_text(alloc, opened as usize)?;
-    push_pieces(
-        &mut text,
-        &[b", from the moment ", moment.as_slice(), b" on"],
-    )?;
-    Ok(text)
-}
-
-/// Until when the era is.
-fn end_words(alloc: Global, table: &[Moment], era: usize) -> Result<Vec<u8>, AllocError>
-    ensures { IfOk result (λ text. text.items ≡ end_words (slice_get (map (λ m. m.0) table.now) era)) }
-{
-    let mut text = Vec::new(alloc);
-    let Some(moment) = table.get(era) else {
-        return Ok(text);
-    };
-    let moment = number_text(alloc, moment.0 as usize)?;
-    push_pieces(&mut text, &[b", before the moment ", moment.as_slice()])?;
-    Ok(text)
-}
-
-/// The era, where the table of breaks isn't empty.
-pub(crate) fn push_era(
-    alloc: Global,
-    text: &mut Vec<u8>,
-    table: &[Moment],
-    era: usize,
-) -> Result<(), AllocError>
-    ensures { OnOk result (text.new.items ≡ text.old.items ++ era_sentence (map (λ m. m.0) table.now) era) }
-{
-    if table.is_empty() {
-        return Ok(());
-    }
-    let number = number_text(alloc, era)?;
-    let opening = opening_words(alloc, table, era)?;
-    let end = end_words(alloc, table, era)?;
-    push_pieces(
-        text,
-        &[
-            b"This is in era ",
-            number.as_slice(),
-            opening.as_slice(),
-            end.as_slice(),
-            b": what a migration sends depends on the moment, and the get and the delete are of this era both.\n",
-        ],
+        number.as_slice(),
+        route.as_slice(),
+        class.as_slice(),
+        hashes,
     )
 }
 
 // ---- the legs
 
-/// What a leg of an operation answers, in a word.
-pub fn outcome_word(op: Op, outcome: Outcome) -> &'static [u8]
-    ensures { result.now ≡ outcome_word op outcome }
+#[tactic(auto, unfolding(crate::specs::Explanation::leg_words))]
+fn push_leg_words(
+    text: &mut Vec<u8>,
+    position: &[u8],
+    handle: &[u8],
+    server: &[u8],
+    pointer: &[u8],
+    answer: &[u8],
+) -> Result<(), AllocError>
+    ensures { OnOk result (text.new.items ≡ text.old.items ++ leg_words position.now handle.now server.now pointer.now answer.now) }
 {
-    match outcome {
-        Outcome::Good if op.is_reading() => b"hit",
-        Outcome::Good => b"deleted",
-        Outcome::Soft if op.is_reading() => b"miss",
-        Outcome::Soft => b"absent",
-        Outcome::Error => b"error",
-    }
+    push_pieces(
+        text,
+        &[
+            b"  ",
+            position,
+            b" at ",
+            handle,
+            b": ",
+            server,
+            b" (",
+            pointer,
+            b") answers ",
+            answer,
+            b"\n",
+        ],
+    )
 }
 
+#[tactic(auto, unfolding(crate::specs::Explanation::leg_line))]
 fn push_leg(
     alloc: Global,
     text: &mut Vec<u8>,
@@ -193,24 +183,16 @@ fn push_leg(
     let position = position_text(alloc, &leg.position)?;
     let handle = scene.handle_pointer(alloc, &leg.position)?;
     let handle = escaped_text(alloc, handle.as_slice())?;
-    let name = Vec::from_slice(alloc, scene.leg_server(&leg.position))?;
-    let server = scene.server_pointer(alloc, &leg.position)?;
-    let server = escaped_text(alloc, server.as_slice())?;
-    push_pieces(
+    let server = scene.leg_server(&leg.position);
+    let pointer = scene.server_pointer(alloc, &leg.position)?;
+    let pointer = escaped_text(alloc, pointer.as_slice())?;
+    push_leg_words(
         text,
-        &[
-            b"  ",
-            position.as_slice(),
-            b" at ",
-            handle.as_slice(),
-            b": ",
-            name.as_slice(),
-            b" (",
-            server.as_slice(),
-            b") answers ",
-            outcome_word(op, leg.outcome),
-            b"\n",
-        ],
+        position.as_slice(),
+        handle.as_slice(),
+        server,
+        pointer.as_slice(),
+        outcome_word(op, leg.outcome),
     )
 }
 
@@ -229,6 +211,7 @@ pub(crate) fn push_legs(
     Ok(())
 }
 
+#[tactic(auto, unfolding(crate::specs::Explanation::delete_sentence))]
 pub(crate) fn delete_sentence(legs: &[LegOutcome]) -> &'static [u8]
     ensures { result.now ≡ delete_sentence (outcomes_of legs.now) }
 {
@@ -239,43 +222,34 @@ pub(crate) fn delete_sentence(legs: &[LegOutcome]) -> &'static [u8]
     }
 }
 
-pub(crate) fn push_unsent(text: &mut Vec<u8>, scene: &Scene<'_>) -> Result<(), AllocError>
-    ensures { OnOk result (text.new.items ≡ text.old.items ++ unsent_sentence (scene_of scene.now)) }
+#[tactic(auto, unfolding(crate::specs::Explanation::unsent_words))]
+pub(crate) fn push_unsent(text: &mut Vec<u8>, server: &[u8]) -> Result<(), AllocError>
+    ensures { OnOk result (text.new.items ≡ text.old.items ++ unsent_words server.now) }
+{
+    push_pieces(text, &[b"By then it was not sent to ", server, b".\n"])
+}
+
+#[tactic(auto, unfolding(crate::specs::Explanation::get_words))]
+pub(crate) fn push_get(text: &mut Vec<u8>, op: &[u8]) -> Result<(), AllocError>
+    ensures { OnOk result (text.new.items ≡ text.old.items ++ get_words op.now) }
 {
     push_pieces(
         text,
-        &[b"By then it was not sent to ", scene.lost_server(), b".\n"],
+        &[b"The ", op, b" has a reply once it is answered so:\n"],
     )
 }
 
-pub(crate) fn push_get(text: &mut Vec<u8>, scene: &Scene<'_>) -> Result<(), AllocError>
-    ensures { OnOk result (text.new.items ≡ text.old.items ++ get_sentence (scene_of scene.now)) }
+#[tactic(auto, unfolding(crate::specs::Explanation::hit_words))]
+pub(crate) fn push_hit(text: &mut Vec<u8>, leaf: &[u8], server: &[u8]) -> Result<(), AllocError>
+    ensures { OnOk result (text.new.items ≡ text.old.items ++ hit_words leaf.now server.now) }
 {
     push_pieces(
         text,
         &[
-            b"The ",
-            scene.finding.op.name().as_bytes(),
-            b" has a reply once it is answered so:\n",
-        ],
-    )
-}
-
-pub(crate) fn push_hit(
-    alloc: Global,
-    text: &mut Vec<u8>,
-    scene: &Scene<'_>,
-) -> Result<(), AllocError>
-    ensures { OnOk result (text.new.items ≡ text.old.items ++ hit_sentence (scene_of scene.now)) }
-{
-    let leaf = position_text(alloc, &scene.finding.place.leaf)?;
-    push_pieces(
-        text,
-        &[
-            b"The hit at ",
-            leaf.as_slice(),
+            b"The answer at ",
+            leaf,
             b" can be that reply: what ",
-            scene.lost_server(),
+            server,
             b" still has from before the delete.\n",
         ],
     )
