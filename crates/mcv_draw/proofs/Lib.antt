@@ -1,2 +1,4 @@
 pub mod Escaping
 pub mod DrawnApart
+pub mod ChildCounts
+pub mod Listing

@@ -19,6 +19,26 @@ abbrev mutual
   drawn_each p k none = []
   drawn_each p k (child t ts) = drawn (p ++ k ∷ []) t ++ drawn_each p (suc k) ts
 
+-- the children that are drawn, in the order of their numbers
+abbrev pub drawn_children : Tree → Trees
+drawn_children (pool q ranges targets) = targets
+drawn_children null = none
+drawn_children error = none
+drawn_children (many kind ts) = ts
+drawn_children (warm_up cold warm exptime) = child cold (child warm none)
+drawn_children (migrate from to start interval) = child from (child to none)
+drawn_children (prefix_selector prefixes ts) = ts
+drawn_children (operation_selector ops ts) = ts
+
+abbrev pub tree_count : Trees → ℕ
+tree_count none = 0
+tree_count (child t ts) = suc (tree_count ts)
+
+-- what is still to be drawn of handles, each with its position: of the last one first
+unfoldable pub still_drawn : List (List ℕ × Tree) → List (List ℕ)
+still_drawn [] = []
+still_drawn (x ∷ xs) = still_drawn xs ++ drawn x.0 x.1
+
 -- no position is drawn twice
 abbrev pub DrawnOnce : Type 0
 DrawnOnce = (t : Tree) → AllPairs (λ (p q : List ℕ). p ≢ q) (drawn [] t)

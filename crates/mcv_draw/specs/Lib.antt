@@ -3,3 +3,4 @@ pub mod Markup
 pub mod Element
 pub mod Svg
 pub mod Dot
+pub mod Handles

@@ -1,7 +1,8 @@
 //! The list of what is drawn of a route.
 
-ghost use Rattle.std.specs.Prelude.{◌≡◌, ◌++◌, [], OnOk, map};
-ghost use Rattle.mcv_draw.specs.Drawn.{drawn};
+ghost use Rattle.std.specs.Prelude.{◌≡◌, ◌++◌, ◌∷◌, [], IfOk, OnOk, map};
+ghost use Rattle.mcv_draw.specs.Drawn.{drawn, drawn_children, drawn_each, still_drawn, tree_count};
+ghost use Rattle.mcv_draw.specs.Handles.{handle_of, place_of};
 ghost use Rattle.mcv_route.specs.View.{view};
 
 use crate::element::Element;
@@ -23,24 +24,24 @@ struct Pending<'a> {
     is_folded: bool,
 }
 
-/// What is drawn beside a route itself.
+/// What is drawn beside a route itself: its number, and what the verdict marks.
 #[derive(Clone, Copy)]
 pub struct Drawing<'a> {
+    pub number: usize,
     pub servers: &'a Servers,
     pub marks: &'a Marks,
 }
 
-/// Adds the elements of the route of a number: one for each handle, in the order of the walk. `row` is the first free
-/// row; the answer is the first one behind them.
+/// Adds the elements of a route: one for each handle, in the order of the walk. `row` is the first free row; the answer
+/// is the first one behind them.
 pub fn elements(
     alloc: Global,
-    number: usize,
     route: &Route,
     drawing: &Drawing<'_>,
     row: u32,
     elements: &mut Vec<Element>,
 ) -> Result<u32, AllocError>
-    ensures { OnOk result (map (λ e. e.position) elements.new.items ≡ map (λ e. e.position) elements.old.items ++ drawn [] (view route.now)) }
+    ensures { OnOk result (map place_of elements.new.items ≡ map place_of elements.old.items ++ map (λ p. (drawing.now.number, p)) (drawn [] (view route.now))) }
 {
     let mut free = row;
     let mut pending = Vec::new(alloc);
@@ -53,23 +54,44 @@ pub fn elements(
         is_folded: false,
     })?;
     while let Some(next) = pending.pop() {
-        let row = free;
-        if !next.is_folded {
-            free = free.saturating_add(1);
-        }
-        push_children(alloc, &next, row, &mut pending)?;
-        elements.push(element_of(alloc, number, next, row, drawing)?)?;
+        draw_next(alloc, next, drawing, &mut free, &mut pending, elements)?;
     }
     Ok(free)
 }
 
+/// Adds the element of a handle, and what is below it to what is still to be drawn.
+fn draw_next<'a>(
+    alloc: Global,
+    next: Pending<'a>,
+    drawing: &Drawing<'_>,
+    free: &mut u32,
+    pending: &mut Vec<Pending<'a>>,
+    elements: &mut Vec<Element>,
+) -> Result<(), AllocError>
+    ensures pending { OnOk result (still_drawn (map handle_of pending.new.items)
+        ≡ drawn_each next.entry.position 0 (drawn_children (view next.entry.route.now)) ++ still_drawn (map handle_of pending.old.items)) }
+    ensures element { OnOk result (map place_of elements.new.items ≡ map place_of elements.old.items ++ (drawing.now.number, next.entry.position) ∷ []) }
+{
+    let row = *free;
+    if !next.is_folded {
+        *free = row.saturating_add(1);
+    }
+    push_children(alloc, &next, row, pending)?;
+    let element = element_of(alloc, next, row, drawing)?;
+    elements.push(element)
+}
+
 /// How many children of a handle are drawn: those of its numbers, but of a warm-up not cold again for the add.
-fn child_count(route: &Route) -> usize {
+fn child_count(route: &Route) -> usize
+    ensures { result ≡ tree_count (drawn_children (view route.now)) }
+{
     match route {
         Route::Pool { leaf: _, shadows } => shadows.len(),
-        Route::Null | Route::Error => 0,
+        Route::Null => 0,
+        Route::Error => 0,
         Route::Many(_, children) => children.len(),
-        Route::WarmUp { .. } | Route::Migrate { .. } => 2,
+        Route::WarmUp { .. } => 2,
+        Route::Migrate { .. } => 2,
         Route::PrefixSelector { policies, wildcard } => {
             policies.len() + usize::from(wildcard.is_some())
         }
@@ -86,31 +108,49 @@ fn push_children<'a>(
     parent: &Pending<'a>,
     row: u32,
     pending: &mut Vec<Pending<'a>>,
-) -> Result<(), AllocError> {
-    for number in (0..child_count(parent.route)).rev() {
-        let Some(route) = child_of(parent.route, number) else {
-            continue;
-        };
-        pending.push(Pending {
-            route,
-            position: parent.position.child(alloc, number)?,
-            depth: parent.depth.saturating_add(1),
-            above: row,
-            word: word_of(alloc, parent.route, number)?,
-            is_folded: parent.is_folded || number >= CHILDREN_DRAWN,
-        })?;
+) -> Result<(), AllocError>
+    ensures { OnOk result (still_drawn (map handle_of pending.new.items)
+        ≡ drawn_each parent.now.position 0 (drawn_children (view parent.now.route.now)) ++ still_drawn (map handle_of pending.old.items)) }
+{
+    let mut number = child_count(parent.route);
+    while number > 0 {
+        number -= 1;
+        if let Some(route) = child_of(parent.route, number) {
+            pending.push(child_pending(alloc, parent, route, number, row)?)?;
+        }
     }
     Ok(())
+}
+
+/// A child of a handle in a row, as what is still to be drawn.
+fn child_pending<'a>(
+    alloc: Global,
+    parent: &Pending<'a>,
+    route: &'a Route,
+    number: usize,
+    row: u32,
+) -> Result<Pending<'a>, AllocError>
+    ensures { IfOk result (λ child. handle_of child ≡ (parent.now.position ++ number ∷ [], view route.now)) }
+{
+    Ok(Pending {
+        route,
+        position: parent.position.child(alloc, number)?,
+        depth: parent.depth.saturating_add(1),
+        above: row,
+        word: word_of(alloc, parent.route, number)?,
+        is_folded: parent.is_folded || number >= CHILDREN_DRAWN,
+    })
 }
 
 /// The element of a handle.
 fn element_of(
     alloc: Global,
-    number: usize,
     next: Pending<'_>,
     row: u32,
     drawing: &Drawing<'_>,
-) -> Result<Element, AllocError> {
+) -> Result<Element, AllocError>
+    ensures { IfOk result (λ e. place_of e ≡ (drawing.now.number, next.entry.position)) }
+{
     let label = label_of(alloc, next.route, child_count(next.route), drawing.servers)?;
     let marks = drawing.marks;
     let Pending {
@@ -127,7 +167,7 @@ fn element_of(
     let is_shown = marks.shows(steps);
     let is_lost = marks.loses(steps);
     Ok(Element {
-        route: number,
+        route: drawing.number,
         position,
         depth,
         row: if is_folded { None } else { Some(row) },

@@ -1,5 +1,5 @@
 -- The JSON pointer (RFC 6901) of a fault's path (own).
-use Rattle.std.specs.Prelude.{ℕ, ◌+◌, ◌*◌, ◌-◌, ◌%◌, ◌==◌, List, [], ◌∷◌, ◌++◌, codes, if◌then◌else◌, nat_lt, bytes_eq}
+use Rattle.std.specs.Prelude.{ℕ, Bool, ◌+◌, ◌*◌, ◌-◌, ◌%◌, ◌==◌, ◌&&◌, length, List, [], ◌∷◌, ◌++◌, codes, if◌then◌else◌, nat_lt, bytes_eq}
 use Rattle.mcv_places.specs.Pointer.{pointer_byte}
 
 -- the value of an upper case hexadecimal digit
@@ -10,8 +10,12 @@ digit_value d = if nat_lt d 58 then d - 48 else d - 55
 abbrev pub plain_byte : ℕ → List ℕ
 plain_byte b = if b == 126 then codes "~0" else b ∷ []
 
--- the steps of a path: `%` and two digits are a byte of a key
-abbrev pub steps_pointer : List ℕ → List ℕ
+-- a percent sign and two digits behind it are a byte of a key
+abbrev pub is_escape : ℕ → (behind : List ℕ) → Bool
+is_escape b bs = b == 37 && nat_lt 1 (length bs)
+
+-- the steps of a path
+unfoldable pub steps_pointer : List ℕ → List ℕ
 steps_pointer [] = []
 steps_pointer (b ∷ []) = plain_byte b
 steps_pointer (b ∷ c ∷ []) = plain_byte b ++ plain_byte c

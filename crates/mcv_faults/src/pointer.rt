@@ -1,7 +1,7 @@
 //! The JSON pointer of a fault's path.
 
-ghost use Rattle.std.specs.Prelude.{◌≡◌, ◌++◌, ◌+◌, ◌*◌, ◌%◌, IfOk, OnOk};
-ghost use Rattle.mcv_faults.specs.FaultPointer.{digit_value, fault_pointer, plain_byte, steps_pointer};
+ghost use Rattle.std.specs.Prelude.{◌≡◌, ◌≤◌, ◌++◌, ◌∷◌, ◌+◌, ◌*◌, ◌%◌, IfOk, OnOk, length};
+ghost use Rattle.mcv_faults.specs.FaultPointer.{digit_value, fault_pointer, is_escape, plain_byte, steps_pointer};
 ghost use Rattle.mcv_places.specs.Pointer.{pointer_byte};
 
 use std::alloc::{AllocError, Global};
@@ -24,18 +24,35 @@ fn push_steps(pointer: &mut Vec<u8>, path: &[u8]) -> Result<(), AllocError>
 {
     let mut rest = path;
     while let [byte, behind @ ..] = rest {
-        rest = match behind {
-            [high, low, after @ ..] if *byte == b'%' => {
-                push_key_byte(pointer, escaped_byte(*high, *low))?;
-                after
-            }
-            _ => {
-                push_plain_byte(pointer, *byte)?;
-                behind
-            }
-        };
+        rest = push_step(pointer, *byte, behind)?;
     }
     Ok(())
+}
+
+/// Whether a byte of a path begins an escape.
+pub(crate) fn is_escape(byte: u8, behind: &[u8]) -> bool
+    ensures { result ≡ is_escape byte behind.now }
+{
+    byte == b'%' && behind.len() > 1
+}
+
+/// Adds what a byte of a path says, with the two behind it where it begins an escape; the answer is what comes behind
+/// these.
+#[tactic(auto, using(crate::proofs::Steps::step_plain, crate::proofs::Steps::step_escaped))]
+fn push_step<'t>(
+    pointer: &mut Vec<u8>,
+    byte: u8,
+    behind: &'t [u8],
+) -> Result<&'t [u8], AllocError>
+    ensures said { IfOk result (λ rest. pointer.new.items ++ steps_pointer rest.now ≡ pointer.old.items ++ steps_pointer (byte ∷ behind.now)) }
+    ensures shorter { IfOk result (λ rest. length rest.now ≤ length behind.now) }
+{
+    if !is_escape(byte, behind) {
+        push_plain_byte(pointer, byte)?;
+        return Ok(behind);
+    }
+    push_key_byte(pointer, escaped_byte(behind[0], behind[1]))?;
+    Ok(&behind[2..])
 }
 
 /// The byte that two hexadecimal digits say.

@@ -1,7 +1,10 @@
 //! Where a fault stands in the text of a configuration.
 
+ghost use Rattle.std.specs.Prelude.{IfOk, IfSome};
+ghost use Rattle.mcv_faults.specs.TextPlace.{IsPlaceIn};
+
 use crate::place::{TextPlace, place_at};
-use crate::pointer::escaped_byte;
+use crate::pointer::{escaped_byte, is_escape};
 use mcv_spans::{Located, locate};
 use std::alloc::{AllocError, Global};
 use std::str::from_utf8;
@@ -14,7 +17,9 @@ pub struct Standing {
 }
 
 /// Where the value at a fault's path stands in the text; None where it isn't there.
-pub fn standing_of(alloc: Global, text: &[u8], path: &[u8]) -> Result<Option<Standing>, AllocError> {
+pub fn standing_of(alloc: Global, text: &[u8], path: &[u8]) -> Result<Option<Standing>, AllocError>
+    ensures { IfOk result (λ found. IfSome found (λ standing. IsPlaceIn text.now (standing.place.line, standing.place.column))) }
+{
     let Some(root) = locate(alloc, text)? else {
         return Ok(None);
     };
@@ -68,16 +73,13 @@ fn unescaped(alloc: Global, step: &[u8]) -> Result<Vec<u8>, AllocError> {
     let mut name = Vec::with_capacity(alloc, step.len())?;
     let mut rest = step;
     while let [byte, behind @ ..] = rest {
-        rest = match behind {
-            [high, low, after @ ..] if *byte == b'%' => {
-                name.push(escaped_byte(*high, *low))?;
-                after
-            }
-            _ => {
-                name.push(*byte)?;
-                behind
-            }
-        };
+        if is_escape(*byte, behind) {
+            name.push(escaped_byte(behind[0], behind[1]))?;
+            rest = &behind[2..];
+        } else {
+            name.push(*byte)?;
+            rest = behind;
+        }
     }
     Ok(name)
 }

@@ -6,12 +6,12 @@ use Rattle.serde_json.specs.Read.{max_depth}
 use Rattle.serde_json.specs.View.{items_of}
 use Rattle.mcv_base.specs.Position.{position_text}
 use Rattle.mcv_base.specs.declared.operation.Op.TheVariants.{Delete}
-use Rattle.mcv_cert.specs.Pair.{PairValue}
+use Rattle.mcv_cert.specs.Pair.{CertificateValue, PairValue}
 use Rattle.mcv_explain.specs.Scene.{SceneValue}
 use Rattle.mcv_names.specs.declared.fault.ConfigFault.{ConfigFault}
 use Rattle.mcv_pools.specs.Symbol.{SymbolValue}
 use Rattle.mcv_report.specs.CertificateReport.{covered_report, pair_report, reason_index, reason_legs}
-use Rattle.mcv_report.specs.FaultReport.{config_fault_report, refused_report}
+use Rattle.mcv_report.specs.FaultReport.{certificate_fault_report, config_fault_report, refused_report}
 use Rattle.mcv_report.specs.FindingReport.{finding_report, index_list, index_report, leg_report, lost_report, opened_at}
 use Rattle.mcv_report.specs.Json.{number_or_null, text_from}
 
@@ -42,6 +42,8 @@ finding_within s table =
     let gets : items_depth (items_of (map (leg_report s s.finding.op) s.finding.gets)) ≤ 1 = items_within (leg_report s s.finding.op) 1 s.finding.gets (λ e. omega arith) in
     let indexes : items_depth (items_of (index_list s.finding.choice 0 s.routes.symbols)) ≤ 1 = indexes_within s.finding.choice 0 s.routes.symbols in
     let opened : depth (number_or_null (opened_at table s.finding.place.spot.era)) ≡ 0 = number_is_flat (opened_at table s.finding.place.spot.era) in
+    let read_opened : depth (number_or_null (opened_at table s.finding.place.spot.get_era)) ≡ 0 = number_is_flat (opened_at table s.finding.place.spot.get_era) in
+    let read_ended : depth (number_or_null (slice_get table s.finding.place.spot.get_era)) ≡ 0 = number_is_flat (slice_get table s.finding.place.spot.get_era) in
     let ended : depth (number_or_null (slice_get table s.finding.place.spot.era)) ≡ 0 = number_is_flat (slice_get table s.finding.place.spot.era) in
     omega arith
 
@@ -56,13 +58,18 @@ pair_within d p =
     let index : depth (number_or_null (reason_index p.reason)) ≡ 0 = number_is_flat (reason_index p.reason) in
     omega arith
 
-pub covered_within : (d : Data) (ps : List PairValue) → depth (covered_report d ps) ≤ max_depth
-covered_within d ps =
-    let pairs : items_depth (items_of (map (pair_report d) ps)) ≤ 2 = items_within (pair_report d) 2 ps (pair_within d) in
+pub covered_within : (d : Data) (c : CertificateValue) → depth (covered_report d c) ≤ max_depth
+covered_within d c =
+    let pairs : items_depth (items_of (map (pair_report d) c.pairs)) ≤ 2 = items_within (pair_report d) 2 c.pairs (pair_within d) in
     omega arith
 
 pub refused_within : (f : ConfigFault) (place : Option (ℕ × ℕ)) → depth (refused_report (config_fault_report f place)) ≤ max_depth
 refused_within f place =
     let column : depth (number_or_null (option_map (λ p. p.1) place)) ≡ 0 = number_is_flat (option_map (λ p. p.1) place) in
     let line : depth (number_or_null (option_map (λ p. p.0) place)) ≡ 0 = number_is_flat (option_map (λ p. p.0) place) in
+    omega arith
+
+pub certificate_refused_within : (kind : List ℕ) (line : Option ℕ) (name : List ℕ) (number : ℕ) → depth (refused_report (certificate_fault_report kind line name number)) ≤ max_depth
+certificate_refused_within kind line name number =
+    let flat : depth (number_or_null line) ≡ 0 = number_is_flat line in
     omega arith

@@ -3,7 +3,7 @@ use Rattle.std.specs.Prelude.{ℕ, List, [], ◌∷◌, Option, Some, None, code
 use Rattle.serde_json.specs.Data.{Data}
 use Rattle.mcv_base.specs.Position.{position_text}
 use Rattle.mcv_cert.specs.Escape.{escaped}
-use Rattle.mcv_cert.specs.Pair.{PairValue}
+use Rattle.mcv_cert.specs.Pair.{CertificateValue, PairValue}
 use Rattle.mcv_cert.specs.Reason.{ReasonValue, never, twin, same, all}
 use Rattle.mcv_places.specs.Pools.{handle_at}
 use Rattle.mcv_report.specs.Json.{list_from, number_from, number_or_null, object_from, schema_version, text_from}
@@ -32,6 +32,7 @@ abbrev pub pair_report : (document : Data) → PairValue → Data
 pair_report d p = object_from (
     (codes "class", text_from (escaped p.place.spot.class))
     ∷ (codes "era", number_from p.place.spot.era)
+    ∷ (codes "get_era", number_from p.place.spot.get_era)
     ∷ (codes "index", number_or_null (reason_index p.reason))
     ∷ (codes "leaf", text_from (position_text p.place.leaf))
     ∷ (codes "leaf_pointer", text_from (unwrap_or (handle_at d p.place.spot.route p.place.leaf) []))
@@ -39,8 +40,9 @@ pair_report d p = object_from (
     ∷ (codes "reason", text_from (reason_name p.reason))
     ∷ (codes "route", number_from p.place.spot.route) ∷ [])
 
-abbrev pub covered_report : (document : Data) → List PairValue → Data
-covered_report d ps = object_from (
-    (codes "certificate", list_from (map (pair_report d) ps))
+abbrev pub covered_report : (document : Data) → CertificateValue → Data
+covered_report d c = object_from (
+    (codes "certificate", list_from (map (pair_report d) c.pairs))
     ∷ (codes "schema_version", number_from schema_version)
-    ∷ (codes "verdict", text_from (codes "covered")) ∷ [])
+    ∷ (codes "verdict", text_from (codes "covered"))
+    ∷ (codes "window", number_from c.window) ∷ [])

@@ -10,8 +10,7 @@ use Rattle.mcv_base.specs.Position.{position_text}
 use Rattle.mcv_cert.specs.Escape.{escaped}
 use Rattle.mcv_pools.specs.Symbol.{SymbolValue}
 use Rattle.mcv_route.specs.Outcomes.{History}
-use Rattle.mcv_witness.specs.Text.{func_name}
-use Rattle.mcv_explain.specs.Explanation.{outcome_word}
+use Rattle.mcv_witness.specs.Text.{func_name, outcome_word}
 use Rattle.mcv_explain.specs.Scene.{SceneValue, handle_pointer, leg_server, lost_server, route_of, server_pointer}
 use Rattle.mcv_report.specs.Json.{list_from, number_from, number_or_null, object_from, schema_version, text_from}
 
@@ -45,13 +44,16 @@ abbrev pub opened_at : (table : List ℕ) → (era : ℕ) → Option ℕ
 opened_at table zero = None
 opened_at table (suc k) = slice_get table k
 
--- class, key and salt are escaped as in the text of a finding. Of an era `from` is the moment at which it begins, `until` the one at which it is over
+-- class, key and salt are escaped as in the text of a finding. Of the delete's era `from` is the moment at which it begins, `until` the one at which it is over; of the read's `get_from` and `get_until`
 abbrev pub finding_report : SceneValue → (table : List ℕ) → Data
 finding_report s table = object_from (
     (codes "class", text_from (escaped s.finding.place.spot.class))
     ∷ (codes "deletes", leg_reports s Delete s.finding.deletes)
     ∷ (codes "era", number_from s.finding.place.spot.era)
     ∷ (codes "from", number_or_null (opened_at table s.finding.place.spot.era))
+    ∷ (codes "get_era", number_from s.finding.place.spot.get_era)
+    ∷ (codes "get_from", number_or_null (opened_at table s.finding.place.spot.get_era))
+    ∷ (codes "get_until", number_or_null (slice_get table s.finding.place.spot.get_era))
     ∷ (codes "gets", leg_reports s s.finding.op s.finding.gets)
     ∷ (codes "indexes", list_from (index_list s.finding.choice 0 s.routes.symbols))
     ∷ (codes "key", text_from (escaped s.finding.key))
@@ -67,4 +69,5 @@ abbrev pub lost_report : SceneValue → (table : List ℕ) → Data
 lost_report s table = object_from (
     (codes "finding", finding_report s table)
     ∷ (codes "schema_version", number_from schema_version)
-    ∷ (codes "verdict", text_from (codes "lost")) ∷ [])
+    ∷ (codes "verdict", text_from (codes "lost"))
+    ∷ (codes "window", number_from s.finding.window) ∷ [])

@@ -39,7 +39,12 @@ fn covered_report(
 {
     let pairs = pair_reports(alloc, document, certificate.pairs())?;
     let verdict = text_of(alloc, b"covered")?;
-    json!(in alloc; {"certificate": pairs, "schema_version": 1u64, "verdict": verdict})
+    json!(in alloc; {
+        "certificate": pairs,
+        "schema_version": 1u64,
+        "verdict": verdict,
+        "window": certificate.window()
+    })
 }
 
 fn pair_reports(alloc: Global, document: &Value, pairs: &[Pair]) -> Result<Value, AllocError>
@@ -65,6 +70,7 @@ fn pair_report(alloc: Global, document: &Value, pair: &Pair) -> Result<Value, Al
     json!(in alloc; {
         "class": class,
         "era": place.era,
+        "get_era": place.get_era,
         "index": index,
         "leaf": leaf,
         "leaf_pointer": leaf_pointer,

@@ -33,7 +33,12 @@ fn lost_report(alloc: Global, scene: &Scene<'_>) -> Result<Value, AllocError>
 {
     let finding = finding_report(alloc, scene, scene.routes.breaks())?;
     let verdict = text_of(alloc, b"lost")?;
-    json!(in alloc; {"finding": finding, "schema_version": 1u64, "verdict": verdict})
+    json!(in alloc; {
+        "finding": finding,
+        "schema_version": 1u64,
+        "verdict": verdict,
+        "window": scene.finding.window
+    })
 }
 
 fn finding_report(alloc: Global, scene: &Scene<'_>, table: &[Moment]) -> Result<Value, AllocError>
@@ -44,6 +49,8 @@ fn finding_report(alloc: Global, scene: &Scene<'_>, table: &[Moment]) -> Result<
     let class = escaped_text(alloc, place.class.as_slice())?;
     let deletes = leg_reports(alloc, scene, Op::Delete, finding.deletes.as_slice())?;
     let from = number_or_null(opened_at(table, place.era));
+    let get_from = number_or_null(opened_at(table, place.get_era));
+    let get_until = number_or_null(moment_at(table, place.get_era));
     let gets = leg_reports(alloc, scene, finding.op, finding.gets.as_slice())?;
     let indexes = index_reports(alloc, &finding.choice, scene.routes.symbols().as_slice())?;
     let key = escaped_text(alloc, finding.key.as_slice())?;
@@ -60,6 +67,9 @@ fn finding_report(alloc: Global, scene: &Scene<'_>, table: &[Moment]) -> Result<
         "deletes": deletes,
         "era": place.era,
         "from": from,
+        "get_era": place.get_era,
+        "get_from": get_from,
+        "get_until": get_until,
         "gets": gets,
         "indexes": indexes,
         "key": key,

@@ -9,5 +9,5 @@ mod finding;
 mod text;
 
 pub use certificate::covered_text;
-pub use fault::refused_text;
+pub use fault::{pair_refused_text, refused_text, text_refused_text, window_refused_text};
 pub use finding::lost_text;

@@ -40,7 +40,7 @@ pub fn run_draw<R: Read, W: Write>(
 ) -> Result<Verdict, RunFault>
     ensures ok { IfOk result (λ verdict. (text : List ℕ)
         × IfSome (R.remaining reader.old) (λ input. IsDrawnOn is_dot input text) × Appends (W.contents writer.old) (W.contents writer.new) text) }
-    ensures fault { IfErr result (λ fault. IfSome (R.remaining reader.old) (λ input. IsRunFault input None fault)) }
+    ensures fault { IfErr result (λ fault. IfSome (R.remaining reader.old) (λ input. IsRunFault input 0 None fault)) }
     ensures silent { IfErr result (λ fault. fault ≢ RunFault.Device → W.contents writer.new ≡ W.contents writer.old) }
 {
     let input = read_text(alloc, reader)?;
@@ -87,10 +87,11 @@ fn drawn(
             break;
         };
         let drawing = Drawing {
+            number,
             servers: routes.servers(),
             marks,
         };
-        rows = elements(alloc, number, route, &drawing, rows, &mut list)?;
+        rows = elements(alloc, route, &drawing, rows, &mut list)?;
     }
     Ok(Picture {
         elements: list,
