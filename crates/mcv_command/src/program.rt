@@ -141,14 +141,18 @@ pub fn run_words<'a, R: Read, W: Write, F: NamedFiles, P: Proxy>(
             run_legs(alloc, reader, writer, at)?;
             Ok(Ending::Done)
         }
-        Ok(Job::Check {
-            cert: None,
-            options,
-        }) => judge(alloc, options, reader, writer),
-        Ok(Job::Check {
-            cert: Some(name),
-            options,
-        }) => judge_by(alloc, name, files, options, reader, writer),
+        Ok(
+            Job::Check {
+                cert: None,
+                options,
+            },
+        ) => judge(alloc, options, reader, writer),
+        Ok(
+            Job::Check {
+                cert: Some(name),
+                options,
+            },
+        ) => judge_by(alloc, name, files, options, reader, writer),
         Ok(Job::Draw { dot }) => draw(alloc, dot, reader, writer),
         Ok(Job::Run(options)) => serve(alloc, proxy, options, reader, writer),
         Err(LineFault::Help(text)) => {

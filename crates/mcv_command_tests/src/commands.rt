@@ -108,13 +108,15 @@ fn job_text(rt: &(impl AllocGlobal + Abort), job: Job<'_>) -> String {
         } => format!(in rt.alloc(); "check {} by {name}{}", options.window, options_text(options)),
         Job::Draw { dot: true } => format!(in rt.alloc(); "draw for Graphviz"),
         Job::Draw { dot: false } => format!(in rt.alloc(); "draw"),
-        Job::Run(RunOptions {
-            listen,
-            spool,
-            sessions,
-            proxies,
-            window,
-        }) => format!(in rt.alloc(); "run {listen} {spool} {sessions} {proxies} {window}"),
+        Job::Run(
+            RunOptions {
+                listen,
+                spool,
+                sessions,
+                proxies,
+                window,
+            },
+        ) => format!(in rt.alloc(); "run {listen} {spool} {sessions} {proxies} {window}"),
     };
     text.expect(rt, "memory")
 }

@@ -12,7 +12,7 @@ from relays import ANSWERED, HANDED_ON, Relay
 CHANGES = ["set", "add", "replace", "append", "prepend", "cas", "delete", "incr", "decr"]
 CAPABLE = ["version", "get", "gets", "mget", *CHANGES, *(name + " noreply" for name in CHANGES)]
 # Those that pass without a relay: no line of them is one that mcv refuses.
-CAPABLE_ALONE = ["mget", "append", "prepend"]
+CAPABLE_ALONE = ["mget", "append", "prepend", "incr", "decr"]
 
 
 def pymemcache_at(mcv, **how):

@@ -1,4 +1,5 @@
-use Rattle.std.proofs.Common.{◌+◌, ◌-◌, drop, get_or, refl}
+use Rattle.std.proofs.Common.{◌+◌, ◌-◌, drop, get_or}
+use Rattle.std.proofs.lemmas.List.{get_or_default}
 use Rattle.std.proofs.lemmas.Option.{slice_get-get_or}
 use Rattle.std.proofs.lemmas.Result.{err_from_is_err_and}
 use Rattle.mcv_judge.specs.PairsInMemory.{pairs_of}
@@ -44,7 +45,7 @@ loop-era-preserved c =
     record {
       sets = c.in_ok-slide.ensures.sets;
       so_far = adds_next r (eras_near class 0 xs) (pairs_of c.args.pairs.now.items) (gets_from class k x.first (x.end - x.first)) (eras_near class (k + 1) (drop (k + 1) xs)) (eras_near class k (drop k xs)) (pairs_of c.loop-era.pairs.items)
-          (pairs_of c.push_era.new.pairs.items) (eras_next class xs k x c.loop-era-test.true refl) c.loop-era.invariant.so_far c.in_ok-push_era.ensures.added;
+          (pairs_of c.push_era.new.pairs.items) (eras_next class xs k x c.loop-era-test.true (get_or_default xs k nothing x c.loop-era-test.true)) c.loop-era.invariant.so_far c.in_ok-push_era.ensures.added;
     }
 
 pub returns-in_err-push_era-clause-lost : goal.returns-in_err-push_era-clause-lost
@@ -57,7 +58,7 @@ returns-in_err-push_era-clause-lost c =
     let x = get_or xs k nothing in
     let reported = if_lost _ (ReportsGapIn r (gets_from class k x.first (x.end - x.first))) (ReportsGapIn r (eras_near class 0 xs))
     (λ f h. reports_next r (eras_near class 0 xs) (pairs_of c.args.pairs.now.items) (gets_from class k x.first (x.end - x.first)) (eras_near class (k + 1) (drop (k + 1) xs)) (eras_near class k (drop k xs)) (pairs_of c.loop-era.pairs.items) f
-    (eras_next class xs k x c.loop-era-test.true refl) c.loop-era.invariant.so_far h) c.in_err-push_era.ensures.lost in
+    (eras_next class xs k x c.loop-era-test.true (get_or_default xs k nothing x c.loop-era-test.true)) c.loop-era.invariant.so_far h) c.in_err-push_era.ensures.lost in
     let p = err_from_is_err_and c.from_residual-in_err-push_era.result c.from_residual-in_err-push_era.ensures.1 in
     rw (p.1, p.2) reported
 

@@ -7,18 +7,7 @@ use Rattle.mcv_certify.specs.Gap.{IfLost}
 use Rattle.mcv_certify.specs.BlockSteps.{AddsWith, ReportsGapAt, ReportsGapWith}
 use Rattle.mcv_certify.proofs.GapReports.{if_lost}
 use Rattle.mcv_certify.proofs.MadeOfSets.{adds_with, reports_with, sets_sized}
-use Rattle.mcv_blocks.proofs.SetsEraByEra.{own_era, within_sets}
 use Rattle.mcv_certify.proofs.making.push_in_eras.Goals as goal
-
-pub at-requires : goal.at-requires
-at-requires c =
-    let h = own_era c.args.routes.now c.args.at.now c.args.sets.now c.requires.sets in
-    record { low = h.0; high = h.1 }
-
-pub at-requires-2 : goal.at-requires-2
-at-requires-2 c =
-    let h = within_sets c.args.routes.now c.args.at.now c.args.sets.now c.requires.sets c.args.get_era c.requires.first c.requires.end in
-    record { low = h.0; high = h.1 }
 
 pub push_sets-requires : goal.push_sets-requires
 push_sets-requires c =

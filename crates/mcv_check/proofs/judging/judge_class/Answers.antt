@@ -1,4 +1,5 @@
-use Rattle.std.proofs.Common.{◌+◌, ◌-◌, drop, get_or, refl}
+use Rattle.std.proofs.Common.{◌+◌, ◌-◌, drop, get_or}
+use Rattle.std.proofs.lemmas.List.{get_or_default}
 use Rattle.std.proofs.lemmas.Option.{slice_get-get_or}
 use Rattle.std.proofs.lemmas.Result.{err_from_is_err_and}
 use Rattle.mcv_blocks.specs.SetsInEras.{AreSetsOf}
@@ -45,7 +46,7 @@ loop-era-preserved c =
       rising = c.in_ok-rest.ensures.rising;
       sets = c.in_ok-slide.ensures.sets;
       so_far = past_next r (eras_near class 0 xs) (pairs_of c.args.pairs.now) (gets_from class k x.first (x.end - x.first)) (eras_near class (k + 1) (drop (k + 1) xs)) (eras_near class k (drop k xs)) (pairs_of c.loop-era.rest.now) (pairs_of c.in_ok-rest.rest.now)
-          (eras_next class xs k x c.loop-era-test.true refl) c.loop-era.invariant.so_far c.in_ok-rest.ensures.left;
+          (eras_next class xs k x c.loop-era-test.true (get_or_default xs k nothing x c.loop-era-test.true)) c.loop-era.invariant.so_far c.in_ok-rest.ensures.left;
     }
 
 pub returns-in_err-rest-clause-fault : goal.returns-in_err-rest-clause-fault
@@ -57,7 +58,7 @@ returns-in_err-rest-clause-fault c =
     let nothing : NearEras = record { first = 0; end = 0 } in
     let x = get_or xs k nothing in
     let stops = next_stops r (eras_near class 0 xs) (pairs_of c.args.pairs.now) (gets_from class k x.first (x.end - x.first)) (eras_near class (k + 1) (drop (k + 1) xs)) (eras_near class k (drop k xs)) (pairs_of c.loop-era.rest.now)
-    (eras_next class xs k x c.loop-era-test.true refl) c.loop-era.invariant.so_far c.in_err-rest.field-0.0 c.in_err-rest.ensures.fault in
+    (eras_next class xs k x c.loop-era-test.true (get_or_default xs k nothing x c.loop-era-test.true)) c.loop-era.invariant.so_far c.in_err-rest.field-0.0 c.in_err-rest.ensures.fault in
     let p = err_from_is_err_and c.from_residual-in_err-rest.result c.from_residual-in_err-rest.ensures.1 in
     rw (p.1, p.2) stops
 

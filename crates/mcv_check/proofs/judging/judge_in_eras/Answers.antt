@@ -4,19 +4,8 @@ use Rattle.mcv_judge.specs.PairsInMemory.{pairs_of}
 use Rattle.mcv_blocks.specs.Spots.{in_eras, spot_in}
 use Rattle.mcv_cert.specs.Pair.{SpotValue}
 use Rattle.mcv_check.specs.Judgements.{IsInOrderWith, Leaves, LeavesWith, Stops, StopsWith}
-use Rattle.mcv_blocks.proofs.SetsEraByEra.{own_era, within_sets}
 use Rattle.mcv_check.proofs.JudgedSets.{sets_in_order, sets_leave, sets_stop}
 use Rattle.mcv_check.proofs.judging.judge_in_eras.Goals as goal
-
-pub at-requires : goal.at-requires
-at-requires c =
-    let h = own_era c.args.routes.now c.args.at.now c.args.sets.now c.requires.sets in
-    record { low = h.0; high = h.1 }
-
-pub at-requires-2 : goal.at-requires-2
-at-requires-2 c =
-    let h = within_sets c.args.routes.now c.args.at.now c.args.sets.now c.requires.sets c.args.get_era c.requires.first c.requires.end in
-    record { low = h.0; high = h.1 }
 
 pub judge_sets-requires : goal.judge_sets-requires
 judge_sets-requires c =
