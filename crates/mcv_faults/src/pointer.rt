@@ -38,7 +38,6 @@ pub(crate) fn is_escape(byte: u8, behind: &[u8]) -> bool
 
 /// Adds what a byte of a path says, with the two behind it where it begins an escape; the answer is what comes behind
 /// these.
-#[tactic(auto, using(crate::proofs::Steps::step_plain, crate::proofs::Steps::step_escaped))]
 fn push_step<'t>(
     pointer: &mut Vec<u8>,
     byte: u8,
@@ -47,12 +46,12 @@ fn push_step<'t>(
     ensures said { IfOk result (λ rest. pointer.new.items ++ steps_pointer rest.now ≡ pointer.old.items ++ steps_pointer (byte ∷ behind.now)) }
     ensures shorter { IfOk result (λ rest. length rest.now ≤ length behind.now) }
 {
-    if !is_escape(byte, behind) {
-        push_plain_byte(pointer, byte)?;
-        return Ok(behind);
+    if is_escape(byte, behind) {
+        push_key_byte(pointer, escaped_byte(behind[0], behind[1]))?;
+        return Ok(&behind[2..]);
     }
-    push_key_byte(pointer, escaped_byte(behind[0], behind[1]))?;
-    Ok(&behind[2..])
+    push_plain_byte(pointer, byte)?;
+    Ok(behind)
 }
 
 /// The byte that two hexadecimal digits say.
