@@ -22,24 +22,24 @@ count_trees (t ∷ ts) = ap suc (count_trees ts)
 abbrev counted : Route → ℕ
 counted r = tree_count (drawn_children (view r))
 
-pub counted-Pool : (leaf : Leaf) (v : Vec Shadow Global) → tree_count (drawn_children (view (Pool leaf v))) ≡ length v.items
-counted-Pool leaf v =
+pub counted_pool : (leaf : Leaf) (v : Vec Shadow Global) → tree_count (drawn_children (view (Pool leaf v))) ≡ length v.items
+counted_pool leaf v =
     ap (λ t. tree_count (drawn_children t)) (view-Pool leaf v) ∙ (count_trees (map (λ s. s.1) (map shadow_view v.items)) ∙ (length-map (λ s. s.1) (map shadow_view v.items) ∙ length-map shadow_view v.items))
 
-pub counted-Null : tree_count (drawn_children (view Null)) ≡ 0
-counted-Null = ap (λ t. tree_count (drawn_children t)) view-Null
+pub counted_null : tree_count (drawn_children (view Null)) ≡ 0
+counted_null = ap (λ t. tree_count (drawn_children t)) view-Null
 
-pub counted-Error : tree_count (drawn_children (view Error)) ≡ 0
-counted-Error = ap (λ t. tree_count (drawn_children t)) view-Error
+pub counted_error : tree_count (drawn_children (view Error)) ≡ 0
+counted_error = ap (λ t. tree_count (drawn_children t)) view-Error
 
-pub counted-Many : (kind : Kind) (v : Vec Route Global) → tree_count (drawn_children (view (Many kind v))) ≡ length v.items
-counted-Many kind v = ap (λ t. tree_count (drawn_children t)) (view-Many kind v) ∙ (count_trees (map view v.items) ∙ length-map view v.items)
+pub counted_many : (kind : Kind) (v : Vec Route Global) → tree_count (drawn_children (view (Many kind v))) ≡ length v.items
+counted_many kind v = ap (λ t. tree_count (drawn_children t)) (view-Many kind v) ∙ (count_trees (map view v.items) ∙ length-map view v.items)
 
-pub counted-WarmUp : (cold warm : Box Route Global) (exptime : ℕ) → tree_count (drawn_children (view (WarmUp cold warm exptime))) ≡ 2
-counted-WarmUp cold warm exptime = ap (λ t. tree_count (drawn_children t)) (view-WarmUp cold warm exptime)
+pub counted_warm_up : (cold warm : Box Route Global) (exptime : ℕ) → tree_count (drawn_children (view (WarmUp cold warm exptime))) ≡ 2
+counted_warm_up cold warm exptime = ap (λ t. tree_count (drawn_children t)) (view-WarmUp cold warm exptime)
 
-pub counted-Migrate : (from to : Box Route Global) (start interval : ℕ) → tree_count (drawn_children (view (Migrate from to start interval))) ≡ 2
-counted-Migrate from to start interval = ap (λ t. tree_count (drawn_children t)) (view-Migrate from to start interval)
+pub counted_migrate : (from to : Box Route Global) (start interval : ℕ) → tree_count (drawn_children (view (Migrate from to start interval))) ≡ 2
+counted_migrate from to start interval = ap (λ t. tree_count (drawn_children t)) (view-Migrate from to start interval)
 
 -- the route after all policies, if there is one
 pub last_count : Option (Box Route Global) → ℕ
@@ -50,15 +50,15 @@ length-last : (d : Option (Box Route Global)) → length (last_view d) ≡ last_
 length-last None = refl
 length-last (Some r) = refl
 
-pub counted-PrefixSelector : (v : Vec PrefixPolicy Global) (d : Option (Box Route Global)) → tree_count (drawn_children (view (PrefixSelector v d))) ≡ length v.items + last_count d
-counted-PrefixSelector v d =
+pub counted_prefix_selector : (v : Vec PrefixPolicy Global) (d : Option (Box Route Global)) → tree_count (drawn_children (view (PrefixSelector v d))) ≡ length v.items + last_count d
+counted_prefix_selector v d =
     let routes : List Tree = map (λ p. p.1) (map prefix_view v.items) in
     let routes_count : length routes ≡ length v.items = length-map (λ p. p.1) (map prefix_view v.items) ∙ length-map prefix_view v.items in
     let last : length (last_view d) ≡ last_count d = length-last d in
     ap (λ t. tree_count (drawn_children t)) (view-PrefixSelector v d) ∙ (count_trees (routes ++ last_view d) ∙ omega (arith, length-append routes (last_view d)))
 
-pub counted-OperationSelector : (v : Vec OperationPolicy Global) (d : Option (Box Route Global)) → tree_count (drawn_children (view (OperationSelector v d))) ≡ length v.items + last_count d
-counted-OperationSelector v d =
+pub counted_operation_selector : (v : Vec OperationPolicy Global) (d : Option (Box Route Global)) → tree_count (drawn_children (view (OperationSelector v d))) ≡ length v.items + last_count d
+counted_operation_selector v d =
     let routes : List Tree = map (λ p. p.1) (map operation_view v.items) in
     let routes_count : length routes ≡ length v.items = length-map (λ p. p.1) (map operation_view v.items) ∙ length-map operation_view v.items in
     let last : length (last_view d) ≡ last_count d = length-last d in

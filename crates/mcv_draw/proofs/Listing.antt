@@ -1,6 +1,6 @@
 -- The list of elements as a walk makes it: the next handle, then its children before all else.
-use Rattle.std.proofs.Common.{◌≡◌, ◌∙◌, ◌<◌, ◌≤◌, ◌+◌, ℕ, zero, suc, List, [], ◌∷◌, ◌++◌, Option, Some, None, ap, append_assoc, arith, length, length-append, map, refl, sym}
-use Rattle.std.proofs.lemmas.List.{append-nil}
+use Rattle.std.proofs.Common.{◌≡◌, ◌∙◌, ◌<◌, ◌≤◌, ◌+◌, ℕ, zero, suc, List, [], ◌∷◌, ◌++◌, Option, Some, None, ap, append_assoc, arith, length, length-append, map, refl, subst, sym}
+use Rattle.std.proofs.lemmas.List.{append-nil, map-append}
 use Rattle.mcv_route.specs.Places.{child_at, children_of}
 use Rattle.mcv_route.specs.Tree.{Tree, Trees, pool, null, error, many, warm_up, migrate, prefix_selector, operation_selector, none, child}
 use Rattle.mcv_draw.specs.Drawn.{drawn, drawn_children, drawn_each, still_drawn, tree_count}
@@ -86,6 +86,25 @@ child_more p t u k before now rest low is so_far pushed =
     ap still_drawn pushed ∙ (still_last before (p ++ k ∷ [], u) ∙ (ap (λ (qs : List (List ℕ)). drawn (p ++ k ∷ []) u ++ qs) so_far
     ∙ (sym (append_assoc (drawn (p ++ k ∷ []) u) (drawn_each p (suc k) (from_child (suc k) (drawn_children t))) rest)
     ∙ ap (λ (ts : Trees). drawn_each p k ts ++ rest) (sym here))))
+
+-- before the last child nothing was pushed
+pub none_pushed : (p : List ℕ) (t : Tree) (n : ℕ) (before : List Handle) → n ≡ tree_count (drawn_children t)
+    → still_drawn before ≡ drawn_each p n (from_child n (drawn_children t)) ++ still_drawn before
+none_pushed p t n before is =
+    let behind : from_child n (drawn_children t) ≡ none = ap (λ (k : ℕ). from_child k (drawn_children t)) is ∙ none_from (drawn_children t) in
+    ap (λ (ts : Trees). drawn_each p n ts ++ still_drawn before) (sym behind)
+
+-- one more child, with the number below that of those that were pushed
+pub one_pushed : (p : List ℕ) (t u : Tree) (n k : ℕ) (before now : List Handle) (rest : List (List ℕ)) → n ≡ suc k → n ≤ tree_count (drawn_children t) → child_at (children_of t) k ≡ Some u
+    → still_drawn before ≡ drawn_each p n (from_child n (drawn_children t)) ++ rest → now ≡ before ++ (p ++ k ∷ [], u) ∷ []
+    → still_drawn now ≡ drawn_each p k (from_child k (drawn_children t)) ++ rest
+one_pushed p t u n k before now rest next low is so_far pushed =
+    child_more p t u k before now rest (omega arith) is
+    (subst (λ (m : ℕ). still_drawn before ≡ drawn_each p m (from_child m (drawn_children t)) ++ rest) next so_far) pushed
+
+-- a handle that is pushed, seen as a position and a tree
+pub seen_last : {X : Type 0} (f : X → Handle) (before now : List X) (x : X) (h : Handle) → now ≡ before ++ x ∷ [] → f x ≡ h → map f now ≡ map f before ++ h ∷ []
+seen_last f before now x h is same = ap (map f) is ∙ (map-append f before (x ∷ []) ∙ ap (λ (y : Handle). map f before ++ y ∷ []) same)
 
 -- ---- one handle more
 

@@ -82,6 +82,7 @@ fn draw_next<'a>(
 }
 
 /// How many children of a handle are drawn: those of its numbers, but of a warm-up not cold again for the add.
+#[tactic(auto, using(crate::proofs::ChildCounts::counted_pool, crate::proofs::ChildCounts::counted_null, crate::proofs::ChildCounts::counted_error, crate::proofs::ChildCounts::counted_many, crate::proofs::ChildCounts::counted_warm_up, crate::proofs::ChildCounts::counted_migrate, crate::proofs::ChildCounts::counted_prefix_selector, crate::proofs::ChildCounts::counted_operation_selector))]
 fn child_count(route: &Route) -> usize
     ensures { result ≡ tree_count (drawn_children (view route.now)) }
 {

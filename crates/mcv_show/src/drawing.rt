@@ -7,10 +7,13 @@ ghost use Rattle.mcv_verdict.specs.Fault.{IsRunFault};
 
 use crate::input::{Configuration, configuration_of, read_text};
 use mcv_base::{Position, push_number};
+use mcv_blocks::Sets;
 use mcv_cert::{Certificate, Pair, Reason};
+use mcv_classes::ClassTable;
 use mcv_draw::{Drawing, Element, Marks, dot, elements, svg};
 use mcv_input::{RunFault, write_text};
-use mcv_route::Routes;
+use mcv_judge::Leg;
+use mcv_route::{Routes, opened};
 use mcv_verdict::{Judged, Verdict, judge};
 use mcv_witness::{Finding, LegOutcome, finding_text};
 use std::alloc::{AllocError, Global};
@@ -157,40 +160,63 @@ fn lost_picture(alloc: Global, routes: &Routes, finding: &Finding) -> Result<Pic
         if routes.route(number).is_none() {
             break;
         }
-        marks.push(marks_of(alloc, finding, number)?)?;
+        marks.push(marks_of(alloc, routes, finding, number)?)?;
     }
     let text = finding_text(alloc, finding, routes)?;
     let notes = lines_of(alloc, text.as_slice())?;
     drawn(alloc, routes, marks.as_slice(), notes)
 }
 
-/// What a finding marks in the tree of a route.
-fn marks_of(alloc: Global, finding: &Finding, route: usize) -> Result<Marks, AllocError> {
-    if route != finding.place.route {
-        return Ok(Marks::new(
-            Vec::new(alloc),
-            Vec::new(alloc),
-            Vec::new(alloc),
-            None,
-        ));
-    }
-    let deletes = positions(alloc, finding.deletes.as_slice())?;
-    let mut shown = positions(alloc, finding.gets.as_slice())?;
-    for leg in &finding.deletes {
-        shown.push(leg.position.copy(alloc)?)?;
-    }
+/// What a finding marks in the tree of a route: of its own, for its keys and its eras, the legs that each delete that has
+/// a reply has sent, the leaves that can be read, the legs that answer, and the leaf whose server is lost.
+fn marks_of(
+    alloc: Global,
+    routes: &Routes,
+    finding: &Finding,
+    number: usize,
+) -> Result<Marks, AllocError> {
+    let place = &finding.place;
+    let mut deletes = Vec::new(alloc);
     let mut readable = Vec::new(alloc);
-    readable.push(finding.place.leaf.copy(alloc)?)?;
-    let lost = finding.place.leaf.copy(alloc)?;
+    let mut shown = Vec::new(alloc);
+    if number != place.route {
+        return Ok(Marks::new(deletes, readable, shown, None));
+    }
+    push_answered(alloc, &mut deletes, finding.deletes.as_slice())?;
+    push_answered(alloc, &mut shown, finding.deletes.as_slice())?;
+    push_answered(alloc, &mut shown, finding.gets.as_slice())?;
+    if let Some(route) = routes.route(number) {
+        let delete_era = opened(routes, place.era);
+        let get_era = opened(routes, place.get_era);
+        if let Some(member) = ClassTable::new(alloc, route)?.member_of(place.class.as_slice()) {
+            let sets = Sets::new(alloc, route, &member, delete_era)?;
+            push_sent(alloc, &mut deletes, sets.acknowledged(alloc)?.as_slice())?;
+            let sets = Sets::new(alloc, route, &member, get_era)?;
+            push_sent(alloc, &mut readable, sets.readable(alloc)?.as_slice())?;
+        }
+    }
+    let lost = place.leaf.copy(alloc)?;
     Ok(Marks::new(deletes, readable, shown, Some(lost)))
 }
 
-fn positions(alloc: Global, legs: &[LegOutcome]) -> Result<Vec<Position>, AllocError> {
-    let mut positions = Vec::with_capacity(alloc, legs.len())?;
+/// Adds the positions of legs.
+fn push_sent(alloc: Global, positions: &mut Vec<Position>, legs: &[Leg<'_>]) -> Result<(), AllocError> {
     for leg in legs {
         positions.push(leg.position.copy(alloc)?)?;
     }
-    Ok(positions)
+    Ok(())
+}
+
+/// Adds the positions of legs that answered.
+fn push_answered(
+    alloc: Global,
+    positions: &mut Vec<Position>,
+    legs: &[LegOutcome],
+) -> Result<(), AllocError> {
+    for leg in legs {
+        positions.push(leg.position.copy(alloc)?)?;
+    }
+    Ok(())
 }
 
 /// The lines of a text, without their ends.
