@@ -36,6 +36,14 @@ pub still_one : (p : List ℕ) (t : Tree) → still_drawn ((p, t) ∷ []) ≡ dr
 unfolding still_drawn
 still_one p t = refl
 
+-- what is drawn of one handle alone, as it was pushed
+pub one_handle : {X : Type 0} (f : X → Handle) (items : List X) (x : X) (p : List ℕ) (t : Tree) → items ≡ x ∷ [] → f x ≡ (p, t) → still_drawn (map f items) ≡ drawn p t
+one_handle f items x p t is same = ap (λ xs. still_drawn (map f xs)) is ∙ (ap (λ (h : Handle). still_drawn (h ∷ [])) same ∙ still_one p t)
+
+-- what is drawn of the last handle, and of those before it
+pub last_handle : {X : Type 0} (f : X → Handle) (items front : List X) (x : X) → items ≡ front ++ x ∷ [] → still_drawn (map f items) ≡ drawn (f x).0 (f x).1 ++ still_drawn (map f front)
+last_handle f items front x is = ap (λ xs. still_drawn (map f xs)) is ∙ (ap still_drawn (map-append f front (x ∷ [])) ∙ still_last (map f front) (f x))
+
 -- ---- children, the last one first
 
 -- the children from number k on

@@ -26,7 +26,7 @@ abbrev pub lost_sentence : SceneValue → List ℕ
 lost_sentence s = lost_words (escaped s.finding.key) (op_name s.finding.op) (lost_server s)
 
 -- the keys of a class, by what their rest begins with
-unfoldable pub class_words : (class : List ℕ) → List ℕ
+abbrev pub class_words : (class : List ℕ) → List ℕ
 class_words [] = codes "begins with none of its policy prefixes"
 class_words (b ∷ bs) = joined (codes "has " ∷ escaped (b ∷ bs) ∷ codes " as its longest policy prefix" ∷ [])
 

@@ -53,7 +53,6 @@ pub(crate) fn push_lost(
 }
 
 /// Which keys of a route a class has.
-#[tactic(auto, unfolding(crate::specs::Explanation::class_words))]
 fn class_words(alloc: Global, class: &[u8]) -> Result<Vec<u8>, AllocError>
     ensures { IfOk result (λ text. text.items ≡ class_words class.now) }
 {
