@@ -78,7 +78,8 @@ fn draw_next<'a>(
     }
     push_children(alloc, &next, row, pending)?;
     let element = element_of(alloc, next, row, drawing)?;
-    elements.push(element)
+    elements.push(element)?;
+    Ok(())
 }
 
 /// How many children of a handle are drawn: those of its numbers, but of a warm-up not cold again for the add.
