@@ -1,4 +1,4 @@
 pub mod Escaping
 pub mod DrawnApart
 pub mod ChildCounts
-pub mod Listing
+pub mod HandlesInTurn
