@@ -91,9 +91,9 @@ fn serve<R: Read, W: Write, P: Proxy>(
     requires most { options.sessions ≤ 1000000000 }
     requires least_proxies { 1 ≤ options.proxies }
     requires most_proxies { options.proxies ≤ 64 }
-    ensures done { (held : Held) → IfOk result (IsServed held (P.serves proxy.now) (run_of options) (R.remaining reader.old)
+    ensures done { (held : Held) → IfOk result (IsServed held (P.serves proxy.now) (run_of options.entry) (R.remaining reader.old)
         (W.contents writer.old) (W.contents writer.new)) }
-    ensures stop { (held : Held) → IfErr result (IsJudgingFault held None options.window (R.remaining reader.old)) }
+    ensures stop { (held : Held) → IfErr result (IsJudgingFault held None options.entry.window (R.remaining reader.old)) }
     ensures silent { IfErr result (λ stop. stop ≢ Run Device → stop ≢ Run Memory → W.contents writer.new ≡ W.contents writer.old) }
 {
     match judge_input(alloc, reader, options.window)? {

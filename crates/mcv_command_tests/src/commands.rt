@@ -269,6 +269,8 @@ const MAIN_PARTS: &[&str] = &[
 const CHECK_PARTS: &[&str] = &[
     "Usage: mcv check [--cert FILE] [--window SECONDS] [--explain] [--json] [-q] < FILE",
     "--cert <FILE>",
+    "--window <SECONDS>",
+    "from 0 to 4294967295 [default: 0]",
     "\n  covered 1\n",
     "\n  lost b:11211\n",
     "\n  key /././!\n",
@@ -298,7 +300,8 @@ fn help_names_input_and_exit_statuses(rt: HostRuntime) {
 }
 
 const RUN_PARTS: &[&str] = &[
-    "Usage: mcv run --listen ADDRESS --spool FILE [--sessions N] [--proxies N] < FILE",
+    "Usage: mcv run --listen ADDRESS --spool FILE [--sessions N] [--proxies N]\n               [--window SECONDS] < FILE",
+    "--window <SECONDS>",
     "--listen <ADDRESS>",
     "--spool <FILE>",
     "--sessions <N>",

@@ -238,7 +238,8 @@ fn run_command<'a>(alloc: Global) -> Result<Command<'a>, AllocError>
     Command::new(alloc, "run")
         .about(RUN_ABOUT)
         .override_usage(
-            "mcv run --listen ADDRESS --spool FILE [--sessions N] [--proxies N] [--window SECONDS] < FILE",
+            "mcv run --listen ADDRESS --spool FILE [--sessions N] [--proxies N]
+               [--window SECONDS] < FILE",
         )
         .after_help(RUN_FORM)
         .arg(listen_option(alloc))?

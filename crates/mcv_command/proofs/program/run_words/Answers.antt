@@ -1,4 +1,4 @@
-use Rattle.std.proofs.Common.{◌∙◌, List, None, ap, inl, inr, map, refl, sym, subst}
+use Rattle.std.proofs.Common.{◌∙◌, List, None, Some, ap, inl, inr, map, refl, sym, subst}
 use Rattle.std.proofs.lemmas.Result.{IfErr-weaker, IfOk-weaker, err_from_is_err_and}
 use Rattle.clap.specs.Words.{Text}
 use Rattle.mcv_words.specs.Words.{run_of}
@@ -42,24 +42,29 @@ returns-in_err-write_text-in-Err-Version-clause-stop g c =
 pub returns-in-Err-Memory-clause-stop : goal.returns-in-Err-Memory-clause-stop
 returns-in-Err-Memory-clause-stop g c = inl (inl refl)
 
-pub returns-in-Ok-Check-None-clause-done : goal.returns-in-Ok-Check-None-clause-done
-returns-in-Ok-Check-None-clause-done g c =
+pub returns-in-Ok-Check-None-default-clause-done : goal.returns-in-Ok-Check-None-default-clause-done
+returns-in-Ok-Check-None-default-clause-done g c =
     let held = g.F.NamedFiles.held c.args.files.now in
-    let asks = rw (c.in-Ok-Check-None.field-0-is, c.in-Ok-Check-None.field-0-0-is) at c.in-Ok-Check-None.ensures.job in
-    IfOk-weaker c.judge.result _ _ (λ ending judged. inr (inr (inl (None, c.in-Ok-Check-None.options, asks, judged)))) (c.judge.ensures.done held)
+    let asks = rw (c.in-Ok-Check-None-default.field-0-is, c.in-Ok-Check-None-default.field-0-0-is) at c.in-Ok-Check-None-default.ensures.job in
+    IfOk-weaker c.judge.result _ _ (λ ending judged. inr (inr (inl (None, c.in-Ok-Check-None-default.options, asks, judged)))) (c.judge.ensures.done held)
 
-pub returns-in-Ok-Check-None-clause-stop : goal.returns-in-Ok-Check-None-clause-stop
-returns-in-Ok-Check-None-clause-stop g c =
+pub returns-in-Ok-Check-None-default-clause-stop : goal.returns-in-Ok-Check-None-default-clause-stop
+returns-in-Ok-Check-None-default-clause-stop g c =
     let words : List Text = map (λ w. w.now) c.args.words.now in
     let held = g.F.NamedFiles.held c.args.files.now in
     let known = g.R.Read.remaining c.args.reader.now in
-    let asks = rw (c.in-Ok-Check-None.field-0-is, c.in-Ok-Check-None.field-0-0-is) at c.in-Ok-Check-None.ensures.job in
-    IfErr-weaker c.judge.result _ _ (λ stop holds. judging_stop words held known None c.in-Ok-Check-None.options stop asks holds) (c.judge.ensures.stop held)
+    let asks = rw (c.in-Ok-Check-None-default.field-0-is, c.in-Ok-Check-None-default.field-0-0-is) at c.in-Ok-Check-None-default.ensures.job in
+    IfErr-weaker c.judge.result _ _ (λ stop holds. judging_stop words held known None c.in-Ok-Check-None-default.options stop asks holds) (c.judge.ensures.stop held)
 
-pub returns-in-Ok-Check-None-clause-silent : goal.returns-in-Ok-Check-None-clause-silent
-returns-in-Ok-Check-None-clause-silent g c =
-    let asks = rw (c.in-Ok-Check-None.field-0-is, c.in-Ok-Check-None.field-0-0-is) at c.in-Ok-Check-None.ensures.job in
-    silent_unless_json (c.in-Ok-Check-None.options.json) c.judge.result _ (λ json. (None, c.in-Ok-Check-None.options, asks, json)) c.judge.ensures.silent
+pub returns-in-Ok-Check-None-default-clause-silent : goal.returns-in-Ok-Check-None-default-clause-silent
+returns-in-Ok-Check-None-default-clause-silent g c =
+    let asks = rw (c.in-Ok-Check-None-default.field-0-is, c.in-Ok-Check-None-default.field-0-0-is) at c.in-Ok-Check-None-default.ensures.job in
+    silent_unless_json (c.in-Ok-Check-None-default.options.json) c.judge.result _ (λ json. (None, c.in-Ok-Check-None-default.options, asks, json)) c.judge.ensures.silent
+
+pub returns-in-Ok-Check-Some-default-clause-silent : goal.returns-in-Ok-Check-Some-default-clause-silent
+returns-in-Ok-Check-Some-default-clause-silent g c =
+    let asks = rw (c.in-Ok-Check-Some-default.field-0-is, c.in-Ok-Check-Some-default.field-0-0-is) at c.in-Ok-Check-Some-default.ensures.job in
+    silent_unless_json (c.in-Ok-Check-Some-default.options.json) c.judge_by.result _ (λ json. (Some c.in-Ok-Check-Some-default.name.now, c.in-Ok-Check-Some-default.options, asks, json)) c.judge_by.ensures.silent
 
 pub returns-in-Ok-Draw-clause-done : goal.returns-in-Ok-Draw-clause-done
 returns-in-Ok-Draw-clause-done g c =
