@@ -258,6 +258,7 @@ const MAIN_PARTS: &[&str] = &[
     "Usage: mcv <COMMAND>",
     "mcrouter",
     "  check  ",
+    "  draw  ",
     "  legs  ",
     "  run  ",
     "\n  mcv check < mcrouter.json\n",
@@ -267,7 +268,10 @@ const MAIN_PARTS: &[&str] = &[
 ];
 
 const CHECK_PARTS: &[&str] = &[
-    "Usage: mcv check [--cert FILE] [--window SECONDS] [--explain] [--json] [-q] < FILE",
+    "Usage: mcv check [--cert FILE] [--window SECONDS] [--explain] [--json]\n                 [-q] < FILE",
+    "--explain",
+    "--json",
+    "-q, --quiet",
     "--cert <FILE>",
     "--window <SECONDS>",
     "from 0 to 4294967295 [default: 0]",
@@ -292,10 +296,17 @@ const LEGS_PARTS: &[&str] = &[
     "mcv: configuration NUMBER at PATH",
 ];
 
+const DRAW_PARTS: &[&str] = &[
+    "Usage: mcv draw [--dot] [-q] < FILE",
+    "--dot",
+    "\n  mcv draw < mcrouter.json > mcrouter.svg\n",
+];
+
 #[test]
 fn help_names_input_and_exit_statuses(rt: HostRuntime) {
     check_parts(&rt, &["mcv", "--help"], MAIN_PARTS);
     check_parts(&rt, &["mcv", "check", "--help"], CHECK_PARTS);
+    check_parts(&rt, &["mcv", "draw", "--help"], DRAW_PARTS);
     check_parts(&rt, &["mcv", "legs", "--help"], LEGS_PARTS);
 }
 
@@ -335,6 +346,7 @@ fn help_names_each_handle_within_eighty_columns(rt: HostRuntime) {
     }
     check_columns(&rt, &["mcv", "legs", "--help"]);
     check_columns(&rt, &["mcv", "check", "--help"]);
+    check_columns(&rt, &["mcv", "draw", "--help"]);
 }
 
 const POOL: &str = "{\"pools\":{\"A\":{\"servers\":[\"a:11211\"]}},\"route\":\"PoolRoute|A\"}";

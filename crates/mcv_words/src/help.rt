@@ -74,9 +74,9 @@ pub(crate) const CERT: &str = "A certificate in place of one that mcv makes";
 
 pub(crate) const EXPLAIN: &str = "The finding in sentences behind its text";
 
-pub(crate) const JSON: &str = "The verdict as JSON, a fault of the configuration too";
+pub(crate) const JSON: &str = "The verdict as JSON, or the fault in its place";
 
-pub(crate) const QUIET: &str = "One line on standard error for a fault, in place of two";
+pub(crate) const QUIET: &str = "One line on standard error for a fault, not two";
 
 pub(crate) const DOT: &str = "A graph for Graphviz in place of SVG";
 
@@ -88,10 +88,11 @@ one picture, SVG by itself: a box for each handle, with the servers of a pool.
 
   mcv draw < mcrouter.json > mcrouter.svg
 
-Of a configuration that can lose a delete the legs of the finding's get and
-delete are drawn thick, the leaf whose server is lost is marked, and the finding
-stands below. Of a covered one the leaves that can be read are marked, and the
-legs of deletes that its certificate names. Handles with more than 60 children
+Of a configuration that can lose a delete the finding stands below, the legs
+that answer its get and its delete are drawn thick, and the leaf whose server is
+lost is marked. Red and dashed is where each delete goes that is acknowledged,
+blue what a get can be answered by: for the finding's keys, or where it is
+covered, by the certificate. Handles with more than 60 children
 are folded. The exit status is 0 in both cases.";
 
 pub(crate) const WINDOW: &str = "How many seconds may lie between a delete and a get,

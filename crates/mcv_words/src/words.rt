@@ -164,7 +164,10 @@ fn check_command<'a>(alloc: Global) -> Result<Command<'a>, AllocError>
 {
     Command::new(alloc, "check")
         .about(CHECK_ABOUT)
-        .override_usage("mcv check [--cert FILE] [--window SECONDS] [--explain] [--json] [-q] < FILE")
+        .override_usage(
+            "mcv check [--cert FILE] [--window SECONDS] [--explain] [--json]
+                 [-q] < FILE",
+        )
         .after_help(CHECK_FORM)
         .arg(cert_option(alloc))?
         .arg(window_option(alloc))?
