@@ -219,11 +219,13 @@ fn push_answered(
     Ok(())
 }
 
-/// The lines of a text, without their ends.
+/// The lines of a text, without their ends, but for empty ones.
 fn lines_of(alloc: Global, text: &[u8]) -> Result<Vec<Vec<u8>>, AllocError> {
     let mut lines = Vec::new(alloc);
     for line in text.split(|byte| *byte == b'\n') {
-        lines.push(Vec::from_slice(alloc, line)?)?;
+        if !line.is_empty() {
+            lines.push(Vec::from_slice(alloc, line)?)?;
+        }
     }
     Ok(lines)
 }
