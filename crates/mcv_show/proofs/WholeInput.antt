@@ -4,13 +4,14 @@ use Rattle.std.specs.Prelude.{count_by, ◌==◌}
 use Rattle.std.proofs.lemmas.List.{length-take, take-take}
 use Rattle.mcv_config.specs.Config.{Faulty, size_limit}
 use Rattle.mcv_faults.specs.TextPlace.{IsPlaceIn, column_behind}
-use Rattle.mcv_input.proofs.FirstBytes.{read_limit, whole}
-use Rattle.mcv_input.specs.Fault.{IsInputFault, IsOutside, of_reading}
+use Rattle.mcv_input.proofs.FirstBytes.{fault_of_known, named_by_all, read_limit, whole}
+use Rattle.mcv_input.specs.Fault.{AreNamedBy, IsInputFault, IsOutside, of_reading}
 use Rattle.mcv_input.specs.declared.fault.RunFault.{RunFault}
 use Rattle.mcv_input.specs.declared.fault.RunFault.TheVariants.{Line, NoRoute, Config, CertificateText, Certificate, Window, Memory, Device}
 use Rattle.mcv_names.specs.Fault.{Refuses}
 use Rattle.mcv_names.specs.declared.fault.ReadFault.{ReadFault}
 use Rattle.mcv_names.specs.declared.fault.ReadFault.TheVariants as read_faults
+use Rattle.mcv_route.specs.Routes.{RoutesValue}
 use Rattle.mcv_verdict.specs.Fault.{IsRunFault}
 use Rattle.mcv_verdict.specs.declared.verdict.Verdict.{Verdict}
 use Rattle.mcv_words.specs.declared.words.CheckOptions.{CheckOptions}
@@ -54,6 +55,21 @@ fault_whole first bytes Line text is said = said
 fault_whole first bytes NoRoute text is said = said
 fault_whole first bytes Memory text is said = said
 fault_whole first bytes Device text is said = said
+
+named_whole : (first bytes : List ℕ) (r : RoutesValue) → first ≡ take read_limit bytes → AreNamedBy first r → AreNamedBy bytes r
+named_whole first bytes r is named = named_by_all bytes r (subst (λ (xs : List ℕ). AreNamedBy xs r) is named)
+
+-- a fault of what was read is one of the whole input
+pub run_fault_whole : (first bytes : List ℕ) (window : ℕ) (certificate : Option (List ℕ)) (fault : RunFault) → first ≡ take read_limit bytes → IsRunFault first window certificate fault
+    → IsRunFault bytes window certificate fault
+run_fault_whole first bytes window certificate Line is holds = holds
+run_fault_whole first bytes window certificate NoRoute is holds = holds
+run_fault_whole first bytes window certificate (Config fault) is holds = fault_of_known (Some bytes) first (read_faults.Config fault) is holds
+run_fault_whole first bytes window certificate (CertificateText fault) is holds = (holds.0, named_whole first bytes holds.0 is holds.1, holds.2)
+run_fault_whole first bytes window certificate (Certificate fault) is holds = (holds.0, named_whole first bytes holds.0 is holds.1, holds.2)
+run_fault_whole first bytes window certificate Window is holds = (holds.0, named_whole first bytes holds.0 is holds.1, holds.2)
+run_fault_whole first bytes window certificate Memory is holds = tt
+run_fault_whole first bytes window certificate Device is holds = tt
 
 -- the fault of a run, or what came in reporting it
 pub reported_fault : (input : List ℕ) (window : ℕ) (certificate : Option (List ℕ)) (fault found : RunFault) → (found ≡ fault) ⊎ IsOutside found → IsRunFault input window certificate fault
