@@ -12,6 +12,8 @@ mod listing;
 mod marks;
 mod markup;
 mod picture;
+mod pieces;
+mod shapes;
 
 pub use element::Element;
 pub use graph::dot;
