@@ -3,7 +3,7 @@ use Rattle.std.proofs.Common.{◌≡◌, ◌∙◌, ◌<◌, ◌≤◌, ◌+◌,
 use Rattle.std.proofs.lemmas.List.{append-nil, map-append}
 use Rattle.mcv_route.specs.Places.{child_at, children_of}
 use Rattle.mcv_route.specs.Tree.{Tree, Trees, pool, null, error, many, warm_up, migrate, prefix_selector, operation_selector, none, child}
-use Rattle.mcv_draw.specs.Drawn.{drawn, drawn_children, drawn_each, still_drawn, tree_count}
+use Rattle.mcv_draw.specs.Drawn.{drawn, drawn_children, drawn_each, from_child, still_drawn, tree_count}
 
 abbrev pub Handle : Type 0
 Handle = List ℕ × Tree
@@ -45,12 +45,6 @@ pub last_handle : {X : Type 0} (f : X → Handle) (items front : List X) (x : X)
 last_handle f items front x is = ap (λ xs. still_drawn (map f xs)) is ∙ (ap still_drawn (map-append f front (x ∷ [])) ∙ still_last (map f front) (f x))
 
 -- ---- children, the last one first
-
--- the children from number k on
-abbrev pub from_child : ℕ → Trees → Trees
-from_child zero ts = ts
-from_child (suc k) none = none
-from_child (suc k) (child t ts) = from_child k ts
 
 pub none_from : (ts : Trees) → from_child (tree_count ts) ts ≡ none
 none_from none = refl
@@ -102,17 +96,19 @@ none_pushed p t n before is =
     let behind : from_child n (drawn_children t) ≡ none = ap (λ (k : ℕ). from_child k (drawn_children t)) is ∙ none_from (drawn_children t) in
     ap (λ (ts : Trees). drawn_each p n ts ++ still_drawn before) (sym behind)
 
--- one more child, with the number below that of those that were pushed
-pub one_pushed : (p : List ℕ) (t u : Tree) (n k : ℕ) (before now : List Handle) (rest : List (List ℕ)) → n ≡ suc k → n ≤ tree_count (drawn_children t) → child_at (children_of t) k ≡ Some u
-    → still_drawn before ≡ drawn_each p n (from_child n (drawn_children t)) ++ rest → now ≡ before ++ (p ++ k ∷ [], u) ∷ []
-    → still_drawn now ≡ drawn_each p k (from_child k (drawn_children t)) ++ rest
-one_pushed p t u n k before now rest next low is so_far pushed =
-    child_more p t u k before now rest (omega arith) is
-    (subst (λ (m : ℕ). still_drawn before ≡ drawn_each p m (from_child m (drawn_children t)) ++ rest) next so_far) pushed
+-- what is pushed, as it is seen
+pub seen_last : {X Y : Type 0} (f : X → Y) (before now : List X) (x : X) (y : Y) → now ≡ before ++ x ∷ [] → f x ≡ y → map f now ≡ map f before ++ y ∷ []
+seen_last f before now x y is same = ap (map f) is ∙ (map-append f before (x ∷ []) ∙ ap (λ z. map f before ++ z ∷ []) same)
 
--- a handle that is pushed, seen as a position and a tree
-pub seen_last : {X : Type 0} (f : X → Handle) (before now : List X) (x : X) (h : Handle) → now ≡ before ++ x ∷ [] → f x ≡ h → map f now ≡ map f before ++ h ∷ []
-seen_last f before now x h is same = ap (map f) is ∙ (map-append f before (x ∷ []) ∙ ap (λ (y : Handle). map f before ++ y ∷ []) same)
+-- the first that is pushed
+pub pushed_first : {X : Type 0} (old now : List X) (x : X) → now ≡ old ++ x ∷ [] → old ≡ [] → now ≡ x ∷ []
+pushed_first old now x is none_before = is ∙ ap (λ xs. xs ++ x ∷ []) none_before
+
+-- where no handle is left, all is drawn
+pub all_drawn : {X : Type 0} (f : X → Handle) (items : List X) (n : ℕ) (es whole : List (ℕ × List ℕ)) → length items ≡ 0 → es ++ map (λ q. (n, q)) (still_drawn (map f items)) ≡ whole → es ≡ whole
+unfolding still_drawn
+all_drawn f [] n es whole short said = sym (append-nil es) ∙ said
+all_drawn f (x ∷ xs) n es whole short said = absurd (omega arith)
 
 -- ---- one handle more
 

@@ -1,5 +1,5 @@
 -- Which positions of a route's tree are drawn: each handle once (own).
-use Rattle.std.specs.Prelude.{◌≢◌, ℕ, suc, List, [], ◌∷◌, ◌++◌}
+use Rattle.std.specs.Prelude.{◌≢◌, ℕ, zero, suc, List, [], ◌∷◌, ◌++◌}
 use Rattle.std.specs.List.{AllPairs}
 use Rattle.mcv_route.specs.Tree.{Tree, Trees, pool, null, error, many, warm_up, migrate, prefix_selector, operation_selector, none, child}
 
@@ -33,6 +33,12 @@ drawn_children (operation_selector ops ts) = ts
 abbrev pub tree_count : Trees → ℕ
 tree_count none = 0
 tree_count (child t ts) = suc (tree_count ts)
+
+-- the children from number k on
+abbrev pub from_child : ℕ → Trees → Trees
+from_child zero ts = ts
+from_child (suc k) none = none
+from_child (suc k) (child t ts) = from_child k ts
 
 -- what is still to be drawn of handles, each with its position: of the last one first
 unfoldable pub still_drawn : List (List ℕ × Tree) → List (List ℕ)

@@ -1,7 +1,7 @@
 //! The list of what is drawn of a route.
 
-ghost use Rattle.std.specs.Prelude.{◌≡◌, ◌++◌, ◌∷◌, [], IfOk, OnOk, map};
-ghost use Rattle.mcv_draw.specs.Drawn.{drawn, drawn_children, drawn_each, still_drawn, tree_count};
+ghost use Rattle.std.specs.Prelude.{◌≡◌, ◌<◌, ◌++◌, ◌∷◌, [], ℕ, List, suc, IfOk, OnOk, map};
+ghost use Rattle.mcv_draw.specs.Drawn.{drawn, drawn_children, drawn_each, from_child, still_drawn, tree_count};
 ghost use Rattle.mcv_draw.specs.Handles.{handle_of, place_of};
 ghost use Rattle.mcv_route.specs.View.{view};
 
@@ -117,10 +117,31 @@ fn push_children<'a>(
     let mut number = child_count(parent.route);
     while number > 0 {
         number -= 1;
-        if let Some(route) = child_of(parent.route, number) {
-            pending.push(child_pending(alloc, parent, route, number, row)?)?;
-        }
+        push_child(alloc, parent, number, row, pending)?;
     }
+    Ok(())
+}
+
+/// Adds the child of a number, behind those with higher numbers.
+fn push_child<'a>(
+    alloc: Global,
+    parent: &Pending<'a>,
+    number: usize,
+    row: u32,
+    pending: &mut Vec<Pending<'a>>,
+) -> Result<(), AllocError>
+    requires { number < tree_count (drawn_children (view parent.now.route.now)) }
+    ensures { OnOk result ((rest : List (List ℕ))
+        → still_drawn (map handle_of pending.old.items)
+        ≡ drawn_each parent.now.position (suc number) (from_child (suc number) (drawn_children (view parent.now.route.now))) ++ rest
+        → still_drawn (map handle_of pending.new.items)
+        ≡ drawn_each parent.now.position number (from_child number (drawn_children (view parent.now.route.now))) ++ rest) }
+{
+    // Each number below the count has a child.
+    let Some(route) = child_of(parent.route, number) else {
+        return Ok(());
+    };
+    pending.push(child_pending(alloc, parent, route, number, row)?)?;
     Ok(())
 }
 

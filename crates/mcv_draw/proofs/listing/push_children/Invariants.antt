@@ -1,8 +1,7 @@
 use Rattle.std.proofs.Common.{◌≡◌, ◌≤◌, ◌++◌, map}
 use Rattle.mcv_route.specs.View.{view}
-use Rattle.mcv_draw.specs.Drawn.{drawn_children, drawn_each, still_drawn, tree_count}
+use Rattle.mcv_draw.specs.Drawn.{drawn_children, drawn_each, from_child, still_drawn, tree_count}
 use Rattle.mcv_draw.specs.Handles.{handle_of}
-use Rattle.mcv_draw.proofs.HandlesInTurn.{from_child}
 use Rattle.mcv_draw.proofs.listing.push_children.Given as goal
 
 -- the children from this number on were pushed
