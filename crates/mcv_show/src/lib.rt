@@ -8,6 +8,7 @@ mod detail;
 mod drawing;
 mod fault;
 mod input;
+mod marks;
 mod shown;
 
 pub use detail::fault_detail;

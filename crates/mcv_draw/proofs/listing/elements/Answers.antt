@@ -35,4 +35,4 @@ loop-next-smaller c =
     fewer p (drawn_each p 0 (drawn_children tree)) rest (still_drawn (map handle_of c.draw_next.new.pending.items)) (still_drawn (map handle_of c.loop-next.pending.items)) c.in_ok-draw_next.ensures.pending whole
 
 pub returns : goal.returns
-returns c = all_drawn handle_of c.loop-next.pending.items c.args.drawing.now.number (map place_of c.loop-next.elements.items) _ (omega (arith, c.in_default.ensures.len)) c.loop-next.invariant
+returns c = all_drawn handle_of c.loop-next.pending.items c.args.drawing.now.number (map place_of c.loop-next.elements.items) _ (rw c.in_default.is at c.pop.ensures.cases).0 c.loop-next.invariant

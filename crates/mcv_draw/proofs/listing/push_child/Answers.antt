@@ -5,7 +5,7 @@ use Rattle.mcv_draw.proofs.HandlesInTurn.{child_more, no_child_missing, seen_las
 use Rattle.mcv_draw.proofs.listing.push_child.Goals as goal
 
 pub returns-in_default : goal.returns-in_default
-returns-in_default c rest so_far = absurd (no_child_missing (view c.args.parent.now.route.now) c.args.number c.requires (sym c.in_default.ensures))
+returns-in_default c rest so_far = absurd (no_child_missing (view c.args.parent.now.route.now) c.args.number c.requires (sym (rw c.in_default.is at c.child_of.ensures)))
 
 pub returns : goal.returns
 returns c rest so_far =
