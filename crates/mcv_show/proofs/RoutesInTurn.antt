@@ -1,7 +1,8 @@
 -- The elements of all routes, route by route.
 use Rattle.std.proofs.Common.{◌≡◌, ◌∙◌, ◌≤◌, ◌<◌, ◌+◌, ℕ, zero, suc, List, [], ◌∷◌, ◌++◌, Option, Some, None, ap, append_assoc, add-one, arith, drop, length, map, refl, sym}
 use Rattle.std.specs.Prelude.{option_map, slice_get}
-use Rattle.std.proofs.lemmas.List.{append-nil, map-map}
+use Rattle.std.proofs.lemmas.List.{append-nil}
+use Rattle.std.proofs.lemmas.Simd.{map-map}
 use Rattle.mcv_blocks.proofs.RouteClasses.{route_at}
 use Rattle.mcv_draw.specs.Drawn.{drawn}
 use Rattle.mcv_draw.specs.Element.{element_of}
