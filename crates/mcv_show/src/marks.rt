@@ -11,6 +11,7 @@ use mcv_witness::{Finding, LegOutcome};
 use std::alloc::{AllocError, Global};
 
 /// What was found of routes: a certificate by which they are covered, or how a delete can be lost.
+#[derive(Clone, Copy)]
 pub(crate) enum Found<'a> {
     Covered(&'a Certificate),
     Lost(&'a Finding),
