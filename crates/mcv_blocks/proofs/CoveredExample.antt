@@ -7,12 +7,12 @@ use Rattle.std.proofs.lemmas.Bool.{and_parts, leb-true}
 use Rattle.std.proofs.lemmas.List.Elements.{All-cons, All-nil}
 use Rattle.std.proofs.lemmas.List.Kept.{AllPairs-cons}
 use Rattle.std.proofs.lemmas.Option.{none-some, same_Some}
-use Rattle.mcv_base.specs.declared.operation.Op.TheVariants.{Get, Gets, Delete}
+use Rattle.mcv_base.specs.declared.operation.Op.TheVariants.{Get, Gets, Delete, Incr, Decr}
 use Rattle.mcv_base.specs.declared.reply.Outcome.{Outcome}
 use Rattle.mcv_base.specs.declared.reply.Outcome.TheVariants.{Good, Error}
 use Rattle.mcv_pools.specs.declared.symbol.HashFunc.TheVariants.{Ch3}
 use Rattle.mcv_symbolic.specs.Sets.{CanHitAt}
-use Rattle.mcv_route.proofs.Readings.{get_or_gets}
+use Rattle.mcv_route.proofs.Readings.{each_of_four}
 use Rattle.mcv_route.specs.Outcomes.{Choice}
 use Rattle.mcv_route.specs.Places.{pool_at_position}
 use Rattle.mcv_route.specs.Routes.{IsSoundRoutes, IsSoundTree, RouteEntry, RoutesValue}
@@ -95,10 +95,11 @@ any s = 0
 
 readable_there : (p : List ℕ) → IsReadableAt tree member None p → (1 ∷ []) ≡ p
 readable_there p h =
-    elim (get_or_gets (λ op. CanHitAt tree (asked op member None) h.2 p) h.0 h.1 h.3) [
-      | inl g ↦ let l = (hits_are_exact tree Get member None h.2 p).0 g in ap (λ (k : Leg). k.position) l.1 ∙ l.2
-      | inr g ↦ let l = (hits_are_exact tree Gets member None h.2 p).0 g in ap (λ (k : Leg). k.position) l.1 ∙ l.2
-    ]
+    each_of_four (λ op. CanHitAt tree (asked op member None) h.2 p → (1 ∷ []) ≡ p)
+    (λ g. let l = (hits_are_exact tree Get member None h.2 p).0 g in ap (λ (k : Leg). k.position) l.1 ∙ l.2)
+    (λ g. let l = (hits_are_exact tree Gets member None h.2 p).0 g in ap (λ (k : Leg). k.position) l.1 ∙ l.2)
+    (λ g. let l = (hits_are_exact tree Incr member None h.2 p).0 g in ap (λ (k : Leg). k.position) l.1 ∙ l.2)
+    (λ g. let l = (hits_are_exact tree Decr member None h.2 p).0 g in ap (λ (k : Leg). k.position) l.1 ∙ l.2) h.0 h.1 h.3
 
 readable_here : IsReadableAt tree member None (1 ∷ [])
 readable_here = (Get, refl, any, (hits_are_exact tree Get member None any (1 ∷ [])).1 (plans.leg_of hashed (under 1 (asked Get member None)), refl, refl))

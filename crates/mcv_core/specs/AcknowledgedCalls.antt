@@ -84,7 +84,7 @@ abbrev pub WasAnswered : List Event → List Answer → ℕ → ReplyValue → T
 WasAnswered events answers k x = Happened events answers (λ e a. taking_of e a ≡ Some (k, x))
 
 -- the call is what was asked for the key, with this reply; and if it is a delete and the reply no error, it keeps a leg to each server that could
--- answer a get or gets of its rest, by its route, in its era and under its choice
+-- answer a get, gets, incr or decr of its rest, by its route, in its era and under its choice
 pub record IsKeptCall (r : RoutesValue) (chosen : SymbolValue → List ℕ → ℕ) (w : World) (k : ℕ) (request : Request) (key : ℕ) (x : ReplyValue) : Type 0 where
   pub call : Call
   pub there : w.calls k ≡ Some call

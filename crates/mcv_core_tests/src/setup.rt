@@ -69,6 +69,7 @@ fn ask(rt: &(impl AllocGlobal + Abort), op: Op, key: &[u8]) -> Ask {
         exptime: 0,
         body: shared(rt, b""),
         cas: None,
+        delta: 0,
         noreply: false,
     }
 }

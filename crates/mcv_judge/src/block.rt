@@ -27,7 +27,7 @@ pub struct Spot<'a> {
 #[derive(Clone, Copy)]
 pub struct Block<'a> {
     pub spot: Spot<'a>,
-    /// The legs from which a get or gets can be answered, in the order of their positions.
+    /// The legs from which a get, gets, incr or decr can be answered, in the order of their positions.
     pub readable: &'a [Leg<'a>],
     /// The legs that every delete that has a reply has sent, in the order of their positions.
     pub acknowledged: &'a [Leg<'a>],

@@ -5,7 +5,7 @@ use Rattle.std.proofs.lemmas.Bool.{cases_lt}
 use Rattle.std.proofs.lemmas.Bool.Decides.{nat_tests}
 use Rattle.std.proofs.lemmas.List.{take-append-drop}
 use Rattle.mcv_base.specs.declared.operation.Op.{Op}
-use Rattle.mcv_base.specs.declared.operation.Op.TheVariants.{Get, Gets, Set, Add, Replace, Append, Prepend, Cas, Delete, Touch}
+use Rattle.mcv_base.specs.declared.operation.Op.TheVariants.{Get, Gets, Set, Add, Replace, Append, Prepend, Cas, Delete, Touch, Incr, Decr}
 use Rattle.mcv_base.specs.Operation.{op_name}
 use Rattle.mcv_base.specs.Key.{is_key_word}
 use Rattle.mcv_names.specs.declared.fault.ConfigFault.{ConfigFault}
@@ -32,6 +32,8 @@ name_len Prepend = omega arith
 name_len Cas = omega arith
 name_len Delete = omega arith
 name_len Touch = omega arith
+name_len Incr = omega arith
+name_len Decr = omega arith
 
 key_len : (key : List ℕ) → is_key_word key ≡ true → length key ≤ 250
 key_len key is =

@@ -1,11 +1,11 @@
 -- The finding of a gap as the code builds it: each part is what is shown.
-use Rattle.std.proofs.Common.{◌≡◌, ℕ, true, List, ◌++◌, Option, Some, option_map, sym, ap, ◌∙◌}
+use Rattle.std.proofs.Common.{◌≡◌, ◌<◌, ℕ, true, List, ◌++◌, Option, Some, option_map, sym, ap, ◌∙◌}
 use Rattle.std.specs.Prelude.{option_and_then, slice_get}
 use Rattle.std.proofs.lemmas.Option.{same_Some}
 use Rattle.mcv_cert.specs.Pair.{place_of}
-use Rattle.mcv_base.specs.Operation.{is_reading}
+use Rattle.mcv_base.specs.Operation.{op_number, shows_value}
 use Rattle.mcv_base.specs.declared.operation.Op.{Op}
-use Rattle.mcv_base.specs.declared.operation.Op.TheVariants.{Delete, Get, Gets}
+use Rattle.mcv_base.specs.declared.operation.Op.TheVariants.{Delete}
 use Rattle.mcv_base.specs.declared.reply.Outcome.TheVariants.{Good}
 use Rattle.mcv_route.specs.Eras.{HasEra, IsEraOf}
 use Rattle.mcv_classes.specs.Class.{IsMember}
@@ -60,7 +60,7 @@ module _ (r : RoutesValue) (g : Gap) (gap : IsGap r (place_of g.place) g.at g.se
 
     module _ (pool : Pool) (pool_there : Some pool ≡ leaf_in r g.place.route g.place.leaf) (prefix key choice : List ℕ) (op : Op) (read deleted : History) (legs : List PlannedLeg) where
       pub is_shown : IsRest rest → key ≡ prefix ++ rest → ((c : Choice) → AreLegsAt t (IsAcknowledged t rest since c) legs) → choice ≡ free_indexes legs g.server.0 pool.symbol g.at 0 r.symbols
-          → is_reading op ≡ true → (op ≡ Gets → (c : Choice) → CanHitAt t (asked Get rest since) c g.place.leaf → ⊥) → leaf_hit g.place.leaf (plan t (asked op rest since)) ≡ Some read
+          → shows_value op ≡ true → ((earlier : Op) → shows_value earlier ≡ true → op_number earlier < op_number op → (c : Choice) → CanHitAt t (asked earlier rest since) c g.place.leaf → ⊥) → leaf_hit g.place.leaf (plan t (asked op rest since)) ≡ Some read
           → deleted ≡ answers Good (plan t (asked Delete rest since)) → IsShownWith r prefix (finding_at g key choice op read deleted)
       is_shown rest_is is_key are is_choice reading first led done = record {
         entry = entry;

@@ -81,7 +81,7 @@ fn find_behind(
 
 /// The finding that shows a gap: the member of its class behind the first routing prefix of its route.
 ///
-/// The leaf hits under get, or under gets where get can't read it. Takes time and memory in proportion to the route,
+/// The leaf hits under the first of get, gets, incr and decr that can read it. Takes time and memory in proportion to the route,
 /// its classes, the symbols and the servers of its legs; of a handle's n children that come before the leaf, up to
 /// n times n steps.
 pub fn find(alloc: Global, routes: &Routes, gap: &Gap) -> Result<Finding, AllocError>

@@ -1,8 +1,9 @@
 //! What is read off a route for a finding: how its leaf is read, how a delete is acknowledged, and the indexes.
 
-ghost use Rattle.std.specs.Prelude.{◌≡◌, List, Some, IfOk, option_map, true};
-ghost use Rattle.mcv_base.specs.Operation.{is_reading};
-ghost use Rattle.mcv_base.specs.declared.operation.Op.TheVariants.{Delete as Deleting, Get as ByGet, Gets as ByGets};
+ghost use Rattle.std.specs.Prelude.{◌≡◌, ◌<◌, List, Some, IfOk, option_map, true};
+ghost use Rattle.mcv_base.specs.Operation.{op_number, shows_value};
+ghost use Rattle.mcv_base.specs.declared.operation.Op.{Op as Operation};
+ghost use Rattle.mcv_base.specs.declared.operation.Op.TheVariants.{Delete as Deleting};
 ghost use Rattle.mcv_base.specs.declared.reply.Outcome.TheVariants.{Good as Done};
 ghost use Rattle.mcv_route.specs.Outcomes.{Choice as Chosen};
 ghost use Rattle.mcv_route.specs.Situation.{asked};
@@ -70,20 +71,26 @@ impl<'a> Scene<'a> {
         Ok(Some(copied(alloc, legs.as_slice())?))
     }
 
-    /// How a leaf that can be read is read: by get, or by gets where no get is answered from it.
+    /// How a leaf that can be read is read: by the first of get, gets, incr and decr that is answered from it.
     pub fn reading(&self, alloc: Global, leaf: &Position) -> Result<Reading, AllocError>
         requires { IsReadableAt (view self.now.route.now) self.now.rest.now (option_map (λ m. m.0) self.now.since) leaf.now }
-        ensures reading { IfOk result (λ r. is_reading r.op ≡ true) }
+        ensures reading { IfOk result (λ r. shows_value r.op ≡ true) }
         ensures led { IfOk result (λ r. leaf_hit leaf.now (plan (view self.now.route.now) (asked r.op self.now.rest.now (option_map (λ m. m.0) self.now.since))) ≡ Some (outcomes_of r.legs.items)) }
-        ensures first { IfOk result (λ r. r.op ≡ ByGets → (c : Chosen) → CanHitAt (view self.now.route.now) (asked ByGet self.now.rest.now (option_map (λ m. m.0) self.now.since)) c leaf.now → ⊥) }
+        ensures first { IfOk result (λ r. (op : Operation) → shows_value op ≡ true → op_number op < op_number r.op → (c : Chosen) → CanHitAt (view self.now.route.now) (asked op self.now.rest.now (option_map (λ m. m.0) self.now.since)) c leaf.now → ⊥) }
     {
         if let Some(legs) = self.hit(alloc, Op::Get, leaf)? {
             return Ok(Reading { op: Op::Get, legs });
         }
-        let Some(legs) = self.hit(alloc, Op::Gets, leaf)? else {
+        if let Some(legs) = self.hit(alloc, Op::Gets, leaf)? {
+            return Ok(Reading { op: Op::Gets, legs });
+        }
+        if let Some(legs) = self.hit(alloc, Op::Incr, leaf)? {
+            return Ok(Reading { op: Op::Incr, legs });
+        }
+        let Some(legs) = self.hit(alloc, Op::Decr, leaf)? else {
             unreachable!()
         };
-        Ok(Reading { op: Op::Gets, legs })
+        Ok(Reading { op: Op::Decr, legs })
     }
 
     /// The outcomes by which a delete is acknowledged, and no leg was sent that it needn't have.

@@ -49,6 +49,7 @@ fn leg_of(rt: &impl Abort, alloc: Global, op: Op) -> LegRequest {
         exptime: 0,
         body: Arc::new(alloc, body).expect(rt, "memory"),
         cas: None,
+        delta: 5,
     }
 }
 
@@ -59,6 +60,7 @@ fn letter(outcome: &Result<Reply, LinkFault>) -> u8 {
         Ok(Reply::Miss) => b'm',
         Ok(Reply::Stored) => b's',
         Ok(Reply::Deleted) => b'd',
+        Ok(Reply::Number(6)) => b'6',
         Ok(_) => b'?',
         Err(LinkFault::Broken) => b'b',
         Err(LinkFault::Memory) => b'o',
@@ -121,6 +123,23 @@ const ROWS: &[Row] = &[
         letters: "sbm",
         dials: 2,
         text: "add k 0 0 1\r\nx\r\nadd k 0 0 1\r\nx\r\nget k\r\n",
+    },
+    Row {
+        name: "an incr doesn't; the next leg opens another connection",
+        courses: &[
+            Course {
+                pieces: &["6\r\n"],
+                writes: 9,
+            },
+            Course {
+                pieces: &["END\r\n"],
+                writes: 9,
+            },
+        ],
+        ops: &[Op::Incr, Op::Incr, Op::Get],
+        letters: "6bm",
+        dials: 2,
+        text: "incr k 5\r\nincr k 5\r\nget k\r\n",
     },
     Row {
         name: "an add of which nothing was written does",

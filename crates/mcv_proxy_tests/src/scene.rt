@@ -193,6 +193,7 @@ impl<R: Wait + Clock + Drop> Wire<R> {
                 Ok(Reply::Deleted)
             }
             Op::Touch => Ok(Reply::Touched),
+            Op::Incr | Op::Decr => Ok(Reply::Number(6)),
             _ => Ok(Reply::Stored),
         }
     }

@@ -4,7 +4,7 @@ use Rattle.mcv_base.specs.declared.operation.Op.{Op}
 use Rattle.mcv_base.specs.declared.operation.Op.TheVariants.{Delete}
 use Rattle.mcv_base.specs.declared.reply.Outcome.{Outcome}
 use Rattle.mcv_base.specs.declared.reply.Outcome.TheVariants.{Good, Error}
-use Rattle.mcv_base.specs.Operation.{is_counting, is_reading}
+use Rattle.mcv_base.specs.Operation.{is_counting, shows_value}
 use Rattle.mcv_route.specs.Outcomes.{Outcomes, Choice, IsChoice, History, outcomes}
 use Rattle.mcv_route.specs.Tree.{Tree}
 use Rattle.mcv_route.specs.Situation.{Situation, asked}
@@ -36,9 +36,9 @@ IsHit t s o p = Has (replies t s o) (λ a. a ≡ record { outcome = Good; source
 abbrev pub CanHit : Tree → Situation → Choice → ℕ → Type 0
 CanHit t s c x = (o : Outcomes) × IsReachable t s c o × Has (launched t s c o) (λ l. (l.server.0 ≡ x) × IsHit t s o l.position)
 
--- an operation that reads can be answered by the server
+-- an operation whose answer shows the value can be answered by the server
 abbrev pub IsReadable : Tree → List ℕ → Option ℕ → Choice → ℕ → Type 0
-IsReadable t rest since c x = (op : Op) × (is_reading op ≡ true) × CanHit t (asked op rest since) c x
+IsReadable t rest since c x = (op : Op) × (shows_value op ≡ true) × CanHit t (asked op rest since) c x
 
 -- the delete was sent to the server by a leg that counts
 abbrev pub IsSent : Tree → List ℕ → Option ℕ → Choice → Outcomes → ℕ → Type 0

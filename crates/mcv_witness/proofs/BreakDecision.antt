@@ -14,7 +14,7 @@ use Rattle.mcv_base.specs.declared.key.KeyFault.{KeyFault}
 use Rattle.mcv_base.specs.declared.request.ServerId.{ServerId}
 use Rattle.mcv_base.specs.declared.key.KeyFault.TheVariants.{Empty, TooLong, BadByte, NoRest}
 use Rattle.mcv_base.specs.Key.{IsCut, IsKeyFault, IsRest, is_key_byte, is_key_word}
-use Rattle.mcv_base.specs.Operation.{is_reading}
+use Rattle.mcv_base.specs.Operation.{shows_value}
 use Rattle.mcv_route.specs.Eras.{HasEra, IsEraOf}
 use Rattle.mcv_classes.proofs.Order.{before-through}
 use Rattle.mcv_classes.specs.Class.{IsBefore, IsClassWord}
@@ -133,13 +133,13 @@ rising_left (x ∷ es) h = let rises = rising_rises (x ∷ es) h in each-rising 
 -- ---- what is read, and what is missed
 
 module _ (f : FindingValue) (t : Tree) (rest : List ℕ) (since : Option ℕ) where
-  pub no_get : is_reading f.op ≡ false → IsTrue false ↔ IsRead f t rest since
+  pub no_get : shows_value f.op ≡ false → IsTrue false ↔ IsRead f t rest since
   no_get e = (λ g. absurd (false≢true g), λ h. absurd (false≢true (sym e ∙ h.reading)))
 
   pub unsorted_gets : are_rising f.gets ≡ false → IsTrue false ↔ IsRead f t rest since
   unsorted_gets e = (λ g. absurd (false≢true g), λ h. absurd (false≢true (sym e ∙ rising_left f.gets h.rising)))
 
-  pub reads : (b : Bool) → is_reading f.op ≡ true → are_rising f.gets ≡ true → b ≡ hit_seen (read_walk f t rest since) → IsTrue b ↔ IsRead f t rest since
+  pub reads : (b : Bool) → shows_value f.op ≡ true → are_rising f.gets ≡ true → b ≡ hit_seen (read_walk f t rest since) → IsTrue b ↔ IsRead f t rest since
   reads b reading rising e = (λ g. read_right f t rest since reading (rising_right f.gets rising) (sym e ∙ g), λ h. e ∙ read_left f t rest since h)
 
   pub unsorted_deletes : are_rising f.deletes ≡ false → IsTrue false ↔ IsMissed f t rest since

@@ -1,9 +1,9 @@
--- When a finding breaks coverage: a get can be answered by a server to which an acknowledged delete of the same key was never sent (own).
+-- When a finding breaks coverage: a get, gets, incr or decr can be answered by a server to which an acknowledged delete of the same key was never sent (own).
 use Rattle.std.specs.Prelude.{◌≡◌, ℕ, true, List, Option, Some, map, option_map, slice_get, slice_index}
 use Rattle.std.specs.List.{AllPairs}
 use Rattle.mcv_base.specs.declared.operation.Op.TheVariants.{Delete}
 use Rattle.mcv_base.specs.Key.{IsCut, IsRest, is_key_word}
-use Rattle.mcv_base.specs.Operation.{is_reading}
+use Rattle.mcv_base.specs.Operation.{shows_value}
 use Rattle.mcv_route.specs.Eras.{IsEraOf}
 use Rattle.mcv_classes.specs.Class.{IsBefore, IsClassWord}
 use Rattle.mcv_classes.specs.Words.{class_words}
@@ -42,9 +42,9 @@ pub record IsLeafOf (f : FindingValue) (t : Tree) : Type 0 where
 abbrev pub AreRising : History → Type 0
 AreRising es = AllPairs IsBefore (map (λ e. e.0) es)
 
--- the outcomes of the get can come about, and a hit of the leaf is among its replies
+-- the outcomes of the read can come about, and a hit of the leaf is among its replies
 pub record IsRead (f : FindingValue) (t : Tree) (rest : List ℕ) (since : Option ℕ) : Type 0 where
-  pub reading : is_reading f.op ≡ true
+  pub reading : shows_value f.op ≡ true
   pub rising : AreRising f.gets
   pub reachable : IsReachable t (asked f.op rest since) (chosen f) (outcomes f.gets)
   pub hit : IsHit t (asked f.op rest since) (outcomes f.gets) f.place.leaf

@@ -5,7 +5,7 @@ use Rattle.mcv_base.specs.declared.operation.Op.{Op}
 use Rattle.mcv_base.specs.declared.operation.Op.TheVariants.{Delete}
 use Rattle.mcv_base.specs.declared.reply.Outcome.{Outcome}
 use Rattle.mcv_base.specs.declared.reply.Outcome.TheVariants.{Good, Soft, Error}
-use Rattle.mcv_base.specs.Operation.{is_reading, op_name}
+use Rattle.mcv_base.specs.Operation.{is_adjusting, is_reading, op_name}
 use Rattle.mcv_base.specs.Position.{position_text}
 use Rattle.mcv_cert.specs.Escape.{escaped, escaped_byte}
 use Rattle.mcv_pools.specs.declared.symbol.HashFunc.{HashFunc}
@@ -49,14 +49,22 @@ read_word Good = codes "hit"
 read_word Soft = codes "miss"
 read_word Error = codes "error"
 
+abbrev pub number_word : Outcome → List ℕ
+number_word Good = codes "number"
+number_word Soft = codes "absent"
+number_word Error = codes "error"
+
 abbrev pub done_word : Outcome → List ℕ
 done_word Good = codes "deleted"
 done_word Soft = codes "absent"
 done_word Error = codes "error"
 
+abbrev pub outcome_word : Op → Outcome → List ℕ
+outcome_word op x = if is_reading op then read_word x else if is_adjusting op then number_word x else done_word x
+
 -- `<position>=<word>`
 abbrev pub answer_text : Op → List ℕ × Outcome → List ℕ
-answer_text op e = position_text e.0 ++ codes "=" ++ (if is_reading op then read_word e.1 else done_word e.1)
+answer_text op e = position_text e.0 ++ codes "=" ++ outcome_word op e.1
 
 -- these with single spaces between them, or `-` where there are none
 abbrev pub answers_text : Op → History → List ℕ

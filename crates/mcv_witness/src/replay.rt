@@ -203,7 +203,7 @@ fn is_past(seen: Option<Seen>) -> bool
 fn is_read(scene: &Scene, finding: &Finding) -> bool
     ensures { IsTrue result ↔ IsRead (finding_of finding.now) (view scene.now.route.now) scene.now.rest (option_map (λ m. m.0) scene.now.since) }
 {
-    if !finding.op.is_reading() {
+    if !finding.op.shows_value() {
         return false;
     }
     if !are_rising(finding.gets.as_slice()) {

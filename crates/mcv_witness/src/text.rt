@@ -1,11 +1,11 @@
 //! The text of a finding.
 
-ghost use Rattle.std.specs.Prelude.{◌≡◌, ◌++◌, [], codes, decimal, if◌then◌else◌, slice_get, unwrap_or, IfOk, OnOk};
+ghost use Rattle.std.specs.Prelude.{◌≡◌, ◌++◌, [], codes, decimal, slice_get, unwrap_or, IfOk, OnOk};
 ghost use Rattle.std.specs.List.{flat_map};
-ghost use Rattle.mcv_base.specs.Operation.{is_reading, op_name};
+ghost use Rattle.mcv_base.specs.Operation.{op_name};
 ghost use Rattle.mcv_cert.specs.Escape.{escaped};
 ghost use Rattle.mcv_witness.specs.Finding.{finding_of, outcomes_of};
-ghost use Rattle.mcv_witness.specs.Text.{answer_text, answers_text, done_word, finding_text, func_name, index_line, index_lines, index_text, line, lost_line, read_word, salt_byte};
+ghost use Rattle.mcv_witness.specs.Text.{answer_text, answers_text, done_word, finding_text, func_name, index_line, index_lines, index_text, line, lost_line, number_word, outcome_word, read_word, salt_byte};
 
 use crate::finding::{Finding, LegOutcome};
 use mcv_base::{Op, Outcome, ServerId, push_number};
@@ -167,11 +167,23 @@ fn done_word(outcome: Outcome) -> &'static [u8]
     }
 }
 
+fn number_word(outcome: Outcome) -> &'static [u8]
+    ensures { result.now ≡ number_word outcome }
+{
+    match outcome {
+        Outcome::Good => b"number",
+        Outcome::Soft => b"absent",
+        Outcome::Error => b"error",
+    }
+}
+
 fn outcome_word(op: Op, outcome: Outcome) -> &'static [u8]
-    ensures { result.now ≡ (if is_reading op then read_word outcome else done_word outcome) }
+    ensures { result.now ≡ outcome_word op outcome }
 {
     if op.is_reading() {
         read_word(outcome)
+    } else if op.is_adjusting() {
+        number_word(outcome)
     } else {
         done_word(outcome)
     }

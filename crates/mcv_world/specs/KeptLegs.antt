@@ -20,8 +20,8 @@ pub record KeepsLeg (w : World) (k x : ℕ) : Type 0 where
   pub counts : is_counting leg.launch.mark ≡ true
   pub state : (leg.state ≡ Performed) ⊎ (leg.state ≡ Queued) ⊎ (leg.state ≡ Spooled)
 
--- each delete that has a reply that isn't an error, taken or not, keeps a leg to each server that a get or gets of its
--- rest could be answered by, by its route, in its era and under its choice, whatever the servers reply
+-- each delete that has a reply that isn't an error, taken or not, keeps a leg to each server that a get, gets, incr or
+-- decr of its rest could be answered by, by its route, in its era and under its choice, whatever the servers reply
 abbrev pub Kept : RoutesValue → World → Type 0
 Kept r w =
     (k : ℕ) (call : Call) (reply : ReplyValue) → w.calls k ≡ Some call → call.op ≡ Delete → reply_of r call ≡ Some reply → outcome_of reply ≢ Error
