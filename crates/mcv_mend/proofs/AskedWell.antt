@@ -11,7 +11,7 @@ use Rattle.mcv_rules.specs.PlanInMemory.{Serves}
 use Rattle.mcv_rules.specs.Plans.{plan}
 use Rattle.mcv_rules.specs.declared.plan.Plan.{Plan}
 use Rattle.mcv_mend.specs.Members.{IsAskedWell}
-use Rattle.mcv_mend.specs.Plans.{AreOnePart, AreOnePlan, IsWidened}
+use Rattle.mcv_alike.specs.Plans.{AreOnePart, AreOnePlan, IsWidened}
 
 module _ (r n : RoutesValue) (t u : Tree) (rest : List ℕ) (since : Option ℕ) (legs : List LegValue) (op : Op) (p q : Plan)
     (old : Serves p t (asked op rest since)) (new : Serves q u (asked op rest since)) where

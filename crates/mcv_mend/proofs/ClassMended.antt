@@ -20,10 +20,11 @@ use Rattle.mcv_route.specs.Situation.{asked}
 use Rattle.mcv_route.specs.Tree.{Tree}
 use Rattle.mcv_route.specs.Verdict.{Has}
 use Rattle.mcv_route.proofs.BreakTables.{era_numbered}
-use Rattle.mcv_mend.specs.Mend.{DeletesMore, DoesAlike, IsClassMended, added, chosen_by, moved, seen}
+use Rattle.mcv_alike.specs.Alike.{DeletesMore, DoesAlike, added, chosen_by, moved, seen}
+use Rattle.mcv_mend.specs.Mend.{IsClassMended}
 use Rattle.mcv_mend.specs.Classes.{AreListedToo}
 use Rattle.mcv_mend.specs.Members.{IsMemberMended}
-use Rattle.mcv_mend.proofs.Alike.{alike, deletes_more}
+use Rattle.mcv_alike.proofs.Alike.{alike, deletes_more}
 
 module _ (t u : Tree) (there : AreListedToo t u) (back : AreListedToo u t) where
   -- a rest's class in the first tree is its class in the second

@@ -1,13 +1,4 @@
-pub mod Answers
-pub mod Moves
-pub mod MoveExists
-pub mod Alike
-pub mod PartsAlike
 pub mod ClassMended
-pub mod LeastLegs
-pub mod SamePlans
-pub mod Growing
-pub mod Numbers
 pub mod SameClasses
 pub mod EachOperation
 pub mod AskedWell

@@ -10,7 +10,7 @@ use Rattle.mcv_route.specs.Routes.{RoutesValue}
 use Rattle.mcv_route.specs.Situation.{asked}
 use Rattle.mcv_route.specs.Tree.{Tree}
 use Rattle.mcv_rules.specs.Plans.{plan}
-use Rattle.mcv_mend.specs.Plans.{AreOnePlan, IsWidened}
+use Rattle.mcv_alike.specs.Plans.{AreOnePlan, IsWidened}
 
 -- asked so, the second tree's plan does what the first one's does
 abbrev pub AreAskedAlike : RoutesValue → RoutesValue → Tree → Tree → (rest : List ℕ) → Option ℕ → Op → Type 0

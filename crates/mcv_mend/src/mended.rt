@@ -7,7 +7,8 @@ ghost use Rattle.mcv_route.specs.Eras.{IsEraOf};
 ghost use Rattle.mcv_route.specs.Routes.{RouteEntry, RoutesValue};
 ghost use Rattle.mcv_route.specs.View.{view};
 ghost use Rattle.mcv_mend.specs.Classes.{HaveSameClasses, class_of_need, places_of};
-ghost use Rattle.mcv_mend.specs.InMemory.{IsNumbering, legs_value, need_value, needs_value};
+ghost use Rattle.mcv_alike.specs.Numbers.{IsNumbering, legs_value};
+ghost use Rattle.mcv_mend.specs.InMemory.{need_value, needs_value};
 ghost use Rattle.mcv_mend.specs.Members.{IsAskedWell, IsMemberMended};
 ghost use Rattle.mcv_mend.specs.Mend.{IsMendOf, IsMendedBy};
 

@@ -2,7 +2,7 @@ use Rattle.std.proofs.Common.{take, option_map}
 use Rattle.std.specs.List.{AllByRecursion}
 use Rattle.mcv_route.specs.Routes.{RoutesValue}
 use Rattle.mcv_route.specs.View.{view}
-use Rattle.mcv_mend.specs.InMemory.{IsNumbering, legs_value}
+use Rattle.mcv_alike.specs.Numbers.{IsNumbering, legs_value}
 use Rattle.mcv_mend.specs.Members.{IsAskedWell}
 use Rattle.mcv_mend.proofs.mended.is_era_mended.Given as goal
 

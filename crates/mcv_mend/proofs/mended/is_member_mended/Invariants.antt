@@ -3,7 +3,7 @@ use Rattle.mcv_base.specs.declared.operation.Op.{Op}
 use Rattle.mcv_route.specs.Eras.{IsEraOf}
 use Rattle.mcv_route.specs.Routes.{RoutesValue}
 use Rattle.mcv_route.specs.View.{view}
-use Rattle.mcv_mend.specs.InMemory.{IsNumbering, legs_value}
+use Rattle.mcv_alike.specs.Numbers.{IsNumbering, legs_value}
 use Rattle.mcv_mend.specs.Members.{IsAskedWell}
 use Rattle.mcv_mend.proofs.mended.is_member_mended.Given as goal
 
