@@ -36,7 +36,7 @@ use Rattle.mcv_symbolic.proofs.PoolOfLeg.{leaf_of, acknowledged_are_there, hits_
 use Rattle.mcv_symbolic.proofs.SetsRise.{acknowledged_rise, hits_rise}
 use Rattle.mcv_blocks.specs.Blocks.{AreLeavesAt, IsAcknowledgedAt, pool_for, positions_of}
 use Rattle.mcv_blocks.specs.MergedLegs.{merge}
-use Rattle.mcv_blocks.specs.Spots.{AreClassesInEras, ClassInEra, IsBlockFor, IsClassInEra, spot_of}
+use Rattle.mcv_blocks.specs.Spots.{AreClassesInEras, ClassInEras, IsBlockFor, IsClassInEras, spot_of}
 use Rattle.mcv_blocks.proofs.MergesRise.{merged_leaves}
 
 -- a leg of a plan as a block has it
@@ -134,14 +134,14 @@ can-or-never t rest since Error e = (false, (λ f c can. (done_is_exact t rest s
 
 -- ---- the blocks
 
-pub block_exists : (r : RoutesValue) (s : ClassInEra) → IsClassInEra r s → (b : BlockValue) × IsBlockFor r s b
+pub block_exists : (r : RoutesValue) (s : ClassInEras) → IsClassInEras r s → (b : BlockValue) × IsBlockFor r s b
 block_exists r s is = by s.class.class.member refl is.0.listed.member is.0.listed.some
   where
     by : (m : Option (List ℕ)) → s.class.class.member ≡ m → IsMember (class_words is.0.entry.tree) s.class.class.word s.class.class.member → IsSome s.class.class.member → (b : BlockValue) × IsBlockFor r s b
     by None e member some = absurd (false≢true (subst IsSome e some))
     by (Some m) e member some =
         let t = is.0.entry.tree in
-        let readable = readable-leaves t m is.1.0 in
+        let readable = readable-leaves t m is.1.1 in
         let can = can-or-never t m is.1.0 (if_all Good (plan t (asked Delete m is.1.0))) refl in
         let b : BlockValue =
         record {
@@ -157,13 +157,14 @@ block_exists r s is = by s.class.class.member refl is.0.listed.member is.0.liste
               tree = t;
               member = m;
               since = is.1.0;
-              spot = record { entry = is.0.entry; numbered = is.0.numbered; has_tree = refl; listed = is.0.listed.word; has_member = subst (IsMember (class_words t) s.class.class.word) e member; opened = is.1.1 };
+              read = is.1.1;
+              spot = record { entry = is.0.entry; numbered = is.0.numbered; has_tree = refl; listed = is.0.listed.word; has_member = subst (IsMember (class_words t) s.class.class.word) e member; opened = is.1.2; read_opened = is.1.3; near = is.1.4 };
               has = record { readable = readable.1; acknowledged = acknowledged-leaves t m is.1.0; never = can.1 };
             };
           },
         )
 
-pub blocks_exist : (r : RoutesValue) (ss : List ClassInEra) → AreClassesInEras r ss → (bs : List BlockValue) × AllZip (IsBlockFor r) ss bs
+pub blocks_exist : (r : RoutesValue) (ss : List ClassInEras) → AreClassesInEras r ss → (bs : List BlockValue) × AllZip (IsBlockFor r) ss bs
 blocks_exist r [] h = ([], tt)
 blocks_exist r (s ∷ ss) h =
     let first = block_exists r s h.0 in

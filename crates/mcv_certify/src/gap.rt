@@ -61,6 +61,7 @@ pub fn gap_of(alloc: Global, block: &Block, gap: BlockGap) -> Result<Gap, AllocE
             route: block.spot.route,
             class: copied(alloc, block.spot.class)?,
             era: block.spot.era,
+            get_era: block.spot.get_era,
             leaf: leaf.position.copy(alloc)?,
         },
         at: gap.at,

@@ -1,4 +1,4 @@
-//! What a route has for one class and era. What it means: `block_of` of specs/PairsInMemory.antt.
+//! What a route has for one class, with a delete in one era and a get in another. What it means: `block_of` of specs/PairsInMemory.antt.
 
 use mcv_base::{Position, ServerId};
 
@@ -12,15 +12,17 @@ pub struct Leg<'a> {
     pub servers: &'a [ServerId],
 }
 
-/// What a block is of: the rests of a class of a route, in an era.
+/// What a block is of: the rests of a class of a route, with a delete in one era and a get in another.
 #[derive(Clone, Copy)]
 pub struct Spot<'a> {
     /// The number of the route, from 0.
     pub route: usize,
     /// The class word.
     pub class: &'a [u8],
-    /// The number of the era, from 0.
+    /// The number of the delete's era, from 0.
     pub era: usize,
+    /// The number of the get's era, from 0.
+    pub get_era: usize,
 }
 
 /// What a route has at a spot.

@@ -12,7 +12,7 @@ use Rattle.mcv_names.specs.declared.fault.ConfigFault.{ConfigFault}
 use Rattle.mcv_config.specs.Config.{size_limit}
 use Rattle.mcv_input.proofs.FirstBytes.{too_long_is_all, whole}
 use Rattle.mcv_input.specs.declared.fault.RunFault.{RunFault}
-use Rattle.mcv_input.specs.declared.fault.RunFault.TheVariants.{Line, NoRoute, Config, CertificateText, Certificate, Memory, Device}
+use Rattle.mcv_input.specs.declared.fault.RunFault.TheVariants.{Line, NoRoute, Config, CertificateText, Certificate, Window, Memory, Device}
 use Rattle.mcv_legs.specs.Answer.{IsAnswer, IsWithoutRoute}
 use Rattle.mcv_legs.specs.Fault.{IsMisconfigured, IsRunFault}
 use Rattle.mcv_legs.specs.Limits.{input_limit, line_limit}
@@ -133,5 +133,6 @@ fault_of_all bytes NoRoute is = without_route_of_all bytes is
 fault_of_all bytes (Config fault) m = misconfigured_of_all bytes fault m (cases_lt size_limit (length m.configuration))
 fault_of_all bytes (CertificateText fault) is = is
 fault_of_all bytes (Certificate fault) is = is
+fault_of_all bytes Window is = is
 fault_of_all bytes Memory is = tt
 fault_of_all bytes Device is = tt

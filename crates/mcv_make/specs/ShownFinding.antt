@@ -27,6 +27,7 @@ pub record IsShownWith (r : RoutesValue) (prefix : List ℕ) (f : FindingValue) 
   pub entry : RouteEntry
   pub rest : List ℕ
   pub since : Option ℕ
+  pub read : Option ℕ
   pub pool : Pool
   pub legs : List PlannedLeg
   pub numbered : slice_get r.entries f.place.spot.route ≡ Some entry
@@ -34,6 +35,8 @@ pub record IsShownWith (r : RoutesValue) (prefix : List ℕ) (f : FindingValue) 
   pub member : IsMember (class_words entry.tree) f.place.spot.class (Some rest)
   pub rest_is : IsRest rest
   pub opened : IsEraOf r f.place.spot.era since
+  pub read_opened : IsEraOf r f.place.spot.get_era read
+  pub window : f.window ≡ r.window
   pub key : f.key ≡ prefix ++ rest
   pub pool_there : pool_at_position entry.tree f.place.leaf ≡ Some pool
   -- the least indexes at which no leg that each acknowledged delete has sent has the server
@@ -41,9 +44,9 @@ pub record IsShownWith (r : RoutesValue) (prefix : List ℕ) (f : FindingValue) 
   pub choice : f.choice ≡ free_indexes legs f.server pool.symbol f.at 0 r.symbols
   -- the first of get, gets, incr and decr that can be answered from the leaf
   pub reading : shows_value f.op ≡ true
-  pub first : (op : Op) → shows_value op ≡ true → op_number op < op_number f.op → (c : Choice) → CanHitAt entry.tree (asked op rest since) c f.place.leaf → ⊥
+  pub first : (op : Op) → shows_value op ≡ true → op_number op < op_number f.op → (c : Choice) → CanHitAt entry.tree (asked op rest read) c f.place.leaf → ⊥
   -- the leaf's hit is the answer
-  pub gets : leaf_hit f.place.leaf (plan entry.tree (asked f.op rest since)) ≡ Some f.gets
+  pub gets : leaf_hit f.place.leaf (plan entry.tree (asked f.op rest read)) ≡ Some f.gets
   -- each leg that the reply needs has deleted
   pub deletes : f.deletes ≡ answers Good (plan entry.tree (asked Delete rest since))
 

@@ -65,6 +65,7 @@ fn find_behind(
         route,
         rest: &rest,
         since: opened(routes, gap.place.era),
+        read: opened(routes, gap.place.get_era),
     };
     let Reading { op, legs: gets } = scene.reading(alloc, &gap.place.leaf)?;
     Ok(Finding {
@@ -76,6 +77,7 @@ fn find_behind(
         op,
         gets,
         deletes: scene.deletes(alloc)?,
+        window: routes.window(),
     })
 }
 

@@ -84,20 +84,20 @@ abbrev pub reading : Tree → List ℕ → Option ℕ → Op → Plan
 reading t rest since op = plan t (asked op rest since)
 
 -- coverage by handle is that of the plans
-covered_planned : (sizes : List ℕ) (t : Tree) (rest : List ℕ) (since : Option ℕ) → IsWellFormed sizes t →
-    IsCovered sizes t rest since ↔ plans.IsCovered sizes (reading t rest since) (plan t (asked Delete rest since))
-covered_planned sizes t rest since w = (
+covered_planned : (sizes : List ℕ) (t : Tree) (rest : List ℕ) (since read : Option ℕ) → IsWellFormed sizes t →
+    IsCovered sizes t rest since read ↔ plans.IsCovered sizes (reading t rest read) (plan t (asked Delete rest since))
+covered_planned sizes t rest since read w = (
   λ h c o i r d x op shows g. sent_planned t rest since c o x (h c o i (Verdicts.planned_reachable t (asked Delete rest since) c o r) (planned_done t rest since o d) x
-      (op, shows, planned_can t (asked op rest since) c x g)),
+      (op, shows, planned_can t (asked op rest read) c x g)),
   λ h c o i r d x q. planned_sent t rest since c o x (h c o i (Verdicts.reachable_planned t (asked Delete rest since) c o r) (done_planned t rest since o d) x
-      q.0 q.1 (can_planned t (asked q.0 rest since) c x (PlansAreSound.plan_sound sizes t q.0 rest since w).2 q.2)),
+      q.0 q.1 (can_planned t (asked q.0 rest read) c x (PlansAreSound.plan_sound sizes t q.0 rest read w).2 q.2)),
 )
 
 -- coverage is the comparison of the plans
-pub covered_by_plans : (sizes : List ℕ) (t : Tree) (rest : List ℕ) (since : Option ℕ) → IsWellFormed sizes t →
-    IsCovered sizes t rest since ↔ IsJustified sizes (reading t rest since) (plan t (asked Delete rest since))
-covered_by_plans sizes t rest since w =
-    let here = covered_planned sizes t rest since w in
-    let there = plans.covered_on_plans sizes (reading t rest since) (plan t (asked Delete rest since))
-    (λ op. PlansAreSound.plan_sound sizes t op rest since w) (PlansAreSound.plan_sound sizes t Delete rest since w) (PlansAreSound.plan_for_delete sizes t rest since w) in
+pub covered_by_plans : (sizes : List ℕ) (t : Tree) (rest : List ℕ) (since read : Option ℕ) → IsWellFormed sizes t →
+    IsCovered sizes t rest since read ↔ IsJustified sizes (reading t rest read) (plan t (asked Delete rest since))
+covered_by_plans sizes t rest since read w =
+    let here = covered_planned sizes t rest since read w in
+    let there = plans.covered_on_plans sizes (reading t rest read) (plan t (asked Delete rest since))
+    (λ op. PlansAreSound.plan_sound sizes t op rest read w) (PlansAreSound.plan_sound sizes t Delete rest since w) (PlansAreSound.plan_for_delete sizes t rest since w) in
     (λ h. there.0 (here.0 h), λ h. here.1 (there.1 h))

@@ -83,30 +83,31 @@ module _ (sizes : List ℕ) (t : Tree) (rest : List ℕ) (since : Option ℕ) wh
         | inr ne ↦ absurd (never any_choice ((done_is_exact t rest since any_choice).1 ne))
       ]
 
-  abbrev CanRead : Leg → Type 0
-  CanRead l = (op : Op) × (shows_value op ≡ true) × Hits (reading t rest since op) l
+  module _ (read : Option ℕ) where
+    abbrev CanRead : Leg → Type 0
+    CanRead l = (op : Op) × (shows_value op ≡ true) × Hits (reading t rest read op) l
 
-  readable-leg : (p : List ℕ) (leaf : Pool) → IsReadableAt t rest since p → pool_at_position t p ≡ Some leaf → (l : Leg) × CanRead l × (leaf_of l ≡ leaf)
-  readable-leg p leaf h at =
-      let k = (hits_are_exact t h.0 rest since h.2 p).0 h.3 in
-      (k.0, (h.0, h.1, k.1), same_Some (leaf_of k.0) leaf (sym (hits_are_there t (asked h.0 rest since) k.0 refl k.1) ∙ ap (pool_at_position t) k.2 ∙ at))
+    readable-leg : (p : List ℕ) (leaf : Pool) → IsReadableAt t rest read p → pool_at_position t p ≡ Some leaf → (l : Leg) × CanRead l × (leaf_of l ≡ leaf)
+    readable-leg p leaf h at =
+        let k = (hits_are_exact t h.0 rest read h.2 p).0 h.3 in
+        (k.0, (h.0, h.1, k.1), same_Some (leaf_of k.0) leaf (sym (hits_are_there t (asked h.0 rest read) k.0 refl k.1) ∙ ap (pool_at_position t) k.2 ∙ at))
 
-  leg-readable : (l : Leg) → CanRead l → IsReadableAt t rest since l.position × (pool_at_position t l.position ≡ Some (leaf_of l))
-  leg-readable l g = ((g.0, g.1, any_choice, (hits_are_exact t g.0 rest since any_choice l.position).1 (l, g.2, refl)), hits_are_there t (asked g.0 rest since) l refl g.2)
+    leg-readable : (l : Leg) → CanRead l → IsReadableAt t rest read l.position × (pool_at_position t l.position ≡ Some (leaf_of l))
+    leg-readable l g = ((g.0, g.1, any_choice, (hits_are_exact t g.0 rest read any_choice l.position).1 (l, g.2, refl)), hits_are_there t (asked g.0 rest read) l refl g.2)
 
-  abbrev IsJustifiedByPlans : Type 0
-  IsJustifiedByPlans = plans.IsJustified sizes (reading t rest since) delete
+    abbrev IsJustifiedByPlans : Type 0
+    IsJustifiedByPlans = plans.IsJustified sizes (reading t rest read) delete
 
-  justified-sets : IsJustifiedByPlans → sets.IsJustified sizes t rest since
-  justified-sets (inl e) = inl (never-sets e)
-  justified-sets (inr all) = inr (λ p leaf i read at lt.
-      let l = readable-leg p leaf read at in
-      let size : i < slice_index sizes l.0.symbol = subst (λ q. i < slice_index sizes q.symbol) (sym l.2) lt in
-      subst (λ q. sets.IsAnswered sizes t rest since q i) l.2 (answered-sets l.0 i (all l.0 i l.1.0 l.1.1 l.1.2 size)))
+    justified-sets : IsJustifiedByPlans → sets.IsJustified sizes t rest since read
+    justified-sets (inl e) = inl (never-sets e)
+    justified-sets (inr all) = inr (λ p leaf i readable at lt.
+        let l = readable-leg p leaf readable at in
+        let size : i < slice_index sizes l.0.symbol = subst (λ q. i < slice_index sizes q.symbol) (sym l.2) lt in
+        subst (λ q. sets.IsAnswered sizes t rest since q i) l.2 (answered-sets l.0 i (all l.0 i l.1.0 l.1.1 l.1.2 size)))
 
-  justified-plans : sets.IsJustified sizes t rest since → IsJustifiedByPlans
-  justified-plans (inl never) = inl (never-plans never)
-  justified-plans (inr all) = inr (λ l i op shows hit lt. let k = leg-readable l (op, shows, hit) in answered-plans l i (all l.position (leaf_of l) i k.0 k.1 lt))
+    justified-plans : sets.IsJustified sizes t rest since read → IsJustifiedByPlans
+    justified-plans (inl never) = inl (never-plans never)
+    justified-plans (inr all) = inr (λ l i op shows hit lt. let k = leg-readable l (op, shows, hit) in answered-plans l i (all l.position (leaf_of l) i k.0 k.1 lt))
 
 -- ---- one choice, and each symbol by itself
 
@@ -155,6 +156,6 @@ symbols_are_independent sizes t rest since leaf i w size lt =
     )
 
 pub covered_is_justified : CoveredIsJustified
-covered_is_justified sizes t rest since w =
-    let law = covered_by_plans sizes t rest since w in
-    (λ h. justified-sets sizes t rest since (law.0 h), λ h. law.1 (justified-plans sizes t rest since h))
+covered_is_justified sizes t rest since read w =
+    let law = covered_by_plans sizes t rest since read w in
+    (λ h. justified-sets sizes t rest since read (law.0 h), λ h. law.1 (justified-plans sizes t rest since read h))

@@ -1,4 +1,4 @@
--- When a route is covered at a rest in an era, said by the sets alone (own).
+-- When a route is covered at a rest, of a delete in one era and a get in another, said by the sets alone (own).
 use Rattle.std.specs.Prelude.{◌≡◌, ◌≢◌, ◌⊎◌, ◌↔◌, ◌<◌, ℕ, true, List, Option, Some, length, slice_index}
 use Rattle.mcv_base.specs.Operation.{shows_value}
 use Rattle.mcv_base.specs.declared.operation.Op.{Op}
@@ -48,8 +48,8 @@ abbrev pub SymbolsAreIndependent : Type 0
 SymbolsAreIndependent = (sizes : List ℕ) (t : Tree) (rest : List ℕ) (since : Option ℕ) (leaf : Pool) (i : ℕ) → IsWellFormed sizes t → leaf.symbol < length sizes → i < slice_index sizes leaf.symbol →
     (IsAlwaysAnswered sizes t rest since leaf i ↔ IsAnswered sizes t rest since leaf i) × (IsEverMissed sizes t rest since leaf i ↔ IsMissedByEach sizes t rest since leaf i)
 
--- no delete can be acknowledged, or every pool that can be read is answered for at every index
-abbrev pub IsJustified : List ℕ → Tree → List ℕ → Option ℕ → Type 0
-IsJustified sizes t rest since =
+-- in the one era no delete can be acknowledged, or every pool that can be read in the other is answered for at every index
+abbrev pub IsJustified : List ℕ → Tree → List ℕ → (since read : Option ℕ) → Type 0
+IsJustified sizes t rest since read =
     IsNeverAcknowledged t rest since
-    ⊎ ((p : List ℕ) (leaf : Pool) (i : ℕ) → IsReadableAt t rest since p → pool_at_position t p ≡ Some leaf → i < slice_index sizes leaf.symbol → IsAnswered sizes t rest since leaf i)
+    ⊎ ((p : List ℕ) (leaf : Pool) (i : ℕ) → IsReadableAt t rest read p → pool_at_position t p ≡ Some leaf → i < slice_index sizes leaf.symbol → IsAnswered sizes t rest since leaf i)

@@ -143,6 +143,7 @@ fn empty(alloc: Global) -> Finding {
             route: 0,
             class: Vec::new(alloc),
             era: 0,
+            get_era: 0,
             leaf: Position::root(alloc),
         },
         key: Vec::new(alloc),
@@ -152,6 +153,7 @@ fn empty(alloc: Global) -> Finding {
         op: Op::Get,
         gets: Vec::new(alloc),
         deletes: Vec::new(alloc),
+        window: 0,
     }
 }
 
@@ -163,6 +165,7 @@ fn set_place(alloc: Global, finding: &mut Finding, case: &str) -> Result<(), Fai
         .class
         .extend_from_slice(class(word(case, 2)?))?;
     finding.place.era = word(case, 3)?.parse::<usize>()?;
+    finding.place.get_era = finding.place.era;
     finding.key.extend_from_slice(word(case, 4)?.as_bytes())?;
     finding.place.leaf = position(alloc, word(case, 5)?)?;
     Ok(())

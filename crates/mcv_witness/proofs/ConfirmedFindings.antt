@@ -136,6 +136,7 @@ module _ (f : FindingValue) (t : Tree) (rest : List ℕ) (since : Option ℕ) wh
 -- ---- one place
 
 -- a finding is at one place
-pub one_place : (r : RoutesValue) (f : FindingValue) (t u : Tree) (rest more : List ℕ) (since other : Option ℕ) → IsAtPlace r f t rest since → IsAtPlace r f u more other → (t ≡ u) × (rest ≡ more) × (since ≡ other)
-one_place r f t u rest more since other h g =
-    (same_Some t u (sym h.route ∙ g.route), (one_reading f.key h.prefix rest g.prefix more h.cut g.cut).1, one_era r f.place.spot.era since other h.era g.era)
+pub one_place : (r : RoutesValue) (f : FindingValue) (t u : Tree) (rest more : List ℕ) (since other get_since get_other : Option ℕ) → IsAtPlace r f t rest since get_since → IsAtPlace r f u more other get_other
+    → (t ≡ u) × (rest ≡ more) × (since ≡ other) × (get_since ≡ get_other)
+one_place r f t u rest more since other get_since get_other h g =
+    (same_Some t u (sym h.route ∙ g.route), (one_reading f.key h.prefix rest g.prefix more h.cut g.cut).1, one_era r f.place.spot.era since other h.era g.era, one_era r f.place.spot.get_era get_since get_other h.get_era g.get_era)

@@ -20,6 +20,8 @@ pub record FindingValue : Type 0 where
   -- what the legs of the read have answered, and those of the delete, each with its position
   pub gets : History
   pub deletes : History
+  -- the window at which the eras of both are near
+  pub window : ℕ
 
 -- outcomes as they are kept
 abbrev pub outcomes_of : List LegOutcome → History
@@ -36,4 +38,5 @@ finding_of f = record {
   op = f.op;
   gets = outcomes_of f.gets.items;
   deletes = outcomes_of f.deletes.items;
+  window = f.window;
 }

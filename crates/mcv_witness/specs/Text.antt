@@ -1,5 +1,5 @@
 -- The text of a finding, line by line (own).
-use Rattle.std.specs.Prelude.{ℕ, suc, List, [], ◌∷◌, ◌++◌, ◌==◌, codes, decimal, if◌then◌else◌, nat_lt, slice_get, slice_index, unwrap_or}
+use Rattle.std.specs.Prelude.{ℕ, zero, suc, List, [], ◌∷◌, ◌++◌, ◌==◌, codes, decimal, if◌then◌else◌, nat_lt, slice_get, slice_index, unwrap_or}
 use Rattle.std.specs.List.{flat_map}
 use Rattle.mcv_base.specs.declared.operation.Op.{Op}
 use Rattle.mcv_base.specs.declared.operation.Op.TheVariants.{Delete}
@@ -8,6 +8,7 @@ use Rattle.mcv_base.specs.declared.reply.Outcome.TheVariants.{Good, Soft, Error}
 use Rattle.mcv_base.specs.Operation.{is_adjusting, is_reading, op_name}
 use Rattle.mcv_base.specs.Position.{position_text}
 use Rattle.mcv_cert.specs.Escape.{escaped, escaped_byte}
+use Rattle.mcv_cert.specs.Pair.{SpotValue}
 use Rattle.mcv_pools.specs.declared.symbol.HashFunc.{HashFunc}
 use Rattle.mcv_pools.specs.declared.symbol.HashFunc.TheVariants.{Ch3, Crc32}
 use Rattle.mcv_pools.specs.Symbol.{SymbolValue}
@@ -73,6 +74,11 @@ answers_text op (e ∷ es) = answer_text op e ++ flat_map (λ x. codes " " ++ an
 
 -- ---- the whole
 
+-- the delete's era, and with a window that of the get
+abbrev pub eras_text : ℕ → SpotValue → List ℕ
+eras_text zero s = decimal s.era
+eras_text (suc w) s = decimal s.era ++ codes " " ++ decimal s.get_era
+
 -- the text of the server, and none where it isn't in the table
 abbrev pub lost_line : RoutesValue → FindingValue → List ℕ
 lost_line r f = line (codes "lost") (unwrap_or (slice_get r.servers f.server) [])
@@ -82,7 +88,7 @@ finding_text r f =
     lost_line r f
     ++ line (codes "route") (decimal f.place.spot.route)
     ++ line (codes "class") (codes "=" ++ escaped f.place.spot.class)
-    ++ line (codes "era") (decimal f.place.spot.era)
+    ++ line (codes "era") (eras_text f.window f.place.spot)
     ++ line (codes "key") (escaped f.key)
     ++ index_lines f.choice 0 r.symbols
     ++ line (op_name f.op) (answers_text f.op f.gets)

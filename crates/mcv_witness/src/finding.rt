@@ -30,4 +30,6 @@ pub struct Finding {
     pub gets: Vec<LegOutcome>,
     /// What those of the delete answered, rising by position.
     pub deletes: Vec<LegOutcome>,
+    /// The window, in seconds, at which the eras of both are near.
+    pub window: u64,
 }

@@ -75,16 +75,20 @@ pub(crate) const CHECK_ABOUT: &str = "Decides whether a configuration can lose a
 
 pub(crate) const CERT: &str = "A certificate in place of one that mcv makes";
 
+pub(crate) const WINDOW: &str = "How many seconds may lie between a delete and a get,
+from 0 to 4294967295";
+
 pub(crate) const CHECK_FORM: &str =
     "Standard input has the configuration as JSON; `mcv legs --help` says which route
 handles are read. A configuration is covered if at each moment at which a delete
 has an answer that isn't an error, every server from which a get, gets, incr or
 decr of the key could be answered has been sent a delete. That is decided for
 all keys, all choices of a hash, and all moments: before, in and after each
-migration. A read and a delete are judged at one stage of each migration:
-nothing is said of a read that comes at a later stage than the delete. Nor is it
-said that a server takes what it is sent, nor anything of values that are stored
-later, of reads by another route, or of where mcrouter differs from mcv's rules.
+migration. A read and a delete are judged at one stage of each migration, and
+with `--window` at stages too that are no more seconds apart than it says: of
+stages farther apart nothing is said. Nor is it said that a server takes what it
+is sent, nor anything of values that are stored later, of reads by another
+route, or of where mcrouter differs from mcv's rules.
 
 Where it is covered, standard output has the number of pairs of a certificate,
 and then the certificate, which says for each server that can be read why a
@@ -106,6 +110,9 @@ the delete:
   all I D0 D1 .. the legs have one hash, D0 for its index 0, D1 for its index 1
                  and so on, and each has there the server that is at index I
                  of the leg that can be read
+
+With a window over 0 the first line is `mcv-cert 2` with the window, and a line
+has two numbers of moments: at the delete, and behind it at the get.
 
 Any certificate can be checked again, also one that another program made:
 
@@ -131,7 +138,8 @@ there:
 `route` is the number of the route. `class` has the word with which the keys
 begin behind their routing prefix, and none for keys with no such word. `era` is
 the number of moments that migrations have passed; where one starts at 0, no
-moment has era 0, which is judged all the same. For each hash over N servers, N
+moment has era 0, which is judged all the same. With a window it has two: the
+delete's, and behind it the get's. For each hash over N servers, N
 over 1, a line `index FUNC/SALT/N=I` behind the key says which index I, from 0,
 it has to pick. `get`, or the first of `gets`, `incr` and `decr` that can be
 answered from that place of the server where get can't, has for each leg that
@@ -153,6 +161,7 @@ as `mcv: certificate fault NUMBER`:
   3  a leg that not every delete that has a reply has sent
   4  another hash, number of legs or server than the line says
   5  `never`, where a delete can be acknowledged
+  7  the certificate is for another window
 
 A configuration that isn't read is reported as
 `mcv: configuration NUMBER at PATH`: `mcv legs --help` has the numbers.";
@@ -193,9 +202,10 @@ from 1 to 64";
 
 pub(crate) const RUN_FORM: &str =
     "Standard input has the configuration as JSON; `mcv legs --help` says which route
-handles are read. It is judged first, as by `mcv check`: where it can lose a
-delete, standard output has the finding and the exit status is 3. Only then is
-the address bound, and the spool file opened, or made where there is none.
+handles are read. It is judged first, as by `mcv check` with the same window:
+where it can lose a delete, standard output has the finding and the exit status
+is 3. Only then is the address bound, and the spool file opened, or made where
+there is none.
 
   mcv run --listen 127.0.0.1:5000 --spool mcv.spool < mcrouter.json
 
