@@ -1,7 +1,9 @@
 -- Tables of numbers, one entry longer.
 use Rattle.std.proofs.Common.{◌≡◌, ◌<◌, ◌+◌, ℕ, zero, suc, List, [], ◌∷◌, ◌++◌, Option, Some, None, get_or, length, map, refl, sym, ap, ◌∙◌, subst, arith}
-use Rattle.std.specs.Prelude.{Bool, bytes_eq, option_map, slice_get, slice_index_or}
+use Rattle.std.specs.Prelude.{Bool, option_map, slice_get, slice_index_or}
 use Rattle.std.proofs.lemmas.Option.{same_Some}
+use Rattle.std.specs.Cmp.Lexicographic.{bytes_decides}
+use Rattle.std.specs.Str.{bytes_eq}
 use Rattle.mcv_pools.specs.Symbol.{SymbolValue, same_symbol}
 use Rattle.mcv_pools.specs.Table.{number_in}
 use Rattle.mcv_pools.proofs.Sameness.{same_symbol-Decides}
@@ -28,3 +30,11 @@ text_at r i text e = at r.servers i e
     at [] k f = absurd cc
     at (x ∷ xs) zero f = same_Some x text f
     at (x ∷ xs) (suc k) f = at xs k f
+
+-- the text is the first routes' at one number, and the second ones' at the other
+pub same_server : (r n : RoutesValue) (i x : ℕ) (text : List ℕ) → slice_get r.servers i ≡ Some text → number_in bytes_eq n.servers text ≡ Some x → server_text r i ≡ server_text n x
+same_server r n i x text e f = text_at r i text e ∙ sym (text_at n x text (is_at_number bytes_eq bytes_decides n.servers text x f))
+
+-- the symbol is the first routes' at one number, and the second ones' at the other
+pub same_number : (r n : RoutesValue) (s z : ℕ) (symbol : SymbolValue) → slice_get r.symbols s ≡ Some symbol → number_in same_symbol n.symbols symbol ≡ Some z → 0 < symbol.n → IsSymbolNumber r n s (z, symbol.n)
+same_number r n s z symbol e f some = record { symbol = symbol; old = e; new = is_at_number same_symbol same_symbol-Decides n.symbols symbol z f; size = refl; some = some }

@@ -3,7 +3,7 @@
 ghost use Rattle.std.specs.Prelude.{◌≡◌, ◌<◌, IfOk, IfSome, IsTrue, length, map};
 ghost use Rattle.mcv_judge.specs.PairsInMemory.{numbers};
 ghost use Rattle.mcv_route.specs.Routes.{RoutesValue};
-ghost use Rattle.mcv_alike.specs.Numbers.{AreServerNumbers, AreSymbolNumbers, IsNumbering};
+ghost use Rattle.mcv_alike.specs.Numbers.{AreServerNumbers, AreSymbolNumbers, IsNumbering, IsSymbolNumber};
 ghost use Rattle.mcv_alike.specs.Alike.{server_text};
 ghost use Rattle.mcv_alike.specs.Plans.{AreOnePool, AreOneServers, AreOneSymbol};
 
@@ -65,13 +65,22 @@ fn symbol_numbers(
     ensures { IfOk result (λ found. IfSome found (λ table. AreSymbolNumbers old.now new.now table.items)) }
 {
     let mut table = Vec::new(alloc);
-    for symbol in old.symbols().as_slice() {
-        let Some(number) = new.symbols().find(symbol) else {
+    for number in 0..old.symbols().len() {
+        let Some(found) = symbol_number(old, new, number) else {
             return Ok(None);
         };
-        table.push((number, symbol.n()))?;
+        table.push(found)?;
     }
     Ok(Some(table))
+}
+
+/// The number that a symbol of the old routes has in the new ones, and how many servers it is over.
+fn symbol_number(old: &Routes, new: &Routes, number: usize) -> Option<(usize, usize)>
+    ensures { IfSome result (IsSymbolNumber old.now new.now number) }
+{
+    let symbol = old.symbols().get(number)?;
+    let found = new.symbols().find(symbol)?;
+    Some((found, symbol.n()))
 }
 
 impl Numbering {

@@ -1,120 +1,130 @@
-//! Where the deletes of a class have gaps: what can be read and isn't answered for.
+//! Where what can be read isn't answered for.
 
-use mcv_base::{Rest, ServerId};
-use mcv_blocks::{RouteClass, Sets};
+ghost use Rattle.std.specs.Prelude.{◌≡◌, ◌<◌, ◌↔◌, ◌++◌, ℕ, IfOk, IsTrue, List, length};
+ghost use Rattle.mcv_judge.specs.PairsInMemory.{leg_of, legs_of};
+ghost use Rattle.mcv_picks.specs.Reasons.{AreSized};
+ghost use Rattle.mcv_gaps.specs.Gaps.{AreAllSizedBy, AreSizedBy, HasGap, HaveGap, IsAnsweredBy, IsMissed, IsOneMissed, IsSizedLeaf, wanted_of, wanteds_of};
+
 use mcv_judge::Leg;
 use mcv_picks::Picks;
-use mcv_route::{Routes, era_count, opened};
 use std::alloc::{AllocError, Global};
 
-/// What the class's route has at the class's member, era by era. None where the class has no member or no route.
-pub fn sets_in_eras<'a>(
-    alloc: Global,
-    routes: &'a Routes,
-    class: &RouteClass,
-    member: &'a Rest,
-) -> Result<Vec<Sets<'a>>, AllocError> {
-    let mut all = Vec::new(alloc);
-    let Some(route) = routes.route(class.route) else {
-        return Ok(all);
-    };
-    for era in 0..era_count(routes) {
-        all.push(Sets::new(alloc, route, member, opened(routes, era))?)?;
-    }
-    Ok(all)
-}
-
-/// A block of a class: the legs from which a get or gets can be answered, none where no delete can be acknowledged; and
-/// those that every acknowledged delete has sent.
+/// What deletes of a class leave to be answered for.
 #[derive(Drop)]
 pub struct Wanted<'s> {
+    /// The legs from which a read can be answered; none where no delete is acknowledged.
     pub readable: Vec<Leg<'s>>,
+    /// The legs that every acknowledged delete has sent.
     pub acknowledged: Vec<Leg<'s>>,
 }
 
-/// The blocks of sets.
-pub fn wanted_blocks<'s>(
-    alloc: Global,
-    sets: &'s [Sets<'s>],
-) -> Result<Vec<Wanted<'s>>, AllocError> {
-    let mut blocks = Vec::with_capacity(alloc, sets.len())?;
-    for set in sets {
-        blocks.push(wanted_of(alloc, set)?)?;
-    }
-    Ok(blocks)
-}
-
-fn wanted_of<'s>(alloc: Global, set: &'s Sets<'s>) -> Result<Wanted<'s>, AllocError> {
-    let acknowledged = set.acknowledged(alloc)?;
-    let readable = if set.can_be_acknowledged() {
-        set.readable(alloc)?
-    } else {
-        Vec::new(alloc)
-    };
-    Ok(Wanted {
-        readable,
-        acknowledged,
-    })
-}
-
-/// Whether some symbol answers for the leaf at an index, where it has the server: the legs in the tables have the server
-/// at each index of the symbol, at this one alone if it is the leaf's own.
-pub fn is_answered<'a>(
+/// Whether some symbol answers for the leaf at an index.
+fn is_answered<'a>(
     alloc: Global,
     picks: &Picks<'a>,
     leaf: &Leg<'a>,
     index: usize,
-    server: ServerId,
-) -> Result<bool, AllocError> {
+) -> Result<bool, AllocError>
+    requires { index < length leaf.now.servers.now }
+    ensures { IfOk result (λ is. (sizes : List ℕ) → IsSizedLeaf sizes picks.now (leg_of leaf.now) → IsTrue is ↔ IsAnsweredBy sizes picks.now (leg_of leaf.now) index) }
+{
+    let server = leaf.servers[index];
     if picks.same(leaf.symbol, server, index).is_some() {
         return Ok(true);
     }
-    Ok(picks.all(alloc, server)?.is_some())
+    let found = picks.all(alloc, server)?;
+    Ok(found.is_some())
 }
 
-/// The first index at which no symbol answers for the leaf.
-pub fn first_gap<'a>(
+/// Whether no symbol answers for the leaf at one of its indexes.
+fn is_missed_at_an_index<'a>(
     alloc: Global,
     picks: &Picks<'a>,
     leaf: &Leg<'a>,
-) -> Result<Option<usize>, AllocError> {
-    if picks.twin(leaf).is_some() {
-        return Ok(None);
-    }
-    for (index, server) in leaf.servers.iter().enumerate() {
-        if !is_answered(alloc, picks, leaf, index, *server)? {
-            return Ok(Some(index));
-        }
-    }
-    Ok(None)
-}
-
-/// Whether a block has a gap with these legs beside its own.
-pub fn has_gap<'s>(
-    alloc: Global,
-    block: &Wanted<'s>,
-    added: &[Leg<'s>],
-) -> Result<bool, AllocError> {
-    let mut legs = Vec::with_capacity(alloc, block.acknowledged.len())?;
-    legs.extend_from_slice(block.acknowledged.as_slice())?;
-    legs.extend_from_slice(added)?;
-    let picks = Picks::new(alloc, legs.as_slice())?;
-    for leaf in &block.readable {
-        if first_gap(alloc, &picks, leaf)?.is_some() {
+) -> Result<bool, AllocError>
+    ensures { IfOk result (λ is. (sizes : List ℕ) → IsSizedLeaf sizes picks.now (leg_of leaf.now) → IsTrue is ↔ IsMissed sizes picks.now (leg_of leaf.now)) }
+{
+    for index in 0..leaf.servers.len() {
+        let answered = is_answered(alloc, picks, leaf, index)?;
+        if !answered {
             return Ok(true);
         }
     }
     Ok(false)
 }
 
-/// Whether one of the blocks has.
+/// Whether the leaf is missed by the legs in these tables.
+pub fn is_missed<'a>(
+    alloc: Global,
+    picks: &Picks<'a>,
+    leaf: &Leg<'a>,
+) -> Result<bool, AllocError>
+    ensures { IfOk result (λ is. (sizes : List ℕ) → IsSizedLeaf sizes picks.now (leg_of leaf.now) → IsTrue is ↔ IsMissed sizes picks.now (leg_of leaf.now)) }
+{
+    if picks.twin(leaf).is_some() {
+        return Ok(false);
+    }
+    is_missed_at_an_index(alloc, picks, leaf)
+}
+
+/// The legs of both.
+pub fn joined<'s>(
+    alloc: Global,
+    legs: &[Leg<'s>],
+    others: &[Leg<'s>],
+) -> Result<Vec<Leg<'s>>, AllocError>
+    ensures { IfOk result (λ all. legs_of all.items ≡ legs_of legs.now ++ legs_of others.now) }
+{
+    let mut all = Vec::with_capacity(alloc, legs.len())?;
+    all.extend_from_slice(legs)?;
+    all.extend_from_slice(others)?;
+    Ok(all)
+}
+
+/// Whether one of the leaves is missed by the legs.
+fn is_one_missed<'s>(
+    alloc: Global,
+    legs: &[Leg<'s>],
+    leaves: &[Leg<'s>],
+) -> Result<bool, AllocError>
+    ensures { IfOk result (λ is. (sizes : List ℕ) → AreSizedBy sizes (record { readable = legs_of leaves.now; acknowledged = legs_of legs.now })
+        → IsTrue is ↔ IsOneMissed sizes (legs_of legs.now) (legs_of leaves.now)) }
+{
+    let picks = Picks::new(alloc, legs)?;
+    for leaf in leaves {
+        let missed = is_missed(alloc, &picks, leaf)?;
+        if missed {
+            return Ok(true);
+        }
+    }
+    Ok(false)
+}
+
+/// Whether some leaf that can be read is missed where these legs are sent too.
+pub fn has_gap<'s>(
+    alloc: Global,
+    wanted: &Wanted<'s>,
+    added: &[Leg<'s>],
+) -> Result<bool, AllocError>
+    ensures { IfOk result (λ is. (sizes : List ℕ) → AreSizedBy sizes (wanted_of wanted.now) → AreSized sizes (legs_of added.now)
+        → IsTrue is ↔ HasGap sizes (wanted_of wanted.now) (legs_of added.now)) }
+{
+    let legs = joined(alloc, wanted.acknowledged.as_slice(), added)?;
+    is_one_missed(alloc, legs.as_slice(), wanted.readable.as_slice())
+}
+
+/// The same of one of these.
 pub fn have_gap<'s>(
     alloc: Global,
-    blocks: &[Wanted<'s>],
+    wanted: &[Wanted<'s>],
     added: &[Leg<'s>],
-) -> Result<bool, AllocError> {
-    for block in blocks {
-        if has_gap(alloc, block, added)? {
+) -> Result<bool, AllocError>
+    ensures { IfOk result (λ is. (sizes : List ℕ) → AreAllSizedBy sizes (wanteds_of wanted.now) → AreSized sizes (legs_of added.now)
+        → IsTrue is ↔ HaveGap sizes (wanteds_of wanted.now) (legs_of added.now)) }
+{
+    for one in wanted {
+        let gap = has_gap(alloc, one, added)?;
+        if gap {
             return Ok(true);
         }
     }

@@ -1,102 +1,87 @@
-//! The least legs with which the deletes of a class have no gap.
+//! The least legs with which no leaf is missed.
 
-use crate::gaps::{Wanted, first_gap, have_gap};
+ghost use Rattle.std.specs.Prelude.{◌≡◌, ◌<◌, ◌+◌, ◌++◌, ◌↔◌, ℕ, All, IfOk, IsTrue, List, OnOk, Some, false, if◌then◌else◌, length, map, drop, true};
+ghost use Rattle.std.specs.BTreeMap.{get};
+ghost use Rattle.std.specs.BTreeSet.{contains};
+ghost use Rattle.std.specs.List.{Contains, list_any};
+ghost use Rattle.std.specs.Ordering.{nat_cmp};
+ghost use Rattle.std.specs.Prelude.{nat_eq};
+ghost use Rattle.mcv_judge.specs.PairsInMemory.{leg_of, legs_of};
+ghost use Rattle.mcv_gaps.specs.Gaps.{AreAllSizedBy, AreLeastFor, HaveGap, wanteds_of};
+ghost use Rattle.mcv_gaps.specs.Least.{AreEnough, AreKept, AreOwners, IsMissingOf, IsSole, legs_missing, owner_of};
+
+use crate::gaps::{Wanted, have_gap};
+use crate::missing::{Missing, missing_in};
+use mcv_base::ServerId;
 use mcv_judge::Leg;
-use mcv_picks::Picks;
 use std::alloc::{AllocError, Global};
-use std::collections::{BTreeMap, BTreeSet};
+use std::collections::BTreeMap;
 
-/// A leaf with a gap in some block, and those of its servers that no acknowledged leg of that block has at all.
-#[derive(Drop)]
-pub struct Missing<'s> {
-    pub leg: Leg<'s>,
-    pub unsent: Vec<u32>,
-}
-
-/// The servers that legs have.
-fn servers_of(alloc: Global, legs: &[Leg]) -> Result<BTreeSet<u32>, AllocError> {
-    let mut servers = BTreeSet::new(alloc);
-    for leg in legs {
-        for server in leg.servers {
-            servers.insert(server.0)?;
-        }
-    }
-    Ok(servers)
-}
-
-/// The leaf's servers that aren't among these.
-fn unsent<'s>(
-    alloc: Global,
-    leg: &Leg<'s>,
-    sent: &BTreeSet<u32>,
-) -> Result<Missing<'s>, AllocError> {
-    let mut unsent = Vec::new(alloc);
-    for server in leg.servers {
-        if !sent.contains(&server.0) {
-            unsent.push(server.0)?;
-        }
-    }
-    Ok(Missing { leg: *leg, unsent })
-}
-
-/// The leaves with a gap in one of the blocks, one for each symbol and servers.
-fn missing_in<'s>(alloc: Global, blocks: &[Wanted<'s>]) -> Result<Vec<Missing<'s>>, AllocError> {
-    let mut table = BTreeMap::new(alloc);
-    for block in blocks {
-        let sent = servers_of(alloc, block.acknowledged.as_slice())?;
-        let picks = Picks::new(alloc, block.acknowledged.as_slice())?;
-        for leaf in &block.readable {
-            let key = (leaf.symbol, leaf.servers);
-            if !table.contains_key(&key) && first_gap(alloc, &picks, leaf)?.is_some() {
-                table.insert(key, unsent(alloc, leaf, &sent)?)?;
+/// The number kept for a server that the leg of this number has too.
+fn owner_with(kept: Option<Option<usize>>, number: usize) -> Option<usize>
+    ensures { result ≡ owner_of number kept }
+{
+    match kept {
+        None => Some(number),
+        Some(None) => None,
+        Some(Some(other)) => {
+            if other == number {
+                Some(number)
+            } else {
+                None
             }
         }
     }
-    let mut legs = Vec::with_capacity(alloc, table.len())?;
-    for (_, leg) in table {
-        legs.push(leg)?;
-    }
-    Ok(legs)
 }
 
-/// How many times legs have each server.
-fn counts_of(alloc: Global, missing: &[Missing]) -> Result<BTreeMap<u32, usize>, AllocError> {
-    let mut counts = BTreeMap::new(alloc);
-    for one in missing {
-        for server in one.leg.servers {
-            let count = counts.entry(server.0)?.or_insert(0usize);
-            *count = count.saturating_add(1);
-        }
-    }
-    Ok(counts)
+/// Puts the leg of this number in for a server.
+fn own_server(
+    owners: &mut BTreeMap<u32, Option<usize>>,
+    number: usize,
+    server: ServerId,
+) -> Result<(), AllocError>
+    ensures { OnOk result ((x : ℕ) → get nat_cmp owners.new x ≡ (if nat_eq x server.0 then Some (owner_of number (get nat_cmp owners.old x)) else get nat_cmp owners.old x)) }
+{
+    let kept = owners.get(&server.0).copied();
+    owners.insert(server.0, owner_with(kept, number))?;
+    Ok(())
 }
 
-/// Whether a leg has a server that its block's acknowledged legs haven't, and that it alone has of those counted.
-fn is_sole(
-    alloc: Global,
-    one: &Missing,
-    counts: &BTreeMap<u32, usize>,
-) -> Result<bool, AllocError> {
-    let mut own = BTreeMap::new(alloc);
-    for server in one.leg.servers {
-        let count = own.entry(server.0)?.or_insert(0usize);
-        *count = count.saturating_add(1);
+/// Puts the leg of this number in for each of its servers.
+fn own_servers(
+    owners: &mut BTreeMap<u32, Option<usize>>,
+    number: usize,
+    leg: &Leg,
+) -> Result<(), AllocError>
+    ensures { OnOk result ((x : ℕ) → get nat_cmp owners.new x ≡ (if list_any (nat_eq x) (leg_of leg.now).servers then Some (owner_of number (get nat_cmp owners.old x)) else get nat_cmp owners.old x)) }
+{
+    for server in leg.servers {
+        own_server(owners, number, *server)?;
     }
+    Ok(())
+}
+
+/// By server the number of the one leg that has it, or none where several do.
+fn owners_of(alloc: Global, missing: &[Missing]) -> Result<BTreeMap<u32, Option<usize>>, AllocError>
+    ensures { IfOk result (λ owners. AreOwners owners (legs_missing missing.now)) }
+{
+    let mut owners = BTreeMap::new(alloc);
+    for (number, one) in missing.iter().enumerate() {
+        own_servers(&mut owners, number, &one.leg)?;
+    }
+    Ok(owners)
+}
+
+/// Whether the leg of this number alone has one of its servers to which nothing else is sent.
+fn is_sole(owners: &BTreeMap<u32, Option<usize>>, number: usize, one: &Missing) -> bool
+    ensures { IsTrue result → IsSole owners.now number one.now.unsent.items }
+{
     for server in &one.unsent {
-        if own.get(server) == counts.get(server) {
-            return Ok(true);
+        if owners.get(server).copied() == Some(Some(number)) {
+            return true;
         }
     }
-    Ok(false)
-}
-
-/// Takes a leg's servers out of the counts.
-fn discount(one: &Missing, counts: &mut BTreeMap<u32, usize>) {
-    for server in one.leg.servers {
-        if let Some(count) = counts.get_mut(&server.0) {
-            *count = count.saturating_sub(1);
-        }
-    }
+    false
 }
 
 /// The legs that are kept, and those that aren't looked at yet.
@@ -104,33 +89,65 @@ fn others<'s>(
     alloc: Global,
     kept: &[Leg<'s>],
     rest: &[Missing<'s>],
-) -> Result<Vec<Leg<'s>>, AllocError> {
-    let mut legs = Vec::with_capacity(alloc, kept.len())?;
-    legs.extend_from_slice(kept)?;
+) -> Result<Vec<Leg<'s>>, AllocError>
+    ensures { IfOk result (λ legs. legs_of legs.items ≡ legs_of kept.now ++ legs_missing rest.now) }
+{
+    let mut legs = Vec::from_slice(alloc, kept)?;
     for one in rest {
         legs.push(one.leg)?;
     }
     Ok(legs)
 }
 
-/// Legs with which no block has a gap, and without any one of which one has: of those that are missing, those with most
-/// servers are left out first.
-pub fn least_legs<'s>(alloc: Global, blocks: &[Wanted<'s>]) -> Result<Vec<Leg<'s>>, AllocError> {
-    let mut missing = missing_in(alloc, blocks)?;
-    missing.sort_by_key(|one| usize::MAX - one.leg.servers.len())?;
-    let mut counts = counts_of(alloc, missing.as_slice())?;
+/// Whether there is a gap with the legs that are kept and those behind the leg of this number.
+fn is_needed<'s>(
+    alloc: Global,
+    wanted: &[Wanted<'s>],
+    missing: &[Missing<'s>],
+    owners: &BTreeMap<u32, Option<usize>>,
+    kept: &[Leg<'s>],
+    number: usize,
+) -> Result<bool, AllocError>
+    requires within { number < length missing.now }
+    requires missing { All (IsMissingOf (wanteds_of wanted.now)) missing.now }
+    requires owners { AreOwners owners.now (legs_missing missing.now) }
+    requires kept { AreKept (legs_missing missing.now) number (legs_of kept.now) }
+    ensures { IfOk result (λ is. (sizes : List ℕ) → AreAllSizedBy sizes (wanteds_of wanted.now)
+        → IsTrue is ↔ HaveGap sizes (wanteds_of wanted.now) (legs_of kept.now ++ legs_missing (drop (number + 1) missing.now))) }
+{
+    if is_sole(owners, number, &missing[number]) {
+        return Ok(true);
+    }
+    let others = others(alloc, kept, &missing[number + 1..])?;
+    have_gap(alloc, wanted, others.as_slice())
+}
+
+/// Of legs that are enough, one after another, those without which there is a gap.
+fn needed_of<'s>(
+    alloc: Global,
+    wanted: &[Wanted<'s>],
+    missing: &[Missing<'s>],
+) -> Result<Vec<Leg<'s>>, AllocError>
+    requires { All (IsMissingOf (wanteds_of wanted.now)) missing.now }
+    ensures { IfOk result (λ legs. (sizes : List ℕ) → AreAllSizedBy sizes (wanteds_of wanted.now) → AreEnough sizes (wanteds_of wanted.now) (legs_missing missing.now)
+        → AreLeastFor sizes (wanteds_of wanted.now) (legs_of legs.items)) }
+{
+    let owners = owners_of(alloc, missing)?;
     let mut kept = Vec::new(alloc);
     for (number, one) in missing.iter().enumerate() {
-        let is_needed = is_sole(alloc, one, &counts)?
-            || {
-                let others = others(alloc, kept.as_slice(), &missing[number + 1..])?;
-                have_gap(alloc, blocks, others.as_slice())?
-            };
-        if is_needed {
+        if is_needed(alloc, wanted, missing, &owners, kept.as_slice(), number)? {
             kept.push(one.leg)?;
-        } else {
-            discount(one, &mut counts);
         }
     }
     Ok(kept)
+}
+
+/// Legs with which there is no gap, and without any one of which there is one: of those that are missed, those with most
+/// servers are left out first.
+pub fn least_legs<'s>(alloc: Global, wanted: &[Wanted<'s>]) -> Result<Vec<Leg<'s>>, AllocError>
+    ensures { IfOk result (λ legs. (sizes : List ℕ) → AreAllSizedBy sizes (wanteds_of wanted.now) → AreLeastFor sizes (wanteds_of wanted.now) (legs_of legs.items)) }
+{
+    let mut missing = missing_in(alloc, wanted)?;
+    missing.sort_by_key(|one| usize::MAX - one.leg.servers.len())?;
+    needed_of(alloc, wanted, missing.as_slice())
 }

@@ -1,8 +1,10 @@
 -- Routes with the same classes and the same breaks.
-use Rattle.std.proofs.Common.{◌≡◌, ◌↔◌, ℕ, List, Option, Some, None, map, refl, sym, ap, ◌∙◌, subst}
+use Rattle.std.proofs.Common.{◌≡◌, ◌<◌, ◌+◌, ◌↔◌, ℕ, List, [], ◌∷◌, ◌++◌, Option, Some, None, get_or, length, map, take, refl, sym, ap, ap₂, ◌∙◌, subst}
 use Rattle.std.specs.Prelude.{All, slice_get}
 use Rattle.std.specs.List.{Contains}
+use Rattle.std.proofs.lemmas.List.{map-append}
 use Rattle.std.proofs.lemmas.List.Elements.{All-contains}
+use Rattle.mcv_gaps.proofs.Mapped.{one_further}
 use Rattle.std.proofs.lemmas.Option.{same_Some}
 use Rattle.mcv_blocks.specs.Places.{AreRouteClasses, IsRouteClass, of_route}
 use Rattle.mcv_blocks.specs.declared.classes.RouteClass.{RouteClass}
@@ -40,6 +42,15 @@ need_for r needs are i e c at listed =
     let own : RouteClass = of_route i c in
     let need = from_map class_of_need needs own (are.all own (record { entry = e; numbered = at; listed = listed })) in
     (need_value need.0, into_map need_value needs need.0 need.1, ap (λ (x : RouteClass). x.route) need.2, ap (λ (x : RouteClass). x.class.word) need.2)
+
+-- a class more
+pub places_more : (needs : List Need) (cs : List RouteClass) (i : ℕ) (x : Need) (c : RouteClass) → i < length needs → x ≡ get_or needs i x → i < length cs → c ≡ get_or cs i c → place_of (class_of_need x) ≡ place_of c
+    → places_of (map class_of_need (take i needs)) ≡ places_of (take i cs) → places_of (map class_of_need (take (i + 1) needs)) ≡ places_of (take (i + 1) cs)
+places_more needs cs i x c lt is less at e h =
+    ap places_of (one_further class_of_need needs i x lt is)
+    ∙ map-append place_of (map class_of_need (take i needs)) (class_of_need x ∷ [])
+    ∙ ap₂ (λ (ps : List (ℕ × List ℕ)) (p : ℕ × List ℕ). ps ++ p ∷ []) h e
+    ∙ sym (one_further place_of cs i c less at)
 
 -- ---- eras
 

@@ -5,3 +5,4 @@ pub mod InMemory
 pub mod Members
 pub mod Classes
 pub mod Aliases
+pub mod Wanted

@@ -1,30 +1,18 @@
 -- Which legs the deletes of a class of keys need beside their own (own).
-use Rattle.std.specs.Prelude.{◌≡◌, ◌<◌, ℕ, true, List, ◌++◌, length, slice_index, remove}
+use Rattle.std.specs.Prelude.{◌≡◌, ◌<◌, ℕ, true, List, ◌++◌, length, remove}
 use Rattle.std.specs.List.{Contains}
 use Rattle.mcv_blocks.specs.Blocks.{IsBlockOf}
+use Rattle.mcv_gaps.specs.Gaps.{IsMissed}
 use Rattle.mcv_judge.specs.Reason.{BlockValue, LegValue}
 use Rattle.mcv_route.specs.Routes.{RoutesValue}
 use Rattle.mcv_symbolic.specs.CoveredRoutes.{sizes_of}
-
--- one of the legs is of this symbol, and has the server at the index
-pub record HasServerAt (legs : List LegValue) (symbol index server : ℕ) : Type 0 where
-  pub leg : LegValue
-  pub listed : Contains legs leg
-  pub own : leg.symbol ≡ symbol
-  pub sends : slice_index leg.servers index ≡ server
-
--- some symbol answers for the leaf at the index: at each of the symbol's indexes (at this one alone, if it is the leaf's own) one of the legs of the symbol has the leaf's server
-abbrev pub IsAnsweredBy : (sizes : List ℕ) → List LegValue → LegValue → ℕ → Type 0
-IsAnsweredBy sizes legs leaf i = (s : ℕ) × (s < length sizes) × ((j : ℕ) → j < slice_index sizes s → (s ≡ leaf.symbol → j ≡ i) → HasServerAt legs s j (slice_index leaf.servers i))
 
 -- a delete can be acknowledged, and where these legs are sent beside the acknowledged ones no symbol answers for some leaf that can be read, at some index of it
 pub record HasGapIn (sizes : List ℕ) (b : BlockValue) (legs : List LegValue) : Type 0 where
   pub can : b.can_be_acknowledged ≡ true
   pub leaf : LegValue
   pub read : Contains b.readable leaf
-  pub index : ℕ
-  pub within : index < length leaf.servers
-  pub missed : IsAnsweredBy sizes (b.acknowledged ++ legs) leaf index → ⊥
+  pub missed : IsMissed sizes (b.acknowledged ++ legs) leaf
 
 -- where these legs are sent too, a block of the class has a gap
 pub record HasGapWith (r : RoutesValue) (route : ℕ) (word : List ℕ) (legs : List LegValue) : Type 0 where

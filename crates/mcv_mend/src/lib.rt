@@ -8,20 +8,17 @@
 mod by_class;
 mod drafting;
 mod fault;
-mod gaps;
 mod handles;
-mod least;
 mod mended;
 mod needs;
-mod numbering;
 mod reading;
 mod run;
-mod same;
 mod splice;
+mod wanted;
 mod widening;
 
 pub use fault::{MendFault, Mending};
 pub use mended::is_mended;
-pub use needs::{Need, NeededLeg, class_needs};
+pub use needs::{Need, class_needs};
 pub use reading::{Reading, read_named};
 pub use run::{Output, mend_text, run_mend};

@@ -1,10 +1,10 @@
 //! Routes beside those that they were mended from.
 
-ghost use Rattle.std.specs.Prelude.{◌≡◌, ℕ, IfOk, IsTrue, Some, map, option_map, slice_get};
+ghost use Rattle.std.specs.Prelude.{◌≡◌, ◌↔◌, ℕ, IfOk, IsTrue, Option, map, option_map};
 ghost use Rattle.mcv_base.specs.declared.operation.Op.{Op as Operation};
 ghost use Rattle.mcv_blocks.specs.Places.{AreRouteClasses, IsRouteClass};
-ghost use Rattle.mcv_route.specs.Eras.{IsEraOf};
-ghost use Rattle.mcv_route.specs.Routes.{RouteEntry, RoutesValue};
+ghost use Rattle.mcv_route.specs.Eras.{IsEra};
+ghost use Rattle.mcv_route.specs.Routes.{RoutesValue};
 ghost use Rattle.mcv_route.specs.View.{view};
 ghost use Rattle.mcv_mend.specs.Classes.{HaveSameClasses, class_of_need, places_of};
 ghost use Rattle.mcv_alike.specs.Numbers.{IsNumbering, legs_value};
@@ -12,9 +12,8 @@ ghost use Rattle.mcv_mend.specs.InMemory.{need_value, needs_value};
 ghost use Rattle.mcv_mend.specs.Members.{IsAskedWell, IsMemberMended};
 ghost use Rattle.mcv_mend.specs.Mend.{IsMendOf, IsMendedBy};
 
-use crate::needs::{Need, NeededLeg};
-use crate::numbering::{Numbering, numbered};
-use crate::same::{is_same_plan, is_widened};
+use crate::needs::Need;
+use mcv_alike::{NeededLeg, Numbering, is_same_plan, is_widened, numbered};
 use mcv_base::{Mark, Moment, Op, Position, Rest};
 use mcv_blocks::{RouteClass, route_classes};
 use mcv_route::{Route, Routes, era_count, opened};
@@ -22,7 +21,7 @@ use mcv_rules::{Asked, laid_out};
 use std::alloc::{AllocError, Global};
 
 /// All operations.
-const OPERATIONS: [Op; 10] = [
+const OPERATIONS: [Op; 12] = [
     Op::Get,
     Op::Gets,
     Op::Set,
@@ -33,6 +32,8 @@ const OPERATIONS: [Op; 10] = [
     Op::Cas,
     Op::Delete,
     Op::Touch,
+    Op::Incr,
+    Op::Decr,
 ];
 
 /// A route before and after, and the numbers that the servers and symbols of the one have in the other.
@@ -55,7 +56,7 @@ pub fn is_mended(
     requires classes { AreRouteClasses old.now (map class_of_need needs.now) }
     ensures { IfOk result (λ fine. IsTrue fine → IsMendOf old.now new.now (needs_value needs.now)) }
 {
-    if old.breaks() != new.breaks() {
+    if !have_same_eras(old, new) {
         return Ok(false);
     }
     let classes = route_classes(alloc, new)?;
@@ -66,11 +67,19 @@ pub fn is_mended(
         return Ok(false);
     };
     for need in needs {
-        if !is_need_met(alloc, &numbering, old, new, need)? {
+        let met = is_need_met(alloc, &numbering, old, new, need)?;
+        if !met {
             return Ok(false);
         }
     }
     Ok(true)
+}
+
+/// Whether the routes have the same eras.
+fn have_same_eras(old: &Routes, new: &Routes) -> bool
+    ensures { IsTrue result → (since : Option ℕ) → IsEra new.now since ↔ IsEra old.now since }
+{
+    old.breaks() == new.breaks()
 }
 
 /// Whether the needs are those of these classes, in their order.
@@ -112,10 +121,13 @@ fn is_need_met(
     let Some(member) = need.class.class.member() else {
         return Ok(false);
     };
-    let (Some(before), Some(after)) = (old.route(need.class.route), new.route(need.class.route))
-    else {
+    let Some(before) = old.route(need.class.route) else {
         return Ok(false);
     };
+    let Some(after) = new.route(need.class.route) else {
+        return Ok(false);
+    };
+    let _rest = member.as_bytes();
     let sides = Sides {
         numbering,
         before,
@@ -136,7 +148,8 @@ fn is_member_mended(
         → IsMemberMended routes.now n (view sides.now.before.now) (view sides.now.after.now) rest.now (legs_value legs.now)) }
 {
     for era in 0..era_count(routes) {
-        if !is_era_mended(alloc, sides, rest, opened(routes, era), legs)? {
+        let fine = is_era_mended(alloc, sides, rest, opened(routes, era), legs)?;
+        if !fine {
             return Ok(false);
         }
     }
@@ -155,7 +168,8 @@ fn is_era_mended(
         → (op : Operation) → IsAskedWell r n (view sides.now.before.now) (view sides.now.after.now) rest.now (option_map (λ m. m.0) since) (legs_value legs.now) op) }
 {
     for op in &OPERATIONS {
-        if !is_asked_well(alloc, sides, *op, rest, since, legs)? {
+        let fine = is_asked_well(alloc, sides, *op, rest, since, legs)?;
+        if !fine {
             return Ok(false);
         }
     }

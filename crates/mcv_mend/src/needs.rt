@@ -1,28 +1,20 @@
 //! Which legs the deletes of each class need beside their own.
 
 ghost use Rattle.std.specs.Prelude.{◌≡◌, All, IfOk, map};
+ghost use Rattle.mcv_alike.specs.Numbers.{legs_value};
 ghost use Rattle.mcv_blocks.specs.Places.{AreRouteClasses, IsRouteClass};
 ghost use Rattle.mcv_judge.specs.PairsInMemory.{legs_of};
 ghost use Rattle.mcv_mend.specs.Classes.{class_of_need};
-ghost use Rattle.mcv_mend.specs.InMemory.{legs_value, needs_value};
+ghost use Rattle.mcv_mend.specs.InMemory.{needs_value};
 ghost use Rattle.mcv_mend.specs.Needs.{AreLeast, IsLeastNeed};
 
-use crate::gaps::{sets_in_eras, wanted_blocks};
-use crate::least::least_legs;
-use mcv_base::{Position, ServerId};
+use crate::wanted::{sets_in_eras, wanted_by_era};
+use mcv_alike::NeededLeg;
 use mcv_blocks::{RouteClass, route_classes};
+use mcv_gaps::least_legs;
 use mcv_judge::Leg;
 use mcv_route::Routes;
 use std::alloc::{AllocError, Global};
-
-/// A leg that is needed: of which leaf it is, and what it sends to.
-#[derive(Drop)]
-pub struct NeededLeg {
-    pub position: Position,
-    /// The number of its symbol.
-    pub symbol: usize,
-    pub servers: Vec<ServerId>,
-}
 
 /// The legs that the deletes of a class need beside their own.
 #[derive(Drop)]
@@ -50,15 +42,18 @@ fn needed_legs(
     routes: &Routes,
     class: &RouteClass,
 ) -> Result<Vec<NeededLeg>, AllocError>
-    requires { IsRouteClass routes.now class.now }
-    ensures { IfOk result (λ legs. AreLeast routes.now class.now.route class.now.class.word (legs_value legs.items)) }
+    ensures { IfOk result (λ legs. IsRouteClass routes.now class.now → AreLeast routes.now class.now.route class.now.class.word (legs_value legs.items)) }
 {
+    let Some(route) = routes.route(class.route) else {
+        return Ok(Vec::new(alloc));
+    };
     let Some(member) = class.class.member() else {
         return Ok(Vec::new(alloc));
     };
-    let sets = sets_in_eras(alloc, routes, class, &member)?;
-    let blocks = wanted_blocks(alloc, sets.as_slice())?;
-    let legs = least_legs(alloc, blocks.as_slice())?;
+    let _symbols = routes.symbols();
+    let sets = sets_in_eras(alloc, routes, route, &member)?;
+    let wanted = wanted_by_era(alloc, routes, sets.as_slice())?;
+    let legs = least_legs(alloc, wanted.as_slice())?;
     owned(alloc, legs.as_slice())
 }
 

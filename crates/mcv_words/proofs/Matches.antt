@@ -14,7 +14,7 @@ use Rattle.clap.specs.declared.parser.matches.SubCommand.{SubCommand}
 use Rattle.clap.specs.Simple.{subcommand_rows}
 use Rattle.mcv_words.specs.Words.{faults, named, proxy_limit, session_limit, window_limit, IsCheckOf, IsFaultOfKind, IsJobOf, IsLineFault, IsNumberOf, IsRunOf}
 use Rattle.mcv_words.specs.declared.words.Job.{Job}
-use Rattle.mcv_words.specs.declared.words.Job.TheVariants.{Legs, Check, Run}
+use Rattle.mcv_words.specs.declared.words.Job.TheVariants.{Legs, Check, Mend, Run}
 use Rattle.mcv_words.proofs.OptionValues.{HasAll, HasPassing, HasWindow}
 use Rattle.mcv_words.specs.declared.words.LineFault.{LineFault}
 use Rattle.mcv_words.specs.declared.words.LineFault.TheVariants.{BadLine, Memory, Help, Version}
