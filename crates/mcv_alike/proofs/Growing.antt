@@ -1,6 +1,6 @@
 -- What holds of the fronts of two lists, one member longer.
-use Rattle.std.proofs.Common.{◌≡◌, ◌<◌, ◌+◌, ℕ, List, [], ◌∷◌, ◌++◌, get_or, length, map, take, sym, ap, ap₂, ◌∙◌, subst}
-use Rattle.std.proofs.lemmas.List.{map-append, take_more}
+use Rattle.std.proofs.Common.{◌≡◌, ◌<◌, ◌≤◌, ◌+◌, ℕ, List, [], ◌∷◌, ◌++◌, get_or, length, map, take, sym, ap, ap₂, ◌∙◌, subst}
+use Rattle.std.proofs.lemmas.List.{map-append, map_more, take_all, take_more}
 use Rattle.mcv_base.specs.declared.request.ServerId.{ServerId}
 use Rattle.mcv_judge.specs.PairsInMemory.{numbers}
 use Rattle.mcv_judge.specs.Reason.{LegValue}
@@ -16,12 +16,17 @@ use Rattle.mcv_alike.proofs.PartsAlike.{added-grow, parts-grow}
 pub front : {A B : Type 0} (f : A → B) (xs : List A) (i : ℕ) (x : A) → i < length xs → x ≡ get_or xs i x → map f (take (i + 1) xs) ≡ map f (take i xs) ++ f x ∷ []
 front f xs i x lt is = ap (map f) (take_more xs i x lt ∙ ap (λ y. take i xs ++ y ∷ []) (sym is)) ∙ map-append f (take i xs) (x ∷ [])
 
-pub servers_grow : (f g : ℕ → List ℕ) (xs ys : List ServerId) (i : ℕ) (x y : ServerId) → i < length xs → i < length ys → x ≡ get_or xs i x → y ≡ get_or ys i y
-    → map f (numbers (take i xs)) ≡ map g (numbers (take i ys)) → f x.0 ≡ g y.0 → map f (numbers (take (i + 1) xs)) ≡ map g (numbers (take (i + 1) ys))
-servers_grow f g xs ys i x y lt less is at same one =
-    ap (map f) (front (λ (s : ServerId). s.0) xs i x lt is) ∙ map-append f (numbers (take i xs)) (x.0 ∷ [])
-    ∙ ap₂ (λ us v. us ++ v ∷ []) same one
-    ∙ sym (map-append g (numbers (take i ys)) (y.0 ∷ [])) ∙ ap (map g) (sym (front (λ (s : ServerId). s.0) ys i y less at))
+module _ (f g : ℕ → List ℕ) (xs ys : List ServerId) (i : ℕ) where
+  pub servers_more : (d e : ServerId) → i < length xs → i < length ys → map f (numbers (take i xs)) ≡ map g (numbers (take i ys)) → f (get_or xs i d).0 ≡ g (get_or ys i e).0
+      → map f (numbers (take (i + 1) xs)) ≡ map g (numbers (take (i + 1) ys))
+  servers_more d e lt less same one =
+      ap (map f) (map_more (λ (s : ServerId). s.0) xs i d lt) ∙ map-append f (numbers (take i xs)) ((get_or xs i d).0 ∷ [])
+      ∙ ap₂ (λ us v. us ++ v ∷ []) same one
+      ∙ sym (map-append g (numbers (take i ys)) ((get_or ys i e).0 ∷ [])) ∙ ap (map g) (sym (map_more (λ (s : ServerId). s.0) ys i e less))
+
+  pub servers_all : length xs ≤ i → length ys ≤ i → map f (numbers (take i xs)) ≡ map g (numbers (take i ys)) → map f (numbers xs) ≡ map g (numbers ys)
+  servers_all past also same =
+      ap (λ (us : List ServerId). map f (numbers us)) (sym (take_all i xs past)) ∙ same ∙ ap (λ (us : List ServerId). map g (numbers us)) (take_all i ys also)
 
 module _ (r n : RoutesValue) where
   pub parts_grow : (xs ys : List Plan) (i : ℕ) (x y : Plan) → i < length xs → i < length ys → x ≡ get_or xs i x → y ≡ get_or ys i y

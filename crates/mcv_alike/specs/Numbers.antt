@@ -32,3 +32,7 @@ AreSymbolNumbers r n table = (s : ℕ) (z : ℕ × ℕ) → slice_get table s �
 pub record IsNumbering (r n : RoutesValue) (table : Numbering) : Type 0 where
   pub servers : AreServerNumbers r n table.servers.items
   pub symbols : AreSymbolNumbers r n table.symbols.items
+
+-- the symbol of the number is over so many servers
+abbrev pub IsOver : RoutesValue → (symbol count : ℕ) → Type 0
+IsOver r s k = (symbol : SymbolValue) × (slice_get r.symbols s ≡ Some symbol) × (symbol.n ≡ k)

@@ -3,7 +3,7 @@
 ghost use Rattle.std.specs.Prelude.{◌≡◌, ◌<◌, IfOk, IfSome, IsTrue, length, map};
 ghost use Rattle.mcv_judge.specs.PairsInMemory.{numbers};
 ghost use Rattle.mcv_route.specs.Routes.{RoutesValue};
-ghost use Rattle.mcv_alike.specs.Numbers.{AreServerNumbers, AreSymbolNumbers, IsNumbering, IsSymbolNumber};
+ghost use Rattle.mcv_alike.specs.Numbers.{AreServerNumbers, AreSymbolNumbers, IsNumbering, IsOver, IsSymbolNumber};
 ghost use Rattle.mcv_alike.specs.Alike.{server_text};
 ghost use Rattle.mcv_alike.specs.Plans.{AreOnePool, AreOneServers, AreOneSymbol};
 
@@ -88,22 +88,33 @@ impl Numbering {
     pub fn is_symbol(&self, old: usize, new: usize) -> bool
         ensures { (r n : RoutesValue) → IsNumbering r n self.now → IsTrue result → AreOneSymbol r n old new }
     {
-        match self.symbols.get(old) {
-            Some((number, _)) => *number == new,
-            None => false,
-        }
+        let Some(found) = self.symbols.get(old) else {
+            return false;
+        };
+        found.0 == new
+    }
+
+    /// Whether the old symbol is over so many servers.
+    fn is_over(&self, symbol: usize, count: usize) -> bool
+        ensures { (r n : RoutesValue) → IsNumbering r n self.now → IsTrue result → IsOver r symbol count }
+    {
+        let Some(found) = self.symbols.get(symbol) else {
+            return false;
+        };
+        found.1 == count
     }
 
     /// Whether the new pool, by its symbol and its servers, is the old one.
     pub fn is_pool(&self, old: usize, olds: &[ServerId], new: usize, news: &[ServerId]) -> bool
         ensures { (r n : RoutesValue) → IsNumbering r n self.now → IsTrue result → AreOnePool r n old (numbers olds.now) new (numbers news.now) }
     {
-        match self.symbols.get(old) {
-            Some((number, size)) => {
-                *number == new && *size == olds.len() && self.are_servers(olds, news)
-            }
-            None => false,
+        if !self.is_symbol(old, new) {
+            return false;
         }
+        if !self.is_over(old, olds.len()) {
+            return false;
+        }
+        self.are_servers(olds, news)
     }
 
     /// Whether the new servers are the old ones, in the same order.
@@ -113,8 +124,8 @@ impl Numbering {
         if olds.len() != news.len() {
             return false;
         }
-        for (index, id) in olds.iter().enumerate() {
-            if !self.is_server(*id, news[index]) {
+        for index in 0..olds.len() {
+            if !self.is_server(olds[index], news[index]) {
                 return false;
             }
         }
@@ -124,9 +135,9 @@ impl Numbering {
     fn is_server(&self, old: ServerId, new: ServerId) -> bool
         ensures { (r n : RoutesValue) → IsNumbering r n self.now → IsTrue result → server_text r old.0 ≡ server_text n new.0 }
     {
-        match self.servers.get(old.0 as usize) {
-            Some(number) => *number == new.0,
-            None => false,
-        }
+        let Some(found) = self.servers.get(old.0 as usize) else {
+            return false;
+        };
+        *found == new.0
     }
 }

@@ -4,7 +4,7 @@ use Rattle.mcv_config.specs.Config.{size_limit}
 use Rattle.mcv_input.proofs.FirstBytes.{fault_of_known, named_by_all, read_limit, whole}
 use Rattle.mcv_input.specs.Fault.{IsInputFault}
 use Rattle.mcv_input.specs.declared.fault.RunFault.{RunFault}
-use Rattle.mcv_input.specs.declared.fault.RunFault.TheVariants.{Line, NoRoute, Config, CertificateText, Certificate, Memory, Device}
+use Rattle.mcv_input.specs.declared.fault.RunFault.TheVariants.{Line, NoRoute, Config, CertificateText, Certificate, Window, Memory, Device}
 use Rattle.mcv_names.specs.declared.fault.ReadFault.TheVariants as read_faults
 use Rattle.mcv_mend.specs.Mending.{IsMendFault, IsMendingOn, IsNotDone}
 use Rattle.mcv_mend.specs.declared.fault.MendFault.{MendFault}
@@ -25,6 +25,7 @@ input_fault_by_all bytes NoRoute is = is
 input_fault_by_all bytes (Config fault) is = fault_of_known (Some bytes) (take read_limit bytes) (read_faults.Config fault) refl is
 input_fault_by_all bytes (CertificateText fault) is = is
 input_fault_by_all bytes (Certificate fault) is = is
+input_fault_by_all bytes Window is = is
 input_fault_by_all bytes Memory is = tt
 input_fault_by_all bytes Device is = tt
 

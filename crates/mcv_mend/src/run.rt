@@ -13,7 +13,7 @@ ghost use Rattle.mcv_mend.specs.declared.fault.MendFault.TheVariants.{Run};
 use crate::drafting::draft;
 use crate::fault::{MendFault, Mending};
 use crate::mended::is_mended;
-use crate::needs::class_needs;
+use crate::needs::{Need, class_needs};
 use crate::reading::{Reading, read_named};
 use mcv_check::{Accepted, CheckFault, check};
 use mcv_config::{ReadFault, SIZE_LIMIT};
@@ -103,6 +103,7 @@ fn accepted(alloc: Global, routes: Routes) -> Result<Option<Accepted>, RunFault>
     match check(alloc, routes, &certificate) {
         Ok(accepted) => Ok(Some(accepted)),
         Err(CheckFault::Pair(_)) => Ok(None),
+        Err(CheckFault::Window) => Ok(None),
         Err(CheckFault::Memory) => Err(RunFault::Memory),
     }
 }
@@ -115,7 +116,7 @@ fn mended_text(alloc: Global, input: &[u8], old: &Reading) -> Result<Vec<u8>, Me
     ensures fault { IfErr result IsNotDone }
 {
     let needs = class_needs(alloc, &old.routes)?;
-    let text = draft(alloc, input, needs.as_slice())?;
+    let text = drafted(alloc, input, needs.as_slice())?;
     let Reading { routes, aliases } = read_again(alloc, text.as_slice())?;
     if aliases != old.aliases {
         return Err(MendFault::GaveUp);
@@ -127,6 +128,17 @@ fn mended_text(alloc: Global, input: &[u8], old: &Reading) -> Result<Vec<u8>, Me
         return Err(MendFault::GaveUp);
     }
     Ok(text)
+}
+
+/// The text with what each class needs. Why there is none is either memory, or isn't known.
+fn drafted(alloc: Global, input: &[u8], needs: &[Need]) -> Result<Vec<u8>, MendFault>
+    ensures { IfErr result IsNotDone }
+{
+    match draft(alloc, input, needs) {
+        Ok(text) => Ok(text),
+        Err(MendFault::Run(_)) => Err(MendFault::Run(RunFault::Memory)),
+        Err(_) => Err(MendFault::GaveUp),
+    }
 }
 
 /// What a drafted text names.
