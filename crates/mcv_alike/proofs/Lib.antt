@@ -6,3 +6,4 @@ pub mod PartsAlike
 pub mod SamePlans
 pub mod Growing
 pub mod Numbers
+mod Examples

@@ -1,10 +1,14 @@
 -- Plans in memory that do the same, one level at a time.
-use Rattle.std.proofs.Common.{◌≡◌, ◌<◌, ◌+◌, ℕ, List, [], ◌∷◌, ◌++◌, Vec, Box, Global, length, map, take, drop, sym, ap, ◌∙◌, subst, arith}
+use Rattle.std.proofs.Common.{◌≡◌, ◌<◌, ◌+◌, ℕ, List, [], ◌∷◌, ◌++◌, Vec, Box, Global, get_or, length, map, take, drop, sym, ap, ◌∙◌, subst, arith}
 use Rattle.std.proofs.lemmas.List.{map-append, length-map}
 use Rattle.std.proofs.lemmas.Simd.{map-map}
 use Rattle.mcv_base.specs.declared.reply.FixedReply.{FixedReply}
 use Rattle.mcv_base.specs.Reply.{fixed_value, outcome_of}
+use Rattle.mcv_base.specs.declared.request.ServerId.{ServerId}
+use Rattle.mcv_judge.specs.PairsInMemory.{numbers}
 use Rattle.mcv_judge.specs.Reason.{LegValue}
+use Rattle.mcv_alike.specs.Numbers.{legs_value}
+use Rattle.mcv_alike.specs.declared.needed.NeededLeg.{NeededLeg}
 use Rattle.mcv_route.specs.Routes.{RoutesValue}
 use Rattle.mcv_rules.specs.NormalForm.{Part, all_of, alone, led_by, leg_of, part, part_of, shade, turns_of, whole_of}
 use Rattle.mcv_rules.specs.Plan as planned
@@ -12,7 +16,7 @@ use Rattle.mcv_rules.specs.declared.arrival.After.{After}
 use Rattle.mcv_rules.specs.declared.plan.PlannedLeg.{PlannedLeg}
 use Rattle.mcv_rules.specs.declared.plan.Plan.{Plan, Send, Reply, All, Beside, InTurn, OnHit, Shadowed}
 use Rattle.mcv_rules.proofs.NormalForms.{part-All, part-Beside, part-InTurn, part-OnHit, part-Reply, part-Send, part-Shadowed}
-use Rattle.mcv_alike.specs.Plans.{AreAddedParts, AreOneLeg, AreOnePart, AreOneParts, AreOnePlan, AreOneSymbol, IsAddedLeg, IsAddedPart, IsWidened}
+use Rattle.mcv_alike.specs.Plans.{AreAddedParts, AreOneLeg, AreOnePart, AreOneParts, AreOnePlan, AreOnePool, AreOneSymbol, IsAddedLeg, IsAddedPart, IsWidened}
 use Rattle.mcv_alike.proofs.PartsAlike.{all-one, all_widened, alone-one, led-one, led_widened, none_widened, turns-one}
 
 -- both parts are known
@@ -87,3 +91,34 @@ split-led r n ks old v news front behind f e some ones are =
     subst (λ x. AreOnePlan r n x (led_by (map part_of front))) (sym (ap alone (ap part_of f ∙ part-Beside v))) (led-one r n (map part_of v.items) (map part_of front) ones) in
     subst (λ us. IsWidened r n ks (whole_of old) (led_by us)) (sym (map-append part_of front behind) ∙ ap (map part_of) (sym e))
     (led_widened r n ks (whole_of old) (map part_of front) (map part_of behind) (subst (λ k. 0 < k) (sym (length-map front part_of)) some) own are)
+
+-- ---- by what is in memory
+
+module _ (r n : RoutesValue) where
+  pub parts_like : (xs us ys vs : List Plan) → xs ≡ us → ys ≡ vs → AreOneParts r n (map part_of xs) (map part_of ys) → AreOneParts r n (map part_of us) (map part_of vs)
+  parts_like xs us ys vs e f one = subst (λ (zs : List Plan). AreOneParts r n (map part_of zs) (map part_of vs)) e (subst (λ (zs : List Plan). AreOneParts r n (map part_of xs) (map part_of zs)) f one)
+
+  pub part_like : (x u y v : Plan) → x ≡ u → y ≡ v → AreOnePart r n (part_of x) (part_of y) → AreOnePart r n (part_of u) (part_of v)
+  part_like x u y v e f one = subst (λ (z : Plan). AreOnePart r n (part_of z) (part_of v)) e (subst (λ (z : Plan). AreOnePart r n (part_of x) (part_of z)) f one)
+
+  pub pool_like : (s z : ℕ) (xs us ys vs : List ServerId) → xs ≡ us → ys ≡ vs → AreOnePool r n s (numbers xs) z (numbers ys) → AreOnePool r n s (numbers us) z (numbers vs)
+  pool_like s z xs us ys vs e f one = subst (λ (ids : List ServerId). AreOnePool r n s (numbers ids) z (numbers vs)) e (subst (λ (ids : List ServerId). AreOnePool r n s (numbers xs) z (numbers ids)) f one)
+
+  -- one plan that waits for itself alone
+  pub only_one : (old x : Plan) (news : List Plan) → length news ≡ 1 → x ≡ get_or news 0 x → AreOnePart r n (part_of old) (part_of x) → AreOnePlan r n (whole_of old) (all_of (map whole_of news))
+  only_one old x [] count is one = absurd (omega (arith, count))
+  only_one old x (y ∷ []) count is one = subst (λ (z : Plan). AreOnePlan r n (whole_of old) (whole_of z)) is (alone-one r n (part_of old) (part_of x) one)
+  only_one old x (y ∷ z ∷ news) count is one = absurd (omega (arith, count))
+
+  -- all plans of the old one, by their parts
+  pub all_like : (old : Plan) (v : Vec Plan Global) (news : List Plan) → old ≡ All v → AreOneParts r n (map part_of v.items) (map part_of news) → AreOnePlan r n (whole_of old) (all_of (map whole_of news))
+  all_like old v news e are =
+      let whole : whole_of old ≡ all_of (map whole_of v.items) = ap alone (ap part_of e ∙ part-All v) in
+      let both : AreOnePlan r n (all_of (map alone (map part_of v.items))) (all_of (map alone (map part_of news))) = all-one r n (map part_of v.items) (map part_of news) are in
+      subst (λ (t : planned.Plan). AreOnePlan r n t (all_of (map whole_of news))) (sym whole)
+      (subst (λ us. AreOnePlan r n (all_of us) (all_of (map whole_of news))) (wholes v.items) (subst (λ us. AreOnePlan r n (all_of (map alone (map part_of v.items))) (all_of us)) (wholes news) both))
+
+  -- no leg is needed
+  pub none_needed : (ks : List NeededLeg) (old new : Plan) → length ks ≡ 0 → AreOnePart r n (part_of old) (part_of new) → IsWidened r n (legs_value ks) (whole_of old) (whole_of new)
+  none_needed [] old new count one = widened-none r n [] old new one
+  none_needed (k ∷ ks) old new count one = absurd (omega (arith, count))

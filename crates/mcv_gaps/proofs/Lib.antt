@@ -7,3 +7,5 @@ pub mod GapsOfLists
 pub mod Owners
 pub mod Inserted
 pub mod Needed
+pub mod MissedSoFar
+mod Examples

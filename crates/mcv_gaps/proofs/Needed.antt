@@ -1,13 +1,17 @@
 -- Which of the legs that are missing are needed.
-use Rattle.std.proofs.Common.{◌≡◌, ◌<◌, ◌≤◌, ◌+◌, ◌⊎◌, inl, inr, ⊎_elim, ℕ, zero, suc, List, [], ◌∷◌, ◌++◌, drop, length, get_or, map, Option, Some, None, refl, sym, ap, ◌∙◌, subst, append-nil, arith}
+use Rattle.std.proofs.Common.{◌≡◌, ◌<◌, ◌≤◌, ◌+◌, ◌⊎◌, inl, inr, ⊎_elim, ℕ, zero, suc, List, [], ◌∷◌, ◌++◌, drop, drop-cons, add-one, length, get_or, map, Option, Some, None, refl, sym, ap, ◌∙◌, subst, append-nil, arith}
 use Rattle.std.specs.Prelude.{remove, slice_get, slice_index}
 use Rattle.std.specs.BTreeMap.{BTreeMap, get}
 use Rattle.std.specs.List.{All, Contains}
+use Rattle.std.specs.List.Sorted.{IsPermutation}
+use Rattle.std.specs.Option.{option_map}
+use Rattle.std.proofs.lemmas.List.Sorted.{Contains-permutation}
+use Rattle.mcv_gaps.proofs.Mapped.{from, mapped}
 use Rattle.std.specs.Ordering.{nat_cmp}
 use Rattle.std.proofs.lemmas.Bool.{cases_eq}
 use Rattle.std.proofs.lemmas.List.{get_or_default}
-use Rattle.std.proofs.lemmas.List.Elements.{All-append, All-contains, All-cons, All-head, All-nil, All-tail, Contains-append_cases, Contains-append_left, Contains-append_right, Contains-get_or}
-use Rattle.std.proofs.lemmas.Option.{slice_get-get_or, slice_get_within, get_or_from_slice_get}
+use Rattle.std.proofs.lemmas.List.Elements.{All-append, All-contains, All-cons, All-head, All-nil, All-tail, Contains-append_cases, Contains-append_left, Contains-append_right, Contains-get_or, Contains-push_cases}
+use Rattle.std.proofs.lemmas.Option.{slice_get-get_or, slice_get-map, slice_get_read, slice_get_within, get_or_from_slice_get}
 use Rattle.mcv_judge.specs.Reason.{LegValue}
 use Rattle.mcv_picks.specs.Reasons.{AreSized}
 use Rattle.mcv_gaps.specs.Gaps.{AreAllSizedBy, AreLeastFor, AreSizedBy, HasServerAt, HaveGap, IsAnsweredBy, WantedValue}
@@ -15,7 +19,7 @@ use Rattle.mcv_gaps.specs.Least.{AreEnough, AreKept, AreOwners, HasIt, HasTwin, 
 use Rattle.mcv_gaps.specs.declared.missing.Missing.{Missing}
 use Rattle.mcv_gaps.proofs.Answering.{twin_answers}
 use Rattle.mcv_gaps.proofs.GapsOfLists.{fewer_gap, fewer_miss}
-use Rattle.mcv_gaps.proofs.LeastLegs.{IsPartly, begun}
+use Rattle.mcv_gaps.proofs.LeastLegs.{IsPartly, begun, keeps, leaves_out}
 use Rattle.mcv_gaps.proofs.Sized.{leaf_sized, with_more}
 
 -- what holds of each member holds of all
@@ -126,3 +130,61 @@ beside_it ms kept n are d at = ⊎_elim
     (λ h. let b = are d h in (b.0, λ e. absurd (omega (arith, b.1, e)), b.2))
     (λ h. let b = behind leg_missing ms (n + 1) d h in (b.0, λ e. absurd (omega (arith, b.1, e)), b.2))
     (Contains-append_cases kept (legs_missing (drop (n + 1) ms)) d at)
+
+-- ---- one after another
+
+-- what is kept is some of the legs so far, and with those behind there is no gap, but without any one that is kept
+pub record IsSoFar (ws : List WantedValue) (ms : List Missing) (n : ℕ) (kept : List LegValue) : Type 0 where
+  pub kept_are : AreKept (legs_missing ms) n kept
+  pub partly : (sizes : List ℕ) → AreAllSizedBy sizes ws → AreEnough sizes ws (legs_missing ms) → IsPartly (HaveGap sizes ws) (fewer_gap sizes ws) kept (legs_missing (drop n ms))
+
+pub so_far_none : (ws : List WantedValue) (ms : List Missing) → All (IsMissingOf ws) ms → IsSoFar ws ms 0 []
+so_far_none ws ms all = record {
+  kept_are = λ d at. absurd (omega (arith, at.1));
+  partly = λ sizes sized enough. begun (HaveGap sizes ws) (fewer_gap sizes ws) (legs_missing ms) (enough_all sizes ws sized (legs_missing ms) (sized_missing sizes ws sized ms all) enough);
+}
+
+module _ (ws : List WantedValue) (ms : List Missing) (n : ℕ) (m : Missing) (kept : List LegValue) (lt : n < length ms) (is : m ≡ get_or ms n m) (far : IsSoFar ws ms n kept) where
+  front : drop n ms ≡ m ∷ drop (n + 1) ms
+  front = rw add-one (drop-cons ms n m lt ∙ ap (λ (x : Missing). x ∷ drop (suc n) ms) (sym is))
+
+  one_there : slice_get (legs_missing ms) n ≡ Some (leg_missing m)
+  one_there = slice_get-map leg_missing ms n ∙ ap (option_map leg_missing) (slice_get_read ms (length ms) n m refl lt is)
+
+  before : (sizes : List ℕ) → AreAllSizedBy sizes ws → AreEnough sizes ws (legs_missing ms) → IsPartly (HaveGap sizes ws) (fewer_gap sizes ws) kept (leg_missing m ∷ legs_missing (drop (n + 1) ms))
+  before sizes sized enough = subst (λ (xs : List Missing). IsPartly (HaveGap sizes ws) (fewer_gap sizes ws) kept (legs_missing xs)) front (far.partly sizes sized enough)
+
+  -- the leg is needed
+  pub so_far_kept : ((sizes : List ℕ) → AreAllSizedBy sizes ws → HaveGap sizes ws (kept ++ legs_missing (drop (n + 1) ms))) → IsSoFar ws ms (n + 1) (kept ++ leg_missing m ∷ [])
+  so_far_kept gap = record {
+    kept_are = λ d at. ⊎_elim
+        (λ h. let b = far.kept_are d h in (b.0, omega (arith, b.1), b.2))
+        (λ e. (n, omega arith, one_there ∙ ap Some e))
+        (Contains-push_cases kept (leg_missing m) d at);
+    partly = λ sizes sized enough. keeps (HaveGap sizes ws) (fewer_gap sizes ws) kept (leg_missing m) (legs_missing (drop (n + 1) ms)) (before sizes sized enough) (gap sizes sized);
+  }
+
+  -- it isn't
+  pub so_far_left : ((sizes : List ℕ) → AreAllSizedBy sizes ws → HaveGap sizes ws (kept ++ legs_missing (drop (n + 1) ms)) → ⊥) → IsSoFar ws ms (n + 1) kept
+  so_far_left none = record {
+    kept_are = λ d at. let b = far.kept_are d at in (b.0, omega (arith, b.1), b.2);
+    partly = λ sizes sized enough. leaves_out (HaveGap sizes ws) (fewer_gap sizes ws) kept (leg_missing m) (legs_missing (drop (n + 1) ms)) (before sizes sized enough) (none sizes sized);
+  }
+
+drop_none : {A : Type 0} (xs : List A) (n : ℕ) → length xs ≤ n → drop n xs ≡ []
+drop_none [] zero le = refl
+drop_none [] (suc n) le = refl
+drop_none (x ∷ xs) zero le = absurd (omega (arith, le))
+drop_none (x ∷ xs) (suc n) le = drop_none xs n (omega (arith, le))
+
+pub so_far_all : (ws : List WantedValue) (ms : List Missing) (n : ℕ) (kept : List LegValue) → length ms ≤ n → IsSoFar ws ms n kept → (sizes : List ℕ) → AreAllSizedBy sizes ws → AreEnough sizes ws (legs_missing ms) → AreLeastFor sizes ws kept
+so_far_all ws ms n kept past far sizes sized enough =
+    ended sizes ws kept (subst (λ (xs : List Missing). IsPartly (HaveGap sizes ws) (fewer_gap sizes ws) kept (legs_missing xs)) (drop_none ms n past) (far.partly sizes sized enough))
+
+-- in another order they are enough too
+pub enough_sorted : (sizes : List ℕ) (ws : List WantedValue) (xs ys : List Missing) → IsPermutation xs ys → AreEnough sizes ws (legs_missing xs) → AreEnough sizes ws (legs_missing ys)
+enough_sorted sizes ws xs ys moved enough w at leaf read missed =
+    let t = enough w at leaf read missed in
+    let m = from leg_missing xs t.twin t.listed in
+    let there = mapped leg_missing ys m.0 (Contains-permutation xs ys m.0 moved m.1) in
+    record { twin = leg_missing m.0; listed = there; symbol = ap (λ (d : LegValue). d.symbol) m.2 ∙ t.symbol; servers = ap (λ (d : LegValue). d.servers) m.2 ∙ t.servers }

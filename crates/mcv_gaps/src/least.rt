@@ -72,12 +72,23 @@ fn owners_of(alloc: Global, missing: &[Missing]) -> Result<BTreeMap<u32, Option<
     Ok(owners)
 }
 
+/// Whether it is this number that is kept.
+fn is_own(kept: Option<Option<usize>>, number: usize) -> bool
+    ensures { IsTrue result → kept ≡ Some (Some number) }
+{
+    match kept {
+        Some(Some(owner)) => owner == number,
+        _ => false,
+    }
+}
+
 /// Whether the leg of this number alone has one of its servers to which nothing else is sent.
 fn is_sole(owners: &BTreeMap<u32, Option<usize>>, number: usize, one: &Missing) -> bool
     ensures { IsTrue result → IsSole owners.now number one.now.unsent.items }
 {
     for server in &one.unsent {
-        if owners.get(server).copied() == Some(Some(number)) {
+        let id = *server;
+        if is_own(owners.get(&id).copied(), number) {
             return true;
         }
     }
@@ -118,7 +129,8 @@ fn is_needed<'s>(
     if is_sole(owners, number, &missing[number]) {
         return Ok(true);
     }
-    let others = others(alloc, kept, &missing[number + 1..])?;
+    let (_, rest) = missing.split_at(number + 1);
+    let others = others(alloc, kept, rest)?;
     have_gap(alloc, wanted, others.as_slice())
 }
 
@@ -135,7 +147,8 @@ fn needed_of<'s>(
     let owners = owners_of(alloc, missing)?;
     let mut kept = Vec::new(alloc);
     for (number, one) in missing.iter().enumerate() {
-        if is_needed(alloc, wanted, missing, &owners, kept.as_slice(), number)? {
+        let needed = is_needed(alloc, wanted, missing, &owners, kept.as_slice(), number)?;
+        if needed {
             kept.push(one.leg)?;
         }
     }

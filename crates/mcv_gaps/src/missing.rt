@@ -6,7 +6,7 @@ ghost use Rattle.std.specs.List.{Contains};
 ghost use Rattle.std.specs.Ordering.{nat_cmp};
 ghost use Rattle.mcv_judge.specs.PairsInMemory.{leg_of, legs_of};
 ghost use Rattle.mcv_judge.specs.Reason.{LegValue};
-ghost use Rattle.mcv_gaps.specs.Gaps.{AreAllSizedBy, AreSizedBy, WantedValue, wanted_of, wanteds_of};
+ghost use Rattle.mcv_gaps.specs.Gaps.{AreAllSizedBy, AreSizedBy, IsMissed, WantedValue, wanted_of, wanteds_of};
 ghost use Rattle.mcv_gaps.specs.Least.{AreEnough, AreEnoughFor, HasTwin, HaveServers, IsMissingOf, IsUnsent, TellsTwins, legs_missing};
 
 use crate::gaps::{Wanted, is_missed};
@@ -88,6 +88,24 @@ fn insert_missing<'s>(
     Ok(())
 }
 
+/// The leaves that are missed.
+fn missed_of<'s>(alloc: Global, wanted: &Wanted<'s>) -> Result<Vec<Leg<'s>>, AllocError>
+    ensures only { IfOk result (λ missed. (d : LegValue) → Contains (legs_of missed.items) d → Contains (wanted_of wanted.now).readable d) }
+    ensures all { IfOk result (λ missed. (sizes : List ℕ) → AreSizedBy sizes (wanted_of wanted.now)
+        → (d : LegValue) → Contains (wanted_of wanted.now).readable d → IsMissed sizes (wanted_of wanted.now).acknowledged d → Contains (legs_of missed.items) d) }
+{
+    let picks = Picks::new(alloc, wanted.acknowledged.as_slice())?;
+    let leaves = wanted.readable.as_slice();
+    let mut legs = Vec::new(alloc);
+    for index in 0..leaves.len() {
+        let missed = is_missed(alloc, &picks, &leaves[index])?;
+        if missed {
+            legs.push(leaves[index])?;
+        }
+    }
+    Ok(legs)
+}
+
 /// Puts in the leaves of these that are missed.
 fn insert_all<'s>(
     alloc: Global,
@@ -101,12 +119,9 @@ fn insert_all<'s>(
     ensures all { OnOk result ((sizes : List ℕ) → AreSizedBy sizes (wanted_of wanted.now) → AreEnoughFor sizes (wanted_of wanted.now) (legs_missing found.new.missing.items)) }
 {
     let sent = servers_of(alloc, wanted.acknowledged.as_slice())?;
-    let picks = Picks::new(alloc, wanted.acknowledged.as_slice())?;
-    for leaf in &wanted.readable {
-        let missed = is_missed(alloc, &picks, leaf)?;
-        if missed {
-            insert_missing(alloc, leaf, &sent, found)?;
-        }
+    let missed = missed_of(alloc, wanted)?;
+    for leaf in &missed {
+        insert_missing(alloc, leaf, &sent, found)?;
     }
     Ok(())
 }

@@ -7,5 +7,5 @@ use Rattle.mcv_gaps.proofs.gaps.is_one_missed.Given as goal
 
 -- none of the leaves so far is missed
 abbrev pub invariant-loop-leaf : goal.invariant-loop-leaf
-invariant-loop-leaf l = (sizes : List ℕ) → AreSizedBy sizes (record { readable = legs_of l.leaves; acknowledged = legs_of l.legs })
-    → (d : LegValue) → Contains (legs_of (take l.leaf-index l.leaves)) d → IsMissed sizes (legs_of l.legs) d → ⊥
+invariant-loop-leaf l = (sizes : List ℕ) → AreSizedBy sizes (record { readable = legs_of l.leaves; acknowledged = legs_of l.fn.legs })
+    → (d : LegValue) → Contains (legs_of (take l.leaf-index l.leaves)) d → IsMissed sizes (legs_of l.fn.legs) d → ⊥

@@ -1,4 +1,4 @@
-use Rattle.std.proofs.Common.{◌≡◌, ◌∙◌, length, subst, sym}
+use Rattle.std.proofs.Common.{subst, sym}
 use Rattle.mcv_judge.specs.PairsInMemory.{numbers}
 use Rattle.mcv_judge.proofs.Servers.{servers_counted}
 use Rattle.mcv_alike.specs.Numbers.{IsOver}
@@ -9,4 +9,4 @@ pub returns : goal.returns
 returns c = λ r n numbered is.
     let olds = c.args.olds.now in
     one_pool r n c.args.old c.args.new (numbers olds) (numbers c.args.news.now) (c.is_symbol.ensures r n numbered c.if-not-is_symbol.false)
-    (subst (IsOver r c.args.old) (c.len.ensures ∙ sym (servers_counted olds)) (c.is_over.ensures r n numbered c.if-not-is_over.false)) (c.are_servers.ensures r n numbered is)
+    (subst (IsOver r c.args.old) (sym (servers_counted olds)) (c.is_over.ensures r n numbered c.if-not-is_over.false)) (c.are_servers.ensures r n numbered is)
