@@ -95,12 +95,12 @@ fn missed_of<'s>(alloc: Global, wanted: &Wanted<'s>) -> Result<Vec<Leg<'s>>, All
         → (d : LegValue) → Contains (wanted_of wanted.now).readable d → IsMissed sizes (wanted_of wanted.now).acknowledged d → Contains (legs_of missed.items) d) }
 {
     let picks = Picks::new(alloc, wanted.acknowledged.as_slice())?;
-    let leaves = wanted.readable.as_slice();
     let mut legs = Vec::new(alloc);
-    for index in 0..leaves.len() {
-        let missed = is_missed(alloc, &picks, &leaves[index])?;
+    for index in 0..wanted.readable.len() {
+        let leaf = &wanted.readable[index];
+        let missed = is_missed(alloc, &picks, leaf)?;
         if missed {
-            legs.push(leaves[index])?;
+            legs.push(wanted.readable[index])?;
         }
     }
     Ok(legs)

@@ -6,3 +6,4 @@ pub mod WholeInput
 pub mod WantedBlocks
 pub mod ClassNeeds
 pub mod NeedMet
+pub mod EraSets

@@ -6,7 +6,8 @@ use Rattle.mcv_blocks.specs.Sets.{SetsValue}
 use Rattle.mcv_blocks.specs.declared.classes.RouteClass.{RouteClass}
 use Rattle.mcv_gaps.specs.Gaps.{WantedValue}
 use Rattle.mcv_judge.specs.Reason.{BlockValue, LegValue}
-use Rattle.mcv_route.specs.Eras.{HasEra, IsEraOf}
+use Rattle.mcv_route.specs.Eras.{AreNearEras, HasEra, IsEraOf}
+use Rattle.mcv_route.specs.declared.eras.NearEras.{NearEras}
 use Rattle.mcv_route.specs.Routes.{RoutesValue}
 use Rattle.mcv_route.specs.Tree.{Tree}
 use Rattle.mcv_symbolic.specs.JustifiedRoutes.{IsReadableAt}
@@ -68,3 +69,15 @@ pub record IsWantedIn (r : RoutesValue) (c : RouteClass) (era : ℕ) (w : Wanted
 pub record AreWantedOf (r : RoutesValue) (c : RouteClass) (ws : List WantedValue) : Type 0 where
   pub all : (b : BlockValue) → IsAcknowledgedBlock r c b → (w : WantedValue) × Contains ws w × IsWantedFor w b
   pub only : (w : WantedValue) → Contains ws w → (leaf : LegValue) → Contains w.readable leaf → IsLeafOf r c w leaf
+
+-- those of each era, from era 0 on
+abbrev pub AreWantedByEra : RoutesValue → RouteClass → List WantedValue → Type 0
+AreWantedByEra r c ws = (k : ℕ) (w : WantedValue) → slice_get ws k ≡ Some w → IsWantedIn r c k w
+
+-- of each era, from era 0 on, the eras that are near it
+abbrev pub AreNearsOf : RoutesValue → List NearEras → Type 0
+AreNearsOf r nears = (k : ℕ) (x : NearEras) → slice_get nears k ≡ Some x → AreNearEras r r.window k x.first x.end
+
+-- there are sets for all of them
+abbrev pub AreWithin : List SetsValue → List NearEras → Type 0
+AreWithin sets nears = (k : ℕ) (x : NearEras) → slice_get nears k ≡ Some x → (k < length sets) × (x.first ≤ x.end) × (x.end ≤ length sets)

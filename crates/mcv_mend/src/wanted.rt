@@ -1,15 +1,14 @@
 //! What the deletes of a class leave to be answered for, era by era.
 
-ghost use Rattle.std.specs.Prelude.{◌≤◌, ◌<◌, ◌↔◌, IfOk, length};
+ghost use Rattle.std.specs.Prelude.{◌≡◌, ◌≤◌, ◌<◌, ◌↔◌, IfOk, length};
 ghost use Rattle.std.specs.List.{Contains};
 ghost use Rattle.mcv_blocks.specs.Places.{IsRouteClass};
 ghost use Rattle.mcv_blocks.specs.SetsInEras.{AreSetsFrom};
-ghost use Rattle.mcv_blocks.specs.Spots.{AreNears};
 ghost use Rattle.mcv_blocks.specs.declared.classes.RouteClass.{RouteClass as ClassOfRoute};
 ghost use Rattle.mcv_gaps.specs.Gaps.{wanted_of, wanteds_of};
 ghost use Rattle.mcv_judge.specs.PairsInMemory.{legs_of};
 ghost use Rattle.mcv_judge.specs.Reason.{LegValue};
-ghost use Rattle.mcv_mend.specs.Wanted.{AreSetsByEra, AreWantedOf, HaveEachEra, IsReadNear, IsWantedIn};
+ghost use Rattle.mcv_mend.specs.Wanted.{AreNearsOf, AreSetsByEra, AreWantedByEra, AreWantedOf, AreWithin, HaveEachEra, IsReadNear, IsWantedIn};
 ghost use Rattle.mcv_route.specs.Eras.{AreNearEras};
 ghost use Rattle.mcv_route.specs.Routes.{RoutesValue};
 ghost use Rattle.mcv_route.specs.View.{view};
@@ -46,7 +45,8 @@ fn readable_near<'s>(
     sets: &'s [Sets<'s>],
     near: NearEras,
 ) -> Result<Vec<Leg<'s>>, AllocError>
-    requires { near.end ≤ length sets.now }
+    requires ordered { near.first ≤ near.end }
+    requires within { near.end ≤ length sets.now }
     ensures { IfOk result (λ legs. (leaf : LegValue) → Contains (legs_of legs.items) leaf ↔ IsReadNear sets.now near.first near.end leaf) }
 {
     let mut all = Vec::new(alloc);
@@ -65,7 +65,8 @@ fn wanted_in<'s>(
     near: NearEras,
 ) -> Result<Wanted<'s>, AllocError>
     requires own { era < length sets.now }
-    requires near { near.end ≤ length sets.now }
+    requires ordered { near.first ≤ near.end }
+    requires within { near.end ≤ length sets.now }
     ensures { IfOk result (λ wanted. (r : RoutesValue) (c : ClassOfRoute) → IsRouteClass r c → AreSetsFrom r c 0 sets.now → AreNearEras r r.window era near.first near.end
         → IsWantedIn r c era (wanted_of wanted)) }
 {
@@ -84,6 +85,24 @@ fn wanted_in<'s>(
     })
 }
 
+/// What the deletes of each era leave to be answered for in these, the first of which is era 0.
+fn wanted_in_each<'s>(
+    alloc: Global,
+    sets: &'s [Sets<'s>],
+    nears: &[NearEras],
+) -> Result<Vec<Wanted<'s>>, AllocError>
+    requires { AreWithin sets.now nears.now }
+    ensures many { IfOk result (λ all. length all.items ≡ length nears.now) }
+    ensures each { IfOk result (λ all. (r : RoutesValue) (c : ClassOfRoute) → IsRouteClass r c → AreSetsFrom r c 0 sets.now → AreNearsOf r nears.now → AreWantedByEra r c (wanteds_of all.items)) }
+{
+    let mut all = Vec::with_capacity(alloc, nears.len())?;
+    for era in 0..nears.len() {
+        let wanted = wanted_in(alloc, sets, era, nears[era])?;
+        all.push(wanted)?;
+    }
+    Ok(all)
+}
+
 /// What the deletes of all eras leave to be answered for.
 pub fn wanted_by_era<'s>(
     alloc: Global,
@@ -94,10 +113,6 @@ pub fn wanted_by_era<'s>(
     ensures { IfOk result (λ all. (c : ClassOfRoute) → IsRouteClass routes.now c → AreSetsFrom routes.now c 0 sets.now → AreWantedOf routes.now c (wanteds_of all.items)) }
 {
     let nears = nears_of(alloc, routes)?;
-    let mut all = Vec::with_capacity(alloc, nears.len())?;
-    for (era, near) in nears.iter().enumerate() {
-        let wanted = wanted_in(alloc, sets, era, *near)?;
-        all.push(wanted)?;
-    }
+    let all = wanted_in_each(alloc, sets, nears.as_slice())?;
     Ok(all)
 }
