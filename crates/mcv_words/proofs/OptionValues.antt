@@ -539,7 +539,8 @@ at_check : (stop : Option (Text × List Text)) (rows : List Row) → StopsAtComm
     → entered_fault (built mcv_app) stop ≡ [] → HasWindow rows
 at_check None rows stops at none = absurd (cc)
 at_check (Some p) rows (inr (inl other)) at none = absurd (name_apart (codes "legs") (codes "check") _ rows refl refl (at_name (codes "check") (codes "legs") p rows other at))
-at_check (Some p) rows (inr (inr other)) at none = absurd (name_apart (codes "run") (codes "check") _ rows refl refl (at_name (codes "check") (codes "run") p rows other at))
+at_check (Some p) rows (inr (inr (inl other))) at none = absurd (name_apart (codes "mend") (codes "check") _ rows refl refl (at_name (codes "check") (codes "mend") p rows other at))
+at_check (Some p) rows (inr (inr (inr other))) at none = absurd (name_apart (codes "run") (codes "check") _ rows refl refl (at_name (codes "check") (codes "run") p rows other at))
 at_check (Some p) rows (inl is) at none =
     let same : rows_after check.rules [] p.1 ≡ rows = rows_there (codes "check") (rows_after check.rules [] p.1) rows (at_name (codes "check") (codes "check") p rows is at) in
     subst HasWindow same (check_given p.1 (no_fault_at (codes "check") p is none))
