@@ -1,6 +1,6 @@
 //! Routes beside those that they were mended from.
 
-ghost use Rattle.std.specs.Prelude.{◌≡◌, ◌↔◌, ℕ, IfOk, IsTrue, Option, map, option_map};
+ghost use Rattle.std.specs.Prelude.{◌≡◌, ◌↔◌, ℕ, All, IfOk, IsTrue, Option, map, option_map};
 ghost use Rattle.mcv_base.specs.declared.operation.Op.{Op as Operation};
 ghost use Rattle.mcv_blocks.specs.Places.{AreRouteClasses, IsRouteClass};
 ghost use Rattle.mcv_route.specs.Eras.{IsEra};
@@ -167,7 +167,23 @@ fn is_era_mended(
     ensures { IfOk result (λ fine. (r n : RoutesValue) → IsNumbering r n sides.now.numbering.now → IsTrue fine
         → (op : Operation) → IsAskedWell r n (view sides.now.before.now) (view sides.now.after.now) rest.now (option_map (λ m. m.0) since) (legs_value legs.now) op) }
 {
-    for op in &OPERATIONS {
+    let fine = are_asked_well(alloc, sides, &OPERATIONS, rest, since, legs)?;
+    Ok(fine)
+}
+
+/// The same when it is asked for one of these operations.
+fn are_asked_well(
+    alloc: Global,
+    sides: &Sides,
+    operations: &[Op],
+    rest: &Rest,
+    since: Option<Moment>,
+    legs: &[NeededLeg],
+) -> Result<bool, AllocError>
+    ensures { IfOk result (λ fine. (r n : RoutesValue) → IsNumbering r n sides.now.numbering.now → IsTrue fine
+        → All (IsAskedWell r n (view sides.now.before.now) (view sides.now.after.now) rest.now (option_map (λ m. m.0) since) (legs_value legs.now)) operations.now) }
+{
+    for op in operations {
         let fine = is_asked_well(alloc, sides, *op, rest, since, legs)?;
         if !fine {
             return Ok(false);
@@ -197,9 +213,8 @@ fn is_asked_well(
     let root = Position::root(alloc);
     let old = laid_out(alloc, sides.before, &asked, &root)?;
     let new = laid_out(alloc, sides.after, &asked, &root)?;
-    if op == Op::Delete {
-        Ok(is_widened(sides.numbering, &old, &new, legs))
-    } else {
-        Ok(is_same_plan(sides.numbering, &old, &new))
+    match op {
+        Op::Delete => Ok(is_widened(sides.numbering, &old, &new, legs)),
+        _ => Ok(is_same_plan(sides.numbering, &old, &new)),
     }
 }

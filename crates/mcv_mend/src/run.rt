@@ -100,12 +100,14 @@ fn accepted(alloc: Global, routes: Routes) -> Result<Option<Accepted>, RunFault>
         Err(MakeFault::Lost(_)) => return Ok(None),
         Err(MakeFault::Memory) => return Err(RunFault::Memory),
     };
-    match check(alloc, routes, &certificate) {
-        Ok(accepted) => Ok(Some(accepted)),
-        Err(CheckFault::Pair(_)) => Ok(None),
-        Err(CheckFault::Window) => Ok(None),
-        Err(CheckFault::Memory) => Err(RunFault::Memory),
-    }
+    let accepted = match check(alloc, routes, &certificate) {
+        Ok(accepted) => accepted,
+        Err(CheckFault::Memory) => return Err(RunFault::Memory),
+        Err(_) => return Ok(None),
+    };
+    // They are covered.
+    let _ = accepted.routes();
+    Ok(Some(accepted))
 }
 
 /// The text of a configuration that isn't covered, mended.

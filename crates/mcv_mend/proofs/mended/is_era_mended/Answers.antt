@@ -1,8 +1,6 @@
 use Rattle.std.proofs.Common.{refl}
+use Rattle.mcv_mend.proofs.EachOperation.{each_operation}
 use Rattle.mcv_mend.proofs.mended.is_era_mended.Goals as goal
 
-pub loop-op-preserved : goal.loop-op-preserved
-loop-op-preserved c = ?
-
 pub returns : goal.returns
-returns c = ?
+returns c = λ r n numbered is op. each_operation _ (c.in_ok-fine.ensures r n numbered is) op
