@@ -1,8 +1,8 @@
 -- The leaves that are missed, gathered one after another.
-use Rattle.std.proofs.Common.{◌≡◌, ◌<◌, ◌≤◌, ◌+◌, ℕ, List, [], ◌∷◌, ◌++◌, ⊎_elim, get_or, length, map, take, sym, ap, ◌∙◌, subst}
+use Rattle.std.proofs.Common.{◌≡◌, ◌<◌, ◌≤◌, ◌+◌, ℕ, List, [], ◌∷◌, ◌++◌, ⊎_elim, get_or, length, map, take, true≢false, sym, ap, ◌∙◌, subst, arith}
 use Rattle.std.specs.List.{All, Contains}
 use Rattle.std.proofs.lemmas.List.{take_all}
-use Rattle.std.proofs.lemmas.List.Elements.{All-contains, Contains-append_left, Contains-push, Contains-push_cases}
+use Rattle.std.proofs.lemmas.List.Elements.{All-contains, All-nil, Contains-append_left, Contains-push, Contains-push_cases}
 use Rattle.mcv_judge.specs.declared.block.Leg.{Leg}
 use Rattle.mcv_judge.specs.PairsInMemory.{leg_of, legs_of}
 use Rattle.mcv_judge.specs.Reason.{LegValue}
@@ -12,12 +12,16 @@ use Rattle.mcv_gaps.specs.Gaps.{AreAllSizedBy, AreSizedBy, IsMissed, WantedValue
 use Rattle.mcv_gaps.specs.Least.{AreEnough, AreEnoughFor, HasTwin, IsMissingOf, TellsTwins, legs_missing}
 use Rattle.mcv_gaps.specs.declared.gaps.Wanted.{Wanted}
 use Rattle.mcv_gaps.specs.declared.missing.Found.{Found}
+use Rattle.mcv_gaps.specs.declared.missing.Missing.{Missing}
 use Rattle.mcv_gaps.proofs.Mapped.{item, one_further}
 
 -- the legs can be read, and have those leaves so far that are missed
 pub record AreMissedSoFar (w : WantedValue) (leaves : List Leg) (i : ℕ) (legs : List LegValue) : Type 0 where
   pub only : (d : LegValue) → Contains legs d → Contains w.readable d
   pub all : (sizes : List ℕ) → AreSizedBy sizes w → (d : LegValue) → Contains (legs_of (take i leaves)) d → IsMissed sizes w.acknowledged d → Contains legs d
+
+pub missed_none : (w : WantedValue) (leaves : List Leg) → AreMissedSoFar w leaves 0 []
+missed_none w leaves = record { only = λ d at. absurd (omega (arith, at.1)); all = λ sizes sized d at missed. absurd (omega (arith, at.1)) }
 
 module _ (w : WantedValue) (leaves : List Leg) (i : ℕ) (leaf : Leg) (lt : i < length leaves) (is : leaf ≡ get_or leaves i leaf) (legs : List LegValue) (far : AreMissedSoFar w leaves i legs) where
   split : (d : LegValue) (X : Type 0) → Contains (legs_of (take (i + 1) leaves)) d → (Contains (legs_of (take i leaves)) d → X) → (leg_of leaf ≡ d → X) → X
@@ -57,6 +61,14 @@ pub record IsFoundOf (ws : List WantedValue) (found : Found) (of : List WantedVa
   pub only : All (IsMissingOf ws) found.missing.items
   pub tells : TellsTwins found.seen (legs_missing found.missing.items)
   pub all : (sizes : List ℕ) → AreAllSizedBy sizes ws → AreEnough sizes of (legs_missing found.missing.items)
+
+-- of none
+pub found_none : (ws : List WantedValue) (found : Found) → found.missing.items ≡ [] → found.seen.keys ≡ [] → IsFoundOf ws found []
+found_none ws found none empty = record {
+  only = subst (λ (ms : List Missing). All (IsMissingOf ws) ms) (sym none) (All-nil (IsMissingOf ws));
+  tells = λ k h. let there = rw empty at h in absurd (true≢false (sym there));
+  all = λ sizes sized w at. absurd (omega (arith, at.1));
+}
 
 -- with those of one more
 pub found_more : (wanted : List Wanted) (i : ℕ) (x : Wanted) (old found : Found) → i < length wanted → x ≡ get_or wanted i x → IsFoundOf (wanteds_of wanted) old (wanteds_of (take i wanted))

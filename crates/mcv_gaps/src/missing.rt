@@ -97,10 +97,11 @@ fn missed_of<'s>(alloc: Global, wanted: &Wanted<'s>) -> Result<Vec<Leg<'s>>, All
     let picks = Picks::new(alloc, wanted.acknowledged.as_slice())?;
     let mut legs = Vec::new(alloc);
     for index in 0..wanted.readable.len() {
+        let own = wanted.readable[index];
         let leaf = &wanted.readable[index];
         let missed = is_missed(alloc, &picks, leaf)?;
         if missed {
-            legs.push(wanted.readable[index])?;
+            legs.push(own)?;
         }
     }
     Ok(legs)

@@ -9,7 +9,9 @@ use Rattle.mcv_blocks.specs.declared.classes.RouteClass.{RouteClass}
 use Rattle.mcv_blocks.proofs.OneListOfBlocks.{pool_of_leg}
 use Rattle.mcv_blocks.proofs.PoolSizes.{entry_sized}
 use Rattle.mcv_gaps.specs.Gaps.{AreAllSizedBy, AreLeastFor, AreSizedBy, HaveGap, IsMissed, WantedValue}
+use Rattle.mcv_gaps.proofs.Mapped.{from}
 use Rattle.mcv_gaps.proofs.Needed.{entry, of_each}
+use Rattle.mcv_pools.specs.Symbol.{SymbolValue}
 use Rattle.mcv_judge.specs.Reason.{BlockValue, LegValue}
 use Rattle.mcv_picks.specs.Reasons.{AreSized}
 use Rattle.mcv_route.specs.Routes.{IsSoundRoutes, RoutesValue}
@@ -18,6 +20,12 @@ use Rattle.mcv_symbolic.specs.CoveredRoutes.{sizes_of}
 use Rattle.mcv_symbolic.specs.JustifiedRoutes.{IsReadableAt}
 use Rattle.mcv_mend.specs.Needs.{AreLeast, HasGapWith}
 use Rattle.mcv_mend.specs.Wanted.{AreWantedOf, IsAcknowledgedBlock}
+
+-- each symbol has an index
+pub positive : (r : RoutesValue) → All (λ s. 0 < s.n) r.symbols → All (λ n. 0 < n) (sizes_of r)
+positive r some = of_each (λ n. 0 < n) (sizes_of r) (λ k at.
+    let m = from (λ (s : SymbolValue). s.n) r.symbols k at in
+    subst (λ n. 0 < n) m.2 (All-contains (λ (s : SymbolValue). 0 < s.n) r.symbols m.0 some m.1))
 
 module _ (r : RoutesValue) (sound : IsSoundRoutes r) where
   abbrev Sized : LegValue → Type 0

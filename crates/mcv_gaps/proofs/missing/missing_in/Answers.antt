@@ -1,9 +1,10 @@
-use Rattle.std.proofs.Common.{◌≡◌, ◌∙◌, List, subst, sym}
-use Rattle.mcv_gaps.proofs.MissedSoFar.{found_all, found_more}
+use Rattle.std.proofs.Common.{refl}
+use Rattle.mcv_gaps.specs.Gaps.{wanteds_of}
+use Rattle.mcv_gaps.proofs.MissedSoFar.{found_all, found_more, found_none}
 use Rattle.mcv_gaps.proofs.missing.missing_in.Goals as goal
 
 pub loop-one-init : goal.loop-one-init
-loop-one-init c = ?
+loop-one-init c = found_none (wanteds_of c.args.wanted.now) (record { missing = c.new.result; seen = c.new-2.result }) c.new.ensures.items c.new-2.ensures.empty
 
 pub loop-one-preserved : goal.loop-one-preserved
 loop-one-preserved c =
