@@ -2,7 +2,8 @@
 use Rattle.std.proofs.Common.{◌≡◌, ◌<◌, ◌+◌, ◌↔◌, ℕ, List, [], ◌∷◌, ◌++◌, Option, Some, None, get_or, length, map, take, refl, sym, ap, ap₂, ◌∙◌, subst}
 use Rattle.std.specs.Prelude.{All, slice_get}
 use Rattle.std.specs.List.{Contains}
-use Rattle.std.proofs.lemmas.List.{map-append}
+use Rattle.std.proofs.lemmas.List.{map-append, map_more}
+use Rattle.mcv_base.specs.declared.request.Moment.{Moment}
 use Rattle.std.proofs.lemmas.List.Elements.{All-contains}
 use Rattle.mcv_gaps.proofs.Mapped.{one_further}
 use Rattle.std.proofs.lemmas.Option.{same_Some}
@@ -51,6 +52,12 @@ places_more needs cs i x c lt is less at e h =
     ∙ map-append place_of (map class_of_need (take i needs)) (class_of_need x ∷ [])
     ∙ ap₂ (λ (ps : List (ℕ × List ℕ)) (p : ℕ × List ℕ). ps ++ p ∷ []) h e
     ∙ sym (one_further place_of cs i c less at)
+
+-- a moment more
+pub moments_more : (xs ys : List Moment) (i : ℕ) (d e : Moment) → i < length xs → i < length ys → map (λ (m : Moment). m.0) (take i xs) ≡ map (λ (m : Moment). m.0) (take i ys) → (get_or xs i d).0 ≡ (get_or ys i e).0
+    → map (λ (m : Moment). m.0) (take (i + 1) xs) ≡ map (λ (m : Moment). m.0) (take (i + 1) ys)
+moments_more xs ys i d e lt less same one =
+    map_more (λ (m : Moment). m.0) xs i d lt ∙ ap₂ (λ (bs : List ℕ) (b : ℕ). bs ++ b ∷ []) same one ∙ sym (map_more (λ (m : Moment). m.0) ys i e less)
 
 -- ---- eras
 

@@ -75,11 +75,26 @@ pub fn is_mended(
     Ok(true)
 }
 
+/// Whether both are the same moments, in the same order.
+fn are_same_moments(ones: &[Moment], others: &[Moment]) -> bool
+    ensures { IsTrue result → map (λ m. m.0) ones.now ≡ map (λ m. m.0) others.now }
+{
+    if ones.len() != others.len() {
+        return false;
+    }
+    for number in 0..ones.len() {
+        if ones[number].0 != others[number].0 {
+            return false;
+        }
+    }
+    true
+}
+
 /// Whether the routes have the same eras.
 fn have_same_eras(old: &Routes, new: &Routes) -> bool
     ensures { IsTrue result → (since : Option ℕ) → IsEra new.now since ↔ IsEra old.now since }
 {
-    old.breaks() == new.breaks()
+    are_same_moments(old.breaks(), new.breaks())
 }
 
 /// Whether the needs are those of these classes, in their order.
