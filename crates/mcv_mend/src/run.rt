@@ -119,17 +119,26 @@ fn mended_text(alloc: Global, input: &[u8], old: &Reading) -> Result<Vec<u8>, Me
 {
     let needs = class_needs(alloc, &old.routes)?;
     let text = drafted(alloc, input, needs.as_slice())?;
-    let Reading { routes, aliases } = read_again(alloc, text.as_slice())?;
-    if aliases != old.aliases {
+    let reading = read_again(alloc, text.as_slice())?;
+    if !are_same_aliases(&reading, old) {
         return Err(MendFault::GaveUp);
     }
-    let Some(accepted) = accepted(alloc, routes)? else {
+    let Reading { routes, aliases: _ } = reading;
+    let found = accepted(alloc, routes)?;
+    let Some(accepted) = found else {
         return Err(MendFault::GaveUp);
     };
     if !is_mended(alloc, &old.routes, accepted.routes(), needs.as_slice())? {
         return Err(MendFault::GaveUp);
     }
     Ok(text)
+}
+
+/// Whether the routes are selected by the same prefixes.
+fn are_same_aliases(one: &Reading, other: &Reading) -> bool
+    ensures { IsTrue result → aliases_value one.now.aliases.items ≡ aliases_value other.now.aliases.items }
+{
+    one.aliases == other.aliases
 }
 
 /// The text with what each class needs. Why there is none is either memory, or isn't known.

@@ -1,6 +1,6 @@
 use Rattle.std.proofs.Common.{subst}
 use Rattle.mcv_make.specs.FirstFinding.{IfLost}
-use Rattle.mcv_make.specs.declared.making.MakeFault.{MakeFault}
+use Rattle.mcv_make.specs.declared.fault.MakeFault.{MakeFault}
 use Rattle.mcv_symbolic.specs.CoveredRoutes.{AreCovered}
 use Rattle.mcv_mend.proofs.run.is_lost.Goals as goal
 
