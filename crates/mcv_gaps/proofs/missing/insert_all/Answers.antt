@@ -16,10 +16,11 @@ loop-leaf-init c = record { only = λ ws at all. all; tells = c.requires; kept =
 pub loop-leaf-preserved : goal.loop-leaf-preserved
 loop-leaf-preserved c =
     let v = wanted_of c.args.wanted.now in
-    let missed = c.in_ok-missed.missed.items in
+    let missed = c.deref-leaf-items.result.now in
     let i = c.loop-leaf.leaf-index in
     let leaf = c.leaf-item.result in
-    let read = c.in_ok-missed.ensures.only (leg_of leaf) (item leg_of missed i leaf c.loop-leaf-test.true c.leaf-item.is) in
+    let at = subst (λ (xs : List Leg). Contains (legs_of xs) (leg_of leaf)) c.deref-leaf-items.ensures.value (item leg_of missed i leaf c.loop-leaf-test.true c.leaf-item.is) in
+    let read = c.in_ok-missed.ensures.only (leg_of leaf) at in
     let have = subst (λ (xs : List Leg). HaveServers c.in_ok-sent.sent (legs_of xs)) c.as_slice.ensures.value c.in_ok-sent.ensures in
     let far = c.loop-leaf.invariant in
     let now = c.in_ok-insert_missing.ensures in
@@ -41,5 +42,5 @@ returns c =
       tells = far.tells;
       kept = far.kept;
       all = λ sizes sized leaf read gone. far.twins leaf
-          (subst (λ (xs : List Leg). Contains (legs_of xs) leaf) (sym (take_all c.loop-leaf.leaf-index c.in_ok-missed.missed.items c.loop-leaf-test.false)) (c.in_ok-missed.ensures.all sizes sized leaf read gone));
+          (subst (λ (xs : List Leg). Contains (legs_of xs) leaf) (sym (take_all c.loop-leaf.leaf-index c.deref-leaf-items.result.now c.loop-leaf-test.false ∙ c.deref-leaf-items.ensures.value)) (c.in_ok-missed.ensures.all sizes sized leaf read gone));
     }
