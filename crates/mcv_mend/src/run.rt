@@ -1,6 +1,6 @@
 //! The path from the bytes read to the bytes written.
 
-ghost use Rattle.std.specs.Prelude.{◌≡◌, ◌≢◌, ℕ, List, IfErr, IfOk, IfSome, IsTrue};
+ghost use Rattle.std.specs.Prelude.{◌≡◌, ◌≢◌, ℕ, List, IfErr, IfNone, IfOk, IfSome, IsTrue};
 ghost use Rattle.std.specs.Io.KnownBytes.{Appends};
 ghost use Rattle.mcv_input.specs.Fault.{AreNamedBy};
 ghost use Rattle.mcv_input.specs.declared.fault.RunFault.TheVariants.{Device};
@@ -93,6 +93,7 @@ fn is_lost(alloc: Global, routes: &Routes) -> Result<bool, RunFault>
 fn accepted(alloc: Global, routes: Routes) -> Result<Option<Accepted>, RunFault>
     ensures same { IfOk result (λ found. IfSome found (λ accepted. accepted ≡ routes)) }
     ensures covered { IfOk result (λ found. IfSome found (λ _. AreCovered routes)) }
+    ensures lost { IfOk result (λ found. IfNone found (AreCovered routes → ⊥)) }
     ensures fault { IfErr result (λ fault. fault ≡ RunFault.Memory) }
 {
     let certificate = match make(alloc, &routes) {
