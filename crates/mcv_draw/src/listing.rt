@@ -1,8 +1,8 @@
 //! The list of what is drawn of a route.
 
-ghost use Rattle.std.specs.Prelude.{◌≡◌, ◌<◌, ◌++◌, ◌∷◌, [], ℕ, List, suc, IfOk, OnOk, map};
+ghost use Rattle.std.specs.Prelude.{◌≡◌, ◌<◌, ◌≤◌, ◌++◌, ◌∷◌, [], ℕ, List, suc, IfOk, OnOk, map};
 ghost use Rattle.mcv_draw.specs.Drawn.{drawn, drawn_children, drawn_each, from_child, still_drawn, tree_count};
-ghost use Rattle.mcv_draw.specs.Handles.{handle_of, place_of};
+ghost use Rattle.mcv_draw.specs.Handles.{handle_of, last_count, place_of};
 ghost use Rattle.mcv_route.specs.View.{view};
 
 use crate::element::Element;
@@ -95,12 +95,23 @@ fn child_count(route: &Route) -> usize
         Route::WarmUp { .. } => 2,
         Route::Migrate { .. } => 2,
         Route::PrefixSelector { policies, wildcard } => {
-            policies.len() + usize::from(wildcard.is_some())
+            policies.len() + last_count(wildcard)
         }
         Route::OperationSelector {
             policies,
             default_policy,
-        } => policies.len() + usize::from(default_policy.is_some()),
+        } => policies.len() + last_count(default_policy),
+    }
+}
+
+/// How many routes there are after all policies: one, if any.
+fn last_count(last: &Option<Box<Route>>) -> usize
+    ensures value { result ≡ last_count last.now }
+    ensures small { result ≤ 1 }
+{
+    match last {
+        Some(_) => 1,
+        None => 0,
     }
 }
 

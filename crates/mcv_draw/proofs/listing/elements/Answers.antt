@@ -1,4 +1,4 @@
-use Rattle.std.proofs.Common.{◌≡◌, ◌∙◌, ◌∷◌, ◌++◌, [], List, ℕ, ap, arith, map}
+use Rattle.std.proofs.Common.{◌≡◌, ◌∙◌, ◌∷◌, ◌++◌, [], List, ℕ, ap, arith, map, vec_len}
 use Rattle.mcv_route.specs.View.{view}
 use Rattle.mcv_draw.specs.Drawn.{drawn_children, drawn_each, still_drawn}
 use Rattle.mcv_draw.specs.Handles.{handle_of, place_of}
@@ -35,4 +35,6 @@ loop-next-smaller c =
     fewer p (drawn_each p 0 (drawn_children tree)) rest (still_drawn (map handle_of c.draw_next.new.pending.items)) (still_drawn (map handle_of c.loop-next.pending.items)) c.in_ok-draw_next.ensures.pending whole
 
 pub returns : goal.returns
-returns c = all_drawn handle_of c.loop-next.pending.items c.args.drawing.now.number (map place_of c.loop-next.elements.items) _ (rw c.in_default.is at c.pop.ensures.cases).0 c.loop-next.invariant
+returns c =
+    let none_left : vec_len c.loop-next.pending ≡ 0 = (rw c.in_default.is at c.pop.ensures.cases).0 in
+    all_drawn handle_of c.loop-next.pending.items c.args.drawing.now.number (map place_of c.loop-next.elements.items) _ (omega (arith, none_left, c.loop-next.pending.ok)) c.loop-next.invariant
