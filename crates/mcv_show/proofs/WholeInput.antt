@@ -1,5 +1,5 @@
 -- What is said of the first bytes of an input is said of all of it.
-use Rattle.std.proofs.Common.{◌≡◌, ◌∙◌, ◌⊎◌, inl, inr, ◌+◌, ◌<◌, ◌≤◌, ℕ, List, Option, Some, None, ap, arith, length, take, subst, sym}
+use Rattle.std.proofs.Common.{◌≡◌, ◌∙◌, ◌⊎◌, inl, inr, ◌+◌, ◌<◌, ◌≤◌, ℕ, Bool, List, Option, Some, None, ap, arith, length, take, subst, sym}
 use Rattle.std.specs.Prelude.{count_by, ◌==◌}
 use Rattle.std.proofs.lemmas.List.{length-take, take-take}
 use Rattle.mcv_config.specs.Config.{Faulty, size_limit}
@@ -15,6 +15,7 @@ use Rattle.mcv_route.specs.Routes.{RoutesValue}
 use Rattle.mcv_verdict.specs.Fault.{IsRunFault}
 use Rattle.mcv_verdict.specs.declared.verdict.Verdict.{Verdict}
 use Rattle.mcv_words.specs.declared.words.CheckOptions.{CheckOptions}
+use Rattle.mcv_show.specs.Drawing.{IsDrawnOn}
 use Rattle.mcv_show.specs.Shown.{IsFaultText, IsPlaceOf, IsShownOn}
 
 -- what refuses a text is a fault of it
@@ -70,6 +71,10 @@ run_fault_whole first bytes window certificate (Certificate fault) is holds = (h
 run_fault_whole first bytes window certificate Window is holds = (holds.0, named_whole first bytes holds.0 is holds.1, holds.2)
 run_fault_whole first bytes window certificate Memory is holds = tt
 run_fault_whole first bytes window certificate Device is holds = tt
+
+-- what is drawn of what was read is drawn of the whole input
+pub drawn_whole : (dot : Bool) (first bytes text : List ℕ) → first ≡ take read_limit bytes → IsDrawnOn dot first text → IsDrawnOn dot bytes text
+drawn_whole dot first bytes text is on = (on.0, named_whole first bytes on.0 is on.1, on.2, on.3, on.4)
 
 -- the fault of a run, or what came in reporting it
 pub reported_fault : (input : List ℕ) (window : ℕ) (certificate : Option (List ℕ)) (fault found : RunFault) → (found ≡ fault) ⊎ IsOutside found → IsRunFault input window certificate fault
