@@ -1,5 +1,5 @@
 -- What a method and a target ask for (own).
-use Rattle.std.specs.Prelude.{◌≡◌, ℕ, ◌+◌, ◌==◌, ◌&&◌, Bool, nat_lt, List, [], ◌∷◌, length, take, drop, position, Option, Some, None, Result, Ok, Err, codes, if◌then◌else◌}
+use Rattle.std.specs.Prelude.{ℕ, ◌+◌, ◌==◌, ◌&&◌, Bool, nat_lt, List, [], length, take, drop, position, Option, Some, None, Result, Ok, Err, codes, if◌then◌else◌}
 use Rattle.std.specs.List.{list_all}
 use Rattle.std.specs.Char.{is_ascii_digit}
 use Rattle.std.specs.Str.{bytes_eq}
@@ -30,12 +30,15 @@ method_of Metrics = Get
 method_of Health = Get
 method_of Drain = Post
 
--- `seconds=` and one to five digits; 30 where there is no query
+-- one to five digits
+abbrev pub short_number : List ℕ → Option ℕ
+short_number digits = if nat_lt 0 (length digits) && (nat_lt (length digits) 6 && list_all is_ascii_digit digits) then Some (number digits) else None
+
+-- `seconds=` and such a number; 30 where the query is empty
 abbrev pub seconds_of : List ℕ → Option ℕ
-seconds_of [] = Some 30
-seconds_of (b ∷ bytes) =
-    let digits = drop 8 (b ∷ bytes) in
-    if begins_with (b ∷ bytes) (codes "seconds=") && (nat_lt 0 (length digits) && (nat_lt (length digits) 6 && list_all is_ascii_digit digits)) then Some (number digits) else None
+seconds_of query =
+    if nat_lt 0 (length query) then (if begins_with query (codes "seconds=") then short_number (drop 8 query) else None)
+    else Some 30
 
 abbrev pub drain_of : Option ℕ → Result Request Refusal
 drain_of None = Err BadRequest
@@ -54,10 +57,13 @@ answer_for (Some r) method query = if bytes_eq method (method_word (method_of r)
 abbrev pub answer_at : List ℕ → List ℕ → List ℕ → Result Request Refusal
 answer_at method path query = answer_for (resource_at path) method query
 
+abbrev pub is_question_mark : ℕ → Bool
+is_question_mark b = b == 63
+
 -- the path is what comes before the first question mark, the query what comes behind it (RFC 9112, 3.2.1)
 abbrev pub answer_cut : List ℕ → List ℕ → Option ℕ → Result Request Refusal
 answer_cut method target None = answer_at method target []
 answer_cut method target (Some place) = answer_at method (take place target) (drop (place + 1) target)
 
 abbrev pub answer : List ℕ → List ℕ → Result Request Refusal
-answer method target = answer_cut method target (position (λ b. b == 63) target)
+answer method target = answer_cut method target (position is_question_mark target)

@@ -1,10 +1,10 @@
 //! What a method and a target ask for.
 
-ghost use Rattle.std.specs.Prelude.{◌≡◌, ◌<◌, length};
+ghost use Rattle.std.specs.Prelude.{◌≡◌, ◌<◌, IfSome, length, position};
 ghost use Rattle.std.specs.List.{list_all};
 ghost use Rattle.std.specs.Char.{is_ascii_digit};
 ghost use Rattle.mcv_base.specs.Server.{number};
-ghost use Rattle.mcv_http.specs.Request.{answer, answer_at, drain_of, method_of, method_word, request_for, resource_at, seconds_of};
+ghost use Rattle.mcv_http.specs.Request.{answer, answer_at, is_question_mark, method_of, method_word, request_for, resource_at, seconds_of, short_number};
 
 use mcv_base::begins_with;
 
@@ -116,6 +116,16 @@ fn all_digits(bytes: &[u8]) -> bool
     bytes.iter().all(|b| b.is_ascii_digit())
 }
 
+/// The number of one to five digits.
+fn short_number(digits: &[u8]) -> Option<u64>
+    ensures { result ≡ short_number digits.now }
+{
+    if digits.is_empty() || digits.len() > 5 || !all_digits(digits) {
+        return None;
+    }
+    Some(number(digits))
+}
+
 /// The seconds that the query of a drain says, if it says any in the right way.
 fn seconds(query: &[u8]) -> Option<u64>
     ensures { result ≡ seconds_of query.now }
@@ -123,15 +133,18 @@ fn seconds(query: &[u8]) -> Option<u64>
     if query.is_empty() {
         return Some(DRAIN_SECONDS);
     }
-    if !begins_with(query, b"seconds=") || query.len() < 9 || query.len() > 13 {
+    if query.len() < 9 || !begins_with(query, b"seconds=") {
         return None;
     }
-    let digits = &query[8..];
-    if all_digits(digits) {
-        Some(number(digits))
-    } else {
-        None
-    }
+    short_number(&query[8..])
+}
+
+/// The place of the first question mark.
+fn question_mark(target: &[u8]) -> Option<usize>
+    ensures place { result ≡ position is_question_mark target.now }
+    ensures within { IfSome result (λ place. place < length target.now) }
+{
+    target.iter().position(|b| *b == b'?')
 }
 
 fn answer_at(method: &[u8], path: &[u8], query: &[u8]) -> Result<Request, Refusal>
@@ -152,7 +165,7 @@ fn answer_at(method: &[u8], path: &[u8], query: &[u8]) -> Result<Request, Refusa
 pub fn answer(method: &[u8], target: &[u8]) -> Result<Request, Refusal>
     ensures { result ≡ answer method.now target.now }
 {
-    match target.iter().position(|b| *b == b'?') {
+    match question_mark(target) {
         None => answer_at(method, target, b""),
         Some(place) => answer_at(method, &target[..place], &target[place + 1..]),
     }

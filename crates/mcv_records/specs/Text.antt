@@ -3,8 +3,6 @@ use Rattle.std.specs.Prelude.{◌≡◌, ℕ, ◌+◌, Bool, true, false, not, �
 use Rattle.mcv_cert.specs.Escape.{escaped}
 use Rattle.mcv_spool.specs.File.{is_done, read_record, slots}
 use Rattle.mcv_spool.specs.declared.record.SpoolRecord.{SpoolRecord}
-
--- whether records that are done are shown too
 use Rattle.mcv_records.specs.declared.list.Shown.{Shown}
 use Rattle.mcv_records.specs.declared.list.Shown.TheVariants.{Pending, All}
 
@@ -28,6 +26,7 @@ abbrev pub line_of : ℕ → Bool → Option SpoolRecord → List ℕ
 line_of k pending None = []
 line_of k pending (Some r) = record_line k pending r.server r.rest
 
+-- those that are pending, or all
 abbrev pub is_shown : Shown → List ℕ → Bool
 is_shown Pending slot = is_pending slot
 is_shown All slot = true

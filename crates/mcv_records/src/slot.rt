@@ -69,17 +69,17 @@ pub(crate) fn push_record(
     text: &mut Vec<u8>,
     number: usize,
     is_pending: bool,
-    record: Record<'_>,
+    delete: Record<'_>,
 ) -> Result<(), AllocError>
-    ensures { OnOk result (text.new.items ≡ text.old.items ++ record_line number is_pending record.entry.server.now record.entry.rest.now) }
+    ensures { OnOk result (text.new.items ≡ text.old.items ++ record_line number is_pending delete.entry.server.now delete.entry.rest.now) }
 {
     push_number(text, number)?;
     text.extend_from_slice(b" ")?;
     text.extend_from_slice(state_word(is_pending).as_bytes())?;
     text.extend_from_slice(b" ")?;
-    text.extend_from_slice(record.server)?;
+    text.extend_from_slice(delete.server)?;
     text.extend_from_slice(b" ")?;
-    push_escaped(text, record.rest)?;
+    push_escaped(text, delete.rest)?;
     text.extend_from_slice(b"\n")?;
     Ok(())
 }
