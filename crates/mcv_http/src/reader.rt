@@ -81,6 +81,3 @@ impl RequestReader {
 pub fn pieces_are_one_text()
     ensures { (before piece more : List ℕ) → take byte_limit (take byte_limit (before ++ piece) ++ more) ≡ take byte_limit (before ++ (piece ++ more)) }
 {}
-
-#[cfg(test)]
-mod tests;

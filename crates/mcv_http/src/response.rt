@@ -60,6 +60,3 @@ pub fn response_bytes(alloc: Global, response: Response<'_>) -> Result<Vec<u8>, 
     bytes.extend_from_slice(response.body)?;
     Ok(bytes)
 }
-
-#[cfg(test)]
-mod tests;

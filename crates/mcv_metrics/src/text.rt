@@ -197,6 +197,3 @@ pub fn metrics_text(alloc: Global, snapshot: &Snapshot) -> Result<Vec<u8>, Alloc
     push_families(&mut text, snapshot, &METRICS)?;
     Ok(text)
 }
-
-#[cfg(test)]
-mod tests;

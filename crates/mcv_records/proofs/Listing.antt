@@ -1,12 +1,16 @@
 -- The lines of the first slots of a file, one slot at a time.
-use Rattle.std.proofs.Common.{◌≡◌, ◌≢◌, ◌∙◌, ◌⊎◌, inl, inr, ℕ, ◌+◌, ◌*◌, ◌≤◌, ◌<◌, Bool, true, false, not, cond, ◌==◌, ◌||◌, List, [], ◌∷◌, ◌++◌, length, get_or, take, drop, Option, Some, None, is_none, refl, sym, ap, subst, arith, append_assoc, append-nil, length-append, length-take-le, length-drop, take-append-drop, take_at}
+use Rattle.std.proofs.Common.{◌≡◌, ◌∙◌, ℕ, ◌+◌, ◌*◌, ◌≤◌, true, false, cond, List, [], ◌∷◌, ◌++◌, length, take, drop, Option, Some, None, Result, Err, refl, sym, ap, subst, arith, append_assoc, append-nil, length-append, length-take-le, length-drop, take-append-drop, take_at}
 use Rattle.std.specs.Io.KnownBytes.{Appends}
-use Rattle.std.proofs.lemmas.List.{sum_by-append}
+use Rattle.std.proofs.lemmas.List.Sums.{sum_by-append}
 use Rattle.mcv_spool.specs.File.{damage, is_open, read_record, slots}
 use Rattle.mcv_spool.proofs.Pieces.{damage-append, damage-first, slots-behind}
 use Rattle.mcv_spool.proofs.Slots.{slots-open, slots-shut}
 use Rattle.mcv_records.specs.Text.{is_pending, pending_count, slot_line, slot_lines}
+use Rattle.mcv_records.specs.declared.fault.RecordsFault.{RecordsFault}
 use Rattle.mcv_records.specs.declared.list.Shown.{Shown}
+
+pub same_fault : {T : Type 0} (r : Result T RecordsFault) (x y : RecordsFault) → r ≡ Err x → r ≡ Err y → x ≡ y
+same_fault r x y a b = cc
 
 pub slot_lines-append : (shown : Shown) (k : ℕ) (xs ys : List (List ℕ)) → slot_lines shown k (xs ++ ys) ≡ slot_lines shown k xs ++ slot_lines shown (k + length xs) ys
 slot_lines-append shown k [] ys = ap (λ n. slot_lines shown n ys) (omega arith)
@@ -40,8 +44,9 @@ none_listed shown file old = record { within = omega arith; lines = appends_none
 
 module _ (shown : Shown) (file : List ℕ) (k pending : ℕ) (old new : Option (List ℕ)) (so_far : Listed shown file k pending old new) where
   abbrev all : List (List ℕ)
-  abbrev rest : List ℕ
   all = slots file
+
+  abbrev rest : List ℕ
   rest = drop (640 * k) file
 
   behind : slots rest ≡ drop k all

@@ -153,6 +153,3 @@ pub fn write_records<D: Disk, W: Write>(
         Err(_) => Err(RecordsFault::Device),
     }
 }
-
-#[cfg(test)]
-mod tests;

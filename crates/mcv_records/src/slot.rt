@@ -94,8 +94,8 @@ pub(crate) fn read_slot<D: Disk>(
     requires size { length slot.old ≡ 640 }
     requires few { number ≤ 1000000 }
     requires len { D.keeps_model → len ≡ length (D.seen disk.old) }
-    ensures open { D.keeps_model → IfOk result (λ open. open ≡ is_open (drop (640 * number) (D.seen disk.old))) }
-    ensures slot { D.keeps_model → IfOk result (λ open. open ≡ true → slot.new ≡ take 640 (drop (640 * number) (D.seen disk.old))) }
+    ensures counts { D.keeps_model → IfOk result (λ counts. counts ≡ is_open (drop (640 * number) (D.seen disk.old))) }
+    ensures slot { D.keeps_model → IfOk result (λ counts. counts ≡ true → slot.new ≡ take 640 (drop (640 * number) (D.seen disk.old))) }
     ensures quiet { D.keeps_model → IsQuiet D.seen D.may_leave D.moment D.left_since disk.old disk.new }
 {
     let at = SLOT_SIZE * number;

@@ -1,5 +1,10 @@
-use super::*;
-use mcv_spool::DiskFailed;
+//! The records of small files, written by hand as docs/SPOOL.md has them.
+
+ghost use Rattle.std.specs.Prelude.{[]};
+
+use mcv_records::{RecordsFault, Shown, write_records};
+use mcv_spool::{Disk, DiskFailed};
+use std::alloc::Global;
 use std::test::Fail;
 
 /// A file in memory, of which a read may fail.

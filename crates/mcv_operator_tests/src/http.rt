@@ -1,5 +1,8 @@
-use super::*;
-use crate::request::Method;
+//! Requests and responses, as RFC 9112 has them.
+
+use mcv_http::{
+    Method, Refusal, Request, RequestReader, Response, Status, read_request, response_bytes,
+};
 use std::process::Abort;
 use std::test::Fail;
 
@@ -53,5 +56,18 @@ fn a_long_head_is_refused(rt: HostRuntime) -> Result<(), Fail> {
         last = reader.feed(&[b'x'; 1000])?;
     }
     assert_eq!(rt; last, Some(Err(Refusal::TooLong)));
+    Ok(())
+}
+
+#[test]
+fn bytes_are_as_the_standard_has_them(rt: HostRuntime) -> Result<(), Fail> {
+    let refused = Response {
+        status: Status::Refused(Refusal::MethodNotAllowed(Method::Get)),
+        content_type: "text/plain",
+        body: b"no\n",
+    };
+    let bytes = response_bytes(rt.alloc(), refused)?;
+    let wanted = b"HTTP/1.1 405 Method Not Allowed\r\nAllow: GET\r\nContent-Type: text/plain\r\nContent-Length: 3\r\nConnection: close\r\n\r\nno\n";
+    assert_eq!(rt; bytes.as_slice(), wanted.as_slice());
     Ok(())
 }

@@ -1,6 +1,11 @@
-use super::*;
-use crate::snapshot::{ClientCounts, SpoolCounts};
+//! The text of what is counted, line by line.
+
+use mcv_metrics::{
+    ClientCounts, HubCounts, OperationCounts, OutcomeCounts, RefusalCounts, ServerCounts, Snapshot,
+    SpoolCounts, metrics_text,
+};
 use mcv_base::ServerText;
+use std::alloc::Global;
 use std::test::Fail;
 
 fn counts(alloc: Global) -> Result<Snapshot, Fail> {
