@@ -1,16 +1,35 @@
 -- The lines of the first slots of a file, one slot at a time.
-use Rattle.std.proofs.Common.{◌≡◌, ◌∙◌, ℕ, ◌+◌, ◌*◌, ◌≤◌, true, false, cond, List, [], ◌∷◌, ◌++◌, length, take, drop, Option, Some, None, Result, Err, refl, sym, ap, subst, arith, append_assoc, append-nil, length-append, length-take-le, length-drop, take-append-drop, take_at}
+use Rattle.std.proofs.Common.{◌≡◌, ◌∙◌, inl, inr, ℕ, ◌+◌, ◌*◌, ◌≤◌, Bool, true, false, cond, ◌==◌, ◌||◌, List, [], ◌∷◌, ◌++◌, length, take, drop, Option, Some, None, is_none, Result, Err, refl, sym, ap, subst, arith, append_assoc, append-nil, length-append, length-take-le, length-drop, take-append-drop, take_at}
 use Rattle.std.specs.Io.KnownBytes.{Appends}
+use Rattle.std.proofs.lemmas.Bool.Decides.{nat_tests}
 use Rattle.std.proofs.lemmas.List.Sums.{sum_by-append}
+use Rattle.mcv_spool.specs.Disk.{IsQuiet}
 use Rattle.mcv_spool.specs.File.{damage, is_open, read_record, slots}
 use Rattle.mcv_spool.proofs.Pieces.{damage-append, damage-first, slots-behind}
-use Rattle.mcv_spool.proofs.Slots.{slots-open, slots-shut}
+use Rattle.mcv_spool.proofs.Slots.{slots-open, slots-shut, truth}
 use Rattle.mcv_records.specs.Text.{is_pending, pending_count, slot_line, slot_lines}
 use Rattle.mcv_records.specs.declared.fault.RecordsFault.{RecordsFault}
 use Rattle.mcv_records.specs.declared.list.Shown.{Shown}
 
 pub same_fault : {T : Type 0} (r : Result T RecordsFault) (x y : RecordsFault) → r ≡ Err x → r ≡ Err y → x ≡ y
 same_fault r x y a b = cc
+
+pub quiet_here : {D : Type 0} (seen : D → List ℕ) (may_leave : D → List ℕ → Type 0) (moment : D → ℕ) (left_since : D → ℕ → List ℕ → Type 0) (disk : D) → IsQuiet seen may_leave moment left_since disk disk
+quiet_here seen may_leave moment left_since disk = record { same = refl; crash = λ c left. left; later = omega arith; since = λ t c le left. left; forgets_nothing = λ t c le left. left }
+
+some_none : (k : ℕ) → Some k ≡ None → ⊥
+some_none k e = cc
+
+-- a slot that isn't damaged is below the limit
+pub below_limit : (k : ℕ) (slot : List ℕ) → k ≤ 1000000 → damage k (slot ∷ []) ≡ None → k + 1 ≤ 1000000
+below_limit k slot le good = elim (truth (k == 1000000)) [
+  | inl at ↦ absurd (some_none k (sym (ap (λ b. cond (b || is_none (read_record slot)) (Some k) None) at) ∙ good))
+  | inr other ↦ grind (arith, nat_tests)
+]
+
+pub at_most_one : (b : Bool) → cond b 1 0 ≤ 1
+at_most_one true = omega arith
+at_most_one false = omega arith
 
 pub slot_lines-append : (shown : Shown) (k : ℕ) (xs ys : List (List ℕ)) → slot_lines shown k (xs ++ ys) ≡ slot_lines shown k xs ++ slot_lines shown (k + length xs) ys
 slot_lines-append shown k [] ys = ap (λ n. slot_lines shown n ys) (omega arith)

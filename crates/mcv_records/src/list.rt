@@ -1,6 +1,6 @@
 //! The text of a file's records.
 
-ghost use Rattle.std.specs.Prelude.{◌≡◌, ◌++◌, ◌+◌, ◌≤◌, ℕ, None, Some, Err, [], ◌∷◌, IfOk, IfErr, OnOk, length, take};
+ghost use Rattle.std.specs.Prelude.{◌≡◌, ◌++◌, ◌+◌, ◌≤◌, ℕ, None, Some, Err, [], ◌∷◌, IfOk, IfErr, OnOk, cond, length, take};
 ghost use Rattle.std.specs.Io.KnownBytes.{Appends};
 ghost use Rattle.mcv_spool.specs.Disk.{IsQuiet};
 ghost use Rattle.mcv_spool.specs.File.{damage, slots};
@@ -86,6 +86,13 @@ fn write_slot<W: Write>(
     }
 }
 
+/// 1 for a record that is pending.
+fn count(is_pending: bool) -> usize
+    ensures { result ≡ cond is_pending 1 0 }
+{
+    usize::from(is_pending)
+}
+
 /// Writes the lines of all slots, up to the first that is damaged.
 fn write_slots<D: Disk, W: Write>(
     alloc: Global,
@@ -105,15 +112,16 @@ fn write_slots<D: Disk, W: Write>(
     let mut slot = [0; SLOT_SIZE];
     let mut pending = 0;
     for number in 0..SLOT_LIMIT + 1 {
-        if !read_slot(disk, len, number, &mut slot)? {
+        let is_there = read_slot(disk, len, number, &mut slot)?;
+        if !is_there {
             return Ok(Counts {
                 records: number,
                 pending,
             });
         }
-        if write_slot(alloc, writer, shown, number, &slot)? {
-            pending += 1;
-        }
+        let is_pending = write_slot(alloc, writer, shown, number, &slot)?;
+        let more = count(is_pending);
+        pending += more;
     }
     unreachable!()
 }
