@@ -12,7 +12,7 @@ take-behind n [] ys short = ap (λ k. take k ys) (omega arith)
 take-behind zero (x ∷ xs) ys short = absurd (omega arith)
 take-behind (suc n) (x ∷ xs) ys short = ap (λ (l : List ℕ). x ∷ l) (take-behind n xs ys (omega arith) ∙ ap (λ k. xs ++ take k ys) (omega arith))
 
--- what is taken of a piece, where there is room for so much
-pub taken : (room : ℕ) (xs ys new : List ℕ) → length xs ≤ 8192 → room ≡ min (length ys) (8192 - length xs) → new ≡ xs ++ take room ys → new ≡ take 8192 (xs ++ ys)
-taken room xs ys new short room_is is =
-    is ∙ ap (λ k. xs ++ take k ys) (room_is ∙ omega arith) ∙ ap (λ (l : List ℕ). xs ++ l) (take_min (8192 - length xs) ys) ∙ sym (take-behind 8192 xs ys short)
+-- what is taken of a piece, where so much has come before
+pub take_joined : (xs ys : List ℕ) → length xs ≤ 8192 → take 8192 (xs ++ ys) ≡ xs ++ take (min (length ys) (8192 - length xs)) ys
+take_joined xs ys short =
+    take-behind 8192 xs ys short ∙ ap (λ (l : List ℕ). xs ++ l) (sym (ap (λ k. take k ys) (omega arith) ∙ take_min (8192 - length xs) ys))
