@@ -133,7 +133,10 @@ fn seconds(query: &[u8]) -> Option<u64>
     if query.is_empty() {
         return Some(DRAIN_SECONDS);
     }
-    if query.len() < 9 || !begins_with(query, b"seconds=") {
+    if query.len() < 9 {
+        return None;
+    }
+    if !begins_with(query, b"seconds=") {
         return None;
     }
     short_number(&query[8..])
