@@ -15,13 +15,18 @@ use std::path::Path;
 /// memory, while the disk has the old ones. So once a `sync` has failed, each later call answers `DiskFailed` and asks nothing
 /// of the system, until `renew` has written the bytes that aren't synced a second time: then the next sync speaks of them
 /// again. A new `FileDisk` trusts what it reads, and can't see that a sync of an earlier one had failed.
+///
+/// It takes memory where it is opened, and none later: so a call of it fails only where the system's did.
 #[derive(Drop)]
 pub struct FileDisk {
     file: File,
     sync_failed: bool,
-    /// Where something was written since the last sync that answered Ok: offsets and lengths.
+    /// Where something was written since the last sync that answered Ok: offsets and lengths, at most `RANGES`.
     unsynced: Vec<(usize, usize)>,
 }
+
+/// How many writes there are at most without a sync: the next one syncs first.
+const RANGES: usize = 1024;
 
 /// How many bytes are written a second time at once.
 const PART: usize = 1024;
@@ -33,6 +38,7 @@ impl FileDisk {
     /// file is closed, which dropping the `FileDisk` or the end of its process does. It binds those who ask for it, as
     /// each `FileDisk` does, and no other program.
     pub fn open(rt: &HostRuntime, path: &str) -> io::Result<FileDisk> {
+        let unsynced = Vec::with_capacity(rt.alloc(), RANGES)?;
         let file = OpenOptions::new()
             .read(true)
             .write(true)
@@ -45,7 +51,7 @@ impl FileDisk {
         Ok(FileDisk {
             file,
             sync_failed: false,
-            unsynced: Vec::new(rt.alloc()),
+            unsynced,
         })
     }
 
@@ -121,7 +127,10 @@ impl Disk for FileDisk {
     }
 
     fn write_at(&mut self, at: usize, bytes: &[u8]) -> Result<(), DiskFailed> {
-        // Before the write, which may fail after a part of the bytes.
+        if self.unsynced.len() >= RANGES {
+            self.sync()?;
+        }
+        // Before the write, which may fail after a part of the bytes. There is room for it.
         self.unsynced
             .push((at, bytes.len()))
             .map_err(|_| DiskFailed)?;
