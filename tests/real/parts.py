@@ -9,7 +9,7 @@ import subprocess
 import tempfile
 import time
 
-from spool import pending
+from spool import pending, records
 
 # Seconds that any wait may take. What is awaited comes in milliseconds; the rest is for a machine that is busy.
 LIMIT = 30.0
@@ -157,16 +157,6 @@ class Mcv:
     def error_text(self):
         with open(self.errors, "rb") as file:
             return file.read()
-
-    def resident(self):
-        """How many bytes of memory the program has."""
-        with open("/proc/%d/status" % self.process.pid) as status:
-            return next(int(line.split()[1]) * 1024 for line in status if line.startswith("VmRSS:"))
-
-    def mappings(self):
-        """How many pieces its address space has; the system gives it some 65,000 at most."""
-        with open("/proc/%d/maps" % self.process.pid) as maps:
-            return sum(1 for _ in maps)
 
     def kill(self):
         self.process.kill()

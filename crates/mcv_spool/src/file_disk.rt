@@ -1,7 +1,7 @@
 //! A real file as a disk. No clause can say what a real file holds, so this type says nothing of the model:
 //! what is promised of a spool over it holds where the file keeps that model.
 
-ghost use Rattle.std.specs.Prelude.{◌≡◌, ◌↔◌, [], true, IsErr};
+ghost use Rattle.std.specs.Prelude.{◌≡◌, ◌↔◌, [], ◌∷◌, ◌++◌, if◌then◌else◌, nat_le, true, vec_capacity, vec_len, IsErr, OnErr, OnOk};
 
 use crate::disk::{Disk, DiskFailed};
 use std::fs::{File, OpenOptions};
@@ -23,6 +23,7 @@ pub struct FileDisk {
     sync_failed: bool,
     /// Where something was written since the last sync that answered Ok: offsets and lengths, at most `RANGES`.
     unsynced: Vec<(usize, usize)>,
+    ghost room: { vec_capacity unsynced ≡ RANGES },
 }
 
 /// How many writes there are at most without a sync: the next one syncs first.
@@ -63,6 +64,35 @@ impl FileDisk {
             return Err(DiskFailed);
         }
         Ok(&self.file)
+    }
+
+    /// Syncs the file: nothing is unsynced then.
+    fn settle(&mut self) -> Result<(), DiskFailed>
+        ensures settled { OnOk result (self.new.unsynced.items ≡ []) }
+        ensures err { OnErr result (self.new.sync_failed ≡ true) }
+    {
+        match self.trusted_file()?.sync_data() {
+            Ok(()) => {
+                self.unsynced.clear();
+                Ok(())
+            }
+            Err(_) => {
+                self.sync_failed = true;
+                Err(DiskFailed)
+            }
+        }
+    }
+
+    /// Notes a write that is about to begin. Where there is no room for it all is synced first. An error is one of that sync.
+    fn note(&mut self, at: usize, len: usize) -> Result<(), DiskFailed>
+        ensures noted { OnOk result (self.new.unsynced.items ≡ (if nat_le RANGES (vec_len self.old.unsynced) then [] else self.old.unsynced.items) ++ (at, len) ∷ []) }
+        ensures err { OnErr result (self.new.sync_failed ≡ true) }
+    {
+        if self.unsynced.len() >= RANGES {
+            self.settle()?;
+        }
+        self.unsynced.push_reserved((at, len));
+        Ok(())
     }
 
     /// Writes the bytes of a range a second time, as far as they are still in the file.
@@ -127,13 +157,8 @@ impl Disk for FileDisk {
     }
 
     fn write_at(&mut self, at: usize, bytes: &[u8]) -> Result<(), DiskFailed> {
-        if self.unsynced.len() >= RANGES {
-            self.sync()?;
-        }
-        // Before the write, which may fail after a part of the bytes. There is room for it.
-        self.unsynced
-            .push((at, bytes.len()))
-            .map_err(|_| DiskFailed)?;
+        // Before the write, which may fail after a part of the bytes.
+        self.note(at, bytes.len())?;
         self.trusted_file()?
             .write_all_at(bytes, at as u64)
             .map_err(|_| DiskFailed)
@@ -146,16 +171,7 @@ impl Disk for FileDisk {
     }
 
     fn sync(&mut self) -> Result<(), DiskFailed> {
-        match self.trusted_file()?.sync_data() {
-            Ok(()) => {
-                self.unsynced.clear();
-                Ok(())
-            }
-            Err(_) => {
-                self.sync_failed = true;
-                Err(DiskFailed)
-            }
-        }
+        self.settle()
     }
 
     /// What isn't synced is written a second time: a crash may leave any bytes there already, so this adds nothing to what it

@@ -6,8 +6,7 @@ import struct
 import threading
 
 from fakes import Fake
-from parts import Failed, answer, case, deletes_to_all, expect, one_pool, replayed, stored, value_answer, wait_for
-from spool import records
+from parts import Failed, case, deletes_to_all, expect, one_pool, records, replayed, stored, value_answer, wait_for
 
 
 @case(120)
@@ -125,17 +124,6 @@ def deletes_without_reply_of_clients_that_go_are_performed(machine):
             return found == b"END\r\n"
 
         wait_for(gone, "each delete is performed")
-
-
-@case(120)
-def clients_that_have_gone_leave_no_memory(machine):
-    mcv = machine.mcv(one_pool(machine.servers(1)))
-    for n in range(5000):
-        expect(answer(mcv.address, b"get a\r\nquit\r\n"), b"END\r\n", "client %d" % n)
-        if n == 1000:
-            before = mcv.resident(), mcv.mappings()
-    if mcv.resident() > before[0] + 10_000_000 or mcv.mappings() > before[1] + 1000:
-        raise Failed("memory and mappings grew from %s to %s" % (before, (mcv.resident(), mcv.mappings())))
 
 
 @case()

@@ -3,8 +3,8 @@ import signal
 import socket
 
 from fakes import DROP, REFUSE, SILENCE, Fake
-from parts import Client, Failed, answer, case, deletes_to_all, expect, free_port, one_pool, replayed, stored, value_answer, wait_for
-from spool import pending, records
+from parts import (Client, Failed, answer, case, deletes_to_all, expect, free_port, one_pool, pending, records, replayed, stored,
+                   value_answer, wait_for)
 
 FAILED = b"SERVER_ERROR destination failed\r\n"
 

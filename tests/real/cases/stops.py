@@ -4,8 +4,7 @@ import threading
 import time
 
 from fakes import DROP, PERFORM, PERFORM_AND_DROP, REFUSE, Fake
-from parts import Failed, case, deletes_to_all, expect, free_port, one_pool, wait_for
-from spool import pending, records
+from parts import Failed, case, deletes_to_all, expect, free_port, one_pool, pending, records, wait_for
 
 KILLS = 50
 CLIENTS = 8

@@ -307,6 +307,30 @@ fn what_is_not_synced_is_written_again(rt: HostRuntime) {
     remove(&rt, &rt, path.as_str());
 }
 
+/// Whether a disk takes so many writes of a byte with no sync between them.
+fn takes(disk: &mut FileDisk, count: usize) -> bool {
+    for at in 0..count {
+        if disk.write_at(at, b"x").is_err() {
+            return false;
+        }
+    }
+    true
+}
+
+fn check_many(host: &HostRuntime, rt: &impl Abort, path: &str) {
+    let mut disk = FileDisk::open(host, path).expect(rt, "a file");
+    assert!(rt; takes(&mut disk, 2_500) && disk.renew().is_ok(), "not written");
+    let bytes = fs::read(host, path).expect(rt, "bytes");
+    assert!(rt; bytes.len() == 2_500 && bytes.iter().all(|byte| *byte == b'x'));
+}
+
+#[test]
+fn a_file_of_the_system_takes_any_number_of_writes_without_a_sync(rt: HostRuntime) {
+    let path = own_path(&rt, &rt, "writes");
+    check_many(&rt, &rt, path.as_str());
+    remove(&rt, &rt, path.as_str());
+}
+
 /// The spool, if the third record comes to it.
 fn append_third(mut spool: Spool<FileDisk>) -> Option<Spool<FileDisk>> {
     if append(&mut spool, b"a:11211", b"a") == Some(2) {
