@@ -2,6 +2,7 @@
 //! what is promised of a spool over it holds where the file keeps that model.
 
 ghost use Rattle.std.specs.Prelude.{◌≡◌, ◌↔◌, [], ◌∷◌, ◌++◌, if◌then◌else◌, nat_le, true, vec_capacity, vec_len, IsErr, OnErr, OnOk};
+ghost use Rattle.mcv_spool.specs.declared.file_disk.TheConstants.{RANGES};
 
 use crate::disk::{Disk, DiskFailed};
 use std::fs::{File, OpenOptions};
