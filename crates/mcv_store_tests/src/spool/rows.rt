@@ -319,7 +319,10 @@ fn takes(disk: &mut FileDisk, count: usize) -> bool {
 
 fn check_many(host: &HostRuntime, rt: &impl Abort, path: &str) {
     let mut disk = FileDisk::open(host, path).expect(rt, "a file");
-    assert!(rt; takes(&mut disk, 2_500) && disk.renew().is_ok(), "not written");
+    assert!(rt;
+        takes(&mut disk, 2_500) && disk.renew().is_ok(),
+        "not written"
+    );
     let bytes = fs::read(host, path).expect(rt, "bytes");
     assert!(rt; bytes.len() == 2_500 && bytes.iter().all(|byte| *byte == b'x'));
 }
