@@ -227,11 +227,11 @@ class Machine:
         self.ends.append(server.close)
         return server
 
-    def words(self, listen="127.0.0.1:0", spool=None, sessions=None, proxies=None):
+    def words(self, listen="127.0.0.1:0", spool=None, **numbers):
+        """The words of `mcv run`; more options (sessions, proxies, window) by their names."""
         spool = spool or self.path("mcv.spool")
         words = [self.program, "run", "--listen", listen, "--spool", spool]
-        words += ["--sessions", str(sessions)] if sessions else []
-        return words + (["--proxies", str(proxies)] if proxies else [])
+        return words + [word for name, number in numbers.items() for word in ("--" + name, str(number))]
 
     def config_file(self, config):
         path = self.path("config.json")

@@ -6,7 +6,7 @@ use crate::devices::is_written;
 use mcv_check::Accepted;
 use mcv_command::{Ending, NamedFiles, Proxy, Stop, run_words};
 use mcv_input::{RunFault, read_at_most};
-use mcv_words::{Job, LineFault, read_words};
+use mcv_words::{Job, LineFault, RunOptions, read_words};
 use std::alloc::Global;
 use std::io::Write;
 use std::process::Abort;
@@ -22,32 +22,41 @@ mcv legs --at soon: bad line
 mcv legs --at: bad line
 mcv legs --at 1 --at 1: bad line
 mcv --at 1 legs: bad line
-mcv check: check
-mcv check --cert a.cert: check by a.cert
-mcv check --cert=: check by 
+mcv check: check 0
+mcv check --cert a.cert: check 0 by a.cert
+mcv check --window 604800: check 604800
+mcv check --window=4294967295 --cert a.cert: check 4294967295 by a.cert
+mcv check --window 4294967296: bad line
+mcv check --window -1: bad line
+mcv check --window: bad line
+mcv check --window 1 --window 1: bad line
+mcv legs --window 1: bad line
+mcv check --cert=: check 0 by 
 mcv check --cert: bad line
 mcv check --cert a --cert b: bad line
 mcv check a.cert: bad line
 mcv check --at 1: bad line
 mcv legs --cert a: bad line
-mcv run --listen h:1 --spool f: run h:1 f 1000000000 1
-mcv run --spool=f --listen=h:1 --sessions=+7: run h:1 f 7 1
-mcv run --listen h:1 --spool f --sessions 1: run h:1 f 1 1
-mcv run --listen h:1 --spool f --sessions 1000000000: run h:1 f 1000000000 1
+mcv run --listen h:1 --spool f: run h:1 f 1000000000 1 0
+mcv run --spool=f --listen=h:1 --sessions=+7: run h:1 f 7 1 0
+mcv run --listen h:1 --spool f --sessions 1: run h:1 f 1 1 0
+mcv run --listen h:1 --spool f --sessions 1000000000: run h:1 f 1000000000 1 0
 mcv run --listen h:1 --spool f --sessions 1000000001: bad line
 mcv run --listen h:1 --spool f --sessions 0: bad line
 mcv run --listen h:1 --spool f --sessions -1: bad line
 mcv run --listen h:1 --spool f --sessions all: bad line
 mcv run --listen h:1 --spool f --sessions: bad line
 mcv run --listen h:1 --spool f --sessions 1 --sessions 2: bad line
-mcv run --listen h:1 --spool f --proxies 1: run h:1 f 1000000000 1
-mcv run --listen h:1 --spool f --proxies=64 --sessions 7: run h:1 f 7 64
+mcv run --listen h:1 --spool f --proxies 1: run h:1 f 1000000000 1 0
+mcv run --listen h:1 --spool f --proxies=64 --sessions 7: run h:1 f 7 64 0
 mcv run --listen h:1 --spool f --proxies 65: bad line
 mcv run --listen h:1 --spool f --proxies 0: bad line
 mcv run --listen h:1 --spool f --proxies auto: bad line
 mcv run --listen h:1 --spool f --proxies: bad line
 mcv run --listen h:1 --spool f --proxies 1 --proxies 2: bad line
-mcv run --listen= --spool=: run   1000000000 1
+mcv run --listen= --spool=: run   1000000000 1 0
+mcv run --listen h:1 --spool f --window 60: run h:1 f 1000000000 1 60
+mcv run --listen h:1 --spool f --window 4294967296: bad line
 mcv run: bad line
 mcv run --listen h:1: bad line
 mcv run --spool f: bad line
@@ -81,14 +90,20 @@ mcv version: bad line";
 fn job_text(rt: &(impl AllocGlobal + Abort), job: Job<'_>) -> String {
     let text = match job {
         Job::Legs { at } => format!(in rt.alloc(); "legs at {}", at.0),
-        Job::Check { cert: None } => format!(in rt.alloc(); "check"),
-        Job::Check { cert: Some(name) } => format!(in rt.alloc(); "check by {name}"),
-        Job::Run {
-            listen,
-            spool,
-            sessions,
-            proxies,
-        } => format!(in rt.alloc(); "run {listen} {spool} {sessions} {proxies}"),
+        Job::Check { cert: None, window } => format!(in rt.alloc(); "check {window}"),
+        Job::Check {
+            cert: Some(name),
+            window,
+        } => format!(in rt.alloc(); "check {window} by {name}"),
+        Job::Run(
+            RunOptions {
+                listen,
+                spool,
+                sessions,
+                proxies,
+                window,
+            },
+        ) => format!(in rt.alloc(); "run {listen} {spool} {sessions} {proxies} {window}"),
     };
     text.expect(rt, "memory")
 }
@@ -230,8 +245,10 @@ const MAIN_PARTS: &[&str] = &[
 ];
 
 const CHECK_PARTS: &[&str] = &[
-    "Usage: mcv check [--cert FILE] < FILE",
+    "Usage: mcv check [--cert FILE] [--window SECONDS] < FILE",
     "--cert <FILE>",
+    "--window <SECONDS>",
+    "from 0 to 4294967295 [default: 0]",
     "\n  covered 1\n",
     "\n  lost b:11211\n",
     "\n  key /././!\n",
@@ -261,7 +278,8 @@ fn help_names_input_and_exit_statuses(rt: HostRuntime) {
 }
 
 const RUN_PARTS: &[&str] = &[
-    "Usage: mcv run --listen ADDRESS --spool FILE [--sessions N] [--proxies N] < FILE",
+    "Usage: mcv run --listen ADDRESS --spool FILE [--sessions N] [--proxies N]\n               [--window SECONDS] < FILE",
+    "--window <SECONDS>",
     "--listen <ADDRESS>",
     "--spool <FILE>",
     "--sessions <N>",

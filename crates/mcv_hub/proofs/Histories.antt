@@ -1,6 +1,6 @@
 -- Histories that are one entry longer, and what holds of each.
 use Rattle.std.proofs.Common.{◌≡◌, ◌∙◌, ◌⊎◌, inl, inr, ℕ, ◌+◌, ◌<◌, ◌≤◌, ◌^◌, Bool, true, false, List, [], ◌∷◌, ◌++◌, Option, Some, None, Ok, Err, count_by, cond, refl, ap, sym, subst, arith}
-use Rattle.std.specs.Prelude.{option_and_then, option_map, slice_get}
+use Rattle.std.specs.Prelude.{IfOk, OnErr, OnOk, Result, option_and_then, option_map, slice_get}
 use Rattle.std.specs.Arc.{arc_value}
 use Rattle.std.specs.declared.alloc.Global.{Global}
 use Rattle.std.specs.declared.sync.Arc.{Arc}
@@ -208,6 +208,28 @@ module _ (v w : CoreView) (es : List Entry) (c b t bb tb len capacity places bre
   -- nothing
   pub same_holds : w ≡ v → Holds w es c b t bb tb len capacity places breaks
   same_holds same = subst (λ z. Holds z es c b t bb tb len capacity places breaks) (sym same) h
+
+  -- an event that leaves the world
+  pub world_holds : w.routes ≡ v.routes → world_of w.rows ≡ world_of v.rows → w.chapter ≡ v.chapter → may_write w ≤ may_write v → Holds w es c b t bb tb len capacity places breaks
+  world_holds routes world chapter fewer = (
+    record {
+      covered = subst AreCovered (sym routes) h.0.covered;
+      legal = subst (λ r. IsHistory r (world_of w.rows) es) (sym routes) (subst (λ z. IsHistory v.routes z es) (sym world) h.0.legal);
+      chapter_is = h.0.chapter_is ∙ sym chapter;
+      begun_is = h.0.begun_is;
+      taken_is = h.0.taken_is;
+      begun_small = h.0.begun_small;
+      taken_small = h.0.taken_small;
+    },
+    let within = h.1.within in record { within = omega (arith, within, fewer); kept = h.1.kept; small = h.1.small },
+    h.2 ∙ ap break_count (sym routes),
+  )
+
+  -- a leg that is sent to a server, or that can't be
+  pub sending_holds : (sent : LegId → CoreView) → ((leg : LegId) → (sent leg).chapter ≡ v.chapter) → (result : Result LegId CoreFault) → IfOk result (λ leg. w ≡ sent leg) → OnOk result (Unmoved v w)
+      → OnOk result (may_write w ≤ may_write v) → OnErr result (w ≡ v) → Holds w es c b t bb tb len capacity places breaks
+  sending_holds sent chapter (Ok leg) view does fewer refused = world_holds does.routes does.world (ap (λ z. z.chapter) view ∙ chapter leg) fewer
+  sending_holds sent chapter (Err fault) view does fewer refused = same_holds refused
 
   -- an event on a leg
   pub leg_holds : (leg : LegId) (p : Part) (x : ReplyValue) (change : Change) (e : Option Entry) (es' : List Entry) (len' capacity' : ℕ) → part_value p ≡ x → Does v w (change_move leg.0 x change) → w.chapter ≡ v.chapter

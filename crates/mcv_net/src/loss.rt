@@ -18,16 +18,16 @@ pub enum Loss {
     Memory,
 }
 
-/// Whether a leg of this operation that was lost so may be sent once more: where nothing of it was written, and, if it sends no
-/// value to be stored, also where nothing was read. To perform these twice leaves what once does. An add that was performed
-/// would reply NOT_STORED, a cas EXISTS, an append would add twice, and a set or a replace might write over what another
-/// client has written between.
+/// Whether a leg of this operation that was lost so may be sent once more: where nothing of it was written, and, if it neither
+/// sends a value to be stored nor changes a number, also where nothing was read. To perform these twice leaves what once does.
+/// An add that was performed would reply NOT_STORED, a cas EXISTS, an append would add twice, an incr count twice, and a set or
+/// a replace might write over what another client has written between.
 pub fn may_ask_again(op: Op, loss: Loss) -> bool
     ensures { result ≡ may_repeat op loss }
 {
     match loss {
         Loss::Unwritten => true,
-        Loss::Unread => !op.is_storing(),
+        Loss::Unread => !(op.is_storing() || op.is_adjusting()),
         Loss::Broken | Loss::Memory => false,
     }
 }

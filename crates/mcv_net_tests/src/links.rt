@@ -19,7 +19,7 @@ const CONFIG: &str = "{\"pools\":{\"A\":{\"servers\":[\"a:11211\"]}},\"route\":\
 
 /// What the checker accepts of a configuration.
 pub(crate) fn accepted_of(rt: &impl Abort, alloc: Global, text: &str) -> Arc<Accepted> {
-    let judgement = judge_input(alloc, &mut text.as_bytes());
+    let judgement = judge_input(alloc, &mut text.as_bytes(), 0);
     match judgement.expect(rt, "a configuration") {
         Judgement::Covered { accepted, .. } => Arc::new(alloc, accepted).expect(rt, "memory"),
         Judgement::Lost { .. } => panic!(rt; "the routes aren't covered"),
@@ -49,6 +49,7 @@ fn leg_of(rt: &impl Abort, alloc: Global, op: Op) -> LegRequest {
         exptime: 0,
         body: Arc::new(alloc, body).expect(rt, "memory"),
         cas: None,
+        delta: 5,
     }
 }
 
@@ -59,6 +60,7 @@ fn letter(outcome: &Result<Reply, LinkFault>) -> u8 {
         Ok(Reply::Miss) => b'm',
         Ok(Reply::Stored) => b's',
         Ok(Reply::Deleted) => b'd',
+        Ok(Reply::Number(6)) => b'6',
         Ok(_) => b'?',
         Err(LinkFault::Broken) => b'b',
         Err(LinkFault::Memory) => b'o',
@@ -121,6 +123,23 @@ const ROWS: &[Row] = &[
         letters: "sbm",
         dials: 2,
         text: "add k 0 0 1\r\nx\r\nadd k 0 0 1\r\nx\r\nget k\r\n",
+    },
+    Row {
+        name: "an incr doesn't; the next leg opens another connection",
+        courses: &[
+            Course {
+                pieces: &["6\r\n"],
+                writes: 9,
+            },
+            Course {
+                pieces: &["END\r\n"],
+                writes: 9,
+            },
+        ],
+        ops: &[Op::Incr, Op::Incr, Op::Get],
+        letters: "6bm",
+        dials: 2,
+        text: "incr k 5\r\nincr k 5\r\nget k\r\n",
     },
     Row {
         name: "an add of which nothing was written does",

@@ -12,10 +12,10 @@ use Rattle.clap.specs.declared.parser.matches.ArgMatches.{ArgMatches}
 use Rattle.clap.specs.declared.parser.matches.ArgMatches.TheViews.{out-ArgMatches, out-SubCommand}
 use Rattle.clap.specs.declared.parser.matches.SubCommand.{SubCommand}
 use Rattle.clap.specs.Simple.{subcommand_rows}
-use Rattle.mcv_words.specs.Words.{faults, named, proxy_limit, session_limit, IsFaultOfKind, IsJobOf, IsLineFault, IsNumberOf, IsRunOf}
+use Rattle.mcv_words.specs.Words.{faults, named, proxy_limit, session_limit, window_limit, IsCheckOf, IsFaultOfKind, IsJobOf, IsLineFault, IsNumberOf, IsRunOf}
 use Rattle.mcv_words.specs.declared.words.Job.{Job}
 use Rattle.mcv_words.specs.declared.words.Job.TheVariants.{Legs, Check, Run}
-use Rattle.mcv_words.proofs.OptionValues.{HasAll, Passes}
+use Rattle.mcv_words.proofs.OptionValues.{HasAll, HasPassing, HasWindow}
 use Rattle.mcv_words.specs.declared.words.LineFault.{LineFault}
 use Rattle.mcv_words.specs.declared.words.LineFault.TheVariants.{BadLine, Memory, Help, Version}
 
@@ -76,26 +76,31 @@ number_read G option rows None n only is none read = absurd (let never : Some n 
 number_read G option rows (Some text) n only is none read = number_of G option rows text n only is (read text refl)
 
 -- the number that words give an option is in the range of its parser
-in_range : (option : Text) (least most : ℕ) (rows : List Row) (text : Text) (n : ℕ) → one_of option rows ≡ Some text → Passes (parsers.Unsigned least most) text
-    → IsNumberOf option rows n → (least ≤ n) × (n ≤ most)
-in_range option least most rows text n is passes number =
-    let same : number.0 ≡ text = inside number.0 text (sym number.1 ∙ is) in
-    let takes = accepts-Accepts false (parsers.Unsigned least most) text passes in
-    let value : n ≡ digits_value 10 (without_leading_plus text) = number.3 ∙ ap (λ (t : Text). digits_value 10 (without_leading_plus t)) same in
+in_range : (option : Text) (least most : ℕ) (rows : List Row) (n : ℕ) → HasPassing (parsers.Unsigned least most) option rows → IsNumberOf option rows n → (least ≤ n) × (n ≤ most)
+in_range option least most rows n has number =
+    let same : number.0 ≡ has.0 = inside number.0 has.0 (sym number.1 ∙ has.1) in
+    let takes = accepts-Accepts false (parsers.Unsigned least most) has.0 has.2 in
+    let value : n ≡ digits_value 10 (without_leading_plus has.0) = number.3 ∙ ap (λ (t : Text). digits_value 10 (without_leading_plus t)) same in
     (rw value takes.2, rw value takes.3)
 
 -- the number that a value of an option spells, which has 64 bits
-pub number_spelt : (option : Text) (least most : ℕ) (rows : List Row) (text : Text) → one_of option rows ≡ Some text → Passes (parsers.Unsigned least most) text
-    → (n : ℕ) × IsNumberOf option rows n × (n < 2 ^ 64)
-number_spelt option least most rows text is passes =
-    let takes = accepts-Accepts false (parsers.Unsigned least most) text passes in
-    (digits_value 10 (without_leading_plus text), (text, is, takes.0, refl), takes.1)
+pub number_spelt : (option : Text) (least most : ℕ) (rows : List Row) → HasPassing (parsers.Unsigned least most) option rows → (n : ℕ) × IsNumberOf option rows n × (n < 2 ^ 64)
+number_spelt option least most rows has =
+    let takes = accepts-Accepts false (parsers.Unsigned least most) has.0 has.2 in
+    (digits_value 10 (without_leading_plus has.0), (has.0, has.1, takes.0, refl), takes.1)
+
+-- the job of `check` that has the values of the words is what they ask for
+pub check_asked : (words : List Text) (rows : List Row) (job : Job) → faults words ≡ [] → named words ≡ Some (codes "check", rows) → HasWindow rows → IsCheckOf rows job → IsJobOf words job
+check_asked words rows (Legs at) none check has of = absurd of
+check_asked words rows (Check cert window) none check has of = (none, rows, check, of, (in_range (codes "window") 0 window_limit rows window has of.1).1)
+check_asked words rows (Run options) none check has of = absurd of
 
 -- the job of `run` that has the values of the words is what they ask for
 pub run_asked : (words : List Text) (rows : List Row) (job : Job) → faults words ≡ [] → named words ≡ Some (codes "run", rows) → HasAll rows → IsRunOf rows job → IsJobOf words job
 run_asked words rows (Legs at) none run has of = absurd of
-run_asked words rows (Check cert) none run has of = absurd of
-run_asked words rows (Run listen spool sessions proxies) none run has of =
-    let ended = in_range (codes "sessions") 1 session_limit rows has.2 sessions has.6 has.7 of.2 in
-    let beside = in_range (codes "proxies") 1 proxy_limit rows has.3 proxies has.8 has.9 of.3 in
-    (none, rows, run, of, ended.0, ended.1, beside.0, beside.1)
+run_asked words rows (Check cert window) none run has of = absurd of
+run_asked words rows (Run options) none run has of =
+    let ended = in_range (codes "sessions") 1 session_limit rows options.sessions has.sessions of.sessions in
+    let beside = in_range (codes "proxies") 1 proxy_limit rows options.proxies has.proxies of.proxies in
+    let apart = in_range (codes "window") 0 window_limit rows options.window has.window of.window in
+    record { none = none; rows = rows; names = run; has = of; least = ended.0; most = ended.1; least_proxies = beside.0; most_proxies = beside.1; most_window = apart.1 }

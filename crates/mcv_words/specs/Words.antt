@@ -10,6 +10,7 @@ use Rattle.clap.specs.declared.error.kind.ErrorKind.TheVariants.{DisplayHelp, Di
 use Rattle.mcv_words.specs.declared.words.Job.{Job}
 use Rattle.mcv_words.specs.declared.words.Job.TheVariants.{Legs, Check, Run}
 use Rattle.mcv_words.specs.declared.words.LineFault.{LineFault}
+use Rattle.mcv_words.specs.declared.words.RunOptions.{RunOptions}
 use Rattle.mcv_words.specs.declared.words.LineFault.TheVariants.{BadLine, Memory, Help, Version}
 
 -- ---- the commands
@@ -36,9 +37,20 @@ legs_app = with_rule (new_app (codes "legs")) at_rule
 abbrev pub cert_rule : Rule
 cert_rule = option_rule (codes "cert")
 
--- `check [--cert FILE]`
+-- the most seconds of a window
+abbrev pub window_limit : ℕ
+window_limit = 4294967295
+
+-- `--window SECONDS`: a number from 0 to 4294967295, and 0 where it isn't given
+abbrev pub window_rule : Rule
+window_rule = record (option_rule (codes "window")) {
+  parser = Some (parsers.Unsigned 0 window_limit);
+  defaults = codes "0" ∷ [];
+}
+
+-- `check [--cert FILE] [--window SECONDS]`
 abbrev pub check_app : App
-check_app = with_rule (new_app (codes "check")) cert_rule
+check_app = with_rule (with_rule (new_app (codes "check")) cert_rule) window_rule
 
 -- `--listen ADDRESS`, `--spool FILE`: wanted
 abbrev pub listen_rule : Rule
@@ -69,9 +81,9 @@ proxies_rule = record (option_rule (codes "proxies")) {
   defaults = codes "1" ∷ [];
 }
 
--- `run --listen ADDRESS --spool FILE [--sessions N] [--proxies N]`
+-- `run --listen ADDRESS --spool FILE [--sessions N] [--proxies N] [--window SECONDS]`
 abbrev pub run_app : App
-run_app = with_rule (with_rule (with_rule (with_rule (new_app (codes "run")) listen_rule) spool_rule) sessions_rule) proxies_rule
+run_app = with_rule (with_rule (with_rule (with_rule (with_rule (new_app (codes "run")) listen_rule) spool_rule) sessions_rule) proxies_rule) window_rule
 
 -- a command that shows its version where that is asked for
 abbrev pub with_version : App → App
@@ -81,7 +93,7 @@ with_version app = record app { top = record app.top { has_version = true } }
 abbrev pub wanting_a_command : App → App
 wanting_a_command app = record app { top = record app.top { subcommand_required = true } }
 
--- `mcv check [--cert FILE]`, `mcv legs [--at SECONDS]` and `mcv run --listen ADDRESS --spool FILE [--sessions N] [--proxies N]`; `mcv --version`
+-- `mcv check`, `mcv legs` and `mcv run` with their options; `mcv --version`
 abbrev pub mcv_app : App
 mcv_app = with_subcommand (with_subcommand (with_subcommand (wanting_a_command (with_version (new_app (codes "mcv")))) check_app.top) legs_app.top) run_app.top
 
@@ -100,31 +112,64 @@ abbrev pub IsNumberOf : (option : Text) → List Row → ℕ → Type 0
 IsNumberOf option rows n = (text : Text) × (one_of option rows ≡ Some text) × IsNumeral 10 (without_leading_plus text)
     × (n ≡ digits_value 10 (without_leading_plus text))
 
--- clap takes the words, and they name the command `check` with this value of `--cert`, or none
-abbrev pub AsksCheck : List Text → Option Text → Type 0
-AsksCheck words cert = (faults words ≡ []) × (rows : List Row) × (named words ≡ Some (codes "check", rows)) × (cert ≡ first_of (codes "cert") rows)
+-- the value of `--cert`, or none, and that of `--window`
+abbrev pub HasCheckValues : List Row → (cert : Option Text) → (window : ℕ) → Type 0
+HasCheckValues rows cert window = (cert ≡ first_of (codes "cert") rows) × IsNumberOf (codes "window") rows window
 
--- the values of `--listen`, `--spool`, `--sessions` and `--proxies`
-abbrev pub HasRunValues : List Row → (listen spool : Text) → (sessions proxies : ℕ) → Type 0
-HasRunValues rows listen spool sessions proxies = (first_of (codes "listen") rows ≡ Some listen) × (first_of (codes "spool") rows ≡ Some spool)
-    × IsNumberOf (codes "sessions") rows sessions × IsNumberOf (codes "proxies") rows proxies
+-- clap takes the words, and they name the command `check` with these values; the window is in its range
+abbrev pub AsksCheck : List Text → (cert : Option Text) → (window : ℕ) → Type 0
+AsksCheck words cert window = (faults words ≡ []) × (rows : List Row) × (named words ≡ Some (codes "check", rows))
+    × HasCheckValues rows cert window × (window ≤ window_limit)
 
--- clap takes the words, and they name the command `run` with these values; the numbers of sessions and of proxies are in their ranges
-abbrev pub AsksRun : List Text → (listen spool : Text) → (sessions proxies : ℕ) → Type 0
-AsksRun words listen spool sessions proxies = (faults words ≡ []) × (rows : List Row) × (named words ≡ Some (codes "run", rows))
-    × HasRunValues rows listen spool sessions proxies × (1 ≤ sessions) × (sessions ≤ session_limit) × (1 ≤ proxies) × (proxies ≤ proxy_limit)
+-- what a run is asked for: an address, the name of the spool's file, how many sessions, how many proxies, and a window in seconds
+pub record RunValue : Type 0 where
+  pub listen : Text
+  pub spool : Text
+  pub sessions : ℕ
+  pub proxies : ℕ
+  pub window : ℕ
+
+-- what the code's value means
+abbrev pub run_of : RunOptions → RunValue
+run_of o = record { listen = o.listen.now; spool = o.spool.now; sessions = o.sessions; proxies = o.proxies; window = o.window }
+
+-- the values of the options of `run`
+pub record HasRunValues (rows : List Row) (v : RunValue) : Type 0 where
+  pub listen : first_of (codes "listen") rows ≡ Some v.listen
+  pub spool : first_of (codes "spool") rows ≡ Some v.spool
+  pub sessions : IsNumberOf (codes "sessions") rows v.sessions
+  pub proxies : IsNumberOf (codes "proxies") rows v.proxies
+  pub window : IsNumberOf (codes "window") rows v.window
+
+-- clap takes the words, and they name the command `run` with these values; the numbers are in their ranges
+pub record AsksRun (words : List Text) (v : RunValue) : Type 0 where
+  pub none : faults words ≡ []
+  pub rows : List Row
+  pub names : named words ≡ Some (codes "run", rows)
+  pub has : HasRunValues rows v
+  pub least : 1 ≤ v.sessions
+  pub most : v.sessions ≤ session_limit
+  pub least_proxies : 1 ≤ v.proxies
+  pub most_proxies : v.proxies ≤ proxy_limit
+  pub most_window : v.window ≤ window_limit
+
+-- the job of `check` with these values
+abbrev pub IsCheckOf : List Row → Job → Type 0
+IsCheckOf rows (Legs at) = ⊥
+IsCheckOf rows (Check cert window) = HasCheckValues rows (option_map (λ name. name.now) cert) window
+IsCheckOf rows (Run options) = ⊥
 
 -- the job of `run` with these values
 abbrev pub IsRunOf : List Row → Job → Type 0
 IsRunOf rows (Legs at) = ⊥
-IsRunOf rows (Check cert) = ⊥
-IsRunOf rows (Run listen spool sessions proxies) = HasRunValues rows listen.now spool.now sessions proxies
+IsRunOf rows (Check cert window) = ⊥
+IsRunOf rows (Run options) = HasRunValues rows (run_of options)
 
 -- clap takes the words, and they name the job's command with the values that the job has
 abbrev pub IsJobOf : List Text → Job → Type 0
-IsJobOf words (Check cert) = AsksCheck words (option_map (λ name. name.now) cert)
+IsJobOf words (Check cert window) = AsksCheck words (option_map (λ name. name.now) cert) window
 IsJobOf words (Legs at) = (faults words ≡ []) × (rows : List Row) × (named words ≡ Some (codes "legs", rows)) × IsNumberOf (codes "at") rows at.0
-IsJobOf words (Run listen spool sessions proxies) = AsksRun words listen.now spool.now sessions proxies
+IsJobOf words (Run options) = AsksRun words (run_of options)
 
 -- why words ask for no job: clap finds a fault with them that isn't the wish for help or for the
 -- version; memory ran out; they ask for help; they ask for the version

@@ -5,4 +5,4 @@
 mod help;
 mod words;
 
-pub use words::{Job, LineFault, read_words};
+pub use words::{Job, LineFault, RunOptions, read_words};

@@ -1,15 +1,15 @@
 //! The command line: its commands, as clap reads them. What words ask for is `IsJobOf`, and why they ask for nothing
 //! `IsLineFault`.
 
-ghost use Rattle.std.specs.Prelude.{◌≡◌, ◌<◌, ◌^◌, ℕ, false, IfOk, IfErr, IfSome, IsSome, map};
+ghost use Rattle.std.specs.Prelude.{◌≡◌, ◌<◌, ◌^◌, ℕ, codes, false, IfOk, IfErr, IfSome, IsSome, map};
 ghost use Rattle.clap.specs.Words.{Text, app_of, found_of, kind_of, rows_of, rule_of};
 ghost use Rattle.clap.specs.declared.builder.command.Command.TheViews.{out-Command as fields_of};
-ghost use Rattle.mcv_words.specs.Words.{at_rule, cert_rule, check_app, legs_app, listen_rule, mcv_app, proxies_rule, run_app, sessions_rule, spool_rule, line_fault_number, HasRunValues, IsFaultOfKind, IsJobOf, IsLineFault, IsRunOf};
+ghost use Rattle.mcv_words.specs.Words.{at_rule, cert_rule, check_app, legs_app, listen_rule, mcv_app, proxies_rule, run_app, sessions_rule, spool_rule, window_rule, line_fault_number, HasRunValues, IsCheckOf, IsFaultOfKind, IsJobOf, IsLineFault, IsNumberOf, IsRunOf, RunValue};
 ghost use Rattle.mcv_words.specs.declared.words.LineFault.TheVariants.{Memory as out_of_memory};
 
 use crate::help::{
     ABOUT, AT, CERT, CHECK_ABOUT, CHECK_FORM, EXAMPLE, LEGS_ABOUT, LEGS_FORM, LISTEN, PROXIES,
-    RUN_ABOUT, RUN_FORM, SESSIONS, SPOOL,
+    RUN_ABOUT, RUN_FORM, SESSIONS, SPOOL, WINDOW,
 };
 use clap::builder::ValueParser;
 use clap::error::ErrorKind;
@@ -18,25 +18,26 @@ use mcv_base::Moment;
 use std::alloc::{AllocError, Global};
 use thiserror::Error;
 
+/// What a run is asked for: to serve clients at the address, with the spool in the file of this name, until so many
+/// sessions have ended, by so many proxies side by side, and to have judged the configuration within this window.
+#[derive(Clone, Copy, Debug, PartialEq, Eq)]
+pub struct RunOptions<'a> {
+    pub listen: &'a str,
+    pub spool: &'a str,
+    pub sessions: u64,
+    pub proxies: u64,
+    pub window: u64,
+}
+
 /// What the program is asked to do.
 #[derive(Clone, Copy, Debug, PartialEq, Eq)]
 pub enum Job<'a> {
     /// To show the legs of a request that comes at a moment.
-    Legs {
-        at: Moment,
-    },
-    /// To judge a configuration, by the certificate in the file of this name where one is given.
-    Check {
-        cert: Option<&'a str>,
-    },
-    /// To serve clients at the address, with the spool in the file of this name, until so many sessions have ended, by so
-    /// many proxies side by side.
-    Run {
-        listen: &'a str,
-        spool: &'a str,
-        sessions: u64,
-        proxies: u64,
-    },
+    Legs { at: Moment },
+    /// To judge a configuration within this window, by the certificate in the file of this name where one is given.
+    Check { cert: Option<&'a str>, window: u64 },
+    /// To serve clients.
+    Run(RunOptions<'a>),
 }
 
 /// Why there is nothing to do.
@@ -109,15 +110,28 @@ fn cert_option<'a>(alloc: Global) -> Arg<'a>
         .help(CERT)
 }
 
+fn window_option<'a>(alloc: Global) -> Arg<'a>
+    ensures rule { rule_of result ≡ window_rule }
+    ensures local { result.global ≡ false }
+{
+    Arg::new(alloc, "window")
+        .long("window")
+        .value_name("SECONDS")
+        .value_parser(ValueParser::unsigned(0, 4_294_967_295))
+        .default_value("0")
+        .help(WINDOW)
+}
+
 fn check_command<'a>(alloc: Global) -> Result<Command<'a>, AllocError>
     ensures app { IfOk result (λ c. app_of c ≡ check_app) }
     ensures local { IfOk result (λ c. (fields_of c).has_globals ≡ false) }
 {
     Command::new(alloc, "check")
         .about(CHECK_ABOUT)
-        .override_usage("mcv check [--cert FILE] < FILE")
+        .override_usage("mcv check [--cert FILE] [--window SECONDS] < FILE")
         .after_help(CHECK_FORM)
-        .arg(cert_option(alloc))
+        .arg(cert_option(alloc))?
+        .arg(window_option(alloc))
 }
 
 fn listen_option<'a>(alloc: Global) -> Arg<'a>
@@ -172,12 +186,16 @@ fn run_command<'a>(alloc: Global) -> Result<Command<'a>, AllocError>
 {
     Command::new(alloc, "run")
         .about(RUN_ABOUT)
-        .override_usage("mcv run --listen ADDRESS --spool FILE [--sessions N] [--proxies N] < FILE")
+        .override_usage(
+            "mcv run --listen ADDRESS --spool FILE [--sessions N] [--proxies N]
+               [--window SECONDS] < FILE",
+        )
         .after_help(RUN_FORM)
         .arg(listen_option(alloc))?
         .arg(spool_option(alloc))?
         .arg(sessions_option(alloc))?
-        .arg(proxies_option(alloc))
+        .arg(proxies_option(alloc))?
+        .arg(window_option(alloc))
 }
 
 fn command<'a>(alloc: Global) -> Result<Command<'a>, AllocError>
@@ -212,22 +230,33 @@ fn line_fault(alloc: Global, error: &ClapError) -> LineFault
     }
 }
 
+/// The job of `check`, by what clap found for its options.
+fn check_job<'a>(found: &ArgMatches<'a>) -> Option<Job<'a>>
+    ensures job { IfSome result (IsCheckOf (rows_of (found_of found.now))) }
+    ensures some { (window : ℕ) → IsNumberOf (codes "window") (rows_of (found_of found.now)) window → window < 2 ^ 64 → IsSome result }
+{
+    let cert = found.get_str("cert");
+    let window = found.get_one::<u64>("window")?;
+    Some(Job::Check { cert, window })
+}
+
 /// The job of `run`, by what clap found for its options.
 fn run_job<'a>(found: &ArgMatches<'a>) -> Option<Job<'a>>
     ensures job { IfSome result (IsRunOf (rows_of (found_of found.now))) }
-    ensures some { (listen spool : Text) (sessions proxies : ℕ) → HasRunValues (rows_of (found_of found.now)) listen spool sessions proxies
-        → sessions < 2 ^ 64 → proxies < 2 ^ 64 → IsSome result }
+    ensures some { (v : RunValue) → HasRunValues (rows_of (found_of found.now)) v → v.sessions < 2 ^ 64 → v.proxies < 2 ^ 64 → v.window < 2 ^ 64 → IsSome result }
 {
     let listen = found.get_str("listen")?;
     let spool = found.get_str("spool")?;
     let sessions = found.get_one::<u64>("sessions")?;
     let proxies = found.get_one::<u64>("proxies")?;
-    Some(Job::Run {
+    let window = found.get_one::<u64>("window")?;
+    Some(Job::Run(RunOptions {
         listen,
         spool,
         sessions,
         proxies,
-    })
+        window,
+    }))
 }
 
 /// Reads the words of a command line, of which the first is the program's name.
@@ -241,8 +270,10 @@ pub fn read_words<'a>(alloc: Global, words: &'a [&'a str]) -> Result<Job<'a>, Li
         Err(error) => return Err(line_fault(alloc, &error)),
     };
     if let Some(found) = matches.subcommand_matches("check") {
-        let cert = found.get_str("cert");
-        return Ok(Job::Check { cert });
+        let Some(job) = check_job(found) else {
+            return Err(LineFault::BadLine);
+        };
+        return Ok(job);
     }
     if let Some(found) = matches.subcommand_matches("run") {
         let Some(job) = run_job(found) else {

@@ -26,7 +26,7 @@ abbrev server : ℕ → Tree
 server x = pool (record { symbol = 0; servers = x ∷ [] }) [] none
 
 abbrev of_tree : Tree → RoutesValue
-of_tree t = record { servers = [] ∷ [] ∷ []; symbols = record { func = Ch3; salt = []; n = 1 } ∷ []; entries = record { aliases = []; tree = t } ∷ [] }
+of_tree t = record { servers = [] ∷ [] ∷ []; symbols = record { func = Ch3; salt = []; n = 1 } ∷ []; entries = record { aliases = []; tree = t } ∷ []; window = 0 }
 
 abbrev two : Tree → Tree → Trees
 two t u = child t (child u none)
@@ -268,7 +268,7 @@ no_error e = cc
 
 delete_elsewhere_is_not_kept : Kept (of_tree (apart 5 7)) (world (apart 5 7) (begins Delete ∷ Answered 0 deleted ∷ [])) → ⊥
 delete_elsewhere_is_not_kept kept =
-    let h = kept 0 delete_call deleted refl refl refl no_error 7 get_is_answered_elsewhere in
+    let h = kept 0 delete_call deleted refl refl refl no_error 7 (None, tt, inl refl, get_is_answered_elsewhere) in
     elim (one_of_two (delete_leg 0 (0 ∷ []) 5 Plain) (record (delete_leg 0 (0 ∷ []) 5 Plain) { state = Performed }) h.leg 0 0 h.number h.there) [
       | inl e ↦ let x : 5 ≡ 7 = ap (λ l. l.launch.server.0) e ∙ h.server in omega (arith, x)
       | inr e ↦ let x : 5 ≡ 7 = ap (λ l. l.launch.server.0) e ∙ h.server in omega (arith, x)

@@ -2,7 +2,7 @@
 import signal
 import socket
 
-from fakes import DROP, REFUSE, SILENCE, Fake
+from fakes import DROP, PERFORM, PERFORM_AND_DROP, REFUSE, SILENCE, Fake
 from parts import (Client, Failed, answer, case, deletes_to_all, expect, free_port, one_pool, pending, records, replayed, stored,
                    value_answer, wait_for)
 
@@ -131,8 +131,10 @@ def what_is_no_reply_is_an_error_and_a_delete_is_spooled(machine):
     cases = {
         b"get": [b"VALUE other 0 1\r\nx\r\nEND\r\n", b"VALUE a 0 1 7\r\nx\r\nEND\r\n", b"STORED\r\n", b"VALUE a 0 1048577\r\n", b"x" * 3000,
                  b"END\r\nEND\r\n", b"VALUE a 0 1\r\nxyEND\r\n", b"\0\r\n"],
+        b"incr": [b"18446744073709551616\r\n", b"-1\r\n", b"6x\r\n", b"TOUCHED\r\n", b"\r\n"],
         b"delete": [b"STORED\r\n", b"nonsense\r\n", b"DELETED\r\nDELETED\r\n"],
     }
+    more = {b"incr": b" 1"}
     spooled = 0
     for name, texts in cases.items():
         for text in texts:
@@ -140,8 +142,8 @@ def what_is_no_reply_is_an_error_and_a_delete_is_spooled(machine):
             spool = machine.path("spool.%d" % id(fake))
             mcv = machine.mcv(one_pool([fake.text]), spool=spool)
             with mcv.client() as client:
-                wanted = FAILED if name == b"get" else b"NOT_FOUND\r\n"
-                client.ask(name + b" a\r\n", wanted)
+                wanted = b"NOT_FOUND\r\n" if name == b"delete" else FAILED
+                client.ask(name + b" a" + more.get(name, b"") + b"\r\n", wanted)
             if name == b"delete":
                 expect(records(spool)[0][1:], (fake.text.encode(), b"a"))
                 spooled += 1
@@ -168,6 +170,18 @@ def a_connection_that_breaks_is_opened_again(machine):
     with mcv.client() as client:
         # A get over a connection that was kept is sent once more over a new one.
         client.ask(b"get a\r\nget a\r\nget a\r\nget a\r\n", FAILED + b"END\r\nEND\r\nEND\r\n")
+
+
+@case()
+def an_incr_is_sent_once_whatever_becomes_of_its_connection(machine):
+    moods = iter([PERFORM, PERFORM_AND_DROP])
+    fake = machine.fake(Fake(mood=lambda: next(moods, PERFORM), replies={b"incr": b" 06 \r\n"}))
+    mcv = machine.mcv(one_pool([fake.text]))
+    with mcv.client() as client:
+        client.ask(b"get a\r\n", b"END\r\n")
+        client.ask(b"incr a 5\r\n", FAILED)
+        expect(fake.requests.count((b"incr", b"a")), 1, "the incrs that were sent")
+        client.ask(b"incr a 5\r\n", b"6\r\n")
 
 
 @case()

@@ -10,6 +10,7 @@ LOST = {
     "pools": {"A": {"servers": ["127.0.0.1:1"]}, "B": {"servers": ["127.0.0.1:2"]}},
     "route": {"type": "FailoverRoute", "children": ["PoolRoute|A", "PoolRoute|B"]},
 }
+MOVING = {"type": "MigrateRoute", "from": "PoolRoute|A", "to": "PoolRoute|B", "start_time": 1000, "interval": 3600}
 DEVICE = (4, b"", b"mcv: device failed\n")
 BAD_LINE = (1, b"", b"mcv: bad command line\n")
 
@@ -77,6 +78,19 @@ def what_check_refuses_isnt_served_and_nothing_is_bound(machine):
 
 
 @case()
+def what_is_lost_within_the_window_isnt_served(machine):
+    first, second = machine.servers(2)
+    config = {"pools": {"A": {"servers": [first]}, "B": {"servers": [second]}}, "route": MOVING}
+    status, printed, errors = machine.refused(config, listen=held_port(machine), window=3601)
+    expect((status, printed, errors), machine.refused(config, words=[machine.program, "check", "--window", "3601"]))
+    expect((status, printed.splitlines()[:4]), (3, [b"lost " + second.encode(), b"route 0", b"class =", b"era 0 2"]))
+    mcv = machine.mcv(config, window=3600)
+    with mcv.client() as client:
+        client.ask(stored(b"a", b"1") + b"get a\r\n", b"STORED\r\n" + value_answer(b"a", b"1"))
+    expect(answer(second, b"get a\r\n"), value_answer(b"a", b"1"))
+
+
+@case()
 def a_configuration_that_doesnt_read(machine):
     for config in ("{", {"pools": {"A": {"servers": []}}, "route": "PoolRoute|A"}, {"route": "PoolRoute|Z"}):
         found = machine.refused(config, listen=held_port(machine))
@@ -91,6 +105,7 @@ def a_bad_command_line(machine):
     listen = ["--listen", "127.0.0.1:0"]
     for words in (run, run + spool, run + listen, run + listen + spool + ["--sessions", "0"], run + listen + spool + ["--sessions", "1000000001"],
                   run + listen + spool + ["--sessions", "x"], run + listen + spool + ["--proxies", "0"], run + listen + spool + ["--proxies", "65"],
+                  run + listen + spool + ["--window", "-1"], run + listen + spool + ["--window", "4294967296"],
                   run + listen + spool + ["more"], run + listen + listen + spool):
         expect(machine.refused(one_pool(["127.0.0.1:1"]), words=words), BAD_LINE, " ".join(words[1:]))
 

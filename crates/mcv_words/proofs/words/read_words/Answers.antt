@@ -4,9 +4,9 @@ use Rattle.std.specs.Str.Parse.{ParsesUnsigned, ExplainsUnsignedError, HasUnsign
 use Rattle.clap.proofs.WalkLemmas.{first_value-rows, one_text-rows}
 use Rattle.clap.proofs.OnLiterals.{clap_on_literals}
 use Rattle.clap.proofs.ValueTestLemmas.{accepts-Accepts}
-use Rattle.mcv_words.specs.Words.{mcv_app, proxy_limit, session_limit}
-use Rattle.mcv_words.proofs.OptionValues.{at_parser, legs_values, run_values}
-use Rattle.mcv_words.proofs.Matches.{fault_of_kind, named_rows, name_of_rows, no_number, number_of, number_spelt, run_asked}
+use Rattle.mcv_words.specs.Words.{mcv_app, proxy_limit, session_limit, window_limit, HasRunValues, RunValue}
+use Rattle.mcv_words.proofs.OptionValues.{at_parser, check_values, legs_values, run_values}
+use Rattle.mcv_words.proofs.Matches.{check_asked, fault_of_kind, named_rows, name_of_rows, no_number, number_of, number_spelt, run_asked}
 use Rattle.mcv_words.proofs.CommandIsNamed.{taken}
 use Rattle.mcv_words.proofs.words.read_words.Goals as goal
 
@@ -25,17 +25,24 @@ returns-in-Err-clause-fault c =
     (c.in-Err.ensures.kinds (ap is_simple_and_free c.in_ok-command.ensures ∙ free)) in
     fault_of_kind words (kind_of c.in-Err.error) c.line_fault.result kinds c.line_fault.ensures
 
+pub returns-in_default-check_job-clause-fault : goal.returns-in_default-check_job-clause-fault
+returns-in_default-check_job-clause-fault c =
+    let words : List Text = map (λ w. w.now) c.args.words.now in
+    let held = (c.in-Ok.ensures.matches (ap is_simple c.in_ok-command.ensures ∙ simple)).1 ∙ ap (λ (a : App). subcommand_of a words) c.in_ok-command.ensures in
+    let none = sym (ap (λ (a : App). fault_of a words) c.in_ok-command.ensures) ∙ c.in-Ok.ensures.kinds (ap is_simple_and_free c.in_ok-command.ensures ∙ free) in
+    let found = found_of c.in-Some.found.now in
+    let check = sym held ∙ named_rows c.in-Ok.matches (codes "check") (rows_of found) (c.in-Some.ensures.found.0 refl) c.in-Some.ensures.rows in
+    let window = number_spelt (codes "window") 0 window_limit (rows_of found) (check_values words (rows_of found) none check) in
+    absurd (true≢false (sym (c.in_default-check_job.ensures.some window.0 window.1 window.2)))
+
 pub returns-in-Some-clause-job : goal.returns-in-Some-clause-job
 returns-in-Some-clause-job c =
     let words : List Text = map (λ w. w.now) c.args.words.now in
     let held = (c.in-Ok.ensures.matches (ap is_simple c.in_ok-command.ensures ∙ simple)).1 ∙ ap (λ (a : App). subcommand_of a words) c.in_ok-command.ensures in
     let none = sym (ap (λ (a : App). fault_of a words) c.in_ok-command.ensures) ∙ c.in-Ok.ensures.kinds (ap is_simple_and_free c.in_ok-command.ensures ∙ free) in
-    let found = found_of c.in-Some.found.now in (
-      none,
-      rows_of found,
-      sym held ∙ named_rows c.in-Ok.matches (codes "check") (rows_of found) (c.in-Some.ensures.found.0 refl) c.in-Some.ensures.rows,
-      c.get_str-cert.ensures ∙ first_value-rows found (codes "cert"),
-    )
+    let found = found_of c.in-Some.found.now in
+    let check = sym held ∙ named_rows c.in-Ok.matches (codes "check") (rows_of found) (c.in-Some.ensures.found.0 refl) c.in-Some.ensures.rows in
+    check_asked words (rows_of found) c.in-Some-check_job.job none check (check_values words (rows_of found) none check) c.in-Some-check_job.ensures.job
 
 pub returns-in_default-run_job-clause-fault : goal.returns-in_default-run_job-clause-fault
 returns-in_default-run_job-clause-fault c =
@@ -45,9 +52,12 @@ returns-in_default-run_job-clause-fault c =
     let found = found_of c.in-Some-subcommand_matches.found.now in
     let run = sym held ∙ named_rows c.in-Ok.matches (codes "run") (rows_of found) (c.in-Some-subcommand_matches.ensures.found.0 refl) c.in-Some-subcommand_matches.ensures.rows in
     let has = run_values words (rows_of found) none run in
-    let sessions = number_spelt (codes "sessions") 1 session_limit (rows_of found) has.2 has.6 has.7 in
-    let proxies = number_spelt (codes "proxies") 1 proxy_limit (rows_of found) has.3 has.8 has.9 in
-    absurd (true≢false (sym (c.in_default-run_job.ensures.some has.0 has.1 sessions.0 proxies.0 (has.4, has.5, sessions.1, proxies.1) sessions.2 proxies.2)))
+    let sessions = number_spelt (codes "sessions") 1 session_limit (rows_of found) has.sessions in
+    let proxies = number_spelt (codes "proxies") 1 proxy_limit (rows_of found) has.proxies in
+    let window = number_spelt (codes "window") 0 window_limit (rows_of found) has.window in
+    let value : RunValue = record { listen = has.listen.0; spool = has.spool.0; sessions = sessions.0; proxies = proxies.0; window = window.0 } in
+    let values : HasRunValues (rows_of found) value = record { listen = has.listen.1; spool = has.spool.1; sessions = sessions.1; proxies = proxies.1; window = window.1 } in
+    absurd (true≢false (sym (c.in_default-run_job.ensures.some value values sessions.2 proxies.2 window.2)))
 
 pub returns-in-Some-subcommand_matches-clause-job : goal.returns-in-Some-subcommand_matches-clause-job
 returns-in-Some-subcommand_matches-clause-job c =

@@ -3,7 +3,7 @@ use Rattle.std.proofs.lemmas.Result.{IfOk-weaker}
 use Rattle.clap.specs.Words.{app_of, new_app, with_rule}
 use Rattle.clap.specs.declared.builder.command.Command.TheViews.{out-Command as fields_of}
 use Rattle.clap.specs.Simple.{app_of_fields}
-use Rattle.mcv_words.specs.Words.{listen_rule, sessions_rule, spool_rule}
+use Rattle.mcv_words.specs.Words.{listen_rule, proxies_rule, sessions_rule, spool_rule}
 use Rattle.mcv_words.proofs.words.run_command.Goals as goal
 
 pub returns-clause-app : goal.returns-clause-app
@@ -16,7 +16,9 @@ returns-clause-app c =
     c.in_ok-arg-2.ensures.shape c.spool_option.ensures.local ∙ ap₂ with_rule one c.spool_option.ensures.rule in
     let three : app_of c.in_ok-arg-3.field-0 ≡ with_rule (with_rule (with_rule (new_app (codes "run")) listen_rule) spool_rule) sessions_rule =
     c.in_ok-arg-3.ensures.shape c.sessions_option.ensures.local ∙ ap₂ with_rule two c.sessions_option.ensures.rule in
-    IfOk-weaker c.arg-4.result _ _ (λ m adds. adds.shape c.proxies_option.ensures.local ∙ ap₂ with_rule three c.proxies_option.ensures.rule) c.arg-4.ensures
+    let four : app_of c.in_ok-arg-4.field-0 ≡ with_rule (with_rule (with_rule (with_rule (new_app (codes "run")) listen_rule) spool_rule) sessions_rule) proxies_rule =
+    c.in_ok-arg-4.ensures.shape c.proxies_option.ensures.local ∙ ap₂ with_rule three c.proxies_option.ensures.rule in
+    IfOk-weaker c.arg-5.result _ _ (λ m adds. adds.shape c.window_option.ensures.local ∙ ap₂ with_rule four c.window_option.ensures.rule) c.arg-5.ensures
 
 pub returns-clause-local : goal.returns-clause-local
 returns-clause-local c =
@@ -25,4 +27,5 @@ returns-clause-local c =
     let one : (fields_of c.in_ok-arg.field-0).has_globals ≡ false = rw (c.in_ok-arg.ensures.globals, described) c.listen_option.ensures.local in
     let two : (fields_of c.in_ok-arg-2.field-0).has_globals ≡ false = rw (c.in_ok-arg-2.ensures.globals, one) c.spool_option.ensures.local in
     let three : (fields_of c.in_ok-arg-3.field-0).has_globals ≡ false = rw (c.in_ok-arg-3.ensures.globals, two) c.sessions_option.ensures.local in
-    IfOk-weaker c.arg-4.result _ _ (λ m adds. rw (adds.globals, three) c.proxies_option.ensures.local) c.arg-4.ensures
+    let four : (fields_of c.in_ok-arg-4.field-0).has_globals ≡ false = rw (c.in_ok-arg-4.ensures.globals, three) c.proxies_option.ensures.local in
+    IfOk-weaker c.arg-5.result _ _ (λ m adds. rw (adds.globals, four) c.window_option.ensures.local) c.arg-5.ensures
