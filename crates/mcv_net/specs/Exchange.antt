@@ -1,7 +1,11 @@
 -- A text that is written to a connection, and the reply that is read from it (own). What a connection was given and what it
 -- has left is known only of one in memory.
-use Rattle.std.specs.Prelude.{◌≡◌, ◌≢◌, ◌<◌, ◌⊎◌, ℕ, Bool, true, false, List, [], length, take, Option, Result, Ok, Err}
+use Rattle.std.specs.Prelude.{◌≡◌, ◌≢◌, ◌<◌, ◌⊎◌, ℕ, Bool, true, false, List, [], length, take, Option, None, Some, Result, Ok, Err}
+use Rattle.std.specs.IoError.{error_kind}
 use Rattle.std.specs.Io.KnownBytes.{Appends, Consumes, Keeps}
+use Rattle.std.specs.declared.io.Error.{Error}
+use Rattle.std.specs.declared.io.ErrorKind.{ErrorKind}
+use Rattle.std.specs.declared.io.ErrorKind.TheVariants.{Interrupted, TimedOut, WouldBlock}
 use Rattle.mcv_base.specs.declared.operation.Op.{Op}
 use Rattle.mcv_base.specs.declared.reply.Reply.{Reply}
 use Rattle.mcv_base.specs.Reply.{reply_value}
@@ -43,15 +47,22 @@ SpellsReply op rest bytes reply = Spells op rest bytes (reply_value reply)
 abbrev pub AnswersProbe : {X : Type 0} → List ℕ → X → Type 0
 AnswersProbe {X} bytes x = (version : List ℕ) × SpellsVersion bytes version
 
--- where the time for a read ran out (the system's EAGAIN or ETIMEDOUT) it is late; else what it would be
-abbrev pub loss_when : Bool → Loss → Loss
-loss_when true other = Late
-loss_when false other = other
+-- what is lost where a read or a write failed with an error of this kind: nothing where it was interrupted, for it is tried again;
+-- it is late where its time ran out (EAGAIN of socket(7), SO_RCVTIMEO and SO_SNDTIMEO; ETIMEDOUT); else what it is without a limit
+abbrev pub lost_by : ErrorKind → Loss → Option Loss
+lost_by Interrupted other = None
+lost_by WouldBlock other = Some Late
+lost_by TimedOut other = Some Late
+lost_by _ other = Some other
 
 -- what is lost where no more can be read
 abbrev pub loss_of : Bool → Loss
 loss_of true = Broken
 loss_of false = Unread
+
+-- what is lost where a read gave nothing: the connection has ended, or the read failed
+abbrev pub IsUnread : Bool → Loss → Type 0
+IsUnread has_read loss = (loss ≡ loss_of has_read) ⊎ ((error : Error) × (Some loss ≡ lost_by (error_kind error) (loss_of has_read)))
 
 -- what is lost where bytes are no reply
 abbrev pub loss_by : ReplyFault → Loss

@@ -1,6 +1,7 @@
 //! A connection to a server, and by when what is under way on it has to be done.
 
-ghost use Rattle.std.specs.Prelude.{◌≡◌};
+ghost use Rattle.std.specs.Prelude.{◌≡◌, ◌+◌, ◌-◌, ◌/◌, ◌^◌, ◌<◌, ◌≤◌, min, IfNone, IfSome};
+ghost use Rattle.std.specs.Time.{instant_nanos};
 
 use std::io;
 use std::io::{ErrorKind, Read, Write};
@@ -28,15 +29,17 @@ pub struct TcpConnection<R: Clock + Drop> {
     armed: u64,
 }
 
-/// What is left of the time up to a moment, in milliseconds, with the one that runs. An error is that nothing is.
-fn millis_left(until: Instant, now: Instant) -> io::Result<u64> {
+/// What is left of the time up to a moment, in milliseconds, with the one that runs; None where nothing is.
+fn millis_left(until: Instant, now: Instant) -> Option<u64>
+    ensures none { IfNone result (instant_nanos until ≤ instant_nanos now) }
+    ensures some { IfSome result (λ millis. (instant_nanos now < instant_nanos until) × (millis ≡ min ((instant_nanos until - instant_nanos now) / 1_000_000 + 1) (2 ^ 64 - 1))) }
+{
     let left = until.duration_since(now);
     if left.is_zero() {
-        return Err(io::Error::from(ErrorKind::TimedOut));
+        return None;
     }
-    let whole = left.as_secs().saturating_mul(1_000);
-    let part = u64::from(left.subsec_millis());
-    Ok(whole.saturating_add(part).saturating_add(1))
+    let whole = u64::try_from(left.as_millis()).unwrap_or(u64::MAX);
+    Some(whole.saturating_add(1))
 }
 
 impl<R: Clock + Drop> TcpConnection<R> {
@@ -50,13 +53,22 @@ impl<R: Clock + Drop> TcpConnection<R> {
         }
     }
 
+    /// The limit for a read or a write that begins now, in milliseconds; 0 for none. An error is that nothing is left of the
+    /// time, or that the clock can't be read.
+    fn limit(&self) -> io::Result<u64> {
+        let Some(until) = self.until else {
+            return Ok(0);
+        };
+        match millis_left(until, Instant::now(&self.rt)?) {
+            Some(millis) => Ok(millis),
+            None => Err(io::Error::from(ErrorKind::TimedOut)),
+        }
+    }
+
     /// Gives the next read or write what is left of the time. An error is that nothing is left, or that the clock can't be
     /// read or the system sets no limit.
     fn arm(&mut self) -> io::Result<()> {
-        let millis = match self.until {
-            Some(until) => millis_left(until, Instant::now(&self.rt)?)?,
-            None => 0,
-        };
+        let millis = self.limit()?;
         if millis == self.armed {
             return Ok(());
         }

@@ -1,5 +1,7 @@
 //! How connections to servers are made.
 
+ghost use Rattle.std.specs.Prelude.{◌≡◌, IfNone};
+
 use crate::connection::{Connection, TcpConnection};
 use mcv_words::ServerTimeout;
 use std::net::{Net, TcpStream, ToSocketAddrs};
@@ -46,7 +48,9 @@ fn connect_by<R: Net<Stream = TcpStream> + Clock>(
 impl<R: Net<Stream = TcpStream> + Clock + Copy + Drop> Dial for TcpDial<R> {
     type Stream = TcpConnection<R>;
 
-    fn deadline(&self) -> Option<Instant> {
+    fn deadline(&self) -> Option<Instant>
+        ensures { IfNone self.now.timeout (result ≡ None) }
+    {
         let timeout = self.timeout?;
         let now = Instant::now(&self.rt).ok()?;
         now.checked_add(Duration::from_millis(timeout.millis))

@@ -4,7 +4,7 @@ use Rattle.std.specs.Arc.{arc_value}
 use Rattle.std.specs.Io.KnownBytes.{Consumes}
 use Rattle.mcv_reply.specs.Reader.{Feeds}
 use Rattle.mcv_net.specs.Exchange.{SpellsReply}
-use Rattle.mcv_net.proofs.Reading.{HasCome, IsFed, come_late, come_more, come_refused, come_still, fed_answers, fed_on, not_spelled, taken_some}
+use Rattle.mcv_net.proofs.Reading.{HasCome, IsFed, come_more, come_refused, come_still, come_unread, fed_answers, fed_on, not_spelled, taken_some}
 use Rattle.mcv_net.proofs.exchange.read_reply.Goals as goal
 use Rattle.mcv_net.proofs.exchange.read_reply.Goals.{then-count-gt0+in-Ok-None, else-count-gt0}
 
@@ -19,9 +19,8 @@ pub returns-in_err-count : goal.returns-in_err-count
 returns-in_err-count g c =
     let p = err_from_is_err_and c.from_residual.result c.from_residual.ensures.1 in
     let was = c.loop-read.invariant in
-    let lost = c.in_err-count.ensures.lost in
     let still = come_still (SpellsReply c.args.leg.now.op (arc_value c.args.leg.now.rest)) _ _ _ _ was.0 was.2 c.in_err-count.ensures.unread in
-    rw (p.1, p.2) (come_late (SpellsReply c.args.leg.now.op (arc_value c.args.leg.now.rest)) _ _ _ was.0 lost.0 _ still lost.1)
+    rw (p.1, p.2) (come_unread (SpellsReply c.args.leg.now.op (arc_value c.args.leg.now.rest)) _ _ _ was.0 _ still c.in_err-count.ensures.lost)
 
 pub loop-read-preserved : goal.loop-read-preserved
 loop-read-preserved g c =
