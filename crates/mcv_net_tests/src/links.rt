@@ -135,10 +135,12 @@ const ROWS: &[Row] = &[
             Course {
                 pieces: &["6\r\n"],
                 writes: 9,
+                end: End::Closed,
             },
             Course {
                 pieces: &["END\r\n"],
                 writes: 9,
+                end: End::Closed,
             },
         ],
         ops: &[Op::Incr, Op::Incr, Op::Get],
