@@ -4,6 +4,7 @@ import random
 import socket
 import struct
 import threading
+import time
 
 from fakes import Fake
 from parts import Failed, case, deletes_to_all, expect, one_pool, records, replayed, stored, value_answer, wait_for
@@ -80,6 +81,22 @@ def garbage_and_half_requests_while_others_work(machine):
                     client.send(chosen.randbytes(200))
     with mcv.client() as client:
         client.ask(b"get g\r\n", b"END\r\n")
+
+
+@case()
+def a_client_past_its_time_is_closed(machine):
+    mcv = machine.mcv(one_pool(machine.servers(1)), client_timeout=300)
+    with mcv.client() as idle, mcv.client() as half, mcv.client() as deaf, mcv.client() as works:
+        works.ask(stored(b"big", b"x" * 1000000), b"STORED\r\n")
+        half.send(b"set a 0 0 5\r\nab")
+        deaf.send(b"get big\r\n" * 50)
+        for _ in range(10):
+            works.ask(b"get a\r\n", b"END\r\n")
+            time.sleep(0.1)
+        expect(idle.rest() + half.rest(), b"")
+        if len(deaf.rest()) >= 50 * 1000000:
+            raise Failed("a client that reads nothing has all its answers")
+        works.ask(b"get a\r\n", b"END\r\n")
 
 
 @case()
