@@ -138,7 +138,8 @@ where
     let Some(session) = admit(rt, alloc, shared, links, pass, seat, visitor, number) else {
         return Err(AllocError);
     };
-    running.add(session)
+    running.add(session);
+    Ok(())
 }
 
 /// Serves the clients that come, each in a thread, until no more do. Sessions that have ended are joined before the next

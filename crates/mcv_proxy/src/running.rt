@@ -1,5 +1,8 @@
 //! The sessions of a hub that run, each joined soon after it has ended.
 
+ghost use Rattle.std.specs.Prelude.{◌≡◌, Some, IfOk, OnOk};
+ghost use Rattle.slab.specs.Slab.{HasRoomFor, Updates};
+
 use crate::fault::ProxyFault;
 use crate::threads::Done;
 use crossbeam_channel::Receiver;
@@ -84,17 +87,21 @@ impl<B: Ledger + Send, T: Ledger + Send> Running<B, T> {
         }
     }
 
-    /// The number of the next session. An error is that there is no memory for one more.
-    pub(crate) fn next_number(&mut self) -> Result<usize, AllocError> {
+    /// The number of the next session, for which there is room then. An error is that there is no memory for one more.
+    pub(crate) fn next_number(&mut self) -> Result<usize, AllocError>
+        ensures number { IfOk result (λ number. number ≡ self.new.sessions.vacant_key) }
+        ensures room { OnOk result (HasRoomFor self.new.sessions 1) }
+    {
         self.sessions.reserve(1)?;
         Ok(self.sessions.vacant_key())
     }
 
-    /// A session has begun. An error is that there is no memory for it, with which it isn't joined; behind `next_number`
-    /// there is none.
-    pub(crate) fn add(&mut self, session: JoinHandle<Done<B, T>>) -> Result<(), AllocError> {
-        self.sessions.insert(session)?;
-        Ok(())
+    /// The session of the next number has begun.
+    pub(crate) fn add(&mut self, session: JoinHandle<Done<B, T>>)
+        requires { HasRoomFor self.old.sessions 1 }
+        ensures { Updates self.old.sessions self.new.sessions self.old.sessions.vacant_key (Some session) }
+    {
+        self.sessions.insert_reserved(session);
     }
 
     /// Joins the sessions that have said that they ended. What a session says is its last word, so that nothing waits.

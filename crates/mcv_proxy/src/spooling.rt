@@ -1,6 +1,8 @@
 //! The worker of the spool.
 
-ghost use Rattle.std.specs.Prelude.{◌≡◌, false, None, Some, IfErr, IfNone, IfOk, IfSome, OnErr, OnOk, is_some};
+ghost use Rattle.std.specs.Prelude.{◌≡◌, ◌↔◌, ◌-◌, ◌<◌, ◌≤◌, false, None, Some, IfErr, IfNone, IfOk, IfSome, IsTrue, OnErr, OnOk, is_some};
+ghost use Rattle.std.specs.Duration.{as_nanos};
+ghost use Rattle.std.specs.Time.{instant_nanos};
 ghost use Rattle.mcv_core.specs.Events.{IsRefusedLeg, IsSpooledLeg};
 ghost use Rattle.mcv_core.specs.Readers.{IsFirstHeld};
 ghost use Rattle.mcv_core.specs.View.{core_view};
@@ -8,7 +10,6 @@ ghost use Rattle.mcv_hub.specs.Events.{IsHubEvent};
 ghost use Rattle.mcv_spool.specs.FoundFile.{IsFound};
 ghost use Rattle.mcv_proxy.specs.Flights.{IsRecordOf};
 ghost use Rattle.mcv_proxy.specs.Steps.{breaks_spool};
-ghost use Rattle.std.specs.Prelude.{◌↔◌, IsTrue};
 
 use crate::agenda::Agenda;
 use crate::ends::Ends;
@@ -70,10 +71,20 @@ enum Task {
     End,
 }
 
-/// For how long the spool isn't asked yet, up to this moment; None where it may be, also where the clock can't be read.
-fn respite_left<R: Clock>(rt: &R, until: Option<Instant>) -> Option<Duration> {
-    let left = until?.duration_since(Instant::now(rt).ok()?);
+/// How long it is to a moment; None where it has come.
+fn time_to(moment: Instant, now: Instant) -> Option<Duration>
+    ensures none { IfNone result (instant_nanos moment ≤ instant_nanos now) }
+    ensures some { IfSome result (λ left. (instant_nanos now < instant_nanos moment) × (as_nanos left ≡ instant_nanos moment - instant_nanos now)) }
+{
+    let left = moment.duration_since(now);
     if left.is_zero() { None } else { Some(left) }
+}
+
+/// For how long the spool isn't asked yet, up to this moment; None where it may be, also where the clock can't be read.
+fn respite_left<R: Clock>(rt: &R, until: Option<Instant>) -> Option<Duration>
+    ensures { IfNone until (result ≡ None) }
+{
+    time_to(until?, Instant::now(rt).ok()?)
 }
 
 /// Whether a leg was refused of which its call had no outcome before: then its session goes on.
