@@ -59,13 +59,7 @@ fn judge_by<R: Read, W: Write, F: NamedFiles>(
     ensures silent { IfErr result (λ stop. stop ≢ Run Device → W.contents writer.new ≡ W.contents writer.old) }
 {
     let text = files.read_named(alloc, name, CERTIFICATE_LIMIT)?;
-    let verdict = run_check(
-        alloc,
-        reader,
-        writer,
-        Some(text.as_slice()),
-        window.seconds,
-    )?;
+    let verdict = run_check(alloc, reader, writer, Some(text.as_slice()), window.seconds)?;
     Ok(ending_of(verdict))
 }
 

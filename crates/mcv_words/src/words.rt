@@ -26,9 +26,14 @@ use thiserror::Error;
 #[derive(Clone, Copy, Debug, PartialEq, Eq)]
 pub enum Job<'a> {
     /// To show the legs of a request that comes at a moment.
-    Legs { at: Moment },
+    Legs {
+        at: Moment,
+    },
     /// To judge a configuration within this window, by the certificate in the file of this name where one is given.
-    Check { cert: Option<&'a str>, window: Window },
+    Check {
+        cert: Option<&'a str>,
+        window: Window,
+    },
     /// To serve clients.
     Run(RunOptions<'a>),
 }
