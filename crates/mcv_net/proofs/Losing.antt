@@ -1,5 +1,5 @@
 -- What is lost where a read or a write failed.
-use Rattle.std.proofs.Common.{◌≡◌, ◌≢◌, Option, None, Some, refl}
+use Rattle.std.proofs.Common.{◌≡◌, ◌≢◌, Some, refl}
 use Rattle.std.specs.declared.io.ErrorKind.{ErrorKind}
 use Rattle.std.specs.declared.io.ErrorKind.TheVariants.{Interrupted, TimedOut, WouldBlock}
 use Rattle.mcv_net.specs.declared.loss.Loss.{Loss}
