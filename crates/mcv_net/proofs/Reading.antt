@@ -1,5 +1,5 @@
 -- A reply that is read piece by piece.
-use Rattle.std.proofs.Common.{◌≡◌, ◌≢◌, ◌∙◌, ◌<◌, ◌≤◌, ◌⊎◌, ℕ, Bool, true, false, List, [], ◌++◌, Option, None, Some, Ok, Err, inl, inr, refl, sym, ap, subst, arith, length, take, length-append, length-take-le, append-nil, Result}
+use Rattle.std.proofs.Common.{◌≡◌, ◌≢◌, ◌∙◌, ◌<◌, ◌≤◌, ℕ, Bool, true, false, List, [], ◌++◌, Option, None, Some, Ok, Err, inl, inr, refl, sym, ap, subst, arith, length, take, length-append, length-take-le, append-nil, Result}
 use Rattle.std.proofs.KnownBytes.{Consumes-nil, Consumes-trans}
 use Rattle.std.specs.Io.KnownBytes.{Consumes, Keeps}
 use Rattle.std.specs.IoError.{error_kind}
@@ -17,6 +17,7 @@ use Rattle.mcv_reply.specs.Reply.{SpellsVersion}
 use Rattle.mcv_reply.specs.Probe.{FeedsProbe, ProbeAnswers}
 use Rattle.mcv_net.specs.declared.loss.Loss.{Loss}
 use Rattle.mcv_net.specs.Exchange.{AnswersProbe, IsUnread, Reads, SpellsReply, loss_by, loss_of, lost_by}
+use Rattle.mcv_net.proofs.Losing.{same_loss}
 
 pub consumes_kept : (a b : Option (List ℕ)) → Keeps a b → Consumes a b []
 consumes_kept None b p = tt
@@ -30,9 +31,6 @@ abbrev pub UnlessMemory : ReplyFault → Type 0 → Type 0
 UnlessMemory faults.NotAReply claim = claim
 UnlessMemory faults.Closed claim = claim
 UnlessMemory faults.Memory claim = Unit {0}
-
-same_loss : {l m : Loss} → Some l ≡ Some m → l ≡ m
-same_loss e = cc
 
 -- so many bytes have come, which are no reply
 pub record HasCome {X : Type 0} (spells : List ℕ → X → Type 0) (old now : Option (List ℕ)) (has_read : Bool) (bytes : List ℕ) : Type 0 where

@@ -20,6 +20,7 @@ const CALLS: u64 = 2_000_000;
 
 /// What is lost where a write or a read failed so, with which `other` is lost if its time didn't run out; None where it was
 /// interrupted, and is to be tried again.
+#[tactic(auto, using(crate::proofs::Losing::lost_otherwise))]
 fn lost_by(error: &io::Error, other: Loss) -> Option<Loss>
     ensures { result ≡ lost_by (error_kind error.now) other }
 {

@@ -1,4 +1,4 @@
-use Rattle.std.proofs.Common.{◌++◌, codes, refl}
+use Rattle.std.proofs.Common.{◌++◌, codes}
 use Rattle.mcv_text.specs.Answer.{line_end}
 use Rattle.mcv_net.specs.Exchange.{AnswersProbe}
 use Rattle.mcv_net.proofs.Sending.{asks_bound}
