@@ -20,4 +20,3 @@ pub mod CoursesEvaluate
 pub mod CountsAdd
 pub mod KnownOutcomes
 pub mod FirstWave
-pub mod OutcomesDecide
