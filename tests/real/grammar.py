@@ -11,7 +11,10 @@ LINES = {
     b"cas": (*SET, b"EXISTS", b"NOT_FOUND"),
     b"delete": (b"DELETED", b"NOT_FOUND"),
     b"touch": (b"TOUCHED", b"NOT_FOUND"),
+    b"incr": (b"NOT_FOUND",),
+    b"decr": (b"NOT_FOUND",),
 }
+MOST_OF_A_NUMBER = (1 << 64) - 1
 END = re.compile(rb" *END *\r?\n")
 
 
@@ -34,7 +37,7 @@ def value_of(operation, key, text):
     words = [word for word in words if word]
     if words[:2] != [b"VALUE", key] or len(words) != (5 if operation == b"gets" else 4):
         return None
-    limits = ((1 << 32) - 1, MOST_OF_A_VALUE, (1 << 64) - 1)
+    limits = ((1 << 32) - 1, MOST_OF_A_VALUE, MOST_OF_A_NUMBER)
     if not all(number_up_to(most, word) for most, word in zip(limits, words[2:])):
         return None
     flags, size, *cas = (b"%d" % int(word) for word in words[2:])
@@ -56,14 +59,16 @@ def answer_to(operation, key, reply):
     word = line.strip(b" ")
     if word in LINES[operation]:
         return word + b"\r\n"
+    if operation in (b"incr", b"decr") and number_up_to(MOST_OF_A_NUMBER, word):
+        return b"%d\r\n" % int(word)
     if word == b"ERROR" or re.match(rb" *(CLIENT_ERROR|SERVER_ERROR)( |\Z)", line):
         return line + b"\r\n"
     return None
 
 
 ANSWERS = re.compile(
-    rb"(END|STORED|NOT_STORED|EXISTS|NOT_FOUND|DELETED|TOUCHED|ERROR|VERSION mcv 1|CLIENT_ERROR bad (command line|data chunk|key)"
-    rb"|SERVER_ERROR (value too large|no route|busy|destination failed))\r\n"
+    rb"(END|STORED|NOT_STORED|EXISTS|NOT_FOUND|DELETED|TOUCHED|\d+|ERROR|VERSION mcv 1|CLIENT_ERROR bad (command line|data chunk|key)"
+    rb"|CLIENT_ERROR cannot increment or decrement non-numeric value|SERVER_ERROR (value too large|no route|busy|destination failed))\r\n"
 )
 VALUE = re.compile(rb"VALUE [^ \r\n]+ \d+ (\d+)( \d+)?\r\n")
 

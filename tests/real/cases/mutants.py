@@ -26,6 +26,10 @@ REQUESTS = [
     b"delete a#####\r\n",
     b"delete b##### 0 noreply\r\n",
     b"touch a##### 1000\r\n",
+    b"set c##### 0 0 2\r\n10\r\n",
+    b"incr c##### 5\r\n",
+    b"decr c##### 18446744073709551615 noreply\r\n",
+    b"incr a##### 1\r\n",
     b"set /././c##### 0 0 0\r\n\r\n",
     b"version\r\n",
     b"gat 0 a#####\r\n",
@@ -109,6 +113,8 @@ class Mangler(Listening):
             b"cas": [b"STORED\r\n", b"EXISTS\r\n", b"NOT_FOUND\r\n"],
             b"delete": [b"DELETED\r\n", b"NOT_FOUND\r\n"],
             b"touch": [b"TOUCHED\r\n", b"NOT_FOUND\r\n"],
+            b"incr": [b"6\r\n", b"18446744073709551615\r\n", b"NOT_FOUND\r\n"],
+            b"decr": [b"0\r\n", b"  10 \r\n"],
         }
         errors = [b"ERROR\r\n", b"SERVER_ERROR out of memory storing object\r\n", b"CLIENT_ERROR bad data chunk\r\n"]
         texts = right.get(name, [b"STORED\r\n", b"NOT_STORED\r\n"])
@@ -124,7 +130,7 @@ def asked(name, key):
         return name + b" " + key + b" 0 0 1\r\nx\r\n"
     if name == b"cas":
         return b"cas " + key + b" 0 0 1 5\r\nx\r\n"
-    return name + b" " + key + (b" 1000\r\n" if name == b"touch" else b"\r\n")
+    return name + b" " + key + (b" 1000\r\n" if name in (b"touch", b"incr", b"decr") else b"\r\n")
 
 
 def may_be_answered(name, key, replies):
@@ -146,7 +152,8 @@ def two_thousand_mutants_of_replies_are_taken_as_the_page_says(machine):
     expect(answer(mcv.address, stored(b"later", b"1")), b"STORED\r\n")
     number, taken = 0, 0
     while mangler.count < REPLIES:
-        name, key = chosen.choice([b"get", b"get", b"gets", b"set", b"add", b"cas", b"touch", b"delete"]), b"bad%d" % number
+        name = chosen.choice([b"get", b"get", b"gets", b"set", b"add", b"cas", b"touch", b"incr", b"decr", b"delete"])
+        key = b"bad%d" % number
         found = answer(mcv.address, asked(name, key))
         wanted = may_be_answered(name, key, list(mangler.replies.get(key, [])))
         if found not in wanted:
