@@ -9,6 +9,8 @@ import subprocess
 import tempfile
 import time
 
+from spool import pending, records
+
 # Seconds that any wait may take. What is awaited comes in milliseconds; the rest is for a machine that is busy.
 LIMIT = 30.0
 # What a run says on standard error where it has no limit for servers.
@@ -304,22 +306,6 @@ def value_answer(key, value, flags=0):
 
 def stored(key, value, flags=0):
     return b"set %s %d 0 %d\r\n%s\r\n" % (key, flags, len(value), value)
-
-
-def records(path):
-    """Of each slot of a spool file that counts: whether it is done, its server's text, the rest of its key."""
-    found, at = [], 0
-    with open(path, "rb") as file:
-        data = file.read()
-    while at + 640 < len(data) and data[at] != 0:
-        s, r = (int.from_bytes(data[at + place:at + place + 2], "big") for place in (2, 4))
-        found.append((data[at + 1] != 0, data[at + 6:at + 6 + s], data[at + 6 + s:at + 6 + s + r]))
-        at += 640
-    return found
-
-
-def pending(path):
-    return [(server, rest) for is_done, server, rest in records(path) if not is_done]
 
 
 def replayed(machine, mcv, spool, text, keys):
