@@ -278,7 +278,7 @@ const MAIN_PARTS: &[&str] = &[
     "  run  ",
     "\n  mcv check < mcrouter.json\n",
     "\n  (echo 'delete a'; cat mcrouter.json) | mcv legs\n",
-    "\n  mcv run --listen 127.0.0.1:5000 --spool mcv.spool --server-timeout 1000 < mcrouter.json\n",
+    "\n  mcv run --listen 127.0.0.1:5000 --spool mcv.spool --server-timeout 1000 \\\n    < mcrouter.json\n",
     "Exit status:",
 ];
 
@@ -326,7 +326,7 @@ const RUN_PARTS: &[&str] = &[
     "--server-timeout <MS>",
     "--client-timeout <MS>",
     "mcrouter's `--num-proxies`",
-    "\n  mcv run --listen 127.0.0.1:5000 --spool mcv.spool --server-timeout 1000 < mcrouter.json\n",
+    "\n  mcv run --listen 127.0.0.1:5000 --spool mcv.spool --server-timeout 1000 \\\n    < mcrouter.json\n",
     "\n  mcv listening 127.0.0.1:5000 pending 0\n",
     "\n  mcv closed calls 12\n",
     "\nExit status:\n  0  ended, or help was asked for\n  1  bad command line\n",
