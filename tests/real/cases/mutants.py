@@ -2,6 +2,7 @@
 import contextlib
 import random
 import threading
+import time
 
 from grammar import answer_to, are_whole_answers
 from listening import Listening
@@ -9,6 +10,8 @@ from mutations import in_pieces, mutant
 from parts import Client, Failed, answer, case, expect, one_pool, shown, stored, value_answer
 
 STREAMS, REPLIES = 2000, 2000
+# Seconds between two pieces of a stream.
+PAUSE = 0.001
 FAILED = b"SERVER_ERROR destination failed\r\n"
 
 # What streams are made of; `#####` is the number of the stream, so that each has keys of its own.
@@ -37,10 +40,11 @@ REQUESTS = [
 
 
 def answer_in_pieces(text, pieces):
-    """All that is answered to bytes that are sent piece by piece."""
+    """All that is answered to bytes that are sent piece by piece, each a moment behind the one before, so that they are read so."""
     with Client(text) as client:
         with contextlib.suppress(OSError):
-            for piece in pieces:
+            for number, piece in enumerate(pieces):
+                time.sleep(PAUSE if number else 0)
                 client.send(piece)
             client.socket.shutdown(1)
         return client.rest()
