@@ -116,16 +116,17 @@ def forty_thousand_connections_one_after_the_other(machine):
 
 @case()
 def a_client_past_its_time_is_closed(machine):
-    mcv = machine.mcv(one_pool(machine.servers(1)), client_timeout=300)
+    mcv = machine.mcv(one_pool(machine.servers(1)), client_timeout=1000)
     with mcv.client() as idle, mcv.client() as half, mcv.client() as deaf, mcv.client() as works:
         works.ask(stored(b"big", b"x" * 1000000), b"STORED\r\n")
         half.send(b"set a 0 0 5\r\nab")
-        deaf.send(b"get big\r\n" * 50)
-        for _ in range(10):
+        # Far more than the system keeps for who doesn't read it.
+        deaf.send(b"get big\r\n" * 30)
+        for _ in range(60):
             works.ask(b"get a\r\n", b"END\r\n")
             time.sleep(0.1)
         expect(idle.rest() + half.rest(), b"")
-        if len(deaf.rest()) >= 50 * 1000000:
+        if len(deaf.rest()) >= 30 * 1000000:
             raise Failed("a client that reads nothing has all its answers")
         works.ask(b"get a\r\n", b"END\r\n")
 
