@@ -124,7 +124,7 @@ def a_spool_that_cant_be_opened(machine):
     with open(machine.path("damaged"), "wb") as file:
         file.write(bytes([1]) + bytes(640))
     for name in ("folder", "nowhere/mcv.spool", "damaged"):
-        expect(machine.refused(one_pool(["127.0.0.1:1"]), spool=machine.path(name)), DEVICE, name)
+        expect(machine.refused(one_pool(["127.0.0.1:1"]), spool=machine.path(name), server_timeout=1000), DEVICE, name)
 
 
 @case()
