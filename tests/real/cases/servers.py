@@ -271,7 +271,7 @@ def half_a_million_gets_beside_a_server_that_hangs(machine):
     """More than the history of a chapter holds, so that calls wait for the next one, which waits for calls that run. The time is
     one that the server that is up keeps on a busy machine too."""
     (text, process), up = machine.memcached(), machine.servers(1)[0]
-    mcv = machine.mcv(hung_beside(text, up), server_timeout=500)
+    mcv = machine.mcv(hung_beside(text, up), server_timeout=1000)
     process.send_signal(signal.SIGSTOP)
     slow, faults, stop = [], [], threading.Event()
 
