@@ -255,12 +255,12 @@ def what_a_server_didnt_answer_in_its_time_isnt_sent_again(machine):
 
 
 def getting(mcv, count, slow, faults):
-    """Sends so many gets, 50 at a time, and notes what takes longer than two seconds and what isn't answered by END."""
+    """Sends so many gets, 50 at a time, and notes what takes longer than ten seconds and what isn't answered by END."""
     try:
         with mcv.client() as client:
             for _ in range(count // 50):
                 took = timed(client, b"get k\r\n" * 50, b"END\r\n" * 50)
-                if took > 2:
+                if took > 10:
                     slow.append(took)
     except (Failed, OSError) as fault:
         faults.append(str(fault))
@@ -268,9 +268,10 @@ def getting(mcv, count, slow, faults):
 
 @case(300)
 def half_a_million_gets_beside_a_server_that_hangs(machine):
-    """More than the history of a chapter holds, so that calls wait for the next one, which waits for calls that run."""
+    """More than the history of a chapter holds, so that calls wait for the next one, which waits for calls that run. The time is
+    one that the server that is up keeps on a busy machine too."""
     (text, process), up = machine.memcached(), machine.servers(1)[0]
-    mcv = machine.mcv(hung_beside(text, up), server_timeout=200)
+    mcv = machine.mcv(hung_beside(text, up), server_timeout=1000)
     process.send_signal(signal.SIGSTOP)
     slow, faults, stop = [], [], threading.Event()
 
