@@ -16,19 +16,20 @@ use Rattle.mcv_verdict.specs.declared.verdict.Verdict.TheVariants.{Covered, Lost
 use Rattle.mcv_command.specs.declared.stop.Stop.{Stop}
 use Rattle.mcv_command.specs.declared.stop.Stop.TheVariants.{BadLine, Run}
 use Rattle.mcv_command.specs.Program.{Held, IfGiven, IsJudgingFault, IsStop}
-use Rattle.mcv_words.specs.Words.{AsksCheck, AsksRun, RunValue}
+use Rattle.mcv_words.specs.Words.{AsksCheck, AsksRun, RunOrder}
+use Rattle.mcv_words.specs.declared.options.Window as asked
 
 -- ---- the faults of a verdict, as the program's
 
-pub judging_stop : (words : List Text) (held : Held) (input : Option Text) (cert : Option Text) (window : ℕ) (stop : Stop) → AsksCheck words cert window
-    → IsJudgingFault held cert window input stop → IsStop words held input stop
+pub judging_stop : (words : List Text) (held : Held) (input : Option Text) (cert : Option Text) (window : asked.Window) (stop : Stop) → AsksCheck words cert window
+    → IsJudgingFault held cert window.seconds input stop → IsStop words held input stop
 judging_stop words held input cert window BadLine asks holds = absurd holds
 judging_stop words held input cert window (Run fault) asks holds = inr (inr (inl (cert, window, asks, holds)))
 
-pub running_stop : (words : List Text) (held : Held) (input : Option Text) (v : RunValue) (stop : Stop) → AsksRun words v → IsJudgingFault held None v.window input stop
-    → IsStop words held input stop
-running_stop words held input v BadLine asks holds = absurd holds
-running_stop words held input v (Run fault) asks holds = inr (inr (inr (v, asks, holds)))
+pub running_stop : (words : List Text) (held : Held) (input : Option Text) (order : RunOrder) (stop : Stop) → AsksRun words order
+    → IsJudgingFault held None order.settings.window.seconds input stop → IsStop words held input stop
+running_stop words held input order BadLine asks holds = absurd holds
+running_stop words held input order (Run fault) asks holds = inr (inr (inr (order, asks, holds)))
 
 -- a fault that is outside is out of memory or a device's
 pub outside_stop : (stop : Stop) (fault : RunFault) → stop ≡ Run fault → IsOutside fault → stop ≢ Run Device → stop ≢ Run Memory → ⊥

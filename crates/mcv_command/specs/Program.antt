@@ -13,7 +13,8 @@ use Rattle.mcv_verdict.specs.Fault as check
 use Rattle.mcv_verdict.specs.Verdict.{IsVerdictOn}
 use Rattle.mcv_verdict.specs.declared.verdict.Verdict.{Verdict}
 use Rattle.mcv_verdict.specs.declared.verdict.Verdict.TheVariants as verdicts
-use Rattle.mcv_words.specs.Words.{AsksCheck, AsksRun, IsJobOf, IsLineFault, RunValue, faults}
+use Rattle.mcv_words.specs.Words.{AsksCheck, AsksRun, IsJobOf, IsLineFault, RunOrder, faults}
+use Rattle.mcv_words.specs.declared.options.Window.{Window}
 use Rattle.mcv_words.specs.declared.words.Job.TheVariants as jobs
 use Rattle.mcv_words.specs.declared.words.LineFault.TheVariants as line_fault
 use Rattle.mcv_command.specs.declared.stop.Ending.{Ending}
@@ -45,21 +46,20 @@ abbrev pub IsJudgingFault : Held → Option Text → (window : ℕ) → (input :
 IsJudgingFault held cert window input BadLine = ⊥
 IsJudgingFault held cert window input (Run fault) = IsOutside fault ⊎ IfSome input (λ bytes. IfGiven held cert (λ certificate. check.IsRunFault bytes window certificate fault))
 
--- what it is that routes were served: at an address, with the spool in the file of this name, until so many sessions had ended, by so many
--- proxies side by side, from what the writer held to what it holds
+-- what it is that routes were served as `run` was asked for, from what the writer held to what it holds
 abbrev pub Serves : Type 1
-Serves = RoutesValue → (listen spool : Text) → (sessions proxies : ℕ) → (old new : Option Text) → Type 0
+Serves = RoutesValue → RunOrder → (old new : Option Text) → Type 0
 
 -- the input names routes, these are covered within the window, and the proxy served them; or the verdict that they aren't was written
-abbrev pub IsServed : Held → Serves → RunValue → (input old new : Option Text) → Ending → Type 0
-IsServed held serves v input old new ending =
-    ((r : RoutesValue) × IfSome input (λ bytes. AreNamedBy bytes r) × AreCovered (within v.window r)
-    × serves (within v.window r) v.listen v.spool v.sessions v.proxies old new × (ending ≡ Done))
-    ⊎ (IsJudged held None v.window input old new Lost × (ending ≡ Lost))
+abbrev pub IsServed : Held → Serves → RunOrder → (input old new : Option Text) → Ending → Type 0
+IsServed held serves order input old new ending =
+    ((r : RoutesValue) × IfSome input (λ bytes. AreNamedBy bytes r) × AreCovered (within order.settings.window.seconds r)
+    × serves (within order.settings.window.seconds r) order old new × (ending ≡ Done))
+    ⊎ (IsJudged held None order.settings.window.seconds input old new Lost × (ending ≡ Lost))
 
 -- the words ask for a run
 abbrev pub AsksAnyRun : List Text → Type 0
-AsksAnyRun words = (v : RunValue) × AsksRun words v
+AsksAnyRun words = (order : RunOrder) × AsksRun words order
 
 abbrev pub version_line : Text
 version_line = codes "mcv 1\n"
@@ -75,8 +75,8 @@ abbrev pub IsDone : List Text → Held → Serves → (input old new : Option Te
 IsDone words held serves input old new ending =
     ((text : Text) × IsShownFor words text × Appends old new text × (ending ≡ Done))
     ⊎ (((at : Moment) × IsJobOf words (jobs.Legs at) × (text : Text) × IfSome input (λ bytes. IsAnswer at.0 bytes text) × Appends old new text × (ending ≡ Done))
-    ⊎ (((cert : Option Text) × (window : ℕ) × AsksCheck words cert window × IsJudged held cert window input old new ending)
-    ⊎ ((v : RunValue) × AsksRun words v × IsServed held serves v input old new ending)))
+    ⊎ (((cert : Option Text) × (window : Window) × AsksCheck words cert window × IsJudged held cert window.seconds input old new ending)
+    ⊎ ((order : RunOrder) × AsksRun words order × IsServed held serves order input old new ending)))
 
 -- the words are at fault; or memory ran out, or a device failed; or the words ask for legs, for a verdict or for a run, and the fault is in
 -- what was read
@@ -85,5 +85,5 @@ IsStop words held input BadLine = IsLineFault words line_fault.BadLine
 IsStop words held input (Run fault) =
     IsOutside fault
     ⊎ (((at : Moment) × IsJobOf words (jobs.Legs at) × IfSome input (λ bytes. legs.IsRunFault bytes fault))
-    ⊎ (((cert : Option Text) × (window : ℕ) × AsksCheck words cert window × IsJudgingFault held cert window input (Run fault))
-    ⊎ ((v : RunValue) × AsksRun words v × IsJudgingFault held None v.window input (Run fault))))
+    ⊎ (((cert : Option Text) × (window : Window) × AsksCheck words cert window × IsJudgingFault held cert window.seconds input (Run fault))
+    ⊎ ((order : RunOrder) × AsksRun words order × IsJudgingFault held None order.settings.window.seconds input (Run fault))))

@@ -13,7 +13,8 @@ key `a` reach? Serve clients at port 5000.
 
   mcv check < mcrouter.json
   (echo 'delete a'; cat mcrouter.json) | mcv legs
-  mcv run --listen 127.0.0.1:5000 --spool mcv.spool < mcrouter.json
+  mcv run --listen 127.0.0.1:5000 --spool mcv.spool --server-timeout 1000 \\
+    < mcrouter.json
 
 Exit status:
   0  done, or help or the version was asked for
@@ -72,8 +73,8 @@ pub(crate) const CHECK_ABOUT: &str = "Decides whether a configuration can lose a
 
 pub(crate) const CERT: &str = "A certificate in place of one that mcv makes";
 
-pub(crate) const WINDOW: &str = "How many seconds may lie between a delete and a get,
-from 0 to 4294967295";
+pub(crate) const WINDOW: &str = "How many seconds may lie between a delete and a
+get, from 0 to 4294967295";
 
 pub(crate) const CHECK_FORM: &str =
     "Standard input has the configuration as JSON; `mcv legs --help` says which route
@@ -170,10 +171,16 @@ pub(crate) const LISTEN: &str = "The address at which clients connect, as HOST:P
 pub(crate) const SPOOL: &str = "The file that keeps deletes which wait for a server";
 
 pub(crate) const SESSIONS: &str = "After how many sessions the program ends,
-from 1 to 1000000000";
+from 1 to 1000000000; without it, after none";
 
 pub(crate) const PROXIES: &str = "How many proxies run side by side,
 from 1 to 64";
+
+pub(crate) const SERVER_TIMEOUT: &str = "How many milliseconds a server may take,
+from 1 to 3600000; without it, any time";
+
+pub(crate) const CLIENT_TIMEOUT: &str = "How many milliseconds a client may send or
+take nothing, from 1 to 3600000; without it, any";
 
 pub(crate) const RUN_FORM: &str =
     "Standard input has the configuration as JSON; `mcv legs --help` says which route
@@ -182,7 +189,8 @@ where it can lose a delete, standard output has the finding and the exit status
 is 3. Only then is the address bound, and the spool file opened, or made where
 there is none.
 
-  mcv run --listen 127.0.0.1:5000 --spool mcv.spool < mcrouter.json
+  mcv run --listen 127.0.0.1:5000 --spool mcv.spool --server-timeout 1000 \\
+    < mcrouter.json
 
 Clients send requests of memcached's text protocol to the address. Standard
 output has one line when they can connect, and one at the end:
@@ -199,6 +207,14 @@ Each proxy has its own connections to every server; clients are dealt out to
 them one after another. Have as many as the machine has processors. With more
 than one, requests of different clients reach a server in no order, as with
 mcrouter's `--num-proxies`.
+
+A server that doesn't reply in its time has failed: the connection is closed,
+what it was asked isn't sent again at once (a delete goes to the spool), and
+after three failures in a row it is sent nothing until it answers a probe. It
+may still perform what it was asked, also behind a later delete. Without
+`--server-timeout` a server that takes connections and never answers keeps its
+clients waiting, and in time those of all servers: a line on standard error says
+so at the start.
 
 Exit status:
   0  ended, or help was asked for

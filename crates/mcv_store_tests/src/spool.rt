@@ -2,4 +2,5 @@
 
 mod disk;
 mod play;
-mod runs;
+mod rows;
+mod stops;

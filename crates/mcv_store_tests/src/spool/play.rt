@@ -1,7 +1,7 @@
 //! Scripts of a spool: what its calls give, and what is pending, as `0:a;2:c;`, each record with its number and rest.
 
 use super::disk::{Borrowed, TestDisk};
-use super::runs::{open, record};
+use super::rows::{open, record};
 use crate::script::{Line, check, line_of, number_of, shown};
 use mcv_spool::{Disk, Slot, Spool, Stored};
 use std::process::Abort;

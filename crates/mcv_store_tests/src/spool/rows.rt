@@ -1,9 +1,9 @@
-//! What no clause says: the bytes of the worked rows, and runs that fail or stop at each of their calls.
+//! What no clause says: the bytes of the worked rows, the numbers of faults, and files of the system.
 
-use super::disk::{Borrowed, Left, TestDisk, Trouble};
+use super::disk::{Borrowed, Call, TestDisk, Trouble};
 use super::play::{play, play_on};
 use mcv_base::{Rest, ServerText};
-use mcv_spool::{Disk, FileDisk, Slot, Spool, SpoolFault, SpoolRecord};
+use mcv_spool::{Disk, FileDisk, Spool, SpoolFault, SpoolRecord};
 use std::alloc::Global;
 use std::io::ErrorKind;
 use std::process::Abort;
@@ -20,8 +20,8 @@ pub(super) fn open(alloc: Global, disk: &mut TestDisk) -> Result<Spool<Borrowed<
     Spool::open(alloc, Borrowed { disk })
 }
 
-fn empty_disk(alloc: Global) -> TestDisk {
-    TestDisk::new(alloc, Vec::new(alloc))
+pub(super) fn empty_disk(rt: &(impl AllocGlobal + Abort)) -> TestDisk {
+    TestDisk::new(rt.alloc(), Vec::new(rt.alloc())).expect(rt, "memory")
 }
 
 /// The number of the record that is appended, if it is the one that was asked for.
@@ -34,22 +34,10 @@ fn append<D: Disk>(spool: &mut Spool<D>, server: &[u8], rest: &[u8]) -> Option<u
     }
 }
 
-/// How many slots the file of a spool has: the number of the record that is appended next.
-fn slots_counted<D: Disk>(spool: &mut Spool<D>) -> Option<u64> {
-    append(spool, b"a:11211", b"next")
-}
-
-/// How many slots a file opens to.
-fn slots_of(rt: &(impl AllocGlobal + Abort), bytes: Vec<u8>) -> Option<u64> {
-    let mut disk = TestDisk::new(rt.alloc(), bytes);
-    let mut spool = open(rt.alloc(), &mut disk).expect(rt, "a spool");
-    slots_counted(&mut spool)
-}
-
 /// Nothing is pending in this file once it is opened, and it is one closed gate then.
 fn check_gate(rt: &(impl AllocGlobal + Abort), bytes: &[u8]) {
     let bytes = bytes.to_vec(rt.alloc()).expect(rt, "memory");
-    let mut disk = TestDisk::new(rt.alloc(), bytes);
+    let mut disk = TestDisk::new(rt.alloc(), bytes).expect(rt, "memory");
     play_on(rt, &mut disk, "pending = ");
     assert!(rt;
         disk.bytes.as_slice() == b"\x00".as_slice(),
@@ -91,7 +79,7 @@ pending = 1:ab;";
 
 #[test]
 fn records_are_spelled_byte_for_byte(rt: HostRuntime) {
-    let mut disk = empty_disk(rt.alloc());
+    let mut disk = empty_disk(&rt);
     play_on(&rt, &mut disk, SPELLED);
     let bytes = disk.bytes.as_slice();
     assert!(rt; bytes.len() == 1_281);
@@ -118,7 +106,7 @@ pending = 0:a;3:d;";
 
 #[test]
 fn records_are_done_in_any_order(rt: HostRuntime) {
-    let mut disk = empty_disk(rt.alloc());
+    let mut disk = empty_disk(&rt);
     play_on(&rt, &mut disk, DONE);
 }
 
@@ -151,7 +139,7 @@ fn spoil(bytes: &mut Vec<u8>) -> Option<()> {
 /// An opening closes the end gate, and one that is refused for damage has written nothing.
 #[test]
 fn a_length_that_does_not_read_is_damage(rt: HostRuntime) {
-    let mut disk = empty_disk(rt.alloc());
+    let mut disk = empty_disk(&rt);
     play_on(&rt, &mut disk, "append a:11211 a = 0 a");
     assert!(rt; spoil(&mut disk.bytes).is_some());
     assert!(rt; open(rt.alloc(), &mut disk).err() == Some(SpoolFault::Damaged(0)));
@@ -183,169 +171,45 @@ done 0 = Err(Reopen)
 reopen = Ok(())
 pending = 0:a;";
 
+/// An opening of an empty file makes eight calls, an append four: this is the first sync of the second append.
 #[test]
 fn a_failed_sync_wants_a_reopen(rt: HostRuntime) {
-    let mut disk = empty_disk(rt.alloc());
-    disk.trouble = Trouble::FailAt(12);
+    let mut disk = empty_disk(&rt);
+    disk.trouble = Trouble::Fails { call: 13, bytes: 0 };
     play_on(&rt, &mut disk, FAILED);
+}
+
+/// The other program writes as the reopening renews the disk.
+const SPOILED: &str = "\
+append a:11211 a = 0 a
+append b:11211 ab = 1 ab
+reopen = Err(Damaged(1))
+pending = 0:a;1:ab;
+append a:11211 c = Reopen
+done 0 = Err(Reopen)
+reopen = Err(Damaged(1))";
+
+/// A record that another program spoiled is found by a reopening, which writes nothing.
+#[test]
+fn a_reopening_finds_damage(rt: HostRuntime) {
+    let mut disk = empty_disk(&rt);
+    disk.trouble = Trouble::Spoils {
+        call: 16,
+        at: 645,
+        byte: 0,
+    };
+    play_on(&rt, &mut disk, SPOILED);
+    assert!(rt; disk.count(Call::Write(1)) == 3 && disk.count(Call::Cut) == 1);
 }
 
 /// Each opening renews the disk once, and no other call does.
 #[test]
 fn each_opening_renews_the_disk(rt: HostRuntime) {
-    let mut disk = empty_disk(rt.alloc());
+    let mut disk = empty_disk(&rt);
     play_on(&rt, &mut disk, "append a:11211 a = 0 a");
-    assert!(rt; disk.renewals == 1);
+    assert!(rt; disk.count(Call::Renew) == 1);
     play_on(&rt, &mut disk, "reopen = Ok(())");
-    assert!(rt; disk.renewals == 3);
-}
-
-/// What a run was answered.
-#[derive(Clone, Copy, Drop)]
-struct Reported {
-    stored: u64,
-    done: bool,
-}
-
-/// Appends three records and marks the first as done.
-fn run_on(spool: &mut Spool<Borrowed<'_>>) -> Reported {
-    let mut stored = 0u64;
-    for rest in [b"a", b"b", b"c"] {
-        if append(spool, b"a:11211", rest).is_none() {
-            let done = false;
-            return Reported { stored, done };
-        }
-        stored = stored.saturating_add(1);
-    }
-    let _ = spool.done(0);
-    let done = true;
-    Reported { stored, done }
-}
-
-/// Opens a spool, appends three records and marks the first as done: 20 calls of the disk.
-fn run(alloc: Global, disk: &mut TestDisk) -> Reported {
-    match open(alloc, disk) {
-        Ok(mut spool) => run_on(&mut spool),
-        Err(_) => Reported {
-            stored: 0,
-            done: false,
-        },
-    }
-}
-
-/// Whether the record of a slot, if it is pending, is the one that the run appended under its number.
-fn is_of_the_run(number: usize, slot: &Slot) -> bool {
-    match slot.record() {
-        Some(record) => {
-            record.rest.as_bytes() == [b'a'.saturating_add(number.min(9) as u8)].as_slice()
-        }
-        None => true,
-    }
-}
-
-/// How many records are pending, if each is of the run.
-fn pending_of_the_run<D: Disk>(spool: &Spool<D>) -> Option<u64> {
-    let mut count = 0u64;
-    for (number, slot) in spool.pending().iter().enumerate() {
-        if !is_of_the_run(number, slot) {
-            return None;
-        }
-        count = count.saturating_add(u64::from(slot.record().is_some()));
-    }
-    Some(count)
-}
-
-/// Whether a file of so many slots, of which so many are pending, has the records that the run stored, none missing but
-/// the one that is done.
-fn is_count_of(reported: Reported, count: u64, pending: u64) -> bool {
-    let missing = count.saturating_sub(pending);
-    reported.stored <= count
-        && count <= reported.stored.saturating_add(1)
-        && (missing == 0 || (reported.done && missing == 1))
-}
-
-/// Whether what is opened are the first records of the run, those stored among them. One record more is appended for the
-/// count.
-fn is_kept<D: Disk>(spool: &mut Spool<D>, reported: Reported) -> bool {
-    match pending_of_the_run(spool) {
-        Some(pending) => match slots_counted(spool) {
-            Some(count) => is_count_of(reported, count, pending),
-            None => false,
-        },
-        None => false,
-    }
-}
-
-#[test]
-fn a_run_has_twenty_calls(rt: HostRuntime) {
-    let mut disk = empty_disk(rt.alloc());
-    let reported = run(rt.alloc(), &mut disk);
-    assert!(rt; reported.stored == 3 && reported.done && disk.calls.len() == 20);
-}
-
-/// The run on an empty disk with this trouble.
-fn run_in(alloc: Global, disk: &mut TestDisk, trouble: Trouble) -> Reported {
-    disk.trouble = trouble;
-    run(alloc, disk)
-}
-
-/// The records of a run that stops at this call are kept in what it leaves.
-fn check_stop(rt: &(impl AllocGlobal + Abort), call: usize, left: Left) {
-    let mut disk = empty_disk(rt.alloc());
-    let reported = run_in(rt.alloc(), &mut disk, Trouble::StopAt(call));
-    let bytes = disk.left(left).expect(rt, "memory");
-    let mut after = TestDisk::new(rt.alloc(), bytes);
-    let mut spool = open(rt.alloc(), &mut after).expect(rt, "a spool");
-    assert!(rt; is_kept(&mut spool, reported), "stop at call {call}");
-}
-
-#[test]
-fn records_outlive_a_stop_at_each_call(rt: HostRuntime) {
-    for call in 0..20 {
-        check_stop(&rt, call, Left::Synced);
-        check_stop(&rt, call, Left::Seen);
-        check_stop(&rt, call, Left::Torn);
-    }
-}
-
-/// The records of a run of which this call fails are kept, also once the spool is opened anew.
-fn check_failure(rt: &(impl AllocGlobal + Abort), call: usize, reopens: bool) {
-    let mut disk = empty_disk(rt.alloc());
-    let reported = run_in(rt.alloc(), &mut disk, Trouble::FailAt(call));
-    let mut spool = open(rt.alloc(), &mut disk).expect(rt, "a spool");
-    let opened = !reopens || spool.reopen().is_ok();
-    assert!(rt;
-        opened && is_kept(&mut spool, reported),
-        "failure of call {call}"
-    );
-}
-
-#[test]
-fn records_outlive_a_failure_of_each_call(rt: HostRuntime) {
-    for call in 0..20 {
-        check_failure(&rt, call, false);
-        check_failure(&rt, call, true);
-    }
-}
-
-/// So many records of a run that stops at this call were answered to be stored, and its file has so many slots.
-fn check_left(rt: &(impl AllocGlobal + Abort), call: usize, left: Left, stored: u64, slots: u64) {
-    let mut disk = empty_disk(rt.alloc());
-    let reported = run_in(rt.alloc(), &mut disk, Trouble::StopAt(call));
-    let bytes = disk.left(left).expect(rt, "memory");
-    assert!(rt;
-        reported.stored == stored && slots_of(rt, bytes) == Some(slots),
-        "stop at call {call}"
-    );
-}
-
-/// The second append makes the calls 11 to 14.
-#[test]
-fn the_second_record_counts_after_the_second_sync(rt: HostRuntime) {
-    check_left(&rt, 11, Left::Torn, 1, 1);
-    check_left(&rt, 12, Left::Torn, 1, 1);
-    check_left(&rt, 13, Left::Synced, 1, 1);
-    check_left(&rt, 15, Left::Synced, 2, 2);
+    assert!(rt; disk.count(Call::Renew) == 3);
 }
 
 /// A path that no other run of the tests has, nor another test.
@@ -440,6 +304,33 @@ fn what_is_not_synced_is_written_again(rt: HostRuntime) {
     let path = own_path(&rt, &rt, "renewed");
     check_writes(&rt, &rt, path.as_str());
     check_bytes(&rt, &rt, path.as_str(), b"axy");
+    remove(&rt, &rt, path.as_str());
+}
+
+/// Whether a disk takes so many writes of a byte with no sync between them.
+fn takes(disk: &mut FileDisk, count: usize) -> bool {
+    for at in 0..count {
+        if disk.write_at(at, b"x").is_err() {
+            return false;
+        }
+    }
+    true
+}
+
+fn check_many(host: &HostRuntime, rt: &impl Abort, path: &str) {
+    let mut disk = FileDisk::open(host, path).expect(rt, "a file");
+    assert!(rt;
+        takes(&mut disk, 2_500) && disk.renew().is_ok(),
+        "not written"
+    );
+    let bytes = fs::read(host, path).expect(rt, "bytes");
+    assert!(rt; bytes.len() == 2_500 && bytes.iter().all(|byte| *byte == b'x'));
+}
+
+#[test]
+fn a_file_of_the_system_takes_any_number_of_writes_without_a_sync(rt: HostRuntime) {
+    let path = own_path(&rt, &rt, "writes");
+    check_many(&rt, &rt, path.as_str());
     remove(&rt, &rt, path.as_str());
 }
 
