@@ -253,25 +253,14 @@ fn begin_in_chapter<'a, B: Ledger, T: Ledger, R: Wait + Clock>(
 {
     let mut guard = guard;
     let mut patience = Patience { since: None };
-    let mut has_turned = false;
     for _attempt in rt.forever() {
-        let Ok(request) = Arc::try_clone(request) else {
-            return (guard, Err(CoreFault::Memory));
-        };
-        match events::begin(alloc, agenda, &mut guard, seat, request, key) {
-            Err(CoreFault::ChapterFull) => {}
-            answer => return (guard, answer),
+        if let Some(answer) = events::begin_in_turn(alloc, agenda, &mut guard, seat, request, key) {
+            return (guard, answer);
         }
-        if has_turned {
+        if key > 0 || patience.is_over(rt) {
             return (guard, Err(CoreFault::ChapterFull));
         }
-        has_turned = guard.turn().is_ok();
-        if !has_turned {
-            if key > 0 || patience.is_over(rt) {
-                return (guard, Err(CoreFault::ChapterFull));
-            }
-            guard = hub.wait_for(rt, guard, Bell::Chapter, Duration::from_millis(PAUSE));
-        }
+        guard = hub.wait_for(rt, guard, Bell::Chapter, Duration::from_millis(PAUSE));
     }
     unreachable!()
 }
