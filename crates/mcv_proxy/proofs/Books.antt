@@ -1,5 +1,5 @@
 -- What a seat counts, by what an event of the hub is.
-use Rattle.std.proofs.Common.{◌≡◌, ◌+◌, ℕ, List, Option, None, Some, Result, Ok, Err, ap, arith}
+use Rattle.std.proofs.Common.{◌≡◌, ◌+◌, ℕ, List, Option, None, Some, Result, Ok, Err, ap, arith, refl}
 use Rattle.std.specs.Prelude.{IfErr, IfNone, IfOk, IfSome, OnErr, OnOk}
 use Rattle.mcv_base.specs.declared.request.CallId.{CallId}
 use Rattle.mcv_base.specs.declared.request.Request.{Request}
@@ -30,6 +30,18 @@ refusal_of v chosen request key Memory h = tt
 refusal_of v chosen request key NoSuchCall h = h
 
 -- ---- a call begins
+
+-- memory ran out before
+pub without_memory : (old : HubView) (chosen : SymbolValue → List ℕ → ℕ) (request : Request) (key : ℕ) → IsHubEvent (IsBegun (core_view old.core) chosen request key (Err Memory)) old old
+without_memory old chosen request key = record {
+  move = None;
+  event = record { cause = tt; none = refl; same = refl };
+  writes = refl;
+  begun = omega arith;
+  taken = omega arith;
+  chapter = record { chapter = refl; begun_before = refl; taken_before = refl };
+  opening = λ world leads. leads;
+}
 
 module _ (chosen : SymbolValue → List ℕ → ℕ) (request : Request) (key : ℕ) (old new : HubView) where
   pub begun_counts : (r : Result CallId CoreFault) (a a2 : ℕ) → IsHubEvent (IsBegun (core_view old.core) chosen request key r) old new → a2 + old.begun ≡ a + new.begun → OnOk r (a2 ≡ a + 1)
