@@ -1,5 +1,5 @@
 -- What events do to the borrowed state beyond the hub's own (own).
-use Rattle.std.specs.Prelude.{◌≡◌, ◌≢◌, ◌⊎◌, ℕ, Option, None, Some, Result, Err, OnOk, OnErr}
+use Rattle.std.specs.Prelude.{◌≡◌, ◌≢◌, ◌⊎◌, ℕ, Bool, false, true, Result, Err, OnOk, OnErr}
 use Rattle.mcv_base.specs.declared.request.CallId.{CallId}
 use Rattle.mcv_base.specs.declared.request.LegId.{LegId}
 use Rattle.mcv_base.specs.declared.request.ServerId.{ServerId}
@@ -12,6 +12,7 @@ use Rattle.mcv_core.specs.declared.fault.CoreFault.TheVariants.{ChapterFull}
 use Rattle.mcv_core.specs.declared.step.Step.{Step}
 use Rattle.mcv_hub.specs.Events.{BeginsChapter, IsBusyChapter, IsHubEvent}
 use Rattle.mcv_hub.specs.State.{HubView}
+use Rattle.mcv_proxy.specs.declared.events.Attempt.{Attempt}
 
 -- the leg was lost, and then the server marked where three or more failures came in a row; where the loss is refused
 -- nothing has changed
@@ -26,24 +27,31 @@ pub record IsLoss (server : ServerId) (leg : LegId) (old new : HubView) (result 
 
 -- the call is begun, or refused, under the lock
 abbrev pub Begins : HubView → Request → ℕ → Result CallId CoreFault → HubView → Type 0
-Begins old request key answer new = IsHubEvent (IsBegun (core_view old.core) fnv_index request key answer) old new
+Begins old request key begun new = IsHubEvent (IsBegun (core_view old.core) fnv_index request key begun) old new
+
+-- the chapter has a place for it, or it is refused for something else
+abbrev pub BeginsHere : HubView → Request → ℕ → Result CallId CoreFault → HubView → Type 0
+BeginsHere old request key begun new = Begins old request key begun new × (begun ≢ Err ChapterFull)
 
 -- this chapter has no place for it; another one begins, and in that the call is begun once more
-pub record BeginsInNext (old : HubView) (request : Request) (key : ℕ) (answer : Result CallId CoreFault) (new : HubView) : Type 0 where
+pub record BeginsInNext (old : HubView) (request : Request) (key : ℕ) (begun : Result CallId CoreFault) (new : HubView) : Type 0 where
   pub full : HubView
   pub turned : HubView
   pub refused : Begins old request key (Err ChapterFull) full
   pub turns : BeginsChapter full turned
-  pub begins : Begins turned request key answer new
+  pub begins : Begins turned request key begun new
 
 -- this chapter has no place for it, and can't end yet
-pub record FindsNoPlace (old : HubView) (request : Request) (key : ℕ) (new : HubView) : Type 0 where
+pub record FindsNoPlace (old : HubView) (request : Request) (key : ℕ) (begun : Result CallId CoreFault) (new : HubView) : Type 0 where
   pub full : HubView
   pub fault : CoreFault
   pub refused : Begins old request key (Err ChapterFull) full
   pub stays : IsBusyChapter full new fault
+  pub answer : begun ≡ Err ChapterFull
 
--- None: it waits
-abbrev pub IsAttempt : HubView → Request → ℕ → Option (Result CallId CoreFault) → HubView → Type 0
-IsAttempt old request key (Some answer) new = (Begins old request key answer new × (answer ≢ Err ChapterFull)) ⊎ BeginsInNext old request key answer new
-IsAttempt old request key None new = FindsNoPlace old request key new
+abbrev pub IsTried : HubView → Request → ℕ → (may_wait : Bool) → Result CallId CoreFault → HubView → Type 0
+IsTried old request key false begun new = BeginsHere old request key begun new ⊎ BeginsInNext old request key begun new
+IsTried old request key true begun new = FindsNoPlace old request key begun new
+
+abbrev pub IsAttempt : HubView → Request → ℕ → Attempt → HubView → Type 0
+IsAttempt old request key attempt new = IsTried old request key attempt.may_wait attempt.begun new

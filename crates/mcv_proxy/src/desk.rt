@@ -5,11 +5,12 @@ ghost use Rattle.std.specs.Arc.{arc_value};
 ghost use Rattle.std.specs.List.{All, filter};
 ghost use Rattle.mcv_text.specs.Request.{request_value};
 ghost use Rattle.mcv_session.specs.Desk.{keys_of};
-ghost use Rattle.mcv_proxy.specs.Desk.{AreFor, AreTaken, Asks, IsFor, IsRefusal, IsRouted, IsUnanswered, IsUnbegun, IsUnrouted, WasTaken, desk_fault, with_receipt, word_at};
+ghost use Rattle.mcv_proxy.specs.Desk.{AreFor, AreTaken, Asks, IsFor, IsRouted, IsUnanswered, IsUnbegun, IsUnrouted, WasRefused, WasTaken, desk_fault, with_receipt, word_at};
 
 use crate::agenda::Agenda;
 use crate::errands::Errands;
 use crate::events;
+use crate::events::Attempt;
 use crate::gates::{Link, Watch};
 use crate::lanes::{Lanes, Links};
 use mcv_base::{CallId, Op, Part, Request, Rest, key_words_have_one_reading, split_key};
@@ -193,7 +194,7 @@ fn are_for(routes: &Routes, request: &Request, taken: &[TakenReply]) -> bool
 
 /// Why the hub began no call for a key, as far as the routes say so: where one of them takes it, it is NoSuchCall.
 fn confirmed(routes: &Routes, request: &Request, key: usize, fault: CoreFault) -> CoreFault
-    requires { IsRefusal fault }
+    requires { WasRefused (request_value request.now) key fault }
     ensures { IsUnbegun routes.now (request_value request.now) key result }
 {
     match fault {
@@ -246,7 +247,7 @@ fn begin_in_chapter<'a, B: Ledger, T: Ledger, R: Wait + Clock>(
     request: &Arc<Request>,
     key: usize,
 ) -> (Guard<'a, B, T>, Result<CallId, CoreFault>)
-    ensures err { IfErr result.1 IsRefusal }
+    ensures err { IfErr result.1 (WasRefused (request_value (arc_value request.now)) key) }
     ensures begun { OnOk result.1 (seat.new.begun.amount ≡ seat.old.begun.amount + 1) }
     ensures unbegun { OnErr result.1 (seat.new.begun.amount ≡ seat.old.begun.amount) }
     ensures taken { seat.new.taken.amount ≡ seat.old.taken.amount }
@@ -254,11 +255,11 @@ fn begin_in_chapter<'a, B: Ledger, T: Ledger, R: Wait + Clock>(
     let mut guard = guard;
     let mut patience = Patience { since: None };
     for _attempt in rt.forever() {
-        if let Some(answer) = events::begin_in_turn(alloc, agenda, &mut guard, seat, request, key) {
-            return (guard, answer);
-        }
-        if key > 0 || patience.is_over(rt) {
-            return (guard, Err(CoreFault::ChapterFull));
+        let Attempt { begun, may_wait } = events::begin_in_turn(
+            alloc, agenda, &mut guard, seat, request, key,
+        );
+        if !may_wait || key > 0 || patience.is_over(rt) {
+            return (guard, begun);
         }
         guard = hub.wait_for(rt, guard, Bell::Chapter, Duration::from_millis(PAUSE));
     }
