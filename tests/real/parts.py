@@ -11,6 +11,8 @@ import time
 
 # Seconds that any wait may take. What is awaited comes in milliseconds; the rest is for a machine that is busy.
 LIMIT = 30.0
+# What a run says on standard error where it has no limit for servers.
+UNLIMITED = b"mcv: no --server-timeout: a server that never answers will stop all clients\n"
 # Servers take values of 1 MiB; without this memcached's own limit counts the key and the item's head too.
 ITEM_LIMIT = "2m"
 
@@ -228,10 +230,10 @@ class Machine:
         return server
 
     def words(self, listen="127.0.0.1:0", spool=None, **numbers):
-        """The words of `mcv run`; more options (sessions, proxies, window) by their names."""
+        """The words of `mcv run`; more options by their names, as server_timeout=200."""
         spool = spool or self.path("mcv.spool")
         words = [self.program, "run", "--listen", listen, "--spool", spool]
-        return words + [word for name, number in numbers.items() for word in ("--" + name, str(number))]
+        return words + [word for name, number in numbers.items() for word in ("--" + name.replace("_", "-"), str(number))]
 
     def config_file(self, config):
         path = self.path("config.json")

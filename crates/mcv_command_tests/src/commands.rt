@@ -6,7 +6,7 @@ use crate::devices::is_written;
 use mcv_check::Accepted;
 use mcv_command::{Ending, NamedFiles, Proxy, Stop, run_words};
 use mcv_input::{RunFault, read_at_most};
-use mcv_words::{Job, LineFault, RunOptions, read_words};
+use mcv_words::{CheckOptions, Job, LineFault, RunOptions, read_words};
 use std::alloc::Global;
 use std::io::Write;
 use std::process::Abort;
@@ -35,27 +35,50 @@ mcv check --cert=: check 0 by
 mcv check --cert: bad line
 mcv check --cert a --cert b: bad line
 mcv check a.cert: bad line
+mcv check --explain: check 0, explained
+mcv check --json -q --window 60: check 60, as JSON, quietly
+mcv check --explain --cert a.cert: check 0 by a.cert, explained
+mcv check --json --json: bad line
+mcv check --explain=yes: bad line
+mcv draw: draw
+mcv draw --dot: draw for Graphviz
+mcv draw --dot -q: draw for Graphviz
+mcv draw --svg: bad line
 mcv check --at 1: bad line
 mcv legs --cert a: bad line
-mcv run --listen h:1 --spool f: run h:1 f 1000000000 1 0
-mcv run --spool=f --listen=h:1 --sessions=+7: run h:1 f 7 1 0
-mcv run --listen h:1 --spool f --sessions 1: run h:1 f 1 1 0
-mcv run --listen h:1 --spool f --sessions 1000000000: run h:1 f 1000000000 1 0
+mcv mend: mend
+mcv mend x: bad line
+mcv mend --cert a: bad line
+mcv mend --window 1: bad line
+mcv run --listen h:1 --spool f: run h:1 f - 1 0 - -
+mcv run --spool=f --listen=h:1 --sessions=+7: run h:1 f 7 1 0 - -
+mcv run --listen h:1 --spool f --sessions 1: run h:1 f 1 1 0 - -
+mcv run --listen h:1 --spool f --sessions 1000000000: run h:1 f 1000000000 1 0 - -
 mcv run --listen h:1 --spool f --sessions 1000000001: bad line
 mcv run --listen h:1 --spool f --sessions 0: bad line
 mcv run --listen h:1 --spool f --sessions -1: bad line
 mcv run --listen h:1 --spool f --sessions all: bad line
 mcv run --listen h:1 --spool f --sessions: bad line
 mcv run --listen h:1 --spool f --sessions 1 --sessions 2: bad line
-mcv run --listen h:1 --spool f --proxies 1: run h:1 f 1000000000 1 0
-mcv run --listen h:1 --spool f --proxies=64 --sessions 7: run h:1 f 7 64 0
+mcv run --listen h:1 --spool f --proxies 1: run h:1 f - 1 0 - -
+mcv run --listen h:1 --spool f --proxies=64 --sessions 7: run h:1 f 7 64 0 - -
 mcv run --listen h:1 --spool f --proxies 65: bad line
 mcv run --listen h:1 --spool f --proxies 0: bad line
 mcv run --listen h:1 --spool f --proxies auto: bad line
 mcv run --listen h:1 --spool f --proxies: bad line
 mcv run --listen h:1 --spool f --proxies 1 --proxies 2: bad line
-mcv run --listen= --spool=: run   1000000000 1 0
-mcv run --listen h:1 --spool f --window 60: run h:1 f 1000000000 1 60
+mcv run --listen h:1 --spool f --server-timeout 200: run h:1 f - 1 0 200 -
+mcv run --listen h:1 --spool f --server-timeout=1 --client-timeout=3600000: run h:1 f - 1 0 1 3600000
+mcv run --listen h:1 --spool f --client-timeout 200: run h:1 f - 1 0 - 200
+mcv run --listen h:1 --spool f --server-timeout 0: bad line
+mcv run --listen h:1 --spool f --server-timeout 3600001: bad line
+mcv run --listen h:1 --spool f --server-timeout 1s: bad line
+mcv run --listen h:1 --spool f --server-timeout: bad line
+mcv run --listen h:1 --spool f --client-timeout 0: bad line
+mcv run --listen h:1 --spool f --client-timeout 3600001: bad line
+mcv run --listen h:1 --spool f --client-timeout 1 --client-timeout 1: bad line
+mcv run --listen= --spool=: run   - 1 0 - -
+mcv run --listen h:1 --spool f --window 60: run h:1 f - 1 60 - -
 mcv run --listen h:1 --spool f --window 4294967296: bad line
 mcv run: bad line
 mcv run --listen h:1: bad line
@@ -78,6 +101,8 @@ mcv help legs: help
 mcv check --help: help
 mcv help check: help
 mcv legs --help: help
+mcv mend --help: help
+mcv help mend: help
 mcv run --help: help
 mcv run -h: help
 mcv help run: help
@@ -87,25 +112,65 @@ mcv -V: version
 mcv legs --version: bad line
 mcv version: bad line";
 
+/// A number, or `-` for none.
+fn number_text(rt: &(impl AllocGlobal + Abort), number: Option<u64>) -> String {
+    let text = match number {
+        Some(number) => format!(in rt.alloc(); "{number}"),
+        None => format!(in rt.alloc(); "-"),
+    };
+    text.expect(rt, "memory")
+}
+
+/// What `run` is asked for.
+fn order_text(rt: &(impl AllocGlobal + Abort), options: RunOptions<'_>) -> String {
+    let RunOptions {
+        listen,
+        spool,
+        settings,
+    } = options;
+    let sessions = number_text(rt, settings.sessions.map(|sessions| sessions.count));
+    let proxies = settings.proxies.count;
+    let window = settings.window.seconds;
+    let server = number_text(rt, settings.server_timeout.map(|timeout| timeout.millis));
+    let client = number_text(rt, settings.client_timeout.map(|timeout| timeout.millis));
+    let text = format!(in rt.alloc();
+        "{listen} {spool} {sessions} {proxies} {window} {server} {client}"
+    );
+    text.expect(rt, "memory")
+}
+
 fn job_text(rt: &(impl AllocGlobal + Abort), job: Job<'_>) -> String {
     let text = match job {
         Job::Legs { at } => format!(in rt.alloc(); "legs at {}", at.0),
-        Job::Check { cert: None, window } => format!(in rt.alloc(); "check {window}"),
+        Job::Check { cert: None, options } => {
+            let window = options.window.seconds;
+            format!(in rt.alloc(); "check {window}{}", options_text(options))
+        }
         Job::Check {
             cert: Some(name),
-            window,
-        } => format!(in rt.alloc(); "check {window} by {name}"),
-        Job::Run(
-            RunOptions {
-                listen,
-                spool,
-                sessions,
-                proxies,
-                window,
-            },
-        ) => format!(in rt.alloc(); "run {listen} {spool} {sessions} {proxies} {window}"),
+            options,
+        } => {
+            let window = options.window.seconds;
+            format!(in rt.alloc(); "check {window} by {name}{}", options_text(options))
+        }
+        Job::Draw { dot: true } => format!(in rt.alloc(); "draw for Graphviz"),
+        Job::Draw { dot: false } => format!(in rt.alloc(); "draw"),
+        Job::Mend => format!(in rt.alloc(); "mend"),
+        Job::Run(options) => {
+            let order = order_text(rt, options);
+            format!(in rt.alloc(); "run {order}")
+        }
     };
     text.expect(rt, "memory")
+}
+
+fn options_text(options: CheckOptions) -> &'static str {
+    match (options.explain, options.json, options.quiet) {
+        (false, false, false) => "",
+        (true, false, false) => ", explained",
+        (false, true, true) => ", as JSON, quietly",
+        _ => ", otherwise",
+    }
 }
 
 fn fault_text(fault: &LineFault) -> &'static str {
@@ -161,24 +226,30 @@ impl<'a> NamedFiles for OneFile<'a> {
 struct Listed;
 
 impl Proxy for Listed {
-    ghost serves = { λ _ _ _ _ _ _ _ _. ⊤ };
+    ghost serves = { λ _ _ _ _ _. ⊤ };
 
     fn serve<W: Write>(
         &self,
         alloc: Global,
         accepted: Arc<Accepted>,
-        listen: &str,
-        spool: &str,
-        sessions: u64,
-        proxies: u64,
+        options: RunOptions<'_>,
         out: &mut W,
     ) -> Result<(), RunFault> {
+        let RunOptions {
+            listen,
+            spool,
+            settings,
+        } = options;
         if listen == "full:1" {
             return Err(RunFault::Memory);
         }
         let servers = accepted.routes().servers().len();
-        let Ok(line) = format!(in alloc; "{listen} {spool} {sessions} {proxies} of {servers}\n")
-        else {
+        let sessions = settings.sessions.map_or(0, |sessions| sessions.count);
+        let proxies = settings.proxies.count;
+        let millis = settings.server_timeout.map_or(0, |timeout| timeout.millis);
+        let Ok(line) = format!(in alloc;
+            "{listen} {spool} {sessions} {proxies} {millis} of {servers}\n"
+        ) else {
             return Err(RunFault::Memory);
         };
         match out.write_all(line.as_bytes()) {
@@ -236,16 +307,21 @@ const MAIN_PARTS: &[&str] = &[
     "Usage: mcv <COMMAND>",
     "mcrouter",
     "  check  ",
+    "  draw  ",
     "  legs  ",
+    "  mend  ",
     "  run  ",
     "\n  mcv check < mcrouter.json\n",
     "\n  (echo 'delete a'; cat mcrouter.json) | mcv legs\n",
-    "\n  mcv run --listen 127.0.0.1:5000 --spool mcv.spool < mcrouter.json\n",
+    "\n  mcv run --listen 127.0.0.1:5000 --spool mcv.spool --server-timeout 1000 \\\n    < mcrouter.json\n",
     "Exit status:",
 ];
 
 const CHECK_PARTS: &[&str] = &[
-    "Usage: mcv check [--cert FILE] [--window SECONDS] < FILE",
+    "Usage: mcv check [--cert FILE] [--window SECONDS] [--explain] [--json]\n                 [-q] < FILE",
+    "--explain",
+    "--json",
+    "-q, --quiet",
     "--cert <FILE>",
     "--window <SECONDS>",
     "from 0 to 4294967295 [default: 0]",
@@ -270,30 +346,51 @@ const LEGS_PARTS: &[&str] = &[
     "mcv: configuration NUMBER at PATH",
 ];
 
+const DRAW_PARTS: &[&str] = &[
+    "Usage: mcv draw [--dot] [-q] < FILE",
+    "--dot",
+    "\n  mcv draw < mcrouter.json > mcrouter.svg\n",
+];
+
 #[test]
 fn help_names_input_and_exit_statuses(rt: HostRuntime) {
     check_parts(&rt, &["mcv", "--help"], MAIN_PARTS);
     check_parts(&rt, &["mcv", "check", "--help"], CHECK_PARTS);
+    check_parts(&rt, &["mcv", "draw", "--help"], DRAW_PARTS);
     check_parts(&rt, &["mcv", "legs", "--help"], LEGS_PARTS);
 }
 
 const RUN_PARTS: &[&str] = &[
-    "Usage: mcv run --listen ADDRESS --spool FILE [--sessions N] [--proxies N]\n               [--window SECONDS] < FILE",
+    "Usage: mcv run --listen ADDRESS --spool FILE [OPTIONS] < FILE",
     "--window <SECONDS>",
     "--listen <ADDRESS>",
     "--spool <FILE>",
     "--sessions <N>",
-    "[default: 1000000000]",
     "--proxies <N>",
     "[default: 1]",
+    "--server-timeout <MS>",
+    "--client-timeout <MS>",
     "mcrouter's `--num-proxies`",
-    "\n  mcv run --listen 127.0.0.1:5000 --spool mcv.spool < mcrouter.json\n",
+    "\n  mcv run --listen 127.0.0.1:5000 --spool mcv.spool --server-timeout 1000 \\\n    < mcrouter.json\n",
     "\n  mcv listening 127.0.0.1:5000 pending 0\n",
     "\n  mcv closed calls 12\n",
     "\nExit status:\n  0  ended, or help was asked for\n  1  bad command line\n",
     "\n  2  the configuration is refused\n  3  the configuration can lose a delete\n  4  ",
     "mcv: configuration NUMBER at PATH",
 ];
+
+const MEND_PARTS: &[&str] = &[
+    "Usage: mcv mend < FILE",
+    "\n  mcv mend < mcrouter.json | diff mcrouter.json -\n",
+    "\n  mcv: mended configuration 7 at PATH\n  mcv: no change found\n",
+    "mcv: configuration NUMBER at PATH",
+];
+
+#[test]
+fn help_of_mend_names_its_lines(rt: HostRuntime) {
+    check_parts(&rt, &["mcv", "mend", "--help"], MEND_PARTS);
+    check_columns(&rt, &["mcv", "mend", "--help"]);
+}
 
 #[test]
 fn help_of_run_names_its_options_lines_and_statuses(rt: HostRuntime) {
@@ -313,6 +410,7 @@ fn help_names_each_handle_within_eighty_columns(rt: HostRuntime) {
     }
     check_columns(&rt, &["mcv", "legs", "--help"]);
     check_columns(&rt, &["mcv", "check", "--help"]);
+    check_columns(&rt, &["mcv", "draw", "--help"]);
 }
 
 const POOL: &str = "{\"pools\":{\"A\":{\"servers\":[\"a:11211\"]}},\"route\":\"PoolRoute|A\"}";
@@ -478,13 +576,15 @@ fn check_run(
         "3",
         "--proxies",
         "2",
+        "--server-timeout",
+        "200",
     ];
     check_said(rt, &words, config, expected, status);
 }
 
 #[test]
 fn a_run_serves_what_is_covered(rt: HostRuntime) {
-    check_run(&rt, "h:1", POOL, "h:1 f 3 2 of 1\n", 0);
+    check_run(&rt, "h:1", POOL, "h:1 f 3 2 200 of 1\n", 0);
     check_run(&rt, "h:1", WARM_UP, LOST, 3);
     check_run(&rt, "busy:1", WARM_UP, LOST, 3);
     check_run(&rt, "busy:1", "{", "mcv: configuration 1 at .", 2);

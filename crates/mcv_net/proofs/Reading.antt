@@ -13,7 +13,7 @@ use Rattle.mcv_reply.specs.Reader.{Answers, Fed, Feeds, FeedsAt, Reading, Reader
 use Rattle.mcv_reply.specs.Reply.{SpellsVersion}
 use Rattle.mcv_reply.specs.Probe.{FeedsProbe, ProbeAnswers}
 use Rattle.mcv_net.specs.declared.loss.Loss.{Loss}
-use Rattle.mcv_net.specs.Exchange.{AnswersProbe, Reads, SpellsReply, loss_by, loss_of}
+use Rattle.mcv_net.specs.Exchange.{AnswersProbe, Reads, SpellsReply, loss_by, loss_of, loss_when}
 
 pub consumes_kept : (a b : Option (List ℕ)) → Keeps a b → Consumes a b []
 consumes_kept None b p = tt
@@ -58,6 +58,10 @@ module _ {X : Type 0} (spells : List ℕ → X → Type 0) where
   pub come_lost : (a c : Option (List ℕ)) (has_read : Bool) (bytes : List ℕ) (loss : Loss) → HasCome spells a c has_read bytes → loss ≡ loss_of has_read → Reads spells a c (Err loss)
   come_lost a c true bytes loss h e = subst (λ l. Reads spells a c (Err l)) (sym e) (bytes, h.reads, (h.more refl).0, (h.more refl).1)
   come_lost a c false bytes loss h e = subst (λ l. Reads spells a c (Err l)) (sym e) (subst (Consumes a c) (h.fresh refl) h.reads)
+
+  pub come_late : (a c : Option (List ℕ)) (has_read : Bool) (bytes : List ℕ) (expired : Bool) (loss : Loss) → HasCome spells a c has_read bytes → loss ≡ loss_when expired (loss_of has_read) → Reads spells a c (Err loss)
+  come_late a c has_read bytes true loss h e = subst (λ l. Reads spells a c (Err l)) (sym e) (bytes, h.reads)
+  come_late a c has_read bytes false loss h e = come_lost a c has_read bytes loss h e
 
   pub come_refused : (a b c : Option (List ℕ)) (has_read : Bool) (bytes piece : List ℕ) (fault : ReplyFault) (loss : Loss) → HasCome spells a b has_read bytes → Consumes b c piece → 0 < length piece
       → UnlessMemory fault ((x : X) → spells (bytes ++ piece) x → ⊥) → loss ≡ loss_by fault → Reads spells a c (Err loss)

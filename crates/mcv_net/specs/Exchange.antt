@@ -9,23 +9,25 @@ use Rattle.mcv_reply.specs.declared.fault.ReplyFault.{ReplyFault}
 use Rattle.mcv_reply.specs.declared.fault.ReplyFault.TheVariants as faults
 use Rattle.mcv_reply.specs.Reply.{Spells, SpellsVersion}
 use Rattle.mcv_net.specs.declared.loss.Loss.{Loss}
-use Rattle.mcv_net.specs.declared.loss.Loss.TheVariants.{Unwritten, Unread, Broken, Memory}
+use Rattle.mcv_net.specs.declared.loss.Loss.TheVariants.{Unwritten, Unread, Broken, Memory, Late}
 
--- the whole text was written; or nothing of it; or a part
+-- the whole text was written; or nothing of it; or a part; or, where the time ran out, a part or nothing
 abbrev pub Writes : {X : Type 0} → Option (List ℕ) → Option (List ℕ) → List ℕ → Result X Loss → Type 0
 Writes {X} old new text (Ok x) = Appends old new text
 Writes {X} old new text (Err Unwritten) = Keeps old new
 Writes {X} old new text (Err Unread) = (n : ℕ) × (0 < n) × (n < length text) × Appends old new (take n text)
 Writes {X} old new text (Err Broken) = ⊥
 Writes {X} old new text (Err Memory) = ⊥
+Writes {X} old new text (Err Late) = (n : ℕ) × (0 < length text → n < length text) × Appends old new (take n text)
 
--- what was read spells the result; or nothing was read; or something that spells none
+-- what was read spells the result; or nothing was read; or something that spells none; or, where memory or the time ran out, anything
 abbrev pub Reads : {X : Type 0} → (List ℕ → X → Type 0) → Option (List ℕ) → Option (List ℕ) → Result X Loss → Type 0
 Reads {X} spells old new (Ok x) = (bytes : List ℕ) × Consumes old new bytes × spells bytes x
 Reads {X} spells old new (Err Unwritten) = ⊥
 Reads {X} spells old new (Err Unread) = Consumes old new []
 Reads {X} spells old new (Err Broken) = (bytes : List ℕ) × Consumes old new bytes × (bytes ≢ []) × ((x : X) → spells bytes x → ⊥)
 Reads {X} spells old new (Err Memory) = (bytes : List ℕ) × Consumes old new bytes
+Reads {X} spells old new (Err Late) = (bytes : List ℕ) × Consumes old new bytes
 
 -- the whole text is written before anything is read
 abbrev pub Asks : {S X : Type 0} → (S → Option (List ℕ)) → (S → Option (List ℕ)) → (List ℕ → X → Type 0) → List ℕ → S → S → Result X Loss → Type 0
@@ -40,6 +42,11 @@ SpellsReply op rest bytes reply = Spells op rest bytes (reply_value reply)
 -- the bytes are a server's answer to a probe
 abbrev pub AnswersProbe : {X : Type 0} → List ℕ → X → Type 0
 AnswersProbe {X} bytes x = (version : List ℕ) × SpellsVersion bytes version
+
+-- where the time for a read ran out (the system's EAGAIN or ETIMEDOUT) it is late; else what it would be
+abbrev pub loss_when : Bool → Loss → Loss
+loss_when true other = Late
+loss_when false other = other
 
 -- what is lost where no more can be read
 abbrev pub loss_of : Bool → Loss

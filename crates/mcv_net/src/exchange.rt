@@ -1,20 +1,26 @@
 //! One text written to a connection, and one reply read from it.
 
-ghost use Rattle.std.specs.Prelude.{◌≡◌, ◌<◌, ◌≤◌, [], ◌++◌, length, take, IfErr, IfOk, OnErr, codes};
+ghost use Rattle.std.specs.Prelude.{◌≡◌, ◌<◌, ◌≤◌, [], ◌++◌, length, take, Bool, IfErr, IfOk, OnErr, codes};
 ghost use Rattle.std.specs.Arc.{arc_value};
 ghost use Rattle.std.specs.Io.KnownBytes.{Consumes};
 ghost use Rattle.mcv_text.specs.Answer.{line_end};
-ghost use Rattle.mcv_net.specs.Exchange.{AnswersProbe, Asks, Reads, SpellsReply, Writes, loss_by, loss_of};
+ghost use Rattle.mcv_net.specs.Exchange.{AnswersProbe, Asks, Reads, SpellsReply, Writes, loss_by, loss_of, loss_when};
 
 use crate::loss::Loss;
 use mcv_base::{LegRequest, Reply};
 use mcv_reply::{ProbeReader, ReplyFault, ReplyReader};
 use std::alloc::Global;
+use std::io;
 use std::io::{ErrorKind, Read, Write};
 use std::sync::Arc;
 
 /// The most reads of one reply, and the most writes of one text: more than the bytes of the longest one.
 const CALLS: u64 = 2_000_000;
+
+/// Whether a write or a read failed since its time ran out.
+fn has_expired(error: &io::Error) -> bool {
+    matches!(error.kind(), ErrorKind::WouldBlock | ErrorKind::TimedOut)
+}
 
 /// What is lost where a text can't be written any more, of which so many bytes were.
 fn loss_at(written: usize) -> Loss
@@ -38,6 +44,7 @@ pub(crate) fn write_text<S: Write>(stream: &mut S, text: &[u8]) -> Result<(), Lo
             Ok(0) => return Err(loss_at(written)),
             Ok(count) => written += count,
             Err(error) if error.kind() == ErrorKind::Interrupted => {}
+            Err(error) if has_expired(&error) => return Err(Loss::Late),
             Err(_) => return Err(loss_at(written)),
         }
     }
@@ -65,13 +72,14 @@ fn refused(fault: ReplyFault) -> Loss
 fn next_piece<S: Read>(stream: &mut S, room: &mut [u8], has_read: bool) -> Result<usize, Loss>
     ensures within { IfOk result (λ count. count ≤ length room.new) }
     ensures read { IfOk result (λ count. Consumes (S.remaining stream.old) (S.remaining stream.new) (take count room.new)) }
-    ensures lost { IfErr result (λ loss. loss ≡ loss_of has_read) }
+    ensures lost { IfErr result (λ loss. (expired : Bool) × (loss ≡ loss_when expired (loss_of has_read))) }
     ensures unread { OnErr result (Consumes (S.remaining stream.old) (S.remaining stream.new) []) }
 {
     match stream.read(room) {
         Ok(0) => Err(loss_of(has_read)),
         Ok(count) => Ok(count),
         Err(error) if error.kind() == ErrorKind::Interrupted => Ok(0),
+        Err(error) if has_expired(&error) => Err(Loss::Late),
         Err(_) => Err(loss_of(has_read)),
     }
 }

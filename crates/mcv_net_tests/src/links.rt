@@ -2,7 +2,7 @@
 
 ghost use Rattle.std.specs.Prelude.{◌≡◌, ◌+◌};
 
-use crate::memory::{Course, MemoryDial, Nobody, Seen};
+use crate::memory::{Course, End, MemoryDial, Nobody, Seen};
 use mcv_base::{LegRequest, Op, Reply, Rest};
 use mcv_check::Accepted;
 use mcv_hub::{Hub, Pass};
@@ -84,6 +84,7 @@ const ROWS: &[Row] = &[
         courses: &[Course {
             pieces: &["VALUE k 0 1\r", "\nx", "\r\nEND\r", "\n"],
             writes: 9,
+            end: End::Closed,
         }],
         ops: &[Op::Get],
         letters: "h",
@@ -96,10 +97,12 @@ const ROWS: &[Row] = &[
             Course {
                 pieces: &["DELETED\r\n"],
                 writes: 9,
+                end: End::Closed,
             },
             Course {
                 pieces: &["DELETED\r\n"],
                 writes: 9,
+                end: End::Closed,
             },
         ],
         ops: &[Op::Delete, Op::Delete],
@@ -113,10 +116,12 @@ const ROWS: &[Row] = &[
             Course {
                 pieces: &["STORED\r\n"],
                 writes: 9,
+                end: End::Closed,
             },
             Course {
                 pieces: &["END\r\n"],
                 writes: 9,
+                end: End::Closed,
             },
         ],
         ops: &[Op::Add, Op::Add, Op::Get],
@@ -147,10 +152,12 @@ const ROWS: &[Row] = &[
             Course {
                 pieces: &["STORED\r\n"],
                 writes: 1,
+                end: End::Closed,
             },
             Course {
                 pieces: &["STORED\r\n"],
                 writes: 9,
+                end: End::Closed,
             },
         ],
         ops: &[Op::Add, Op::Add],
@@ -164,16 +171,56 @@ const ROWS: &[Row] = &[
             Course {
                 pieces: &["END\r\n", "EN"],
                 writes: 9,
+                end: End::Closed,
             },
             Course {
                 pieces: &["END\r\n"],
                 writes: 9,
+                end: End::Closed,
             },
         ],
         ops: &[Op::Get, Op::Get, Op::Get],
         letters: "mbm",
         dials: 2,
         text: "get k\r\nget k\r\nget k\r\n",
+    },
+    Row {
+        name: "a delete whose time ran out isn't repeated; the next leg opens another connection",
+        courses: &[
+            Course {
+                pieces: &["DELETED\r\n"],
+                writes: 9,
+                end: End::Late,
+            },
+            Course {
+                pieces: &["END\r\n"],
+                writes: 9,
+                end: End::Closed,
+            },
+        ],
+        ops: &[Op::Delete, Op::Delete, Op::Get],
+        letters: "dbm",
+        dials: 2,
+        text: "delete k\r\ndelete k\r\nget k\r\n",
+    },
+    Row {
+        name: "nor is a get whose time ran out before it was written",
+        courses: &[
+            Course {
+                pieces: &["END\r\n"],
+                writes: 1,
+                end: End::Late,
+            },
+            Course {
+                pieces: &["END\r\n"],
+                writes: 9,
+                end: End::Closed,
+            },
+        ],
+        ops: &[Op::Get, Op::Get, Op::Get],
+        letters: "mbm",
+        dials: 2,
+        text: "get k\r\nget k\r\n",
     },
     Row {
         name: "there is no server",
@@ -305,5 +352,11 @@ fn notices_are_lines(rt: HostRuntime) {
         alloc,
         Notice::Refusing,
         "mcv: the spool refuses records",
+    );
+    check_notice(
+        &rt,
+        alloc,
+        Notice::Unlimited,
+        "mcv: no --server-timeout: a server that never answers will stop all clients",
     );
 }

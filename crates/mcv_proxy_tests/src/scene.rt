@@ -312,6 +312,10 @@ impl Watch for Stopped {
     fn pause(&mut self) {
         thread::yield_now();
     }
+
+    fn respite(&self) -> Duration {
+        Duration::from_millis(1)
+    }
 }
 
 /// What a proxy talks to in a test.

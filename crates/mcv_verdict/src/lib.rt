@@ -9,5 +9,5 @@ mod run;
 mod text;
 mod verdict;
 
-pub use run::{judge_input, run_check};
-pub use verdict::{Judgement, Verdict};
+pub use run::{judge, judge_input, run_check};
+pub use verdict::{Judged, Judgement, Verdict};

@@ -1,7 +1,7 @@
 -- What clap makes of short command lines.
 use Rattle.std.proofs.Common.{◌≡◌, [], ◌∷◌, ◌++◌, List, Option, Some, None, refl, codes, option_map}
 use Rattle.clap.specs.Words.{Row, Text, first_of, one_of}
-use Rattle.clap.specs.declared.error.kind.ErrorKind.TheVariants.{ArgumentConflict, DisplayHelp, DisplayVersion, InvalidSubcommand, MissingRequiredArgument, MissingSubcommand, UnknownArgument, ValueValidation}
+use Rattle.clap.specs.declared.error.kind.ErrorKind.TheVariants.{ArgumentConflict, DisplayHelp, DisplayVersion, InvalidSubcommand, MissingRequiredArgument, MissingSubcommand, TooManyValues, UnknownArgument, ValueValidation}
 use Rattle.clap.proofs.OnLiterals.{clap_on_literals}
 use Rattle.mcv_words.specs.Words.{faults, named}
 
@@ -86,6 +86,14 @@ check : faults (codes "mcv" ∷ codes "check" ∷ []) ≡ []
 unfolding clap_on_literals
 check = refl
 
+mend : faults (codes "mcv" ∷ codes "mend" ∷ []) ≡ []
+unfolding clap_on_literals
+mend = refl
+
+word_after_mend : faults (codes "mcv" ∷ codes "mend" ∷ codes "x" ∷ []) ≡ UnknownArgument ∷ []
+unfolding clap_on_literals
+word_after_mend = refl
+
 abbrev cert_of : Option (Text × List Row) → Option (Option Text)
 cert_of = option_map (λ p. first_of (codes "cert") p.1)
 
@@ -126,24 +134,37 @@ run : faults run_line ≡ []
 unfolding clap_on_literals
 run = refl
 
-abbrev run_of : Option (Text × List Row) → Option (Option Text × Option Text × Option Text × Option Text × Option Text)
-run_of = option_map (λ p. (first_of (codes "listen") p.1, first_of (codes "spool") p.1, one_of (codes "sessions") p.1, one_of (codes "proxies") p.1, one_of (codes "window") p.1))
+abbrev run_of : Option (Text × List Row) → Option (Option Text × Option Text × Option Text × Option Text × Option Text × Option Text × Option Text)
+run_of = option_map (λ p. (
+  first_of (codes "listen") p.1,
+  first_of (codes "spool") p.1,
+  one_of (codes "sessions") p.1,
+  one_of (codes "proxies") p.1,
+  one_of (codes "window") p.1,
+  one_of (codes "server-timeout") p.1,
+  one_of (codes "client-timeout") p.1,
+))
 
-run_named : run_of (named run_line) ≡ Some (Some (codes "h:1"), Some (codes "f"), Some (codes "1000000000"), Some (codes "1"), Some (codes "0"))
+run_named : run_of (named run_line) ≡ Some (Some (codes "h:1"), Some (codes "f"), None, Some (codes "1"), Some (codes "0"), None, None)
 unfolding clap_on_literals
 run_named = refl
 
-sessions_named : run_of (named (run_line ++ codes "--sessions" ∷ codes "3" ∷ [])) ≡ Some (Some (codes "h:1"), Some (codes "f"), Some (codes "3"), Some (codes "1"), Some (codes "0"))
+sessions_named : run_of (named (run_line ++ codes "--sessions" ∷ codes "3" ∷ [])) ≡ Some (Some (codes "h:1"), Some (codes "f"), Some (codes "3"), Some (codes "1"), Some (codes "0"), None, None)
 unfolding clap_on_literals
 sessions_named = refl
 
-proxies_named : run_of (named (run_line ++ codes "--proxies" ∷ codes "4" ∷ [])) ≡ Some (Some (codes "h:1"), Some (codes "f"), Some (codes "1000000000"), Some (codes "4"), Some (codes "0"))
+proxies_named : run_of (named (run_line ++ codes "--proxies" ∷ codes "4" ∷ [])) ≡ Some (Some (codes "h:1"), Some (codes "f"), None, Some (codes "4"), Some (codes "0"), None, None)
 unfolding clap_on_literals
 proxies_named = refl
 
-run_window_named : run_of (named (run_line ++ codes "--window" ∷ codes "60" ∷ [])) ≡ Some (Some (codes "h:1"), Some (codes "f"), Some (codes "1000000000"), Some (codes "1"), Some (codes "60"))
+run_window_named : run_of (named (run_line ++ codes "--window" ∷ codes "60" ∷ [])) ≡ Some (Some (codes "h:1"), Some (codes "f"), None, Some (codes "1"), Some (codes "60"), None, None)
 unfolding clap_on_literals
 run_window_named = refl
+
+timeouts_named : run_of (named (run_line ++ codes "--client-timeout" ∷ codes "3600000" ∷ codes "--server-timeout=200" ∷ []))
+    ≡ Some (Some (codes "h:1"), Some (codes "f"), None, Some (codes "1"), Some (codes "0"), Some (codes "200"), Some (codes "3600000"))
+unfolding clap_on_literals
+timeouts_named = refl
 
 no_spool : faults at_address ≡ MissingRequiredArgument ∷ []
 unfolding clap_on_literals
@@ -160,3 +181,41 @@ no_proxies = refl
 too_many_proxies : faults (run_line ++ codes "--proxies" ∷ codes "65" ∷ []) ≡ ValueValidation ∷ []
 unfolding clap_on_literals
 too_many_proxies = refl
+
+no_server_timeout : faults (run_line ++ codes "--server-timeout" ∷ codes "0" ∷ []) ≡ ValueValidation ∷ []
+unfolding clap_on_literals
+no_server_timeout = refl
+
+too_long_a_client_timeout : faults (run_line ++ codes "--client-timeout" ∷ codes "3600001" ∷ []) ≡ ValueValidation ∷ []
+unfolding clap_on_literals
+too_long_a_client_timeout = refl
+
+-- ---- flags
+
+abbrev flag_of : Text → Option (Text × List Row) → Option (Option Text)
+flag_of flag = option_map (λ p. one_of flag p.1)
+
+explain_named : flag_of (codes "explain") (named (codes "mcv" ∷ codes "check" ∷ codes "--explain" ∷ [])) ≡ Some (Some (codes "true"))
+unfolding clap_on_literals
+explain_named = refl
+
+explain_absent : flag_of (codes "explain") (named (codes "mcv" ∷ codes "check" ∷ codes "--json" ∷ [])) ≡ Some (Some (codes "false"))
+unfolding clap_on_literals
+explain_absent = refl
+
+quiet_named : flag_of (codes "quiet") (named (codes "mcv" ∷ codes "check" ∷ codes "-q" ∷ [])) ≡ Some (Some (codes "true"))
+unfolding clap_on_literals
+quiet_named = refl
+
+draw : faults (codes "mcv" ∷ codes "draw" ∷ []) ≡ []
+unfolding clap_on_literals
+draw = refl
+
+dot_named : flag_of (codes "dot") (named (codes "mcv" ∷ codes "draw" ∷ codes "--dot" ∷ [])) ≡ Some (Some (codes "true"))
+unfolding clap_on_literals
+dot_named = refl
+
+-- a flag takes no value
+flag_with_a_value : faults (codes "mcv" ∷ codes "draw" ∷ codes "--dot=x" ∷ []) ≡ TooManyValues ∷ []
+unfolding clap_on_literals
+flag_with_a_value = refl

@@ -4,26 +4,30 @@ pub(crate) const ABOUT: &str =
     "Verifies configurations of mcrouter, the routing proxy for memcached.
 `mcv check` decides whether a delete can be acknowledged that was never sent to
 a server which can be read. `mcv legs` shows to which servers a configuration
-sends a request. `mcv run` serves clients by a configuration for which that
-can't happen.";
+sends a request. `mcv mend` changes a configuration so that it can't happen,
+and `mcv run` serves clients by one for which it can't.";
 
 pub(crate) const EXAMPLE: &str =
     "Examples: can a configuration lose a delete? Which servers does a delete of the
-key `a` reach? Serve clients at port 5000.
+key `a` reach? Mend one that can. Serve clients at port 5000.
 
   mcv check < mcrouter.json
   (echo 'delete a'; cat mcrouter.json) | mcv legs
-  mcv run --listen 127.0.0.1:5000 --spool mcv.spool < mcrouter.json
+  mcv mend < mcrouter.json > mended.json
+  mcv run --listen 127.0.0.1:5000 --spool mcv.spool --server-timeout 1000 \
+    < mcrouter.json
 
 Exit status:
   0  done, or help or the version was asked for
   1  bad command line, or bad request line
   2  the configuration is refused, or has no route for the key
-  3  the configuration can lose a delete (never with --cert: 5 then)
+  3  the configuration can lose a delete (never with --cert: 5 then), or no
+     change was found that mends it
   4  out of memory, or a device failed: reading, writing, the address, the spool
   5  the certificate is refused
 
-Where the status is neither 0 nor 3, one line on standard error says why.";
+Where the status is neither 0 nor 3, or nothing is mended, one line on standard
+error says why.";
 
 pub(crate) const LEGS_ABOUT: &str = "Shows to which servers a request is sent at once";
 
@@ -71,6 +75,29 @@ keys and by list numbers from 0; `.` is the whole. The numbers:
 pub(crate) const CHECK_ABOUT: &str = "Decides whether a configuration can lose a delete";
 
 pub(crate) const CERT: &str = "A certificate in place of one that mcv makes";
+
+pub(crate) const EXPLAIN: &str = "The finding in sentences behind its text";
+
+pub(crate) const JSON: &str = "The verdict as JSON, or the fault in its place";
+
+pub(crate) const QUIET: &str = "One line on standard error for a fault, not two";
+
+pub(crate) const DOT: &str = "A graph for Graphviz in place of SVG";
+
+pub(crate) const DRAW_ABOUT: &str = "Draws the routes of a configuration, with what `check` finds";
+
+pub(crate) const DRAW_FORM: &str =
+    "Standard input has the configuration as JSON. Standard output has its routes as
+one picture, SVG by itself: a box for each handle, with the servers of a pool.
+
+  mcv draw < mcrouter.json > mcrouter.svg
+
+Of a configuration that can lose a delete the finding stands below, the legs
+that answer its get and its delete are drawn thick, and the leaf whose server is
+lost is marked. Red and dashed is where each delete goes that is acknowledged,
+blue what a get can be answered by: for the finding's keys, or where it is
+covered, by the certificate. Handles with more than 60 children
+are folded. The exit status is 0 in both cases.";
 
 pub(crate) const WINDOW: &str = "How many seconds may lie between a delete and a get,
 from 0 to 4294967295";
@@ -163,6 +190,28 @@ as `mcv: certificate fault NUMBER`:
 A configuration that isn't read is reported as
 `mcv: configuration NUMBER at PATH`: `mcv legs --help` has the numbers.";
 
+pub(crate) const MEND_ABOUT: &str = "Changes a configuration so that it can't lose a delete";
+
+pub(crate) const MEND_FORM: &str =
+    "Standard input has the configuration as JSON; `mcv legs --help` says which route
+handles are read. Where it is covered (`mcv check --help`), standard output has
+it as it is. Else standard output has the configuration with the smallest change
+to its delete policies that covers it: for each class of keys, deletes are sent
+to further pools or servers at once. Nothing else is changed: comments, order
+and spaces stay, and no other operation sends or replies anything else.
+
+  mcv mend < mcrouter.json | diff mcrouter.json -
+
+What is written has been read again, judged as by `mcv check`, and compared with
+what was read. Where the change would be over a limit, or none was found, nothing
+is written, the exit status is 3, and one line on standard error says so:
+
+  mcv: mended configuration 7 at PATH
+  mcv: no change found
+
+A configuration that isn't read is reported as
+`mcv: configuration NUMBER at PATH`: `mcv legs --help` has the numbers.";
+
 pub(crate) const RUN_ABOUT: &str = "Serves clients by a configuration that can't lose a delete";
 
 pub(crate) const LISTEN: &str = "The address at which clients connect, as HOST:PORT";
@@ -170,10 +219,16 @@ pub(crate) const LISTEN: &str = "The address at which clients connect, as HOST:P
 pub(crate) const SPOOL: &str = "The file that keeps deletes which wait for a server";
 
 pub(crate) const SESSIONS: &str = "After how many sessions the program ends,
-from 1 to 1000000000";
+from 1 to 1000000000; without it, after none";
 
 pub(crate) const PROXIES: &str = "How many proxies run side by side,
 from 1 to 64";
+
+pub(crate) const SERVER_TIMEOUT: &str = "How many milliseconds a server may take,
+from 1 to 3600000; without it, any time";
+
+pub(crate) const CLIENT_TIMEOUT: &str = "How many milliseconds a client may send or
+take nothing, from 1 to 3600000; without it, any";
 
 pub(crate) const RUN_FORM: &str =
     "Standard input has the configuration as JSON; `mcv legs --help` says which route
@@ -182,7 +237,8 @@ where it can lose a delete, standard output has the finding and the exit status
 is 3. Only then is the address bound, and the spool file opened, or made where
 there is none.
 
-  mcv run --listen 127.0.0.1:5000 --spool mcv.spool < mcrouter.json
+  mcv run --listen 127.0.0.1:5000 --spool mcv.spool --server-timeout 1000 \
+    < mcrouter.json
 
 Clients send requests of memcached's text protocol to the address. Standard
 output has one line when they can connect, and one at the end:
@@ -199,6 +255,14 @@ Each proxy has its own connections to every server; clients are dealt out to
 them one after another. Have as many as the machine has processors. With more
 than one, requests of different clients reach a server in no order, as with
 mcrouter's `--num-proxies`.
+
+A server that doesn't reply in its time has failed: the connection is closed,
+what it was asked isn't sent again at once (a delete goes to the spool), and
+after three failures in a row it is sent nothing until it answers a probe. It
+may still perform what it was asked, also behind a later delete. Without
+`--server-timeout` a server that takes connections and never answers keeps its
+clients waiting, and in time those of all servers: a line on standard error says
+so at the start.
 
 Exit status:
   0  ended, or help was asked for

@@ -1,41 +1,43 @@
 //! The command line: its commands, as clap reads them. What words ask for is `IsJobOf`, and why they ask for nothing
 //! `IsLineFault`.
 
-ghost use Rattle.std.specs.Prelude.{◌≡◌, ◌<◌, ◌^◌, ℕ, codes, false, IfOk, IfErr, IfSome, IsSome, map};
+ghost use Rattle.std.specs.Prelude.{◌≡◌, codes, false, option_map, IfOk, IfErr, IsOk, map};
 ghost use Rattle.clap.specs.Words.{Text, app_of, found_of, kind_of, rows_of, rule_of};
 ghost use Rattle.clap.specs.declared.builder.command.Command.TheViews.{out-Command as fields_of};
-ghost use Rattle.mcv_words.specs.Words.{at_rule, cert_rule, check_app, legs_app, listen_rule, mcv_app, proxies_rule, run_app, sessions_rule, spool_rule, window_rule, line_fault_number, HasRunValues, IsCheckOf, IsFaultOfKind, IsJobOf, IsLineFault, IsNumberOf, IsRunOf, RunValue};
+ghost use Rattle.mcv_words.specs.Ranges.{window_limit};
+ghost use Rattle.mcv_words.specs.Words.{at_rule, cert_rule, check_app, client_timeout_rule, draw_app, flag_rule, legs_app, listen_rule, mcv_app, mend_app, proxies_rule, quiet_rule, run_app, server_timeout_rule, sessions_rule, spool_rule, window_rule, line_fault_number, CanRun, IsCheckOf, IsDrawOf, IsFaultOfKind, IsGivenIn, IsJobOf, IsLineFault, IsNumberIfGiven, IsRunOf, MayBeGivenIn};
 ghost use Rattle.mcv_words.specs.declared.words.LineFault.TheVariants.{Memory as out_of_memory};
 
 use crate::help::{
-    ABOUT, AT, CERT, CHECK_ABOUT, CHECK_FORM, EXAMPLE, LEGS_ABOUT, LEGS_FORM, LISTEN, PROXIES,
-    RUN_ABOUT, RUN_FORM, SESSIONS, SPOOL, WINDOW,
+    ABOUT, AT, CERT, CHECK_ABOUT, CHECK_FORM, CLIENT_TIMEOUT, DOT, DRAW_ABOUT, DRAW_FORM, EXAMPLE,
+    EXPLAIN, JSON, LEGS_ABOUT, LEGS_FORM, LISTEN, MEND_ABOUT, MEND_FORM, PROXIES, QUIET, RUN_ABOUT,
+    RUN_FORM, SERVER_TIMEOUT, SESSIONS, SPOOL, WINDOW,
+};
+use crate::options::{
+    CheckOptions, ClientTimeout, InRange, Proxies, RunOptions, ServerTimeout, Sessions, Settings,
+    Window,
 };
 use clap::builder::ValueParser;
 use clap::error::ErrorKind;
-use clap::{Arg, ArgMatches, Command, Error as ClapError, value_parser};
+use clap::{Arg, ArgAction, ArgMatches, Command, Error as ClapError, value_parser};
 use mcv_base::Moment;
 use std::alloc::{AllocError, Global};
 use thiserror::Error;
-
-/// What a run is asked for: to serve clients at the address, with the spool in the file of this name, until so many
-/// sessions have ended, by so many proxies side by side, and to have judged the configuration within this window.
-#[derive(Clone, Copy, Debug, PartialEq, Eq)]
-pub struct RunOptions<'a> {
-    pub listen: &'a str,
-    pub spool: &'a str,
-    pub sessions: u64,
-    pub proxies: u64,
-    pub window: u64,
-}
 
 /// What the program is asked to do.
 #[derive(Clone, Copy, Debug, PartialEq, Eq)]
 pub enum Job<'a> {
     /// To show the legs of a request that comes at a moment.
     Legs { at: Moment },
-    /// To judge a configuration within this window, by the certificate in the file of this name where one is given.
-    Check { cert: Option<&'a str>, window: u64 },
+    /// To judge a configuration, by the certificate in the file of this name where one is given, as the options say.
+    Check {
+        cert: Option<&'a str>,
+        options: CheckOptions,
+    },
+    /// To draw the routes of a configuration, for Graphviz or as SVG.
+    Draw { dot: bool },
+    /// To write a configuration with the smallest change to its delete policies that covers it.
+    Mend,
     /// To serve clients.
     Run(RunOptions<'a>),
 }
@@ -122,16 +124,64 @@ fn window_option<'a>(alloc: Global) -> Arg<'a>
         .help(WINDOW)
 }
 
+/// A flag by its name.
+fn flag<'a>(alloc: Global, name: &'static str, help: &'static str) -> Arg<'a>
+    ensures rule { rule_of result ≡ flag_rule name.now }
+    ensures local { result.global ≡ false }
+{
+    Arg::new(alloc, name)
+        .long(name)
+        .action(ArgAction::SetTrue)
+        .help(help)
+}
+
+fn quiet_flag<'a>(alloc: Global) -> Arg<'a>
+    ensures rule { rule_of result ≡ quiet_rule }
+    ensures local { result.global ≡ false }
+{
+    flag(alloc, "quiet", QUIET).short('q')
+}
+
 fn check_command<'a>(alloc: Global) -> Result<Command<'a>, AllocError>
     ensures app { IfOk result (λ c. app_of c ≡ check_app) }
     ensures local { IfOk result (λ c. (fields_of c).has_globals ≡ false) }
 {
     Command::new(alloc, "check")
         .about(CHECK_ABOUT)
-        .override_usage("mcv check [--cert FILE] [--window SECONDS] < FILE")
+        .override_usage(
+            "mcv check [--cert FILE] [--window SECONDS] [--explain] [--json]
+                 [-q] < FILE",
+        )
         .after_help(CHECK_FORM)
         .arg(cert_option(alloc))?
-        .arg(window_option(alloc))
+        .arg(window_option(alloc))?
+        .arg(flag(alloc, "explain", EXPLAIN))?
+        .arg(flag(alloc, "json", JSON))?
+        .arg(quiet_flag(alloc))
+}
+
+fn draw_command<'a>(alloc: Global) -> Result<Command<'a>, AllocError>
+    ensures app { IfOk result (λ c. app_of c ≡ draw_app) }
+    ensures local { IfOk result (λ c. (fields_of c).has_globals ≡ false) }
+{
+    Command::new(alloc, "draw")
+        .about(DRAW_ABOUT)
+        .override_usage("mcv draw [--dot] [-q] < FILE")
+        .after_help(DRAW_FORM)
+        .arg(flag(alloc, "dot", DOT))?
+        .arg(quiet_flag(alloc))
+}
+
+fn mend_command<'a>(alloc: Global) -> Result<Command<'a>, AllocError>
+    ensures app { IfOk result (λ c. app_of c ≡ mend_app) }
+    ensures local { IfOk result (λ c. (fields_of c).has_globals ≡ false) }
+{
+    Ok(
+        Command::new(alloc, "mend")
+            .about(MEND_ABOUT)
+            .override_usage("mcv mend < FILE")
+            .after_help(MEND_FORM),
+    )
 }
 
 fn listen_option<'a>(alloc: Global) -> Arg<'a>
@@ -164,7 +214,6 @@ fn sessions_option<'a>(alloc: Global) -> Arg<'a>
         .long("sessions")
         .value_name("N")
         .value_parser(ValueParser::unsigned(1, 1_000_000_000))
-        .default_value("1000000000")
         .help(SESSIONS)
 }
 
@@ -180,29 +229,52 @@ fn proxies_option<'a>(alloc: Global) -> Arg<'a>
         .help(PROXIES)
 }
 
+fn server_timeout_option<'a>(alloc: Global) -> Arg<'a>
+    ensures rule { rule_of result ≡ server_timeout_rule }
+    ensures local { result.global ≡ false }
+{
+    Arg::new(alloc, "server-timeout")
+        .long("server-timeout")
+        .value_name("MS")
+        .value_parser(ValueParser::unsigned(1, 3_600_000))
+        .help(SERVER_TIMEOUT)
+}
+
+fn client_timeout_option<'a>(alloc: Global) -> Arg<'a>
+    ensures rule { rule_of result ≡ client_timeout_rule }
+    ensures local { result.global ≡ false }
+{
+    Arg::new(alloc, "client-timeout")
+        .long("client-timeout")
+        .value_name("MS")
+        .value_parser(ValueParser::unsigned(1, 3_600_000))
+        .help(CLIENT_TIMEOUT)
+}
+
 fn run_command<'a>(alloc: Global) -> Result<Command<'a>, AllocError>
     ensures app { IfOk result (λ c. app_of c ≡ run_app) }
     ensures local { IfOk result (λ c. (fields_of c).has_globals ≡ false) }
 {
     Command::new(alloc, "run")
         .about(RUN_ABOUT)
-        .override_usage(
-            "mcv run --listen ADDRESS --spool FILE [--sessions N] [--proxies N]
-               [--window SECONDS] < FILE",
-        )
+        .override_usage("mcv run --listen ADDRESS --spool FILE [OPTIONS] < FILE")
         .after_help(RUN_FORM)
         .arg(listen_option(alloc))?
         .arg(spool_option(alloc))?
         .arg(sessions_option(alloc))?
         .arg(proxies_option(alloc))?
-        .arg(window_option(alloc))
+        .arg(window_option(alloc))?
+        .arg(server_timeout_option(alloc))?
+        .arg(client_timeout_option(alloc))
 }
 
 fn command<'a>(alloc: Global) -> Result<Command<'a>, AllocError>
     ensures { IfOk result (λ c. app_of c ≡ mcv_app) }
 {
     let check = check_command(alloc)?;
+    let draw = draw_command(alloc)?;
     let legs = legs_command(alloc)?;
+    let mend = mend_command(alloc)?;
     let run = run_command(alloc)?;
     Command::new(alloc, "mcv")
         .version("1")
@@ -211,7 +283,9 @@ fn command<'a>(alloc: Global) -> Result<Command<'a>, AllocError>
         .subcommand_required(true)
         .bin_name("mcv")?
         .subcommand(check)?
+        .subcommand(draw)?
         .subcommand(legs)?
+        .subcommand(mend)?
         .subcommand(run)
 }
 
@@ -230,32 +304,83 @@ fn line_fault(alloc: Global, error: &ClapError) -> LineFault
     }
 }
 
+/// The number that clap found for an option; None where it found no value. An error is that the value is no number, or out
+/// of range.
+fn number_of<T: InRange>(found: &ArgMatches<'_>, option: &str) -> Result<Option<T>, LineFault>
+    ensures number { IfOk result (λ number. IsNumberIfGiven option.now (rows_of (found_of found.now)) (option_map T.value number)) }
+    ensures ok { MayBeGivenIn option.now T.least T.most (rows_of (found_of found.now)) → IsOk result }
+{
+    match found.try_get_one::<u64>(option) {
+        Ok(Some(number)) => match T::new(number) {
+            Some(number) => Ok(Some(number)),
+            None => Err(LineFault::BadLine),
+        },
+        Ok(None) => Ok(None),
+        Err(_) => Err(LineFault::BadLine),
+    }
+}
+
 /// The job of `check`, by what clap found for its options.
-fn check_job<'a>(found: &ArgMatches<'a>) -> Option<Job<'a>>
-    ensures job { IfSome result (IsCheckOf (rows_of (found_of found.now))) }
-    ensures some { (window : ℕ) → IsNumberOf (codes "window") (rows_of (found_of found.now)) window → window < 2 ^ 64 → IsSome result }
+fn check_job<'a>(found: &ArgMatches<'a>) -> Result<Job<'a>, LineFault>
+    ensures job { IfOk result (IsCheckOf (rows_of (found_of found.now))) }
+    ensures ok { IsGivenIn (codes "window") 0 window_limit (rows_of (found_of found.now)) → IsOk result }
 {
     let cert = found.get_str("cert");
-    let window = found.get_one::<u64>("window")?;
-    Some(Job::Check { cert, window })
+    let Some(window) = number_of::<Window>(found, "window")? else {
+        return Err(LineFault::BadLine);
+    };
+    let explain = found.get_flag("explain");
+    let json = found.get_flag("json");
+    let quiet = found.get_flag("quiet");
+    Ok(Job::Check {
+        cert,
+        options: CheckOptions {
+            window,
+            explain,
+            json,
+            quiet,
+        },
+    })
+}
+
+/// The job of `draw`, by what clap found for its options.
+fn draw_job<'a>(found: &ArgMatches<'a>) -> Job<'a>
+    ensures { IsDrawOf (rows_of (found_of found.now)) result }
+{
+    let dot = found.get_flag("dot");
+    Job::Draw { dot }
 }
 
 /// The job of `run`, by what clap found for its options.
-fn run_job<'a>(found: &ArgMatches<'a>) -> Option<Job<'a>>
-    ensures job { IfSome result (IsRunOf (rows_of (found_of found.now))) }
-    ensures some { (v : RunValue) → HasRunValues (rows_of (found_of found.now)) v → v.sessions < 2 ^ 64 → v.proxies < 2 ^ 64 → v.window < 2 ^ 64 → IsSome result }
+fn run_job<'a>(found: &ArgMatches<'a>) -> Result<Job<'a>, LineFault>
+    ensures job { IfOk result (IsRunOf (rows_of (found_of found.now))) }
+    ensures ok { CanRun (rows_of (found_of found.now)) → IsOk result }
 {
-    let listen = found.get_str("listen")?;
-    let spool = found.get_str("spool")?;
-    let sessions = found.get_one::<u64>("sessions")?;
-    let proxies = found.get_one::<u64>("proxies")?;
-    let window = found.get_one::<u64>("window")?;
-    Some(Job::Run(RunOptions {
+    let Some(listen) = found.get_str("listen") else {
+        return Err(LineFault::BadLine);
+    };
+    let Some(spool) = found.get_str("spool") else {
+        return Err(LineFault::BadLine);
+    };
+    let sessions = number_of::<Sessions>(found, "sessions")?;
+    let Some(proxies) = number_of::<Proxies>(found, "proxies")? else {
+        return Err(LineFault::BadLine);
+    };
+    let Some(window) = number_of::<Window>(found, "window")? else {
+        return Err(LineFault::BadLine);
+    };
+    let server_timeout = number_of::<ServerTimeout>(found, "server-timeout")?;
+    let client_timeout = number_of::<ClientTimeout>(found, "client-timeout")?;
+    Ok(Job::Run(RunOptions {
         listen,
         spool,
-        sessions,
-        proxies,
-        window,
+        settings: Settings {
+            sessions,
+            proxies,
+            window,
+            server_timeout,
+            client_timeout,
+        },
     }))
 }
 
@@ -270,16 +395,23 @@ pub fn read_words<'a>(alloc: Global, words: &'a [&'a str]) -> Result<Job<'a>, Li
         Err(error) => return Err(line_fault(alloc, &error)),
     };
     if let Some(found) = matches.subcommand_matches("check") {
-        let Some(job) = check_job(found) else {
+        let Ok(job) = check_job(found) else {
             return Err(LineFault::BadLine);
         };
         return Ok(job);
     }
+    if let Some(drawing) = matches.subcommand_matches("draw") {
+        return Ok(draw_job(drawing));
+    }
     if let Some(found) = matches.subcommand_matches("run") {
-        let Some(job) = run_job(found) else {
+        let Ok(job) = run_job(found) else {
             return Err(LineFault::BadLine);
         };
         return Ok(job);
+    }
+    if let Some(asked) = matches.subcommand_matches("mend") {
+        let _asked = asked;
+        return Ok(Job::Mend);
     }
     let Some(found) = matches.subcommand_matches("legs") else {
         return Err(LineFault::BadLine);

@@ -4,7 +4,7 @@ import os
 import signal
 import socket
 
-from parts import Failed, answer, case, deletes_to_all, expect, free_port, one_pool, stored, value_answer
+from parts import UNLIMITED, Failed, answer, case, deletes_to_all, expect, free_port, one_pool, stored, value_answer
 
 LOST = {
     "pools": {"A": {"servers": ["127.0.0.1:1"]}, "B": {"servers": ["127.0.0.1:2"]}},
@@ -27,7 +27,7 @@ def one_session_with_one_get(machine):
     server = machine.servers(1)[0]
     expect(answer(server, stored(b"a", b"1")), b"STORED\r\n")
     port = free_port()
-    mcv = machine.mcv(one_pool([server]), listen="127.0.0.1:%d" % port, sessions=1)
+    mcv = machine.mcv(one_pool([server]), listen="127.0.0.1:%d" % port, sessions=1, server_timeout=10000, client_timeout=10000)
     expect((mcv.address, mcv.pending), ("127.0.0.1:%d" % port, 0))
     expect(answer(mcv.address, b"get a\r\nquit\r\n"), value_answer(b"a", b"1"))
     expect(mcv.last_lines(), (b"mcv closed calls 1\n", 0))
@@ -61,7 +61,7 @@ def sessions_of_two_proxies_and_the_number_of_their_calls(machine):
         for n, client in enumerate(clients):
             client.ask(b"delete k%d\r\n" % n, b"DELETED\r\n")
     expect(mcv.last_lines(), (b"mcv closed calls 12\n", 0))
-    expect(mcv.error_text(), b"", "standard error")
+    expect(mcv.error_text(), UNLIMITED, "standard error")
 
 
 @case()
@@ -106,6 +106,8 @@ def a_bad_command_line(machine):
     for words in (run, run + spool, run + listen, run + listen + spool + ["--sessions", "0"], run + listen + spool + ["--sessions", "1000000001"],
                   run + listen + spool + ["--sessions", "x"], run + listen + spool + ["--proxies", "0"], run + listen + spool + ["--proxies", "65"],
                   run + listen + spool + ["--window", "-1"], run + listen + spool + ["--window", "4294967296"],
+                  run + listen + spool + ["--server-timeout", "0"], run + listen + spool + ["--server-timeout", "3600001"],
+                  run + listen + spool + ["--client-timeout", "0"], run + listen + spool + ["--client-timeout", "1s"],
                   run + listen + spool + ["more"], run + listen + listen + spool):
         expect(machine.refused(one_pool(["127.0.0.1:1"]), words=words), BAD_LINE, " ".join(words[1:]))
 

@@ -1,7 +1,7 @@
 use Rattle.std.proofs.Common.{◌<◌, ◌≤◌, arith, length, subst, sym, take}
 use Rattle.std.proofs.KnownBytes.{Appends-kept}
 use Rattle.std.specs.Io.KnownBytes.{Appends}
-use Rattle.mcv_net.proofs.Writing.{front_grows, rest_bound}
+use Rattle.mcv_net.proofs.Writing.{front_grows, late_front, rest_bound}
 use Rattle.mcv_net.proofs.exchange.write_text.Goals as goal
 use Rattle.mcv_net.proofs.exchange.write_text.Goals.{in-Ok-2, in-Err}
 
@@ -29,3 +29,8 @@ loop-write-preserved g c =
             front = subst (λ n. Appends before after (take n c.args.text.now)) (sym is) (Appends-kept _ _ _ _ was.front w.in-Err.ensures.bytes);
           }
     ]
+
+pub returns-in-Err-2 : goal.returns-in-Err-2
+returns-in-Err-2 g c =
+    let was = c.loop-write.invariant in
+    late_front _ _ _ c.args.text.now c.loop-write.written was.front c.in-Err-2.ensures.bytes was.short

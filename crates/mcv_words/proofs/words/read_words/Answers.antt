@@ -1,12 +1,13 @@
 use Rattle.std.proofs.Common.{◌≡◌, ◌∙◌, inl, inr, List, false, sym, subst, true, ap, map, refl, codes, true≢false}
 use Rattle.clap.specs.Words.{App, Text, HasKind, fault_of, found_of, is_simple, is_simple_and_free, kind_of, rows_of, subcommand_of}
 use Rattle.std.specs.Str.Parse.{ParsesUnsigned, ExplainsUnsignedError, HasUnsignedDigitsIfOk}
-use Rattle.clap.proofs.WalkLemmas.{first_value-rows, one_text-rows}
+use Rattle.clap.proofs.WalkLemmas.{one_text-rows}
 use Rattle.clap.proofs.OnLiterals.{clap_on_literals}
 use Rattle.clap.proofs.ValueTestLemmas.{accepts-Accepts}
-use Rattle.mcv_words.specs.Words.{mcv_app, proxy_limit, session_limit, window_limit, HasRunValues, RunValue}
+use Rattle.mcv_words.specs.Ranges.{window_limit}
+use Rattle.mcv_words.specs.Words.{mcv_app}
 use Rattle.mcv_words.proofs.OptionValues.{at_parser, check_values, legs_values, run_values}
-use Rattle.mcv_words.proofs.Matches.{check_asked, fault_of_kind, named_rows, name_of_rows, no_number, number_of, number_spelt, run_asked}
+use Rattle.mcv_words.proofs.Matches.{can_run, check_asked, draw_asked, fault_of_kind, given_in, named_rows, name_of_rows, no_number, number_of, run_asked}
 use Rattle.mcv_words.proofs.CommandIsNamed.{taken}
 use Rattle.mcv_words.proofs.words.read_words.Goals as goal
 
@@ -32,8 +33,7 @@ returns-in_default-check_job-clause-fault c =
     let none = sym (ap (λ (a : App). fault_of a words) c.in_ok-command.ensures) ∙ c.in-Ok.ensures.kinds (ap is_simple_and_free c.in_ok-command.ensures ∙ free) in
     let found = found_of c.in-Some.found.now in
     let check = sym held ∙ named_rows c.in-Ok.matches (codes "check") (rows_of found) (c.in-Some.ensures.found.0 refl) c.in-Some.ensures.rows in
-    let window = number_spelt (codes "window") 0 window_limit (rows_of found) (check_values words (rows_of found) none check) in
-    absurd (true≢false (sym (c.in_default-check_job.ensures.some window.0 window.1 window.2)))
+    absurd (true≢false (sym (c.in_default-check_job.ensures.ok (given_in (codes "window") 0 window_limit (rows_of found) (check_values words (rows_of found) none check)))))
 
 pub returns-in-Some-clause-job : goal.returns-in-Some-clause-job
 returns-in-Some-clause-job c =
@@ -42,41 +42,57 @@ returns-in-Some-clause-job c =
     let none = sym (ap (λ (a : App). fault_of a words) c.in_ok-command.ensures) ∙ c.in-Ok.ensures.kinds (ap is_simple_and_free c.in_ok-command.ensures ∙ free) in
     let found = found_of c.in-Some.found.now in
     let check = sym held ∙ named_rows c.in-Ok.matches (codes "check") (rows_of found) (c.in-Some.ensures.found.0 refl) c.in-Some.ensures.rows in
-    check_asked words (rows_of found) c.in-Some-check_job.job none check (check_values words (rows_of found) none check) c.in-Some-check_job.ensures.job
-
-pub returns-in_default-run_job-clause-fault : goal.returns-in_default-run_job-clause-fault
-returns-in_default-run_job-clause-fault c =
-    let words : List Text = map (λ w. w.now) c.args.words.now in
-    let held = (c.in-Ok.ensures.matches (ap is_simple c.in_ok-command.ensures ∙ simple)).1 ∙ ap (λ (a : App). subcommand_of a words) c.in_ok-command.ensures in
-    let none = sym (ap (λ (a : App). fault_of a words) c.in_ok-command.ensures) ∙ c.in-Ok.ensures.kinds (ap is_simple_and_free c.in_ok-command.ensures ∙ free) in
-    let found = found_of c.in-Some-subcommand_matches.found.now in
-    let run = sym held ∙ named_rows c.in-Ok.matches (codes "run") (rows_of found) (c.in-Some-subcommand_matches.ensures.found.0 refl) c.in-Some-subcommand_matches.ensures.rows in
-    let has = run_values words (rows_of found) none run in
-    let sessions = number_spelt (codes "sessions") 1 session_limit (rows_of found) has.sessions in
-    let proxies = number_spelt (codes "proxies") 1 proxy_limit (rows_of found) has.proxies in
-    let window = number_spelt (codes "window") 0 window_limit (rows_of found) has.window in
-    let value : RunValue = record { listen = has.listen.0; spool = has.spool.0; sessions = sessions.0; proxies = proxies.0; window = window.0 } in
-    let values : HasRunValues (rows_of found) value = record { listen = has.listen.1; spool = has.spool.1; sessions = sessions.1; proxies = proxies.1; window = window.1 } in
-    absurd (true≢false (sym (c.in_default-run_job.ensures.some value values sessions.2 proxies.2 window.2)))
+    check_asked words (rows_of found) c.in-Ok-check_job.job none check c.in-Ok-check_job.ensures.job
 
 pub returns-in-Some-subcommand_matches-clause-job : goal.returns-in-Some-subcommand_matches-clause-job
 returns-in-Some-subcommand_matches-clause-job c =
     let words : List Text = map (λ w. w.now) c.args.words.now in
     let held = (c.in-Ok.ensures.matches (ap is_simple c.in_ok-command.ensures ∙ simple)).1 ∙ ap (λ (a : App). subcommand_of a words) c.in_ok-command.ensures in
     let none = sym (ap (λ (a : App). fault_of a words) c.in_ok-command.ensures) ∙ c.in-Ok.ensures.kinds (ap is_simple_and_free c.in_ok-command.ensures ∙ free) in
-    let found = found_of c.in-Some-subcommand_matches.found.now in
-    let run = sym held ∙ named_rows c.in-Ok.matches (codes "run") (rows_of found) (c.in-Some-subcommand_matches.ensures.found.0 refl) c.in-Some-subcommand_matches.ensures.rows in
-    run_asked words (rows_of found) c.in-Some-run_job.job none run (run_values words (rows_of found) none run) c.in-Some-run_job.ensures.job
+    let found = found_of c.in-Some-subcommand_matches.drawing.now in
+    let draw = sym held ∙ named_rows c.in-Ok.matches (codes "draw") (rows_of found) (c.in-Some-subcommand_matches.ensures.found.0 refl) c.in-Some-subcommand_matches.ensures.rows in
+    draw_asked words (rows_of found) c.draw_job.result none draw c.draw_job.ensures
 
-pub returns-in_default-subcommand_matches-2-clause-fault : goal.returns-in_default-subcommand_matches-2-clause-fault
-returns-in_default-subcommand_matches-2-clause-fault c =
+pub returns-in_default-run_job-clause-fault : goal.returns-in_default-run_job-clause-fault
+returns-in_default-run_job-clause-fault c =
+    let words : List Text = map (λ w. w.now) c.args.words.now in
+    let held = (c.in-Ok.ensures.matches (ap is_simple c.in_ok-command.ensures ∙ simple)).1 ∙ ap (λ (a : App). subcommand_of a words) c.in_ok-command.ensures in
+    let none = sym (ap (λ (a : App). fault_of a words) c.in_ok-command.ensures) ∙ c.in-Ok.ensures.kinds (ap is_simple_and_free c.in_ok-command.ensures ∙ free) in
+    let found = found_of c.in-Some-subcommand_matches-2.found.now in
+    let run = sym held ∙ named_rows c.in-Ok.matches (codes "run") (rows_of found) (c.in-Some-subcommand_matches-2.ensures.found.0 refl) c.in-Some-subcommand_matches-2.ensures.rows in
+    absurd (true≢false (sym (c.in_default-run_job.ensures.ok (can_run (rows_of found) (run_values words (rows_of found) none run)))))
+
+pub returns-in-Some-subcommand_matches-2-clause-job : goal.returns-in-Some-subcommand_matches-2-clause-job
+returns-in-Some-subcommand_matches-2-clause-job c =
+    let words : List Text = map (λ w. w.now) c.args.words.now in
+    let held = (c.in-Ok.ensures.matches (ap is_simple c.in_ok-command.ensures ∙ simple)).1 ∙ ap (λ (a : App). subcommand_of a words) c.in_ok-command.ensures in
+    let none = sym (ap (λ (a : App). fault_of a words) c.in_ok-command.ensures) ∙ c.in-Ok.ensures.kinds (ap is_simple_and_free c.in_ok-command.ensures ∙ free) in
+    let found = found_of c.in-Some-subcommand_matches-2.found.now in
+    let run = sym held ∙ named_rows c.in-Ok.matches (codes "run") (rows_of found) (c.in-Some-subcommand_matches-2.ensures.found.0 refl) c.in-Some-subcommand_matches-2.ensures.rows in
+    run_asked words (rows_of found) c.in-Ok-run_job.job none run c.in-Ok-run_job.ensures.job
+
+pub returns-in-Some-subcommand_matches-3-clause-job : goal.returns-in-Some-subcommand_matches-3-clause-job
+returns-in-Some-subcommand_matches-3-clause-job c =
+    let words : List Text = map (λ w. w.now) c.args.words.now in
+    let held = (c.in-Ok.ensures.matches (ap is_simple c.in_ok-command.ensures ∙ simple)).1 ∙ ap (λ (a : App). subcommand_of a words) c.in_ok-command.ensures in
+    let none = sym (ap (λ (a : App). fault_of a words) c.in_ok-command.ensures) ∙ c.in-Ok.ensures.kinds (ap is_simple_and_free c.in_ok-command.ensures ∙ free) in
+    let found = found_of c.in-Some-subcommand_matches-3.asked.now in (
+      none,
+      rows_of found,
+      sym held ∙ named_rows c.in-Ok.matches (codes "mend") (rows_of found) (c.in-Some-subcommand_matches-3.ensures.found.0 refl) c.in-Some-subcommand_matches-3.ensures.rows,
+    )
+
+pub returns-in_default-subcommand_matches-4-clause-fault : goal.returns-in_default-subcommand_matches-4-clause-fault
+returns-in_default-subcommand_matches-4-clause-fault c =
     let words : List Text = map (λ w. w.now) c.args.words.now in
     let held = (c.in-Ok.ensures.matches (ap is_simple c.in_ok-command.ensures ∙ simple)).1 ∙ ap (λ (a : App). subcommand_of a words) c.in_ok-command.ensures in
     let none = sym (ap (λ (a : App). fault_of a words) c.in_ok-command.ensures) ∙ c.in-Ok.ensures.kinds (ap is_simple_and_free c.in_ok-command.ensures ∙ free) in
     absurd (elim (taken words none) [
       | inl check ↦ true≢false (sym (c.in_default.ensures.found.1 (name_of_rows c.in-Ok.matches (codes "check") check.0 (held ∙ check.1))))
-      | inr (inl legs) ↦ true≢false (sym (c.in_default-subcommand_matches-2.ensures.found.1 (name_of_rows c.in-Ok.matches (codes "legs") legs.0 (held ∙ legs.1))))
-      | inr (inr run) ↦ true≢false (sym (c.in_default-subcommand_matches.ensures.found.1 (name_of_rows c.in-Ok.matches (codes "run") run.0 (held ∙ run.1))))
+      | inr (inl draw) ↦ true≢false (sym (c.in_default-subcommand_matches.ensures.found.1 (name_of_rows c.in-Ok.matches (codes "draw") draw.0 (held ∙ draw.1))))
+      | inr (inr (inl legs)) ↦ true≢false (sym (c.in_default-subcommand_matches-4.ensures.found.1 (name_of_rows c.in-Ok.matches (codes "legs") legs.0 (held ∙ legs.1))))
+      | inr (inr (inr (inl mend))) ↦ true≢false (sym (c.in_default-subcommand_matches-3.ensures.found.1 (name_of_rows c.in-Ok.matches (codes "mend") mend.0 (held ∙ mend.1))))
+      | inr (inr (inr (inr run))) ↦ true≢false (sym (c.in_default-subcommand_matches-2.ensures.found.1 (name_of_rows c.in-Ok.matches (codes "run") run.0 (held ∙ run.1))))
     ])
 
 pub returns-in_default-get_one-clause-fault : goal.returns-in_default-get_one-clause-fault
@@ -84,8 +100,8 @@ returns-in_default-get_one-clause-fault c =
     let words : List Text = map (λ w. w.now) c.args.words.now in
     let held = (c.in-Ok.ensures.matches (ap is_simple c.in_ok-command.ensures ∙ simple)).1 ∙ ap (λ (a : App). subcommand_of a words) c.in_ok-command.ensures in
     let none = sym (ap (λ (a : App). fault_of a words) c.in_ok-command.ensures) ∙ c.in-Ok.ensures.kinds (ap is_simple_and_free c.in_ok-command.ensures ∙ free) in
-    let found = found_of c.in-Some-subcommand_matches-2.found.now in
-    let legs = sym held ∙ named_rows c.in-Ok.matches (codes "legs") (rows_of found) (c.in-Some-subcommand_matches-2.ensures.found.0 refl) c.in-Some-subcommand_matches-2.ensures.rows in
+    let found = found_of c.in-Some-subcommand_matches-4.found.now in
+    let legs = sym held ∙ named_rows c.in-Ok.matches (codes "legs") (rows_of found) (c.in-Some-subcommand_matches-4.ensures.found.0 refl) c.in-Some-subcommand_matches-4.ensures.rows in
     let at = legs_values words (rows_of found) none legs in
     let takes = accepts-Accepts false at_parser at.0 at.2 in
     absurd (no_number (λ bs r. ParsesUnsigned 64 10 bs r × ExplainsUnsignedError 10 bs r × HasUnsignedDigitsIfOk bs r) at.0 (λ t x h. h.0) takes.0 takes.1
@@ -96,8 +112,8 @@ returns-clause-job c =
     let words : List Text = map (λ w. w.now) c.args.words.now in
     let held = (c.in-Ok.ensures.matches (ap is_simple c.in_ok-command.ensures ∙ simple)).1 ∙ ap (λ (a : App). subcommand_of a words) c.in_ok-command.ensures in
     let none = sym (ap (λ (a : App). fault_of a words) c.in_ok-command.ensures) ∙ c.in-Ok.ensures.kinds (ap is_simple_and_free c.in_ok-command.ensures ∙ free) in
-    let found = found_of c.in-Some-subcommand_matches-2.found.now in
-    let legs = sym held ∙ named_rows c.in-Ok.matches (codes "legs") (rows_of found) (c.in-Some-subcommand_matches-2.ensures.found.0 refl) c.in-Some-subcommand_matches-2.ensures.rows in
+    let found = found_of c.in-Some-subcommand_matches-4.found.now in
+    let legs = sym held ∙ named_rows c.in-Ok.matches (codes "legs") (rows_of found) (c.in-Some-subcommand_matches-4.ensures.found.0 refl) c.in-Some-subcommand_matches-4.ensures.rows in
     let at = legs_values words (rows_of found) none legs in (
       none,
       rows_of found,

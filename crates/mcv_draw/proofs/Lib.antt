@@ -1,0 +1,4 @@
+pub mod Escaping
+pub mod DrawnApart
+pub mod ChildCounts
+pub mod HandlesInTurn

@@ -1,0 +1,11 @@
+-- What the values of this crate mean. Only private contracts cite this.
+use Rattle.std.specs.Prelude.{List, map}
+use Rattle.mcv_alike.specs.Numbers.{legs_value}
+use Rattle.mcv_mend.specs.Needs.{NeedValue}
+use Rattle.mcv_mend.specs.declared.needs.Need.{Need}
+
+abbrev pub need_value : Need → NeedValue
+need_value n = record { route = n.class.route; word = n.class.class.word; legs = legs_value n.legs.items }
+
+abbrev pub needs_value : List Need → List NeedValue
+needs_value needs = map need_value needs

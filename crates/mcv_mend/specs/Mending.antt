@@ -1,0 +1,43 @@
+-- What is written of a configuration (own).
+use Rattle.std.specs.Prelude.{◌≡◌, ⊤, ℕ, List, All}
+use Rattle.mcv_input.specs.Fault.{AreNamedBy, IsInputFault}
+use Rattle.mcv_input.specs.declared.fault.RunFault.TheVariants.{Memory}
+use Rattle.mcv_route.specs.Routes.{RoutesValue}
+use Rattle.mcv_symbolic.specs.CoveredRoutes.{AreCovered}
+use Rattle.mcv_mend.specs.Mend.{IsMendOf}
+use Rattle.mcv_mend.specs.Needs.{IsLeastNeed, NeedValue}
+use Rattle.mcv_mend.specs.declared.fault.MendFault.{MendFault}
+use Rattle.mcv_mend.specs.declared.fault.MendFault.TheVariants.{GaveUp, Limit, Run}
+use Rattle.mcv_mend.specs.declared.fault.Mending.{Mending}
+use Rattle.mcv_mend.specs.declared.fault.Mending.TheVariants.{Mended, Unchanged}
+
+-- the routes aren't covered; those that the text names are, and are the first ones mended by what each class needs at least
+pub record IsMendedText (r : RoutesValue) (text : List ℕ) : Type 0 where
+  pub uncovered : AreCovered r → ⊥
+  pub routes : RoutesValue
+  pub named : AreNamedBy text routes
+  pub covered : AreCovered routes
+  pub needs : List NeedValue
+  pub least : All (IsLeastNeed r) needs
+  pub mended : IsMendOf r routes needs
+
+-- a covered configuration stays byte for byte
+abbrev pub IsMending : RoutesValue → (input : List ℕ) → Mending → (text : List ℕ) → Type 0
+IsMending r input Unchanged text = AreCovered r × (text ≡ input)
+IsMending r input Mended text = IsMendedText r text
+
+-- the input is a configuration that names routes, and this is what is written of it
+abbrev pub IsMendingOn : (input : List ℕ) → Mending → (text : List ℕ) → Type 0
+IsMendingOn input mending text = (r : RoutesValue) × AreNamedBy input r × IsMending r input mending text
+
+-- why nothing is written: the input names no configuration, or memory ran out, or a device failed; or it names routes that aren't covered, and they aren't mended
+abbrev pub IsMendFault : (input : List ℕ) → MendFault → Type 0
+IsMendFault input (Run fault) = IsInputFault input fault
+IsMendFault input (Limit fault) = (r : RoutesValue) × AreNamedBy input r × (AreCovered r → ⊥)
+IsMendFault input GaveUp = (r : RoutesValue) × AreNamedBy input r × (AreCovered r → ⊥)
+
+-- memory ran out, or the configuration isn't mended
+abbrev pub IsNotDone : MendFault → Type 0
+IsNotDone (Run fault) = fault ≡ Memory
+IsNotDone (Limit fault) = ⊤
+IsNotDone GaveUp = ⊤

@@ -1,0 +1,167 @@
+//! The path from the bytes read to the bytes written.
+
+ghost use Rattle.std.specs.Prelude.{◌≡◌, ◌≢◌, ℕ, List, IfErr, IfNone, IfOk, IfSome, IsTrue};
+ghost use Rattle.std.specs.Io.KnownBytes.{Appends};
+ghost use Rattle.mcv_input.specs.Fault.{AreNamedBy};
+ghost use Rattle.mcv_input.specs.declared.fault.RunFault.TheVariants.{Device};
+ghost use Rattle.mcv_route.specs.Routes.{RoutesValue};
+ghost use Rattle.mcv_symbolic.specs.CoveredRoutes.{AreCovered};
+ghost use Rattle.mcv_mend.specs.Aliases.{aliases_value, route_aliases};
+ghost use Rattle.mcv_mend.specs.Mending.{IsMendFault, IsMendedText, IsMendingOn, IsNotDone};
+ghost use Rattle.mcv_mend.specs.declared.fault.MendFault.TheVariants.{Run};
+
+use crate::drafting::draft;
+use crate::fault::{MendFault, Mending};
+use crate::mended::is_mended;
+use crate::needs::{Need, class_needs};
+use crate::reading::{Reading, read_named};
+use mcv_check::{Accepted, CheckFault, check};
+use mcv_config::{ReadFault, SIZE_LIMIT};
+use mcv_input::{RunFault, read_at_most, write_text};
+use mcv_make::{MakeFault, make};
+use mcv_route::Routes;
+use std::alloc::Global;
+use std::io::{Read, Write};
+
+/// The most bytes that are read of a configuration: one more than it may have.
+const READ_LIMIT: u64 = (SIZE_LIMIT + 1) as u64;
+
+/// What became of a configuration, and what is written.
+#[derive(Drop)]
+pub struct Output {
+    pub mending: Mending,
+    pub text: Vec<u8>,
+}
+
+/// Reads a configuration and writes it with the smallest change to its delete policies that covers it; one that is
+/// covered as it is. Where it is at fault, and where no change is found, nothing is written.
+pub fn run_mend<R: Read, W: Write>(
+    alloc: Global,
+    reader: &mut R,
+    writer: &mut W,
+) -> Result<Mending, MendFault>
+    ensures ok { IfOk result (λ mending. (text : List ℕ) × IfSome (R.remaining reader.old) (λ input. IsMendingOn input mending text)
+        × Appends (W.contents writer.old) (W.contents writer.new) text) }
+    ensures fault { IfErr result (λ fault. IfSome (R.remaining reader.old) (λ input. IsMendFault input fault)) }
+    ensures silent { IfErr result (λ fault. fault ≢ Run Device → W.contents writer.new ≡ W.contents writer.old) }
+{
+    let input = read_at_most(alloc, reader, READ_LIMIT)?;
+    let output = mend_text(alloc, input)?;
+    write_text(writer, output.text.as_slice())?;
+    Ok(output.mending)
+}
+
+/// The configuration that a text has, with the smallest change to its delete policies that covers it; a covered one as
+/// it is.
+pub fn mend_text(alloc: Global, input: Vec<u8>) -> Result<Output, MendFault>
+    ensures ok { IfOk result (λ output. IsMendingOn input.items output.mending output.text.items) }
+    ensures fault { IfErr result (IsMendFault input.items) }
+{
+    let old = match read_named(alloc, input.as_slice()) {
+        Ok(old) => old,
+        Err(fault) => return Err(MendFault::Run(RunFault::from(fault))),
+    };
+    if is_lost(alloc, &old.routes)? {
+        return Ok(Output {
+            mending: Mending::Mended,
+            text: mended_text(alloc, input.as_slice(), &old)?,
+        });
+    }
+    let Reading { routes, aliases: _ } = old;
+    match accepted(alloc, routes)? {
+        Some(_) => Ok(Output {
+            mending: Mending::Unchanged,
+            text: input,
+        }),
+        None => Err(MendFault::GaveUp),
+    }
+}
+
+/// Whether a delete can be lost by routes.
+fn is_lost(alloc: Global, routes: &Routes) -> Result<bool, RunFault>
+    ensures lost { IfOk result (λ lost. IsTrue lost → AreCovered routes.now → ⊥) }
+    ensures fault { IfErr result (λ fault. fault ≡ RunFault.Memory) }
+{
+    match make(alloc, routes) {
+        Ok(_) => Ok(false),
+        Err(MakeFault::Lost(_)) => Ok(true),
+        Err(MakeFault::Memory) => Err(RunFault::Memory),
+    }
+}
+
+/// The routes, if they are covered. Who made the certificate isn't trusted: it is checked like any other.
+fn accepted(alloc: Global, routes: Routes) -> Result<Option<Accepted>, RunFault>
+    ensures same { IfOk result (λ found. IfSome found (λ accepted. accepted ≡ routes)) }
+    ensures covered { IfOk result (λ found. IfSome found (λ _. AreCovered routes)) }
+    ensures lost { IfOk result (λ found. IfNone found (AreCovered routes → ⊥)) }
+    ensures fault { IfErr result (λ fault. fault ≡ RunFault.Memory) }
+{
+    let certificate = match make(alloc, &routes) {
+        Ok(certificate) => certificate,
+        Err(MakeFault::Lost(_)) => return Ok(None),
+        Err(MakeFault::Memory) => return Err(RunFault::Memory),
+    };
+    let accepted = match check(alloc, routes, &certificate) {
+        Ok(accepted) => accepted,
+        Err(CheckFault::Memory) => return Err(RunFault::Memory),
+        Err(_) => return Ok(None),
+    };
+    // They are covered.
+    let _ = accepted.routes();
+    Ok(Some(accepted))
+}
+
+/// The text of a configuration that isn't covered, mended.
+fn mended_text(alloc: Global, input: &[u8], old: &Reading) -> Result<Vec<u8>, MendFault>
+    requires lost { AreCovered old.now.routes → ⊥ }
+    requires aliases { aliases_value old.now.aliases.items ≡ route_aliases old.now.routes }
+    ensures ok { IfOk result (λ text. IsMendedText old.now.routes text.items) }
+    ensures fault { IfErr result IsNotDone }
+{
+    let needs = class_needs(alloc, &old.routes)?;
+    let text = drafted(alloc, input, needs.as_slice())?;
+    let reading = read_again(alloc, text.as_slice())?;
+    if !are_same_aliases(&reading, old) {
+        return Err(MendFault::GaveUp);
+    }
+    let Reading { routes, aliases: _ } = reading;
+    let found = accepted(alloc, routes)?;
+    let Some(accepted) = found else {
+        return Err(MendFault::GaveUp);
+    };
+    if !is_mended(alloc, &old.routes, accepted.routes(), needs.as_slice())? {
+        return Err(MendFault::GaveUp);
+    }
+    Ok(text)
+}
+
+/// Whether the routes are selected by the same prefixes.
+fn are_same_aliases(one: &Reading, other: &Reading) -> bool
+    ensures { IsTrue result → aliases_value one.now.aliases.items ≡ aliases_value other.now.aliases.items }
+{
+    one.aliases == other.aliases
+}
+
+/// The text with what each class needs. Why there is none is either memory, or isn't known.
+fn drafted(alloc: Global, input: &[u8], needs: &[Need]) -> Result<Vec<u8>, MendFault>
+    ensures { IfErr result IsNotDone }
+{
+    match draft(alloc, input, needs) {
+        Ok(text) => Ok(text),
+        Err(MendFault::Run(_)) => Err(MendFault::Run(RunFault::Memory)),
+        Err(_) => Err(MendFault::GaveUp),
+    }
+}
+
+/// What a drafted text names.
+fn read_again(alloc: Global, text: &[u8]) -> Result<Reading, MendFault>
+    ensures named { IfOk result (λ reading. AreNamedBy text.now reading.routes) }
+    ensures aliases { IfOk result (λ reading. aliases_value reading.aliases.items ≡ route_aliases reading.routes) }
+    ensures fault { IfErr result IsNotDone }
+{
+    match read_named(alloc, text) {
+        Ok(reading) => Ok(reading),
+        Err(ReadFault::Config(fault)) => Err(MendFault::Limit(fault)),
+        Err(ReadFault::Memory) => Err(MendFault::Run(RunFault::Memory)),
+    }
+}
