@@ -1,10 +1,12 @@
 -- What becomes of the first bytes of an input is what becomes of the input.
 use Rattle.std.proofs.Common.{◌≡◌, ◌<◌, ◌+◌, ℕ, List, length, take, Some, refl, sym, subst, arith}
-use Rattle.mcv_config.specs.Config.{size_limit}
+use Rattle.mcv_config.specs.Config.{Faulty, size_limit}
 use Rattle.mcv_input.proofs.FirstBytes.{fault_of_known, named_by_all, read_limit, whole}
-use Rattle.mcv_input.specs.Fault.{IsInputFault}
+use Rattle.mcv_input.specs.Fault.{IsInputFault, of_reading}
 use Rattle.mcv_input.specs.declared.fault.RunFault.{RunFault}
 use Rattle.mcv_input.specs.declared.fault.RunFault.TheVariants.{Line, NoRoute, Config, CertificateText, Certificate, Window, Memory, Device}
+use Rattle.mcv_names.specs.Fault.{Refuses}
+use Rattle.mcv_names.specs.declared.fault.ReadFault.{ReadFault}
 use Rattle.mcv_names.specs.declared.fault.ReadFault.TheVariants as read_faults
 use Rattle.mcv_mend.specs.Mending.{IsMendFault, IsMendingOn, IsNotDone}
 use Rattle.mcv_mend.specs.declared.fault.MendFault.{MendFault}
@@ -39,3 +41,8 @@ pub not_done : (input : List ℕ) (r : RoutesValue) (fault : MendFault) → AreN
 not_done input r (Run fault) named lost is = subst (IsInputFault input) (sym is) tt
 not_done input r (Limit fault) named lost is = (r, named, lost)
 not_done input r GaveUp named lost is = (r, named, lost)
+
+-- a fault of a text that is read is one of the input
+pub reading_fault : (input : List ℕ) (fault : ReadFault) → Refuses fault (Faulty input) → IsInputFault input (of_reading fault)
+reading_fault input (read_faults.Config fault) is = is
+reading_fault input read_faults.Memory is = tt

@@ -1,5 +1,5 @@
 -- What is written of a configuration (own).
-use Rattle.std.specs.Prelude.{◌≡◌, ⊤, ℕ, List, All}
+use Rattle.std.specs.Prelude.{◌≡◌, ◌⊎◌, ⊤, ℕ, List, [], ◌∷◌, All}
 use Rattle.mcv_input.specs.Fault.{AreNamedBy, IsInputFault}
 use Rattle.mcv_input.specs.declared.fault.RunFault.TheVariants.{Memory}
 use Rattle.mcv_route.specs.Routes.{RoutesValue}
@@ -11,20 +11,31 @@ use Rattle.mcv_mend.specs.declared.fault.MendFault.TheVariants.{GaveUp, Limit, R
 use Rattle.mcv_mend.specs.declared.fault.Mending.{Mending}
 use Rattle.mcv_mend.specs.declared.fault.Mending.TheVariants.{Mended, Unchanged}
 
--- the routes aren't covered; those that the text names are, and are the first ones mended by what each class needs at least
-pub record IsMendedText (r : RoutesValue) (text : List ℕ) : Type 0 where
-  pub uncovered : AreCovered r → ⊥
+-- each byte of the input is in the text, in order: the text is the input with insertions
+abbrev pub IsKeptIn : (input text : List ℕ) → Type 0
+IsKeptIn [] text = ⊤
+IsKeptIn (b ∷ bs) [] = ⊥
+IsKeptIn (b ∷ bs) (c ∷ cs) = ((b ≡ c) × IsKeptIn bs cs) ⊎ IsKeptIn (b ∷ bs) cs
+
+-- the text names routes that are covered, and are the first ones mended by these needs
+pub record NamesMended (r : RoutesValue) (needs : List NeedValue) (text : List ℕ) : Type 0 where
   pub routes : RoutesValue
   pub named : AreNamedBy text routes
   pub covered : AreCovered routes
+  pub mended : IsMendOf r routes needs
+
+-- the routes aren't covered; the text keeps the input, and names the routes mended by what each class needs at least
+pub record IsMendedText (r : RoutesValue) (input text : List ℕ) : Type 0 where
+  pub uncovered : AreCovered r → ⊥
+  pub kept : IsKeptIn input text
   pub needs : List NeedValue
   pub least : All (IsLeastNeed r) needs
-  pub mended : IsMendOf r routes needs
+  pub mended : NamesMended r needs text
 
 -- a covered configuration stays byte for byte
 abbrev pub IsMending : RoutesValue → (input : List ℕ) → Mending → (text : List ℕ) → Type 0
 IsMending r input Unchanged text = AreCovered r × (text ≡ input)
-IsMending r input Mended text = IsMendedText r text
+IsMending r input Mended text = IsMendedText r input text
 
 -- the input is a configuration that names routes, and this is what is written of it
 abbrev pub IsMendingOn : (input : List ℕ) → Mending → (text : List ℕ) → Type 0

@@ -36,7 +36,8 @@ fn aliases_of(alloc: Global, config: &Config) -> Result<Vec<Vec<Vec<u8>>>, Alloc
 {
     let mut all = Vec::new(alloc);
     for entry in &config.parts().entries {
-        all.push(copied(alloc, entry.aliases.as_slice())?)?;
+        let own = copied(alloc, entry.aliases.as_slice())?;
+        all.push(own)?;
     }
     Ok(all)
 }
@@ -47,7 +48,8 @@ fn copied(alloc: Global, prefixes: &[Prefix]) -> Result<Vec<Vec<u8>>, AllocError
 {
     let mut all = Vec::new(alloc);
     for prefix in prefixes {
-        all.push(Vec::from_slice(alloc, prefix.as_bytes())?)?;
+        let own = Vec::from_slice(alloc, prefix.as_bytes())?;
+        all.push(own)?;
     }
     Ok(all)
 }

@@ -1,13 +1,16 @@
 //! The path from the bytes read to the bytes written.
 
-ghost use Rattle.std.specs.Prelude.{◌≡◌, ◌≢◌, ℕ, List, IfErr, IfNone, IfOk, IfSome, IsTrue};
+ghost use Rattle.std.specs.Prelude.{◌≡◌, ◌≢◌, ℕ, List, IfErr, IfNone, IfOk, IfSome, IsTrue, OnOk, map};
 ghost use Rattle.std.specs.Io.KnownBytes.{Appends};
+ghost use Rattle.mcv_blocks.specs.Places.{AreRouteClasses};
 ghost use Rattle.mcv_input.specs.Fault.{AreNamedBy};
 ghost use Rattle.mcv_input.specs.declared.fault.RunFault.TheVariants.{Device};
 ghost use Rattle.mcv_route.specs.Routes.{RoutesValue};
 ghost use Rattle.mcv_symbolic.specs.CoveredRoutes.{AreCovered};
 ghost use Rattle.mcv_mend.specs.Aliases.{aliases_value, route_aliases};
-ghost use Rattle.mcv_mend.specs.Mending.{IsMendFault, IsMendedText, IsMendingOn, IsNotDone};
+ghost use Rattle.mcv_mend.specs.Classes.{class_of_need};
+ghost use Rattle.mcv_mend.specs.InMemory.{needs_value};
+ghost use Rattle.mcv_mend.specs.Mending.{IsKeptIn, IsMendFault, IsMendedText, IsMending, IsMendingOn, IsNotDone, NamesMended};
 ghost use Rattle.mcv_mend.specs.declared.fault.MendFault.TheVariants.{Run};
 
 use crate::drafting::draft;
@@ -57,18 +60,30 @@ pub fn mend_text(alloc: Global, input: Vec<u8>) -> Result<Output, MendFault>
     ensures ok { IfOk result (λ output. IsMendingOn input.items output.mending output.text.items) }
     ensures fault { IfErr result (IsMendFault input.items) }
 {
-    let old = match read_named(alloc, input.as_slice()) {
-        Ok(old) => old,
-        Err(fault) => return Err(MendFault::Run(RunFault::from(fault))),
-    };
-    if is_lost(alloc, &old.routes)? {
+    match read_named(alloc, input.as_slice()) {
+        Ok(old) => mend_named(alloc, input, old),
+        Err(fault) => Err(MendFault::Run(RunFault::from(fault))),
+    }
+}
+
+/// The same of a text that names these routes.
+fn mend_named(alloc: Global, input: Vec<u8>, old: Reading) -> Result<Output, MendFault>
+    requires named { AreNamedBy input.items old.routes }
+    requires aliases { aliases_value old.aliases.items ≡ route_aliases old.routes }
+    ensures ok { IfOk result (λ output. IsMending old.routes input.items output.mending output.text.items) }
+    ensures fault { IfErr result (IsMendFault input.items) }
+{
+    let lost = is_lost(alloc, &old.routes)?;
+    if lost {
+        let text = mended_text(alloc, input.as_slice(), &old)?;
         return Ok(Output {
             mending: Mending::Mended,
-            text: mended_text(alloc, input.as_slice(), &old)?,
+            text,
         });
     }
     let Reading { routes, aliases: _ } = old;
-    match accepted(alloc, routes)? {
+    let found = accepted(alloc, routes)?;
+    match found {
         Some(_) => Ok(Output {
             mending: Mending::Unchanged,
             text: input,
@@ -115,12 +130,61 @@ fn accepted(alloc: Global, routes: Routes) -> Result<Option<Accepted>, RunFault>
 fn mended_text(alloc: Global, input: &[u8], old: &Reading) -> Result<Vec<u8>, MendFault>
     requires lost { AreCovered old.now.routes → ⊥ }
     requires aliases { aliases_value old.now.aliases.items ≡ route_aliases old.now.routes }
-    ensures ok { IfOk result (λ text. IsMendedText old.now.routes text.items) }
+    ensures ok { IfOk result (λ text. IsMendedText old.now.routes input.now text.items) }
     ensures fault { IfErr result IsNotDone }
 {
     let needs = class_needs(alloc, &old.routes)?;
     let text = drafted(alloc, input, needs.as_slice())?;
-    let reading = read_again(alloc, text.as_slice())?;
+    confirm(alloc, old, needs.as_slice(), text.as_slice())?;
+    Ok(text)
+}
+
+/// The text with what each class needs, where it keeps all that was read. Why there is none is either memory, or isn't
+/// known.
+fn drafted(alloc: Global, input: &[u8], needs: &[Need]) -> Result<Vec<u8>, MendFault>
+    ensures kept { IfOk result (λ text. IsKeptIn input.now text.items) }
+    ensures fault { IfErr result IsNotDone }
+{
+    match draft(alloc, input, needs) {
+        Ok(text) => kept_in(input, text),
+        Err(MendFault::Run(_)) => Err(MendFault::Run(RunFault::Memory)),
+        Err(_) => Err(MendFault::GaveUp),
+    }
+}
+
+/// The text, where it keeps all that was read.
+fn kept_in(input: &[u8], text: Vec<u8>) -> Result<Vec<u8>, MendFault>
+    ensures kept { IfOk result (λ kept. IsKeptIn input.now kept.items) }
+    ensures fault { IfErr result IsNotDone }
+{
+    if is_kept(input, text.as_slice()) {
+        Ok(text)
+    } else {
+        Err(MendFault::GaveUp)
+    }
+}
+
+/// Whether each byte that was read is in the text, in order.
+fn is_kept(input: &[u8], text: &[u8]) -> bool
+    ensures { IsTrue result → IsKeptIn input.now text.now }
+{
+    let mut kept: usize = 0;
+    for byte in text {
+        if kept < input.len() && input[kept] == *byte {
+            kept += 1;
+        }
+    }
+    kept == input.len()
+}
+
+/// Sees that a text names routes that are covered, and are the old ones mended by these needs.
+fn confirm(alloc: Global, old: &Reading, needs: &[Need], text: &[u8]) -> Result<(), MendFault>
+    requires aliases { aliases_value old.now.aliases.items ≡ route_aliases old.now.routes }
+    requires classes { AreRouteClasses old.now.routes (map class_of_need needs.now) }
+    ensures ok { OnOk result (NamesMended old.now.routes (needs_value needs.now) text.now) }
+    ensures fault { IfErr result IsNotDone }
+{
+    let reading = read_again(alloc, text)?;
     if !are_same_aliases(&reading, old) {
         return Err(MendFault::GaveUp);
     }
@@ -129,10 +193,12 @@ fn mended_text(alloc: Global, input: &[u8], old: &Reading) -> Result<Vec<u8>, Me
     let Some(accepted) = found else {
         return Err(MendFault::GaveUp);
     };
-    if !is_mended(alloc, &old.routes, accepted.routes(), needs.as_slice())? {
-        return Err(MendFault::GaveUp);
+    let mended = is_mended(alloc, &old.routes, accepted.routes(), needs)?;
+    if mended {
+        Ok(())
+    } else {
+        Err(MendFault::GaveUp)
     }
-    Ok(text)
 }
 
 /// Whether the routes are selected by the same prefixes.
@@ -140,17 +206,6 @@ fn are_same_aliases(one: &Reading, other: &Reading) -> bool
     ensures { IsTrue result → aliases_value one.now.aliases.items ≡ aliases_value other.now.aliases.items }
 {
     one.aliases == other.aliases
-}
-
-/// The text with what each class needs. Why there is none is either memory, or isn't known.
-fn drafted(alloc: Global, input: &[u8], needs: &[Need]) -> Result<Vec<u8>, MendFault>
-    ensures { IfErr result IsNotDone }
-{
-    match draft(alloc, input, needs) {
-        Ok(text) => Ok(text),
-        Err(MendFault::Run(_)) => Err(MendFault::Run(RunFault::Memory)),
-        Err(_) => Err(MendFault::GaveUp),
-    }
 }
 
 /// What a drafted text names.

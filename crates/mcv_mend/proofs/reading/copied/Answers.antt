@@ -1,5 +1,6 @@
-use Rattle.std.proofs.Common.{◌≡◌, ◌∙◌}
-use Rattle.std.proofs.lemmas.List.{take_all}
+use Rattle.std.proofs.Common.{◌≡◌, ◌∙◌, ◌∷◌, [], ◌++◌, ℕ, List, ap, ap₂, map, sym, take}
+use Rattle.std.proofs.lemmas.List.{map-append, take_all, take_more}
+use Rattle.mcv_mend.specs.Aliases.{bytes_of}
 use Rattle.mcv_mend.proofs.reading.copied.Goals as goal
 
 pub returns : goal.returns
