@@ -25,8 +25,7 @@ fn is_same_way(old: &PlannedLeg, new: &PlannedLeg) -> bool
 fn is_same_leg(numbering: &Numbering, old: &PlannedLeg, new: &PlannedLeg) -> bool
     ensures { (r n : RoutesValue) → IsNumbering r n numbering.now → IsTrue result → AreOneLeg r n (leg_of old.now) (leg_of new.now) }
 {
-    is_same_way(old, new)
-        && numbering.is_pool(old.symbol, &old.servers, new.symbol, &new.servers)
+    is_same_way(old, new) && numbering.is_pool(old.symbol, &old.servers, new.symbol, &new.servers)
 }
 
 /// Whether both searches go on after the same replies.

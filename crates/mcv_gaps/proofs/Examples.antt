@@ -24,11 +24,15 @@ of_first d zero lt e s at own sends = absurd (omega (arith, ap (λ (l : LegValue
 of_first d (suc k) lt e s at own sends = absurd (omega (arith, lt))
 
 second_is_missed : IsMissed sizes (first ∷ []) second
-second_is_missed = (0, omega arith, λ a.
-    let zeroth : a.0 ≡ 0 = let lt = a.1 in omega arith in
-    let small : 0 < slice_index sizes a.0 = subst (λ s. 0 < slice_index sizes s) (sym zeroth) (omega arith) in
-    let has : HasServerAt (first ∷ []) a.0 0 8 = a.2 0 small (λ _. refl) in
-    of_first has.leg has.listed.0 has.listed.1 has.listed.2 a.0 zeroth has.own has.sends)
+second_is_missed = (
+  0,
+  omega arith,
+  λ a.
+      let zeroth : a.0 ≡ 0 = let lt = a.1 in omega arith in
+      let small : 0 < slice_index sizes a.0 = subst (λ s. 0 < slice_index sizes s) (sym zeroth) (omega arith) in
+      let has : HasServerAt (first ∷ []) a.0 0 8 = a.2 0 small (λ _. refl) in
+      of_first has.leg has.listed.0 has.listed.1 has.listed.2 a.0 zeroth has.own has.sends,
+)
 
 -- so there is a gap, for which that leg alone is missing
 gap : HasGap sizes (record { readable = first ∷ second ∷ []; acknowledged = first ∷ [] }) []

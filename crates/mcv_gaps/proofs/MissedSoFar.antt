@@ -84,7 +84,7 @@ found_more wanted i x old found lt is far only tells kept all =
       all = λ sizes sized w in_front leaf read missed. ⊎_elim
           (λ h. kept leaf (far.all sizes sized w h leaf read missed))
           (λ e. let Enough : WantedValue → Type 0 = λ v. AreEnoughFor sizes v (legs_missing found.missing.items) in
-            let own = all sizes (All-contains (AreSizedBy sizes) ws (wanted_of x) sized at) in subst Enough e own leaf read missed)
+          let own = all sizes (All-contains (AreSizedBy sizes) ws (wanted_of x) sized at) in subst Enough e own leaf read missed)
           (Contains-push_cases (wanteds_of (take i wanted)) (wanted_of x) w (subst (λ (vs : List WantedValue). Contains vs w) (one_further wanted_of wanted i x lt is) in_front));
     }
 

@@ -92,8 +92,7 @@ module _ (sizes : List ℕ) (legs : List LegValue) (sized : AreSized sizes legs)
     filled_by (Some d) ds is h =
         let f = found_at s x 0 d is in
         let many : length d.servers ≡ slice_index sizes s = size_of d s f.0 f.1 in
-        let some : 0 < length d.servers = slice_get_within d.servers 0 x f.2 in
-        (
+        let some : 0 < length d.servers = slice_get_within d.servers 0 x f.2 in (
           inside sizes s 0 (omega (arith, many, some)),
           λ j lt. let e : 0 + j ≡ j = omega arith in subst (λ k. HasServerAt legs s k x) e (each_has 0 d.servers ds h j (omega (arith, many, lt))),
         )

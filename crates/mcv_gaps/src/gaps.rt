@@ -54,11 +54,7 @@ fn is_missed_at_an_index<'a>(
 }
 
 /// Whether the leaf is missed by the legs in these tables.
-pub fn is_missed<'a>(
-    alloc: Global,
-    picks: &Picks<'a>,
-    leaf: &Leg<'a>,
-) -> Result<bool, AllocError>
+pub fn is_missed<'a>(alloc: Global, picks: &Picks<'a>, leaf: &Leg<'a>) -> Result<bool, AllocError>
     ensures { IfOk result (λ is. (sizes : List ℕ) → IsSizedLeaf sizes picks.now (leg_of leaf.now) → IsTrue is ↔ IsMissed sizes picks.now (leg_of leaf.now)) }
 {
     if picks.twin(leaf).is_some() {

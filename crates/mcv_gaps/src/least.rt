@@ -24,13 +24,7 @@ fn owner_with(kept: Option<Option<usize>>, number: usize) -> Option<usize>
     match kept {
         None => Some(number),
         Some(None) => None,
-        Some(Some(other)) => {
-            if other == number {
-                Some(number)
-            } else {
-                None
-            }
-        }
+        Some(Some(other)) => { if other == number { Some(number) } else { None } }
     }
 }
 

@@ -128,10 +128,7 @@ fn insert_all<'s>(
 }
 
 /// The leaves that are missed, one for each symbol and servers.
-pub fn missing_in<'s>(
-    alloc: Global,
-    wanted: &[Wanted<'s>],
-) -> Result<Vec<Missing<'s>>, AllocError>
+pub fn missing_in<'s>(alloc: Global, wanted: &[Wanted<'s>]) -> Result<Vec<Missing<'s>>, AllocError>
     ensures only { IfOk result (λ missing. All (IsMissingOf (wanteds_of wanted.now)) missing.items) }
     ensures all { IfOk result (λ missing. (sizes : List ℕ) → AreAllSizedBy sizes (wanteds_of wanted.now) → AreEnough sizes (wanteds_of wanted.now) (legs_missing missing.items)) }
 {

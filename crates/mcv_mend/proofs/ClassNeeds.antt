@@ -37,20 +37,20 @@ module _ (r : RoutesValue) (sound : IsSoundRoutes r) where
       let e = is.spot.entry in
       let at = entry r.entries b.spot.route e is.spot.numbered in
       of_each Sized leaves (λ d in_leaves.
-        let there = pool_of_leg is.tree P leaves are d in_leaves in
-        sym (subst (λ (t : Tree). (p : List ℕ) → pool_at_position t p ≡ Some (pool_for d) → slice_index (sizes_of r) d.symbol ≡ length d.servers) is.spot.has_tree
-        (λ p h. (entry_sized r e sound at p (pool_for d) h).1) d.position there))
+      let there = pool_of_leg is.tree P leaves are d in_leaves in
+      sym (subst (λ (t : Tree). (p : List ℕ) → pool_at_position t p ≡ Some (pool_for d) → slice_index (sizes_of r) d.symbol ≡ length d.servers) is.spot.has_tree
+      (λ p h. (entry_sized r e sound at p (pool_for d) h).1) d.position there))
 
   module _ (c : RouteClass) (ws : List WantedValue) (are : AreWantedOf r c ws) where
     pub all_sized : All (λ n. 0 < n) (sizes_of r) → AreAllSizedBy (sizes_of r) ws
     all_sized positive = of_each (AreSizedBy (sizes_of r)) ws (λ w at. record {
       some = positive;
       readable = of_each Sized w.readable (λ leaf h.
-        let l = are.only w at leaf h in
-        All-contains Sized l.block.readable leaf (leaves_sized l.block l.is.is (IsReadableAt l.is.is.tree l.is.is.member l.is.is.read) l.block.readable l.is.is.has.readable) l.read);
+          let l = are.only w at leaf h in
+          All-contains Sized l.block.readable leaf (leaves_sized l.block l.is.is (IsReadableAt l.is.is.tree l.is.is.member l.is.is.read) l.block.readable l.is.is.has.readable) l.read);
       acknowledged = λ leaf h.
-        let l = are.only w at leaf h in
-        subst (AreSized (sizes_of r)) l.acknowledged (leaves_sized l.block l.is.is (IsAcknowledgedAt l.is.is.tree l.is.is.member l.is.is.since) l.block.acknowledged l.is.is.has.acknowledged);
+          let l = are.only w at leaf h in
+          subst (AreSized (sizes_of r)) l.acknowledged (leaves_sized l.block l.is.is (IsAcknowledgedAt l.is.is.tree l.is.is.member l.is.is.since) l.block.acknowledged l.is.is.has.acknowledged);
     })
 
     to_gap : (legs : List LegValue) → HaveGap (sizes_of r) ws legs → HasGapWith r c.route c.class.word legs

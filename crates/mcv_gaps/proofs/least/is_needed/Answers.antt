@@ -28,5 +28,5 @@ returns c =
     let same = ap legs_of c.as_slice.ensures.value ∙ c.in_ok-others.ensures ∙ ap (λ (xs : List Missing). kept ++ legs_missing xs) c.split_at.ensures.back in
     IfOk-weaker c.have_gap.result _ _
     (λ is tells. λ sizes sized. gap_same sizes ws (legs_of c.as_slice.result.now) beside is same (tells sizes sized)
-      (sized_others sizes ws sized ms c.requires.missing c.args.owners.now c.requires.owners n beside (beside_it ms kept n c.requires.kept)))
+    (sized_others sizes ws sized ms c.requires.missing c.args.owners.now c.requires.owners n beside (beside_it ms kept n c.requires.kept)))
     c.have_gap.ensures

@@ -19,5 +19,5 @@ returns c =
     let ws = wanteds_of c.args.wanted.now in
     IfOk-weaker c.needed_of.result _ _
     (λ legs least. λ sizes sized. least sizes sized (subst (λ (ms : List Missing). AreEnough sizes ws (legs_missing ms)) (sym c.as_slice.ensures.value)
-      (enough_sorted sizes ws c.in_ok-missing.missing.items c.sort_by_key.new.self.items c.in_ok-sort_by_key.ensures.permutation (c.in_ok-missing.ensures.all sizes sized))))
+    (enough_sorted sizes ws c.in_ok-missing.missing.items c.sort_by_key.new.self.items c.in_ok-sort_by_key.ensures.permutation (c.in_ok-missing.ensures.all sizes sized))))
     c.needed_of.ensures

@@ -38,10 +38,10 @@ loop-index-preserved c =
           subst (λ (ls : List Leg). AreMissedSoFar v leaves (i + 1) (legs_of ls)) (sym items)
           (missed_same v leaves i leaf lt c.index-own.ensures (legs_of legs) c.loop-index.invariant
           (λ sizes sized m.
-            let own = subst (λ (ps : List LegValue). IsSizedLeaf sizes ps (leg_of leaf)) (sym picks) (leaf_sized sizes v.readable v.acknowledged sized (leg_of leaf) read) in
-            let tells = c.in_ok-missed.ensures sizes (subst (λ (x : Leg). IsSizedLeaf sizes c.in_ok-picks.picks (leg_of x)) (sym same) own) in
-            let gone = subst (λ (x : Leg). IsMissed sizes c.in_ok-picks.picks (leg_of x)) (sym same) (subst (λ (ps : List LegValue). IsMissed sizes ps (leg_of leaf)) (sym picks) m) in
-            true≢false (sym (tells.1 gone) ∙ w.if-missed.false)))
+          let own = subst (λ (ps : List LegValue). IsSizedLeaf sizes ps (leg_of leaf)) (sym picks) (leaf_sized sizes v.readable v.acknowledged sized (leg_of leaf) read) in
+          let tells = c.in_ok-missed.ensures sizes (subst (λ (x : Leg). IsSizedLeaf sizes c.in_ok-picks.picks (leg_of x)) (sym same) own) in
+          let gone = subst (λ (x : Leg). IsMissed sizes c.in_ok-picks.picks (leg_of x)) (sym same) (subst (λ (ps : List LegValue). IsMissed sizes ps (leg_of leaf)) (sym picks) m) in
+          true≢false (sym (tells.1 gone) ∙ w.if-missed.false)))
     ]
 
 pub returns : goal.returns

@@ -16,5 +16,5 @@ returns c =
     let member = c.in-Some.member in
     IfOk-weaker c.is_member_mended.result _ _
     (λ met fine. λ on. need_met r n c.args.need.now t u member c.requires.class c.requires.classes c.in-Some-route.ensures c.in-Some-route-2.ensures c.in-Some.ensures c.as_bytes.ensures.rest
-      (subst (λ (xs : List NeededLeg). IsMemberMended r n t u member (legs_value xs)) c.as_slice.ensures.value (fine n c.requires.numbering on)))
+    (subst (λ (xs : List NeededLeg). IsMemberMended r n t u member (legs_value xs)) c.as_slice.ensures.value (fine n c.requires.numbering on)))
     c.is_member_mended.ensures

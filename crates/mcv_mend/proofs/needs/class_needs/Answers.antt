@@ -47,7 +47,7 @@ returns c =
     record {
       classes = subst (AreRouteClasses r) (sym same) are;
       least = of_each (IsLeastNeed r) (needs_value needs) (λ v at.
-        let m = from need_value needs v at in
-        let there = subst (λ (cs : List RouteClass). Contains cs (class_of_need m.0)) same (mapped class_of_need needs m.0 m.1) in
-        subst (IsLeastNeed r) m.2 (All-contains P needs m.0 c.loop-class.invariant.least m.1 (All-contains (IsRouteClass r) own (class_of_need m.0) are.only there)));
+          let m = from need_value needs v at in
+          let there = subst (λ (cs : List RouteClass). Contains cs (class_of_need m.0)) same (mapped class_of_need needs m.0 m.1) in
+          subst (IsLeastNeed r) m.2 (All-contains P needs m.0 c.loop-class.invariant.least m.1 (All-contains (IsRouteClass r) own (class_of_need m.0) are.only there)));
     }

@@ -23,10 +23,10 @@ returns c =
     let sizes = sizes_of r in
     IfOk-weaker c.owned.result _ _
     (λ legs same. λ is.
-      let from = sets_of_class r class (view c.in-Some.route.now) c.in-Some-member.member sets c.in-Some.ensures c.in-Some-member.ensures c.in_ok-sets.ensures.each in
-      let are = c.in_ok-wanted.ensures class is (subst (λ (xs : List SetsValue). AreSetsFrom r class 0 xs) (sym c.as_slice.ensures.value) from) in
-      let sized = all_sized r sound class ws are (positive r c.symbols-symbols.ensures.some) in
-      let least : AreLeastFor sizes ws (legs_of c.in_ok-legs.legs.items) = subst (λ (xs : List Wanted). AreLeastFor sizes (wanteds_of xs) (legs_of c.in_ok-legs.legs.items)) c.as_slice-2.ensures.value
-          (c.in_ok-legs.ensures sizes (subst (λ (xs : List Wanted). AreAllSizedBy sizes (wanteds_of xs)) (sym c.as_slice-2.ensures.value) sized)) in
-      subst (λ (ls : List LegValue). AreLeast r class.route class.class.word ls) (sym (same ∙ ap legs_of c.as_slice-3.ensures.value)) (least_of r sound class ws are (legs_of c.in_ok-legs.legs.items) least))
+    let from = sets_of_class r class (view c.in-Some.route.now) c.in-Some-member.member sets c.in-Some.ensures c.in-Some-member.ensures c.in_ok-sets.ensures.each in
+    let are = c.in_ok-wanted.ensures class is (subst (λ (xs : List SetsValue). AreSetsFrom r class 0 xs) (sym c.as_slice.ensures.value) from) in
+    let sized = all_sized r sound class ws are (positive r c.symbols-symbols.ensures.some) in
+    let least : AreLeastFor sizes ws (legs_of c.in_ok-legs.legs.items) = subst (λ (xs : List Wanted). AreLeastFor sizes (wanteds_of xs) (legs_of c.in_ok-legs.legs.items)) c.as_slice-2.ensures.value
+    (c.in_ok-legs.ensures sizes (subst (λ (xs : List Wanted). AreAllSizedBy sizes (wanteds_of xs)) (sym c.as_slice-2.ensures.value) sized)) in
+    subst (λ (ls : List LegValue). AreLeast r class.route class.class.word ls) (sym (same ∙ ap legs_of c.as_slice-3.ensures.value)) (least_of r sound class ws are (legs_of c.in_ok-legs.legs.items) least))
     c.owned.ensures

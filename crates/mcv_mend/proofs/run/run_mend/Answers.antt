@@ -31,8 +31,8 @@ returns-clause-ok g c =
     let written = c.as_slice.result.now in (
       written,
       IfSome_then (g.R.Read.remaining c.args.reader.now) c.in_ok-input.ensures.read (λ bytes is.
-        mending_by_all bytes output.mending written
-        (subst (λ (xs : List ℕ). IsMendingOn xs output.mending written) is
-        (subst (λ (text : List ℕ). IsMendingOn c.in_ok-input.input.items output.mending text) (sym c.as_slice.ensures.value) c.in_ok-output.ensures.ok))),
+          mending_by_all bytes output.mending written
+          (subst (λ (xs : List ℕ). IsMendingOn xs output.mending written) is
+          (subst (λ (text : List ℕ). IsMendingOn c.in_ok-input.input.items output.mending text) (sym c.as_slice.ensures.value) c.in_ok-output.ensures.ok))),
       c.in_ok-write_text.ensures.written,
     )
