@@ -1,6 +1,6 @@
 //! The path from the bytes read to the bytes written.
 
-ghost use Rattle.std.specs.Prelude.{◌≡◌, ◌≢◌, ℕ, List, IfErr, IfNone, IfOk, IfSome, IsTrue, OnOk, map};
+ghost use Rattle.std.specs.Prelude.{◌≡◌, ◌≢◌, ◌<◌, ℕ, List, IfErr, IfNone, IfOk, IfSome, IsTrue, OnOk, length, map, slice_index};
 ghost use Rattle.std.specs.Io.KnownBytes.{Appends};
 ghost use Rattle.mcv_blocks.specs.Places.{AreRouteClasses};
 ghost use Rattle.mcv_input.specs.Fault.{AreNamedBy};
@@ -164,13 +164,25 @@ fn kept_in(input: &[u8], text: Vec<u8>) -> Result<Vec<u8>, MendFault>
     }
 }
 
+/// Whether these bytes have this one at the index.
+fn is_at(bytes: &[u8], index: usize, byte: u8) -> bool
+    ensures within { IsTrue result → index < length bytes.now }
+    ensures same { IsTrue result → slice_index bytes.now index ≡ byte }
+{
+    if index < bytes.len() {
+        bytes[index] == byte
+    } else {
+        false
+    }
+}
+
 /// Whether each byte that was read is in the text, in order.
 fn is_kept(input: &[u8], text: &[u8]) -> bool
     ensures { IsTrue result → IsKeptIn input.now text.now }
 {
     let mut kept: usize = 0;
     for byte in text {
-        if kept < input.len() && input[kept] == *byte {
+        if is_at(input, kept, *byte) {
             kept += 1;
         }
     }
