@@ -1,8 +1,8 @@
 -- Lists of texts that are equal in memory have the same bytes.
-use Rattle.std.proofs.Common.{◌≡◌, ◌&&◌, ℕ, Bool, true, false, eqb, List, [], ◌∷◌, map, refl}
+use Rattle.std.proofs.Common.{◌≡◌, ◌&&◌, ℕ, Bool, true, false, nat_eq, List, [], ◌∷◌, map, refl}
 use Rattle.std.specs.declared.alloc.Global.{Global}
 use Rattle.std.specs.declared.vec.Vec.{Vec}
-use Rattle.core.specs.Cmp.Lexicographic.{pointwise, bytes_decides}
+use Rattle.std.specs.Cmp.Lexicographic.{bytes_decides, pointwise}
 use Rattle.mcv_mend.specs.Aliases.{aliases_value, bytes_of, texts_of}
 
 both : (s t : Bool) → (s && t) ≡ true → (s ≡ true) × (t ≡ true)
@@ -19,7 +19,7 @@ mapped_same E f so (x ∷ xs) (y ∷ ys) h =
     λ i. so x y p.0 i ∷ mapped_same E f so xs ys p.1 i
 
 abbrev equal_bytes : Vec ℕ Global → Vec ℕ Global → Bool
-equal_bytes x y = pointwise eqb x.items y.items
+equal_bytes x y = pointwise nat_eq x.items y.items
 
 abbrev equal_texts : Vec (Vec ℕ Global) Global → Vec (Vec ℕ Global) Global → Bool
 equal_texts x y = pointwise equal_bytes x.items y.items
