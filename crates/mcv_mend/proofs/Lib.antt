@@ -7,6 +7,6 @@ pub mod WantedBlocks
 pub mod ClassNeeds
 pub mod NeedMet
 pub mod EraSets
-pub mod Kept
+pub mod Insertions
 pub mod SameAliases
 pub mod ReadAliases

@@ -6,3 +6,4 @@ pub mod Members
 pub mod Classes
 pub mod Aliases
 pub mod Wanted
+pub mod Kept

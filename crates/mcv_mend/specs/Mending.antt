@@ -1,21 +1,16 @@
 -- What is written of a configuration (own).
-use Rattle.std.specs.Prelude.{◌≡◌, ◌⊎◌, ⊤, ℕ, List, [], ◌∷◌, All}
+use Rattle.std.specs.Prelude.{◌≡◌, ⊤, ℕ, List, All}
 use Rattle.mcv_input.specs.Fault.{AreNamedBy, IsInputFault}
 use Rattle.mcv_input.specs.declared.fault.RunFault.TheVariants.{Memory}
 use Rattle.mcv_route.specs.Routes.{RoutesValue}
 use Rattle.mcv_symbolic.specs.CoveredRoutes.{AreCovered}
+use Rattle.mcv_mend.specs.Kept.{IsKeptIn}
 use Rattle.mcv_mend.specs.Mend.{IsMendOf}
 use Rattle.mcv_mend.specs.Needs.{IsLeastNeed, NeedValue}
 use Rattle.mcv_mend.specs.declared.fault.MendFault.{MendFault}
 use Rattle.mcv_mend.specs.declared.fault.MendFault.TheVariants.{GaveUp, Limit, Run}
 use Rattle.mcv_mend.specs.declared.fault.Mending.{Mending}
 use Rattle.mcv_mend.specs.declared.fault.Mending.TheVariants.{Mended, Unchanged}
-
--- each byte of the input is in the text, in order: the text is the input with insertions
-abbrev pub IsKeptIn : (input text : List ℕ) → Type 0
-IsKeptIn [] text = ⊤
-IsKeptIn (b ∷ bs) [] = ⊥
-IsKeptIn (b ∷ bs) (c ∷ cs) = ((b ≡ c) × IsKeptIn bs cs) ⊎ IsKeptIn (b ∷ bs) cs
 
 -- the text names routes that are covered, and are the first ones mended by these needs
 pub record NamesMended (r : RoutesValue) (needs : List NeedValue) (text : List ℕ) : Type 0 where

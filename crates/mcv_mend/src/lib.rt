@@ -9,6 +9,7 @@ mod by_class;
 mod drafting;
 mod fault;
 mod handles;
+mod kept;
 mod mended;
 mod needs;
 mod reading;

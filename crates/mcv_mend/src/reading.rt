@@ -1,6 +1,6 @@
 //! The routes that a text names, with their aliases.
 
-ghost use Rattle.std.specs.Prelude.{◌≡◌, IfErr, IfOk, map};
+ghost use Rattle.std.specs.Prelude.{◌≡◌, IfErr, IfOk, IsTrue, map};
 ghost use Rattle.mcv_config.specs.Config.{Faulty};
 ghost use Rattle.mcv_input.specs.Fault.{AreNamedBy};
 ghost use Rattle.mcv_mend.specs.Aliases.{aliases_value, bytes_of, route_aliases};
@@ -52,4 +52,11 @@ fn copied(alloc: Global, prefixes: &[Prefix]) -> Result<Vec<Vec<u8>>, AllocError
         all.push(own)?;
     }
     Ok(all)
+}
+
+/// Whether the routes are selected by the same prefixes.
+pub fn are_same_aliases(one: &Reading, other: &Reading) -> bool
+    ensures { IsTrue result → aliases_value one.now.aliases.items ≡ aliases_value other.now.aliases.items }
+{
+    one.aliases == other.aliases
 }

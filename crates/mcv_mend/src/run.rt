@@ -1,6 +1,6 @@
 //! The path from the bytes read to the bytes written.
 
-ghost use Rattle.std.specs.Prelude.{◌≡◌, ◌≢◌, ◌<◌, ℕ, List, IfErr, IfNone, IfOk, IfSome, IsTrue, OnOk, length, map, slice_index};
+ghost use Rattle.std.specs.Prelude.{◌≡◌, ◌≢◌, ℕ, List, IfErr, IfOk, IfSome, OnOk, map};
 ghost use Rattle.std.specs.Io.KnownBytes.{Appends};
 ghost use Rattle.mcv_blocks.specs.Places.{AreRouteClasses};
 ghost use Rattle.mcv_input.specs.Fault.{AreNamedBy};
@@ -10,19 +10,21 @@ ghost use Rattle.mcv_symbolic.specs.CoveredRoutes.{AreCovered};
 ghost use Rattle.mcv_mend.specs.Aliases.{aliases_value, route_aliases};
 ghost use Rattle.mcv_mend.specs.Classes.{class_of_need};
 ghost use Rattle.mcv_mend.specs.InMemory.{needs_value};
-ghost use Rattle.mcv_mend.specs.Mending.{IsKeptIn, IsMendFault, IsMendedText, IsMending, IsMendingOn, IsNotDone, NamesMended};
+ghost use Rattle.mcv_mend.specs.Kept.{IsKeptIn};
+ghost use Rattle.mcv_mend.specs.Mending.{IsMendFault, IsMendedText, IsMending, IsMendingOn, IsNotDone, NamesMended};
 ghost use Rattle.mcv_mend.specs.declared.fault.MendFault.TheVariants.{Run};
 
 use crate::drafting::draft;
 use crate::fault::{MendFault, Mending};
+use crate::kept::is_kept;
 use crate::mended::is_mended;
 use crate::needs::{Need, class_needs};
-use crate::reading::{Reading, read_named};
-use mcv_check::{Accepted, CheckFault, check};
+use crate::reading::{Reading, are_same_aliases, read_named};
+use mcv_check::Accepted;
 use mcv_config::{ReadFault, SIZE_LIMIT};
 use mcv_input::{RunFault, read_at_most, write_text};
-use mcv_make::{MakeFault, make};
 use mcv_route::Routes;
+use mcv_verdict::{Judged, judge};
 use std::alloc::Global;
 use std::io::{Read, Write};
 
@@ -73,57 +75,43 @@ fn mend_named(alloc: Global, input: Vec<u8>, old: Reading) -> Result<Output, Men
     ensures ok { IfOk result (λ output. IsMending old.routes input.items output.mending output.text.items) }
     ensures fault { IfErr result (IsMendFault input.items) }
 {
-    let lost = is_lost(alloc, &old.routes)?;
-    if lost {
-        let text = mended_text(alloc, input.as_slice(), &old)?;
-        return Ok(Output {
-            mending: Mending::Mended,
-            text,
-        });
-    }
-    let Reading { routes, aliases: _ } = old;
-    let found = accepted(alloc, routes)?;
-    match found {
-        Some(_) => Ok(Output {
+    let Reading { routes, aliases } = old;
+    let judged = judge(alloc, routes, None)?;
+    match judged {
+        Judged::Covered {
+            accepted: _,
+            certificate: _,
+        } => Ok(Output {
             mending: Mending::Unchanged,
             text: input,
         }),
-        None => Err(MendFault::GaveUp),
+        Judged::Lost { routes, finding: _ } => {
+            let lost = Reading { routes, aliases };
+            let text = mended_text(alloc, input.as_slice(), &lost)?;
+            Ok(Output {
+                mending: Mending::Mended,
+                text,
+            })
+        }
     }
 }
 
-/// Whether a delete can be lost by routes.
-fn is_lost(alloc: Global, routes: &Routes) -> Result<bool, RunFault>
-    ensures lost { IfOk result (λ lost. IsTrue lost → AreCovered routes.now → ⊥) }
-    ensures fault { IfErr result (λ fault. fault ≡ RunFault.Memory) }
-{
-    match make(alloc, routes) {
-        Ok(_) => Ok(false),
-        Err(MakeFault::Lost(_)) => Ok(true),
-        Err(MakeFault::Memory) => Err(RunFault::Memory),
-    }
-}
-
-/// The routes, if they are covered. Who made the certificate isn't trusted: it is checked like any other.
+/// The routes, if they are covered, as `check` judges them.
 fn accepted(alloc: Global, routes: Routes) -> Result<Option<Accepted>, RunFault>
     ensures same { IfOk result (λ found. IfSome found (λ accepted. accepted ≡ routes)) }
-    ensures covered { IfOk result (λ found. IfSome found (λ _. AreCovered routes)) }
-    ensures lost { IfOk result (λ found. IfNone found (AreCovered routes → ⊥)) }
     ensures fault { IfErr result (λ fault. fault ≡ RunFault.Memory) }
 {
-    let certificate = match make(alloc, &routes) {
-        Ok(certificate) => certificate,
-        Err(MakeFault::Lost(_)) => return Ok(None),
-        Err(MakeFault::Memory) => return Err(RunFault::Memory),
-    };
-    let accepted = match check(alloc, routes, &certificate) {
-        Ok(accepted) => accepted,
-        Err(CheckFault::Memory) => return Err(RunFault::Memory),
-        Err(_) => return Ok(None),
-    };
-    // They are covered.
-    let _ = accepted.routes();
-    Ok(Some(accepted))
+    let judged = judge(alloc, routes, None)?;
+    match judged {
+        Judged::Covered {
+            accepted,
+            certificate: _,
+        } => Ok(Some(accepted)),
+        Judged::Lost {
+            routes: _,
+            finding: _,
+        } => Ok(None),
+    }
 }
 
 /// The text of a configuration that isn't covered, mended.
@@ -164,31 +152,6 @@ fn kept_in(input: &[u8], text: Vec<u8>) -> Result<Vec<u8>, MendFault>
     }
 }
 
-/// Whether these bytes have this one at the index.
-fn is_at(bytes: &[u8], index: usize, byte: u8) -> bool
-    ensures within { IsTrue result → index < length bytes.now }
-    ensures same { IsTrue result → slice_index bytes.now index ≡ byte }
-{
-    if index < bytes.len() {
-        bytes[index] == byte
-    } else {
-        false
-    }
-}
-
-/// Whether each byte that was read is in the text, in order.
-fn is_kept(input: &[u8], text: &[u8]) -> bool
-    ensures { IsTrue result → IsKeptIn input.now text.now }
-{
-    let mut kept: usize = 0;
-    for byte in text {
-        if is_at(input, kept, *byte) {
-            kept += 1;
-        }
-    }
-    kept == input.len()
-}
-
 /// Sees that a text names routes that are covered, and are the old ones mended by these needs.
 fn confirm(alloc: Global, old: &Reading, needs: &[Need], text: &[u8]) -> Result<(), MendFault>
     requires aliases { aliases_value old.now.aliases.items ≡ route_aliases old.now.routes }
@@ -211,13 +174,6 @@ fn confirm(alloc: Global, old: &Reading, needs: &[Need], text: &[u8]) -> Result<
     } else {
         Err(MendFault::GaveUp)
     }
-}
-
-/// Whether the routes are selected by the same prefixes.
-fn are_same_aliases(one: &Reading, other: &Reading) -> bool
-    ensures { IsTrue result → aliases_value one.now.aliases.items ≡ aliases_value other.now.aliases.items }
-{
-    one.aliases == other.aliases
 }
 
 /// What a drafted text names.

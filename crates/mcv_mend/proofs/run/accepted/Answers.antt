@@ -1,17 +1,13 @@
-use Rattle.std.proofs.Common.{◌∙◌, subst, sym}
-use Rattle.mcv_make.specs.FirstFinding.{IfLost}
-use Rattle.mcv_make.specs.declared.fault.MakeFault.{MakeFault}
-use Rattle.mcv_route.specs.Routes.{RoutesValue}
-use Rattle.mcv_symbolic.specs.CoveredRoutes.{AreCovered}
+use Rattle.std.proofs.Common.{◌∙◌, subst}
+use Rattle.std.proofs.lemmas.Result.{err_from_is_err_and}
+use Rattle.mcv_verdict.specs.Verdict.{IsJudged}
+use Rattle.mcv_verdict.specs.declared.verdict.Judged.{Judged}
 use Rattle.mcv_mend.proofs.run.accepted.Goals as goal
 
--- without a certificate there is a loss
-pub returns-in-Err-Lost-clause-lost : goal.returns-in-Err-Lost-clause-lost
-returns-in-Err-Lost-clause-lost c = subst (λ (f : MakeFault). IfLost f (λ _. AreCovered c.args.routes → ⊥)) c.in-Err-Lost.field-0-is c.in-Err-Lost.ensures.uncovered
+pub returns-in_err-judged-clause-fault : goal.returns-in_err-judged-clause-fault
+returns-in_err-judged-clause-fault c =
+    let gone = err_from_is_err_and c.from_residual.result c.from_residual.ensures.1 in
+    rw (gone.1) (gone.2 ∙ c.in_err-judged.ensures.fault)
 
--- the certificate is justified: nothing but memory keeps it from being accepted
-pub returns-in-Err-clause-lost : goal.returns-in-Err-clause-lost
-returns-in-Err-clause-lost c = λ _. c.in-Err.not-Memory (c.in-Err.ensures.justified c.in-Ok.ensures.justified)
-
-pub returns-clause-covered : goal.returns-clause-covered
-returns-clause-covered c = subst (λ (r : RoutesValue). AreCovered r) c.in-Ok-check.ensures.accepted.0 c.routes.ensures.covered
+pub returns-in-Covered-clause-same : goal.returns-in-Covered-clause-same
+returns-in-Covered-clause-same c = (subst (λ (j : Judged). IsJudged c.args.routes j) c.in-Covered.is c.in_ok-judged.ensures.judged).0

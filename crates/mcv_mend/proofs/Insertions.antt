@@ -1,7 +1,7 @@
 -- A text that keeps another one, byte by byte.
 use Rattle.std.proofs.Common.{◌≡◌, ◌<◌, ◌≤◌, ◌+◌, ℕ, List, [], ◌∷◌, get_or, length, drop, add-one, drop-cons, inl, inr, sym, subst}
 use Rattle.std.proofs.lemmas.List.{drop_all}
-use Rattle.mcv_mend.specs.Mending.{IsKeptIn}
+use Rattle.mcv_mend.specs.Kept.{IsKeptIn}
 
 first_left : (xs : List ℕ) (i : ℕ) → i < length xs → drop i xs ≡ get_or xs i 0 ∷ drop (i + 1) xs
 first_left xs i lt = rw (add-one, drop-cons xs i 0)

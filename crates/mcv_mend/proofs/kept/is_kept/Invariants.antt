@@ -1,6 +1,6 @@
 use Rattle.std.proofs.Common.{◌≤◌, drop, length}
-use Rattle.mcv_mend.specs.Mending.{IsKeptIn}
-use Rattle.mcv_mend.proofs.run.is_kept.Given as goal
+use Rattle.mcv_mend.specs.Kept.{IsKeptIn}
+use Rattle.mcv_mend.proofs.kept.is_kept.Given as goal
 
 -- where what is left is kept in what is left, all is
 abbrev pub invariant-loop-byte : goal.invariant-loop-byte

@@ -1,8 +1,8 @@
 use Rattle.std.proofs.Common.{◌≡◌, ◌<◌, ◌≤◌, ◌+◌, ◌∙◌, ℕ, drop, get_or, length, subst, arith}
-use Rattle.mcv_mend.specs.Mending.{IsKeptIn}
-use Rattle.mcv_mend.proofs.Kept.{all_kept, met, passed}
-use Rattle.mcv_mend.proofs.run.is_kept.Goals as goal
-use Rattle.mcv_mend.proofs.run.is_kept.Goals.{then-is_at, else-is_at}
+use Rattle.mcv_mend.specs.Kept.{IsKeptIn}
+use Rattle.mcv_mend.proofs.Insertions.{all_kept, met, passed}
+use Rattle.mcv_mend.proofs.kept.is_kept.Goals as goal
+use Rattle.mcv_mend.proofs.kept.is_kept.Goals.{then-is_at, else-is_at}
 
 pub loop-byte-init : goal.loop-byte-init
 loop-byte-init c = record { low = omega arith; leads = λ h. h }
