@@ -5,7 +5,6 @@ ghost use Rattle.std.specs.Io.KnownBytes.{Appends};
 ghost use Rattle.mcv_blocks.specs.Places.{AreRouteClasses};
 ghost use Rattle.mcv_input.specs.Fault.{AreNamedBy};
 ghost use Rattle.mcv_input.specs.declared.fault.RunFault.TheVariants.{Device};
-ghost use Rattle.mcv_route.specs.Routes.{RoutesValue};
 ghost use Rattle.mcv_symbolic.specs.CoveredRoutes.{AreCovered};
 ghost use Rattle.mcv_mend.specs.Aliases.{aliases_value, route_aliases};
 ghost use Rattle.mcv_mend.specs.Classes.{class_of_need};
