@@ -73,8 +73,8 @@ run_fault_whole first bytes window certificate Memory is holds = tt
 run_fault_whole first bytes window certificate Device is holds = tt
 
 -- what is drawn of what was read is drawn of the whole input
-pub drawn_whole : (dot : Bool) (first bytes text : List ℕ) → first ≡ take read_limit bytes → IsDrawnOn dot first text → IsDrawnOn dot bytes text
-drawn_whole dot first bytes text is on = (on.0, named_whole first bytes on.0 is on.1, on.2, on.3, on.4)
+pub drawn_whole : (dot : Bool) (first bytes : List ℕ) (verdict : Verdict) (text : List ℕ) → first ≡ take read_limit bytes → IsDrawnOn dot first verdict text → IsDrawnOn dot bytes verdict text
+drawn_whole dot first bytes verdict text is on = (on.0, named_whole first bytes on.0 is on.1, on.2)
 
 -- the fault of a run, or what came in reporting it
 pub reported_fault : (input : List ℕ) (window : ℕ) (certificate : Option (List ℕ)) (fault found : RunFault) → (found ≡ fault) ⊎ IsOutside found → IsRunFault input window certificate fault

@@ -1,23 +1,27 @@
 //! A verdict in the form that options ask for.
 
-ghost use Rattle.std.specs.Prelude.{◌≡◌, ◌≢◌, ◌⊎◌, ℕ, List, false, true, IfErr, IfOk, IfSome, option_map};
+ghost use Rattle.std.specs.Prelude.{◌≡◌, ◌≢◌, ◌++◌, ◌⊎◌, ℕ, List, false, true, length, IfErr, IfOk, IfSome, OnOk, option_map};
 ghost use Rattle.std.specs.Io.KnownBytes.{Appends};
 ghost use Rattle.serde_json.specs.View.{view};
+ghost use Rattle.mcv_cert.specs.Text.{certificate_text};
+ghost use Rattle.mcv_explain.specs.Compared.{compared};
+ghost use Rattle.mcv_explain.specs.Explanation.{explanation};
 ghost use Rattle.mcv_explain.specs.Scene.{scene_of};
 ghost use Rattle.mcv_input.specs.Fault.{IsOutside};
+ghost use Rattle.mcv_report.specs.CertificateReport.{covered_report};
+ghost use Rattle.mcv_report.specs.Json.{IsJsonOf};
 ghost use Rattle.mcv_route.specs.Eras.{IsBreakTable, breaks_of};
-ghost use Rattle.mcv_show.specs.Shown.{IsFaultText, IsLostText, IsShownOf, IsShownOn, IsVerdictAs, covered_text, is_made};
+ghost use Rattle.mcv_show.specs.Shown.{IsCoveredText, IsFaultText, IsLostText, IsShownOf, IsShownOn, IsVerdictAs, covered_text, if_explained, if_made, is_made};
 ghost use Rattle.mcv_verdict.specs.Fault.{IsRefusedFor, IsRunFault};
 
 use crate::fault::fault_text;
 use crate::input::{Configuration, configuration_of, read_text};
-use mcv_base::push_number;
 use mcv_cert::Certificate;
 use mcv_explain::{Scene, push_compared, push_explanation};
 use mcv_input::{RunFault, write_text};
 use mcv_report as report;
 use mcv_route::Routes;
-use mcv_verdict::{Judged, Verdict, judge, run_check};
+use mcv_verdict::{Judged, Verdict, covered_line, judge, run_check};
 use mcv_witness::finding_text;
 use mcv_words::CheckOptions;
 use serde_json::Value;
@@ -134,31 +138,19 @@ fn shown_of(
     ensures output { IfOk result (λ o. IsShownOf options (view document.now) routes (option_map (λ given. given.now) certificate.entry) o.verdict o.text.items) }
     ensures fault { IfErr result (IsRefusedFor routes (option_map (λ given. given.now) certificate.entry)) }
 {
+    let is_made = is_made(certificate);
     match judge(alloc, routes, certificate)? {
         Judged::Covered {
             accepted,
             certificate: found,
-        } => {
-            let verdict = Verdict::Covered(found.len() as u64);
-            let text = if options.json {
-                report::covered_text(alloc, document, &found)?
-            } else {
-                let is_made = is_made(certificate);
-                covered_text(alloc, accepted.routes(), &found, is_made, options.explain)?
-            };
-            Ok(Output { verdict, text })
-        }
+        } => Ok(covered_output(alloc, document, accepted.routes(), &found, is_made, options)?),
         Judged::Lost { routes, finding } => {
             let scene = Scene {
                 document,
                 routes: &routes,
                 finding: &finding,
             };
-            let text = lost_text(alloc, &scene, options)?;
-            Ok(Output {
-                verdict: Verdict::Lost,
-                text,
-            })
+            Ok(lost_output(alloc, &scene, options)?)
         }
     }
 }
@@ -170,6 +162,19 @@ fn is_made(certificate: Option<&[u8]>) -> bool
     certificate.is_none()
 }
 
+// ---- what is lost
+
+fn lost_output(alloc: Global, scene: &Scene<'_>, options: CheckOptions) -> Result<Output, AllocError>
+    ensures verdict { IfOk result (λ o. o.verdict ≡ Verdict.Lost) }
+    ensures text { IfOk result (λ o. (table : List ℕ) × IsBreakTable (breaks_of scene.now.routes.now) table
+        × IsLostText options.json options.explain (scene_of scene.now) table o.text.items) }
+{
+    Ok(Output {
+        verdict: Verdict::Lost,
+        text: lost_text(alloc, scene, options)?,
+    })
+}
+
 /// The text on what is lost.
 fn lost_text(alloc: Global, scene: &Scene<'_>, options: CheckOptions) -> Result<Vec<u8>, AllocError>
     ensures { IfOk result (λ text. (table : List ℕ) × IsBreakTable (breaks_of scene.now.routes.now) table
@@ -179,13 +184,68 @@ fn lost_text(alloc: Global, scene: &Scene<'_>, options: CheckOptions) -> Result<
         return report::lost_text(alloc, scene);
     }
     let mut text = finding_text(alloc, scene.finding, scene.routes)?;
-    if options.explain {
-        push_explanation(alloc, &mut text, scene)?;
-    } else {
-        // The table of breaks.
-        let _ = scene.routes.breaks();
-    }
+    push_if_explained(alloc, &mut text, scene, options.explain)?;
     Ok(text)
+}
+
+/// Adds the explanation of a finding, where it is wanted.
+fn push_if_explained(
+    alloc: Global,
+    text: &mut Vec<u8>,
+    scene: &Scene<'_>,
+    is_explained: bool,
+) -> Result<(), AllocError>
+    ensures { OnOk result ((table : List ℕ) × IsBreakTable (breaks_of scene.now.routes.now) table
+        × (text.new.items ≡ text.old.items ++ if_explained is_explained (explanation (scene_of scene.now) table))) }
+{
+    if is_explained {
+        return push_explanation(alloc, text, scene);
+    }
+    // The table of breaks.
+    let _ = scene.routes.breaks();
+    Ok(())
+}
+
+// ---- what is covered
+
+/// The verdict that routes are covered by a certificate, and its text.
+fn covered_output(
+    alloc: Global,
+    document: &Value,
+    routes: &Routes,
+    certificate: &Certificate,
+    is_made: bool,
+    options: CheckOptions,
+) -> Result<Output, AllocError>
+    ensures verdict { IfOk result (λ o. o.verdict ≡ Verdict.Covered (length certificate.now.pairs)) }
+    ensures text { IfOk result (λ o. (table : List ℕ) × IsBreakTable (breaks_of routes.now) table
+        × IsCoveredText options.json options.explain is_made (view document.now) certificate.now table o.text.items) }
+{
+    let pairs = certificate.len();
+    let text = if options.json {
+        covered_report(alloc, document, routes, certificate)?
+    } else {
+        covered_text(alloc, routes, certificate, is_made, options.explain)?
+    };
+    Ok(Output {
+        verdict: Verdict::Covered(pairs as u64),
+        text,
+    })
+}
+
+/// The report on what is covered.
+fn covered_report(
+    alloc: Global,
+    document: &Value,
+    routes: &Routes,
+    certificate: &Certificate,
+) -> Result<Vec<u8>, AllocError>
+    ensures { IfOk result (λ text. (table : List ℕ) × IsBreakTable (breaks_of routes.now) table
+        × IsJsonOf text.items (covered_report (view document.now) certificate.now)) }
+{
+    // The table of breaks.
+    let _ = routes.breaks();
+    report::covered_text(alloc, document, certificate)
 }
 
 /// The text on what is covered; with the certificate where it was made here, and with what it compared where that is
@@ -200,19 +260,43 @@ fn covered_text(
     ensures { IfOk result (λ text. (table : List ℕ) × IsBreakTable (breaks_of routes.now) table
         × (text.items ≡ covered_text is_explained is_made certificate.now table)) }
 {
-    let mut text = Vec::new(alloc);
-    text.extend_from_slice(b"covered ")?;
-    push_number(&mut text, certificate.len())?;
-    text.extend_from_slice(b"\n")?;
-    if is_made {
-        let written = certificate.text(alloc)?;
-        text.extend_from_slice(written.as_slice())?;
-    }
-    if is_explained {
-        push_compared(alloc, &mut text, routes, certificate)?;
-    } else {
-        // The table of breaks.
-        let _ = routes.breaks();
-    }
+    let mut text = covered_line(alloc, certificate.len())?;
+    push_if_made(alloc, &mut text, certificate, is_made)?;
+    push_if_compared(alloc, &mut text, routes, certificate, is_explained)?;
     Ok(text)
+}
+
+/// Adds the certificate, where it was made here.
+fn push_if_made(
+    alloc: Global,
+    text: &mut Vec<u8>,
+    certificate: &Certificate,
+    is_made: bool,
+) -> Result<(), AllocError>
+    ensures { OnOk result (text.new.items ≡ text.old.items ++ if_made is_made (certificate_text certificate.now.window certificate.now.pairs)) }
+{
+    if !is_made {
+        return Ok(());
+    }
+    let written = certificate.text(alloc)?;
+    text.extend_from_slice(written.as_slice())
+}
+
+/// Adds what a certificate compared, where it is wanted.
+fn push_if_compared(
+    alloc: Global,
+    text: &mut Vec<u8>,
+    routes: &Routes,
+    certificate: &Certificate,
+    is_explained: bool,
+) -> Result<(), AllocError>
+    ensures { OnOk result ((table : List ℕ) × IsBreakTable (breaks_of routes.now) table
+        × (text.new.items ≡ text.old.items ++ if_explained is_explained (compared certificate.now table))) }
+{
+    if is_explained {
+        return push_compared(alloc, text, routes, certificate);
+    }
+    // The table of breaks.
+    let _ = routes.breaks();
+    Ok(())
 }

@@ -30,7 +30,8 @@ pub returns-clause-ok : goal.returns-clause-ok
 returns-clause-ok g c =
     let known = g.R.Read.remaining c.args.reader.now in
     let first = c.as_slice.result.now in
+    let verdict = c.in_ok-drawn.drawn.verdict in
     let read : IfSome known (λ bytes. first ≡ take read_limit bytes) = subst (λ (xs : List ℕ). IfSome known (λ bytes. xs ≡ take read_limit bytes)) (sym c.as_slice.ensures.value) c.in_ok-input.ensures.read in
-    let drawn : IsDrawnOn c.args.is_dot first c.as_slice-2.result.now =
-    subst (λ (xs : List ℕ). IsDrawnOn c.args.is_dot first xs) (sym c.as_slice-2.ensures.value) c.in_ok-drawn.ensures.drawn in
-    (c.as_slice-2.result.now, IfSome_then known read (λ bytes is. drawn_whole c.args.is_dot first bytes c.as_slice-2.result.now is drawn), c.in_ok-write_text.ensures.written)
+    let drawn : IsDrawnOn c.args.is_dot first verdict c.as_slice-2.result.now =
+    subst (λ (xs : List ℕ). IsDrawnOn c.args.is_dot first verdict xs) (sym c.as_slice-2.ensures.value) c.in_ok-drawn.ensures.drawn in
+    (c.as_slice-2.result.now, IfSome_then known read (λ bytes is. drawn_whole c.args.is_dot first bytes verdict c.as_slice-2.result.now is drawn), c.in_ok-write_text.ensures.written)
