@@ -107,14 +107,24 @@ impl Proxy for Orders {
 const READ_LIMIT: u64 = 16_777_217;
 
 /// Does what the words ask for, and keeps what is to be served.
-fn read<R: Env + AllocGlobal + Input + Print + Files>(rt: &R, orders: &Orders) -> Result<End, Stop> {
+fn read<R: Env + AllocGlobal + Input + Print + Files>(
+    rt: &R,
+    orders: &Orders,
+) -> Result<End, Stop> {
     let alloc = rt.alloc();
     let words = given_words(rt)?;
     let texts: Vec<&str> = words.iter().map(|word| word.as_str()).collect(alloc)?;
     let texts = texts.as_slice();
     if !reads_configuration(alloc, texts) {
         let files = SystemFiles { system: rt };
-        let ended = run_words(alloc, texts, &files, orders, &mut rt.reader(), &mut io::writer(rt));
+        let ended = run_words(
+            alloc,
+            texts,
+            &files,
+            orders,
+            &mut rt.reader(),
+            &mut io::writer(rt),
+        );
         return Ok(End { ended, more: None });
     }
     let input = read_at_most(alloc, &mut rt.reader(), READ_LIMIT)?;

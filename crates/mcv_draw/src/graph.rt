@@ -6,8 +6,8 @@ ghost use Rattle.mcv_draw.specs.Element.{element_of};
 ghost use Rattle.mcv_draw.specs.Svg.{identifier};
 
 use crate::element::Element;
-use crate::pieces::{dot_of, push_pieces};
 use crate::picture::{identifier, if_marked, push_label};
+use crate::pieces::{dot_of, push_pieces};
 use mcv_base::{Position, push_number};
 use std::alloc::{AllocError, Global};
 

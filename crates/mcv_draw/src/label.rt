@@ -84,7 +84,11 @@ pub(crate) fn word_of(alloc: Global, route: &Route, number: usize) -> Result<Vec
             word.extend_from_slice(b"shadow ")?;
             push_number(&mut word, number)?;
         }
-        Route::WarmUp { .. } => word.extend_from_slice(if number == 1 { b"warm" } else { b"cold" })?,
+        Route::WarmUp { .. } => word.extend_from_slice(if number == 1 {
+            b"warm"
+        } else {
+            b"cold"
+        })?,
         Route::Migrate { .. } => word.extend_from_slice(if number == 0 { b"from" } else { b"to" })?,
         Route::PrefixSelector { policies, .. } => match policies.get(number) {
             Some(policy) => push_escaped(&mut word, policy.prefix.as_slice())?,

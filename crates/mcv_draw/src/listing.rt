@@ -94,9 +94,7 @@ fn child_count(route: &Route) -> usize
         Route::Many(_, children) => children.len(),
         Route::WarmUp { .. } => 2,
         Route::Migrate { .. } => 2,
-        Route::PrefixSelector { policies, wildcard } => {
-            policies.len() + last_count(wildcard)
-        }
+        Route::PrefixSelector { policies, wildcard } => { policies.len() + last_count(wildcard) }
         Route::OperationSelector {
             policies,
             default_policy,

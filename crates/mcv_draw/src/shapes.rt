@@ -77,15 +77,7 @@ pub(crate) fn push_text(
 {
     push_pieces(
         text,
-        &[
-            b"<text x=\"",
-            x,
-            b"\" y=\"",
-            y,
-            b"\">",
-            said,
-            b"</text>\n",
-        ],
+        &[b"<text x=\"", x, b"\" y=\"", y, b"\">", said, b"</text>\n"],
     )
 }
 

@@ -95,7 +95,10 @@ fn is_same_class(place: &Place, other: &Place) -> bool
 fn is_same_leaf(place: &Place, other: &Place) -> bool
     ensures { result ≡ is_same_leaf (place_of place.now) (place_of other.now) }
 {
-    is_same_class(place, other) && place.era == other.era && place.get_era == other.get_era && place.leaf.is(&other.leaf)
+    is_same_class(place, other)
+        && place.era == other.era
+        && place.get_era == other.get_era
+        && place.leaf.is(&other.leaf)
 }
 
 /// How many leaves there are, each counted once for each class and era; the pairs are sorted.

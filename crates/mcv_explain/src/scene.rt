@@ -4,8 +4,8 @@ ghost use Rattle.std.specs.Prelude.{◌≡◌, IfOk, option_map, slice_get, slic
 ghost use Rattle.mcv_route.specs.View.{pool_view};
 
 use mcv_base::{Position, ServerId};
-use mcv_pools::Choice;
 use mcv_places::{handle_at, server_at};
+use mcv_pools::Choice;
 use mcv_route::{Leaf, Routes};
 use mcv_witness::Finding;
 use serde_json::Value;
@@ -26,8 +26,7 @@ impl<'a> Scene<'a> {
     fn leaf_at(&self, position: &Position) -> Option<&'a Leaf>
         ensures { option_map (λ l. pool_view l.now) result ≡ pool_at (scene_of self.now) position.now }
     {
-        self.routes
-            .leaf_at(self.finding.place.route, position)
+        self.routes.leaf_at(self.finding.place.route, position)
     }
 
     /// The index that the finding gives the leaf at a position.
@@ -85,7 +84,13 @@ impl<'a> Scene<'a> {
         ensures { IfOk result (λ pointer. pointer.items ≡ server_pointer (scene_of self.now) position.now) }
     {
         let index = self.leg_index(position);
-        match server_at(alloc, self.document, self.finding.place.route, position, index)? {
+        match server_at(
+            alloc,
+            self.document,
+            self.finding.place.route,
+            position,
+            index,
+        )? {
             Some(pointer) => Ok(pointer),
             None => Ok(Vec::new(alloc)),
         }

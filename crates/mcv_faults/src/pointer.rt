@@ -38,11 +38,7 @@ pub(crate) fn is_escape(byte: u8, behind: &[u8]) -> bool
 
 /// Adds what a byte of a path says, with the two behind it where it begins an escape; the answer is what comes behind
 /// these.
-fn push_step<'t>(
-    pointer: &mut Vec<u8>,
-    byte: u8,
-    behind: &'t [u8],
-) -> Result<&'t [u8], AllocError>
+fn push_step<'t>(pointer: &mut Vec<u8>, byte: u8, behind: &'t [u8]) -> Result<&'t [u8], AllocError>
     ensures said { IfOk result (λ rest. pointer.new.items ++ steps_pointer rest.now ≡ pointer.old.items ++ steps_pointer (byte ∷ behind.now)) }
     ensures shorter { IfOk result (λ rest. length rest.now ≤ length behind.now) }
 {

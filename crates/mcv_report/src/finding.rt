@@ -101,7 +101,12 @@ fn opened_at(table: &[Moment], era: usize) -> Option<usize>
     moment_at(table, era - 1)
 }
 
-fn leg_report(alloc: Global, scene: &Scene<'_>, op: Op, leg: &LegOutcome) -> Result<Value, AllocError>
+fn leg_report(
+    alloc: Global,
+    scene: &Scene<'_>,
+    op: Op,
+    leg: &LegOutcome,
+) -> Result<Value, AllocError>
     ensures { IfOk result (λ v. view v ≡ leg_report (scene_of scene.now) op (leg.now.position, leg.now.outcome)) }
 {
     let handle = scene.handle_pointer(alloc, &leg.position)?;

@@ -10,11 +10,7 @@ use std::alloc::{AllocError, Global};
 
 /// What is said of a fault of a configuration behind its number and its path: its name, the text at fault, and where it
 /// stands in the input.
-pub fn fault_detail(
-    alloc: Global,
-    input: &[u8],
-    fault: &ConfigFault,
-) -> Result<Vec<u8>, AllocError>
+pub fn fault_detail(alloc: Global, input: &[u8], fault: &ConfigFault) -> Result<Vec<u8>, AllocError>
     ensures { IfOk result (λ line. (text : Option (List ℕ)) × (place : Option (ℕ × ℕ)) × IsPlaceOf input.now place
         × (line.items ≡ fault_line fault.now.kind text place)) }
 {

@@ -134,7 +134,12 @@ fn svg_of(alloc: Global, picture: &Picture, said: &[u8]) -> Result<Vec<u8>, Allo
     if picture.rows > ROW_LIMIT || notes.len() > ROW_LIMIT as usize {
         return Err(AllocError);
     }
-    svg(alloc, picture.elements.as_slice(), picture.rows, notes.as_slice())
+    svg(
+        alloc,
+        picture.elements.as_slice(),
+        picture.rows,
+        notes.as_slice(),
+    )
 }
 
 /// The lines of a text, without their ends, but for empty ones.

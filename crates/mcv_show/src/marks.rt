@@ -39,12 +39,7 @@ pub(crate) fn marks_of(
 }
 
 fn unmarked(alloc: Global) -> Marks {
-    Marks::new(
-        Vec::new(alloc),
-        Vec::new(alloc),
-        Vec::new(alloc),
-        None,
-    )
+    Marks::new(Vec::new(alloc), Vec::new(alloc), Vec::new(alloc), None)
 }
 
 // ---- what is covered
@@ -110,7 +105,11 @@ fn lost(
 }
 
 /// Adds the positions of legs.
-fn push_sent(alloc: Global, positions: &mut Vec<Position>, legs: &[Leg<'_>]) -> Result<(), AllocError> {
+fn push_sent(
+    alloc: Global,
+    positions: &mut Vec<Position>,
+    legs: &[Leg<'_>],
+) -> Result<(), AllocError> {
     for leg in legs {
         positions.push(leg.position.copy(alloc)?)?;
     }

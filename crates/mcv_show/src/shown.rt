@@ -164,7 +164,11 @@ fn is_made(certificate: Option<&[u8]>) -> bool
 
 // ---- what is lost
 
-fn lost_output(alloc: Global, scene: &Scene<'_>, options: CheckOptions) -> Result<Output, AllocError>
+fn lost_output(
+    alloc: Global,
+    scene: &Scene<'_>,
+    options: CheckOptions,
+) -> Result<Output, AllocError>
     ensures verdict { IfOk result (λ o. o.verdict ≡ Verdict.Lost) }
     ensures text { IfOk result (λ o. (table : List ℕ) × IsBreakTable (breaks_of scene.now.routes.now) table
         × IsLostText options.json options.explain (scene_of scene.now) table o.text.items) }

@@ -7,7 +7,8 @@ use serde_json::Value;
 use std::process::Abort;
 
 /// Deletes have the failover of gets.
-const LOST: &str = r#"{"pools": {"east": {"servers": ["10.0.1.1:11211"]}, "west": {"servers": ["10.0.2.1:11211"]}},
+const LOST: &str =
+    r#"{"pools": {"east": {"servers": ["10.0.1.1:11211"]}, "west": {"servers": ["10.0.2.1:11211"]}},
  "route": {"type": "FailoverRoute", "children": ["PoolRoute|east", "PoolRoute|west"]}}"#;
 
 const LOST_TEXT: &str = "lost 10.0.2.1:11211
@@ -85,7 +86,13 @@ fn options_of(rt: &(impl AllocGlobal + Abort), words: &str) -> CheckOptions {
 fn written(rt: &(impl AllocGlobal + Abort), config: &str, options: &str) -> Vec<u8> {
     let mut text = Vec::new(rt.alloc());
     let mut input = config.as_bytes();
-    let _ended = run_check_as(rt.alloc(), &mut input, &mut text, None, options_of(rt, options));
+    let _ended = run_check_as(
+        rt.alloc(),
+        &mut input,
+        &mut text,
+        None,
+        options_of(rt, options),
+    );
     text
 }
 
@@ -107,7 +114,9 @@ fn verdicts_are_explained(rt: HostRuntime) {
 /// Whether the report has this text at a pointer.
 fn check_report(rt: &(impl AllocGlobal + Abort), config: &str, pointer: &str, wanted: &str) {
     let text = written(rt, config, "json");
-    let report = Value::from_slice(rt.alloc(), text.as_slice()).ok().expect(rt, "JSON");
+    let report = Value::from_slice(rt.alloc(), text.as_slice())
+        .ok()
+        .expect(rt, "JSON");
     let found = report.pointer(pointer).and_then(Value::as_str);
     assert!(rt; found == Some(wanted), "{pointer}");
 }
@@ -116,15 +125,35 @@ fn check_report(rt: &(impl AllocGlobal + Abort), config: &str, pointer: &str, wa
 fn verdicts_are_reported(rt: HostRuntime) {
     check_report(&rt, LOST, "/verdict", "lost");
     check_report(&rt, LOST, "/finding/gets/1/handle", "/route/children/1");
-    check_report(&rt, LOST, "/finding/gets/1/server_pointer", "/pools/west/servers/0");
+    check_report(
+        &rt,
+        LOST,
+        "/finding/gets/1/server_pointer",
+        "/pools/west/servers/0",
+    );
     check_report(&rt, LOST, "/finding/deletes/0/outcome", "deleted");
     check_report(&rt, COUNTER, "/finding/operation", "incr");
     check_report(&rt, COUNTER, "/finding/gets/0/outcome", "number");
     check_report(&rt, COVERED, "/verdict", "covered");
     check_report(&rt, COVERED, "/certificate/0/reason", "twin");
-    check_report(&rt, COVERED, "/certificate/1/leaf_pointer", "/route/policies/\"><script>");
-    check_report(&rt, "{\"pools\": {\"a/b\": 1}}", "/fault/pointer", "/pools/a~1b");
-    check_report(&rt, "{\"pools\": {\"a/b\": 1}}", "/fault/name", "wrong kind of value, or missing key");
+    check_report(
+        &rt,
+        COVERED,
+        "/certificate/1/leaf_pointer",
+        "/route/policies/\"><script>",
+    );
+    check_report(
+        &rt,
+        "{\"pools\": {\"a/b\": 1}}",
+        "/fault/pointer",
+        "/pools/a~1b",
+    );
+    check_report(
+        &rt,
+        "{\"pools\": {\"a/b\": 1}}",
+        "/fault/name",
+        "wrong kind of value, or missing key",
+    );
 }
 
 /// What the report says of a fault of this certificate for a covered configuration.
@@ -132,17 +161,33 @@ fn check_refused(rt: &(impl AllocGlobal + Abort), certificate: &str, wanted: &st
     let mut text = Vec::new(rt.alloc());
     let mut input = COVERED.as_bytes();
     let given = Some(certificate.as_bytes());
-    let ended = run_check_as(rt.alloc(), &mut input, &mut text, given, options_of(rt, "json"));
+    let ended = run_check_as(
+        rt.alloc(),
+        &mut input,
+        &mut text,
+        given,
+        options_of(rt, "json"),
+    );
     assert!(rt; ended.is_err());
-    let report = Value::from_slice(rt.alloc(), text.as_slice()).ok().expect(rt, "JSON");
+    let report = Value::from_slice(rt.alloc(), text.as_slice())
+        .ok()
+        .expect(rt, "JSON");
     let found = report.pointer("/fault/name").and_then(Value::as_str);
     assert!(rt; found == Some(wanted), "{wanted}");
 }
 
 #[test]
 fn refused_certificates_are_reported(rt: HostRuntime) {
-    check_refused(&rt, "mcv-cert 1\n0 = 0 1 twin 1\nend\n", "readable server without a line");
-    check_refused(&rt, "mcv-cert 1\n0 = 0 1 twin\nend\n", "no line of a certificate");
+    check_refused(
+        &rt,
+        "mcv-cert 1\n0 = 0 1 twin 1\nend\n",
+        "readable server without a line",
+    );
+    check_refused(
+        &rt,
+        "mcv-cert 1\n0 = 0 1 twin\nend\n",
+        "no line of a certificate",
+    );
     check_refused(&rt, "mcv-cert 2 60\nend\n", "another window");
 }
 
@@ -174,6 +219,12 @@ fn each_leaf_is_drawn_once_and_no_markup_is_let_in(rt: HostRuntime) {
 fn options_change_no_verdict(rt: HostRuntime) {
     let mut input = LOST.as_bytes();
     let mut text = Vec::new(rt.alloc());
-    let ended = run_check_as(rt.alloc(), &mut input, &mut text, None, options_of(&rt, "json"));
+    let ended = run_check_as(
+        rt.alloc(),
+        &mut input,
+        &mut text,
+        None,
+        options_of(&rt, "json"),
+    );
     assert!(rt; matches!(ended, Ok(Verdict::Lost)));
 }

@@ -146,11 +146,7 @@ fn judge_said(alloc: Global, routes: Routes, text: &[u8]) -> Result<Judged, RunF
 }
 
 /// What is found of routes, with what shows it: by the certificate whose text is given, or else by one made here.
-pub fn judge(
-    alloc: Global,
-    routes: Routes,
-    certificate: Option<&[u8]>,
-) -> Result<Judged, RunFault>
+pub fn judge(alloc: Global, routes: Routes, certificate: Option<&[u8]>) -> Result<Judged, RunFault>
     ensures judged { IfOk result (IsJudgedFor routes (option_map (λ given. given.now) certificate.entry)) }
     ensures fault { IfErr result (λ fault. IsRefusedFor routes (option_map (λ given. given.now) certificate.entry) fault) }
 {

@@ -73,7 +73,14 @@ fn run<R: Env + AllocGlobal + Input + Print + Files>(rt: &R) -> Result<End, Stop
     }
     if !reads_configuration(alloc, texts) {
         let files = SystemFiles { system: rt };
-        let ended = run_words(alloc, texts, &files, &NoProxy, &mut rt.reader(), &mut io::writer(rt));
+        let ended = run_words(
+            alloc,
+            texts,
+            &files,
+            &NoProxy,
+            &mut rt.reader(),
+            &mut io::writer(rt),
+        );
         return Ok(End { ended, more: None });
     }
     let input = read_at_most(alloc, &mut rt.reader(), READ_LIMIT)?;
@@ -85,7 +92,14 @@ fn judge<R: AllocGlobal + Print + Files>(rt: &R, words: &[&str], input: &[u8]) -
     let alloc = rt.alloc();
     let mut rest = input;
     let files = SystemFiles { system: rt };
-    let ended = run_words(alloc, words, &files, &NoProxy, &mut rest, &mut io::writer(rt));
+    let ended = run_words(
+        alloc,
+        words,
+        &files,
+        &NoProxy,
+        &mut rest,
+        &mut io::writer(rt),
+    );
     let more = second_line(alloc, words, input, &ended);
     End { ended, more }
 }

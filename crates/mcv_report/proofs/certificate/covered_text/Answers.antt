@@ -14,5 +14,5 @@ returns c =
       is.0,
       is.1,
       subst (λ (d : Data). read is.0 ≡ Some d) made
-      (is.2 (subst (λ (d : Data). depth d ≤ max_depth) (sym made) (covered_within (view c.args.document.now) c.args.certificate.now))),
+          (is.2 (subst (λ (d : Data). depth d ≤ max_depth) (sym made) (covered_within (view c.args.document.now) c.args.certificate.now))),
     )) c.report_text.ensures

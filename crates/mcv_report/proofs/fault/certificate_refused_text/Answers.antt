@@ -14,5 +14,5 @@ returns c =
       is.0,
       is.1,
       subst (λ (d : Data). read is.0 ≡ Some d) made
-      (is.2 (subst (λ (d : Data). depth d ≤ max_depth) (sym made) (certificate_refused_within c.args.kind.now c.args.line c.args.name.now c.args.number))),
+          (is.2 (subst (λ (d : Data). depth d ≤ max_depth) (sym made) (certificate_refused_within c.args.kind.now c.args.line c.args.name.now c.args.number))),
     )) c.report_text.ensures

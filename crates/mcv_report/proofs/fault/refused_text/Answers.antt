@@ -14,5 +14,5 @@ returns c =
       is.0,
       is.1,
       subst (λ (d : Data). read is.0 ≡ Some d) made
-      (is.2 (subst (λ (d : Data). depth d ≤ max_depth) (sym made) (refused_within c.args.fault.now (option_map (λ p. (p.line, p.column)) c.args.place)))),
+          (is.2 (subst (λ (d : Data). depth d ≤ max_depth) (sym made) (refused_within c.args.fault.now (option_map (λ p. (p.line, p.column)) c.args.place)))),
     )) c.report_text.ensures

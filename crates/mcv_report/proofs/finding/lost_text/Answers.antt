@@ -17,6 +17,6 @@ returns c =
         is.0,
         is.1,
         subst (λ (d : Data). read is.0 ≡ Some d) made.2
-        (is.2 (subst (λ (d : Data). depth d ≤ max_depth) (sym made.2) (lost_within (scene_of c.args.scene.now) made.0))),
+            (is.2 (subst (λ (d : Data). depth d ≤ max_depth) (sym made.2) (lost_within (scene_of c.args.scene.now) made.0))),
       ),
     )) c.report_text.ensures
