@@ -94,9 +94,9 @@ verdict_by_all input window text first Lost written is on = absurd on.2
 shown_by_all : (o : CheckOptions) (input text first : List ℕ) (verdict : Verdict) (written : List ℕ) → first ≡ take read_limit text → IsShownOn o input (Some first) verdict written
     → IsShownOn o input (Some text) verdict written
 shown_by_all o input text first (Covered n) written is on =
-    let shown = on.6 in
-    (on.0, on.1, on.2, on.3, on.4, on.5, (shown.0, shown.1, says_all text first _ is shown.2, shown.3, shown.4))
-shown_by_all o input text first Lost written is on = absurd on.6
+    let shown = on.4.2 in
+    (on.0, on.1, on.2, on.3, (on.4.0, on.4.1, (shown.0, shown.1, says_all text first _ is shown.2, shown.3, shown.4)))
+shown_by_all o input text first Lost written is on = absurd on.4.2
 
 -- the same as the options ask
 pub verdict_as_by_all : (o : CheckOptions) (input text first : List ℕ) (verdict : Verdict) (written : List ℕ) → first ≡ take read_limit text

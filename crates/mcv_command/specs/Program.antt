@@ -53,9 +53,10 @@ IsJudgedAs options held cert input old new ending =
     (verdict : Verdict) × (text : Text) × IfSome input (λ bytes. IfGiven held cert (λ certificate. IsVerdictAs options bytes certificate verdict text))
     × Appends old new text × (ending ≡ ending_of verdict)
 
--- the routes of the input were drawn
+-- the routes of the input were drawn, whatever the verdict on them
 abbrev pub IsDrawn : (dot : Bool) → (input old new : Option Text) → Ending → Type 0
-IsDrawn dot input old new ending = (text : Text) × IfSome input (λ bytes. IsDrawnOn dot bytes text) × Appends old new text × (ending ≡ Done)
+IsDrawn dot input old new ending =
+    (verdict : Verdict) × (text : Text) × IfSome input (λ bytes. IsDrawnOn dot bytes verdict text) × Appends old new text × (ending ≡ Done)
 
 -- memory ran out, or a device failed; or the fault is in the input or in the certificate that is given
 abbrev pub IsJudgingFault : Held → Option Text → (window : ℕ) → (input : Option Text) → Stop → Type 0

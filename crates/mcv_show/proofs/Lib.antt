@@ -1,2 +1,3 @@
 pub mod WholeInput
 pub mod RoutesInTurn
+pub mod Verdicts
