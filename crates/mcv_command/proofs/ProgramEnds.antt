@@ -14,13 +14,10 @@ use Rattle.mcv_verdict.specs.Verdict.{IsVerdictOn}
 use Rattle.mcv_verdict.specs.declared.verdict.Verdict.{Verdict}
 use Rattle.mcv_verdict.specs.declared.verdict.Verdict.TheVariants.{Covered, Lost}
 use Rattle.mcv_command.specs.declared.stop.Stop.{Stop}
-use Rattle.mcv_command.specs.declared.stop.Stop.TheVariants.{BadLine, NoChange, OverLimit, Run}
-use Rattle.mcv_command.specs.Program.{Held, IfGiven, IsJudgingFault, IsMendingFault, IsStop}
-use Rattle.mcv_command.specs.Stop.{of_mending}
-use Rattle.mcv_mend.specs.declared.fault.MendFault.{MendFault}
-use Rattle.mcv_mend.specs.declared.fault.MendFault.TheVariants as mend_faults
+use Rattle.mcv_command.specs.declared.stop.Stop.TheVariants.{BadLine, Run}
+use Rattle.mcv_command.specs.Program.{Held, IfGiven, IsJudgingFault, IsStop}
 use Rattle.mcv_show.specs.Shown.{IsShownOn, IsVerdictAs, IsVerdictIf, is_plain}
-use Rattle.mcv_words.specs.Words.{AsksCheck, AsksDraw, AsksMend, AsksRun, RunOrder}
+use Rattle.mcv_words.specs.Words.{AsksCheck, AsksDraw, AsksRun, RunOrder}
 use Rattle.mcv_words.specs.declared.options.CheckOptions.{CheckOptions}
 
 -- ---- the faults of a verdict, as the program's
@@ -28,34 +25,17 @@ use Rattle.mcv_words.specs.declared.options.CheckOptions.{CheckOptions}
 pub judging_stop : (words : List Text) (held : Held) (input : Option Text) (cert : Option Text) (options : CheckOptions) (stop : Stop) → AsksCheck words cert options
     → IsJudgingFault held cert options.window.seconds input stop → IsStop words held input stop
 judging_stop words held input cert options BadLine asks holds = absurd holds
-judging_stop words held input cert options (OverLimit fault) asks holds = absurd holds
-judging_stop words held input cert options NoChange asks holds = absurd holds
 judging_stop words held input cert options (Run fault) asks holds = inr (inr (inl (cert, options, asks, holds)))
 
 pub drawing_stop : (words : List Text) (held : Held) (input : Option Text) (dot : Bool) (stop : Stop) → AsksDraw words dot → IsJudgingFault held None 0 input stop
     → IsStop words held input stop
 drawing_stop words held input dot BadLine asks holds = absurd holds
-drawing_stop words held input dot (OverLimit fault) asks holds = absurd holds
-drawing_stop words held input dot NoChange asks holds = absurd holds
 drawing_stop words held input dot (Run fault) asks holds = inr (inr (inr (inl (dot, asks, holds))))
 
 pub running_stop : (words : List Text) (held : Held) (input : Option Text) (order : RunOrder) (stop : Stop) → AsksRun words order
     → IsJudgingFault held None order.settings.window.seconds input stop → IsStop words held input stop
 running_stop words held input order BadLine asks holds = absurd holds
-running_stop words held input order (OverLimit fault) asks holds = absurd holds
-running_stop words held input order NoChange asks holds = absurd holds
-running_stop words held input order (Run fault) asks holds = inr (inr (inr (inr (inl (order, asks, holds)))))
-
-pub mending_stop : (words : List Text) (held : Held) (input : Option Text) (stop : Stop) → AsksMend words → IsMendingFault input stop → IsStop words held input stop
-mending_stop words held input BadLine asks holds = absurd (no_line holds.0 holds.1)
-  where
-    no_line : (fault : MendFault) → BadLine ≡ of_mending fault → ⊥
-    no_line (mend_faults.Run fault) is = absurd (cc)
-    no_line (mend_faults.Limit fault) is = absurd (cc)
-    no_line mend_faults.GaveUp is = absurd (cc)
-mending_stop words held input (OverLimit fault) asks holds = (asks, holds)
-mending_stop words held input NoChange asks holds = (asks, holds)
-mending_stop words held input (Run fault) asks holds = inr (inr (inr (inr (inr (asks, holds)))))
+running_stop words held input order (Run fault) asks holds = inr (inr (inr (inr (order, asks, holds))))
 
 -- a call that writes nothing on a fault where no report is asked for writes nothing where the words ask for none
 pub silent_unless_json : {T : Type 0} (json : Bool) (r : Result T Stop) (Same : Type 0) {NoDevice : Stop → Type 0} {Unasked : Stop → Type 0} {Report : Type 0} → (json ≡ true → Report)

@@ -7,16 +7,13 @@ use Rattle.mcv_base.specs.declared.request.Moment.{Moment}
 use Rattle.mcv_input.specs.Fault.{AreNamedBy, IsOutside}
 use Rattle.mcv_legs.specs.Answer.{IsAnswer}
 use Rattle.mcv_legs.specs.Fault as legs
-use Rattle.mcv_mend.specs.Mending.{IsMendFault, IsMendingOn}
-use Rattle.mcv_mend.specs.declared.fault.Mending.{Mending}
-use Rattle.mcv_mend.specs.declared.fault.MendFault.{MendFault}
 use Rattle.mcv_route.specs.Routes.{RoutesValue, within}
 use Rattle.mcv_symbolic.specs.CoveredRoutes.{AreCovered}
 use Rattle.mcv_verdict.specs.Fault as check
 use Rattle.mcv_verdict.specs.Verdict.{IsVerdictOn}
 use Rattle.mcv_verdict.specs.declared.verdict.Verdict.{Verdict}
 use Rattle.mcv_verdict.specs.declared.verdict.Verdict.TheVariants as verdicts
-use Rattle.mcv_words.specs.Words.{AsksCheck, AsksDraw, AsksMend, AsksRun, IsJobOf, IsLineFault, RunOrder, faults}
+use Rattle.mcv_words.specs.Words.{AsksCheck, AsksDraw, AsksRun, IsJobOf, IsLineFault, RunOrder, faults}
 use Rattle.mcv_show.specs.Drawing.{IsDrawnOn}
 use Rattle.mcv_show.specs.Shown.{IsVerdictAs}
 use Rattle.mcv_words.specs.declared.options.CheckOptions.{CheckOptions}
@@ -25,8 +22,7 @@ use Rattle.mcv_words.specs.declared.words.LineFault.TheVariants as line_fault
 use Rattle.mcv_command.specs.declared.stop.Ending.{Ending}
 use Rattle.mcv_command.specs.declared.stop.Ending.TheVariants.{Done, Lost}
 use Rattle.mcv_command.specs.declared.stop.Stop.{Stop}
-use Rattle.mcv_command.specs.declared.stop.Stop.TheVariants.{BadLine, NoChange, OverLimit, Run}
-use Rattle.mcv_command.specs.Stop.{of_mending}
+use Rattle.mcv_command.specs.declared.stop.Stop.TheVariants.{BadLine, Run}
 
 -- what files hold by their names, where that is known
 abbrev pub Held : Type 0
@@ -61,17 +57,7 @@ IsDrawn dot input old new ending =
 -- memory ran out, or a device failed; or the fault is in the input or in the certificate that is given
 abbrev pub IsJudgingFault : Held → Option Text → (window : ℕ) → (input : Option Text) → Stop → Type 0
 IsJudgingFault held cert window input BadLine = ⊥
-IsJudgingFault held cert window input (OverLimit fault) = ⊥
-IsJudgingFault held cert window input NoChange = ⊥
 IsJudgingFault held cert window input (Run fault) = IsOutside fault ⊎ IfSome input (λ bytes. IfGiven held cert (λ certificate. check.IsRunFault bytes window certificate fault))
-
--- the input, mended or as it is, was written
-abbrev pub IsMended : (input old new : Option Text) → Ending → Type 0
-IsMended input old new ending = (mending : Mending) × (text : Text) × IfSome input (λ bytes. IsMendingOn bytes mending text) × Appends old new text × (ending ≡ Done)
-
--- why nothing was written of the input
-abbrev pub IsMendingFault : (input : Option Text) → Stop → Type 0
-IsMendingFault input stop = (fault : MendFault) × (stop ≡ of_mending fault) × IfSome input (λ bytes. IsMendFault bytes fault)
 
 -- what it is that routes were served as `run` was asked for, from what the writer held to what it holds
 abbrev pub Serves : Type 1
@@ -100,7 +86,7 @@ abbrev pub IsShownFor : List Text → Text → Type 0
 IsShownFor words text = IsAmong DisplayHelp (faults words) ⊎ (IsAmong DisplayVersion (faults words) × (text ≡ version_line))
 
 -- help or the version was asked for and shown; or the words ask for legs at a moment, and what answers the input at that moment was written; or they
--- ask for a verdict, and it was written as they ask; or they ask for a picture, and it was written; or to mend, and what became of the input was written; or they ask for a run, and the proxy served as they ask, or the verdict was written by which
+-- ask for a verdict, and it was written as they ask; or they ask for a picture, and it was written; or they ask for a run, and the proxy served as they ask, or the verdict was written by which
 -- it doesn't
 abbrev pub IsDone : List Text → Held → Serves → (input old new : Option Text) → Ending → Type 0
 IsDone words held serves input old new ending =
@@ -108,11 +94,10 @@ IsDone words held serves input old new ending =
     ⊎ (((at : Moment) × IsJobOf words (jobs.Legs at) × (text : Text) × IfSome input (λ bytes. IsAnswer at.0 bytes text) × Appends old new text × (ending ≡ Done))
     ⊎ (((cert : Option Text) × (options : CheckOptions) × AsksCheck words cert options × IsJudgedAs options held cert input old new ending)
     ⊎ (((dot : Bool) × AsksDraw words dot × IsDrawn dot input old new ending)
-    ⊎ (((order : RunOrder) × AsksRun words order × IsServed held serves order input old new ending)
-    ⊎ (AsksMend words × IsMended input old new ending)))))
+    ⊎ ((order : RunOrder) × AsksRun words order × IsServed held serves order input old new ending))))
 
--- the words are at fault; or memory ran out, or a device failed; or the words ask for legs, for a verdict, for a picture, for a run or to mend, and the fault is in
--- what was read; or they ask to mend, and the input isn't mended
+-- the words are at fault; or memory ran out, or a device failed; or the words ask for legs, for a verdict, for a picture or for a run, and the fault is in
+-- what was read
 abbrev pub IsStop : List Text → Held → (input : Option Text) → Stop → Type 0
 IsStop words held input BadLine = IsLineFault words line_fault.BadLine
 IsStop words held input (Run fault) =
@@ -120,7 +105,4 @@ IsStop words held input (Run fault) =
     ⊎ (((at : Moment) × IsJobOf words (jobs.Legs at) × IfSome input (λ bytes. legs.IsRunFault bytes fault))
     ⊎ (((cert : Option Text) × (options : CheckOptions) × AsksCheck words cert options × IsJudgingFault held cert options.window.seconds input (Run fault))
     ⊎ (((dot : Bool) × AsksDraw words dot × IsJudgingFault held None 0 input (Run fault))
-    ⊎ (((order : RunOrder) × AsksRun words order × IsJudgingFault held None order.settings.window.seconds input (Run fault))
-    ⊎ (AsksMend words × IsMendingFault input (Run fault))))))
-IsStop words held input (OverLimit fault) = AsksMend words × IsMendingFault input (OverLimit fault)
-IsStop words held input NoChange = AsksMend words × IsMendingFault input NoChange
+    ⊎ ((order : RunOrder) × AsksRun words order × IsJudgingFault held None order.settings.window.seconds input (Run fault)))))

@@ -11,7 +11,6 @@ use crate::proxy::Proxy;
 use crate::stop::{Ending, Stop};
 use mcv_input::{RunFault, write_text};
 use mcv_legs::run_legs;
-use mcv_mend::run_mend;
 use mcv_show::{run_check_as, run_draw};
 use mcv_verdict::{Judgement, Verdict, judge_input};
 use mcv_words::{CheckOptions, Job, LineFault, RunOptions, read_words};
@@ -143,10 +142,6 @@ pub fn run_words<'a, R: Read, W: Write, F: NamedFiles, P: Proxy>(
             },
         ) => judge_by(alloc, name, files, options, reader, writer),
         Ok(Job::Draw { dot }) => draw(alloc, dot, reader, writer),
-        Ok(Job::Mend) => {
-            run_mend(alloc, reader, writer)?;
-            Ok(Ending::Done)
-        }
         Ok(Job::Run(options)) => serve(alloc, proxy, options, reader, writer),
         Err(LineFault::Help(text)) => {
             write_text(writer, text.as_bytes())?;

@@ -2,13 +2,11 @@
 //! `stop_text`.
 
 ghost use Rattle.std.specs.Prelude.{◌≡◌, Some};
-ghost use Rattle.mcv_command.specs.Stop.{ended_status, ending_status, of_mending, stop_status, stop_text};
+ghost use Rattle.mcv_command.specs.Stop.{ended_status, ending_status, stop_status, stop_text};
 ghost use Rattle.mcv_command.specs.declared.stop.Stop.TheVariants.{Run};
 ghost use Rattle.mcv_input.specs.declared.fault.RunFault.TheVariants.{Memory as out_of_memory};
 
 use mcv_input::RunFault;
-use mcv_mend::MendFault;
-use mcv_names::ConfigFault;
 use std::alloc::AllocError;
 use std::fmt;
 
@@ -40,21 +38,16 @@ pub enum Stop {
     BadLine,
     /// What they ask for can't be done.
     Run(RunFault),
-    /// The configuration can lose a delete, and mended it would be over a limit.
-    OverLimit(ConfigFault),
-    /// The configuration can lose a delete, and no change was found that mends it.
-    NoChange,
 }
 
 impl Stop {
-    /// The exit status of the program: 1 to 5.
+    /// The exit status of the program: 1, 2, 4 or 5.
     pub fn status(&self) -> u8
         ensures { result ≡ stop_status self.now }
     {
         match self {
             Stop::BadLine => 1,
             Stop::Run(fault) => fault.status(),
-            Stop::OverLimit(_) | Stop::NoChange => 3,
         }
     }
 }
@@ -76,12 +69,6 @@ impl fmt::Display for Stop {
         match self {
             Stop::BadLine => write!(f, "mcv: bad command line"),
             Stop::Run(fault) => write!(f, "mcv: {fault}"),
-            Stop::OverLimit(fault) => {
-                let number = fault.number();
-                let path = fault.path();
-                write!(f, "mcv: mended configuration {number} at {path}")
-            }
-            Stop::NoChange => write!(f, "mcv: no change found"),
         }
     }
 }
@@ -91,18 +78,6 @@ impl From<RunFault> for Stop {
 
     fn from(fault: RunFault) -> Stop {
         Stop::Run(fault)
-    }
-}
-
-impl From<MendFault> for Stop {
-    ghost from_gives = { λ fault stop. stop ≡ of_mending fault };
-
-    fn from(fault: MendFault) -> Stop {
-        match fault {
-            MendFault::Run(fault) => Stop::Run(fault),
-            MendFault::Limit(fault) => Stop::OverLimit(fault),
-            MendFault::GaveUp => Stop::NoChange,
-        }
     }
 }
 

@@ -46,10 +46,6 @@ mcv draw --dot -q: draw for Graphviz
 mcv draw --svg: bad line
 mcv check --at 1: bad line
 mcv legs --cert a: bad line
-mcv mend: mend
-mcv mend x: bad line
-mcv mend --cert a: bad line
-mcv mend --window 1: bad line
 mcv run --listen h:1 --spool f: run h:1 f - 1 0 - -
 mcv run --spool=f --listen=h:1 --sessions=+7: run h:1 f 7 1 0 - -
 mcv run --listen h:1 --spool f --sessions 1: run h:1 f 1 1 0 - -
@@ -101,8 +97,6 @@ mcv help legs: help
 mcv check --help: help
 mcv help check: help
 mcv legs --help: help
-mcv mend --help: help
-mcv help mend: help
 mcv run --help: help
 mcv run -h: help
 mcv help run: help
@@ -142,10 +136,7 @@ fn order_text(rt: &(impl AllocGlobal + Abort), options: RunOptions<'_>) -> Strin
 fn job_text(rt: &(impl AllocGlobal + Abort), job: Job<'_>) -> String {
     let text = match job {
         Job::Legs { at } => format!(in rt.alloc(); "legs at {}", at.0),
-        Job::Check {
-            cert: None,
-            options,
-        } => {
+        Job::Check { cert: None, options } => {
             let window = options.window.seconds;
             format!(in rt.alloc(); "check {window}{}", options_text(options))
         }
@@ -158,7 +149,6 @@ fn job_text(rt: &(impl AllocGlobal + Abort), job: Job<'_>) -> String {
         }
         Job::Draw { dot: true } => format!(in rt.alloc(); "draw for Graphviz"),
         Job::Draw { dot: false } => format!(in rt.alloc(); "draw"),
-        Job::Mend => format!(in rt.alloc(); "mend"),
         Job::Run(options) => {
             let order = order_text(rt, options);
             format!(in rt.alloc(); "run {order}")
@@ -312,7 +302,6 @@ const MAIN_PARTS: &[&str] = &[
     "  check  ",
     "  draw  ",
     "  legs  ",
-    "  mend  ",
     "  run  ",
     "\n  mcv check < mcrouter.json\n",
     "\n  (echo 'delete a'; cat mcrouter.json) | mcv legs\n",
@@ -381,19 +370,6 @@ const RUN_PARTS: &[&str] = &[
     "\n  2  the configuration is refused\n  3  the configuration can lose a delete\n  4  ",
     "mcv: configuration NUMBER at PATH",
 ];
-
-const MEND_PARTS: &[&str] = &[
-    "Usage: mcv mend < FILE",
-    "\n  mcv mend < mcrouter.json | diff mcrouter.json -\n",
-    "\n  mcv: mended configuration 7 at PATH\n  mcv: no change found\n",
-    "mcv: configuration NUMBER at PATH",
-];
-
-#[test]
-fn help_of_mend_names_its_lines(rt: HostRuntime) {
-    check_parts(&rt, &["mcv", "mend", "--help"], MEND_PARTS);
-    check_columns(&rt, &["mcv", "mend", "--help"]);
-}
 
 #[test]
 fn help_of_run_names_its_options_lines_and_statuses(rt: HostRuntime) {

@@ -86,14 +86,6 @@ check : faults (codes "mcv" ∷ codes "check" ∷ []) ≡ []
 unfolding clap_on_literals
 check = refl
 
-mend : faults (codes "mcv" ∷ codes "mend" ∷ []) ≡ []
-unfolding clap_on_literals
-mend = refl
-
-word_after_mend : faults (codes "mcv" ∷ codes "mend" ∷ codes "x" ∷ []) ≡ UnknownArgument ∷ []
-unfolding clap_on_literals
-word_after_mend = refl
-
 abbrev cert_of : Option (Text × List Row) → Option (Option Text)
 cert_of = option_map (λ p. first_of (codes "cert") p.1)
 

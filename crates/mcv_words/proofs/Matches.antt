@@ -15,7 +15,7 @@ use Rattle.clap.specs.Simple.{subcommand_rows}
 use Rattle.mcv_words.specs.Ranges.{proxy_limit, session_limit, timeout_limit, window_limit}
 use Rattle.mcv_words.specs.Words.{faults, named, CanRun, IsCheckOf, IsDrawOf, IsFaultOfKind, IsGivenIn, IsJobOf, IsLineFault, IsNumberOf, IsRunOf, MayBeGivenIn}
 use Rattle.mcv_words.specs.declared.words.Job.{Job}
-use Rattle.mcv_words.specs.declared.words.Job.TheVariants.{Legs, Check, Draw, Mend, Run}
+use Rattle.mcv_words.specs.declared.words.Job.TheVariants.{Legs, Check, Draw, Run}
 use Rattle.mcv_words.proofs.OptionValues.{HasAll, HasNumber, MayHaveNumber}
 use Rattle.mcv_words.specs.declared.words.LineFault.{LineFault}
 use Rattle.mcv_words.specs.declared.words.LineFault.TheVariants.{BadLine, Memory, Help, Version}
@@ -129,7 +129,6 @@ pub check_asked : (words : List Text) (rows : List Row) (job : Job) → faults w
 check_asked words rows (Legs at) none check of = absurd of
 check_asked words rows (Check cert options) none check of = (none, rows, check, of)
 check_asked words rows (Draw dot) none check of = absurd of
-check_asked words rows Mend none check of = absurd of
 check_asked words rows (Run options) none check of = absurd of
 
 -- the job of `run` that has the values of the words is what they ask for
@@ -137,7 +136,6 @@ pub run_asked : (words : List Text) (rows : List Row) (job : Job) → faults wor
 run_asked words rows (Legs at) none run of = absurd of
 run_asked words rows (Check cert options) none run of = absurd of
 run_asked words rows (Draw dot) none run of = absurd of
-run_asked words rows Mend none run of = absurd of
 run_asked words rows (Run options) none run of = (none, rows, run, of)
 
 -- the job of `draw` that has the values of the words is what they ask for
@@ -145,5 +143,4 @@ pub draw_asked : (words : List Text) (rows : List Row) (job : Job) → faults wo
 draw_asked words rows (Legs at) none draw of = absurd of
 draw_asked words rows (Check cert options) none draw of = absurd of
 draw_asked words rows (Draw dot) none draw of = (none, rows, draw, of)
-draw_asked words rows Mend none draw of = absurd of
 draw_asked words rows (Run options) none draw of = absurd of

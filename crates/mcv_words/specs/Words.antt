@@ -16,7 +16,7 @@ use Rattle.mcv_words.specs.declared.options.ServerTimeout.{ServerTimeout}
 use Rattle.mcv_words.specs.declared.options.Sessions.{Sessions}
 use Rattle.mcv_words.specs.declared.options.Settings.{Settings}
 use Rattle.mcv_words.specs.declared.words.Job.{Job}
-use Rattle.mcv_words.specs.declared.words.Job.TheVariants.{Legs, Check, Draw, Mend, Run}
+use Rattle.mcv_words.specs.declared.words.Job.TheVariants.{Legs, Check, Draw, Run}
 use Rattle.mcv_words.specs.declared.words.LineFault.{LineFault}
 use Rattle.mcv_words.specs.declared.words.LineFault.TheVariants.{BadLine, Memory, Help, Version}
 
@@ -72,10 +72,6 @@ check_app =
 abbrev pub draw_app : App
 draw_app = with_rule (with_rule (new_app (codes "draw")) (flag_rule (codes "dot"))) quiet_rule
 
--- `mend`
-abbrev pub mend_app : App
-mend_app = new_app (codes "mend")
-
 -- `--listen ADDRESS`, `--spool FILE`: wanted
 abbrev pub listen_rule : Rule
 listen_rule = record (option_rule (codes "listen")) { required = true }
@@ -114,10 +110,9 @@ with_version app = record app { top = record app.top { has_version = true } }
 abbrev pub wanting_a_command : App → App
 wanting_a_command app = record app { top = record app.top { subcommand_required = true } }
 
--- `mcv check`, `mcv draw`, `mcv legs`, `mcv mend` and `mcv run` with their options; `mcv --version`
+-- `mcv check`, `mcv draw`, `mcv legs` and `mcv run` with their options; `mcv --version`
 abbrev pub mcv_app : App
-mcv_app =
-    with_subcommand (with_subcommand (with_subcommand (with_subcommand (with_subcommand (wanting_a_command (with_version (new_app (codes "mcv")))) check_app.top) draw_app.top) legs_app.top) mend_app.top) run_app.top
+mcv_app = with_subcommand (with_subcommand (with_subcommand (with_subcommand (wanting_a_command (with_version (new_app (codes "mcv")))) check_app.top) draw_app.top) legs_app.top) run_app.top
 
 -- ---- what words ask for
 
@@ -143,10 +138,6 @@ IsFlag flag rows b =
 abbrev pub HasCheckValues : List Row → (cert : Option Text) → CheckOptions → Type 0
 HasCheckValues rows cert options = (cert ≡ first_of (codes "cert") rows) × IsNumberOf (codes "window") rows options.window.seconds
     × IsFlag (codes "explain") rows options.explain × IsFlag (codes "json") rows options.json × IsFlag (codes "quiet") rows options.quiet
-
--- clap takes the words, and they name the command `mend`
-abbrev pub AsksMend : List Text → Type 0
-AsksMend words = (faults words ≡ []) × (rows : List Row) × (named words ≡ Some (codes "mend", rows))
 
 -- clap takes the words, and they name the command `check` with these values
 abbrev pub AsksCheck : List Text → (cert : Option Text) → CheckOptions → Type 0
@@ -193,7 +184,6 @@ abbrev pub IsCheckOf : List Row → Job → Type 0
 IsCheckOf rows (Legs at) = ⊥
 IsCheckOf rows (Check cert options) = HasCheckValues rows (option_map (λ name. name.now) cert) options
 IsCheckOf rows (Draw dot) = ⊥
-IsCheckOf rows Mend = ⊥
 IsCheckOf rows (Run options) = ⊥
 
 -- the job of `draw` with these values
@@ -201,7 +191,6 @@ abbrev pub IsDrawOf : List Row → Job → Type 0
 IsDrawOf rows (Legs at) = ⊥
 IsDrawOf rows (Check cert options) = ⊥
 IsDrawOf rows (Draw dot) = IsFlag (codes "dot") rows dot
-IsDrawOf rows Mend = ⊥
 IsDrawOf rows (Run options) = ⊥
 
 -- the job of `run` with these values
@@ -209,7 +198,6 @@ abbrev pub IsRunOf : List Row → Job → Type 0
 IsRunOf rows (Legs at) = ⊥
 IsRunOf rows (Check cert options) = ⊥
 IsRunOf rows (Draw dot) = ⊥
-IsRunOf rows Mend = ⊥
 IsRunOf rows (Run options) = HasRunValues rows (order_of options)
 
 -- the option is given a number of this range
@@ -235,7 +223,6 @@ abbrev pub IsJobOf : List Text → Job → Type 0
 IsJobOf words (Check cert options) = AsksCheck words (option_map (λ name. name.now) cert) options
 IsJobOf words (Draw dot) = AsksDraw words dot
 IsJobOf words (Legs at) = (faults words ≡ []) × (rows : List Row) × (named words ≡ Some (codes "legs", rows)) × IsNumberOf (codes "at") rows at.0
-IsJobOf words Mend = AsksMend words
 IsJobOf words (Run options) = AsksRun words (order_of options)
 
 -- why words ask for no job: clap finds a fault with them that isn't the wish for help or for the

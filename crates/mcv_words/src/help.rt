@@ -4,16 +4,15 @@ pub(crate) const ABOUT: &str =
     "Verifies configurations of mcrouter, the routing proxy for memcached.
 `mcv check` decides whether a delete can be acknowledged that was never sent to
 a server which can be read. `mcv legs` shows to which servers a configuration
-sends a request. `mcv mend` changes a configuration so that it can't happen,
-and `mcv run` serves clients by one for which it can't.";
+sends a request. `mcv run` serves clients by a configuration for which that
+can't happen.";
 
 pub(crate) const EXAMPLE: &str =
     "Examples: can a configuration lose a delete? Which servers does a delete of the
-key `a` reach? Mend one that can. Serve clients at port 5000.
+key `a` reach? Serve clients at port 5000.
 
   mcv check < mcrouter.json
   (echo 'delete a'; cat mcrouter.json) | mcv legs
-  mcv mend < mcrouter.json > mended.json
   mcv run --listen 127.0.0.1:5000 --spool mcv.spool --server-timeout 1000 \
     < mcrouter.json
 
@@ -21,13 +20,11 @@ Exit status:
   0  done, or help or the version was asked for
   1  bad command line, or bad request line
   2  the configuration is refused, or has no route for the key
-  3  the configuration can lose a delete (never with --cert: 5 then), or no
-     change was found that mends it
+  3  the configuration can lose a delete (never with --cert: 5 then)
   4  out of memory, or a device failed: reading, writing, the address, the spool
   5  the certificate is refused
 
-Where the status is neither 0 nor 3, or nothing is mended, one line on standard
-error says why.";
+Where the status is neither 0 nor 3, one line on standard error says why.";
 
 pub(crate) const LEGS_ABOUT: &str = "Shows to which servers a request is sent at once";
 
@@ -186,28 +183,6 @@ as `mcv: certificate fault NUMBER`:
   4  another hash, number of legs or server than the line says
   5  `never`, where a delete can be acknowledged
   7  the certificate is for another window
-
-A configuration that isn't read is reported as
-`mcv: configuration NUMBER at PATH`: `mcv legs --help` has the numbers.";
-
-pub(crate) const MEND_ABOUT: &str = "Changes a configuration so that it can't lose a delete";
-
-pub(crate) const MEND_FORM: &str =
-    "Standard input has the configuration as JSON; `mcv legs --help` says which route
-handles are read. Where it is covered (`mcv check --help`), standard output has
-it as it is. Else standard output has the configuration with the smallest change
-to its delete policies that covers it: for each class of keys, deletes are sent
-to further pools or servers at once. Nothing else is changed: comments, order
-and spaces stay, and no other operation sends or replies anything else.
-
-  mcv mend < mcrouter.json | diff mcrouter.json -
-
-What is written has been read again, judged as by `mcv check`, and compared with
-what was read. Where the change would be over a limit, or none was found, nothing
-is written, the exit status is 3, and one line on standard error says so:
-
-  mcv: mended configuration 7 at PATH
-  mcv: no change found
 
 A configuration that isn't read is reported as
 `mcv: configuration NUMBER at PATH`: `mcv legs --help` has the numbers.";

@@ -5,13 +5,13 @@ ghost use Rattle.std.specs.Prelude.{◌≡◌, codes, false, option_map, IfOk, I
 ghost use Rattle.clap.specs.Words.{Text, app_of, found_of, kind_of, rows_of, rule_of};
 ghost use Rattle.clap.specs.declared.builder.command.Command.TheViews.{out-Command as fields_of};
 ghost use Rattle.mcv_words.specs.Ranges.{window_limit};
-ghost use Rattle.mcv_words.specs.Words.{at_rule, cert_rule, check_app, client_timeout_rule, draw_app, flag_rule, legs_app, listen_rule, mcv_app, mend_app, proxies_rule, quiet_rule, run_app, server_timeout_rule, sessions_rule, spool_rule, window_rule, line_fault_number, CanRun, IsCheckOf, IsDrawOf, IsFaultOfKind, IsGivenIn, IsJobOf, IsLineFault, IsNumberIfGiven, IsRunOf, MayBeGivenIn};
+ghost use Rattle.mcv_words.specs.Words.{at_rule, cert_rule, check_app, client_timeout_rule, draw_app, flag_rule, legs_app, listen_rule, mcv_app, proxies_rule, quiet_rule, run_app, server_timeout_rule, sessions_rule, spool_rule, window_rule, line_fault_number, CanRun, IsCheckOf, IsDrawOf, IsFaultOfKind, IsGivenIn, IsJobOf, IsLineFault, IsNumberIfGiven, IsRunOf, MayBeGivenIn};
 ghost use Rattle.mcv_words.specs.declared.words.LineFault.TheVariants.{Memory as out_of_memory};
 
 use crate::help::{
     ABOUT, AT, CERT, CHECK_ABOUT, CHECK_FORM, CLIENT_TIMEOUT, DOT, DRAW_ABOUT, DRAW_FORM, EXAMPLE,
-    EXPLAIN, JSON, LEGS_ABOUT, LEGS_FORM, LISTEN, MEND_ABOUT, MEND_FORM, PROXIES, QUIET, RUN_ABOUT,
-    RUN_FORM, SERVER_TIMEOUT, SESSIONS, SPOOL, WINDOW,
+    EXPLAIN, JSON, LEGS_ABOUT, LEGS_FORM, LISTEN, PROXIES, QUIET, RUN_ABOUT, RUN_FORM,
+    SERVER_TIMEOUT, SESSIONS, SPOOL, WINDOW,
 };
 use crate::options::{
     CheckOptions, ClientTimeout, InRange, Proxies, RunOptions, ServerTimeout, Sessions, Settings,
@@ -28,20 +28,14 @@ use thiserror::Error;
 #[derive(Clone, Copy, Debug, PartialEq, Eq)]
 pub enum Job<'a> {
     /// To show the legs of a request that comes at a moment.
-    Legs {
-        at: Moment,
-    },
+    Legs { at: Moment },
     /// To judge a configuration, by the certificate in the file of this name where one is given, as the options say.
     Check {
         cert: Option<&'a str>,
         options: CheckOptions,
     },
     /// To draw the routes of a configuration, for Graphviz or as SVG.
-    Draw {
-        dot: bool,
-    },
-    /// To write a configuration with the smallest change to its delete policies that covers it.
-    Mend,
+    Draw { dot: bool },
     /// To serve clients.
     Run(RunOptions<'a>),
 }
@@ -176,18 +170,6 @@ fn draw_command<'a>(alloc: Global) -> Result<Command<'a>, AllocError>
         .arg(quiet_flag(alloc))
 }
 
-fn mend_command<'a>(alloc: Global) -> Result<Command<'a>, AllocError>
-    ensures app { IfOk result (λ c. app_of c ≡ mend_app) }
-    ensures local { IfOk result (λ c. (fields_of c).has_globals ≡ false) }
-{
-    Ok(
-        Command::new(alloc, "mend")
-            .about(MEND_ABOUT)
-            .override_usage("mcv mend < FILE")
-            .after_help(MEND_FORM),
-    )
-}
-
 fn listen_option<'a>(alloc: Global) -> Arg<'a>
     ensures rule { rule_of result ≡ listen_rule }
     ensures local { result.global ≡ false }
@@ -278,7 +260,6 @@ fn command<'a>(alloc: Global) -> Result<Command<'a>, AllocError>
     let check = check_command(alloc)?;
     let draw = draw_command(alloc)?;
     let legs = legs_command(alloc)?;
-    let mend = mend_command(alloc)?;
     let run = run_command(alloc)?;
     Command::new(alloc, "mcv")
         .version("1")
@@ -289,7 +270,6 @@ fn command<'a>(alloc: Global) -> Result<Command<'a>, AllocError>
         .subcommand(check)?
         .subcommand(draw)?
         .subcommand(legs)?
-        .subcommand(mend)?
         .subcommand(run)
 }
 
@@ -412,10 +392,6 @@ pub fn read_words<'a>(alloc: Global, words: &'a [&'a str]) -> Result<Job<'a>, Li
             return Err(LineFault::BadLine);
         };
         return Ok(job);
-    }
-    if let Some(asked) = matches.subcommand_matches("mend") {
-        let _asked = asked;
-        return Ok(Job::Mend);
     }
     let Some(found) = matches.subcommand_matches("legs") else {
         return Err(LineFault::BadLine);

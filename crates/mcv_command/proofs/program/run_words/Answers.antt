@@ -2,10 +2,9 @@ use Rattle.std.proofs.Common.{◌∙◌, List, None, Some, ap, inl, inr, map, re
 use Rattle.std.proofs.lemmas.Result.{IfErr-weaker, IfOk-weaker, err_from_is_err_and}
 use Rattle.clap.specs.Words.{Text}
 use Rattle.mcv_command.specs.Program.{IsStop}
-use Rattle.mcv_command.specs.Stop.{of_mending}
 use Rattle.mcv_command.specs.declared.stop.Stop.{Stop}
 use Rattle.mcv_command.specs.declared.stop.Stop.TheVariants.{Run}
-use Rattle.mcv_command.proofs.ProgramEnds.{drawing_stop, judging_stop, mending_stop, running_stop, silent_unless_json}
+use Rattle.mcv_command.proofs.ProgramEnds.{drawing_stop, judging_stop, running_stop, silent_unless_json}
 use Rattle.mcv_words.specs.Words.{order_of}
 use Rattle.mcv_command.proofs.program.run_words.Goals as goal
 
@@ -23,20 +22,6 @@ pub returns-in_err-run_legs-in-Ok-Legs-clause-silent : goal.returns-in_err-run_l
 returns-in_err-run_legs-in-Ok-Legs-clause-silent g c =
     let gone = err_from_is_err_and c.from_residual.result c.from_residual.ensures.1 in
     rw (gone.1) (λ no_device unasked unreported. c.in_err-run_legs-in-Ok-Legs.ensures.silent (λ device. no_device (gone.2 ∙ ap Run device)))
-
-pub returns-in_err-run_mend-in-Ok-Mend-clause-stop : goal.returns-in_err-run_mend-in-Ok-Mend-clause-stop
-returns-in_err-run_mend-in-Ok-Mend-clause-stop g c =
-    let words : List Text = map (λ w. w.now) c.args.words.now in
-    let held = g.F.NamedFiles.held c.args.files.now in
-    let known = g.R.Read.remaining c.args.reader.now in
-    let asks = rw c.in-Ok-Mend.field-0-is at c.in-Ok-Mend.ensures.job in
-    let gone = err_from_is_err_and c.from_residual-in_err-run_mend-in-Ok-Mend.result c.from_residual-in_err-run_mend-in-Ok-Mend.ensures.1 in
-    rw (gone.1) (mending_stop words held known _ asks (c.in_err-run_mend-in-Ok-Mend.field-0.0, gone.2, c.in_err-run_mend-in-Ok-Mend.ensures.fault))
-
-pub returns-in_err-run_mend-in-Ok-Mend-clause-silent : goal.returns-in_err-run_mend-in-Ok-Mend-clause-silent
-returns-in_err-run_mend-in-Ok-Mend-clause-silent g c =
-    let gone = err_from_is_err_and c.from_residual-in_err-run_mend-in-Ok-Mend.result c.from_residual-in_err-run_mend-in-Ok-Mend.ensures.1 in
-    rw (gone.1) (λ no_device unasked unreported. c.in_err-run_mend-in-Ok-Mend.ensures.silent (λ device. no_device (gone.2 ∙ ap of_mending device)))
 
 pub returns-in_err-write_text-in-Err-Help-clause-stop : goal.returns-in_err-write_text-in-Err-Help-clause-stop
 returns-in_err-write_text-in-Err-Help-clause-stop g c =
@@ -102,7 +87,7 @@ pub returns-in-Ok-Run-clause-done : goal.returns-in-Ok-Run-clause-done
 returns-in-Ok-Run-clause-done g c =
     let held = g.F.NamedFiles.held c.args.files.now in
     let asks = rw c.in-Ok-Run.field-0-is at c.in-Ok-Run.ensures.job in
-    IfOk-weaker c.serve.result _ _ (λ ending served. inr (inr (inr (inr (inl (order_of c.in-Ok-Run.options, asks, served)))))) (c.serve.ensures.done held)
+    IfOk-weaker c.serve.result _ _ (λ ending served. inr (inr (inr (inr (order_of c.in-Ok-Run.options, asks, served))))) (c.serve.ensures.done held)
 
 pub returns-in-Ok-Run-clause-stop : goal.returns-in-Ok-Run-clause-stop
 returns-in-Ok-Run-clause-stop g c =

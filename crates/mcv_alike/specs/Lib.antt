@@ -1,4 +1,0 @@
-pub mod Alike
-pub mod Plans
-pub mod Numbers
-pub mod Laws

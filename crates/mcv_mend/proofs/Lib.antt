@@ -1,9 +1,0 @@
-pub mod ClassMended
-pub mod SameClasses
-pub mod EachOperation
-pub mod AskedWell
-pub mod WholeInput
-pub mod WantedBlocks
-pub mod ClassNeeds
-pub mod NeedMet
-pub mod EraSets
