@@ -4,3 +4,4 @@ pub mod Element
 pub mod Svg
 pub mod Dot
 pub mod Handles
+pub mod Marks

@@ -8,6 +8,7 @@
 mod element;
 mod graph;
 mod label;
+mod legs;
 mod listing;
 mod marks;
 mod markup;

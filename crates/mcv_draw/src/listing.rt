@@ -2,7 +2,9 @@
 
 ghost use Rattle.std.specs.Prelude.{◌≡◌, ◌<◌, ◌≤◌, ◌++◌, ◌∷◌, [], ℕ, List, suc, IfOk, OnOk, map};
 ghost use Rattle.mcv_draw.specs.Drawn.{drawn, drawn_children, drawn_each, from_child, still_drawn, tree_count};
+ghost use Rattle.mcv_draw.specs.Element.{element_of};
 ghost use Rattle.mcv_draw.specs.Handles.{handle_of, last_count, place_of};
+ghost use Rattle.mcv_draw.specs.Marks.{AreMarkedBy, IsMarkedBy, marks_of};
 ghost use Rattle.mcv_route.specs.View.{view};
 
 use crate::element::Element;
@@ -41,7 +43,8 @@ pub fn elements(
     row: u32,
     elements: &mut Vec<Element>,
 ) -> Result<u32, AllocError>
-    ensures { OnOk result (map place_of elements.new.items ≡ map place_of elements.old.items ++ map (λ p. (drawing.now.number, p)) (drawn [] (view route.now))) }
+    ensures drawn { OnOk result (map place_of elements.new.items ≡ map place_of elements.old.items ++ map (λ p. (drawing.now.number, p)) (drawn [] (view route.now))) }
+    ensures marked { OnOk result (AreMarkedBy drawing.now.number (marks_of drawing.now.marks.now) elements.old.items elements.new.items) }
 {
     let mut free = row;
     let mut pending = Vec::new(alloc);
@@ -71,6 +74,7 @@ fn draw_next<'a>(
     ensures pending { OnOk result (still_drawn (map handle_of pending.new.items)
         ≡ drawn_each next.entry.position 0 (drawn_children (view next.entry.route.now)) ++ still_drawn (map handle_of pending.old.items)) }
     ensures element { OnOk result (map place_of elements.new.items ≡ map place_of elements.old.items ++ (drawing.now.number, next.entry.position) ∷ []) }
+    ensures marked { OnOk result (AreMarkedBy drawing.now.number (marks_of drawing.now.marks.now) elements.old.items elements.new.items) }
 {
     let row = *free;
     if !next.is_folded {
@@ -174,14 +178,15 @@ fn child_pending<'a>(
     })
 }
 
-/// The element of a handle.
+/// The element of a handle, with the marks of its position.
 fn element_of(
     alloc: Global,
     next: Pending<'_>,
     row: u32,
     drawing: &Drawing<'_>,
 ) -> Result<Element, AllocError>
-    ensures { IfOk result (λ e. place_of e ≡ (drawing.now.number, next.entry.position)) }
+    ensures place { IfOk result (λ e. place_of e ≡ (drawing.now.number, next.entry.position)) }
+    ensures marked { IfOk result (λ e. IsMarkedBy drawing.now.number (marks_of drawing.now.marks.now) (element_of e)) }
 {
     let label = label_of(alloc, next.route, child_count(next.route), drawing.servers)?;
     let marks = drawing.marks;
@@ -194,9 +199,9 @@ fn element_of(
         is_folded,
     } = next;
     let steps = position.steps();
-    let deletes = marks.deletes_by(steps);
-    let is_readable = marks.reads(steps);
-    let is_shown = marks.shows(steps);
+    let deletes = marks.deletes.lead_to(steps);
+    let is_readable = marks.readable.has(steps);
+    let is_shown = marks.shown.lead_to(steps);
     let is_lost = marks.loses(steps);
     Ok(Element {
         route: drawing.number,

@@ -6,6 +6,7 @@ ghost use Rattle.std.specs.List.{slice_split};
 ghost use Rattle.mcv_draw.specs.Element.{ElementValue, element_of};
 ghost use Rattle.mcv_draw.specs.Svg.{svg};
 ghost use Rattle.mcv_show.specs.Drawing.{AreElementsOf, IsDrawnOf, IsDrawnOn, IsPictureOf, if_line, note_lines};
+ghost use Rattle.mcv_show.specs.Found.{AreMarkedFor};
 ghost use Rattle.mcv_verdict.specs.Fault.{IsRunFault};
 
 use crate::input::{Configuration, configuration_of, read_text};
@@ -105,7 +106,7 @@ fn picture_text(
     said: &[u8],
     is_dot: bool,
 ) -> Result<Vec<u8>, AllocError>
-    ensures { IfOk result (λ text. (es : List ElementValue) × AreElementsOf routes.now es × IsPictureOf is_dot es said.now text.items) }
+    ensures { IfOk result (λ text. (es : List ElementValue) × AreElementsOf routes.now es × AreMarkedFor found.now es × IsPictureOf is_dot es said.now text.items) }
 {
     let picture = picture_of(alloc, routes, found)?;
     text_of(alloc, &picture, said, is_dot)
@@ -173,7 +174,8 @@ fn push_line(alloc: Global, lines: &mut Vec<Vec<u8>>, line: &[u8]) -> Result<(),
 
 /// The elements of the routes' trees, one below the other, with what was found marked in each.
 fn picture_of(alloc: Global, routes: &Routes, found: &Found<'_>) -> Result<Picture, AllocError>
-    ensures { IfOk result (λ picture. AreElementsOf routes.now (map element_of picture.elements.items)) }
+    ensures elements { IfOk result (λ picture. AreElementsOf routes.now (map element_of picture.elements.items)) }
+    ensures marked { IfOk result (λ picture. AreMarkedFor found.now (map element_of picture.elements.items)) }
 {
     // Routes are few: their numbers don't run over.
     let _servers = routes.servers();

@@ -1,8 +1,14 @@
 //! What a verdict marks in the trees of the routes.
 
+ghost use Rattle.std.specs.Prelude.{◌≡◌, ◌++◌, IfOk, OnOk, map};
+ghost use Rattle.mcv_draw.specs.Marks.{marks_of};
+ghost use Rattle.mcv_show.specs.Drawing.{answering};
+ghost use Rattle.mcv_show.specs.Found.{AreFoundMarks, AreMarksFor, AreUnmarked};
+ghost use Rattle.mcv_witness.specs.Finding.{finding_of, outcomes_of};
+
 use mcv_base::Position;
 use mcv_blocks::Sets;
-use mcv_cert::{Certificate, Pair, Reason};
+use mcv_cert::{Certificate, Pair, Place, Reason};
 use mcv_classes::ClassTable;
 use mcv_draw::Marks;
 use mcv_judge::Leg;
@@ -23,23 +29,13 @@ pub(crate) fn marks_of(
     routes: &Routes,
     found: &Found<'_>,
     number: usize,
-) -> Result<Marks, AllocError> {
+) -> Result<Marks, AllocError>
+    ensures { IfOk result (λ marks. AreMarksFor found.now number (marks_of marks)) }
+{
     match found {
         Found::Covered(certificate) => certified(alloc, pairs_of(certificate, number)),
-        Found::Lost(finding) => {
-            if number != finding.place.route {
-                return Ok(unmarked(alloc));
-            }
-            match routes.route(number) {
-                Some(route) => lost(alloc, routes, route, finding),
-                None => Ok(unmarked(alloc)),
-            }
-        }
+        Found::Lost(finding) => lost(alloc, routes, finding, number),
     }
-}
-
-fn unmarked(alloc: Global) -> Marks {
-    Marks::new(Vec::new(alloc), Vec::new(alloc), Vec::new(alloc), None)
 }
 
 // ---- what is covered
@@ -78,42 +74,44 @@ fn push_legs(alloc: Global, legs: &mut Vec<Position>, reason: &Reason) -> Result
 
 // ---- what is lost
 
-/// What a finding marks in the tree of its route: for its keys and its eras, the legs that each delete that has a reply
-/// has sent, the leaves that can be read, the legs that answer, and the leaf whose server is lost.
+/// What a finding marks in the tree of a route: of its own the legs that answer, the leaf whose server is lost, and what
+/// deletes and gets of its keys reach; of another nothing.
 fn lost(
     alloc: Global,
     routes: &Routes,
-    route: &Route,
     finding: &Finding,
-) -> Result<Marks, AllocError> {
-    let place = &finding.place;
-    let mut deletes = Vec::new(alloc);
-    let mut readable = Vec::new(alloc);
-    let mut shown = Vec::new(alloc);
-    push_answered(alloc, &mut deletes, finding.deletes.as_slice())?;
-    push_answered(alloc, &mut shown, finding.deletes.as_slice())?;
-    push_answered(alloc, &mut shown, finding.gets.as_slice())?;
-    let table = ClassTable::new(alloc, route)?;
-    if let Some(member) = table.member_of(place.class.as_slice()) {
-        let sets = Sets::new(alloc, route, &member, opened(routes, place.era))?;
-        push_sent(alloc, &mut deletes, sets.acknowledged(alloc)?.as_slice())?;
-        let sets = Sets::new(alloc, route, &member, opened(routes, place.get_era))?;
-        push_sent(alloc, &mut readable, sets.readable(alloc)?.as_slice())?;
+    number: usize,
+) -> Result<Marks, AllocError>
+    ensures { IfOk result (λ marks. AreFoundMarks (finding_of finding.now) number (marks_of marks)) }
+{
+    if number != finding.place.route {
+        return Ok(unmarked(alloc));
     }
-    let lost = place.leaf.copy(alloc)?;
-    Ok(Marks::new(deletes, readable, shown, Some(lost)))
+    let shown = answering(alloc, finding)?;
+    let leaf = finding.place.leaf.copy(alloc)?;
+    let Reach { deletes, readable } = reach(alloc, routes, finding)?;
+    Ok(Marks::new(deletes, readable, shown, Some(leaf)))
 }
 
-/// Adds the positions of legs.
-fn push_sent(
-    alloc: Global,
-    positions: &mut Vec<Position>,
-    legs: &[Leg<'_>],
-) -> Result<(), AllocError> {
-    for leg in legs {
-        positions.push(leg.position.copy(alloc)?)?;
-    }
-    Ok(())
+fn unmarked(alloc: Global) -> Marks
+    ensures { AreUnmarked (marks_of result) }
+{
+    Marks::new(
+        Vec::new(alloc),
+        Vec::new(alloc),
+        Vec::new(alloc),
+        None,
+    )
+}
+
+/// The positions of the legs that answer the finding's delete and its get.
+fn answering(alloc: Global, finding: &Finding) -> Result<Vec<Position>, AllocError>
+    ensures { IfOk result (λ legs. legs.items ≡ answering (finding_of finding.now)) }
+{
+    let mut legs = Vec::new(alloc);
+    push_answered(alloc, &mut legs, finding.deletes.as_slice())?;
+    push_answered(alloc, &mut legs, finding.gets.as_slice())?;
+    Ok(legs)
 }
 
 /// Adds the positions of legs that answered.
@@ -121,7 +119,61 @@ fn push_answered(
     alloc: Global,
     positions: &mut Vec<Position>,
     legs: &[LegOutcome],
+) -> Result<(), AllocError>
+    ensures { OnOk result (positions.new.items ≡ positions.old.items ++ map (λ e. e.0) (outcomes_of legs.now)) }
+{
+    for leg in legs {
+        positions.push(leg.position.copy(alloc)?)?;
+    }
+    Ok(())
+}
+
+/// What deletes and gets of a finding's keys reach, by the positions of legs.
+#[derive(Drop)]
+struct Reach {
+    deletes: Vec<Position>,
+    readable: Vec<Position>,
+}
+
+/// For the finding's keys and its eras, the legs that each delete that has a reply has sent, beside those that answered,
+/// and the leaves that can be read.
+fn reach(alloc: Global, routes: &Routes, finding: &Finding) -> Result<Reach, AllocError> {
+    let mut deletes = Vec::new(alloc);
+    let mut readable = Vec::new(alloc);
+    push_answered(alloc, &mut deletes, finding.deletes.as_slice())?;
+    if let Some(route) = routes.route(finding.place.route) {
+        push_reached(
+            alloc,
+            &mut deletes,
+            &mut readable,
+            routes,
+            route,
+            &finding.place,
+        )?;
+    }
+    Ok(Reach { deletes, readable })
+}
+
+fn push_reached(
+    alloc: Global,
+    deletes: &mut Vec<Position>,
+    readable: &mut Vec<Position>,
+    routes: &Routes,
+    route: &Route,
+    place: &Place,
 ) -> Result<(), AllocError> {
+    let table = ClassTable::new(alloc, route)?;
+    let Some(member) = table.member_of(place.class.as_slice()) else {
+        return Ok(());
+    };
+    let sets = Sets::new(alloc, route, &member, opened(routes, place.era))?;
+    push_sent(alloc, deletes, sets.acknowledged(alloc)?.as_slice())?;
+    let sets = Sets::new(alloc, route, &member, opened(routes, place.get_era))?;
+    push_sent(alloc, readable, sets.readable(alloc)?.as_slice())
+}
+
+/// Adds the positions of legs.
+fn push_sent(alloc: Global, positions: &mut Vec<Position>, legs: &[Leg<'_>]) -> Result<(), AllocError> {
     for leg in legs {
         positions.push(leg.position.copy(alloc)?)?;
     }
