@@ -37,13 +37,13 @@ between (a ∷ p) (c ∷ q) (b ∷ x) low high is =
     let same : a ≡ b = eqb-true a b both.0 in
     by_ranked (c < a) (c ≡ a) (a < c) (nat_cmp c a) (ranked c a (nat_cmp c a) refl) (λ o less. absurd (true≢false (rw o at low)))
     (λ o equal. by_ranked (b < c) (b ≡ c) (c < b) (nat_cmp b c) (ranked b c (nat_cmp b c) refl)
-        (λ u less. absurd (let h : ⊥ = omega arith in h))
-        (λ u alike. rw (eq-eqb a c (sym equal)) (between p q x (rw o at low) (rw u at high) both.1))
-        (λ u greater. absurd (let h : ⊥ = omega arith in h)))
+    (λ u less. absurd (let h : ⊥ = omega arith in h))
+    (λ u alike. rw (eq-eqb a c (sym equal)) (between p q x (rw o at low) (rw u at high) both.1))
+    (λ u greater. absurd (let h : ⊥ = omega arith in h)))
     (λ o greater. by_ranked (b < c) (b ≡ c) (c < b) (nat_cmp b c) (ranked b c (nat_cmp b c) refl)
-        (λ u less. absurd (true≢false (rw u at high)))
-        (λ u alike. absurd (let h : ⊥ = omega arith in h))
-        (λ u greater. absurd (let h : ⊥ = omega arith in h)))
+    (λ u less. absurd (true≢false (rw u at high)))
+    (λ u alike. absurd (let h : ⊥ = omega arith in h))
+    (λ u greater. absurd (let h : ⊥ = omega arith in h)))
 
 -- two of which neither comes before the other are one
 neither_before : (p q : List ℕ) → is_lt (list_cmp q p) ≡ false → is_lt (list_cmp p q) ≡ false → bytes_eq q p ≡ true
@@ -53,13 +53,13 @@ neither_before (a ∷ p) [] low high = absurd (true≢false low)
 neither_before (a ∷ p) (c ∷ q) low high =
     by_ranked (c < a) (c ≡ a) (a < c) (nat_cmp c a) (ranked c a (nat_cmp c a) refl) (λ o less. absurd (true≢false (rw o at low)))
     (λ o equal. by_ranked (a < c) (a ≡ c) (c < a) (nat_cmp a c) (ranked a c (nat_cmp a c) refl)
-        (λ u less. absurd (let h : ⊥ = omega arith in h))
-        (λ u alike. rw (eq-eqb c a equal) (neither_before p q (rw o at low) (rw u at high)))
-        (λ u greater. absurd (let h : ⊥ = omega arith in h)))
+    (λ u less. absurd (let h : ⊥ = omega arith in h))
+    (λ u alike. rw (eq-eqb c a equal) (neither_before p q (rw o at low) (rw u at high)))
+    (λ u greater. absurd (let h : ⊥ = omega arith in h)))
     (λ o greater. by_ranked (a < c) (a ≡ c) (c < a) (nat_cmp a c) (ranked a c (nat_cmp a c) refl)
-        (λ u less. absurd (true≢false (rw u at high)))
-        (λ u alike. absurd (let h : ⊥ = omega arith in h))
-        (λ u less. absurd (let h : ⊥ = omega arith in h)))
+    (λ u less. absurd (true≢false (rw u at high)))
+    (λ u alike. absurd (let h : ⊥ = omega arith in h))
+    (λ u less. absurd (let h : ⊥ = omega arith in h)))
 
 itself : (p : List ℕ) → is_lt (list_cmp p p) ≡ false
 itself [] = refl
@@ -122,7 +122,7 @@ any_next test xs p i (Some q) is sorted parted behind kept = go (test q) refl
         elim (cases_lt k i) [
           | inl before ↦ turned (test (get_or xs k d)) false (λ holds. sym (behind (get_or xs k d) holds) ∙ parted.0 k d (omega arith) before) refl
           | inr after ↦ turned (test (get_or xs k d)) (test q)
-            (λ holds. kept q (get_or xs k d) (rw here.1 at (parted.1 i d (omega arith) here.0)) (rw here.1 at (sorted_far (λ a b. is_lt (list_cmp a b)) rank xs sorted i k d after low)) holds) no
+              (λ holds. kept q (get_or xs k d) (rw here.1 at (parted.1 i d (omega arith) here.0)) (rw here.1 at (sorted_far (λ a b. is_lt (list_cmp a b)) rank xs sorted i k d after low)) holds) no
         ]
 
     go : (b : Bool) → test q ≡ b → list_any test xs ≡ b

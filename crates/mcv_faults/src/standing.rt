@@ -1,11 +1,14 @@
 //! Where a fault stands in the text of a configuration.
 
-ghost use Rattle.std.specs.Prelude.{IfOk, IfSome};
-ghost use Rattle.mcv_faults.specs.TextPlace.{IsPlaceIn};
+ghost use Rattle.std.specs.Prelude.{◌≡◌, Some, IfOk, IfSome, option_and_then, option_map, string_bytes};
+ghost use Rattle.serde_json.specs.Find.{as_str};
+ghost use Rattle.serde_json.specs.Read.{read};
+ghost use Rattle.mcv_faults.specs.TextPlace.{IsPlaceIn, IsSaidAt};
 
 use crate::place::{TextPlace, place_at};
 use crate::pointer::{escaped_byte, is_escape};
-use mcv_spans::{Located, locate};
+use mcv_spans::{Located, Span, locate};
+use serde_json::Value;
 use std::alloc::{AllocError, Global};
 use std::str::from_utf8;
 
@@ -18,7 +21,8 @@ pub struct Standing {
 
 /// Where the value at a fault's path stands in the text; None where it isn't there.
 pub fn standing_of(alloc: Global, text: &[u8], path: &[u8]) -> Result<Option<Standing>, AllocError>
-    ensures { IfOk result (λ found. IfSome found (λ standing. IsPlaceIn text.now (standing.place.line, standing.place.column))) }
+    ensures place { IfOk result (λ found. IfSome found (λ s. IsPlaceIn text.now (s.place.line, s.place.column))) }
+    ensures said { IfOk result (λ found. IfSome found (λ s. IsSaidAt text.now (s.place.line, s.place.column) (option_map string_bytes s.text))) }
 {
     let Some(root) = locate(alloc, text)? else {
         return Ok(None);
@@ -26,16 +30,42 @@ pub fn standing_of(alloc: Global, text: &[u8], path: &[u8]) -> Result<Option<Sta
     let Some(value) = value_at(alloc, &root, path)? else {
         return Ok(None);
     };
-    let start = value.span().start;
-    if start > text.len() {
+    let Span { start, end } = value.span();
+    if start > end || end > text.len() {
         return Ok(None);
     }
-    let place = place_at(text, start);
-    let text = match value.text() {
-        Some(text) => Some(String::from_str(alloc, text)?),
-        None => None,
-    };
-    Ok(Some(Standing { place, text }))
+    let said = text_of(alloc, value, &text[start..end])?;
+    Ok(Some(Standing {
+        place: place_at(text, start),
+        text: said,
+    }))
+}
+
+/// The text that a value is, as its bytes read; None where it is no text.
+fn text_of(alloc: Global, value: &Located, bytes: &[u8]) -> Result<Option<String>, AllocError>
+    ensures { IfOk result (λ said. IfSome said (λ s. option_and_then as_str (read bytes.now) ≡ Some (string_bytes s))) }
+{
+    if value.text().is_none() {
+        return Ok(None);
+    }
+    match Value::from_slice(alloc, bytes) {
+        Ok(read) => copied(alloc, read.as_str()),
+        Err(fault) => {
+            if fault.is_memory() {
+                return Err(AllocError);
+            }
+            Ok(None)
+        }
+    }
+}
+
+fn copied(alloc: Global, text: Option<&str>) -> Result<Option<String>, AllocError>
+    ensures { IfOk result (λ copy. option_map string_bytes copy ≡ option_map (λ t. t.now) text.entry) }
+{
+    match text {
+        Some(text) => Ok(Some(String::from_str(alloc, text)?)),
+        None => Ok(None),
+    }
 }
 
 /// The value at a path.

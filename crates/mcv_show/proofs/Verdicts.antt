@@ -1,7 +1,10 @@
 -- What is shown of routes, by what was found of them.
-use Rattle.std.proofs.Common.{◌≡◌, ◌++◌, ℕ, Bool, true, false, List, Option, None, Some, length, refl, subst, sym}
+use Rattle.std.proofs.Common.{◌≡◌, ◌∙◌, ◌++◌, ℕ, Bool, true, false, List, Option, None, Some, ap, length, refl, subst, sym}
+use Rattle.std.specs.List.{All}
 use Rattle.serde_json.specs.Data.{Data}
 use Rattle.mcv_cert.specs.Pair.{CertificateValue}
+use Rattle.mcv_certify.specs.PickedReasons.{IsPickedOf}
+use Rattle.mcv_draw.specs.Element.{ElementValue}
 use Rattle.mcv_explain.specs.Explanation.{explanation}
 use Rattle.mcv_explain.specs.Scene.{SceneValue}
 use Rattle.mcv_input.specs.declared.fault.RunFault.{RunFault}
@@ -11,14 +14,16 @@ use Rattle.mcv_report.specs.FindingReport.{lost_report}
 use Rattle.mcv_report.specs.Json.{IsJsonOf}
 use Rattle.mcv_route.specs.Eras.{IsBreakTable, breaks_of}
 use Rattle.mcv_route.specs.Routes.{RoutesValue}
+use Rattle.mcv_show.specs.Drawing.{AreElementsOf, IsDrawnOf, IsFoundIn, IsPictureOf}
 use Rattle.mcv_show.specs.Shown.{IsCoveredText, IsLostText, IsShownOf, covered_text, if_explained, is_made, scene}
 use Rattle.mcv_verdict.specs.Fault.{IsRefusedFor}
-use Rattle.mcv_verdict.specs.Verdict.{IsJudgedFor}
+use Rattle.mcv_verdict.specs.Text.{covered_line}
+use Rattle.mcv_verdict.specs.Verdict.{AreCoveredBy, IsJudgedFor, IsLossBy}
 use Rattle.mcv_verdict.specs.declared.verdict.Judged.{Judged}
 use Rattle.mcv_verdict.specs.declared.verdict.Judged.TheVariants as judged
 use Rattle.mcv_verdict.specs.declared.verdict.Verdict.{Verdict}
 use Rattle.mcv_verdict.specs.declared.verdict.Verdict.TheVariants.{Covered, Lost}
-use Rattle.mcv_witness.specs.Finding.{finding_of}
+use Rattle.mcv_witness.specs.Finding.{FindingValue, finding_of}
 use Rattle.mcv_witness.specs.Text.{finding_text}
 use Rattle.mcv_witness.specs.declared.finding.Finding.{Finding}
 use Rattle.mcv_words.specs.declared.options.CheckOptions.{CheckOptions}
@@ -71,3 +76,21 @@ shown_covered o d r routes None c v table text found is breaks said =
 shown_covered o d r routes (Some certificate) c v table text found is breaks said =
     subst (λ (w : Verdict). IsShownOf o d r (Some certificate) w text) (sym is)
     (table, subst (λ (x : RoutesValue). IsBreakTable (breaks_of x) table) found.0 breaks, (c, found.2, found.1, refl, said))
+
+-- ---- pictures
+
+pub drawn_covered : (dot : Bool) (r routes : RoutesValue) (c : CertificateValue) (n : ℕ) (said text : List ℕ) (es : List ElementValue) → routes ≡ r → AreCoveredBy r c
+    → All (IsPickedOf r) c.pairs → n ≡ length c.pairs → said ≡ covered_line n → AreElementsOf routes es → IsPictureOf dot es said text → IsDrawnOf dot r (Covered n) text
+drawn_covered dot r routes c n said text es same by picked count is of picture =
+    (c, by, picked, count, es, subst (λ (x : RoutesValue). AreElementsOf x es) same of, subst (λ (t : List ℕ). IsPictureOf dot es t text) is picture)
+
+pub drawn_lost : (dot : Bool) (r routes : RoutesValue) (f : FindingValue) (said text : List ℕ) (es : List ElementValue) → routes ≡ r → IsLossBy r f → said ≡ finding_text routes f
+    → AreElementsOf routes es → All (IsFoundIn f) es → IsPictureOf dot es said text → IsDrawnOf dot r Lost text
+drawn_lost dot r routes f said text es same loss is of marked picture = (
+  f,
+  loss,
+  es,
+  subst (λ (x : RoutesValue). AreElementsOf x es) same of,
+  marked,
+  subst (λ (t : List ℕ). IsPictureOf dot es t text) (is ∙ ap (λ (x : RoutesValue). finding_text x f) same) picture,
+)

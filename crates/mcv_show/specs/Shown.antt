@@ -9,7 +9,7 @@ use Rattle.mcv_certify.specs.PickedReasons.{IsPickedOf}
 use Rattle.mcv_explain.specs.Compared.{compared}
 use Rattle.mcv_explain.specs.Explanation.{explanation}
 use Rattle.mcv_explain.specs.Scene.{SceneValue}
-use Rattle.mcv_faults.specs.TextPlace.{IsPlaceIn}
+use Rattle.mcv_faults.specs.TextPlace.{IsPlaceIn, IsSaidAt}
 use Rattle.mcv_input.specs.Fault.{AreNamedBy}
 use Rattle.mcv_input.specs.declared.fault.RunFault.{RunFault}
 use Rattle.mcv_input.specs.declared.fault.RunFault.TheVariants as faults
@@ -101,6 +101,11 @@ IsVerdictAs o input certificate verdict text = IsVerdictIf (is_plain o) o input 
 abbrev pub IsPlaceOf : (input : List ℕ) → Option (ℕ × ℕ) → Type 0
 IsPlaceOf input None = Unit {0}
 IsPlaceOf input (Some place) = IsPlaceIn input place
+
+-- the text at fault, where one is said, stands there
+abbrev pub IsSaidOf : (input : List ℕ) → Option (ℕ × ℕ) → (said : Option (List ℕ)) → Type 0
+IsSaidOf input None said = said ≡ None
+IsSaidOf input (Some place) said = IsSaidAt input place said
 
 -- the text reports a fault of the configuration or of the certificate; of another fault there is no report
 abbrev pub IsFaultText : (input : List ℕ) → RunFault → (text : List ℕ) → Type 0

@@ -2,7 +2,7 @@
 
 ghost use Rattle.std.specs.Prelude.{◌≡◌, ◌≢◌, ◌==◌, ◌++◌, ℕ, List, None, IfErr, IfOk, IfSome, OnOk, map};
 ghost use Rattle.std.specs.Io.KnownBytes.{Appends};
-ghost use Rattle.std.specs.List.{slice_split};
+ghost use Rattle.std.specs.List.{flat_map, slice_split};
 ghost use Rattle.mcv_draw.specs.Element.{ElementValue, element_of};
 ghost use Rattle.mcv_draw.specs.Svg.{svg};
 ghost use Rattle.mcv_show.specs.Drawing.{AreElementsOf, IsDrawnOf, IsDrawnOn, IsPictureOf, if_line, note_lines};
@@ -148,11 +148,19 @@ fn lines_of(alloc: Global, text: &[u8]) -> Result<Vec<Vec<u8>>, AllocError>
     ensures { IfOk result (λ lines. map (λ l. l.items) lines.items ≡ note_lines text.now) }
 {
     let parts = parts_of(alloc, text)?;
-    let mut lines = Vec::with_capacity(alloc, parts.len())?;
-    for part in parts.as_slice() {
-        push_line(alloc, &mut lines, *part)?;
-    }
+    let mut lines = Vec::new(alloc);
+    push_lines(alloc, &mut lines, parts.as_slice())?;
     Ok(lines)
+}
+
+/// Adds lines, but for empty ones.
+fn push_lines(alloc: Global, lines: &mut Vec<Vec<u8>>, parts: &[&[u8]]) -> Result<(), AllocError>
+    ensures { OnOk result (map (λ l. l.items) lines.new.items ≡ map (λ l. l.items) lines.old.items ++ flat_map if_line (map (λ p. p.now) parts.entry.now)) }
+{
+    for part in parts {
+        push_line(alloc, lines, *part)?;
+    }
+    Ok(())
 }
 
 /// The parts of a text between line feeds.

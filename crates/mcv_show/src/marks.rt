@@ -96,12 +96,7 @@ fn lost(
 fn unmarked(alloc: Global) -> Marks
     ensures { AreUnmarked (marks_of result) }
 {
-    Marks::new(
-        Vec::new(alloc),
-        Vec::new(alloc),
-        Vec::new(alloc),
-        None,
-    )
+    Marks::new(Vec::new(alloc), Vec::new(alloc), Vec::new(alloc), None)
 }
 
 /// The positions of the legs that answer the finding's delete and its get.
@@ -173,7 +168,11 @@ fn push_reached(
 }
 
 /// Adds the positions of legs.
-fn push_sent(alloc: Global, positions: &mut Vec<Position>, legs: &[Leg<'_>]) -> Result<(), AllocError> {
+fn push_sent(
+    alloc: Global,
+    positions: &mut Vec<Position>,
+    legs: &[Leg<'_>],
+) -> Result<(), AllocError> {
     for leg in legs {
         positions.push(leg.position.copy(alloc)?)?;
     }

@@ -10,7 +10,7 @@ abbrev pub invariant-loop-next : goal.invariant-loop-next
 invariant-loop-next l = record {
   drawn : map place_of l.elements.items ++ map (λ p. (l.drawing.number, p)) (still_drawn (map handle_of l.pending.items))
       ≡ map place_of l.fn.elements.items ++ map (λ p. (l.drawing.number, p)) (drawn [] (view l.route));
-  marked : AreMarkedBy l.drawing.number (marks_of l.drawing.marks.now) l.fn.elements.items l.elements.items
+  marked : AreMarkedBy l.drawing.number (marks_of l.drawing.marks.now) l.fn.elements.items l.elements.items;
 }
 
 abbrev pub decreases-loop-next : goal.decreases-loop-next

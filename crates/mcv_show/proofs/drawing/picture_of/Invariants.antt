@@ -9,7 +9,7 @@ use Rattle.mcv_show.proofs.drawing.picture_of.Given as goal
 abbrev pub invariant-loop-route : goal.invariant-loop-route
 invariant-loop-route l = record {
   drawn : map place_of l.list.items ++ drawn_from l.number (drop l.number l.routes.entries) ≡ drawn_from 0 l.routes.entries;
-  marked : AreMarkedFor l.found (map element_of l.list.items)
+  marked : AreMarkedFor l.found (map element_of l.list.items);
 }
 
 abbrev pub decreases-loop-route : goal.decreases-loop-route
