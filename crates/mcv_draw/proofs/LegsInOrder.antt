@@ -3,6 +3,7 @@ use Rattle.std.proofs.Common.{◌≡◌, ◌∙◌, ◌<◌, ◌≤◌, ℕ, zer
 use Rattle.std.specs.Prelude.{bytes_eq, nat_eq, slice_get}
 use Rattle.std.specs.List.{list_any, starts_with}
 use Rattle.std.specs.List.Sorted.{IsPartitionPoint, IsPartitionedBy, IsSorted}
+use Rattle.std.specs.Option.{option_map_or}
 use Rattle.std.specs.Ordering.{is_lt, nat_cmp, ordering_index}
 use Rattle.std.specs.declared.cmp.Ordering.{Ordering}
 use Rattle.std.specs.declared.cmp.Ordering.TheVariants.{Less, Equal, Greater}
@@ -85,10 +86,6 @@ is_kept p q x low high is = neither_before p q low (rw (same_steps x p is) at hi
 
 -- ---- a search
 
-abbrev pub of_next : (List ℕ → Bool) → Option (List ℕ) → Bool
-of_next test None = false
-of_next test (Some leg) = test leg
-
 none_at : (xs : List (List ℕ)) (i : ℕ) → slice_get xs i ≡ None → length xs ≤ i
 none_at [] i none = omega arith
 none_at (x ∷ xs) zero none = absurd (let h : ⊥ = cc in h)
@@ -107,7 +104,7 @@ turned false b means no = refl
 -- come before the position
 any_next : (test : List ℕ → Bool) (xs : List (List ℕ)) (p : List ℕ) (i : ℕ) (next : Option (List ℕ)) → slice_get xs i ≡ next → IsSorted list_cmp xs
     → IsPartitionPoint (λ leg. is_lt (list_cmp leg p) ≡ true) (λ leg. is_lt (list_cmp leg p) ≡ false) xs i → ((x : List ℕ) → test x ≡ true → is_lt (list_cmp x p) ≡ false)
-    → ((q x : List ℕ) → is_lt (list_cmp q p) ≡ false → is_lt (list_cmp x q) ≡ false → test x ≡ true → test q ≡ true) → list_any test xs ≡ of_next test next
+    → ((q x : List ℕ) → is_lt (list_cmp q p) ≡ false → is_lt (list_cmp x q) ≡ false → test x ≡ true → test q ≡ true) → list_any test xs ≡ option_map_or test next false
 any_next test xs p i None is sorted parted behind kept =
     let past = none_at xs i is in
     list_any_none test xs
@@ -130,11 +127,11 @@ any_next test xs p i (Some q) is sorted parted behind kept = go (test q) refl
     go false no = list_any_none test xs (fails no)
 
 pub next_leads : (xs : List (List ℕ)) (p : List ℕ) (i : ℕ) (next : Option (List ℕ)) → slice_get xs i ≡ next → IsSorted list_cmp xs
-    → IsPartitionPoint (λ leg. is_lt (list_cmp leg p) ≡ true) (λ leg. is_lt (list_cmp leg p) ≡ false) xs i → leads_to xs p ≡ of_next (λ leg. starts_with nat_eq leg p) next
+    → IsPartitionPoint (λ leg. is_lt (list_cmp leg p) ≡ true) (λ leg. is_lt (list_cmp leg p) ≡ false) xs i → leads_to xs p ≡ option_map_or (λ leg. starts_with nat_eq leg p) next false
 next_leads xs p i next is sorted parted = any_next (λ leg. starts_with nat_eq leg p) xs p i next is sorted parted (goes_on p) (between p)
 
 pub next_is : (xs : List (List ℕ)) (p : List ℕ) (i : ℕ) (next : Option (List ℕ)) → slice_get xs i ≡ next → IsSorted list_cmp xs
-    → IsPartitionPoint (λ leg. is_lt (list_cmp leg p) ≡ true) (λ leg. is_lt (list_cmp leg p) ≡ false) xs i → is_one_of xs p ≡ of_next (λ leg. bytes_eq leg p) next
+    → IsPartitionPoint (λ leg. is_lt (list_cmp leg p) ≡ true) (λ leg. is_lt (list_cmp leg p) ≡ false) xs i → is_one_of xs p ≡ option_map_or (λ leg. bytes_eq leg p) next false
 next_is xs p i next is sorted parted = any_next (λ leg. bytes_eq leg p) xs p i next is sorted parted (is_behind p) (is_kept p)
 
 least : (o u : Ordering) → ordering_index o ≤ ordering_index u → is_lt u ≡ true → is_lt o ≡ true

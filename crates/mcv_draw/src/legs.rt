@@ -1,7 +1,9 @@
 //! Legs by their positions.
 
-ghost use Rattle.std.specs.Prelude.{◌≡◌, Bool, false, true};
+ghost use Rattle.std.specs.Prelude.{◌≡◌, false, true, bytes_eq, nat_eq, option_map, slice_get};
+ghost use Rattle.std.specs.List.{starts_with};
 ghost use Rattle.std.specs.List.Sorted.{IsPartitionPoint, IsPermutation, IsSorted};
+ghost use Rattle.std.specs.Option.{option_map_or};
 ghost use Rattle.std.specs.Ordering.{is_lt};
 ghost use Rattle.mcv_cert.specs.Place.{list_cmp};
 
@@ -36,11 +38,27 @@ impl Legs {
             .partition_point(|leg| comes_before(leg, steps))
     }
 
+    /// The leg of a number.
+    fn at(&self, number: usize) -> Option<&Position>
+        ensures { option_map (λ leg. leg.now) result ≡ slice_get self.now.positions.items number }
+    {
+        self.positions.get(number)
+    }
+
+    /// The first of the legs that doesn't come before a position.
+    fn next(&self, steps: &[usize]) -> Option<&Position>
+        ensures leads { leads_to self.now.positions.items steps.now ≡ option_map_or (λ leg. starts_with nat_eq leg steps.now) (option_map (λ leg. leg.now) result) false }
+        ensures is { is_one_of self.now.positions.items steps.now ≡ option_map_or (λ leg. bytes_eq leg steps.now) (option_map (λ leg. leg.now) result) false }
+    {
+        let number = self.count_before(steps);
+        self.at(number)
+    }
+
     /// Whether one of the legs is at a position or below it.
     pub(crate) fn lead_to(&self, steps: &[usize]) -> bool
         ensures { result ≡ leads_to self.now.positions.items steps.now }
     {
-        match self.positions.get(self.count_before(steps)) {
+        match self.next(steps) {
             Some(leg) => leg.steps().starts_with(steps),
             None => false,
         }
@@ -50,7 +68,7 @@ impl Legs {
     pub(crate) fn has(&self, steps: &[usize]) -> bool
         ensures { result ≡ is_one_of self.now.positions.items steps.now }
     {
-        match self.positions.get(self.count_before(steps)) {
+        match self.next(steps) {
             Some(leg) => leg.steps() == steps,
             None => false,
         }
