@@ -1,5 +1,5 @@
 -- How the program ends: its exit status, and what it says on standard error where it stops early (own).
-use Rattle.std.specs.Prelude.{ℕ, ◌++◌, Result, Ok, Err, codes}
+use Rattle.std.specs.Prelude.{◌≡◌, ℕ, ◌++◌, Option, Result, Ok, Err, codes}
 use Rattle.clap.specs.Words.{Text}
 use Rattle.mcv_faults.specs.FaultLine.{fault_line}
 use Rattle.mcv_input.specs.Fault.{run_fault_status, run_fault_text}
