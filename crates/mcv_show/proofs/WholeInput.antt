@@ -1,5 +1,5 @@
 -- What is said of the first bytes of an input is said of all of it.
-use Rattle.std.proofs.Common.{◌≡◌, ◌∙◌, ◌⊎◌, inl, inr, ◌+◌, ◌<◌, ◌≤◌, ℕ, Bool, List, Option, Some, None, ap, arith, length, take, subst, sym}
+use Rattle.std.proofs.Common.{◌≡◌, ◌≢◌, ◌∙◌, ◌⊎◌, inl, inr, ◌+◌, ◌<◌, ◌≤◌, ℕ, Bool, List, Option, Some, None, ap, arith, length, take, subst, sym}
 use Rattle.std.specs.Prelude.{count_by, ◌==◌}
 use Rattle.std.proofs.lemmas.List.{length-take, take-take}
 use Rattle.mcv_config.specs.Config.{Faulty, size_limit}
@@ -82,3 +82,8 @@ pub reported_fault : (input : List ℕ) (window : ℕ) (certificate : Option (Li
 reported_fault input window certificate fault found (inl same) is = subst (λ (f : RunFault). IsRunFault input window certificate f) (sym same) is
 reported_fault input window certificate fault found (inr (inl memory)) is = subst (λ (f : RunFault). IsRunFault input window certificate f) (sym memory) tt
 reported_fault input window certificate fault found (inr (inr device)) is = subst (λ (f : RunFault). IsRunFault input window certificate f) (sym device) tt
+
+-- what is no fault of what was read came from outside
+pub not_outside : (fault : RunFault) → IsOutside fault → fault ≢ Memory → fault ≢ Device → ⊥
+not_outside fault (inl memory) no_memory no_device = no_memory memory
+not_outside fault (inr device) no_memory no_device = no_device device

@@ -78,13 +78,38 @@ fn run_shown<R: Read, W: Write>(
         × IfSome (R.remaining reader.old) (λ input. IsFaultText input fault text) × Appends (W.contents writer.old) (W.contents writer.new) text) }
 {
     let input = read_text(alloc, reader)?;
-    match shown(alloc, input.as_slice(), certificate, options) {
-        Ok(shown) => {
-            write_text(writer, shown.text.as_slice())?;
-            Ok(shown.verdict)
-        }
-        Err(fault) => Err(report_fault(alloc, writer, input.as_slice(), fault, options.json)),
+    write_shown(alloc, writer, input.as_slice(), certificate, options)
+}
+
+/// Writes the verdict on a configuration's text, or the report on a fault where it is asked for.
+fn write_shown<W: Write>(
+    alloc: Global,
+    writer: &mut W,
+    input: &[u8],
+    certificate: Option<&[u8]>,
+    options: CheckOptions,
+) -> Result<Verdict, RunFault>
+    ensures ok { IfOk result (λ verdict. (text : List ℕ)
+        × IsShownOn options input.now (option_map (λ given. given.now) certificate.entry) verdict text
+        × Appends (W.contents writer.old) (W.contents writer.new) text) }
+    ensures fault { IfErr result (IsRunFault input.now options.window.seconds (option_map (λ given. given.now) certificate.entry)) }
+    ensures silent { options.json ≡ false → IfErr result (λ fault. fault ≢ RunFault.Device → W.contents writer.new ≡ W.contents writer.old) }
+    ensures reported { options.json ≡ true → IfErr result (λ fault. fault ≢ RunFault.Memory → fault ≢ RunFault.Device → (text : List ℕ)
+        × IsFaultText input.now fault text × Appends (W.contents writer.old) (W.contents writer.new) text) }
+{
+    match shown(alloc, input, certificate, options) {
+        Ok(output) => write_output(writer, output),
+        Err(fault) => Err(report_fault(alloc, writer, input, fault, options.json)),
     }
+}
+
+/// Writes the text of a verdict.
+fn write_output<W: Write>(writer: &mut W, output: Output) -> Result<Verdict, RunFault>
+    ensures ok { IfOk result (λ verdict. (verdict ≡ output.verdict) × Appends (W.contents writer.old) (W.contents writer.new) output.text.items) }
+    ensures fault { IfErr result (λ fault. fault ≡ RunFault.Device) }
+{
+    write_text(writer, output.text.as_slice())?;
+    Ok(output.verdict)
 }
 
 /// Writes the report on a fault, where it is asked for; the answer is the fault, or the one that came in writing it.
