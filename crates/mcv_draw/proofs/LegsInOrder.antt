@@ -1,5 +1,5 @@
 -- A search among legs that are in the order of their steps finds one that is at a position, or below it, where there is one.
-use Rattle.std.proofs.Common.{◌≡◌, ◌∙◌, ◌<◌, ◌≤◌, ℕ, zero, suc, Bool, true, false, List, [], ◌∷◌, Option, Some, None, arith, get_or, length, refl, sym, true≢false}
+use Rattle.std.proofs.Common.{◌≡◌, ◌∙◌, ◌<◌, ◌≤◌, ℕ, zero, suc, Bool, true, false, List, [], ◌∷◌, Option, Some, None, arith, get_or, inl, inr, length, refl, sym, true≢false}
 use Rattle.std.specs.Prelude.{bytes_eq, nat_eq, slice_get}
 use Rattle.std.specs.List.{list_any, starts_with}
 use Rattle.std.specs.List.Sorted.{IsPartitionPoint, IsPartitionedBy, IsSorted}
@@ -111,11 +111,10 @@ any_next test xs p i None is sorted parted behind kept =
     (λ k d low. turned (test (get_or xs k d)) false (λ holds. sym (behind (get_or xs k d) holds) ∙ parted.0 k d (omega arith) (omega (arith, past))) refl)
 any_next test xs p i (Some q) is sorted parted behind kept = go (test q) refl
   where
-    rank = ranks_by nat_list_cmp_total (λ (x : List ℕ). x)
-
     fails : test q ≡ false → (k : ℕ) (d : List ℕ) → k < length xs → test (get_or xs k d) ≡ false
     fails no k d low =
         let here = some_at xs i q d is in
+        let rank = ranks_by nat_list_cmp_total (λ (x : List ℕ). x) in
         elim (cases_lt k i) [
           | inl before ↦ turned (test (get_or xs k d)) false (λ holds. sym (behind (get_or xs k d) holds) ∙ parted.0 k d (omega arith) before) refl
           | inr after ↦ turned (test (get_or xs k d)) (test q)
