@@ -89,7 +89,7 @@ fn lost(
     }
     let shown = answering(alloc, finding)?;
     let leaf = finding.place.leaf.copy(alloc)?;
-    let Reach { deletes, readable } = reach(alloc, routes, finding)?;
+    let Reached { deletes, readable } = reach(alloc, routes, finding)?;
     Ok(Marks::new(deletes, readable, shown, Some(leaf)))
 }
 
@@ -125,14 +125,14 @@ fn push_answered(
 
 /// What deletes and gets of a finding's keys reach, by the positions of legs.
 #[derive(Drop)]
-struct Reach {
+struct Reached {
     deletes: Vec<Position>,
     readable: Vec<Position>,
 }
 
 /// For the finding's keys and its eras, the legs that each delete that has a reply has sent, beside those that answered,
 /// and the leaves that can be read.
-fn reach(alloc: Global, routes: &Routes, finding: &Finding) -> Result<Reach, AllocError> {
+fn reach(alloc: Global, routes: &Routes, finding: &Finding) -> Result<Reached, AllocError> {
     let mut deletes = Vec::new(alloc);
     let mut readable = Vec::new(alloc);
     push_answered(alloc, &mut deletes, finding.deletes.as_slice())?;
@@ -146,7 +146,7 @@ fn reach(alloc: Global, routes: &Routes, finding: &Finding) -> Result<Reach, All
             &finding.place,
         )?;
     }
-    Ok(Reach { deletes, readable })
+    Ok(Reached { deletes, readable })
 }
 
 fn push_reached(

@@ -13,7 +13,7 @@ key `a` reach? Serve clients at port 5000.
 
   mcv check < mcrouter.json
   (echo 'delete a'; cat mcrouter.json) | mcv legs
-  mcv run --listen 127.0.0.1:5000 --spool mcv.spool --server-timeout 1000 \
+  mcv run --listen 127.0.0.1:5000 --spool mcv.spool --server-timeout 1000 \\
     < mcrouter.json
 
 Exit status:
@@ -96,8 +96,8 @@ blue what a get can be answered by: for the finding's keys, or where it is
 covered, by the certificate. Handles with more than 60 children
 are folded. The exit status is 0 in both cases.";
 
-pub(crate) const WINDOW: &str = "How many seconds may lie between a delete and a get,
-from 0 to 4294967295";
+pub(crate) const WINDOW: &str = "How many seconds may lie between a delete and a
+get, from 0 to 4294967295";
 
 pub(crate) const CHECK_FORM: &str =
     "Standard input has the configuration as JSON; `mcv legs --help` says which route
@@ -212,7 +212,7 @@ where it can lose a delete, standard output has the finding and the exit status
 is 3. Only then is the address bound, and the spool file opened, or made where
 there is none.
 
-  mcv run --listen 127.0.0.1:5000 --spool mcv.spool --server-timeout 1000 \
+  mcv run --listen 127.0.0.1:5000 --spool mcv.spool --server-timeout 1000 \\
     < mcrouter.json
 
 Clients send requests of memcached's text protocol to the address. Standard
