@@ -44,7 +44,7 @@ abbrev pub opened_at : (table : List ℕ) → (era : ℕ) → Option ℕ
 opened_at table zero = None
 opened_at table (suc k) = slice_get table k
 
--- class, key and salt are escaped as in the text of a finding. Of the delete's era `from` is the moment at which it begins, `until` the one at which it is over; of the read's `get_from` and `get_until`
+-- class, key and salt are escaped as a class word is. Of the delete's era `from` is the moment at which it begins, `until` the one at which it is over; of the read's `get_from` and `get_until`
 abbrev pub finding_report : SceneValue → (table : List ℕ) → Data
 finding_report s table = object_from (
     (codes "class", text_from (escaped s.finding.place.spot.class))
