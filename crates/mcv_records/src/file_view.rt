@@ -15,11 +15,13 @@ pub struct FileView {
 }
 
 impl FileView {
-    /// Opens the file of this name, which has to be there.
+    /// Opens the file of this name, which has to be there. What is no file, as a folder, is an error.
     pub fn open<R: Files<File = File>>(rt: &R, path: &str) -> io::Result<FileView> {
-        Ok(FileView {
-            file: File::open(rt, path)?,
-        })
+        let file = File::open(rt, path)?;
+        if !file.metadata()?.is_file() {
+            return Err(io::Error::from(io::ErrorKind::InvalidInput));
+        }
+        Ok(FileView { file })
     }
 }
 
