@@ -15,7 +15,9 @@ fn push_slot(file: &mut Vec<u8>, slot: &[u8]) -> Result<(), AllocError> {
 }
 
 const PENDING: &[u8] = b"\x01\x00\x00\x07\x00\x01a:11211a";
+
 const DONE: &[u8] = b"\x01\x01\x00\x07\x00\x03b:11211x%\xff";
+
 const DAMAGED: &[u8] = b"\x01\x00\x00\x07\x00\x00c:11211";
 
 /// A file of these slots and its end.
@@ -43,7 +45,10 @@ fn check_spool(
         Err(stop) => stop.status(),
     };
     let text = String::from_utf8(written).expect(rt, "a text");
-    assert!(rt; is_written(text.as_str(), wanted, found, status), "{found} {text}");
+    assert!(rt;
+        is_written(text.as_str(), wanted, found, status),
+        "{found} {text}"
+    );
 }
 
 #[test]
@@ -71,13 +76,22 @@ fn records_are_shown(rt: HostRuntime) {
 #[test]
 fn a_damaged_slot_ends_the_text(rt: HostRuntime) {
     let words = ["mcv", "spool", "a.cert"];
-    check_spool(&rt, &words, &[PENDING, DAMAGED, PENDING], "0 pending a:11211 a\n", 4);
+    check_spool(
+        &rt,
+        &words,
+        &[PENDING, DAMAGED, PENDING],
+        "0 pending a:11211 a\n",
+        4,
+    );
     let file = file_of(&rt, &[DAMAGED]);
     let mut written = Vec::new(rt.alloc());
     let stop = ran(rt.alloc(), &words, file.as_slice(), "", &mut written);
     let stop = stop.expect_err(&rt, "a stop");
     let text = format!(in rt.alloc(); "{stop}").expect(&rt, "memory");
-    assert!(rt; text.as_str() == "mcv: slot 0 of the spool is damaged", "{text}");
+    assert!(rt;
+        text.as_str() == "mcv: slot 0 of the spool is damaged",
+        "{text}"
+    );
 }
 
 #[test]

@@ -11,7 +11,7 @@ mod text;
 
 pub use metric::{ClientMetric, HubMetric, Kind, Metric, ServerMetric, SpoolMetric};
 pub use snapshot::{
-    ClientCounts, HubCounts, OperationCounts, OutcomeCounts, RefusalCounts, Refusal, ServerCounts,
+    ClientCounts, HubCounts, OperationCounts, OutcomeCounts, Refusal, RefusalCounts, ServerCounts,
     Snapshot, SpoolCounts,
 };
 pub use text::{CONTENT_TYPE, metrics_text};

@@ -41,11 +41,7 @@ fn push_count(text: &mut Vec<u8>, number: u64) -> Result<(), AllocError>
 }
 
 /// Adds a sample that has no label. On an error part of it may be there.
-pub(crate) fn push_plain(
-    text: &mut Vec<u8>,
-    metric: Metric,
-    number: u64,
-) -> Result<(), AllocError>
+pub(crate) fn push_plain(text: &mut Vec<u8>, metric: Metric, number: u64) -> Result<(), AllocError>
     ensures { OnOk result (text.new.items ≡ text.old.items ++ plain (metric_name metric) number) }
 {
     text.extend_from_slice(metric.name().as_bytes())?;

@@ -90,7 +90,11 @@ fn push_calls(text: &mut Vec<u8>, counts: &OperationCounts, ops: &[Op]) -> Resul
 }
 
 #[tactic(auto, using(mcv_base::proofs::Texts::flat_map_step))]
-fn push_replies(text: &mut Vec<u8>, counts: &OutcomeCounts, outcomes: &[Outcome]) -> Result<(), AllocError>
+fn push_replies(
+    text: &mut Vec<u8>,
+    counts: &OutcomeCounts,
+    outcomes: &[Outcome],
+) -> Result<(), AllocError>
     ensures { OnOk result (text.new.items ≡ text.old.items ++ flat_map (reply_sample counts.now) outcomes.now) }
 {
     for outcome in outcomes {
@@ -104,7 +108,11 @@ fn push_replies(text: &mut Vec<u8>, counts: &OutcomeCounts, outcomes: &[Outcome]
 }
 
 #[tactic(auto, using(mcv_base::proofs::Texts::flat_map_step))]
-fn push_refusals(text: &mut Vec<u8>, counts: &RefusalCounts, refusals: &[Refusal]) -> Result<(), AllocError>
+fn push_refusals(
+    text: &mut Vec<u8>,
+    counts: &RefusalCounts,
+    refusals: &[Refusal],
+) -> Result<(), AllocError>
     ensures { OnOk result (text.new.items ≡ text.old.items ++ flat_map (refusal_sample counts.now) refusals.now) }
 {
     for refusal in refusals {
@@ -118,7 +126,11 @@ fn push_refusals(text: &mut Vec<u8>, counts: &RefusalCounts, refusals: &[Refusal
 }
 
 #[tactic(auto, using(mcv_base::proofs::Texts::flat_map_step))]
-fn push_servers(text: &mut Vec<u8>, metric: ServerMetric, servers: &[ServerCounts]) -> Result<(), AllocError>
+fn push_servers(
+    text: &mut Vec<u8>,
+    metric: ServerMetric,
+    servers: &[ServerCounts],
+) -> Result<(), AllocError>
     ensures { OnOk result (text.new.items ≡ text.old.items ++ flat_map (server_sample metric) servers.now) }
 {
     for server in servers {

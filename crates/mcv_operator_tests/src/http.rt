@@ -12,12 +12,36 @@ fn check(rt: &impl Abort, request: &[u8], wanted: Option<Result<Request, Refusal
 
 #[test]
 fn requests_are_answered(rt: HostRuntime) {
-    check(&rt, b"GET /metrics HTTP/1.1\r\nHost: a\r\n\r\n", Some(Ok(Request::Metrics)));
-    check(&rt, b"GET /metrics?x=1 HTTP/1.1\r\n\r\n", Some(Ok(Request::Metrics)));
-    check(&rt, b"GET /health HTTP/1.0\r\n\r\n", Some(Ok(Request::Health)));
-    check(&rt, b"POST /drain HTTP/1.1\r\n\r\n", Some(Ok(Request::Drain(30))));
-    check(&rt, b"POST /drain?seconds=120 HTTP/1.1\r\n\r\n", Some(Ok(Request::Drain(120))));
-    check(&rt, b"POST /drain?seconds=0 HTTP/1.1\r\n\r\n", Some(Ok(Request::Drain(0))));
+    check(
+        &rt,
+        b"GET /metrics HTTP/1.1\r\nHost: a\r\n\r\n",
+        Some(Ok(Request::Metrics)),
+    );
+    check(
+        &rt,
+        b"GET /metrics?x=1 HTTP/1.1\r\n\r\n",
+        Some(Ok(Request::Metrics)),
+    );
+    check(
+        &rt,
+        b"GET /health HTTP/1.0\r\n\r\n",
+        Some(Ok(Request::Health)),
+    );
+    check(
+        &rt,
+        b"POST /drain HTTP/1.1\r\n\r\n",
+        Some(Ok(Request::Drain(30))),
+    );
+    check(
+        &rt,
+        b"POST /drain?seconds=120 HTTP/1.1\r\n\r\n",
+        Some(Ok(Request::Drain(120))),
+    );
+    check(
+        &rt,
+        b"POST /drain?seconds=0 HTTP/1.1\r\n\r\n",
+        Some(Ok(Request::Drain(0))),
+    );
 }
 
 #[test]
@@ -30,7 +54,11 @@ fn others_are_refused(rt: HostRuntime) {
     check(&rt, b"GET /metrics\r\n", bad);
     check(&rt, b"\x01", bad);
     check(&rt, b"GET / HTTP/1.1\r\n\r\n", Some(Err(Refusal::NotFound)));
-    check(&rt, b"GET /metrics/ HTTP/1.1\r\n\r\n", Some(Err(Refusal::NotFound)));
+    check(
+        &rt,
+        b"GET /metrics/ HTTP/1.1\r\n\r\n",
+        Some(Err(Refusal::NotFound)),
+    );
     let get = Some(Err(Refusal::MethodNotAllowed(Method::Get)));
     check(&rt, b"POST /metrics HTTP/1.1\r\n\r\n", get);
     check(&rt, b"get /health HTTP/1.1\r\n\r\n", get);
@@ -67,7 +95,8 @@ fn bytes_are_as_the_standard_has_them(rt: HostRuntime) -> Result<(), Fail> {
         body: b"no\n",
     };
     let bytes = response_bytes(rt.alloc(), refused)?;
-    let wanted = b"HTTP/1.1 405 Method Not Allowed\r\nAllow: GET\r\nContent-Type: text/plain\r\nContent-Length: 3\r\nConnection: close\r\n\r\nno\n";
+    let wanted =
+        b"HTTP/1.1 405 Method Not Allowed\r\nAllow: GET\r\nContent-Type: text/plain\r\nContent-Length: 3\r\nConnection: close\r\n\r\nno\n";
     assert_eq!(rt; bytes.as_slice(), wanted.as_slice());
     Ok(())
 }

@@ -1,10 +1,10 @@
 //! The text of what is counted, line by line.
 
+use mcv_base::ServerText;
 use mcv_metrics::{
     ClientCounts, HubCounts, OperationCounts, OutcomeCounts, RefusalCounts, ServerCounts, Snapshot,
     SpoolCounts, metrics_text,
 };
-use mcv_base::ServerText;
 use std::alloc::Global;
 use std::test::Fail;
 

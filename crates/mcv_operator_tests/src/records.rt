@@ -74,7 +74,9 @@ fn push_slot(bytes: &mut Vec<u8>, slot: &[u8]) -> Result<(), Fail> {
 }
 
 const PENDING_A: &[u8] = b"\x01\x00\x00\x07\x00\x01a:11211a";
+
 const DONE_B: &[u8] = b"\x01\x01\x00\x07\x00\x03b:11211x%\xff";
+
 const DAMAGED: &[u8] = b"\x01\x00\x00\x07\x00\x00c:11211";
 
 fn shown(alloc: Global, slots: &[&[u8]], shown: Shown) -> Result<(Vec<u8>, Option<u64>), Fail> {

@@ -46,7 +46,12 @@ struct Counts {
 }
 
 /// The line of a slot, or `Damaged`.
-fn slot_line(alloc: Global, shown: Shown, number: usize, slot: &[u8]) -> Result<Vec<u8>, RecordsFault>
+fn slot_line(
+    alloc: Global,
+    shown: Shown,
+    number: usize,
+    slot: &[u8],
+) -> Result<Vec<u8>, RecordsFault>
     requires { length slot.now ≡ 640 }
     ensures line { IfOk result (λ line. line.items ≡ slot_line shown number slot.now) }
     ensures sound { OnOk result (damage number (slot.now ∷ []) ≡ None) }

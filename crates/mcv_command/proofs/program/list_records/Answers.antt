@@ -44,5 +44,5 @@ returns-in-Err-clause-listed g c = λ slot is.
     listed_whole (g.F.NamedFiles.held c.args.files.now c.args.options.file.now) g.F.View.Disk.keeps_model seen
     (λ (file : List ℕ). (damage 0 (slots file) ≡ Some slot) × Appends old new (slot_lines shown 0 (take slot (slots file)))) c.in_ok-view.ensures.shows
     (λ model.
-        let listed = c.in-Err.ensures.damaged model slot (ap Err damaged) in
-        (listed.0, subst (λ (s : Shown). Appends old new (slot_lines s 0 (take slot (slots seen)))) c.shown_of.ensures listed.1))
+    let listed = c.in-Err.ensures.damaged model slot (ap Err damaged) in
+    (listed.0, subst (λ (s : Shown). Appends old new (slot_lines s 0 (take slot (slots seen)))) c.shown_of.ensures listed.1))

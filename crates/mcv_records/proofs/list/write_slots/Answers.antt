@@ -66,8 +66,8 @@ returns-in_err-is_pending-clause-damaged g c = λ model k h.
     let gone = err_from_is_err_and c.from_residual-in_err-is_pending.result c.from_residual-in_err-is_pending.ensures.1 in
     let bad = c.in_err-is_pending.ensures.damaged k (ap Err (sym gone.2 ∙ same_fault c.from_residual-in_err-is_pending.result gone.0 (Damaged k) gone.1 h)) in (
       slot_damaged c.args.shown file n c.loop-number.pending (g.W.Write.contents c.args.writer.now) (g.W.Write.contents c.loop-number.writer) (so_far.listed model)
-      (ap (λ f. is_open (drop (640 * n) f)) (sym same) ∙ sym (c.in_ok-is_there.ensures.counts model) ∙ c.if-not-is_there.false)
-      c.read_slot.new.slot (c.in_ok-is_there.ensures.slot model c.if-not-is_there.false ∙ ap (λ f. take 640 (drop (640 * n) f)) same) k bad.1,
+          (ap (λ f. is_open (drop (640 * n) f)) (sym same) ∙ sym (c.in_ok-is_there.ensures.counts model) ∙ c.if-not-is_there.false)
+          c.read_slot.new.slot (c.in_ok-is_there.ensures.slot model c.if-not-is_there.false ∙ ap (λ f. take 640 (drop (640 * n) f)) same) k bad.1,
       subst (λ w. Appends (g.W.Write.contents c.args.writer.now) (g.W.Write.contents w) (slot_lines c.args.shown 0 (take k (slots file)))) (sym bad.2)
-      (subst (λ m. Appends (g.W.Write.contents c.args.writer.now) (g.W.Write.contents c.loop-number.writer) (slot_lines c.args.shown 0 (take m (slots file)))) (sym bad.0) (so_far.listed model).lines),
+          (subst (λ m. Appends (g.W.Write.contents c.args.writer.now) (g.W.Write.contents c.loop-number.writer) (slot_lines c.args.shown 0 (take m (slots file)))) (sym bad.0) (so_far.listed model).lines),
     )
