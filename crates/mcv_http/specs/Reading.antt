@@ -2,6 +2,8 @@
 use Rattle.std.specs.Prelude.{◌≡◌, ℕ, ◌<◌, ◌≤◌, List, length, Option, Some, None, Result, Ok, Err}
 use Rattle.httparse.specs.Grammar.{HasNoRequest, MayBecomeRequest, NeverHasRequest, ReadsRequest, RequestHead}
 use Rattle.httparse.specs.Spans.{RequestExceeds, RequestOverflows}
+use Rattle.httparse.specs.declared.Error.{Error}
+use Rattle.httparse.specs.declared.Error.TheVariants.{TooManyHeaders}
 use Rattle.mcv_http.specs.Request.{answer}
 use Rattle.mcv_http.specs.declared.request.Request.{Request}
 use Rattle.mcv_http.specs.declared.request.Refusal.{Refusal}
@@ -27,6 +29,11 @@ pub data IsRefused (bytes : List ℕ) : Refusal → Type 0 where
   no_request : NeverHasRequest bytes → IsRefused bytes BadRequest
   too_many : RequestOverflows field_limit bytes → RequestExceeds field_limit bytes → IsRefused bytes TooLong
   too_long : byte_limit ≤ length bytes → HasNoRequest bytes → IsRefused bytes TooLong
+
+-- why bytes are refused that httparse doesn't read, by its error
+abbrev pub refusal_by : Error → Refusal
+refusal_by TooManyHeaders = TooLong
+refusal_by _ = BadRequest
 
 -- what is known from bytes: nothing yet, what they ask for, or why they are refused
 abbrev pub IsKnown : List ℕ → Option (Result Request Refusal) → Type 0

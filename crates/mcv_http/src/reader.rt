@@ -5,7 +5,7 @@ ghost use Rattle.httparse.specs.Grammar.{RequestHead};
 ghost use Rattle.httparse.specs.Spans.{IsRequestAt, IsRequestOf, IsWithin};
 ghost use Rattle.httparse.specs.declared.spans.HeaderSpan.{HeaderSpan};
 ghost use Rattle.mcv_http.specs.Request.{answer};
-ghost use Rattle.mcv_http.specs.Reading.{IsAnswered, IsKnown, byte_limit};
+ghost use Rattle.mcv_http.specs.Reading.{IsAnswered, IsKnown, byte_limit, refusal_by};
 
 use crate::request::{Refusal, Request, answer};
 use httparse::spans::{EMPTY_HEADER_SPAN, RequestSpans, parse_request};
@@ -31,6 +31,16 @@ fn answer_of(bytes: &[u8], head: RequestSpans) -> Result<Request, Refusal>
     answer(method, target)
 }
 
+/// Why bytes are refused that httparse doesn't read.
+fn refusal_by(error: Error) -> Refusal
+    ensures { result ≡ refusal_by error }
+{
+    match error {
+        Error::TooManyHeaders => Refusal::TooLong,
+        _ => Refusal::BadRequest,
+    }
+}
+
 /// What a request asks for or why it is refused, once that is known from these bytes.
 pub fn read_request(bytes: &[u8]) -> Option<Result<Request, Refusal>>
     ensures known { IsKnown bytes.now result }
@@ -46,8 +56,7 @@ pub fn read_request(bytes: &[u8]) -> Option<Result<Request, Refusal>>
                 Some(Err(Refusal::TooLong))
             }
         }
-        Err(Error::TooManyHeaders) => Some(Err(Refusal::TooLong)),
-        Err(_) => Some(Err(Refusal::BadRequest)),
+        Err(error) => Some(Err(refusal_by(error))),
     }
 }
 

@@ -13,7 +13,7 @@ key `a` reach? Serve clients at port 5000.
 
   mcv check < mcrouter.json
   (echo 'delete a'; cat mcrouter.json) | mcv legs
-  mcv run --listen 127.0.0.1:5000 --spool mcv.spool --server-timeout 1000 \
+  mcv run --listen 127.0.0.1:5000 --spool mcv.spool --server-timeout 1000 \\
     < mcrouter.json
 
 Exit status:
@@ -189,7 +189,7 @@ where it can lose a delete, standard output has the finding and the exit status
 is 3. Only then is the address bound, and the spool file opened, or made where
 there is none.
 
-  mcv run --listen 127.0.0.1:5000 --spool mcv.spool --server-timeout 1000 \
+  mcv run --listen 127.0.0.1:5000 --spool mcv.spool --server-timeout 1000 \\
     < mcrouter.json
 
 Clients send requests of memcached's text protocol to the address. Standard
@@ -234,9 +234,9 @@ pub(crate) const FILE: &str = "The file of the spool";
 pub(crate) const ALL: &str = "Deletes that are done, too";
 
 pub(crate) const SPOOL_FORM: &str =
-    "Standard output has a line for each record that is pending, in the order of their
-numbers, and a last one with the count of all records of the file and of the
-pending ones:
+    "Standard output has a line for each record that is pending, in the order of the
+records' numbers, and a last one with the count of all records of the file and
+of the pending ones:
 
   0 pending a:11211 a
   records 3 pending 1
