@@ -1,12 +1,10 @@
 //! The worker of the spool.
 
 ghost use Rattle.std.specs.Prelude.{◌≡◌, false, None, Some, IfErr, IfNone, IfOk, IfSome, OnErr, OnOk, is_some};
-ghost use Rattle.mcv_base.specs.Reply.{fixed_value, not_found};
-ghost use Rattle.mcv_base.specs.declared.reply.FixedReply.TheVariants.{Lost as lost_reply};
-ghost use Rattle.mcv_core.specs.CoreView.{refusing_at, spooling_at};
+ghost use Rattle.mcv_core.specs.Events.{IsRefusedLeg, IsSpooledLeg};
 ghost use Rattle.mcv_core.specs.Readers.{IsFirstHeld};
 ghost use Rattle.mcv_core.specs.View.{core_view};
-ghost use Rattle.mcv_hub.specs.State.{IsLegEvent};
+ghost use Rattle.mcv_hub.specs.Events.{IsHubEvent};
 ghost use Rattle.mcv_spool.specs.FoundFile.{IsFound};
 ghost use Rattle.mcv_proxy.specs.Flights.{IsRecordOf};
 ghost use Rattle.mcv_proxy.specs.Steps.{breaks_spool};
@@ -101,8 +99,8 @@ fn settle<B: Ledger, T: Ledger>(
     leg: LegId,
     outcome: Result<Stored, SpoolFault>,
 ) -> Result<Step, CoreFault>
-    ensures stored { IfOk outcome (λ stored. IsLegEvent (spooling_at (core_view guard.old.core) leg.0 stored.«record».server stored.«record».rest) not_found leg guard.old guard.new result) }
-    ensures refused { OnErr outcome (IsLegEvent (refusing_at (core_view guard.old.core) leg.0) (fixed_value lost_reply) leg guard.old guard.new result) }
+    ensures stored { IfOk outcome (λ stored. IsHubEvent (IsSpooledLeg (core_view guard.old.core) leg stored result) guard.old guard.new) }
+    ensures refused { OnErr outcome (IsHubEvent (IsRefusedLeg (core_view guard.old.core) leg result) guard.old guard.new) }
 {
     match outcome {
         Ok(stored) => spooled(agenda, guard, leg, stored),

@@ -156,6 +156,13 @@ further_leg_goes_by_the_calls_era = refl
 later_call_has_the_later_era : server_in (many Failover (two (server 4) (migrate (server 5) (server 7) 10 10))) (EraBegan (Some 30) ∷ begins Delete ∷ WasRefused 0 ∷ []) 1 ≡ Some 7
 later_call_has_the_later_era = refl
 
+-- an era begins only where another one was
+era_that_stays_does_not_begin : is_next (server 5) [] (EraBegan None) ≡ false
+era_that_stays_does_not_begin = refl
+
+another_era_begins : is_next (server 5) (EraBegan (Some 30) ∷ []) (EraBegan (Some 40)) ≡ true
+another_era_begins = refl
+
 -- a shadow's leg counts for nothing: it can be lost
 shadow_leg_is_not_counted : counted_in (with_shadow 5 9) (begins Delete ∷ []) 1 ≡ Some false
 shadow_leg_is_not_counted = refl
