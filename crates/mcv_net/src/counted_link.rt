@@ -1,9 +1,9 @@
 //! A link whose legs are counted.
 
-use crate::tally::{ServerTally, Tally};
 use mcv_base::{LegRequest, Reply};
 use mcv_hub::Pass;
 use mcv_proxy::{Link, LinkFault};
+use mcv_tally::{ServerTally, Tally};
 use std::sync::Arc;
 
 /// A link to a server, and where its legs are counted. It answers as the link does.
