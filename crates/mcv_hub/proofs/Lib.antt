@@ -5,3 +5,5 @@ mod EventsMayWrite
 mod Histories
 mod CheckedReceipts
 mod AskedCalls
+mod DueChapters
+mod AddedWeights
