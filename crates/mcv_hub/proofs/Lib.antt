@@ -7,3 +7,4 @@ mod CheckedReceipts
 mod AskedCalls
 mod DueChapters
 mod AddedWeights
+pub mod Books

@@ -18,3 +18,9 @@ one_more (suc hub) (n ∷ counts) = n ∷ one_more hub counts
 -- the same at each of the eight
 abbrev pub at_each : ℕ → List ℕ
 at_each n = n ∷ n ∷ n ∷ n ∷ n ∷ n ∷ n ∷ n ∷ []
+
+-- hub by hub, added up
+abbrev pub sums : List ℕ → List ℕ → List ℕ
+sums [] others = []
+sums (n ∷ counts) [] = []
+sums (n ∷ counts) (m ∷ others) = (n + m) ∷ sums counts others
