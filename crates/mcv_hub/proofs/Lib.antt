@@ -8,3 +8,4 @@ mod AskedCalls
 mod DueChapters
 mod AddedWeights
 pub mod Books
+mod Examples
