@@ -14,10 +14,10 @@ use std::sync::{Arc, Wait};
 use std::time::Duration;
 
 /// How long a call waits for the next chapter at most, in milliseconds.
-const PATIENCE: u64 = 1_000;
+const PATIENCE: u64 = 50;
 
-/// Begins a call for one key of the request, once a chapter takes it. What is left of an old chapter is dropped once the lock
-/// is let go.
+/// Begins a call for one key of the request. Where the next chapter is due it waits for that, and begins in the old one where
+/// that takes too long. What is left of an old chapter is dropped once the lock is let go.
 pub(crate) fn begin<B: Ledger, T: Ledger, R: Wait + Clock>(
     rt: &R,
     alloc: Global,
@@ -34,9 +34,6 @@ pub(crate) fn begin<B: Ledger, T: Ledger, R: Wait + Clock>(
     let (request, key) = asked;
     let guard = hub.lock(rt, pass);
     let (mut guard, gate) = hub.enter(rt, alloc, guard, Duration::from_millis(PATIENCE));
-    if gate.is_closed() {
-        return Err(CoreFault::ChapterFull);
-    }
     let begun = guard.begin(alloc, seat, request, key);
     drop(guard);
     if let Gate::Turned(_past) = gate {

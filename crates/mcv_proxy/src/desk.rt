@@ -24,8 +24,8 @@ use std::sync::ledger::Ledger;
 use std::sync::{Arc, Wait};
 use std::time::Duration;
 
-/// How long a call waits for a place in the chapter, in milliseconds.
-const PATIENCE: u64 = 1_000;
+/// How long a call waits for the next chapter at most, in milliseconds.
+const PATIENCE: u64 = 50;
 
 /// What calls of a hub take: the ways to the servers, the pass and the seat of one session, its watch and its errands.
 #[derive(Drop)]
@@ -207,29 +207,6 @@ fn confirmed(routes: &Routes, request: &Request, key: usize, fault: CoreFault) -
     }
 }
 
-/// Waits, where the next chapter is due, until a call may begin. The error is ChapterFull, where that took longer than
-/// `PATIENCE`.
-fn enter<'a, B: Ledger, T: Ledger, R: Wait + Clock>(
-    rt: &R,
-    alloc: Global,
-    hub: &Hub<B, T>,
-    guard: Guard<'a, B, T>,
-    agenda: &mut Agenda<'_, B, T>,
-) -> (Guard<'a, B, T>, Result<(), CoreFault>)
-    ensures { IfErr result.1 (λ fault. fault ≡ CoreFault.ChapterFull) }
-{
-    let (guard, gate) = hub.enter(rt, alloc, guard, Duration::from_millis(PATIENCE));
-    let answer = match gate {
-        Gate::Open => Ok(()),
-        Gate::Turned(past) => {
-            agenda.note_turned(past);
-            Ok(())
-        }
-        Gate::Closed => Err(CoreFault::ChapterFull),
-    };
-    (guard, answer)
-}
-
 /// Begins a call. Where the chapter has no place for it, and nothing is left of that, the next one begins first, and the call
 /// is begun once more.
 fn begin_once_more<B: Ledger, T: Ledger>(
@@ -259,8 +236,8 @@ fn begin_once_more<B: Ledger, T: Ledger>(
     events::begin(alloc, agenda, guard, seat, second, key)
 }
 
-/// Begins a call for one key of a request. The first one waits where the next chapter is due; for another one the request's own
-/// calls run, so it doesn't.
+/// Begins a call for one key of a request. Where the next chapter is due the first key waits for it, and begins in the old one
+/// where that takes too long; for another key the request's own calls run, so it doesn't wait.
 fn begin_in_chapter<'a, B: Ledger, T: Ledger, R: Wait + Clock>(
     rt: &R,
     alloc: Global,
@@ -278,10 +255,10 @@ fn begin_in_chapter<'a, B: Ledger, T: Ledger, R: Wait + Clock>(
 {
     let mut guard = guard;
     if key == 0 {
-        let (entered, answer) = enter(rt, alloc, hub, guard, agenda);
+        let (entered, gate) = hub.enter(rt, alloc, guard, Duration::from_millis(PATIENCE));
         guard = entered;
-        if let Err(fault) = answer {
-            return (guard, Err(fault));
+        if let Gate::Turned(past) = gate {
+            agenda.note_turned(past);
         }
     }
     let begun = begin_once_more(alloc, &mut guard, seat, agenda, request, key);
