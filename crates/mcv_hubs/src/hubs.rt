@@ -45,6 +45,7 @@ pub struct Hubs<F: Names, G: Names> {
 }
 
 /// What hubs begin with.
+#[derive(Drop)]
 struct Stock<'a> {
     alloc: Global,
     accepted: &'a Arc<Accepted>,
