@@ -477,7 +477,7 @@ chapter_begins old new m h history hub chapter opened b t bb tb few_begun few_ta
 
 -- ---- the bytes of a history
 
-same_hub : (v : HubView) → IsSame v v
+pub same_hub : (v : HubView) → IsSame v v
 same_hub v = record { core = refl; history = refl; books = record { begun = refl; taken = refl; same = record { hub = refl; chapter = refl; opened = refl; begun_before = refl; taken_before = refl } } }
 
 -- no call begins where it holds too many
