@@ -34,8 +34,8 @@ most_bytes = 268435456
 abbrev pub is_half_full : (opened entries : ℕ) → Bool
 is_half_full opened entries = nat_lt opened entries && nat_le (most_entries - opened) (2 * (entries - opened))
 
-abbrev pub is_due : HubView → Bool
-is_due v = is_half_full v.opened (core_view v.core).entries || nat_le due_bytes (bytes_of v.history)
+abbrev pub is_chapter_due : HubView → Bool
+is_chapter_due v = is_half_full v.opened (core_view v.core).entries || nat_le due_bytes (bytes_of v.history)
 
 -- ---- calls begin
 
@@ -56,9 +56,9 @@ IsHubTurn old (Err fault) new = IsBusyChapter old new fault
 
 -- how a call that wants to begin finds the chapter: no other one is due; it was, and has begun; or it is, and can't begin yet
 abbrev pub IsGate : HubView → Gate → HubView → Type 0
-IsGate old gates.Open new = (is_due old ≡ false) × IsSame old new
-IsGate old (gates.Turned past) new = (is_due old ≡ true) × BeginsChapter old new × IsPast old past
-IsGate old gates.Closed new = (is_due old ≡ true) × IsBusyChapter old new Busy
+IsGate old gates.Open new = (is_chapter_due old ≡ false) × IsSame old new
+IsGate old (gates.Turned past) new = (is_chapter_due old ≡ true) × BeginsChapter old new × IsPast old past
+IsGate old gates.Closed new = (is_chapter_due old ≡ true) × IsBusyChapter old new Busy
 
 abbrev pub is_closed : Gate → Bool
 is_closed gates.Open = false

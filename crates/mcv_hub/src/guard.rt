@@ -5,7 +5,7 @@ ghost use Rattle.std.specs.Arc.{arc_value};
 ghost use Rattle.mcv_core.specs.Events.{IsAnsweredLeg, IsClocked, IsLostLeg, IsMarked, IsNext, IsRefusedLeg, IsReplay, IsSpooledLeg, IsTaken, IsUnmarked};
 ghost use Rattle.mcv_core.specs.View.{core_view};
 ghost use Rattle.mcv_hub.specs.Events.{IsHubEvent, IsReceived, IsRequested, taken_part};
-ghost use Rattle.mcv_hub.specs.Gate.{IsGate, IsHubBegun, IsHubTurn, is_due};
+ghost use Rattle.mcv_hub.specs.Gate.{IsGate, IsHubBegun, IsHubTurn, is_chapter_due};
 ghost use Rattle.mcv_hub.specs.History.{is_began, is_taken};
 ghost use Rattle.mcv_hub.specs.Receipts.{ArePassed, AreRefused};
 ghost use Rattle.mcv_hub.specs.State.{HistoryKeepsDeletes, IsSame};
@@ -95,7 +95,7 @@ impl<'a, B: Ledger, T: Ledger> Guard<'a, B, T> {
     /// Whether the next chapter is due: this one has gained half the entries for which it had room when it began, or its
     /// history holds 64 MiB.
     pub fn is_due(&self) -> bool
-        ensures { result ≡ is_due self.now }
+        ensures { result ≡ is_chapter_due self.now }
     {
         self.state.is_due()
     }

@@ -1,7 +1,7 @@
 //! The lock, and the bells on which threads wait.
 
 ghost use Rattle.std.specs.Prelude.{◌≡◌, ◌+◌, IfErr, IfOk};
-ghost use Rattle.mcv_hub.specs.Gate.{is_closed, is_due};
+ghost use Rattle.mcv_hub.specs.Gate.{is_closed, is_chapter_due};
 ghost use Rattle.mcv_core.specs.declared.fault.CoreFault.TheVariants.{Memory as OutOfMemory};
 
 use crate::gate::Gate;
@@ -161,7 +161,7 @@ impl<B: Ledger, T: Ledger> Hub<B, T> {
         guard: Guard<'a, B, T>,
         most: Duration,
     ) -> (Guard<'a, B, T>, Gate)
-        ensures { is_due result.0 ≡ is_closed result.1 }
+        ensures { is_chapter_due result.0 ≡ is_closed result.1 }
     {
         let mut guard = guard;
         let mut patience = Patience { most, since: None };

@@ -9,7 +9,7 @@ ghost use Rattle.mcv_core.specs.Opening.{opened_view};
 ghost use Rattle.mcv_core.specs.View.{core_view};
 ghost use Rattle.mcv_core.specs.declared.fault.CoreFault.TheVariants.{Memory as OutOfMemory};
 ghost use Rattle.mcv_hub.specs.Events.{IsHubEvent, IsReceived, IsRequested, taken_part};
-ghost use Rattle.mcv_hub.specs.Gate.{IsGate, IsHubBegun, IsHubTurn, is_due, is_half_full};
+ghost use Rattle.mcv_hub.specs.Gate.{IsGate, IsHubBegun, IsHubTurn, is_chapter_due, is_half_full};
 ghost use Rattle.mcv_hub.specs.History.{is_began, is_taken};
 ghost use Rattle.mcv_hub.specs.RemainingEntries.{break_count};
 ghost use Rattle.mcv_hub.specs.Receipts.{ArePassed, AreRefused};
@@ -160,7 +160,7 @@ impl<B: Ledger, T: Ledger> HubState<B, T> {
         requires taken { (taken.name ≡ T.name) × (taken.parts ≡ T.parts) }
         ensures view { IfOk result (λ r. core_view r.0.core ≡ opened_view (arc_value accepted) records.now) }
         ensures history { IfOk result (λ r. (r.0.history ≡ []) × (r.0.hub ≡ hub) × (r.0.chapter ≡ 0)) }
-        ensures due { IfOk result (λ r. is_due r.0 ≡ false) }
+        ensures due { IfOk result (λ r. is_chapter_due r.0 ≡ false) }
         ensures begun { IfOk result (λ r. (r.1.parts ≡ B.parts) × (r.1.amount ≡ 0) × (r.0.begun ≡ 0)) }
         ensures taken { IfOk result (λ r. (r.2.parts ≡ T.parts) × (r.2.amount ≡ 0) × (r.0.taken ≡ 0)) }
         ensures err { IfErr result (λ fault. fault ≡ OutOfMemory) }
@@ -201,7 +201,7 @@ impl<B: Ledger, T: Ledger> HubState<B, T> {
 
     /// Whether the next chapter is due.
     pub(crate) fn is_due(&self) -> bool
-        ensures { result ≡ is_due self.now }
+        ensures { result ≡ is_chapter_due self.now }
     {
         is_half_full(self.opened, self.core.state().entries()) || self.history.bytes() >= DUE_BYTES
     }
