@@ -3,13 +3,14 @@
 //! It keeps what the line so far has said, so that no byte is looked at again when the next piece
 //! comes; a value is taken by its length (specs/Progress.antt says what is kept so).
 
-ghost use Rattle.std.specs.Prelude.{◌≡◌, ◌<◌, ◌≤◌, ◌+◌, ℕ, List, [], IfOk, IsTrue, MatchOption, length, true, Some, None};
+ghost use Rattle.std.specs.Prelude.{◌≡◌, ◌↔◌, ◌<◌, ◌≤◌, ◌+◌, ℕ, List, [], IfOk, IsTrue, MatchOption, length, true, Some, None};
 ghost use Rattle.mcv_base.specs.Reply.{reply_value};
 ghost use Rattle.mcv_reply.specs.Line.{IsLine};
 ghost use Rattle.mcv_reply.specs.Candidate.{IsKept, is_clean};
 ghost use Rattle.mcv_reply.specs.PlainLine.{EndsValue, StartsLine};
 ghost use Rattle.mcv_reply.specs.Reply.{said_alone};
 ghost use Rattle.mcv_reply.specs.Reader.{Fed};
+ghost use Rattle.mcv_reply.specs.Flight.{HasCome, is_over};
 ghost use Rattle.mcv_reply.specs.Progress.{FirstEnds, HitMade, IsAt, IsAtStage, LastEnds, Steps, bytes_at, reader_state_at};
 
 use crate::candidate::Head;
@@ -45,6 +46,18 @@ pub enum Stage {
     Closed,
 }
 
+impl Stage {
+    /// Whether nothing is read any more.
+    pub fn is_over(self) -> bool
+        ensures { result ≡ is_over self }
+    {
+        match self {
+            Stage::Start | Stage::Line | Stage::Value | Stage::Return | Stage::Last => false,
+            Stage::Answered | Stage::Closed => true,
+        }
+    }
+}
+
 /// A reply that has come in part.
 #[derive(Drop)]
 pub struct Progress {
@@ -75,6 +88,17 @@ impl Progress {
                 count: 0,
             },
             body: Vec::new(alloc),
+        }
+    }
+
+    /// Whether some of the reply has come.
+    pub fn has_begun(&self) -> bool
+        ensures { IsTrue result ↔ HasCome self.now.stage self.now }
+    {
+        match self.stage {
+            Stage::Line => !self.text.is_empty(),
+            Stage::Value | Stage::Return | Stage::Last => true,
+            Stage::Start | Stage::Answered | Stage::Closed => false,
         }
     }
 }

@@ -1,5 +1,5 @@
-use Rattle.std.proofs.Common.{◌++◌, drop, Option, Some, None, IfSome, IsSome, absurd, arith}
-use Rattle.mcv_reply.specs.PlainLine.{EndsValue, value_end}
+use Rattle.std.proofs.Common.{◌≡◌, ◌++◌, drop, Option, Some, None, IfSome, is_some, true, arith}
+use Rattle.mcv_reply.specs.PlainLine.{value_end}
 use Rattle.mcv_reply.proofs.PlainSteps.{value_ended}
 use Rattle.mcv_reply.proofs.progress.ends_value.Goals as goal
 
