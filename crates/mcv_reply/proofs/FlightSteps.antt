@@ -1,6 +1,7 @@
 -- Steps of the oldest leg's reply.
-use Rattle.std.proofs.Common.{◌≡◌, ◌≢◌, ℕ, ◌<◌, ◌≤◌, Bool, true, false, List, [], ◌∷◌, ◌++◌, length, get_or, take, drop, map, refl, sym, ap, subst, ◌∙◌, arith, append_assoc, length-append, Option, Some, None, Result, Ok, Err, if◌then◌else◌}
+use Rattle.std.proofs.Common.{◌≡◌, ◌≢◌, ℕ, ◌<◌, ◌≤◌, Bool, true, false, List, [], ◌∷◌, ◌++◌, length, get_or, take, drop, map, refl, sym, ap, subst, ◌∙◌, arith, append_assoc, length-append, Option, Some, None, Result, Ok, Err, OnOk, OnErr, if◌then◌else◌}
 use Rattle.std.specs.List.{All}
+use Rattle.std.specs.Option.{option_to_list}
 use Rattle.std.proofs.lemmas.List.{append-nil, map-append, nil_from_length, take-append-drop}
 use Rattle.std.proofs.lemmas.List.Elements.{All-head, All-tail, All-nil, All-cons, All-append}
 use Rattle.mcv_base.specs.declared.operation.Op.{Op}
@@ -109,6 +110,13 @@ leads_reply legs bytes held given now new left made used reply on makes more las
     let same : map reply_value given ++ (reply_value reply ∷ more) ≡ map reply_value (given ++ reply ∷ []) ++ more = sym (ap (λ t. t ++ more) (map-append reply_value given (reply ∷ [])) ∙ append_assoc (map reply_value given) (reply_value reply ∷ []) more) in
     subst (λ (t : List ReplyValue). Replied legs bytes t last end) same all
 
+-- one step more
+pub leads_step : (legs : List Leg) (bytes held : List ℕ) (given : List Reply) (now new : List Leg) (left made : List ℕ) (used : ℕ) (o : Option Reply) → LeadsOn legs bytes (map reply_value given) now (held ++ left) → OldestMakes now (held ++ take used left) o new made
+    → LeadsOn legs bytes (map reply_value (given ++ option_to_list o)) new (made ++ drop used left)
+leads_step legs bytes held given now new left made used None on makes =
+    subst (λ (g : List Reply). LeadsOn legs bytes (map reply_value g) new (made ++ drop used left)) (sym (append-nil given)) (leads_read legs bytes held (map reply_value given) now new left made used on makes.0 makes.1)
+leads_step legs bytes held given now new left made used (Some reply) on makes = leads_reply legs bytes held given now new left made used reply on makes
+
 pub leads_end : (legs : List Leg) (bytes : List ℕ) (given : List ReplyValue) (now : List Leg) (rest : List ℕ) → LeadsOn legs bytes given now rest → Replied legs bytes given now rest
 leads_end legs bytes given now rest on = subst (λ (t : List ReplyValue). Replied legs bytes t now rest) (append-nil given) (on [] now rest (refl, refl))
 
@@ -134,12 +142,12 @@ pub shown_closed : (legs : List Leg) (p : Progress) → is_over p.stage ≡ true
 shown_closed legs p e = ap (λ (b : Bool). if b then replies.Closed else replies.Open legs (held_in p)) e
 
 -- a piece that is read is one that is received
-pub received : (legs : List Leg) (held piece : List ℕ) (given : List ReplyValue) (result : Result Unit ReplyFault) (left : List Leg) (p : Progress) (new : Connection) → ReadsReplies legs (held ++ piece) given result left p → (result ≡ Ok tt → new ≡ connection_of left p) → ((fault : ReplyFault) → result ≡ Err fault → new ≡ replies.Closed)
+pub received : (legs : List Leg) (held piece : List ℕ) (given : List ReplyValue) (result : Result Unit ReplyFault) (left : List Leg) (p : Progress) (new : Connection) → ReadsReplies legs (held ++ piece) given result left p → OnOk result (new ≡ connection_of left p) → OnErr result (new ≡ replies.Closed)
     → Receives (replies.Open legs held) piece given result new
-received legs held piece given (Ok done) left p new reads shown closed = (left, held_in p, reads.1, flight_waits left p reads.0, shown refl ∙ shown_open left p (flight_open left p reads.0.is_read))
-received legs held piece given (Err NotAReply) left p new reads shown closed = (reads.0, reads.1, reads.2, reads.3, closed NotAReply refl)
+received legs held piece given (Ok done) left p new reads shown closed = (left, held_in p, reads.1, flight_waits left p reads.0, shown ∙ shown_open left p (flight_open left p reads.0.is_read))
+received legs held piece given (Err NotAReply) left p new reads shown closed = (reads.0, reads.1, reads.2, reads.3, closed)
 received legs held piece given (Err Closed) left p new reads shown closed = reads
-received legs held piece given (Err Memory) left p new reads shown closed = (reads.0, reads.1, reads.2, closed Memory refl)
+received legs held piece given (Err Memory) left p new reads shown closed = (reads.0, reads.1, reads.2, closed)
 
 -- a leg more
 pub flight_sent : (legs : List Leg) (p : Progress) (leg : Leg) → IsFlight legs p → is_key_word leg.key ≡ true → IsFlight (legs ++ leg ∷ []) p

@@ -72,5 +72,6 @@ pub value_ended : (missing : ℕ) (piece more : List ℕ) → missing < length p
 value_ended missing piece more within is =
     let front = take missing piece ++ value_end in
     let parts : piece ≡ front ++ more = sym (take-append-drop missing piece) ∙ ap (λ t. take missing piece ++ t) is ∙ sym (append_assoc (take missing piece) value_end more) in
-    let count : length front ≡ missing + 7 = omega (arith, length-append (take missing piece) value_end, length-take missing piece) in
+    let seven : length value_end ≡ 7 = refl in
+    let count : length front ≡ missing + 7 = omega (arith, length-append (take missing piece) value_end, length-take missing piece, seven) in
     record { within = omega (arith, ap length parts, length-append front more, count); taken = ap (take (missing + 7)) parts ∙ take_at front more (missing + 7) count }

@@ -1,7 +1,8 @@
 //! The reader of a connection's replies: any pieces, and several legs in flight.
 
-ghost use Rattle.std.specs.Prelude.{◌≡◌, ◌<◌, ◌++◌, ◌↔◌, [], List, IsTrue, MatchOption, drop, length, map};
+ghost use Rattle.std.specs.Prelude.{◌≡◌, ◌<◌, ◌++◌, ◌↔◌, [], List, IfErr, IsTrue, MatchOption, OnErr, OnOk, drop, length, map};
 ghost use Rattle.std.specs.Arc.{arc_value};
+ghost use Rattle.std.specs.Option.{option_to_list};
 ghost use Rattle.mcv_base.specs.Reply.{reply_value};
 ghost use Rattle.mcv_reply.specs.Replies.{Open, HasBegun, HaveKeys, Receives, Sends, flying};
 ghost use Rattle.mcv_reply.specs.Flight.{IsFlight, Leads, OldestSteps, ReadsReplies, held_in};
@@ -59,6 +60,21 @@ fn step_oldest(
     }
 }
 
+/// A reply, if there is one, goes behind those that are there.
+fn keep(replies: &mut Vec<Reply>, reply: Option<Reply>) -> Result<(), ReplyFault>
+    ensures ok { OnOk result (replies.new.items ≡ replies.old.items ++ option_to_list reply) }
+    ensures same { OnErr result (replies.new.items ≡ replies.old.items) }
+    ensures memory { IfErr result (λ fault. fault ≡ ReplyFault.Memory) }
+{
+    let Some(reply) = reply else {
+        return Ok(());
+    };
+    match replies.push(reply) {
+        Ok(()) => Ok(()),
+        Err(_) => Err(ReplyFault::Memory),
+    }
+}
+
 /// A whole piece: the replies go behind those that are there.
 fn read_replies(
     alloc: Global,
@@ -74,11 +90,7 @@ fn read_replies(
     while !left.is_empty() {
         let Step { used, reply } = step_oldest(alloc, legs, progress, left)?;
         left = &left[used..];
-        if let Some(reply) = reply
-            && replies.push(reply).is_err()
-        {
-            return Err(ReplyFault::Memory);
-        }
+        keep(replies, reply)?;
     }
     Ok(())
 }
