@@ -34,7 +34,7 @@ module _ {D : Type 0} (asks : D → RequestValue → Result (List ReplyValue) De
   chain_join old mid new [] more c d = subst (λ o. Chain asks o more new) c d
   chain_join old mid new (x ∷ log) more c d = (c.0, c.1, chain_join c.0 mid new log more c.2 d)
 
-  chain_push : (old mid new : D) (log : List Exchange) (x : Exchange) → Chain asks old log mid → Goes asks x mid new → Chain asks old (log ++ x ∷ []) new
+  pub chain_push : (old mid new : D) (log : List Exchange) (x : Exchange) → Chain asks old log mid → Goes asks x mid new → Chain asks old (log ++ x ∷ []) new
   chain_push old mid new log x c g = chain_join old mid new log (x ∷ []) c (new, g, refl)
 
   -- of all items those before the rest were answered, and none of them ends the session

@@ -4,3 +4,6 @@ pub mod Session
 pub mod State
 pub mod ServedSession
 pub mod Step
+pub mod Machine
+pub mod Turns
+pub mod Drive

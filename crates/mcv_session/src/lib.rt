@@ -9,11 +9,21 @@
 
 mod answer;
 mod desk;
+mod drive;
 mod laws;
+mod machine;
+mod outgoing;
+mod phase;
 mod serve;
 mod session;
+mod turn;
 
 pub use desk::{Desk, DeskFault};
-pub use laws::{any_cut, nothing_read};
+pub use laws::{
+    any_cut, life_begins, life_is_whole, life_of_answering, life_of_failing, life_of_feeding,
+    life_of_writing, life_promises, nothing_read,
+};
+pub use machine::Machine;
+pub use phase::Phase;
 pub use serve::{ServeFault, serve_session};
 pub use session::{Flow, Session, SessionFault};
