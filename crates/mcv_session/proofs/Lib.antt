@@ -1,6 +1,5 @@
 pub mod Driving
 mod Examples
-pub mod Exchanges
 pub mod Items
 pub mod Life
 pub mod Pieces

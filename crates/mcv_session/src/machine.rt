@@ -11,8 +11,8 @@ ghost use Rattle.mcv_session.specs.Exchange.{by_desk, text_of};
 ghost use Rattle.mcv_session.specs.Machine.{Fails, Feeds, History, Lived, Passes, Replies, unused};
 ghost use Rattle.mcv_session.specs.Turns.{Asked, Passed, Turns};
 
-use crate::answer::ends;
 use crate::desk::DeskFault;
+use crate::item::ends;
 use crate::outgoing::Outgoing;
 use crate::phase::Phase;
 use crate::session::SessionFault;
