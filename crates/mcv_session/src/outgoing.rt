@@ -5,9 +5,13 @@ ghost use Rattle.std.specs.Prelude.{◌≡◌, ◌≤◌, ◌++◌, [], length, 
 use std::alloc::{AllocError, Global};
 use std::marker::Model;
 
+/// The most bytes of room that are kept where nothing waits, and the least that are given back before.
+const KEPT: usize = 4096;
+
 /// Bytes that wait to be written, from the first on. Clauses see them.
 #[derive(Drop)]
 pub(crate) struct Outgoing {
+    alloc: Global,
     bytes: Vec<u8>,
     /// So many of them are written.
     at: usize,
@@ -28,6 +32,7 @@ impl Outgoing {
         ensures { result ≡ [] }
     {
         Outgoing {
+            alloc,
             bytes: Vec::new(alloc),
             at: 0,
         }
@@ -52,13 +57,30 @@ impl Outgoing {
         ensures { self.new ≡ drop count self.old }
     {
         self.at += count;
+        self.settle();
     }
 
-    /// All are written.
+    /// Gives back the room of the written bytes, once they are as many as the others. Where there is no memory for that, it
+    /// is given back later.
+    fn settle(&mut self)
+        ensures { self.new ≡ self.old }
+    {
+        if self.at < KEPT || self.at < self.bytes.len() - self.at {
+            return;
+        }
+        let Ok(left) = Vec::from_slice(self.alloc, &self.bytes.as_slice()[self.at..]) else {
+            return;
+        };
+        self.bytes = left;
+        self.at = 0;
+    }
+
+    /// All are written. Room of more than 4,096 bytes is given back.
     pub fn clear(&mut self)
         ensures { self.new ≡ [] }
     {
         self.bytes.clear();
+        self.bytes.shrink_to(KEPT);
         self.at = 0;
     }
 }
