@@ -85,7 +85,7 @@ IsFirstSpooled server v leg = IsLeast (λ n. is_spooled server (v.rows.legs n)) 
 pub record Sends (v : CoreView) (server : ServerId) (leg : LegId) (m : Option Move) (w : CoreView) : Type 0 where
   pub free : IsFree v server.0
   pub first : IsFirstWaiting server.0 v (Some leg.0)
-  pub view : w ≡ with_flight (record v { rows = in_row_state v.rows leg.0 rows.Sent }) server.0 leg.0
+  pub view : w ≡ with_flight (record v { rows = in_row_state v.rows leg.0 rows.Sent }) server.0
   pub none : m ≡ None
   pub does : Unmoved v w
 
@@ -93,11 +93,11 @@ abbrev pub IsNext : CoreView → ServerId → Result LegId CoreFault → Option 
 IsNext v server (Ok leg) m w = Sends v server leg m w
 IsNext v server (Err fault) m w = IsRefused (IsUnsent v server.0 IsFirstWaiting fault) v m w
 
--- the server is free, and its first leg in the spool is sent again; it stays in the spool
+-- the server is free, and its first leg in the spool is sent again; its record stays there
 pub record SendsAgain (v : CoreView) (server : ServerId) (leg : LegId) (m : Option Move) (w : CoreView) : Type 0 where
   pub free : IsFree v server.0
   pub first : IsFirstSpooled server.0 v (Some leg.0)
-  pub view : w ≡ with_flight v server.0 leg.0
+  pub view : w ≡ with_flight (record v { rows = in_row_state v.rows leg.0 rows.InReplay }) server.0
   pub none : m ≡ None
   pub does : Unmoved v w
 
@@ -125,6 +125,10 @@ IsAnsweredLeg v leg reply answer m w = Happens (answer_at v leg.0 reply) leg rep
 -- or was lost
 abbrev pub IsLostLeg : CoreView → LegId → Result Step CoreFault → Option Move → CoreView → Type 0
 IsLostLeg v leg answer m w = Happens (loss_at v leg.0) leg (fixed_value Lost) v answer m w
+
+-- or was lost with an older leg in flight over the same connection
+abbrev pub IsDroppedLeg : CoreView → LegId → Result Step CoreFault → Option Move → CoreView → Type 0
+IsDroppedLeg v leg answer m w = Happens (drop_at v leg.0) leg (fixed_value Lost) v answer m w
 
 -- the spool took a held leg, as this record
 abbrev pub IsSpooledLeg : CoreView → LegId → Stored → Result Step CoreFault → Option Move → CoreView → Type 0

@@ -28,6 +28,8 @@ pub struct Dispatcher {
     pub(crate) next_call: u64,
     pub(crate) next_leg: u64,
     pub(crate) counts: Counts,
+    /// How many legs of a server may be in flight at a time.
+    pub(crate) limit: usize,
     /// How many entries the chapter's calls and spooled legs may write.
     pub(crate) entries: usize,
     pub(crate) chapter: u64,

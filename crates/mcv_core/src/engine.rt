@@ -11,7 +11,7 @@ ghost use Rattle.mcv_core.specs.Asking.{HasNoKey, IsAsked, IsKeyOf, IsUnbegun};
 ghost use Rattle.mcv_core.specs.BorrowedCore.{BorrowsEvents};
 ghost use Rattle.mcv_core.specs.Events.{IsBegun, IsEvent};
 ghost use Rattle.mcv_core.specs.KeptDeletes.{KeepsDeletes};
-ghost use Rattle.mcv_core.specs.Opening.{opened_view};
+ghost use Rattle.mcv_core.specs.Opening.{opened_view, opened_with};
 ghost use Rattle.mcv_core.specs.View.{core_view};
 ghost use Rattle.mcv_core.specs.declared.fault.CoreFault.TheVariants.{Memory as OutOfMemory};
 
@@ -34,7 +34,8 @@ pub struct Core<H> {
 
 impl<H: KeyHash + Drop> Core<H> {
     /// A core over these routes, opened with the records that the spool held: their legs have the numbers from 0 in their
-    /// order. Records of servers that the routes don't have are left to the file. The one error is `Memory`.
+    /// order. One leg of a server is in flight at a time. Records of servers that the routes don't have are left to the file.
+    /// The one error is `Memory`.
     pub fn new(
         alloc: Global,
         accepted: Arc<Accepted>,
@@ -46,8 +47,25 @@ impl<H: KeyHash + Drop> Core<H> {
         ensures keeps { IfOk result (λ core. KeepsDeletes (core_view core.dispatcher) (world_of (core_view core.dispatcher).rows)) }
         ensures err { IfErr result (λ fault. fault ≡ OutOfMemory) }
     {
+        Core::with_limit(alloc, accepted, hash, 1, records)
+    }
+
+    /// The same with up to so many legs of a server in flight at a time, at least one.
+    pub fn with_limit(
+        alloc: Global,
+        accepted: Arc<Accepted>,
+        hash: H,
+        limit: usize,
+        records: &[(u64, SpoolRecord)],
+    ) -> Result<Core<H>, CoreFault>
+        requires { 0 < limit }
+        ensures view { IfOk result (λ core. core_view core.dispatcher ≡ opened_with (arc_value accepted) limit records.now) }
+        ensures hash { IfOk result (λ core. core.hash ≡ hash) }
+        ensures keeps { IfOk result (λ core. KeepsDeletes (core_view core.dispatcher) (world_of (core_view core.dispatcher).rows)) }
+        ensures err { IfErr result (λ fault. fault ≡ OutOfMemory) }
+    {
         deletes_are_covered(&accepted);
-        let dispatcher = Dispatcher::open(alloc, accepted, records)?;
+        let dispatcher = Dispatcher::open(alloc, accepted, limit, records)?;
         Ok(Core { dispatcher, hash })
     }
 

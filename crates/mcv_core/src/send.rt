@@ -27,7 +27,7 @@ impl Dispatcher {
     pub fn next(&mut self, server: ServerId) -> Result<LegId, CoreFault>
         ensures { IsEvent (IsNext (core_view self.old) server result) (core_view self.new) }
     {
-        match self.queues.next(server) {
+        match self.queues.next(server, self.limit) {
             Ok(leg) => Ok(leg),
             Err(fault) => Err(CoreFault::refused(fault)),
         }
@@ -37,7 +37,7 @@ impl Dispatcher {
     pub fn replay(&mut self, server: ServerId) -> Result<LegId, CoreFault>
         ensures { IsEvent (IsReplay (core_view self.old) server result) (core_view self.new) }
     {
-        match self.queues.replay(server) {
+        match self.queues.replay(server, self.limit) {
             Ok(leg) => Ok(leg),
             Err(fault) => Err(CoreFault::refused(fault)),
         }

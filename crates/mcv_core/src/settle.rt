@@ -39,7 +39,7 @@ fn leave(queues: &mut Queues<Errand>, leg: LegId, server: ServerId, to: Settling
     requires flies { is_in_flight (legs queues.old leg.0) ≡ is_gone to }
     requires sent { is_gone to ≡ true → IsSentTo server.0 (legs queues.old leg.0) }
     ensures legs { legs queues.new ≡ put (legs queues.old) leg.0 (settled_to to (legs queues.old leg.0)) }
-    ensures flights { (s : ℕ) → in_flight queues.new s ≡ cond (is_in_flight_to s (legs queues.old leg.0)) None (in_flight queues.old s) }
+    ensures flights { (s : ℕ) → in_flight queues.new s ≡ cond (is_in_flight_to s (legs queues.old leg.0)) (in_flight queues.old s - 1) (in_flight queues.old s) }
     ensures servers { known queues.new ≡ known queues.old }
     ensures room { room queues.old ≤ room queues.new }
 {
