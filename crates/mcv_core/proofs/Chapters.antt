@@ -11,7 +11,7 @@ use Rattle.mcv_events.specs.Rows as rows
 use Rattle.mcv_events.specs.Rows.{LegRow, awaits, leg_of}
 use Rattle.mcv_core.specs.declared.fault.CoreFault.{CoreFault}
 use Rattle.mcv_core.specs.declared.step.Step.{Step}
-use Rattle.mcv_core.specs.CoreView.{CoreView, Effect, HasEffect, answer_at, answer_in, at_row, does, finished, flies, held, is_record, loss_at, loss_in, refuses, refusing_at, refusing_in, replayed_in, sent_in, spooling_at, spooling_in, stores, with_mark}
+use Rattle.mcv_core.specs.CoreView.{CoreView, Effect, HasEffect, answer_at, answer_in, at_row, does, finished, held, is_record, loss_at, loss_in, refuses, refusing_at, refusing_in, replayed_in, sent_in, spooling_at, spooling_in, stores, with_mark}
 
 -- the effect leads to a view of the same chapter
 abbrev StaysIn : CoreView → Effect → Type 0
@@ -37,25 +37,29 @@ module _ (v : CoreView) (n : ℕ) (s : LegRow) where
   answer_stays x rows.Waiting = tt
   answer_stays x rows.Sent = sent answered_mark (counted_as s.launch.op x)
   answer_stays x rows.Held = tt
-  answer_stays x rows.InSpool = by_test v (flies v n s) _ _ (replayed answered_mark (is_error_reply (counted_as s.launch.op x))) tt
+  answer_stays x rows.InSpool = tt
+  answer_stays x rows.InReplay = replayed answered_mark (is_error_reply (counted_as s.launch.op x))
 
   loss_stays : (t : rows.State) → StaysIn v (loss_in v n s t)
   loss_stays rows.Waiting = tt
   loss_stays rows.Sent = sent lost_mark (fixed_value Lost)
   loss_stays rows.Held = tt
-  loss_stays rows.InSpool = by_test v (flies v n s) _ _ (replayed lost_mark true) tt
+  loss_stays rows.InSpool = tt
+  loss_stays rows.InReplay = replayed lost_mark true
 
   spooling_stays : (seq : ℕ) (its : Bool) (t : rows.State) → StaysIn v (spooling_in v n seq its s t)
   spooling_stays seq its rows.Waiting = tt
   spooling_stays seq its rows.Sent = tt
   spooling_stays seq its rows.Held = by_test v its (stores v n seq s) _ refl tt
   spooling_stays seq its rows.InSpool = tt
+  spooling_stays seq its rows.InReplay = tt
 
   refusing_stays : (t : rows.State) → StaysIn v (refusing_in v n s t)
   refusing_stays rows.Waiting = tt
   refusing_stays rows.Sent = tt
   refusing_stays rows.Held = by_test v (awaits v.rows.calls s s.call) _ _ refl refl
   refusing_stays rows.InSpool = tt
+  refusing_stays rows.InReplay = tt
 
 at_row_stays : (v : CoreView) (f : LegRow → Effect) → ((s : LegRow) → StaysIn v (f s)) → (o : Option LegRow) → StaysIn v (at_row f o)
 at_row_stays v f h None = tt

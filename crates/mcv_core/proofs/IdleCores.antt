@@ -102,12 +102,6 @@ none_of_one : (o : Option CallRow) → one o ≡ 0 → o ≡ None
 none_of_one None e = refl
 none_of_one (Some c) e = absurd (omega (arith, e))
 
-stored_of : (t : rows.State) → count_in t ≡ 0 → t ≡ rows.InSpool
-stored_of rows.Waiting e = absurd (omega (arith, e))
-stored_of rows.Sent e = absurd (omega (arith, e))
-stored_of rows.Held e = absurd (omega (arith, e))
-stored_of rows.InSpool e = refl
-
 -- ---- at rest
 
 module _ (d : Dispatcher) where
@@ -118,41 +112,35 @@ module _ (d : Dispatcher) where
         | inr high ↦ d.sound.core.calls_below k high
       ]
 
-  all_stored : d.counts.queued ≡ 0 → (n : ℕ) (s : LegRow) → (core_view d).rows.legs n ≡ Some s → s.state ≡ rows.InSpool
-  all_stored e n s at =
-      elim (cases_lt n d.next_leg) [
-        | inl low ↦ stored_of s.state (sym (ap count_of at) ∙ sum_zero count_of (core_view d).rows.legs d.next_leg n (sym d.sound.queued_is ∙ e) low)
-        | inr high ↦ no_some (sym (d.sound.core.legs_below n high) ∙ at)
-      ]
-
-  -- what is in flight is in replay
-  replays : (s n : ℕ) (o : Option (Leg Errand)) → legs d.queues n ≡ o → ((l : Leg Errand) → legs d.queues n ≡ Some l → state_of l.state ≡ rows.InSpool) → is_in_flight_to s o ≡ true → is_in (legs d.queues) LegsInReplay n ≡ true
-  replays s n None at stored e = absurd (true≢false (sym e))
-  replays s n (Some l) at stored e = ap (λ v. is_group (group_of v) LegsInReplay) at ∙ by_state l.state (stored l at) (second (nat_eq l.server.0 s) (is_flight l.state) e)
+  -- nothing is queued and none in replay: each leg is in the spool
+  all_stored : d.counts.queued ≡ 0 → IsLeast (is_in (legs d.queues) LegsInReplay) None → (n : ℕ) (s : LegRow) → (core_view d).rows.legs n ≡ Some s → s.state ≡ rows.InSpool
+  all_stored e least n s at = by_leg (legs d.queues n) refl at
     where
-      second : (a b : Bool) → (a && b) ≡ true → b ≡ true
-      second true b h = h
-      second false b h = absurd (true≢false (sym h))
+      uncounted : count_in s.state ≡ 0
+      uncounted =
+          elim (cases_lt n d.next_leg) [
+            | inl low ↦ sym (ap count_of at) ∙ sum_zero count_of (core_view d).rows.legs d.next_leg n (sym d.sound.queued_is ∙ e) low
+            | inr high ↦ no_some (sym (d.sound.core.legs_below n high) ∙ at)
+          ]
 
-      by_state : (t : State) → state_of t ≡ rows.InSpool → is_flight t ≡ true → is_group (group_at l.server.0 t) LegsInReplay ≡ true
-      by_state states.Waiting stored flies = absurd cc
-      by_state states.Sent stored flies = absurd cc
-      by_state states.Held stored flies = absurd cc
-      by_state states.Refused stored flies = absurd cc
-      by_state states.InSpool stored flies = absurd (true≢false (sym flies))
-      by_state states.InReplay stored flies = refl
+      by_state : (l : Leg Errand) → legs d.queues n ≡ Some l → (t : State) → l.state ≡ t → count_in (state_of t) ≡ 0 → state_of t ≡ rows.InSpool
+      by_state l here states.Waiting is none = absurd (omega (arith, none))
+      by_state l here states.Sent is none = absurd (omega (arith, none))
+      by_state l here states.Held is none = absurd (omega (arith, none))
+      by_state l here states.Refused is none = absurd (omega (arith, none))
+      by_state l here states.InSpool is none = refl
+      by_state l here states.InReplay is none =
+          let among : is_in (legs d.queues) LegsInReplay n ≡ true = ap (λ v. is_group (group_of v) LegsInReplay) here ∙ ap (λ v. is_group (group_at l.server.0 v) LegsInReplay) is in
+          absurd (true≢false (sym (least.least n among)))
+
+      by_leg : (o : Option (Leg Errand)) → legs d.queues n ≡ o → option_map (row_by state_of) o ≡ Some s → s.state ≡ rows.InSpool
+      by_leg None here f = no_some f
+      by_leg (Some l) here f =
+          let same : row_by state_of l ≡ s = same_some f in
+          sym (ap (λ z. z.state) same) ∙ by_state l here l.state refl (ap (λ z. count_in z.state) same ∙ uncounted)
 
   pub at_rest : d.counts.running ≡ 0 → d.counts.queued ≡ 0 → IsLeast (is_in (legs d.queues) LegsInReplay) None → IsAtRest (core_view d)
-  at_rest a b least = record {
-    calls = no_calls a;
-    legs = all_stored b;
-    flights = λ s n. elim (cases_Bool (names (in_flight d.queues s) n)) [
-      | inl t ↦
-          let among = replays s n (legs d.queues n) refl (λ l at. all_stored b n (row_by state_of l) (ap (option_map (row_by state_of)) at)) (sym (d.queues.sound.flying s n) ∙ t) in
-          absurd (true≢false (sym (least.least n among)))
-      | inr f ↦ f
-    ];
-  }
+  at_rest a b least = record { calls = no_calls a; legs = all_stored b least }
 
   pub rest_runs : IsAtRest (core_view d) → d.counts.running ≡ 0
   rest_runs h = d.sound.running_is ∙ zero_sum one (call_rows (calls_at d.calls)) d.next_call (λ k. ap one (h.calls k))
@@ -164,23 +152,21 @@ module _ (d : Dispatcher) where
       by_row n None at = refl
       by_row n (Some s) at = ap count_in (h.legs n s at)
 
-  in_replay_flies : (o : Option (Leg Errand)) → is_group (group_of o) LegsInReplay ≡ true → (s : ℕ) × (is_in_flight_to s o ≡ true)
-  in_replay_flies None e = absurd (true≢false (sym e))
-  in_replay_flies (Some l) e = (l.server.0, let same : nat_eq l.server.0 l.server.0 ≡ true = grind arith in ap (λ b. b && is_flight l.state) same ∙ by_state l.state e)
-    where
-      by_state : (t : State) → is_group (group_at l.server.0 t) LegsInReplay ≡ true → is_flight t ≡ true
-      by_state states.Waiting e = absurd (true≢false (sym e))
-      by_state states.Sent e = absurd (true≢false (sym e))
-      by_state states.Held e = absurd (true≢false (sym e))
-      by_state states.Refused e = absurd (true≢false (sym e))
-      by_state states.InSpool e = absurd (true≢false (sym e))
-      by_state states.InReplay e = refl
-
   pub rest_replays : IsAtRest (core_view d) → (o : Option ℕ) → IsLeast (is_in (legs d.queues) LegsInReplay) o → o ≡ None
   rest_replays h None least = refl
-  rest_replays h (Some n) least =
-      let f = in_replay_flies (legs d.queues n) (least.there n refl) in
-      absurd (true≢false (sym (d.queues.sound.flying f.0 n ∙ f.1) ∙ h.flights f.0 n))
+  rest_replays h (Some n) least = absurd (by_leg (legs d.queues n) refl (least.there n refl))
+    where
+      by_state : (server : ℕ) (t : State) → is_group (group_at server t) LegsInReplay ≡ true → state_of t ≡ rows.InSpool → ⊥
+      by_state server states.Waiting e stored = true≢false (sym e)
+      by_state server states.Sent e stored = true≢false (sym e)
+      by_state server states.Held e stored = true≢false (sym e)
+      by_state server states.Refused e stored = true≢false (sym e)
+      by_state server states.InSpool e stored = true≢false (sym e)
+      by_state server states.InReplay e stored = cc
+
+      by_leg : (o : Option (Leg Errand)) → legs d.queues n ≡ o → is_group (group_of o) LegsInReplay ≡ true → ⊥
+      by_leg None here e = true≢false (sym e)
+      by_leg (Some l) here e = by_state l.server.0 l.state e (h.legs n (row_by state_of l) (ap (option_map (row_by state_of)) here))
 
   pub rest_is_quiet : IsAtRest (core_view d) → IsQuiet (core_view d)
   rest_is_quiet h =

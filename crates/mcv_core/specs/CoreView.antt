@@ -52,7 +52,7 @@ abbrev pub one_more : (ℕ → ℕ) → ℕ → ℕ → ℕ
 one_more flights server s = cond (nat_eq server s) (flights server + 1) (flights s)
 
 abbrev pub one_less : (ℕ → ℕ) → ℕ → ℕ → ℕ
-one_less flights server s = cond (nat_eq server s) (flights server - 1) (flights s)
+one_less flights server s = cond (nat_eq server s) (flights s - 1) (flights s)
 
 -- one leg more is in flight to the server
 abbrev pub with_flight : CoreView → (server : ℕ) → CoreView
@@ -180,14 +180,6 @@ module _ (v : CoreView) (n : ℕ) where
   loss_in s rows.InSpool = refuses NoSuchLeg
   loss_in s rows.InReplay = replayed_in (with_mark v s.launch.server.0 lost_mark) n true s
 
-  -- or was lost with an older one, whose loss its server's failures count
-  abbrev pub drop_in : LegRow → rows.State → Effect
-  drop_in s rows.Waiting = refuses NoSuchLeg
-  drop_in s rows.Sent = sent_in v n (fixed_value Lost) s
-  drop_in s rows.Held = refuses NoSuchLeg
-  drop_in s rows.InSpool = refuses NoSuchLeg
-  drop_in s rows.InReplay = replayed_in v n true s
-
   -- a held leg is in the spool, where the record is the leg's
   abbrev pub spooling_in : ℕ → Bool → LegRow → rows.State → Effect
   spooling_in seq its s rows.Waiting = refuses NoSuchLeg
@@ -208,9 +200,6 @@ module _ (v : CoreView) (n : ℕ) where
 
   abbrev pub loss_at : Effect
   loss_at = at_row (λ s. loss_in s s.state) (v.rows.legs n)
-
-  abbrev pub drop_at : Effect
-  drop_at = at_row (λ s. drop_in s s.state) (v.rows.legs n)
 
   -- the text of the leg's server, and the leg's rest
   abbrev pub is_record : List ℕ → List ℕ → LegRow → Bool

@@ -126,10 +126,6 @@ IsAnsweredLeg v leg reply answer m w = Happens (answer_at v leg.0 reply) leg rep
 abbrev pub IsLostLeg : CoreView → LegId → Result Step CoreFault → Option Move → CoreView → Type 0
 IsLostLeg v leg answer m w = Happens (loss_at v leg.0) leg (fixed_value Lost) v answer m w
 
--- or was lost with an older leg in flight over the same connection
-abbrev pub IsDroppedLeg : CoreView → LegId → Result Step CoreFault → Option Move → CoreView → Type 0
-IsDroppedLeg v leg answer m w = Happens (drop_at v leg.0) leg (fixed_value Lost) v answer m w
-
 -- the spool took a held leg, as this record
 abbrev pub IsSpooledLeg : CoreView → LegId → Stored → Result Step CoreFault → Option Move → CoreView → Type 0
 IsSpooledLeg v leg stored answer m w = Happens (spooling_at v leg.0 stored.seq stored.«record».server stored.«record».rest) leg not_found v answer m w

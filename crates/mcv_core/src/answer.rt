@@ -6,7 +6,7 @@ ghost use Rattle.mcv_base.specs.Reply.{part_value};
 ghost use Rattle.mcv_queues.specs.Legs.{is_flight, is_in_flight};
 ghost use Rattle.mcv_queues.specs.Queues.{legs};
 ghost use Rattle.mcv_core.specs.CoreView.{HasDone, at_row, finished, held, landing_at, replayed_in, sent_in};
-ghost use Rattle.mcv_core.specs.Events.{IsAnsweredLeg, IsDroppedLeg, IsEvent, IsLostLeg};
+ghost use Rattle.mcv_core.specs.Events.{IsAnsweredLeg, IsEvent, IsLostLeg};
 ghost use Rattle.mcv_core.specs.Facts.{counts_in, facts_of as facts_seen, state_in};
 ghost use Rattle.mcv_core.specs.View.{core_view};
 ghost use Rattle.mcv_core.specs.declared.step.LegState.TheVariants as leg_states;
@@ -45,17 +45,6 @@ impl Dispatcher {
                 self.marks.lost(facts.server);
                 Ok(self.land(leg, facts, counted))
             }
-            Err(fault) => Err(fault),
-        }
-    }
-
-    /// A leg in flight was lost with an older one, over the same connection: that is one failure of their server, and the
-    /// older one's loss counts it.
-    pub fn dropped(&mut self, leg: LegId) -> Result<Step, CoreFault>
-        ensures { IsEvent (IsDroppedLeg (core_view self.old) leg result) (core_view self.new) }
-    {
-        match self.flying(leg) {
-            Ok(facts) => Ok(self.land(leg, facts, Counted::lost())),
             Err(fault) => Err(fault),
         }
     }

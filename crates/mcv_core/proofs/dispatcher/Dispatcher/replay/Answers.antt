@@ -19,7 +19,7 @@ returns-in-Ok c =
       move = None;
       event = record {
         free = c.in-Ok.ensures.free;
-        first = Sendings.least_spooled d c.args.server.0 c.in-Ok.ensures.free (Some n) c.in-Ok.ensures.first;
+        first = Sendings.least_spooled d c.args.server.0 (Some n) c.in-Ok.ensures.first;
         view = Sendings.replayed_view d c.args.server.0 n c.replay.new.self c.in-Ok.ensures.flights h c.in-Ok.ensures.legs;
         none = refl;
         does = Sendings.replayed_does d c.args.server.0 n c.replay.new.self c.in-Ok.ensures.flights h c.in-Ok.ensures.legs
@@ -34,7 +34,7 @@ returns-in-Err c =
       move = None;
       event = record {
         cause = Sendings.unsent (core_view d) c.args.server.0 IsFirstSpooled c.in-Err.fault c.refused.result c.refused.ensures c.in-Err.ensures.busy
-            (λ e. let both = c.in-Err.ensures.nothing e in (both.0, Sendings.least_spooled d c.args.server.0 both.0 None both.1));
+            (λ e. let both = c.in-Err.ensures.nothing e in (both.0, Sendings.least_spooled d c.args.server.0 None both.1));
         none = refl;
         same = ap (LegViews.view_with d) c.in-Err.ensures.err;
       };

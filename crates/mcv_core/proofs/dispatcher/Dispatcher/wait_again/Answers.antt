@@ -3,7 +3,6 @@ use Rattle.mcv_queues.specs.Legs.{is_flight, is_in_flight}
 use Rattle.mcv_queues.specs.Queues.{legs}
 use Rattle.mcv_queues.specs.declared.leg.State.TheVariants as states
 use Rattle.mcv_core.specs.CoreView.{HasDone, at_row, replayed_in, step_to}
-use Rattle.mcv_core.specs.Rows.{state_of}
 use Rattle.mcv_core.specs.View.{core_view}
 use Rattle.mcv_core.specs.declared.step.Change.TheVariants as changes
 use Rattle.mcv_core.specs.declared.step.LegState.TheVariants as leg_states
@@ -30,4 +29,4 @@ returns c =
     let d = c.args.self.now in
     let l = stated (legs d.queues c.args.leg.0) states.InReplay c.requires in
     subst (λ o. HasDone (at_row (replayed_in (core_view d) c.args.leg.0 true) o) (LegViews.view_with d c.replay_failed.new.self) (step_to leg_states.Spooled changes.Nothing)) (sym (LegViews.there d c.args.leg.0 l.leg l.at))
-    (refl, LegViews.waits_view d c.args.leg.0 l.leg l.at (ap state_of l.is) c.replay_failed.new.self c.replay_failed.ensures.legs (ap is_flight l.is) c.replay_failed.ensures.flights)
+    (refl, LegViews.waits_view d c.args.leg.0 l.leg l.at c.replay_failed.new.self c.replay_failed.ensures.legs (ap is_flight l.is) c.replay_failed.ensures.flights)
