@@ -1,4 +1,5 @@
-"""Requests of clients and replies of servers that were changed at random: the proxy goes on, and answers what comes later."""
+"""Requests of clients and replies of servers that were changed at random: the proxy goes on, answers what comes later, and
+keeps no memory."""
 import contextlib
 import random
 import threading
@@ -9,6 +10,9 @@ from mutations import in_pieces, mutant
 from parts import Client, Failed, answer, case, expect, one_pool, shown, stored, value_answer
 
 STREAMS, REPLIES = 2000, 2000
+# The streams behind which the program has the memory that it works with, and how much more it may have in the end. (The history
+# keeps the calls of a chapter: some 1,500 bytes each, which are given back where the chapter turns.)
+FIRST, MORE = 1200, 10_000_000
 FAILED = b"SERVER_ERROR destination failed\r\n"
 
 # What streams are made of; `#####` is the number of the stream, so that each has keys of its own.
@@ -34,6 +38,13 @@ REQUESTS = [
     b"version\r\n",
     b"gat 0 a#####\r\n",
 ]
+
+
+def expect_memory(mcv, before, seed):
+    """The program has little more memory than it had before."""
+    now = mcv.resident()
+    if now > before + MORE:
+        raise Failed("the memory grew from %d to %d (seed %d)" % (before, now, seed))
 
 
 def answer_in_pieces(text, pieces):
@@ -66,6 +77,7 @@ def two_thousand_mutants_of_requests_are_answered_alike_however_cut(machine):
     first, second = (mcv.address for mcv in proxies)
     for text in (first, second):
         expect(answer(text, stored(b"later", b"1")), b"STORED\r\n")
+    before = None
     for number in range(STREAMS):
         template = mutant(chosen, b"".join(chosen.choices(REQUESTS, k=chosen.randrange(1, 6))))
         # (an item whose time ends between the two is another answer, but not twice)
@@ -78,7 +90,11 @@ def two_thousand_mutants_of_requests_are_answered_alike_however_cut(machine):
             raise Failed("%s is answered %s, in pieces %s (seed %d)" % (shown(sent), shown(whole), shown(pieced), seed))
         for text in (first, second):
             expect(answer(text, b"get later\r\n"), value_answer(b"later", b"1"), "behind %s (seed %d)" % (shown(sent), seed))
+        if number == FIRST:
+            before = [mcv.resident() for mcv in proxies]
     expect([mcv.process.poll() for mcv in proxies], [None, None], "the programs' statuses")
+    for mcv, was in zip(proxies, before):
+        expect_memory(mcv, was, seed)
 
 
 class Mangler(Listening):
@@ -150,7 +166,7 @@ def two_thousand_mutants_of_replies_are_taken_as_the_page_says(machine):
     route = {"type": "PrefixSelectorRoute", "policies": {"bad": "PoolRoute|A"}, "wildcard": "PoolRoute|B"}
     mcv = machine.mcv({"pools": {"A": {"servers": [mangler.text]}, "B": {"servers": machine.servers(1)}}, "route": route})
     expect(answer(mcv.address, stored(b"later", b"1")), b"STORED\r\n")
-    number, taken = 0, 0
+    number, taken, before = 0, 0, None
     while mangler.count < REPLIES:
         name = chosen.choice([b"get", b"get", b"gets", b"set", b"add", b"cas", b"touch", b"incr", b"decr", b"delete"])
         key = b"bad%d" % number
@@ -161,6 +177,9 @@ def two_thousand_mutants_of_replies_are_taken_as_the_page_says(machine):
         taken += found != FAILED and name != b"delete"
         expect(answer(mcv.address, b"get later\r\n"), value_answer(b"later", b"1"), "behind %r (seed %d)" % (mangler.replies.get(key), seed))
         number += 1
+        if before is None and mangler.count >= FIRST:
+            before = mcv.resident()
     expect(mcv.process.poll(), None, "the program's status")
+    expect_memory(mcv, before, seed)
     if not taken:
         raise Failed("no reply was taken")
